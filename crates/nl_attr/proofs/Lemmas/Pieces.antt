@@ -1,0 +1,56 @@
+-- The item at the front of a region whose head is sound is a piece of it.
+use Rattle.std.proofs.Common.{◌≡◌, ◌≢◌, ℕ, zero, suc, ◌+◌, ◌-◌, ◌*◌, ◌/◌, ◌%◌, ◌^◌, ◌<◌, ◌≤◌, min, ◌⊎◌, List, [], ◌∷◌, ◌++◌, length, take, drop, get_or, Option, Some, None, refl, sym, ap, subst, ◌∙◌, arith, inl, inr, append_assoc, length-append, length-drop}
+use Rattle.std.proofs.lemmas.List.{take-append-drop, length-take, nil_from_length}
+use Rattle.std.proofs.lemmas.Bool.{cases_lt}
+use Rattle.nl_attr.specs.declared.order.Order.{Order}
+use Rattle.nl_attr.specs.Shape.{Shape}
+use Rattle.nl_attr.specs.Numbers.{aligned, num, len_of, kind_of, span_of}
+use Rattle.nl_attr.specs.Walk.{broken_length}
+use Rattle.nl_attr.specs.Layout.{IsPadded, IsPiece}
+use Rattle.nl_attr.specs.Walk.{payload_of}
+use Rattle.nl_attr.proofs.Lemmas.Numbers.{front_is, front_below}
+use Rattle.nl_attr.proofs.Lemmas.Reading.{IsWithin, sound_within, span_at_least}
+
+abbrev pub IsBytes : List ℕ → Type 0
+IsBytes bytes = (i : ℕ) → get_or bytes i 0 < 256
+
+pub take_take : (n m : ℕ) (xs : List ℕ) → n ≤ m → take n (take m xs) ≡ take n xs
+take_take zero m xs h = refl
+take_take (suc n) zero xs h = absurd (omega arith)
+take_take (suc n) (suc m) [] h = refl
+take_take (suc n) (suc m) (x ∷ xs) h = ap (λ (t : List ℕ). x ∷ t) (take_take n m xs (omega arith))
+
+-- bytes that begin with their own length
+begins : (o : Order) (w : ℕ) (left : List ℕ) → IsBytes left → w ≤ len_of o w left → len_of o w left ≤ length left → take (len_of o w left) left ≡ num (len_of o w left) w o ++ drop w (take (len_of o w left) left)
+begins o w left fits low high =
+    let k = len_of o w left in
+    sym (take-append-drop w (take k left)) ∙ ap (λ (t : List ℕ). t ++ drop w (take k left)) (take_take w k left low ∙ sym (front_is o w left fits (omega arith)))
+
+padded : (len n : ℕ) (rest : List ℕ) → len ≤ n → length rest ≡ n - min ((len + 3) / 4 * 4) n → IsPadded len (min ((len + 3) / 4 * 4) n - len) rest
+padded len n rest le e =
+    elim (cases_lt n ((len + 3) / 4 * 4)) [
+      | inl short ↦ inr (omega arith, nil_from_length rest (omega arith))
+      | inr long ↦ inl (omega arith)
+    ]
+
+pub piece_at : (o : Order) (h w : ℕ) (left : List ℕ) → w ≤ h → IsBytes left → broken_length o h w left ≡ None → IsPiece o h w left (take (len_of o w left) left) (drop (len_of o w left) (take (span_of o w left) left)) (drop (span_of o w left) left)
+piece_at o h w left le fits e =
+    let i = sound_within o h w left e in
+    let len = len_of o w left in
+    let span = span_of o w left in
+    let a : len ≤ span = span_at_least o w left i.high in
+    let whole : span ≤ length left = below len (length left) in
+    let item-len : length (take len left) ≡ len = omega (arith, length-take len left, i.high) in
+    let pad-len : length (drop len (take span left)) ≡ span - len = omega (arith, length-drop len (take span left), length-take span left) in
+    record {
+      parts = sym (sym (append_assoc (take len left) (drop len (take span left)) (drop span left))
+          ∙ ap (λ (t : List ℕ). t ++ drop span left) (ap (λ (t : List ℕ). t ++ drop len (take span left)) (sym (take_take len span left a)) ∙ take-append-drop len (take span left))
+          ∙ take-append-drop span left);
+      least = omega (arith, i.low, item-len);
+      fits = rw item-len (front_below o w left fits (omega (arith, i.head)));
+      body = drop w (take len left);
+      says = rw item-len (begins o w left fits (omega (arith, i.low)) i.high);
+      padded = rw (item-len, pad-len) (padded len (length left) (drop span left) i.high (length-drop span left));
+    } where
+      below : (len n : ℕ) → min ((len + 3) / 4 * 4) n ≤ n
+      below len n = omega arith

@@ -1,0 +1,46 @@
+-- The numbers of one turn of a walk.
+use Rattle.std.proofs.Common.{◌≡◌, ◌≢◌, ℕ, suc, ◌+◌, ◌-◌, ◌*◌, ◌/◌, ◌<◌, ◌≤◌, ◌^◌, min, List, [], length, take, drop, Option, Some, None, Result, Ok, Err, Fits, w64, refl, sym, ap, subst, ◌∙◌, arith, length-drop, add_assoc}
+use Rattle.std.proofs.Math.Nat.{mul-le-mul_left}
+use Rattle.nl_attr.specs.declared.walk.Part.{Part}
+use Rattle.nl_attr.specs.declared.walk.HopPart.{HopPart}
+use Rattle.nl_attr.specs.declared.order.Order.{Order}
+use Rattle.nl_attr.specs.Shape.{Shape}
+use Rattle.nl_attr.specs.Numbers.{len_of, span_of}
+use Rattle.nl_attr.specs.Walk.{Region}
+use Rattle.nl_attr.specs.Walk.{broken_length, IsPart, IsHopPart, GivesPart, GivesHop, after}
+use Rattle.nl_attr.specs.Walk.{payload_of}
+use Rattle.nl_attr.proofs.Lemmas.Reading.{IsWithin, sound_within, payload_length, span_at_least}
+
+-- where a walk stands after an item
+pub record Turns (h : ℕ) (r s : Region) (payload : List ℕ) : Type 0 where
+  pub sound : broken_length r.order h 2 r.left ≡ None
+  pub next : s ≡ after r
+  pub order : s.order ≡ r.order
+  pub place : s.place ≡ r.place + span_of r.order 2 r.left
+  pub left : s.place + length s.left ≡ r.place + length r.left
+  pub inside : length payload + h ≤ span_of r.order 2 r.left
+  pub span : span_of r.order 2 r.left ≤ length r.left
+
+span_within : (o : Order) (w : ℕ) (left : List ℕ) → span_of o w left ≤ length left
+span_within o w left = below (len_of o w left) (length left) where
+  below : (len n : ℕ) → min ((len + 3) / 4 * 4) n ≤ n
+  below len n = omega arith
+
+turns : (h : ℕ) (r s : Region) (payload : List ℕ) → broken_length r.order h 2 r.left ≡ None → s ≡ after r → payload ≡ payload_of r.order h 2 r.left → Turns h r s payload
+turns h r s payload e next is =
+    let w = sound_within r.order h 2 r.left e in
+    record {
+      sound = e;
+      next = next;
+      order = ap (λ (x : Region). x.order) next;
+      place = ap (λ (x : Region). x.place) next;
+      left = ap (λ (x : Region). x.place + length x.left) next ∙ omega (arith, length-drop (span_of r.order 2 r.left) r.left, span_within r.order 2 r.left);
+      inside = omega (arith, ap (length {A = ℕ}) is, payload_length r.order h 2 r.left w, span_at_least r.order 2 r.left w.high);
+      span = span_within r.order 2 r.left;
+    }
+
+pub part_turns : (r s : Region) (p : Part) → GivesPart r (Some (Ok p)) s → Turns 4 r s p.payload.now × IsPart p r
+part_turns r s p g = (turns 4 r s p.payload.now g.1.0 g.3 g.2.payload, g.2)
+
+pub hop_turns : (r s : Region) (p : HopPart) → GivesHop r (Some (Ok p)) s → Turns 8 r s p.rest.now × IsHopPart p r
+hop_turns r s p g = (turns 8 r s p.rest.now g.1.0 g.3 g.2.rest, g.2)

@@ -1,0 +1,22 @@
+-- The numbers of the refusals.
+use Rattle.std.specs.Prelude.{ℕ}
+use Rattle.nl_attr.specs.declared.fault.Reason.{Reason}
+use Rattle.nl_attr.specs.declared.fault.Reason.TheVariants.{Cut, BadLength, ShortBody, TooLong, TooDeep}
+use Rattle.nl_attr.specs.declared.fault.Fault.{Fault}
+use Rattle.nl_attr.specs.declared.fault.ListError.{ListError}
+use Rattle.nl_attr.specs.declared.fault.ListError.TheVariants.{Layout, Memory}
+
+abbrev pub reason_code : Reason → ℕ
+reason_code Cut = 1
+reason_code BadLength = 2
+reason_code ShortBody = 3
+reason_code TooLong = 4
+reason_code TooDeep = 5
+
+-- a fault has its reason's
+abbrev pub fault_code : Fault → ℕ
+fault_code f = reason_code f.reason
+
+abbrev pub list_code : ListError → ℕ
+list_code (Layout f) = fault_code f
+list_code Memory = 13

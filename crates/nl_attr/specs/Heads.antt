@@ -1,0 +1,104 @@
+-- Which heads stand where, what each breaks, and what a walk over them visits.
+use Rattle.std.specs.Prelude.{◌≡◌, ◌≢◌, ◌<◌, ◌≤◌, ◌+◌, ◌-◌, ◌%◌, ◌==◌, ◌||◌, ◌⊎◌, ℕ, zero, suc, Bool, true, false, nat_lt, if◌then◌else◌, List, [], ◌∷◌, length, take, drop, min, Option, Some, None}
+use Rattle.std.specs.List.{AllByRecursion}
+use Rattle.nl_attr.specs.declared.fault.Reason.{Reason}
+use Rattle.nl_attr.specs.declared.fault.Reason.TheVariants.{Cut, BadLength, ShortBody, TooLong, TooDeep}
+use Rattle.nl_attr.specs.declared.tree.Ctx.{Ctx}
+use Rattle.nl_attr.specs.declared.tree.Ctx.TheVariants.{Route}
+use Rattle.nl_attr.specs.declared.tree.Content.{Content}
+use Rattle.nl_attr.specs.declared.tree.Content.TheVariants as content
+use Rattle.nl_attr.specs.declared.order.Order.{Order}
+use Rattle.nl_attr.specs.Shape.{Shape}
+use Rattle.nl_attr.specs.Numbers.{aligned, len_of, kind_of, span_of}
+use Rattle.nl_attr.specs.Walk.{flags_of, broken_length, payload_of}
+use Rattle.nl_attr.specs.Tree.{holds_of}
+
+pub data Sort : Type 0 where
+  attr_head : Sort
+  hop_head : Sort
+
+-- a head at a place, with the bytes from there to the end of its region
+pub record Head : Type 0 where
+  pub place : ℕ
+  pub sort : Sort
+  pub ctx : Ctx
+  pub level : ℕ
+  pub left : List ℕ
+
+abbrev pub least : Sort → ℕ
+least attr_head = 4
+least hop_head = 8
+
+-- the levels that a container opens
+abbrev pub opens : Content → ℕ
+opens content.Bytes = 0
+opens (content.List c) = 1
+opens content.Hops = 2
+
+abbrev pub content_at : Order → Ctx → List ℕ → Content
+content_at o ctx left = holds_of ctx (kind_of o left % 16384) (flags_of (kind_of o left))
+
+abbrev pub or_else : Option Reason → Option Reason → Option Reason
+or_else None s = s
+or_else (Some r) s = Some r
+
+abbrev pub inner_in : Content → ℕ → ℕ → List ℕ → Option Head
+inner_in content.Bytes place l payload = None
+inner_in (content.List c) place l payload = Some (record { place = place; sort = attr_head; ctx = c; level = l; left = payload })
+inner_in content.Hops place l payload = Some (record { place = place; sort = hop_head; ctx = Route; level = l; left = payload })
+
+-- the head at which a region begins
+abbrev pub start_of : Ctx → ℕ → ℕ → List ℕ → Head
+start_of ctx l place left = record { place = place; sort = attr_head; ctx = ctx; level = l; left = left }
+
+module _ (S : Shape) where
+  -- the rules of containers, in their order
+  abbrev pub broken_container : ℕ → Content → ℕ → Option Reason
+  broken_container l content.Bytes len = None
+  broken_container l (content.List c) len = if nat_lt 65532 len then Some TooLong else (if nat_lt S.depth (l + 1) then Some TooDeep else None)
+  broken_container l content.Hops len = if nat_lt 65532 len then Some TooLong else (if nat_lt S.depth (l + 2) then Some TooDeep else None)
+
+  abbrev pub broken_in : Ctx → ℕ → Sort → List ℕ → Option Reason
+  broken_in ctx l hop_head left = broken_length S.order 8 2 left
+  broken_in ctx l attr_head left = or_else (broken_length S.order 4 2 left) (broken_container l (content_at S.order ctx left) (len_of S.order 2 left))
+
+  -- the first rule that a head breaks
+  abbrev pub broken : Head → Option Reason
+  broken h = broken_in h.ctx h.level h.sort h.left
+
+  -- the length that a head says, and its item with the padding, as far as present
+  abbrev pub len_at : Head → ℕ
+  len_at h = len_of S.order 2 h.left
+
+  abbrev pub span_at : Head → ℕ
+  span_at h = span_of S.order 2 h.left
+
+  -- its length is there and within bounds
+  abbrev pub IsSound : Head → Type 0
+  IsSound h = broken_length S.order (least h.sort) 2 h.left ≡ None
+
+  -- the head behind an item and its padding
+  abbrev pub follower : Head → Head
+  follower h = record h { place = h.place + span_at h; left = drop (span_at h) h.left }
+
+  abbrev pub inner_at : Sort → ℕ → Ctx → ℕ → List ℕ → Option Head
+  inner_at attr_head place ctx l left = inner_in (content_at S.order ctx left) (place + 4) (l + 1) (payload_of S.order 4 2 left)
+  inner_at hop_head place ctx l left = inner_in (content.List Route) (place + 8) (l + 1) (payload_of S.order 8 2 left)
+
+  -- the first head inside an item, where it holds heads
+  abbrev pub inner_of : Head → Option Head
+  inner_of h = inner_at h.sort h.place h.ctx h.level h.left
+
+  -- the heads that stand in the region that begins with the head `start`
+  pub data HeadAt (start : Head) : Head → Type 0 where
+    first : start.left ≢ [] → HeadAt start start
+    next : (h : Head) → HeadAt start h → IsSound h → aligned (len_at h) < length h.left → HeadAt start (follower h)
+    inner : (h k : Head) → HeadAt start h → broken h ≡ None → inner_of h ≡ Some k → least h.sort < len_at h → HeadAt start k
+
+  -- a head at this place breaks a rule, and none that comes before it
+  abbrev pub FaultAt : Head → ℕ → Reason → Type 0
+  FaultAt start place r = (h : Head) × HeadAt start h × (h.place ≡ place) × (broken h ≡ Some r)
+
+  -- no fault is at an earlier place
+  abbrev pub IsFirstFault : Head → ℕ → Reason → Type 0
+  IsFirstFault start place r = FaultAt start place r × ((q : ℕ) (s : Reason) → FaultAt start q s → place ≤ q)

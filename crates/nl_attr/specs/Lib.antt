@@ -1,0 +1,15 @@
+pub mod Numbers
+pub mod Shape
+pub mod Walk
+pub mod Tree
+pub mod Layout
+pub mod Heads
+pub mod Visits
+pub mod Reading
+pub mod View
+pub mod Views
+pub mod Stored
+pub mod Codes
+pub mod Told
+pub mod Open
+pub mod Kept

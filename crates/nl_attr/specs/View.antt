@@ -1,0 +1,50 @@
+-- The tree that a value of the program stands for.
+use Rattle.std.specs.Prelude.{ℕ, List, [], ◌∷◌, map}
+use Rattle.nl_attr.specs.declared.tree.AttrFlags.{AttrFlags}
+use Rattle.nl_attr.specs.declared.tree.Value.{Value, fold-Value}
+use Rattle.nl_attr.specs.declared.tree.Value.TheOpen.{Value-F, Attr-F, Hop-F}
+use Rattle.nl_attr.specs.declared.tree.Value.TheFolds.{fold-Attr, fold-Hop}
+use Rattle.nl_attr.specs.declared.tree.Attr.{Attr}
+use Rattle.nl_attr.specs.declared.tree.Hop.{Hop}
+use Rattle.nl_attr.specs.Tree.{Val, bytes, list, hops, Items, no_items, item, HopItems, no_hops, hop}
+
+-- the items with these before them
+abbrev pub Front : Type 0
+Front = Items → Items
+
+abbrev pub HopFront : Type 0
+HopFront = HopItems → HopItems
+
+abbrev pub items_of : List Front → Items
+items_of [] = no_items
+items_of (f ∷ fs) = f (items_of fs)
+
+abbrev pub hops_of : List HopFront → HopItems
+hops_of [] = no_hops
+hops_of (f ∷ fs) = f (hops_of fs)
+
+abbrev pub value_step : Value-F Val Front HopFront → Val
+value_step (Value-F.Bytes v) = bytes v
+value_step (Value-F.List v) = list (items_of v.items)
+value_step (Value-F.Hops v) = hops (hops_of v.items)
+
+abbrev pub attr_step : Attr-F Val Front HopFront → Front
+attr_step a = item a.number a.flags a.value
+
+abbrev pub hop_step : Hop-F Val Front HopFront → HopFront
+hop_step h = hop h.flags h.hops h.ifindex (items_of h.attrs.items)
+
+abbrev pub value_view : Value → Val
+value_view = fold-Value Val Front HopFront value_step attr_step hop_step
+
+abbrev pub attr_view : Attr → Front
+attr_view = fold-Attr Val Front HopFront value_step attr_step hop_step
+
+abbrev pub hop_view : Hop → HopFront
+hop_view = fold-Hop Val Front HopFront value_step attr_step hop_step
+
+abbrev pub attrs_view : List Attr → Items
+attrs_view xs = items_of (map attr_view xs)
+
+abbrev pub hops_view : List Hop → HopItems
+hops_view xs = hops_of (map hop_view xs)

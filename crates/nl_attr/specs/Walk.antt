@@ -1,0 +1,88 @@
+-- What a walk over a region gives, one item at a time.
+use Rattle.std.specs.Prelude.{◌≡◌, ◌≢◌, ◌<◌, ◌≤◌, ◌+◌, ◌*◌, ◌/◌, ◌%◌, ◌⊎◌, ◌==◌, ◌||◌, ℕ, nat_lt, if◌then◌else◌, Bool, List, [], ◌∷◌, length, slice_index, take, drop, Option, Some, None, Result, Ok, Err}
+use Rattle.nl_attr.specs.declared.fault.Reason.{Reason}
+use Rattle.nl_attr.specs.declared.fault.Reason.TheVariants.{Cut, BadLength, ShortBody, TooLong, TooDeep}
+use Rattle.nl_attr.specs.declared.fault.Fault.{Fault}
+use Rattle.nl_attr.specs.declared.tree.AttrFlags.{AttrFlags}
+use Rattle.nl_attr.specs.declared.walk.Part.{Part}
+use Rattle.nl_attr.specs.declared.walk.HopPart.{HopPart}
+use Rattle.std.specs.Prelude.{ℤ}
+use Rattle.std.specs.Int.{w32, cast_signed}
+use Rattle.nl_attr.specs.declared.order.Order.{Order}
+use Rattle.nl_attr.specs.Layout.{IsPiece}
+use Rattle.nl_attr.specs.Numbers.{number_of, len_of, kind_of, span_of}
+
+-- bytes from a place on, to the end of their region, and the order of the numbers in them
+pub record Region : Type 0 where
+  pub order : Order
+  pub place : ℕ
+  pub left : List ℕ
+
+module _ (o : Order) where
+  -- the rules of a head of h bytes whose length field has w, in their order
+  abbrev pub broken_length : ℕ → ℕ → List ℕ → Option Reason
+  broken_length h w left =
+      if nat_lt (length left) h then Some Cut
+      else (if nat_lt (len_of o w left) h || nat_lt (length left) (len_of o w left) then Some BadLength else None)
+
+  -- such a head stands at the front and its length is within bounds, or what it breaks
+  abbrev pub HeadIs : ℕ → ℕ → List ℕ → Result ℕ Reason → Type 0
+  HeadIs h w left (Ok len) = (broken_length h w left ≡ None) × (h ≤ length left) × (len ≡ len_of o w left) × (h ≤ len) × (len ≤ length left)
+  HeadIs h w left (Err r) = broken_length h w left ≡ Some r
+
+  -- the signed number in the four bytes from place 4 on
+  abbrev pub index_of : List ℕ → ℤ
+  index_of left = cast_signed w32 (number_of o 4 (drop 4 left))
+
+  -- the bytes of an item behind its head of h bytes
+  abbrev pub payload_of : ℕ → ℕ → List ℕ → List ℕ
+  payload_of h w left = drop h (take (len_of o w left) left)
+
+abbrev pub flags_of : ℕ → AttrFlags
+flags_of kind = record { nested = kind / 32768 == 1; net = kind / 16384 % 2 == 1 }
+
+-- the part is the attribute at the front
+pub record IsPart (p : Part) (r : Region) : Type 0 where
+  pub number : p.number ≡ kind_of r.order r.left % 16384
+  pub flags : p.flags ≡ flags_of (kind_of r.order r.left)
+  pub place : p.place ≡ r.place
+  pub span : p.span ≡ span_of r.order 2 r.left
+  pub payload : p.payload.now ≡ payload_of r.order 4 2 r.left
+
+abbrev pub after : Region → Region
+after r = record r { place = r.place + span_of r.order 2 r.left; left = drop (span_of r.order 2 r.left) r.left }
+
+abbrev pub ended : Region → Region
+ended r = record r { left = [] }
+
+-- the part is the next hop at the front
+pub record IsHopPart (p : HopPart) (r : Region) : Type 0 where
+  pub flags : p.flags ≡ slice_index r.left 2
+  pub hops : p.hops ≡ slice_index r.left 3
+  pub ifindex : p.ifindex ≡ index_of r.order r.left
+  pub place : p.place ≡ r.place
+  pub span : p.span ≡ span_of r.order 2 r.left
+  pub rest : p.rest.now ≡ payload_of r.order 8 2 r.left
+
+-- a walk over items whose heads have h bytes, of which a part says what Is says
+module _ {P : Type 0} (h : ℕ) (Is : P → Region → Type 0) where
+  -- one call: nothing is left, or the item at the front, or what is wrong there, and nothing after it
+  abbrev pub Gives : Region → Option (Result P Fault) → Region → Type 0
+  Gives old None new = (old.left ≡ []) × (new ≡ old)
+  Gives old (Some (Ok p)) new = (old.left ≢ []) × HeadIs old.order h 2 old.left (Ok (len_of old.order 2 old.left)) × Is p old × (new ≡ after old)
+  Gives old (Some (Err f)) new = (old.left ≢ []) × HeadIs old.order h 2 old.left (Err f.reason) × (f.place ≡ old.place) × (new ≡ ended old)
+
+abbrev pub GivesPart : Region → Option (Result Part Fault) → Region → Type 0
+GivesPart = Gives 4 IsPart
+
+abbrev pub GivesHop : Region → Option (Result HopPart Fault) → Region → Type 0
+GivesHop = Gives 8 IsHopPart
+
+module _ {P : Type 0} (h : ℕ) (Is : P → Region → Type 0) (o : Order) where
+  -- the parts are the pieces from this place on, then the end, or the fault of a region without a piece at its front
+  abbrev pub IsWalk : ℕ → List ℕ → List (Result P Fault) → Type 0
+  IsWalk place left [] = left ≡ []
+  IsWalk place left (Ok p ∷ ps) =
+      (item : List ℕ) × (pad : List ℕ) × (rest : List ℕ) × IsPiece o h 2 left item pad rest × Is p (record { order = o; place = place; left = left })
+      × IsWalk (place + length item + length pad) rest ps
+  IsWalk place left (Err f ∷ ps) = (f.place ≡ place) × (broken_length o h 2 left ≡ Some f.reason) × (ps ≡ [])

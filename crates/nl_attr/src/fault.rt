@@ -1,0 +1,130 @@
+//! What reading refuses, and what it answers beside its result.
+
+ghost use Rattle.std.specs.Prelude.{◌≡◌};
+
+use std::alloc::{AllocError, AllocFailed};
+use thiserror::Error;
+
+/// The rule that a head breaks.
+#[derive(Clone, Copy, Debug, PartialEq, Eq, Error)]
+pub enum Reason {
+    /// Fewer bytes are left in the region than a head has.
+    #[error("cut")]
+    Cut,
+    /// The length field is below the head's size, or above the bytes that are left.
+    #[error("bad length")]
+    BadLength,
+    /// The payload of a message is shorter than the head of its type.
+    #[error("short body")]
+    ShortBody,
+    /// A container has more than 65,532 bytes, so its aligned length would not fit its field.
+    #[error("too long")]
+    TooLong,
+    /// A container opens a level above the depth limit.
+    #[error("too deep")]
+    TooDeep,
+}
+
+impl Reason {
+    ghost use Rattle.nl_attr.specs.Codes.{reason_code};
+
+    /// The number of this refusal: 1 to 5, in the order of the variants.
+    pub fn code(self) -> u8
+        ensures { result ≡ reason_code self }
+    {
+        match self {
+            Reason::Cut => 1,
+            Reason::BadLength => 2,
+            Reason::ShortBody => 3,
+            Reason::TooLong => 4,
+            Reason::TooDeep => 5,
+        }
+    }
+}
+
+/// A broken rule, and the place of the head that breaks it: an offset in bytes from where reading
+/// began, plus the base that was handed in.
+#[derive(Clone, Copy, Debug, PartialEq, Eq, Error)]
+#[error("{reason} at {place}")]
+pub struct Fault {
+    pub place: u32,
+    pub reason: Reason,
+}
+
+impl Fault {
+    ghost use Rattle.nl_attr.specs.Codes.{fault_code};
+
+    /// The number of its reason.
+    pub fn code(self) -> u8
+        ensures { result ≡ fault_code self }
+    {
+        self.reason.code()
+    }
+}
+
+/// Why a list of attributes was not read.
+#[derive(Clone, Copy, Debug, PartialEq, Eq, Error)]
+pub enum ListError {
+    /// The first fault of the region.
+    #[error("{0}")]
+    Layout(Fault),
+    /// A growth was refused. It comes in place of whatever would come later.
+    #[error("out of memory")]
+    Memory,
+}
+
+impl ListError {
+    ghost use Rattle.nl_attr.specs.Codes.{list_code};
+
+    /// The number of this refusal: that of the fault's reason, or 13.
+    pub fn code(self) -> u8
+        ensures { result ≡ list_code self }
+    {
+        match self {
+            ListError::Layout(fault) => fault.code(),
+            ListError::Memory => 13,
+        }
+    }
+}
+
+impl From<AllocError> for ListError {
+    ghost use Rattle.nl_attr.specs.declared.fault.ListError.TheVariants.{Memory};
+
+    ghost from_gives = { λ _ e. e ≡ Memory };
+
+    fn from(_error: AllocError) -> ListError {
+        ListError::Memory
+    }
+}
+
+impl<T: Drop> From<AllocFailed<T>> for ListError {
+    ghost use Rattle.nl_attr.specs.declared.fault.ListError.TheVariants.{Memory};
+
+    ghost from_gives = { λ _ e. e ≡ Memory };
+
+    fn from(_error: AllocFailed<T>) -> ListError {
+        ListError::Memory
+    }
+}
+
+/// A limit out of its range.
+#[derive(Clone, Copy, Debug, PartialEq, Eq, Error)]
+#[error("a limit out of its range")]
+pub struct LimitFault;
+
+impl LimitFault {
+    /// The number of this refusal: 12.
+    pub fn code(self) -> u8
+        ensures { result ≡ 12 }
+    {
+        12
+    }
+}
+
+/// What a call answers, and how many attribute bytes it visited: the spans of the attributes and
+/// next hops that walkers handed out, on a refusal too.
+#[derive(Debug, Drop)]
+pub struct Tally<T, E> {
+    pub result: Result<T, E>,
+    pub visits: u64,
+}

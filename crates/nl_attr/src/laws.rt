@@ -1,0 +1,46 @@
+//! Laws over the definitions alone: each contract is a law, and each body is empty.
+
+ghost use Rattle.std.specs.Prelude.{◌≡◌, ◌≤◌, ◌<◌, ◌+◌, ◌-◌, ◌*◌, ◌^◌, ◌↔◌, ◌++◌, drop, ℕ, ℤ, List, length, FitsSigned};
+ghost use Rattle.std.specs.Int.{w32, cast_unsigned};
+ghost use Rattle.nl_attr.specs.declared.order.Order.{Order};
+ghost use Rattle.nl_attr.specs.declared.tree.Ctx.{Ctx};
+ghost use Rattle.nl_attr.specs.declared.fault.Reason.{Reason};
+ghost use Rattle.nl_attr.specs.Shape.{Shape};
+ghost use Rattle.nl_attr.specs.Numbers.{num, number_of, AreBytes};
+ghost use Rattle.nl_attr.specs.Tree.{Items};
+ghost use Rattle.nl_attr.specs.Layout.{Fits};
+ghost use Rattle.nl_attr.specs.Heads.{FaultAt, Head, start_of};
+ghost use Rattle.nl_attr.specs.Visits.{Visits};
+
+/// Bytes are the form of the number that is read of them, and of no other number of so many bytes.
+pub fn one_number()
+    ensures below { (o : Order) (bytes : List ℕ) → AreBytes bytes → number_of o (length bytes) bytes < 256 ^ length bytes }
+    ensures is { (o : Order) (bytes : List ℕ) → AreBytes bytes → num (number_of o (length bytes) bytes) (length bytes) o ≡ bytes }
+    ensures front { (o : Order) (w : ℕ) (bytes : List ℕ) → AreBytes bytes → w ≤ length bytes → num (number_of o w bytes) w o ++ drop w bytes ≡ bytes }
+    ensures only { (o : Order) (w m n : ℕ) → m < 256 ^ w → n < 256 ^ w → num m w o ≡ num n w o → m ≡ n }
+{}
+
+/// Four bytes are the two's complement of exactly one number.
+pub fn one_signed_number()
+    ensures { (o : Order) (bytes : List ℕ) → AreBytes bytes → length bytes ≡ 4 → (z : ℤ) × FitsSigned w32 z × (num (cast_unsigned w32 z) 4 o ≡ bytes) × ((y : ℤ) → FitsSigned w32 y → num (cast_unsigned w32 y) 4 o ≡ bytes → y ≡ z) }
+{}
+
+/// At most one list fits a region.
+pub fn one_list()
+    ensures { (s : Shape) (ctx : Ctx) (l : ℕ) (bytes : List ℕ) (is js : Items) → Fits s is bytes ctx l → Fits s js bytes ctx l → is ≡ js }
+{}
+
+/// A list fits a region exactly where no head in it has a fault.
+pub fn fits_or_fault()
+    ensures { (s : Shape) (ctx : Ctx) (l place : ℕ) (bytes : List ℕ) → AreBytes bytes → ((is : Items) × Fits s is bytes ctx l) ↔ ((p : ℕ) (r : Reason) → FaultAt s (start_of ctx l place bytes) p r → ⊥) }
+{}
+
+/// The visits of a region, up to any place, are no more than its length once for each level that is left.
+pub fn visits_bound()
+    ensures { (s : Shape) (ctx : Ctx) (l place : ℕ) (bytes : List ℕ) (q total : ℕ) → l ≤ s.depth → Visits s (start_of ctx l place bytes) q total → total ≤ (s.depth - l + 1) * length bytes }
+{}
+
+/// The visits up to a place have one sum.
+pub fn one_sum()
+    ensures { (s : Shape) (start : Head) (q a b : ℕ) → Visits s start q a → Visits s start q b → a ≡ b }
+{}

@@ -1,0 +1,26 @@
+//! Attributes of netlink messages.
+#![tactic(auto)]
+
+mod fault;
+pub mod laws;
+mod limits;
+mod order;
+mod payload;
+mod reading;
+mod stack;
+mod tree;
+mod uses;
+mod views;
+mod walk;
+
+pub use fault::{Fault, LimitFault, ListError, Reason, Tally};
+pub use limits::Depth;
+pub use order::Order;
+pub use payload::Payload;
+pub use reading::{read_list, read_list_ordered};
+pub use tree::{Attr, AttrFlags, Content, Ctx, Hop, Value, holds};
+pub use views::find;
+pub use walk::{Attrs, HopPart, HopParts, Part, align4};
+
+#[cfg(test)]
+mod tests;

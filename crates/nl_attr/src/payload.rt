@@ -1,0 +1,113 @@
+//! The bytes of an attribute that holds neither a list nor next hops.
+
+ghost use Rattle.std.specs.Prelude.{◌≡◌, ◌≤◌, ◌==◌, length, IsOk, IfOk};
+ghost use Rattle.std.specs.Prelude.{nat_eq};
+ghost use Rattle.std.specs.Cmp.Lexicographic.{pointwise, nat_list_eq_equiv};
+ghost use Rattle.std.specs.Cmp.{partial_equiv_from_equiv};
+
+use std::alloc::{AllocError, Global};
+use std::fmt;
+use std::marker::Model;
+
+/// How many bytes lie in the value itself.
+const INLINE: usize = 23;
+
+/// Bytes, of which up to 23 lie in the value itself, so that numbers, addresses and short names take
+/// no memory.
+#[derive(Drop)]
+pub struct Payload {
+    store: Store,
+}
+
+/// Where the bytes lie: at the front of a buffer, or in a vector.
+#[derive(Drop)]
+enum Store {
+    Inline(u8, [u8; INLINE]),
+    Heap(Vec<u8>),
+}
+
+impl Model for Payload {
+    ghost use Rattle.std.specs.Prelude.{List, ℕ};
+
+    ghost Value = { List ℕ };
+
+    ghost use Rattle.nl_attr.specs.Stored.{stored, IsStored};
+
+    ghost view = { λ p. stored p.store };
+
+    ghost invariant = { λ p. IsStored p.store };
+}
+
+impl Payload {
+    /// A copy of these bytes. It takes memory only for more than 23.
+    pub fn from_slice(alloc: Global, bytes: &[u8]) -> Result<Payload, AllocError>
+        ensures value { IfOk result (λ p. p ≡ bytes.now) }
+        ensures inline { length bytes.now ≤ INLINE → IsOk result }
+    {
+        let len = bytes.len();
+        let store = if len <= INLINE {
+            let mut buffer = [0; INLINE];
+            buffer[..len].copy_from_slice(bytes);
+            Store::Inline(len as u8, buffer)
+        } else {
+            Store::Heap(Vec::from_slice(alloc, bytes)?)
+        };
+        Ok(Payload { store })
+    }
+
+    /// The bytes of a vector, where they stay. It takes no memory.
+    pub fn from_vec(bytes: Vec<u8>) -> Payload
+        ensures { result ≡ bytes.items }
+    {
+        Payload {
+            store: Store::Heap(bytes),
+        }
+    }
+
+    /// The bytes.
+    #[inline]
+    pub fn as_slice(&self) -> &[u8]
+        ensures { result.now ≡ self.now }
+    {
+        match &self.store {
+            Store::Inline(len, buffer) => &buffer[..*len as usize],
+            Store::Heap(bytes) => bytes.as_slice(),
+        }
+    }
+
+    /// How many bytes.
+    #[inline]
+    pub fn len(&self) -> usize
+        ensures { result ≡ length self.now }
+    {
+        self.as_slice().len()
+    }
+
+    /// Whether there is no byte.
+    #[inline]
+    pub fn is_empty(&self) -> bool
+        ensures { result ≡ (length self.now == 0) }
+    {
+        self.len() == 0
+    }
+}
+
+impl PartialEq for Payload {
+    ghost eq = { pointwise nat_eq };
+
+    ghost laws = { partial_equiv_from_equiv nat_list_eq_equiv };
+
+    fn eq(&self, other: &Payload) -> bool {
+        self.as_slice() == other.as_slice()
+    }
+}
+
+impl Eq for Payload {
+    ghost laws = { nat_list_eq_equiv };
+}
+
+impl fmt::Debug for Payload {
+    fn fmt<W: fmt::Write>(&self, f: &mut fmt::Formatter<W>) -> fmt::Result {
+        self.as_slice().fmt(f)
+    }
+}

@@ -1,0 +1,263 @@
+ghost use Rattle.std.specs.Prelude.{◌≡◌, ◌+◌, ◌≤◌, ◌<◌, ◌^◌, length, MatchResult, Ok};
+ghost use Rattle.nl_attr.specs.Numbers.{aligned, len_of, span_of};
+ghost use Rattle.nl_attr.specs.Walk.{HeadIs, IsHopPart, index_of};
+
+use crate::fault::{Fault, Reason};
+use crate::order::Order;
+use crate::tree::AttrFlags;
+use std::marker::Model;
+
+/// The least multiple of 4 that is not below `n`.
+pub fn align4(n: u32) -> u32
+    requires { n ≤ 4294967292 }
+    ensures { result ≡ aligned n }
+{
+    (n + 3) / 4 * 4
+}
+
+/// The length that the head at the front says, where it is as least `min` and within the bytes.
+fn head_len(order: Order, left: &[u8], min: usize) -> Result<usize, Reason>
+    requires { 2 ≤ min }
+    ensures { HeadIs order min 2 left.now result }
+{
+    if left.len() < min {
+        return Err(Reason::Cut);
+    }
+    let len = order.read_u16(left) as usize;
+    if len < min || left.len() < len {
+        return Err(Reason::BadLength);
+    }
+    Ok(len)
+}
+
+/// The index of the interface in the head of a next hop.
+fn index_at(order: Order, left: &[u8]) -> i32
+    requires { 8 ≤ length left.now }
+    ensures { result ≡ index_of order left.now }
+{
+    order.read_i32(&left[4..])
+}
+
+/// An attribute as it lies in its region.
+#[derive(Clone, Copy, Debug)]
+pub struct Part<'a> {
+    pub number: u16,
+    pub flags: AttrFlags,
+    pub place: u32,
+    pub span: u32,
+    pub payload: &'a [u8],
+}
+
+/// Goes over the attributes of a region.
+#[derive(Debug, Drop)]
+pub struct Attrs<'a> {
+    order: Order,
+    left: &'a [u8],
+    place: u32,
+}
+
+impl<'a> Model for Attrs<'a> {
+    ghost use Rattle.std.specs.Prelude.{◌+◌, ◌≤◌, length};
+    ghost use Rattle.nl_attr.specs.Walk.{Region};
+
+    ghost Value = { Region };
+
+    ghost view = { λ a. record { order = a.order; place = a.place; left = a.left.now } };
+
+    ghost invariant = { λ a. a.place + length a.left.now ≤ 1048576 };
+}
+
+impl<'a> Attrs<'a> {
+    ghost use Rattle.std.specs.Prelude.{List, Result};
+    ghost use Rattle.std.specs.Iterator.{Drains};
+    ghost use Rattle.nl_attr.specs.declared.fault.Fault.{Fault};
+    ghost use Rattle.nl_attr.specs.declared.walk.Part.{Part};
+    ghost use Rattle.nl_attr.specs.Walk.{GivesPart, IsPart};
+    ghost use Rattle.nl_attr.specs.Walk.{IsWalk};
+
+    pub fn of(bytes: &'a [u8]) -> Self
+        requires { length bytes.now ≤ 1048576 }
+        ensures start { result ≡ record { order = Order.Little; place = 0; left = bytes.now } }
+        // What comes is the pieces of the bytes in their order, then the fault of what is no piece.
+        ensures walk { (parts : List (Result Part Fault)) → Drains GivesPart result parts → IsWalk 4 IsPart Order.Little 0 bytes.now parts }
+    {
+        Attrs::of_ordered(bytes, Order::Little)
+    }
+
+    pub fn of_ordered(bytes: &'a [u8], order: Order) -> Self
+        requires { length bytes.now ≤ 1048576 }
+        ensures start { result ≡ record { order = order; place = 0; left = bytes.now } }
+        // What comes is the pieces of the bytes in their order, then the fault of what is no piece.
+        ensures walk { (parts : List (Result Part Fault)) → Drains GivesPart result parts → IsWalk 4 IsPart order 0 bytes.now parts }
+    {
+        Attrs {
+            order,
+            left: bytes,
+            place: 0,
+        }
+    }
+
+    pub fn seen(&self) -> u64
+        ensures { result ≡ self.now.place }
+    {
+        self.place as u64
+    }
+}
+
+impl<'a> Iterator for Attrs<'a> {
+    ghost use Rattle.std.specs.Prelude.{length};
+    ghost use Rattle.std.specs.Iterator.{at_most};
+    ghost use Rattle.nl_attr.specs.Walk.{GivesPart};
+
+    type Item = Result<Part<'a>, Fault>;
+
+    ghost next_gives = { GivesPart };
+
+    ghost remaining = { λ w. at_most (length w.left) };
+
+    fn next(&mut self) -> Option<Result<Part<'a>, Fault>> {
+        let left = self.left;
+        if left.is_empty() {
+            return None;
+        }
+        let place = self.place;
+        match head_len(self.order, left, 4) {
+            Err(reason) => {
+                self.left = &left[left.len()..];
+                Some(Err(Fault { place, reason }))
+            }
+            Ok(len) => {
+                let kind = self.order.read_u16(&left[2..]);
+                let span = (align4(len as u32) as usize).min(left.len());
+                self.left = &left[span..];
+                self.place = place + span as u32;
+                Some(Ok(Part {
+                    number: kind % 16384,
+                    flags: AttrFlags {
+                        nested: kind / 32768 == 1,
+                        net: kind / 16384 % 2 == 1,
+                    },
+                    place,
+                    span: span as u32,
+                    payload: &left[4..len],
+                }))
+            }
+        }
+    }
+}
+
+/// A next hop as it lies in its region.
+#[derive(Clone, Copy, Debug)]
+pub struct HopPart<'a> {
+    pub flags: u8,
+    pub hops: u8,
+    pub ifindex: i32,
+    pub place: u32,
+    pub span: u32,
+    pub rest: &'a [u8],
+}
+
+/// The next hop of `len` bytes at the front.
+#[tactic(auto, using(crate::proofs::Lemmas::Signed::signed))]
+fn hop_part(order: Order, left: &[u8], len: usize, place: u32, span: u32) -> HopPart<'_>
+    requires sound { HeadIs order 8 2 left.now (Ok len) }
+    requires span { span ≡ span_of order 2 left.now }
+    ensures { IsHopPart result (record { order = order; place = place; left = left.now }) }
+{
+    HopPart {
+        flags: left[2],
+        hops: left[3],
+        ifindex: index_at(order, left),
+        place,
+        span,
+        rest: &left[8..len],
+    }
+}
+
+/// Goes over the next hops of a region.
+#[derive(Debug, Drop)]
+pub struct HopParts<'a> {
+    order: Order,
+    left: &'a [u8],
+    place: u32,
+}
+
+impl<'a> Model for HopParts<'a> {
+    ghost use Rattle.std.specs.Prelude.{◌+◌, ◌≤◌, length};
+    ghost use Rattle.nl_attr.specs.Walk.{Region};
+
+    ghost Value = { Region };
+
+    ghost view = { λ a. record { order = a.order; place = a.place; left = a.left.now } };
+
+    ghost invariant = { λ a. a.place + length a.left.now ≤ 1048576 };
+}
+
+impl<'a> HopParts<'a> {
+    ghost use Rattle.std.specs.Prelude.{List, Result};
+    ghost use Rattle.std.specs.Iterator.{Drains};
+    ghost use Rattle.nl_attr.specs.declared.fault.Fault.{Fault};
+    ghost use Rattle.nl_attr.specs.declared.walk.HopPart.{HopPart};
+    ghost use Rattle.nl_attr.specs.Walk.{GivesHop};
+    ghost use Rattle.nl_attr.specs.Walk.{IsWalk};
+
+    pub fn of(bytes: &'a [u8]) -> Self
+        requires { length bytes.now ≤ 1048576 }
+        ensures start { result ≡ record { order = Order.Little; place = 0; left = bytes.now } }
+        // What comes is the pieces of the bytes in their order, then the fault of what is no piece.
+        ensures walk { (parts : List (Result HopPart Fault)) → Drains GivesHop result parts → IsWalk 8 IsHopPart Order.Little 0 bytes.now parts }
+    {
+        HopParts::of_ordered(bytes, Order::Little)
+    }
+
+    pub fn of_ordered(bytes: &'a [u8], order: Order) -> Self
+        requires { length bytes.now ≤ 1048576 }
+        ensures start { result ≡ record { order = order; place = 0; left = bytes.now } }
+        // What comes is the pieces of the bytes in their order, then the fault of what is no piece.
+        ensures walk { (parts : List (Result HopPart Fault)) → Drains GivesHop result parts → IsWalk 8 IsHopPart order 0 bytes.now parts }
+    {
+        HopParts {
+            order,
+            left: bytes,
+            place: 0,
+        }
+    }
+
+    pub fn seen(&self) -> u64
+        ensures { result ≡ self.now.place }
+    {
+        self.place as u64
+    }
+}
+
+impl<'a> Iterator for HopParts<'a> {
+    ghost use Rattle.std.specs.Prelude.{length};
+    ghost use Rattle.std.specs.Iterator.{at_most};
+    ghost use Rattle.nl_attr.specs.Walk.{GivesHop};
+
+    type Item = Result<HopPart<'a>, Fault>;
+
+    ghost next_gives = { GivesHop };
+
+    ghost remaining = { λ w. at_most (length w.left) };
+
+    fn next(&mut self) -> Option<Result<HopPart<'a>, Fault>> {
+        let left = self.left;
+        if left.is_empty() {
+            return None;
+        }
+        let place = self.place;
+        match head_len(self.order, left, 8) {
+            Err(reason) => {
+                self.left = &left[left.len()..];
+                Some(Err(Fault { place, reason }))
+            }
+            Ok(len) => {
+                let span = (align4(len as u32) as usize).min(left.len());
+                self.left = &left[span..];
+                self.place = place + span as u32;
+                Some(Ok(hop_part(self.order, left, len, place, span as u32)))
+            }
+        }
+    }
+}
