@@ -12,7 +12,7 @@ use Rattle.nl_attr.specs.Shape.{Shape}
 use Rattle.nl_attr.specs.Numbers.{aligned, len_of, span_of}
 use Rattle.nl_attr.specs.Walk.{broken_length, payload_of}
 use Rattle.nl_attr.specs.Heads.{Sort, attr_head, hop_head, Head, least, content_at, broken, broken_in, broken_container, IsSound, follower, inner_in, inner_at, inner_of, HeadAt, start_of}
-use Rattle.nl_attr.specs.Visits.{IsVisit, Visits, Rises, Has, spans}
+use Rattle.nl_attr.specs.Visits.{IsVisit, Visits, VisitsBy, Rises, Has, spans}
 use Rattle.nl_attr.proofs.Lemmas.Reading.{or_else_none, sound_within, payload_shorter, rest_shorter}
 use Rattle.nl_attr.proofs.Lemmas.Bounds.{turn_bound, at_level, tests_none}
 use Rattle.nl_attr.proofs.Lemmas.First.{sum_append}
@@ -54,7 +54,7 @@ length_after n S s h a b = let f = follower_lies S s a b in omega (arith, f.0, f
 length_inside : (n : ℕ) (S : Shape) (s k : Head) → length s.left ≤ suc n → broken S s ≡ None → inner_of S s ≡ Some k → least s.sort < len_of S.order 2 s.left → length k.left ≤ n
 length_inside n S s k h a b c = let f = inner_lies S s k a b c in omega (arith, f.0, f.2.high)
 
-every_has : (n : ℕ) (S : Shape) (s : Head) (v : ℕ × ℕ) → length s.left ≤ n → Visited S s v → Has (visits n S s) v
+pub every_has : (n : ℕ) (S : Shape) (s : Head) (v : ℕ × ℕ) → length s.left ≤ n → Visited S s v → Has (visits n S s) v
 unfolding visits
 every_has zero S s v h k = let l = head_lies S s k.0 k.1 in absurd (omega (arith, l.low, l.high, l.some))
 every_has (suc n) S s v h k =
@@ -80,21 +80,21 @@ rises_later p m [] x h g = absurd g
 rises_later p m (v ∷ vs) x h (inl e) = omega (arith, h.0, ap (λ (y : ℕ × ℕ). y.0) e)
 rises_later p m (v ∷ vs) x h (inr g) = omega (arith, h.0, rises_later (suc v.0) m vs x h.2 g)
 
-spans_below : (p m : ℕ) (vs ws : List (ℕ × ℕ)) → Rises p m vs → ((x : ℕ × ℕ) → Has vs x → Has ws x) → spans vs ≤ spans ws
+pub spans_below : (p m : ℕ) (vs ws : List (ℕ × ℕ)) → Rises p m vs → ((x : ℕ × ℕ) → Has vs x → Has ws x) → spans vs ≤ spans ws
 spans_below p m [] ws h sub = omega arith
 spans_below p m (v ∷ vs) ws h sub =
     let t = taken ws v (sub v (inl refl)) in
     let rest = spans_below (suc v.0) m vs t.0 h.2 (λ x g. t.2 x (sub x (inr g)) (λ e. absurd (omega (arith, rises_later (suc v.0) m vs x h.2 g, ap (λ (y : ℕ × ℕ). y.0) e)))) in
     omega (arith, t.1, rest)
 
-all_has : (P : ℕ × ℕ → Type 0) (vs : List (ℕ × ℕ)) (x : ℕ × ℕ) → AllByRecursion P vs → Has vs x → P x
+pub all_has : (P : ℕ × ℕ → Type 0) (vs : List (ℕ × ℕ)) (x : ℕ × ℕ) → AllByRecursion P vs → Has vs x → P x
 all_has P [] x h g = absurd g
 all_has P (v ∷ vs) x h (inl e) = subst P e h.0
 all_has P (v ∷ vs) x h (inr g) = all_has P vs x h.1 g
 
 -- ---- and these have the bound
 
-abbrev IsLow : Shape → Sort → ℕ → Type 0
+abbrev pub IsLow : Shape → Sort → ℕ → Type 0
 IsLow S attr_head l = l ≤ S.depth
 IsLow S hop_head l = l + 1 ≤ S.depth
 
@@ -134,7 +134,7 @@ low_level : (S : Shape) (s : Sort) (l : ℕ) → IsLow S s l → l ≤ S.depth
 low_level S attr_head l h = h
 low_level S hop_head l h = omega (arith, h)
 
-visits_low : (n : ℕ) (S : Shape) (h : Head) → IsLow S h.sort h.level → length h.left ≤ n → spans (visits n S h) ≤ (S.depth - h.level + 1) * length h.left
+pub visits_low : (n : ℕ) (S : Shape) (h : Head) → IsLow S h.sort h.level → length h.left ≤ n → spans (visits n S h) ≤ (S.depth - h.level + 1) * length h.left
 unfolding visits
 visits_low zero S h low le = omega arith
 visits_low (suc n) S h low le =
@@ -165,9 +165,12 @@ visits_bound S ctx l place left q total low v =
     let high = visits_low n S s low (omega arith) in
     omega (arith, v.sums, few, high)
 
--- and there is one sum of them
-pub one_sum : (S : Shape) (start : Head) (q a b : ℕ) → Visits S start q a → Visits S start q b → a ≡ b
-one_sum S start q a b v w =
-    let low = spans_below 0 (suc q) v.all w.all v.rises (λ x h. w.every x (all_has (IsVisit S start q) v.all x v.each h)) in
-    let high = spans_below 0 (suc q) w.all v.all w.rises (λ x h. v.every x (all_has (IsVisit S start q) w.all x w.each h)) in
+-- visits have one sum
+pub one_sum_by : (Is : ℕ × ℕ → Type 0) (q a b : ℕ) → VisitsBy Is q a → VisitsBy Is q b → a ≡ b
+one_sum_by Is q a b v w =
+    let low = spans_below 0 (suc q) v.all w.all v.rises (λ x h. w.every x (all_has Is v.all x v.each h)) in
+    let high = spans_below 0 (suc q) w.all v.all w.rises (λ x h. v.every x (all_has Is w.all x w.each h)) in
     omega (arith, v.sums, w.sums, low, high)
+
+pub one_sum : (S : Shape) (start : Head) (q a b : ℕ) → Visits S start q a → Visits S start q b → a ≡ b
+one_sum S start q a b v w = one_sum_by (IsVisit S start q) q a b v w

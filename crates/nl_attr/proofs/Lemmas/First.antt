@@ -28,7 +28,7 @@ pub record Agrees {A : Type 0} (o : Outcome A) (s : Scan) : Type 0 where
   pub end : SameEnd o.0 s.1
   pub sums : o.1 ≡ spans s.0
 
-map_agrees : {A B : Type 0} (f : A → B) (o : Outcome A) (s : Scan) → Agrees o s → Agrees (map_value f o) s
+pub map_agrees : {A B : Type 0} (f : A → B) (o : Outcome A) (s : Scan) → Agrees o s → Agrees (map_value f o) s
 map_agrees f (Ok x, v) s a = record { end = a.end; sums = a.sums }
 map_agrees f (Err x, v) s a = record { end = a.end; sums = a.sums }
 
@@ -36,7 +36,7 @@ pub sum_append : (vs ws : List (ℕ × ℕ)) → spans (vs ++ ws) ≡ spans vs +
 sum_append [] ws = omega arith
 sum_append (v ∷ vs) ws = omega (arith, sum_append vs ws)
 
-then_agrees : {A B : Type 0} (o : Outcome A) (g : A → Outcome B) (i rest : Scan) → Agrees o i → ((x : A) → Agrees (g x) rest) → Agrees (and_then o g) (join i rest)
+pub then_agrees : {A B : Type 0} (o : Outcome A) (g : A → Outcome B) (i rest : Scan) → Agrees o i → ((x : A) → Agrees (g x) rest) → Agrees (and_then o g) (join i rest)
 then_agrees (Ok x, v) g (vs, None) rest a b = record { end = (b x).end; sums = omega (arith, a.sums, (b x).sums, sum_append vs rest.0) }
 then_agrees (Ok x, v) g (vs, Some f) rest a b = absurd (let e = a.end in cc)
 then_agrees (Err d, v) g (vs, None) rest a b = absurd (let e = a.end in cc)

@@ -87,16 +87,16 @@ abbrev pub ReadAs : {A : Type 0} → Outcome A → A → Type 0
 ReadAs o x = (v : ℕ) × (o ≡ (Ok x, v))
 
 -- an outcome that is Ok goes on
-then_read : {A B : Type 0} (o : Outcome A) (g : A → Outcome B) (x : A) (y : B) → ReadAs o x → ReadAs (g x) y → ReadAs (and_then o g) y
+pub then_read : {A B : Type 0} (o : Outcome A) (g : A → Outcome B) (x : A) (y : B) → ReadAs o x → ReadAs (g x) y → ReadAs (and_then o g) y
 then_read o g x y h k = (h.0 + k.0, ap (λ p. and_then p g) h.1 ∙ ap (λ (p : Outcome _). (p.0, h.0 + p.1)) k.1)
 
-map_read : {A B : Type 0} (f : A → B) (o : Outcome A) (x : A) → ReadAs o x → ReadAs (map_value f o) (f x)
+pub map_read : {A B : Type 0} (f : A → B) (o : Outcome A) (x : A) → ReadAs o x → ReadAs (map_value f o) (f x)
 map_read f o x h = (h.0, ap (map_value f) h.1)
 
 more_read : {A : Type 0} (n : ℕ) (o : Outcome A) (x : A) → ReadAs o x → ReadAs (more_visits n o) x
 more_read n o x h = (n + h.0, ap (more_visits n) h.1)
 
-along : {A : Type 0} (o p : Outcome A) (x : A) → o ≡ p → ReadAs p x → ReadAs o x
+pub along : {A : Type 0} (o p : Outcome A) (x : A) → o ≡ p → ReadAs p x → ReadAs o x
 along o p x e h = (h.0, e ∙ h.1)
 
 attr_read : (S : Shape) (ctx : Ctx) (l place n : ℕ) (flags : AttrFlags) (payload : List ℕ) (v : Val) → broken_container S l (holds_of ctx n flags) (length payload + 4) ≡ None

@@ -2,7 +2,7 @@
 use Rattle.std.proofs.Common.{◌≡◌, ℕ, zero, suc, ◌+◌, ◌-◌, ◌*◌, ◌/◌, ◌%◌, ◌^◌, ◌<◌, ◌≤◌, min, List, [], ◌∷◌, ◌++◌, length, take, drop, get_or, refl, sym, ap, subst, ◌∙◌, arith, inl, inr}
 use Rattle.std.specs.Prelude.{reverse, ℤ, FitsSigned}
 use Rattle.std.specs.Int.{w32, cast_signed, cast_unsigned}
-use Rattle.std.proofs.lemmas.List.{reverse-reverse, length-reverse, take-append-drop, take_at, length-take, get_or-take, get_or_past}
+use Rattle.std.proofs.lemmas.List.{reverse-reverse, length-reverse, take-append-drop, take_at, length-take, get_or-drop, get_or-take, get_or_past}
 use Rattle.std.proofs.lemmas.Bool.{cases_lt}
 use Rattle.std.proofs.lemmas.Grind.{reverse_onto}
 use Rattle.std.proofs.lemmas.Int.{of_z-to_z, to_z-of_z}
@@ -191,27 +191,31 @@ one_signed o bs h four =
           sym (to_z-of_z w32 y f) ∙ ap (cast_signed w32) same,
     )
 
-number_take : (o : Order) (w : ℕ) (xs : List ℕ) → number_of o w (take w xs) ≡ number_of o w xs
+pub number_take : (o : Order) (w : ℕ) (xs : List ℕ) → number_of o w (take w xs) ≡ number_of o w xs
 number_take Little w xs = little_from-take 0 w w xs (omega arith)
 number_take Big w xs = big_from-take 0 w w xs (omega arith)
 
-take_bytes : (w : ℕ) (xs : List ℕ) → AreBytes xs → AreBytes (take w xs)
-take_bytes w xs h i =
+-- a part of bytes is bytes
+pub bytes_take : (w : ℕ) (xs : List ℕ) → AreBytes xs → AreBytes (take w xs)
+bytes_take w xs h i =
     elim (cases_lt i w) [
       | inl lt ↦ rw (get_or-take w xs i 0 lt) (h i)
       | inr le ↦ rw (get_or_past (take w xs) i 0 (omega (arith, length-take w xs))) (omega arith)
     ]
 
+pub bytes_drop : (n : ℕ) (xs : List ℕ) → AreBytes xs → AreBytes (drop n xs)
+bytes_drop n xs h i = rw get_or-drop (h (n + i))
+
 -- the first bytes are the form of the number that is read of them
 pub front_is : (o : Order) (w : ℕ) (xs : List ℕ) → AreBytes xs → w ≤ length xs → num (number_of o w xs) w o ≡ take w xs
 front_is o w xs h le =
     let len : length (take w xs) ≡ w = omega (arith, length-take w xs) in
-    ap (λ (n : ℕ). num n w o) (sym (number_take o w xs)) ∙ subst (λ (k : ℕ). num (number_of o k (take w xs)) k o ≡ take w xs) len (one_is o (take w xs) (take_bytes w xs h))
+    ap (λ (n : ℕ). num n w o) (sym (number_take o w xs)) ∙ subst (λ (k : ℕ). num (number_of o k (take w xs)) k o ≡ take w xs) len (one_is o (take w xs) (bytes_take w xs h))
 
 pub front_below : (o : Order) (w : ℕ) (xs : List ℕ) → AreBytes xs → w ≤ length xs → number_of o w xs < 256 ^ w
 front_below o w xs h le =
     let len : length (take w xs) ≡ w = omega (arith, length-take w xs) in
-    subst (λ (n : ℕ). n < 256 ^ w) (number_take o w xs) (subst (λ (k : ℕ). number_of o k (take w xs) < 256 ^ k) len (one_below o (take w xs) (take_bytes w xs h)))
+    subst (λ (n : ℕ). n < 256 ^ w) (number_take o w xs) (subst (λ (k : ℕ). number_of o k (take w xs) < 256 ^ k) len (one_below o (take w xs) (bytes_take w xs h)))
 
 -- the number at the front of bytes that begin with its form
 pub number_of-num : (o : Order) (w n : ℕ) (xs : List ℕ) → n < 256 ^ w → number_of o w (num n w o ++ xs) ≡ n

@@ -4,15 +4,12 @@ use Rattle.std.proofs.lemmas.List.{take-append-drop, length-take, nil_from_lengt
 use Rattle.std.proofs.lemmas.Bool.{cases_lt}
 use Rattle.nl_attr.specs.declared.order.Order.{Order}
 use Rattle.nl_attr.specs.Shape.{Shape}
-use Rattle.nl_attr.specs.Numbers.{aligned, num, len_of, kind_of, span_of}
+use Rattle.nl_attr.specs.Numbers.{AreBytes, aligned, num, len_of, kind_of, span_of}
 use Rattle.nl_attr.specs.Walk.{broken_length}
 use Rattle.nl_attr.specs.Layout.{IsPadded, IsPiece}
 use Rattle.nl_attr.specs.Walk.{payload_of}
 use Rattle.nl_attr.proofs.Lemmas.Numbers.{front_is, front_below}
 use Rattle.nl_attr.proofs.Lemmas.Reading.{IsWithin, sound_within, span_at_least}
-
-abbrev pub IsBytes : List ℕ → Type 0
-IsBytes bytes = (i : ℕ) → get_or bytes i 0 < 256
 
 pub take_take : (n m : ℕ) (xs : List ℕ) → n ≤ m → take n (take m xs) ≡ take n xs
 take_take zero m xs h = refl
@@ -21,7 +18,7 @@ take_take (suc n) (suc m) [] h = refl
 take_take (suc n) (suc m) (x ∷ xs) h = ap (λ (t : List ℕ). x ∷ t) (take_take n m xs (omega arith))
 
 -- bytes that begin with their own length
-begins : (o : Order) (w : ℕ) (left : List ℕ) → IsBytes left → w ≤ len_of o w left → len_of o w left ≤ length left → take (len_of o w left) left ≡ num (len_of o w left) w o ++ drop w (take (len_of o w left) left)
+begins : (o : Order) (w : ℕ) (left : List ℕ) → AreBytes left → w ≤ len_of o w left → len_of o w left ≤ length left → take (len_of o w left) left ≡ num (len_of o w left) w o ++ drop w (take (len_of o w left) left)
 begins o w left fits low high =
     let k = len_of o w left in
     sym (take-append-drop w (take k left)) ∙ ap (λ (t : List ℕ). t ++ drop w (take k left)) (take_take w k left low ∙ sym (front_is o w left fits (omega arith)))
@@ -33,7 +30,7 @@ padded len n rest le e =
       | inr long ↦ inl (omega arith)
     ]
 
-pub piece_at : (o : Order) (h w : ℕ) (left : List ℕ) → w ≤ h → IsBytes left → broken_length o h w left ≡ None → IsPiece o h w left (take (len_of o w left) left) (drop (len_of o w left) (take (span_of o w left) left)) (drop (span_of o w left) left)
+pub piece_at : (o : Order) (h w : ℕ) (left : List ℕ) → w ≤ h → AreBytes left → broken_length o h w left ≡ None → IsPiece o h w left (take (len_of o w left) left) (drop (len_of o w left) (take (span_of o w left) left)) (drop (span_of o w left) left)
 piece_at o h w left le fits e =
     let i = sound_within o h w left e in
     let len = len_of o w left in

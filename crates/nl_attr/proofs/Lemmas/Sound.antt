@@ -4,7 +4,7 @@ use Rattle.std.specs.Prelude.{slice_index}
 use Rattle.std.specs.Int.{w32, cast_signed, cast_unsigned}
 use Rattle.std.proofs.lemmas.Int.{of_z-to_z}
 use Rattle.std.proofs.Math.Facts.{sfits_to_z, Fits-of_lt}
-use Rattle.nl_attr.proofs.Lemmas.Numbers.{two_bytes, four_bytes, two_fit, four_fit}
+use Rattle.nl_attr.proofs.Lemmas.Numbers.{two_bytes, four_bytes, two_fit, four_fit, bytes_take, bytes_drop}
 use Rattle.std.proofs.lemmas.Bool.{ltb-false}
 use Rattle.std.proofs.lemmas.List.{take-append-drop, length-take, get_or-drop, get_or-take, get_or_past, nil_from_length}
 use Rattle.std.proofs.lemmas.Bool.{cases_lt}
@@ -18,21 +18,21 @@ use Rattle.nl_attr.specs.declared.tree.Content.{Content}
 use Rattle.nl_attr.specs.declared.tree.Content.TheVariants as content
 use Rattle.nl_attr.specs.declared.order.Order.{Order}
 use Rattle.nl_attr.specs.Shape.{Shape}
-use Rattle.nl_attr.specs.Numbers.{num, number_of, len_of, kind_of, span_of}
+use Rattle.nl_attr.specs.Numbers.{AreBytes, num, number_of, len_of, kind_of, span_of}
 use Rattle.nl_attr.specs.Walk.{flags_of, index_of, broken_length}
 use Rattle.nl_attr.specs.Tree.{Val, bytes, list, hops, Items, no_items, item, HopItems, no_hops, hop, holds_of}
 use Rattle.nl_attr.specs.Layout.{kind_number, FitsVal, Fits, FitsHops}
 use Rattle.nl_attr.specs.Heads.{attr_head, broken_in, broken_container, content_at}
 use Rattle.nl_attr.specs.Reading.{Outcome, and_then, map_value, checked, value_by, items_at, hops_at}
 use Rattle.nl_attr.proofs.Lemmas.Reading.{IsWithin, sound_within, or_else_none, payload_shorter, rest_shorter, payload_length}
-use Rattle.nl_attr.proofs.Lemmas.Pieces.{IsBytes, piece_at, take_take}
+use Rattle.nl_attr.proofs.Lemmas.Pieces.{piece_at, take_take}
 use Rattle.nl_attr.specs.Walk.{payload_of}
 
-then_ok : {A B : Type 0} (o : Outcome A) (g : A → Outcome B) (y : B) (v : ℕ) → and_then o g ≡ (Ok y, v) → (x : A) × (u : ℕ) × (w : ℕ) × (o ≡ (Ok x, u)) × (g x ≡ (Ok y, w))
+pub then_ok : {A B : Type 0} (o : Outcome A) (g : A → Outcome B) (y : B) (v : ℕ) → and_then o g ≡ (Ok y, v) → (x : A) × (u : ℕ) × (w : ℕ) × (o ≡ (Ok x, u)) × (g x ≡ (Ok y, w))
 then_ok {A} {B} (Ok x, u) g y v e = (x, u, (g x).1, refl, ap (λ (p : Outcome B). (p.0, (g x).1)) e)
 then_ok {A} {B} (Err d, u) g y v e = absurd (let f : ◌≡◌ {A = Result B Fault} (Err d) (Ok y) = ap (λ (p : Outcome B). p.0) e in cc)
 
-map_ok : {A B : Type 0} (f : A → B) (o : Outcome A) (y : B) (v : ℕ) → map_value f o ≡ (Ok y, v) → (x : A) × (u : ℕ) × (o ≡ (Ok x, u)) × (f x ≡ y)
+pub map_ok : {A B : Type 0} (f : A → B) (o : Outcome A) (y : B) (v : ℕ) → map_value f o ≡ (Ok y, v) → (x : A) × (u : ℕ) × (o ≡ (Ok x, u)) × (f x ≡ y)
 map_ok {A} {B} f (Ok x, u) y v e = (x, u, refl, (let g : ◌≡◌ {A = Result B Fault} (Ok (f x)) (Ok y) = ap (λ (p : Outcome B). p.0) e in cc))
 map_ok {A} {B} f (Err d, u) y v e = absurd (let g : ◌≡◌ {A = Result B Fault} (Err d) (Ok y) = ap (λ (p : Outcome B). p.0) e in cc)
 
@@ -53,7 +53,7 @@ kind_whole : (kind : ℕ) → kind < 65536 → kind_number (kind % 16384) (flags
 kind_whole kind h = kind_back kind (kind / 32768) (kind / 16384 % 2) h refl refl
 
 -- an item begins with its length and its type
-attr_says : (o : Order) (left : List ℕ) → IsBytes left → IsWithin o 4 2 left → take (len_of o 2 left) left ≡ num (len_of o 2 left) 2 o ++ (num (kind_of o left) 2 o ++ payload_of o 4 2 left)
+attr_says : (o : Order) (left : List ℕ) → AreBytes left → IsWithin o 4 2 left → take (len_of o 2 left) left ≡ num (len_of o 2 left) 2 o ++ (num (kind_of o left) 2 o ++ payload_of o 4 2 left)
 attr_says o (a ∷ b ∷ c ∷ d ∷ xs) fits w =
     let left = a ∷ b ∷ c ∷ d ∷ xs in
     let k = len_of o 2 left in
@@ -63,19 +63,9 @@ attr_says o (a ∷ b ∷ c ∷ d ∷ xs) fits w =
     ∙ ap (λ (t : List ℕ). num k 2 o ++ (t ++ drop 4 (take k left))) (sym (two_bytes o c d xs (fits 2) (fits 3)))
 attr_says _ _ fits w = absurd (omega (arith, w.head))
 
-kind_fits : (o : Order) (left : List ℕ) → IsBytes left → 4 ≤ length left → kind_of o left < 65536
+kind_fits : (o : Order) (left : List ℕ) → AreBytes left → 4 ≤ length left → kind_of o left < 65536
 kind_fits o (a ∷ b ∷ c ∷ d ∷ xs) fits h = two_fit o c d xs (fits 2) (fits 3)
 kind_fits _ _ fits h = absurd (omega arith)
-
-bytes_drop : (n : ℕ) (xs : List ℕ) → IsBytes xs → IsBytes (drop n xs)
-bytes_drop n xs h i = rw get_or-drop (h (n + i))
-
-bytes_take : (n : ℕ) (xs : List ℕ) → IsBytes xs → IsBytes (take n xs)
-bytes_take n xs h i =
-    elim (cases_lt i n) [
-      | inl lt ↦ rw (get_or-take n xs i 0 lt) (h i)
-      | inr le ↦ rw (get_or_past (take n xs) i 0 (omega (arith, length-take n xs))) (omega arith)
-    ]
 
 both_pass : (a b : Bool) → cond a (Some TooLong) (cond b (Some TooDeep) None) ≡ None → (a ≡ false) × (b ≡ false)
 both_pass true b e = absurd cc
@@ -100,7 +90,7 @@ empty_fits is v w left ctx l S e f = subst (λ (x : Items). Fits S x left ctx l)
 empty_hops : (hs : HopItems) (v w : ℕ) (left : List ℕ) (l : ℕ) (S : Shape) → left ≡ [] → ◌≡◌ {A = Outcome HopItems} (Ok no_hops, w) (Ok hs, v) → FitsHops S hs left l
 empty_hops hs v w left l S e f = subst (λ (x : HopItems). FitsHops S x left l) (let g : ◌≡◌ {A = Result HopItems Fault} (Ok no_hops) (Ok hs) = ap (λ (p : Outcome HopItems). p.0) f in let j : no_hops ≡ hs = cc in j) e
 
-attr_fits : (left : List ℕ) (ctx : Ctx) (l : ℕ) (S : Shape) (v : Val) (more : Items) → IsBytes left → broken_length S.order 4 2 left ≡ None → FitsVal S v (content_at S.order ctx left) (payload_of S.order 4 2 left) (len_of S.order 2 left) l
+attr_fits : (left : List ℕ) (ctx : Ctx) (l : ℕ) (S : Shape) (v : Val) (more : Items) → AreBytes left → broken_length S.order 4 2 left ≡ None → FitsVal S v (content_at S.order ctx left) (payload_of S.order 4 2 left) (len_of S.order 2 left) l
     → Fits S more (drop (span_of S.order 2 left) left) ctx l → Fits S (item (kind_of S.order left % 16384) (flags_of (kind_of S.order left)) v more) left ctx l
 attr_fits left ctx l S v more fits e val others =
     let w = sound_within S.order 4 2 left e in
@@ -123,7 +113,7 @@ attr_fits left ctx l S v more fits e val others =
       two p q = cc
 
 -- a next hop begins with its length and its fields
-hop_says : (o : Order) (left : List ℕ) → IsBytes left → IsWithin o 8 2 left → take (len_of o 2 left) left ≡ num (len_of o 2 left) 2 o ++ (slice_index left 2 ∷ slice_index left 3 ∷ (num (number_of o 4 (drop 4 left)) 4 o ++ payload_of o 8 2 left))
+hop_says : (o : Order) (left : List ℕ) → AreBytes left → IsWithin o 8 2 left → take (len_of o 2 left) left ≡ num (len_of o 2 left) 2 o ++ (slice_index left 2 ∷ slice_index left 3 ∷ (num (number_of o 4 (drop 4 left)) 4 o ++ payload_of o 8 2 left))
 hop_says o (a ∷ b ∷ c ∷ d ∷ e ∷ f ∷ g ∷ h ∷ xs) fits w =
     let left = a ∷ b ∷ c ∷ d ∷ e ∷ f ∷ g ∷ h ∷ xs in
     let k = len_of o 2 left in
@@ -133,11 +123,11 @@ hop_says o (a ∷ b ∷ c ∷ d ∷ e ∷ f ∷ g ∷ h ∷ xs) fits w =
     ∙ ap (λ (t : List ℕ). num k 2 o ++ (c ∷ d ∷ (t ++ drop 8 (take k left)))) (sym (four_bytes o e f g h xs (fits 4) (fits 5) (fits 6) (fits 7)))
 hop_says _ _ fits w = absurd (omega (arith, w.head))
 
-index_fits : (o : Order) (left : List ℕ) → IsBytes left → 8 ≤ length left → number_of o 4 (drop 4 left) < 2 ^ 32
+index_fits : (o : Order) (left : List ℕ) → AreBytes left → 8 ≤ length left → number_of o 4 (drop 4 left) < 2 ^ 32
 index_fits o (a ∷ b ∷ c ∷ d ∷ e ∷ f ∷ g ∷ h ∷ xs) fits w = four_fit o e f g h xs (fits 4) (fits 5) (fits 6) (fits 7)
 index_fits _ _ fits w = absurd (omega arith)
 
-hop_fits : (left : List ℕ) (l : ℕ) (S : Shape) (is : Items) (more : HopItems) → IsBytes left → broken_length S.order 8 2 left ≡ None → Fits S is (payload_of S.order 8 2 left) Route (l + 1)
+hop_fits : (left : List ℕ) (l : ℕ) (S : Shape) (is : Items) (more : HopItems) → AreBytes left → broken_length S.order 8 2 left ≡ None → Fits S is (payload_of S.order 8 2 left) Route (l + 1)
     → FitsHops S more (drop (span_of S.order 2 left) left) l → FitsHops S (hop (slice_index left 2) (slice_index left 3) (index_of S.order left) is more) left l
 hop_fits left l S is more fits e inner others =
     let w = sound_within S.order 8 2 left e in
@@ -154,7 +144,7 @@ hop_fits left l S is more fits e inner others =
 mutual
   unfolding items_at
 
-  pub items_sound : (n : ℕ) (S : Shape) (ctx : Ctx) (l place : ℕ) (left : List ℕ) (is : Items) (v : ℕ) → length left ≤ n → IsBytes left → items_at S n ctx l place left ≡ (Ok is, v) → Fits S is left ctx l
+  pub items_sound : (n : ℕ) (S : Shape) (ctx : Ctx) (l place : ℕ) (left : List ℕ) (is : Items) (v : ℕ) → length left ≤ n → AreBytes left → items_at S n ctx l place left ≡ (Ok is, v) → Fits S is left ctx l
   items_sound zero S ctx l place left is v h fits e = empty_fits is v 0 left ctx l S (nil_from_length left (omega arith)) e
   items_sound (suc n) S ctx l place [] is v h fits e = empty_fits is v 0 [] ctx l S refl e
   items_sound (suc n) S ctx l place (b ∷ bs) is v h fits e =
@@ -172,7 +162,7 @@ mutual
       subst (λ (x : Items). Fits S x left ctx l) m.3
       (attr_fits left ctx l S c.0 m.0 fits s.0 val (items_sound n S ctx l (place + span_of S.order 2 left) (drop (span_of S.order 2 left) left) m.0 m.1 (rest_shorter S.order 4 2 n left (omega arith) w h) (bytes_drop (span_of S.order 2 left) left fits) m.2))
 
-  pub hops_sound : (n : ℕ) (S : Shape) (l place : ℕ) (left : List ℕ) (hs : HopItems) (v : ℕ) → length left ≤ n → IsBytes left → hops_at S n l place left ≡ (Ok hs, v) → FitsHops S hs left l
+  pub hops_sound : (n : ℕ) (S : Shape) (l place : ℕ) (left : List ℕ) (hs : HopItems) (v : ℕ) → length left ≤ n → AreBytes left → hops_at S n l place left ≡ (Ok hs, v) → FitsHops S hs left l
   hops_sound zero S l place left hs v h fits e = empty_hops hs v 0 left l S (nil_from_length left (omega arith)) e
   hops_sound (suc n) S l place [] hs v h fits e = empty_hops hs v 0 [] l S refl e
   hops_sound (suc n) S l place (b ∷ bs) hs v h fits e =

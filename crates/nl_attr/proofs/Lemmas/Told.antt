@@ -2,6 +2,7 @@
 use Rattle.std.proofs.Common.{◌≡◌, ℕ, ◌+◌, ◌≤◌, List, length, Option, Some, None, Result, Ok, Err, refl, sym, ap, subst, ◌∙◌, arith}
 use Rattle.std.specs.Prelude.{IfOk, IfErr}
 use Rattle.std.specs.Global.{Vec}
+use Rattle.nl_attr.specs.Numbers.{AreBytes}
 use Rattle.nl_attr.specs.declared.fault.Reason.{Reason}
 use Rattle.nl_attr.specs.declared.fault.Fault.{Fault}
 use Rattle.nl_attr.specs.declared.fault.ListError.{ListError}
@@ -16,7 +17,6 @@ use Rattle.nl_attr.specs.Layout.{Fits}
 use Rattle.nl_attr.specs.Heads.{IsFirstFault, start_of}
 use Rattle.nl_attr.specs.Reading.{Outcome, items_of_region}
 use Rattle.nl_attr.specs.Told.{Says, Tells, IfLayout, VisitsUpTo}
-use Rattle.nl_attr.proofs.Lemmas.Pieces.{IsBytes}
 use Rattle.nl_attr.proofs.Lemmas.Fitting.{items_fit, one_list}
 use Rattle.nl_attr.proofs.Lemmas.Sound.{items_sound}
 use Rattle.nl_attr.proofs.Lemmas.First.{read_first}
@@ -24,11 +24,11 @@ use Rattle.nl_attr.proofs.Lemmas.Exact.{read_all_visits}
 use Rattle.nl_attr.proofs.Lemmas.Visited.{read_visits}
 
 module _ (S : Shape) (ctx : Ctx) (l place : ℕ) (left : List ℕ) where
-  fits_of : (r : Result (Vec Attr) ListError) (v : ℕ) → IsBytes left → Says (λ (x : Vec Attr). attrs_view x.items) r v (items_of_region S ctx l place left) → IfOk r (λ x. Fits S (attrs_view x.items) left ctx l)
+  fits_of : (r : Result (Vec Attr) ListError) (v : ℕ) → AreBytes left → Says (λ (x : Vec Attr). attrs_view x.items) r v (items_of_region S ctx l place left) → IfOk r (λ x. Fits S (attrs_view x.items) left ctx l)
   fits_of (Ok x) v fits e = items_sound (length left) S ctx l place left (attrs_view x.items) v (omega arith) fits e
   fits_of (Err d) v fits e = tt
 
-  pub told_fits : (t : Tally (Vec Attr) ListError) → IsBytes left → Tells (λ (x : Vec Attr). attrs_view x.items) t (items_of_region S ctx l place left) → IfOk t.result (λ x. Fits S (attrs_view x.items) left ctx l)
+  pub told_fits : (t : Tally (Vec Attr) ListError) → AreBytes left → Tells (λ (x : Vec Attr). attrs_view x.items) t (items_of_region S ctx l place left) → IfOk t.result (λ x. Fits S (attrs_view x.items) left ctx l)
   told_fits t fits e = fits_of t.result t.visits fits e
 
   only_of : (r : Result (Vec Attr) ListError) (v : ℕ) → Says (λ (x : Vec Attr). attrs_view x.items) r v (items_of_region S ctx l place left) → IfOk r (λ x. (is : Items) → Fits S is left ctx l → is ≡ attrs_view x.items)

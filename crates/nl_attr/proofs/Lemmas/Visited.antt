@@ -34,7 +34,7 @@ pub record Covers (S : Shape) (s : Head) (r : Scan) : Type 0 where
   pub each : AllByRecursion (λ v. Visited S s v × UpTo r.1 v.0) r.0
   pub every : (v : ℕ × ℕ) → Visited S s v → UpTo r.1 v.0 → Has r.0 v
 
-Rises-append : (p m e : ℕ) (vs ws : List (ℕ × ℕ)) → Rises p m vs → Rises m e ws → Rises p e (vs ++ ws)
+pub Rises-append : (p m e : ℕ) (vs ws : List (ℕ × ℕ)) → Rises p m vs → Rises m e ws → Rises p e (vs ++ ws)
 Rises-append p m e [] [] h k = omega arith
 Rises-append p m e [] (w ∷ ws) h k = (omega (arith, k.0), k.1, k.2)
 Rises-append p m e (v ∷ vs) ws h k = (h.0, omega (arith, h.1, rises_le m e ws k), Rises-append (suc v.0) m e vs ws h.2 k) where
@@ -51,7 +51,7 @@ pub Has-right : (vs ws : List (ℕ × ℕ)) (x : ℕ × ℕ) → Has ws x → Ha
 Has-right [] ws x h = h
 Has-right (v ∷ vs) ws x h = inr (Has-right vs ws x h)
 
-All-append : (P : ℕ × ℕ → Type 0) (vs ws : List (ℕ × ℕ)) → AllByRecursion P vs → AllByRecursion P ws → AllByRecursion P (vs ++ ws)
+pub All-append : (P : ℕ × ℕ → Type 0) (vs ws : List (ℕ × ℕ)) → AllByRecursion P vs → AllByRecursion P ws → AllByRecursion P (vs ++ ws)
 All-append P [] ws h k = k
 All-append P (v ∷ vs) ws h k = (h.0, All-append P vs ws h.1 k)
 
@@ -79,7 +79,7 @@ abbrev pub EndsIn : ℕ → ℕ → Option (ℕ × Reason) → Type 0
 EndsIn p m None = Unit {0}
 EndsIn p m (Some f) = (p ≤ f.0) × (f.0 < m)
 
-ends_in : (S : Shape) (s : Head) (o : Option (ℕ × Reason)) → Finds S s o → EndsIn s.place (s.place + length s.left) o
+pub ends_in : (S : Shape) (s : Head) (o : Option (ℕ × Reason)) → Finds S s o → EndsIn s.place (s.place + length s.left) o
 ends_in S s None f = tt
 ends_in S s (Some g) f = let l = head_lies S s f.0.0 f.0.1 in (omega (arith, l.low, f.0.2), omega (arith, l.high, l.some, f.0.2))
 

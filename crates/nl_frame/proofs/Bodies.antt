@@ -1,0 +1,120 @@
+-- What is read of a payload is its body, and nothing else is.
+use Rattle.std.proofs.Common.{◌≡◌, ℕ, ◌+◌, ◌≤◌, ℤ, List, [], ◌∷◌, length, take, drop, Some, None, Result, Ok, refl, sym, ap, subst, ◌∙◌, arith, inl, inr}
+use Rattle.std.proofs.lemmas.Bool.{le-ltb, lt-ltb, cases_lt}
+use Rattle.std.proofs.lemmas.List.{length-take}
+use Rattle.std.specs.Prelude.{slice_index}
+use Rattle.nl_attr.specs.declared.order.Order.{Order}
+use Rattle.nl_attr.specs.declared.fault.Fault.{Fault}
+use Rattle.nl_attr.specs.Shape.{Shape}
+use Rattle.nl_attr.specs.Numbers.{AreBytes}
+use Rattle.nl_attr.specs.Tree.{Items}
+use Rattle.nl_attr.specs.Layout.{Fits}
+use Rattle.nl_attr.specs.Reading.{Outcome, map_value, items_of_region}
+use Rattle.nl_attr.proofs.Lemmas.Fitting.{ReadAs, items_fit}
+use Rattle.nl_attr.proofs.Lemmas.Sound.{items_sound, map_ok}
+use Rattle.nl_attr.proofs.Lemmas.Numbers.{bytes_drop, bytes_take}
+use Rattle.nl_route.specs.Fields.{signed, AreFields}
+use Rattle.nl_route.proofs.Known.{link_known, addr_known, route_known, neigh_known, fields_of_read, read_of_fields}
+use Rattle.nl_frame.specs.declared.header.Header.{Header}
+use Rattle.nl_frame.specs.declared.form.Form.{Form}
+use Rattle.nl_frame.specs.declared.form.Form.TheVariants as form
+use Rattle.nl_frame.specs.declared.form.Group.{Group}
+use Rattle.nl_frame.specs.declared.form.Group.TheVariants as group
+use Rattle.nl_frame.specs.Header.{header_fields, header_of}
+use Rattle.nl_frame.specs.Form.{least_body, head_size, context_of}
+use Rattle.nl_frame.specs.Message.{link, addr, route, neigh, AnyHead, group_of, fields_of, head_of, BodyVal, noop, error, done, overrun, family, get, other}
+use Rattle.nl_frame.specs.Layout.{BodyOf}
+use Rattle.nl_frame.specs.Reading.{signed_of, done_at, body_at}
+use Rattle.nl_frame.proofs.Headers.{Answer, answer_known, answer_fields, answer_of, answer_front, status_known, status_front}
+
+-- ---- heads of any family
+
+any_only : (o : Order) (h : AnyHead) (bytes : List ℕ) → AreFields o (fields_of h) bytes → head_of o (group_of h) bytes ≡ h
+any_only o (link v) bytes f = ap link (sym (read_of_fields link_known o v bytes f))
+any_only o (addr v) bytes f = ap addr (sym (read_of_fields addr_known o v bytes f))
+any_only o (route v) bytes f = ap route (sym (read_of_fields route_known o v bytes f))
+any_only o (neigh v) bytes f = ap neigh (sym (read_of_fields neigh_known o v bytes f))
+
+-- ---- what is a body is read
+
+error_only : (o : Order) (z : ℤ) (h : Header) (tail payload : List ℕ) → AreFields o (signed z ∷ header_fields h) (take 20 payload) → drop 20 payload ≡ tail
+    → error (signed_of o payload) (header_of o (drop 4 payload)) (drop 20 payload) ≡ error z h tail
+error_only o z h tail payload is rest =
+    let same : answer_of o payload ≡ (z, h) = sym (answer_front o payload) ∙ sym (read_of_fields answer_known o (z, h) (take 20 payload) is) in
+    ap (λ (a : Answer). error a.0 a.1 (drop 20 payload)) same ∙ ap (error z h) rest
+
+done_only : (o : Order) (z : ℤ) (tail payload : List ℕ) → 4 ≤ length payload → AreFields o (signed z ∷ []) (take 4 payload) → drop 4 payload ≡ tail → done_at o payload ≡ done (Some z) tail
+done_only o z tail payload le is rest =
+    let same : signed_of o payload ≡ z = sym (status_front o payload) ∙ sym (read_of_fields status_known o z (take 4 payload) is) in
+    rw (le-ltb (length payload) 4 le) (ap (λ (x : ℤ). done (Some x) (drop 4 payload)) same ∙ ap (done (Some z)) rest)
+
+-- the form is long enough, and its body is read
+abbrev pub IsRead : Shape → Form → ℕ → List ℕ → BodyVal → Type 0
+IsRead S f place payload c = (least_body f ≤ length payload) × ReadAs (body_at S f place payload) c
+
+of_form : (S : Shape) (f g : Form) (place : ℕ) (payload : List ℕ) (c : BodyVal) → f ≡ g → IsRead S g place payload c → IsRead S f place payload c
+of_form S f g place payload c e h = subst (λ (x : Form). IsRead S x place payload c) (sym e) h
+
+ok_same : (x y : BodyVal) → x ≡ y → ◌≡◌ {A = Outcome BodyVal} (Ok x, 0) (Ok y, 0)
+ok_same x y e = ap (λ (z : BodyVal). (Ok z, 0)) e
+
+pub body_fit : (S : Shape) (c : BodyVal) (f : Form) (place : ℕ) (payload : List ℕ) → BodyOf S c f payload → IsRead S f place payload c
+body_fit S (noop bs) f place payload b = of_form S f form.Noop place payload (noop bs) b.0 (omega arith, (0, ok_same _ _ (ap noop b.1)))
+body_fit S (error z h tail) f place payload b = of_form S f form.Error place payload (error z h tail) b.0 (b.1, (0, ok_same _ _ (error_only S.order z h tail payload b.2 b.3)))
+body_fit S (done None tail) f place payload b = of_form S f form.Done place payload (done None tail) b.0 (omega arith, (0, ok_same _ _ (rw (lt-ltb (length payload) 4 b.1) (ap (done None) b.2))))
+body_fit S (done (Some z) tail) f place payload b = of_form S f form.Done place payload (done (Some z) tail) b.0 (omega arith, (0, ok_same _ _ (done_only S.order z tail payload b.1 b.2 b.3)))
+body_fit S (overrun bs) f place payload b = of_form S f form.Overrun place payload (overrun bs) b.0 (omega arith, (0, ok_same _ _ (ap overrun b.1)))
+body_fit S (family h is) f place payload b =
+    let g = group_of h in
+    let n = head_size g in
+    let r = items_fit is S (context_of g) 0 (place + n) (drop n payload) b.1.2 in
+    let e : head_of S.order g (take n payload) ≡ h = any_only S.order h (take n payload) b.1.1 in
+    of_form S f (form.Family g) place payload (family h is) b.0
+    (b.1.0, (r.0, ap (map_value (family (head_of S.order g (take n payload)))) r.1 ∙ ap (λ (x : AnyHead). (Ok (family x is), r.0)) e))
+body_fit S (get n tail) f place payload b = of_form S f form.Get place payload (get n tail) b.0 (omega (arith, ap (length {A = ℕ}) b.1), (0, ok_same _ _ (ap (λ (xs : List ℕ). get (slice_index xs 0) (drop 1 xs)) b.1)))
+body_fit S (other bs) f place payload b = of_form S f form.Other place payload (other bs) b.0 (omega arith, (0, ok_same _ _ (ap other b.1)))
+
+-- ---- what is read is a body
+
+same_ok : (x y : BodyVal) (v w : ℕ) → ◌≡◌ {A = Outcome BodyVal} (Ok x, v) (Ok y, w) → x ≡ y
+same_ok x y v w e = let g : ◌≡◌ {A = Result BodyVal Fault} (Ok x) (Ok y) = ap (λ (p : Outcome BodyVal). p.0) e in cc
+
+error_sound : (o : Order) (payload : List ℕ) → AreBytes payload → 20 ≤ length payload → AreFields o (signed (signed_of o payload) ∷ header_fields (header_of o (drop 4 payload))) (take 20 payload)
+error_sound o payload fits le =
+    subst (λ (a : Answer). AreFields o (answer_fields a) (take 20 payload)) (answer_front o payload)
+    (fields_of_read answer_known o (take 20 payload) (bytes_take 20 payload fits) (omega (arith, length-take 20 payload)))
+
+done_sound : (o : Order) (payload : List ℕ) → AreBytes payload → 4 ≤ length payload → AreFields o (signed (signed_of o payload) ∷ []) (take 4 payload)
+done_sound o payload fits le =
+    subst (λ (z : ℤ). AreFields o (signed z ∷ []) (take 4 payload)) (status_front o payload)
+    (fields_of_read status_known o (take 4 payload) (bytes_take 4 payload fits) (omega (arith, length-take 4 payload)))
+
+done_body : (S : Shape) (payload : List ℕ) → AreBytes payload → BodyOf S (done_at S.order payload) form.Done payload
+done_body S payload fits =
+    elim (cases_lt (length payload) 4) [
+      | inl short ↦ rw (lt-ltb (length payload) 4 short) (refl, short, refl)
+      | inr long ↦ rw (le-ltb (length payload) 4 long) (refl, long, done_sound S.order payload fits long, refl)
+    ]
+
+get_body : (S : Shape) (payload : List ℕ) → 1 ≤ length payload → BodyOf S (get (slice_index payload 0) (drop 1 payload)) form.Get payload
+get_body S [] le = absurd (omega arith)
+get_body S (x ∷ xs) le = (refl, refl)
+
+family_body : (S : Shape) (g : Group) (payload : List ℕ) (is : Items) → AreBytes payload → head_size g ≤ length payload → Fits S is (drop (head_size g) payload) (context_of g) 0 → BodyOf S (family (head_of S.order g (take (head_size g) payload)) is) (form.Family g) payload
+family_body S group.Link payload is fits le f = (refl, (le, fields_of_read link_known S.order (take 16 payload) (bytes_take 16 payload fits) (omega (arith, length-take 16 payload)), f))
+family_body S group.Addr payload is fits le f = (refl, (le, fields_of_read addr_known S.order (take 8 payload) (bytes_take 8 payload fits) (omega (arith, length-take 8 payload)), f))
+family_body S group.Route payload is fits le f = (refl, (le, fields_of_read route_known S.order (take 12 payload) (bytes_take 12 payload fits) (omega (arith, length-take 12 payload)), f))
+family_body S group.Neigh payload is fits le f = (refl, (le, fields_of_read neigh_known S.order (take 12 payload) (bytes_take 12 payload fits) (omega (arith, length-take 12 payload)), f))
+
+pub body_sound : (S : Shape) (f : Form) (place : ℕ) (payload : List ℕ) (c : BodyVal) (v : ℕ) → AreBytes payload → least_body f ≤ length payload → body_at S f place payload ≡ (Ok c, v) → BodyOf S c f payload
+body_sound S form.Noop place payload c v fits le e = subst (λ (x : BodyVal). BodyOf S x form.Noop payload) (same_ok (noop payload) c 0 v e) (refl, refl)
+body_sound S form.Error place payload c v fits le e = subst (λ (x : BodyVal). BodyOf S x form.Error payload) (same_ok _ c 0 v e) (refl, le, error_sound S.order payload fits le, refl)
+body_sound S form.Done place payload c v fits le e = subst (λ (x : BodyVal). BodyOf S x form.Done payload) (same_ok (done_at S.order payload) c 0 v e) (done_body S payload fits)
+body_sound S form.Overrun place payload c v fits le e = subst (λ (x : BodyVal). BodyOf S x form.Overrun payload) (same_ok (overrun payload) c 0 v e) (refl, refl)
+body_sound S (form.Family g) place payload c v fits le e =
+    let n = head_size g in
+    let m = map_ok (family (head_of S.order g (take n payload))) (items_of_region S (context_of g) 0 (place + n) (drop n payload)) c v e in
+    subst (λ (x : BodyVal). BodyOf S x (form.Family g) payload) m.3
+    (family_body S g payload m.0 fits le (items_sound (length (drop n payload)) S (context_of g) 0 (place + n) (drop n payload) m.0 m.1 (omega arith) (bytes_drop n payload fits) m.2))
+body_sound S form.Get place payload c v fits le e = subst (λ (x : BodyVal). BodyOf S x form.Get payload) (same_ok _ c 0 v e) (get_body S payload le)
+body_sound S form.Other place payload c v fits le e = subst (λ (x : BodyVal). BodyOf S x form.Other payload) (same_ok (other payload) c 0 v e) (refl, refl)

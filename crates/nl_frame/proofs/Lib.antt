@@ -1,0 +1,11 @@
+pub mod Headers
+pub mod Steps
+pub mod Fronts
+pub mod Loop
+pub mod Bodies
+pub mod Layouts
+pub mod Scan
+pub mod Firsts
+pub mod Told
+pub mod Kept
+pub mod Every

@@ -1,0 +1,31 @@
+-- The layout of a datagram.
+use Rattle.std.specs.Prelude.{◌≡◌, ◌<◌, ◌≤◌, ℕ, List, [], ◌∷◌, length, take, drop, Some, None}
+use Rattle.nl_attr.specs.Shape.{Shape}
+use Rattle.nl_attr.specs.Layout.{IsPiece}
+use Rattle.nl_route.specs.Fields.{signed, AreFields}
+use Rattle.nl_route.specs.Body.{IsFamilyBody}
+use Rattle.nl_frame.specs.declared.form.Form.{Form}
+use Rattle.nl_frame.specs.declared.form.Form.TheVariants as form
+use Rattle.nl_frame.specs.Header.{header_fields}
+use Rattle.nl_frame.specs.Form.{form_of, head_size, context_of}
+use Rattle.nl_frame.specs.Message.{group_of, fields_of, BodyVal, noop, error, done, overrun, family, get, other, MessageVal}
+
+module _ (S : Shape) where
+  -- the payload of a message of this form is this body
+  abbrev pub BodyOf : BodyVal → Form → List ℕ → Type 0
+  BodyOf (noop bs) f payload = (f ≡ form.Noop) × (payload ≡ bs)
+  BodyOf (error code h tail) f payload = (f ≡ form.Error) × (20 ≤ length payload) × AreFields S.order (signed code ∷ header_fields h) (take 20 payload) × (drop 20 payload ≡ tail)
+  BodyOf (done None tail) f payload = (f ≡ form.Done) × (length payload < 4) × (payload ≡ tail)
+  BodyOf (done (Some z) tail) f payload = (f ≡ form.Done) × (4 ≤ length payload) × AreFields S.order (signed z ∷ []) (take 4 payload) × (drop 4 payload ≡ tail)
+  BodyOf (overrun bs) f payload = (f ≡ form.Overrun) × (payload ≡ bs)
+  BodyOf (family h is) f payload = (f ≡ form.Family (group_of h)) × IsFamilyBody S (head_size (group_of h)) (fields_of h) (context_of (group_of h)) is payload
+  BodyOf (get n tail) f payload = (f ≡ form.Get) × (payload ≡ n ∷ tail)
+  BodyOf (other bs) f payload = (f ≡ form.Other) × (payload ≡ bs)
+
+  -- the datagram is the messages, each a piece that begins with its header and goes on with its body
+  abbrev pub Layout : List MessageVal → List ℕ → Type 0
+  Layout [] d = d ≡ []
+  Layout (m ∷ ms) d =
+      (it : List ℕ) × (pad : List ℕ) × (rest : List ℕ) × IsPiece S.order 16 4 d it pad rest
+      × AreFields S.order (header_fields (record { len = length it; kind = m.kind; flags = m.flags; seq = m.seq; port = m.port })) (take 16 it)
+      × BodyOf m.body (form_of m.kind) (drop 16 it) × Layout ms rest

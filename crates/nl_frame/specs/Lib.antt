@@ -1,0 +1,21 @@
+pub mod Header
+pub mod Limits
+pub mod Form
+pub mod Message
+pub mod View
+pub mod Front
+pub mod Reading
+pub mod Layout
+pub mod Heads
+pub mod Told
+pub mod Kept
+pub use Rattle.nl_attr.specs.Numbers
+pub use Rattle.nl_attr.specs.Shape
+pub use Rattle.nl_attr.specs.Walk
+pub use Rattle.nl_attr.specs.Tree
+pub use Rattle.nl_attr.specs.Visits
+pub use Rattle.nl_attr.specs.Codes
+pub use Rattle.nl_attr.specs.Layout as Regions
+pub use Rattle.nl_attr.specs.Heads as RegionHeads
+pub use Rattle.nl_route.specs.Fields
+pub use Rattle.nl_route.specs.Body

@@ -1,0 +1,18 @@
+-- The limits of reading.
+use Rattle.std.specs.Prelude.{◌≡◌, ◌≤◌, ◌%◌, ◌^◌, ℕ}
+use Rattle.nl_attr.specs.declared.order.Order.{Order}
+use Rattle.nl_attr.specs.Shape.{Shape, shape_of}
+
+-- the order of numbers and the levels that containers may open; the bytes of a datagram; the bytes of all datagrams of a session; the entries of a table
+pub record Bounds : Type 0 where
+  pub shape : Shape
+  pub datagram : ℕ
+  pub total : ℕ
+  pub entries : ℕ
+
+abbrev pub bounds_of : Order → ℕ → ℕ → ℕ → ℕ → Bounds
+bounds_of order depth datagram total entries = record { shape = shape_of order depth; datagram = datagram; total = total; entries = entries }
+
+-- each is in its range
+abbrev pub AreLimits : Bounds → Type 0
+AreLimits b = (b.shape.depth ≤ 32) × (b.datagram % 4 ≡ 0) × (16 ≤ b.datagram) × (b.datagram ≤ 1048576) × (b.total ≤ 2 ^ 40) × (b.entries ≤ 65536)

@@ -1,0 +1,62 @@
+-- Reading a datagram from left to right, with the first fault that is met and the bytes visited until then.
+use Rattle.std.specs.Prelude.{◌+◌, ℕ, ℤ, zero, suc, nat_lt, if◌then◌else◌, List, [], ◌∷◌, length, take, drop, slice_index, Option, Some, None, Ok, Err}
+use Rattle.std.specs.Int.{w32, cast_signed}
+use Rattle.nl_attr.specs.declared.order.Order.{Order}
+use Rattle.nl_attr.specs.declared.fault.Reason.{Reason}
+use Rattle.nl_attr.specs.Shape.{Shape}
+use Rattle.nl_attr.specs.Numbers.{number_of}
+use Rattle.nl_attr.specs.Reading.{Outcome, and_then, map_value, items_of_region}
+use Rattle.nl_frame.specs.declared.header.Header.{Header}
+use Rattle.nl_frame.specs.declared.form.Form.{Form}
+use Rattle.nl_frame.specs.declared.form.Form.TheVariants as form
+use Rattle.nl_frame.specs.declared.form.Group.{Group}
+use Rattle.nl_frame.specs.Header.{header_of}
+use Rattle.nl_frame.specs.Form.{head_size, context_of}
+use Rattle.nl_frame.specs.Message.{head_of, BodyVal, noop, error, done, overrun, family, get, other, MessageVal}
+use Rattle.nl_frame.specs.Front.{span_at, payload_at, form_at, broken_message}
+
+-- the signed number in the first four bytes
+abbrev pub signed_of : Order → List ℕ → ℤ
+signed_of o bytes = cast_signed w32 (number_of o 4 bytes)
+
+-- a DONE of fewer than four bytes has no status
+abbrev pub done_at : Order → List ℕ → BodyVal
+done_at o payload = if nat_lt (length payload) 4 then done None payload else done (Some (signed_of o payload)) (drop 4 payload)
+
+-- a header's message with this body
+abbrev pub message_of : Header → BodyVal → MessageVal
+message_of h body = record { kind = h.kind; flags = h.flags; seq = h.seq; port = h.port; body = body }
+
+-- a broken head takes no visits
+abbrev pub unless : {A : Type 0} → ℕ → Option Reason → Outcome A → Outcome A
+unless place None o = o
+unless place (Some r) o = (Err (record { place = place; reason = r }), 0)
+
+module _ (S : Shape) where
+  abbrev pub family_body_at : Group → ℕ → List ℕ → Outcome BodyVal
+  family_body_at g place payload = map_value (family (head_of S.order g (take (head_size g) payload))) (items_of_region S (context_of g) 0 (place + head_size g) (drop (head_size g) payload))
+
+  -- the body in the payload at a place, when it is long enough for its form
+  abbrev pub body_at : Form → ℕ → List ℕ → Outcome BodyVal
+  body_at form.Noop place payload = (Ok (noop payload), 0)
+  body_at form.Error place payload = (Ok (error (signed_of S.order payload) (header_of S.order (drop 4 payload)) (drop 20 payload)), 0)
+  body_at form.Done place payload = (Ok (done_at S.order payload), 0)
+  body_at form.Overrun place payload = (Ok (overrun payload), 0)
+  body_at (form.Family g) place payload = family_body_at g place payload
+  body_at form.Get place payload = (Ok (get (slice_index payload 0) (drop 1 payload)), 0)
+  body_at form.Other place payload = (Ok (other payload), 0)
+
+  -- the message at the front of what is left, when its head breaks no rule
+  abbrev pub message_at : ℕ → List ℕ → Outcome MessageVal
+  message_at place left = map_value (message_of (header_of S.order left)) (body_at (form_at S.order left) (place + 16) (payload_at S.order left))
+
+  -- The number bounds the messages. The length of the datagram is enough.
+  unfoldable pub messages_at : ℕ → ℕ → List ℕ → Outcome (List MessageVal)
+  messages_at zero place left = (Ok [], 0)
+  messages_at (suc n) place [] = (Ok [], 0)
+  messages_at (suc n) place (b ∷ bs) =
+      unless place (broken_message S.order (b ∷ bs)) (and_then (message_at place (b ∷ bs)) (λ m. map_value (λ ms. m ∷ ms) (messages_at n (place + span_at S.order (b ∷ bs)) (drop (span_at S.order (b ∷ bs)) (b ∷ bs)))))
+
+  -- all that is left
+  abbrev pub messages_of : ℕ → List ℕ → Outcome (List MessageVal)
+  messages_of place left = messages_at (length left) place left

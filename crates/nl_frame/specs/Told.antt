@@ -1,0 +1,27 @@
+-- What reading a datagram tells.
+use Rattle.std.specs.Prelude.{◌≡◌, ℕ, List, length, Result, Ok, Err}
+use Rattle.nl_attr.specs.declared.fault.Fault.{Fault}
+use Rattle.nl_attr.specs.Shape.{Shape}
+use Rattle.nl_attr.specs.Codes.{fault_code}
+use Rattle.nl_frame.specs.declared.reading.ReadError.{ReadError}
+use Rattle.nl_frame.specs.declared.reading.ReadError.TheVariants.{TooLarge, Layout, Memory}
+use Rattle.nl_frame.specs.Heads.{Visits, whole}
+
+-- a fault of the layout, and no other error
+abbrev pub IfFault : ReadError → (Fault → Type 0) → Type 0
+IfFault TooLarge P = Unit {0}
+IfFault (Layout f) P = P f
+IfFault Memory P = Unit {0}
+
+-- the visits of a datagram: all where it was read, else those up to the fault; none where it is too large
+abbrev pub VisitsUpTo : {X : Type 0} → Shape → List ℕ → Result X ReadError → ℕ → Type 0
+VisitsUpTo S d (Ok x) v = Visits S (whole d) (length d) v
+VisitsUpTo S d (Err TooLarge) v = v ≡ 0
+VisitsUpTo S d (Err (Layout f)) v = Visits S (whole d) f.place v
+VisitsUpTo S d (Err Memory) v = Unit {0}
+
+-- the numbers of the refusals
+abbrev pub read_code : ReadError → ℕ
+read_code (Layout f) = fault_code f
+read_code TooLarge = 6
+read_code Memory = 13

@@ -1,0 +1,193 @@
+//! What a message holds.
+
+ghost use Rattle.std.specs.Prelude.{◌≡◌, ◌≤◌, ◌+◌, ◌*◌, length, drop, slice_index, IfSome, MatchOption};
+ghost use Rattle.nl_attr.specs.Told.{Tells};
+ghost use Rattle.nl_frame.specs.Form.{least_body, head_size};
+ghost use Rattle.nl_frame.specs.Header.{header_of};
+ghost use Rattle.nl_frame.specs.Message.{error, get};
+ghost use Rattle.nl_frame.specs.View.{body_view};
+ghost use Rattle.nl_frame.specs.Reading.{body_at, family_body_at, done_at, signed_of};
+
+use crate::form::{Form, Group};
+use crate::header::Header;
+use crate::limits::Limits;
+use nl_attr::{ListError, Order, Tally};
+use nl_route::{Addr, Link, Neigh, Route};
+use std::alloc::Global;
+
+/// What a message holds, by its type (netlink(7), rtnetlink(7)).
+#[derive(Debug, Drop, PartialEq, Eq)]
+pub enum Body {
+    /// The payload.
+    Noop(Vec<u8>),
+    /// The code, 0 for an acknowledgement; the header that it answers; the rest.
+    Error {
+        code: i32,
+        answered: Header,
+        tail: Vec<u8>,
+    },
+    /// The status, none exactly where the payload has fewer than 4 bytes; the rest.
+    Done {
+        status: Option<i32>,
+        tail: Vec<u8>,
+    },
+    /// The payload.
+    Overrun(Vec<u8>),
+    Link(Link),
+    Addr(Addr),
+    Route(Route),
+    Neigh(Neigh),
+    /// The family byte of a request, and the rest as it stands.
+    Get {
+        family: u8,
+        tail: Vec<u8>,
+    },
+    /// The payload of any other type.
+    Other(Vec<u8>),
+}
+
+/// A message: the fields of its header but for its length, and its body.
+#[derive(Debug, Drop, PartialEq, Eq)]
+pub struct Message {
+    pub kind: u16,
+    pub flags: u16,
+    pub seq: u32,
+    pub port: u32,
+    pub body: Body,
+}
+
+/// A value that takes no visits, or the end of memory.
+fn plain<T: Drop>(value: Option<T>) -> Tally<T, ListError>
+    ensures none { result.visits ≡ 0 }
+    ensures value { MatchOption value (result.result ≡ Err ListError.Memory) (λ v. result.result ≡ Ok v) }
+{
+    match value {
+        Some(value) => Tally {
+            result: Ok(value),
+            visits: 0,
+        },
+        None => Tally {
+            result: Err(ListError::Memory),
+            visits: 0,
+        },
+    }
+}
+
+/// The body of a DONE message.
+fn read_done(alloc: Global, bytes: &[u8], order: Order) -> Option<Body>
+    ensures { IfSome result (λ b. body_view b ≡ done_at order bytes.now) }
+{
+    if bytes.len() < 4 {
+        return Some(Body::Done {
+            status: None,
+            tail: Vec::from_slice(alloc, bytes).ok()?,
+        });
+    }
+    Some(Body::Done {
+        status: Some(order.read_i32(bytes)),
+        tail: Vec::from_slice(alloc, &bytes[4..]).ok()?,
+    })
+}
+
+/// The body of an ERROR message.
+fn read_error(alloc: Global, bytes: &[u8], order: Order) -> Option<Body>
+    requires { 20 ≤ length bytes.now }
+    ensures { IfSome result (λ b. body_view b ≡ error (signed_of order bytes.now) (header_of order (drop 4 bytes.now)) (drop 20 bytes.now)) }
+{
+    Some(Body::Error {
+        code: order.read_i32(bytes),
+        answered: Header::read(&bytes[4..], order),
+        tail: Vec::from_slice(alloc, &bytes[20..]).ok()?,
+    })
+}
+
+/// The body of a GET message.
+fn read_get(alloc: Global, bytes: &[u8]) -> Option<Body>
+    requires { 1 ≤ length bytes.now }
+    ensures { IfSome result (λ b. body_view b ≡ get (slice_index bytes.now 0) (drop 1 bytes.now)) }
+{
+    Some(Body::Get {
+        family: bytes[0],
+        tail: Vec::from_slice(alloc, &bytes[1..]).ok()?,
+    })
+}
+
+/// The body of a family's message.
+fn read_family(
+    alloc: Global,
+    bytes: &[u8],
+    group: Group,
+    base: u32,
+    limits: &Limits,
+) -> Tally<Body, ListError>
+    requires least { head_size group ≤ length bytes.now }
+    requires size { length bytes.now ≤ 1048576 }
+    requires place { base + length bytes.now ≤ 2097152 }
+    ensures told { Tells body_view result (family_body_at limits.now.shape group base bytes.now) }
+    ensures bound { result.visits ≤ (limits.now.shape.depth + 1) * length bytes.now }
+{
+    let depth = limits.depth();
+    let order = limits.order();
+    match group {
+        Group::Link => {
+            let Tally { result, visits } =
+                Link::read_body_ordered(alloc, bytes, base, depth, order);
+            Tally {
+                result: result.map(Body::Link),
+                visits,
+            }
+        }
+        Group::Addr => {
+            let Tally { result, visits } =
+                Addr::read_body_ordered(alloc, bytes, base, depth, order);
+            Tally {
+                result: result.map(Body::Addr),
+                visits,
+            }
+        }
+        Group::Route => {
+            let Tally { result, visits } =
+                Route::read_body_ordered(alloc, bytes, base, depth, order);
+            Tally {
+                result: result.map(Body::Route),
+                visits,
+            }
+        }
+        Group::Neigh => {
+            let Tally { result, visits } =
+                Neigh::read_body_ordered(alloc, bytes, base, depth, order);
+            Tally {
+                result: result.map(Body::Neigh),
+                visits,
+            }
+        }
+    }
+}
+
+impl Body {
+    /// The body of this form in the payload at a place.
+    pub(crate) fn read(
+        alloc: Global,
+        bytes: &[u8],
+        form: Form,
+        base: u32,
+        limits: &Limits,
+    ) -> Tally<Body, ListError>
+        requires least { least_body form ≤ length bytes.now }
+        requires size { length bytes.now ≤ 1048576 }
+        requires place { base + length bytes.now ≤ 2097152 }
+        ensures told { Tells body_view result (body_at limits.now.shape form base bytes.now) }
+        ensures bound { result.visits ≤ (limits.now.shape.depth + 1) * length bytes.now }
+    {
+        let order = limits.order();
+        match form {
+            Form::Noop => plain(Vec::from_slice(alloc, bytes).ok().map(Body::Noop)),
+            Form::Error => plain(read_error(alloc, bytes, order)),
+            Form::Done => plain(read_done(alloc, bytes, order)),
+            Form::Overrun => plain(Vec::from_slice(alloc, bytes).ok().map(Body::Overrun)),
+            Form::Family(group) => read_family(alloc, bytes, group, base, limits),
+            Form::Get => plain(read_get(alloc, bytes)),
+            Form::Other => plain(Vec::from_slice(alloc, bytes).ok().map(Body::Other)),
+        }
+    }
+}

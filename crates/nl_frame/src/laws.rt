@@ -1,0 +1,29 @@
+//! Laws over the definitions alone: each contract is a law, and each body is empty.
+
+ghost use Rattle.std.specs.Prelude.{◌≡◌, ◌≤◌, ◌+◌, ◌*◌, ◌↔◌, ℕ, List, length};
+ghost use Rattle.nl_attr.specs.declared.fault.Reason.{Reason};
+ghost use Rattle.nl_attr.specs.Shape.{Shape};
+ghost use Rattle.nl_attr.specs.Numbers.{AreBytes};
+ghost use Rattle.nl_frame.specs.Message.{MessageVal};
+ghost use Rattle.nl_frame.specs.Layout.{Layout};
+ghost use Rattle.nl_frame.specs.Heads.{Rest, FaultAt, Visits, whole};
+
+/// At most one list of messages is the layout of a datagram.
+pub fn one_layout()
+    ensures { (s : Shape) (d : List ℕ) (ms ns : List MessageVal) → Layout s ms d → Layout s ns d → ms ≡ ns }
+{}
+
+/// Some list of messages is the layout of a datagram exactly where no head has a fault.
+pub fn layout_or_fault()
+    ensures { (s : Shape) (d : List ℕ) → AreBytes d → ((ms : List MessageVal) × Layout s ms d) ↔ ((p : ℕ) (r : Reason) → FaultAt s (whole d) p r → ⊥) }
+{}
+
+/// The visits of a datagram, up to any place, are no more than its length once for each level.
+pub fn visits_are_bounded()
+    ensures { (s : Shape) (d : List ℕ) (q total : ℕ) → Visits s (whole d) q total → total ≤ (s.depth + 1) * length d }
+{}
+
+/// The visits up to a place have one sum.
+pub fn one_sum()
+    ensures { (s : Shape) (d : Rest) (q a b : ℕ) → Visits s d q a → Visits s d q b → a ≡ b }
+{}

@@ -1,0 +1,17 @@
+//! Netlink datagrams: messages, their headers and their bodies (netlink(7), rtnetlink(7)).
+#![tactic(auto)]
+
+mod body;
+mod form;
+mod front;
+mod header;
+pub mod laws;
+mod limits;
+mod reading;
+
+pub use body::{Body, Message};
+pub use form::{Form, Group};
+pub use header::Header;
+pub use limits::Limits;
+pub use nl_attr::{LimitFault, Order};
+pub use reading::{ReadError, read_datagram};

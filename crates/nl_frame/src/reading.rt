@@ -1,0 +1,208 @@
+//! Reading a datagram.
+
+ghost use Rattle.std.specs.Prelude.{◌≡◌, ◌≤◌, ◌<◌, ◌+◌, ◌*◌, ◌↔◌, ◌++◌, ◌∷◌, [], IsTrue, length, map, List, IfOk, IfErr, Err};
+ghost use Rattle.nl_attr.specs.Reading.{map_value};
+ghost use Rattle.nl_attr.specs.Told.{Tells};
+ghost use Rattle.nl_frame.specs.Form.{least_body};
+ghost use Rattle.nl_frame.specs.Reading.{message_of, body_at, messages_of};
+ghost use Rattle.nl_frame.specs.View.{message_view};
+ghost use Rattle.nl_frame.specs.Message.{MessageVal};
+
+use crate::body::{Body, Message};
+use crate::front::{Frame, front};
+use crate::limits::Limits;
+use nl_attr::{Fault, ListError, Tally};
+use std::alloc::{AllocError, AllocFailed, Global};
+use thiserror::Error;
+
+/// Why a datagram was not read.
+#[derive(Clone, Copy, Debug, PartialEq, Eq, Error)]
+pub enum ReadError {
+    /// The datagram is above the datagram limit; nothing of it was looked at.
+    #[error("too large")]
+    TooLarge,
+    /// The first fault of the datagram.
+    #[error("{0}")]
+    Layout(Fault),
+    /// A growth was refused. It comes in place of whatever would come later.
+    #[error("out of memory")]
+    Memory,
+}
+
+impl ReadError {
+    ghost use Rattle.nl_frame.specs.Told.{read_code};
+
+    /// The number of this refusal: that of the fault's reason, 6 for too large, 13 for memory.
+    pub fn code(self) -> u8
+        ensures { result ≡ read_code self }
+    {
+        match self {
+            ReadError::Layout(fault) => fault.code(),
+            ReadError::TooLarge => 6,
+            ReadError::Memory => 13,
+        }
+    }
+}
+
+impl From<AllocError> for ReadError {
+    ghost use Rattle.nl_frame.specs.declared.reading.ReadError.TheVariants.{Memory};
+
+    ghost from_gives = { λ _ e. e ≡ Memory };
+
+    fn from(_error: AllocError) -> ReadError {
+        ReadError::Memory
+    }
+}
+
+impl<T: Drop> From<AllocFailed<T>> for ReadError {
+    ghost use Rattle.nl_frame.specs.declared.reading.ReadError.TheVariants.{Memory};
+
+    ghost from_gives = { λ _ e. e ≡ Memory };
+
+    fn from(_error: AllocFailed<T>) -> ReadError {
+        ReadError::Memory
+    }
+}
+
+/// The message in a frame.
+fn read_message(
+    alloc: Global,
+    frame: &Frame,
+    place: u32,
+    limits: &Limits,
+) -> Tally<Message, ListError>
+    requires least { least_body frame.now.form ≤ length frame.now.payload.now }
+    requires size { length frame.now.payload.now ≤ 1048576 }
+    requires place { place + 16 + length frame.now.payload.now ≤ 2097152 }
+    ensures told { Tells message_view result (map_value (message_of frame.now.header) (body_at limits.now.shape frame.now.form (place + 16) frame.now.payload.now)) }
+    ensures bound { result.visits ≤ (limits.now.shape.depth + 1) * length frame.now.payload.now }
+{
+    let Tally { result, visits } =
+        Body::read(alloc, frame.payload, frame.form, place + 16, limits);
+    match result {
+        Ok(body) => Tally {
+            result: Ok(Message {
+                kind: frame.header.kind,
+                flags: frame.header.flags,
+                seq: frame.header.seq,
+                port: frame.header.port,
+                body,
+            }),
+            visits,
+        },
+        Err(error) => Tally {
+            result: Err(error),
+            visits,
+        },
+    }
+}
+
+/// Adds a message, where there is memory.
+fn keep(list: &mut Vec<Message>, message: Message) -> bool
+    ensures { IsTrue result → list.new.items ≡ list.old.items ++ message ∷ [] }
+{
+    list.push(message).is_ok()
+}
+
+/// The messages of a datagram.
+fn read_messages(alloc: Global, bytes: &[u8], limits: &Limits) -> Tally<Vec<Message>, ListError>
+    requires { length bytes.now ≤ 1048576 }
+    ensures told { Tells (λ v. map message_view v.items) result (messages_of limits.now.shape 0 bytes.now) }
+    ensures bound { result.visits ≤ (limits.now.shape.depth + 1) * length bytes.now }
+{
+    let _limit = limits.depth();
+    let order = limits.order();
+    let mut list = Vec::new(alloc);
+    let mut visits = 0u64;
+    let mut place = 0u32;
+    let mut left = bytes;
+    while !left.is_empty() {
+        let frame = match front(left, order) {
+            Ok(frame) => frame,
+            Err(reason) => {
+                return Tally {
+                    result: Err(ListError::Layout(Fault { place, reason })),
+                    visits,
+                };
+            }
+        };
+        let Tally {
+            result,
+            visits: inside,
+        } = read_message(alloc, &frame, place, limits);
+        visits += inside;
+        match result {
+            Ok(message) => {
+                if !keep(&mut list, message) {
+                    return Tally {
+                        result: Err(ListError::Memory),
+                        visits,
+                    };
+                }
+            }
+            Err(error) => {
+                return Tally {
+                    result: Err(error),
+                    visits,
+                };
+            }
+        }
+        place += frame.span;
+        left = frame.rest;
+    }
+    Tally {
+        result: Ok(list),
+        visits,
+    }
+}
+
+ghost use Rattle.nl_frame.specs.Layout.{Layout};
+ghost use Rattle.nl_frame.specs.Told.{IfFault, VisitsUpTo};
+ghost use Rattle.nl_frame.specs.Kept.{kept};
+ghost use Rattle.nl_frame.specs.Heads.{IsFirstFault, whole};
+
+/// The messages of a datagram, and how many attribute bytes were visited.
+///
+/// It refuses a datagram above the datagram limit, then at the first fault over all heads, whatever
+/// later parts hold; or for memory. Padding may hold anything, and that of the last message may be
+/// cut short.
+pub fn read_datagram(alloc: Global, bytes: &[u8], limits: &Limits) -> Tally<Vec<Message>, ReadError>
+    ensures large { result.result ≡ Err ReadError.TooLarge ↔ limits.now.datagram < length bytes.now }
+    // What is read is the layout of the datagram.
+    ensures fits { IfOk result.result (λ v. Layout limits.now.shape (map message_view v.items) bytes.now) }
+    // No other list is.
+    ensures only { IfOk result.result (λ v. (ms : List MessageVal) → Layout limits.now.shape ms bytes.now → ms ≡ map message_view v.items) }
+    // A fault is the one at the least place.
+    ensures first { IfErr result.result (λ e. IfFault e (λ f. IsFirstFault limits.now.shape (whole bytes.now) f.place f.reason)) }
+    // Then no list is the layout.
+    ensures none { IfErr result.result (λ e. IfFault e (λ _. (ms : List MessageVal) → Layout limits.now.shape ms bytes.now → ⊥)) }
+    // The visits are those of all heads, or of those up to the fault.
+    ensures visits { VisitsUpTo limits.now.shape bytes.now result.result result.visits }
+    ensures bound { result.visits ≤ (limits.now.shape.depth + 1) * length bytes.now }
+    // What is read keeps no more bytes than the datagram has.
+    ensures kept { IfOk result.result (λ v. kept (map message_view v.items) ≤ length bytes.now) }
+{
+    if bytes.len() > limits.datagram() as usize {
+        return Tally {
+            result: Err(ReadError::TooLarge),
+            visits: 0,
+        };
+    }
+    let Tally { result, visits } = read_messages(alloc, bytes, limits);
+    match result {
+        Ok(list) => Tally {
+            result: Ok(list),
+            visits,
+        },
+        Err(error) => match error {
+            ListError::Layout(fault) => Tally {
+                result: Err(ReadError::Layout(fault)),
+                visits,
+            },
+            ListError::Memory => Tally {
+                result: Err(ReadError::Memory),
+                visits,
+            },
+        },
+    }
+}

@@ -1,0 +1,92 @@
+-- Heads that are known by their fields.
+use Rattle.std.proofs.Common.{◌≡◌, ℕ, ℤ, zero, suc, List, [], ◌∷◌, length, refl, sym, ap, subst, ◌∙◌, arith}
+use Rattle.std.specs.Prelude.{pos}
+use Rattle.nl_attr.specs.declared.order.Order.{Order}
+use Rattle.nl_attr.specs.Numbers.{AreBytes}
+use Rattle.nl_route.specs.Fields.{Field, byte, number, signed, pad, AreFields, written}
+use Rattle.nl_route.specs.Heads.{link_fields, link_of, addr_fields, addr_of, route_fields, route_of, neigh_fields, neigh_of}
+use Rattle.nl_route.proofs.Fields.{size_of, read_at, read_sound, read_only, DoFit, read_written}
+
+-- what is read of bytes has the fields that are read of them, and a head is made of its fields, of so many bytes
+pub record IsKnown {H : Type 0} (size : ℕ) (fields : H → List Field) (of : Order → List ℕ → H) : Type 0 where
+  pub is : (o : Order) (v : H) (bytes : List ℕ) → fields (of o bytes) ≡ read_at o (fields v) 0 bytes
+  pub made : List Field → H
+  pub back : (v : H) → made (fields v) ≡ v
+  pub size_is : (v : H) → size_of (fields v) ≡ size
+
+module _ {H : Type 0} {size : ℕ} {fields : H → List Field} {of : Order → List ℕ → H} (known : IsKnown size fields of) where
+  one : (v w : H) → fields v ≡ fields w → v ≡ w
+  one v w e = sym (known.back v) ∙ ap known.made e ∙ known.back w
+
+  -- bytes have the fields of what is read of them
+  pub fields_of_read : (o : Order) (bytes : List ℕ) → AreBytes bytes → length bytes ≡ size → AreFields o (fields (of o bytes)) bytes
+  fields_of_read o bytes h e =
+      let v : H = of o bytes in
+      subst (λ (fs : List Field). AreFields o fs bytes) (sym (known.is o v bytes)) (read_sound o (fields v) 0 bytes h (omega (arith, known.size_is v, e)))
+
+  -- and of nothing else
+  pub read_of_fields : (o : Order) (v : H) (bytes : List ℕ) → AreFields o (fields v) bytes → v ≡ of o bytes
+  read_of_fields o v bytes h = one v (of o bytes) (read_only o (fields v) 0 bytes h ∙ sym (known.is o v bytes))
+
+  -- what is written of a head is read as it again
+  pub read_of_written : (o : Order) (v : H) → DoFit (fields v) → of o (written o (fields v)) ≡ v
+  read_of_written o v h = one (of o (written o (fields v))) v (known.is o v (written o (fields v)) ∙ read_written o (fields v) [] h)
+
+-- the field at a place, as the number or the signed number that it holds
+abbrev pub value_in : Field → ℕ
+value_in (byte n) = n
+value_in (number w n) = n
+value_in (signed z) = 0
+value_in (pad w) = 0
+
+abbrev pub signed_in : Field → ℤ
+signed_in (byte n) = pos 0
+signed_in (number w n) = pos 0
+signed_in (signed z) = z
+signed_in (pad w) = pos 0
+
+abbrev pub value_at : List Field → ℕ → ℕ
+value_at [] i = 0
+value_at (f ∷ fs) zero = value_in f
+value_at (f ∷ fs) (suc i) = value_at fs i
+
+abbrev pub signed_at : List Field → ℕ → ℤ
+signed_at [] i = pos 0
+signed_at (f ∷ fs) zero = signed_in f
+signed_at (f ∷ fs) (suc i) = signed_at fs i
+
+pub link_known : IsKnown 16 link_fields link_of
+link_known =
+    record {
+      is = λ o v bytes. refl;
+      made = λ fs. record { family = value_at fs 0; hardware = value_at fs 2; index = signed_at fs 3; flags = value_at fs 4; change = value_at fs 5 };
+      back = λ v. refl;
+      size_is = λ v. refl;
+    }
+
+pub addr_known : IsKnown 8 addr_fields addr_of
+addr_known =
+    record {
+      is = λ o v bytes. refl;
+      made = λ fs. record { family = value_at fs 0; prefixlen = value_at fs 1; flags = value_at fs 2; scope = value_at fs 3; index = value_at fs 4 };
+      back = λ v. refl;
+      size_is = λ v. refl;
+    }
+
+pub route_known : IsKnown 12 route_fields route_of
+route_known =
+    record {
+      is = λ o v bytes. refl;
+      made = λ fs. record { family = value_at fs 0; dst_len = value_at fs 1; src_len = value_at fs 2; tos = value_at fs 3; table = value_at fs 4; protocol = value_at fs 5; scope = value_at fs 6; sort = value_at fs 7; flags = value_at fs 8 };
+      back = λ v. refl;
+      size_is = λ v. refl;
+    }
+
+pub neigh_known : IsKnown 12 neigh_fields neigh_of
+neigh_known =
+    record {
+      is = λ o v bytes. refl;
+      made = λ fs. record { family = value_at fs 0; ifindex = signed_at fs 3; state = value_at fs 4; flags = value_at fs 5; sort = value_at fs 6 };
+      back = λ v. refl;
+      size_is = λ v. refl;
+    }

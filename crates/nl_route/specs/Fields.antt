@@ -1,0 +1,33 @@
+-- The fields of a head, one after the other.
+use Rattle.std.specs.Prelude.{◌≡◌, ◌<◌, ◌≤◌, ◌^◌, ℕ, ℤ, zero, suc, List, [], ◌∷◌, ◌++◌, length, take, drop, FitsSigned}
+use Rattle.std.specs.Int.{w32, cast_unsigned}
+use Rattle.nl_attr.specs.declared.order.Order.{Order}
+use Rattle.nl_attr.specs.Numbers.{num}
+
+-- one byte, a number of so many bytes, a signed number of four, or so many bytes that are not kept
+pub data Field : Type 0 where
+  byte : ℕ → Field
+  number : ℕ → ℕ → Field
+  signed : ℤ → Field
+  pad : ℕ → Field
+
+-- so many zero bytes
+abbrev pub zeros : ℕ → List ℕ
+zeros zero = []
+zeros (suc n) = 0 ∷ zeros n
+
+-- the bytes have these fields in this order of numbers, and no more; a pad may hold anything
+abbrev pub AreFields : Order → List Field → List ℕ → Type 0
+AreFields o [] bytes = bytes ≡ []
+AreFields o (byte n ∷ fs) bytes = (take 1 bytes ≡ n ∷ []) × (n < 256) × AreFields o fs (drop 1 bytes)
+AreFields o (number w n ∷ fs) bytes = (take w bytes ≡ num n w o) × (n < 256 ^ w) × AreFields o fs (drop w bytes)
+AreFields o (signed z ∷ fs) bytes = (take 4 bytes ≡ num (cast_unsigned w32 z) 4 o) × FitsSigned w32 z × AreFields o fs (drop 4 bytes)
+AreFields o (pad w ∷ fs) bytes = (w ≤ length bytes) × AreFields o fs (drop w bytes)
+
+-- the bytes of the fields, with zeros for the pads
+abbrev pub written : Order → List Field → List ℕ
+written o [] = []
+written o (byte n ∷ fs) = n ∷ written o fs
+written o (number w n ∷ fs) = num n w o ++ written o fs
+written o (signed z ∷ fs) = num (cast_unsigned w32 z) 4 o ++ written o fs
+written o (pad w ∷ fs) = zeros w ++ written o fs

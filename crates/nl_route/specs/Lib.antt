@@ -1,0 +1,15 @@
+pub mod Fields
+pub mod Heads
+pub mod Body
+pub mod Views
+pub use Rattle.nl_attr.specs.Numbers
+pub use Rattle.nl_attr.specs.Shape
+pub use Rattle.nl_attr.specs.Tree
+pub use Rattle.nl_attr.specs.Layout
+pub use Rattle.nl_attr.specs.Heads as AttrHeads
+pub use Rattle.nl_attr.specs.Visits
+pub use Rattle.nl_attr.specs.Reading
+pub use Rattle.nl_attr.specs.View
+pub use Rattle.nl_attr.specs.Views as AttrViews
+pub use Rattle.nl_attr.specs.Told
+pub use Rattle.nl_attr.specs.Kept

@@ -1,0 +1,50 @@
+-- What the first attribute of a number says, and no other.
+use Rattle.std.specs.Prelude.{ℕ, List, Option, Some, None}
+use Rattle.nl_attr.specs.declared.order.Order.{Order}
+use Rattle.nl_attr.specs.Tree.{Val, bytes, list, hops, Items, no_items, HopItems, no_hops}
+use Rattle.nl_attr.specs.Views.{Entry, first_of, bytes_in, number_in, text_in}
+
+-- what the value of an attribute says, where there is an attribute
+abbrev pub said_by : {A : Type 0} → (Val → Option A) → Option Entry → Option A
+said_by f None = None
+said_by f (Some e) = f e.value
+
+-- the number in its first w bytes, where it has as many
+abbrev pub number_view : Order → ℕ → ℕ → Items → Option ℕ
+number_view o w n is = said_by (number_in o w) (first_of is n)
+
+-- its bytes before the first zero byte, or all
+abbrev pub text_view : ℕ → Items → Option (List ℕ)
+text_view n is = said_by text_in (first_of is n)
+
+-- all its bytes
+abbrev pub bytes_view : ℕ → Items → Option (List ℕ)
+bytes_view n is = said_by bytes_in (first_of is n)
+
+-- the attributes that a value holds, none where it holds no list
+abbrev pub items_in : Val → Items
+items_in (bytes bs) = no_items
+items_in (list is) = is
+items_in (hops hs) = no_items
+
+-- the next hops that a value holds, none where it holds no hops
+abbrev pub hops_in : Val → HopItems
+hops_in (bytes bs) = no_hops
+hops_in (list is) = no_hops
+hops_in (hops hs) = hs
+
+abbrev pub items_by : Option Entry → Items
+items_by None = no_items
+items_by (Some e) = items_in e.value
+
+abbrev pub hops_by : Option Entry → HopItems
+hops_by None = no_hops
+hops_by (Some e) = hops_in e.value
+
+-- its list, none where there is none
+abbrev pub items_view : ℕ → Items → Items
+items_view n is = items_by (first_of is n)
+
+-- its next hops, none where there are none
+abbrev pub hop_items_view : ℕ → Items → HopItems
+hop_items_view n is = hops_by (first_of is n)

@@ -1,0 +1,36 @@
+//! What the heads of all families have in common.
+
+ghost use Rattle.std.specs.Prelude.{◌≡◌, ◌≤◌, ℕ, List, length, take};
+ghost use Rattle.nl_attr.specs.declared.order.Order.{Order};
+ghost use Rattle.nl_attr.specs.declared.tree.Ctx.{Ctx};
+ghost use Rattle.nl_route.specs.Fields.{Field, AreFields};
+
+use nl_attr::{Ctx, Order};
+
+/// The head of a family's body: how many bytes it has, what they say, and the context of the
+/// attributes behind it.
+pub trait Head: Sized + Drop {
+    /// How many bytes it has.
+    const SIZE: usize;
+
+    ghost SIZE: { ℕ };
+
+    ghost ctx: { Ctx };
+
+    ghost fields: { Self → List Field };
+
+    ghost of: { Order → List ℕ → Self };
+
+    /// The context of the attributes behind it.
+    fn context() -> Ctx
+        ensures { result ≡ ctx };
+
+    /// The head at the front of a body, its numbers in this order.
+    fn read_front(bytes: &[u8], order: Order) -> Self
+        requires { SIZE ≤ length bytes.now }
+        ensures value { result ≡ of order (take SIZE bytes.now) }
+        // It has the fields of the front.
+        ensures fields { AreFields order (fields result) (take SIZE bytes.now) }
+        // No other head has.
+        ensures only { (h : Self) → AreFields order (fields h) (take SIZE bytes.now) → h ≡ result };
+}

@@ -1,0 +1,175 @@
+//! Addresses: the head `ifaddrmsg` and the attributes `IFA` of linux/if_addr.h.
+
+ghost use Rattle.std.specs.Prelude.{◌≡◌, unwrap_or};
+ghost use Rattle.std.specs.Option.{option_copied};
+ghost use Rattle.nl_attr.specs.View.{attrs_view};
+ghost use Rattle.nl_route.specs.Fields.{AreFields, written};
+ghost use Rattle.nl_route.specs.Heads.{addr_fields, addr_of};
+ghost use Rattle.nl_route.specs.Views.{number_view, text_view, bytes_view};
+
+use crate::family::Family;
+use crate::head::Head;
+use crate::views::{bytes_of, text_of, u32_view};
+use nl_attr::{Ctx, Order};
+
+/// `IFA_ADDRESS`.
+const ADDRESS: u16 = 1;
+/// `IFA_LOCAL`.
+const LOCAL: u16 = 2;
+/// `IFA_LABEL`.
+const LABEL: u16 = 3;
+/// `IFA_BROADCAST`.
+const BROADCAST: u16 = 4;
+/// `IFA_FLAGS`.
+const FLAGS: u16 = 8;
+
+/// The head of an address, `ifaddrmsg`: 8 bytes.
+#[derive(Clone, Copy, Debug, PartialEq, Eq)]
+pub struct AddrHead {
+    /// `ifa_family`: 2 for IPv4, 10 for IPv6.
+    pub family: u8,
+    /// `ifa_prefixlen`: how many bits of the address are the network's.
+    pub prefixlen: u8,
+    /// `ifa_flags`: the low eight `IFA_F` bits.
+    pub flags: u8,
+    /// `ifa_scope`: where the address is valid, an `RT_SCOPE` number.
+    pub scope: u8,
+    /// `ifa_index`: the index of the interface.
+    pub index: u32,
+}
+
+/// An address: its head, and the attributes behind it.
+///
+/// Each view takes the first attribute of its number, and no other. It is `None` where there is
+/// none, where its value is a list or next hops, and where it has too few bytes for a number.
+pub type Addr = Family<AddrHead>;
+
+impl AddrHead {
+    /// The head in these bytes, the lowest byte of a number first.
+    pub fn read(bytes: &[u8; 8]) -> Self
+        ensures value { result ≡ addr_of Order.Little bytes.now }
+        // It has the fields of the bytes.
+        ensures fields { AreFields Order.Little (addr_fields result) bytes.now }
+        // No other head has.
+        ensures only { (h : AddrHead) → AreFields Order.Little (addr_fields h) bytes.now → h ≡ result }
+    {
+        AddrHead::read_ordered(bytes, Order::Little)
+    }
+
+    /// The head in these bytes, its numbers in this order.
+    pub fn read_ordered(bytes: &[u8; 8], order: Order) -> Self
+        ensures value { result ≡ addr_of order bytes.now }
+        // It has the fields of the bytes.
+        ensures fields { AreFields order (addr_fields result) bytes.now }
+        // No other head has.
+        ensures only { (h : AddrHead) → AreFields order (addr_fields h) bytes.now → h ≡ result }
+    {
+        AddrHead {
+            family: bytes[0],
+            prefixlen: bytes[1],
+            flags: bytes[2],
+            scope: bytes[3],
+            index: order.read_u32(&bytes[4..]),
+        }
+    }
+
+    /// The bytes of the head, the lowest byte of a number first.
+    pub fn write(&self) -> [u8; 8]
+        ensures bytes { result ≡ written Order.Little (addr_fields self.now) }
+        // They are read as this head again.
+        ensures back { addr_of Order.Little result ≡ self.now }
+    {
+        self.write_ordered(Order::Little)
+    }
+
+    /// The bytes of the head, its numbers in this order.
+    pub fn write_ordered(&self, order: Order) -> [u8; 8]
+        ensures bytes { result ≡ written order (addr_fields self.now) }
+        // They are read as this head again.
+        ensures back { addr_of order result ≡ self.now }
+    {
+        let AddrHead {
+            family,
+            prefixlen,
+            flags,
+            scope,
+            index,
+        } = *self;
+        let mut bytes = [0; 8];
+        bytes[0] = family;
+        bytes[1] = prefixlen;
+        bytes[2] = flags;
+        bytes[3] = scope;
+        bytes[4..].copy_from_slice(&order.u32_bytes(index));
+        bytes
+    }
+}
+
+impl Head for AddrHead {
+    ghost use Rattle.nl_attr.specs.declared.tree.Ctx.TheVariants.{Addr};
+    ghost use Rattle.nl_route.specs.Heads.{addr_fields, addr_of};
+
+    const SIZE: usize = 8;
+
+    ghost SIZE = { 8 };
+
+    ghost ctx = { Addr };
+
+    ghost fields = { addr_fields };
+
+    ghost of = { addr_of };
+
+    fn context() -> Ctx {
+        Ctx::Addr
+    }
+
+    fn read_front(bytes: &[u8], order: Order) -> Self {
+        let mut front = [0; 8];
+        front.copy_from_slice(&bytes[..8]);
+        AddrHead::read_ordered(&front, order)
+    }
+}
+
+impl Addr {
+    /// The address, or that of the other end of a point-to-point link, `IFA_ADDRESS`.
+    pub fn address(&self) -> Option<&[u8]>
+        ensures { option_copied result ≡ bytes_view 1 (attrs_view self.now.attrs.items) }
+    {
+        bytes_of(&self.attrs, ADDRESS)
+    }
+
+    /// The local address, `IFA_LOCAL`.
+    pub fn local(&self) -> Option<&[u8]>
+        ensures { option_copied result ≡ bytes_view 2 (attrs_view self.now.attrs.items) }
+    {
+        bytes_of(&self.attrs, LOCAL)
+    }
+
+    /// The label of the address, `IFA_LABEL`.
+    pub fn label(&self) -> Option<&[u8]>
+        ensures { option_copied result ≡ text_view 3 (attrs_view self.now.attrs.items) }
+    {
+        text_of(&self.attrs, LABEL)
+    }
+
+    /// The broadcast address, `IFA_BROADCAST`.
+    pub fn broadcast(&self) -> Option<&[u8]>
+        ensures { option_copied result ≡ bytes_view 4 (attrs_view self.now.attrs.items) }
+    {
+        bytes_of(&self.attrs, BROADCAST)
+    }
+
+    /// All flags: `IFA_FLAGS`, or the head's where there is no such number.
+    pub fn flags_full(&self) -> u32
+        ensures { result ≡ unwrap_or (number_view Order.Little 4 8 (attrs_view self.now.attrs.items)) self.now.head.flags }
+    {
+        self.flags_full_ordered(Order::Little)
+    }
+
+    /// All flags: `IFA_FLAGS` in this order, or the head's where there is no such number.
+    pub fn flags_full_ordered(&self, order: Order) -> u32
+        ensures { result ≡ unwrap_or (number_view order 4 8 (attrs_view self.now.attrs.items)) self.now.head.flags }
+    {
+        u32_view(&self.attrs, FLAGS, order).unwrap_or(u32::from(self.head.flags))
+    }
+}

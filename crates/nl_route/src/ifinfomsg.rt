@@ -1,0 +1,184 @@
+//! Links: the head `ifinfomsg` and the attributes `IFLA` of linux/if_link.h.
+
+ghost use Rattle.std.specs.Prelude.{◌≡◌};
+ghost use Rattle.std.specs.Option.{option_copied};
+ghost use Rattle.nl_attr.specs.View.{attrs_view};
+ghost use Rattle.nl_route.specs.Fields.{AreFields, written};
+ghost use Rattle.nl_route.specs.Heads.{link_fields, link_of};
+ghost use Rattle.nl_route.specs.Views.{number_view, text_view, items_view};
+
+use crate::family::Family;
+use crate::head::Head;
+use crate::views::{list_of, text_of, u8_view, u32_view};
+use nl_attr::{Ctx, Order};
+
+/// `IFLA_IFNAME`.
+const INTERFACE_NAME: u16 = 3;
+/// `IFLA_MTU`.
+const MTU: u16 = 4;
+/// `IFLA_MASTER`.
+const MASTER: u16 = 10;
+/// `IFLA_OPERSTATE`.
+const OPERATIONAL_STATE: u16 = 16;
+/// `IFLA_LINKINFO`.
+const LINK_INFO: u16 = 18;
+/// `IFLA_INFO_KIND`, inside `IFLA_LINKINFO`.
+const INFO_KIND: u16 = 1;
+
+/// The head of a link, `ifinfomsg`: 16 bytes, of which the second is not kept.
+#[derive(Clone, Copy, Debug, PartialEq, Eq)]
+pub struct LinkHead {
+    /// `ifi_family`: 0 for a link as such, 7 for a port of a bridge.
+    pub family: u8,
+    /// `ifi_type`: the sort of hardware, an `ARPHRD` number.
+    pub hardware: u16,
+    /// `ifi_index`: the index of the interface.
+    pub index: i32,
+    /// `ifi_flags`: the `IFF` bits.
+    pub flags: u32,
+    /// `ifi_change`: which of the flags are meant.
+    pub change: u32,
+}
+
+/// A link: its head, and the attributes behind it.
+///
+/// Each view takes the first attribute of its number, and no other. It is `None` where there is
+/// none, where its value is a list or next hops, and where it has too few bytes for a number.
+pub type Link = Family<LinkHead>;
+
+impl LinkHead {
+    /// The head in these bytes, the lowest byte of a number first.
+    pub fn read(bytes: &[u8; 16]) -> Self
+        ensures value { result ≡ link_of Order.Little bytes.now }
+        // It has the fields of the bytes.
+        ensures fields { AreFields Order.Little (link_fields result) bytes.now }
+        // No other head has.
+        ensures only { (h : LinkHead) → AreFields Order.Little (link_fields h) bytes.now → h ≡ result }
+    {
+        LinkHead::read_ordered(bytes, Order::Little)
+    }
+
+    /// The head in these bytes, its numbers in this order.
+    pub fn read_ordered(bytes: &[u8; 16], order: Order) -> Self
+        ensures value { result ≡ link_of order bytes.now }
+        // It has the fields of the bytes.
+        ensures fields { AreFields order (link_fields result) bytes.now }
+        // No other head has.
+        ensures only { (h : LinkHead) → AreFields order (link_fields h) bytes.now → h ≡ result }
+    {
+        LinkHead {
+            family: bytes[0],
+            hardware: order.read_u16(&bytes[2..]),
+            index: order.read_i32(&bytes[4..]),
+            flags: order.read_u32(&bytes[8..]),
+            change: order.read_u32(&bytes[12..]),
+        }
+    }
+
+    /// The bytes of the head, the lowest byte of a number first; the second byte is zero.
+    pub fn write(&self) -> [u8; 16]
+        ensures bytes { result ≡ written Order.Little (link_fields self.now) }
+        // They are read as this head again.
+        ensures back { link_of Order.Little result ≡ self.now }
+    {
+        self.write_ordered(Order::Little)
+    }
+
+    /// The bytes of the head, its numbers in this order; the second byte is zero.
+    pub fn write_ordered(&self, order: Order) -> [u8; 16]
+        ensures bytes { result ≡ written order (link_fields self.now) }
+        // They are read as this head again.
+        ensures back { link_of order result ≡ self.now }
+    {
+        let LinkHead {
+            family,
+            hardware,
+            index,
+            flags,
+            change,
+        } = *self;
+        let mut bytes = [0; 16];
+        bytes[0] = family;
+        bytes[2..4].copy_from_slice(&order.u16_bytes(hardware));
+        bytes[4..8].copy_from_slice(&order.i32_bytes(index));
+        bytes[8..12].copy_from_slice(&order.u32_bytes(flags));
+        bytes[12..].copy_from_slice(&order.u32_bytes(change));
+        bytes
+    }
+}
+
+impl Head for LinkHead {
+    ghost use Rattle.nl_attr.specs.declared.tree.Ctx.TheVariants.{Link};
+    ghost use Rattle.nl_route.specs.Heads.{link_fields, link_of};
+
+    const SIZE: usize = 16;
+
+    ghost SIZE = { 16 };
+
+    ghost ctx = { Link };
+
+    ghost fields = { link_fields };
+
+    ghost of = { link_of };
+
+    fn context() -> Ctx {
+        Ctx::Link
+    }
+
+    fn read_front(bytes: &[u8], order: Order) -> Self {
+        let mut front = [0; 16];
+        front.copy_from_slice(&bytes[..16]);
+        LinkHead::read_ordered(&front, order)
+    }
+}
+
+impl Link {
+    /// The name of the interface, `IFLA_IFNAME`.
+    pub fn name(&self) -> Option<&[u8]>
+        ensures { option_copied result ≡ text_view 3 (attrs_view self.now.attrs.items) }
+    {
+        text_of(&self.attrs, INTERFACE_NAME)
+    }
+
+    /// The greatest packet in bytes, `IFLA_MTU`.
+    pub fn mtu(&self) -> Option<u32>
+        ensures { result ≡ number_view Order.Little 4 4 (attrs_view self.now.attrs.items) }
+    {
+        self.mtu_ordered(Order::Little)
+    }
+
+    /// The greatest packet in bytes, `IFLA_MTU`, in this order.
+    pub fn mtu_ordered(&self, order: Order) -> Option<u32>
+        ensures { result ≡ number_view order 4 4 (attrs_view self.now.attrs.items) }
+    {
+        u32_view(&self.attrs, MTU, order)
+    }
+
+    /// The index of the interface that this one is a port of, `IFLA_MASTER`.
+    pub fn master(&self) -> Option<u32>
+        ensures { result ≡ number_view Order.Little 4 10 (attrs_view self.now.attrs.items) }
+    {
+        self.master_ordered(Order::Little)
+    }
+
+    /// The index of the interface that this one is a port of, `IFLA_MASTER`, in this order.
+    pub fn master_ordered(&self, order: Order) -> Option<u32>
+        ensures { result ≡ number_view order 4 10 (attrs_view self.now.attrs.items) }
+    {
+        u32_view(&self.attrs, MASTER, order)
+    }
+
+    /// The operational state, `IFLA_OPERSTATE`: a number of RFC 2863.
+    pub fn operstate(&self) -> Option<u8>
+        ensures { result ≡ number_view Order.Little 1 16 (attrs_view self.now.attrs.items) }
+    {
+        u8_view(&self.attrs, OPERATIONAL_STATE)
+    }
+
+    /// The kind of a virtual interface, as `vlan`: `IFLA_INFO_KIND` in the list of `IFLA_LINKINFO`.
+    pub fn kind(&self) -> Option<&[u8]>
+        ensures { option_copied result ≡ text_view 1 (items_view 18 (attrs_view self.now.attrs.items)) }
+    {
+        text_of(list_of(&self.attrs, LINK_INFO), INFO_KIND)
+    }
+}

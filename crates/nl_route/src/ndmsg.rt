@@ -1,0 +1,190 @@
+//! Neighbours: the head `ndmsg` and the attributes `NDA` of linux/neighbour.h.
+
+ghost use Rattle.std.specs.Prelude.{◌≡◌};
+ghost use Rattle.std.specs.Option.{option_copied};
+ghost use Rattle.nl_attr.specs.View.{attrs_view};
+ghost use Rattle.nl_route.specs.Fields.{AreFields, written};
+ghost use Rattle.nl_route.specs.Heads.{neigh_fields, neigh_of};
+ghost use Rattle.nl_route.specs.Views.{number_view, bytes_view};
+
+use crate::family::Family;
+use crate::head::Head;
+use crate::views::{bytes_of, u16_view, u32_view};
+use nl_attr::{Ctx, Order};
+
+/// `NDA_DST`.
+const DESTINATION: u16 = 1;
+/// `NDA_LLADDR`.
+const LINK_LAYER_ADDRESS: u16 = 2;
+/// `NDA_VLAN`.
+const VLAN: u16 = 5;
+/// `NDA_PORT`.
+const PORT: u16 = 6;
+/// `NDA_VNI`.
+const NETWORK_IDENTIFIER: u16 = 7;
+
+/// The head of a neighbour, `ndmsg`: 12 bytes, of which the second to fourth are not kept.
+#[derive(Clone, Copy, Debug, PartialEq, Eq)]
+pub struct NeighHead {
+    /// `ndm_family`: 2 for IPv4, 7 for an entry of a bridge, 10 for IPv6.
+    pub family: u8,
+    /// `ndm_ifindex`: the index of the interface.
+    pub ifindex: i32,
+    /// `ndm_state`: the `NUD` bits.
+    pub state: u16,
+    /// `ndm_flags`: the `NTF` bits.
+    pub flags: u8,
+    /// `ndm_type`: the sort of neighbour, an `RTN` number.
+    pub sort: u8,
+}
+
+/// A neighbour: its head, and the attributes behind it.
+///
+/// Each view takes the first attribute of its number, and no other. It is `None` where there is
+/// none, where its value is a list or next hops, and where it has too few bytes for a number.
+pub type Neigh = Family<NeighHead>;
+
+impl NeighHead {
+    /// The head in these bytes, the lowest byte of a number first.
+    pub fn read(bytes: &[u8; 12]) -> Self
+        ensures value { result ≡ neigh_of Order.Little bytes.now }
+        // It has the fields of the bytes.
+        ensures fields { AreFields Order.Little (neigh_fields result) bytes.now }
+        // No other head has.
+        ensures only { (h : NeighHead) → AreFields Order.Little (neigh_fields h) bytes.now → h ≡ result }
+    {
+        NeighHead::read_ordered(bytes, Order::Little)
+    }
+
+    /// The head in these bytes, its numbers in this order.
+    pub fn read_ordered(bytes: &[u8; 12], order: Order) -> Self
+        ensures value { result ≡ neigh_of order bytes.now }
+        // It has the fields of the bytes.
+        ensures fields { AreFields order (neigh_fields result) bytes.now }
+        // No other head has.
+        ensures only { (h : NeighHead) → AreFields order (neigh_fields h) bytes.now → h ≡ result }
+    {
+        NeighHead {
+            family: bytes[0],
+            ifindex: order.read_i32(&bytes[4..]),
+            state: order.read_u16(&bytes[8..]),
+            flags: bytes[10],
+            sort: bytes[11],
+        }
+    }
+
+    /// The bytes of the head, the lowest byte of a number first; what is not kept is zero.
+    pub fn write(&self) -> [u8; 12]
+        ensures bytes { result ≡ written Order.Little (neigh_fields self.now) }
+        // They are read as this head again.
+        ensures back { neigh_of Order.Little result ≡ self.now }
+    {
+        self.write_ordered(Order::Little)
+    }
+
+    /// The bytes of the head, its numbers in this order; what is not kept is zero.
+    pub fn write_ordered(&self, order: Order) -> [u8; 12]
+        ensures bytes { result ≡ written order (neigh_fields self.now) }
+        // They are read as this head again.
+        ensures back { neigh_of order result ≡ self.now }
+    {
+        let NeighHead {
+            family,
+            ifindex,
+            state,
+            flags,
+            sort,
+        } = *self;
+        let mut bytes = [0; 12];
+        bytes[0] = family;
+        bytes[4..8].copy_from_slice(&order.i32_bytes(ifindex));
+        bytes[8..10].copy_from_slice(&order.u16_bytes(state));
+        bytes[10] = flags;
+        bytes[11] = sort;
+        bytes
+    }
+}
+
+impl Head for NeighHead {
+    ghost use Rattle.nl_attr.specs.declared.tree.Ctx.TheVariants.{Neigh};
+    ghost use Rattle.nl_route.specs.Heads.{neigh_fields, neigh_of};
+
+    const SIZE: usize = 12;
+
+    ghost SIZE = { 12 };
+
+    ghost ctx = { Neigh };
+
+    ghost fields = { neigh_fields };
+
+    ghost of = { neigh_of };
+
+    fn context() -> Ctx {
+        Ctx::Neigh
+    }
+
+    fn read_front(bytes: &[u8], order: Order) -> Self {
+        let mut front = [0; 12];
+        front.copy_from_slice(&bytes[..12]);
+        NeighHead::read_ordered(&front, order)
+    }
+}
+
+impl Neigh {
+    /// The neighbour's network address, `NDA_DST`.
+    pub fn dst(&self) -> Option<&[u8]>
+        ensures { option_copied result ≡ bytes_view 1 (attrs_view self.now.attrs.items) }
+    {
+        bytes_of(&self.attrs, DESTINATION)
+    }
+
+    /// The neighbour's link-layer address, `NDA_LLADDR`.
+    pub fn lladdr(&self) -> Option<&[u8]>
+        ensures { option_copied result ≡ bytes_view 2 (attrs_view self.now.attrs.items) }
+    {
+        bytes_of(&self.attrs, LINK_LAYER_ADDRESS)
+    }
+
+    /// The VLAN of a bridge's entry, `NDA_VLAN`.
+    pub fn vlan(&self) -> Option<u16>
+        ensures { result ≡ number_view Order.Little 2 5 (attrs_view self.now.attrs.items) }
+    {
+        self.vlan_ordered(Order::Little)
+    }
+
+    /// The VLAN of a bridge's entry, `NDA_VLAN`, in this order.
+    pub fn vlan_ordered(&self, order: Order) -> Option<u16>
+        ensures { result ≡ number_view order 2 5 (attrs_view self.now.attrs.items) }
+    {
+        u16_view(&self.attrs, VLAN, order)
+    }
+
+    /// The VXLAN network identifier, `NDA_VNI`.
+    pub fn vni(&self) -> Option<u32>
+        ensures { result ≡ number_view Order.Little 4 7 (attrs_view self.now.attrs.items) }
+    {
+        self.vni_ordered(Order::Little)
+    }
+
+    /// The VXLAN network identifier, `NDA_VNI`, in this order.
+    pub fn vni_ordered(&self, order: Order) -> Option<u32>
+        ensures { result ≡ number_view order 4 7 (attrs_view self.now.attrs.items) }
+    {
+        u32_view(&self.attrs, NETWORK_IDENTIFIER, order)
+    }
+
+    /// The UDP port of a VXLAN entry, `NDA_PORT`: in network order, whatever the order of other
+    /// numbers.
+    pub fn port(&self) -> Option<u16>
+        ensures { result ≡ number_view Order.Big 2 6 (attrs_view self.now.attrs.items) }
+    {
+        u16_view(&self.attrs, PORT, Order::Big)
+    }
+
+    /// The state, the head's `NUD` bits.
+    pub fn state(&self) -> u16
+        ensures { result ≡ self.now.head.state }
+    {
+        self.head.state
+    }
+}

@@ -1,0 +1,261 @@
+//! Routes: the head `rtmsg` and the attributes `RTA` of linux/rtnetlink.h.
+
+ghost use Rattle.std.specs.Prelude.{◌≡◌, unwrap_or};
+ghost use Rattle.std.specs.Option.{option_copied};
+ghost use Rattle.nl_attr.specs.View.{attrs_view, hops_view};
+ghost use Rattle.nl_route.specs.Fields.{AreFields, written};
+ghost use Rattle.nl_route.specs.Heads.{route_fields, route_of};
+ghost use Rattle.nl_route.specs.Views.{number_view, bytes_view, items_view, hop_items_view};
+
+use crate::family::Family;
+use crate::head::Head;
+use crate::views::{bytes_of, hops_of, list_of, u32_view};
+use nl_attr::{Attr, Ctx, Hop, Order};
+
+/// `RTA_DST`.
+const DESTINATION: u16 = 1;
+/// `RTA_SRC`.
+const SOURCE: u16 = 2;
+/// `RTA_IIF`.
+const INPUT_INTERFACE: u16 = 3;
+/// `RTA_OIF`.
+const OUTPUT_INTERFACE: u16 = 4;
+/// `RTA_GATEWAY`.
+const GATEWAY: u16 = 5;
+/// `RTA_PRIORITY`.
+const PRIORITY: u16 = 6;
+/// `RTA_PREFSRC`.
+const PREFERRED_SOURCE: u16 = 7;
+/// `RTA_METRICS`.
+const METRICS: u16 = 8;
+/// `RTA_MULTIPATH`.
+const MULTIPATH: u16 = 9;
+/// `RTA_TABLE`.
+const TABLE: u16 = 15;
+
+/// The head of a route, `rtmsg`: 12 bytes.
+#[derive(Clone, Copy, Debug, PartialEq, Eq)]
+pub struct RouteHead {
+    /// `rtm_family`: 2 for IPv4, 10 for IPv6.
+    pub family: u8,
+    /// `rtm_dst_len`: how many bits of the destination count.
+    pub dst_len: u8,
+    /// `rtm_src_len`: how many bits of the source count.
+    pub src_len: u8,
+    /// `rtm_tos`: the type of service.
+    pub tos: u8,
+    /// `rtm_table`: the routing table, where its number fits a byte.
+    pub table: u8,
+    /// `rtm_protocol`: who made the route, an `RTPROT` number.
+    pub protocol: u8,
+    /// `rtm_scope`: how far the destination is, an `RT_SCOPE` number.
+    pub scope: u8,
+    /// `rtm_type`: the sort of route, an `RTN` number.
+    pub sort: u8,
+    /// `rtm_flags`: the `RTM_F` bits.
+    pub flags: u32,
+}
+
+/// A route: its head, and the attributes behind it.
+///
+/// Each view takes the first attribute of its number, and no other. It is `None` where there is
+/// none, where its value is a list or next hops, and where it has too few bytes for a number.
+pub type Route = Family<RouteHead>;
+
+impl RouteHead {
+    /// The head in these bytes, the lowest byte of a number first.
+    pub fn read(bytes: &[u8; 12]) -> Self
+        ensures value { result ≡ route_of Order.Little bytes.now }
+        // It has the fields of the bytes.
+        ensures fields { AreFields Order.Little (route_fields result) bytes.now }
+        // No other head has.
+        ensures only { (h : RouteHead) → AreFields Order.Little (route_fields h) bytes.now → h ≡ result }
+    {
+        RouteHead::read_ordered(bytes, Order::Little)
+    }
+
+    /// The head in these bytes, its numbers in this order.
+    pub fn read_ordered(bytes: &[u8; 12], order: Order) -> Self
+        ensures value { result ≡ route_of order bytes.now }
+        // It has the fields of the bytes.
+        ensures fields { AreFields order (route_fields result) bytes.now }
+        // No other head has.
+        ensures only { (h : RouteHead) → AreFields order (route_fields h) bytes.now → h ≡ result }
+    {
+        RouteHead {
+            family: bytes[0],
+            dst_len: bytes[1],
+            src_len: bytes[2],
+            tos: bytes[3],
+            table: bytes[4],
+            protocol: bytes[5],
+            scope: bytes[6],
+            sort: bytes[7],
+            flags: order.read_u32(&bytes[8..]),
+        }
+    }
+
+    /// The bytes of the head, the lowest byte of a number first.
+    pub fn write(&self) -> [u8; 12]
+        ensures bytes { result ≡ written Order.Little (route_fields self.now) }
+        // They are read as this head again.
+        ensures back { route_of Order.Little result ≡ self.now }
+    {
+        self.write_ordered(Order::Little)
+    }
+
+    /// The bytes of the head, its numbers in this order.
+    pub fn write_ordered(&self, order: Order) -> [u8; 12]
+        ensures bytes { result ≡ written order (route_fields self.now) }
+        // They are read as this head again.
+        ensures back { route_of order result ≡ self.now }
+    {
+        let RouteHead {
+            family,
+            dst_len,
+            src_len,
+            tos,
+            table,
+            protocol,
+            scope,
+            sort,
+            flags,
+        } = *self;
+        let mut bytes = [0; 12];
+        bytes[0] = family;
+        bytes[1] = dst_len;
+        bytes[2] = src_len;
+        bytes[3] = tos;
+        bytes[4] = table;
+        bytes[5] = protocol;
+        bytes[6] = scope;
+        bytes[7] = sort;
+        bytes[8..].copy_from_slice(&order.u32_bytes(flags));
+        bytes
+    }
+}
+
+impl Head for RouteHead {
+    ghost use Rattle.nl_attr.specs.declared.tree.Ctx.TheVariants.{Route};
+    ghost use Rattle.nl_route.specs.Heads.{route_fields, route_of};
+
+    const SIZE: usize = 12;
+
+    ghost SIZE = { 12 };
+
+    ghost ctx = { Route };
+
+    ghost fields = { route_fields };
+
+    ghost of = { route_of };
+
+    fn context() -> Ctx {
+        Ctx::Route
+    }
+
+    fn read_front(bytes: &[u8], order: Order) -> Self {
+        let mut front = [0; 12];
+        front.copy_from_slice(&bytes[..12]);
+        RouteHead::read_ordered(&front, order)
+    }
+}
+
+impl Route {
+    /// The destination, `RTA_DST`.
+    pub fn dst(&self) -> Option<&[u8]>
+        ensures { option_copied result ≡ bytes_view 1 (attrs_view self.now.attrs.items) }
+    {
+        bytes_of(&self.attrs, DESTINATION)
+    }
+
+    /// The source, `RTA_SRC`.
+    pub fn src(&self) -> Option<&[u8]>
+        ensures { option_copied result ≡ bytes_view 2 (attrs_view self.now.attrs.items) }
+    {
+        bytes_of(&self.attrs, SOURCE)
+    }
+
+    /// The gateway, `RTA_GATEWAY`.
+    pub fn gateway(&self) -> Option<&[u8]>
+        ensures { option_copied result ≡ bytes_view 5 (attrs_view self.now.attrs.items) }
+    {
+        bytes_of(&self.attrs, GATEWAY)
+    }
+
+    /// The preferred source address, `RTA_PREFSRC`.
+    pub fn prefsrc(&self) -> Option<&[u8]>
+        ensures { option_copied result ≡ bytes_view 7 (attrs_view self.now.attrs.items) }
+    {
+        bytes_of(&self.attrs, PREFERRED_SOURCE)
+    }
+
+    /// The index of the output interface, `RTA_OIF`.
+    pub fn oif(&self) -> Option<u32>
+        ensures { result ≡ number_view Order.Little 4 4 (attrs_view self.now.attrs.items) }
+    {
+        self.oif_ordered(Order::Little)
+    }
+
+    /// The index of the output interface, `RTA_OIF`, in this order.
+    pub fn oif_ordered(&self, order: Order) -> Option<u32>
+        ensures { result ≡ number_view order 4 4 (attrs_view self.now.attrs.items) }
+    {
+        u32_view(&self.attrs, OUTPUT_INTERFACE, order)
+    }
+
+    /// The index of the input interface, `RTA_IIF`.
+    pub fn iif(&self) -> Option<u32>
+        ensures { result ≡ number_view Order.Little 4 3 (attrs_view self.now.attrs.items) }
+    {
+        self.iif_ordered(Order::Little)
+    }
+
+    /// The index of the input interface, `RTA_IIF`, in this order.
+    pub fn iif_ordered(&self, order: Order) -> Option<u32>
+        ensures { result ≡ number_view order 4 3 (attrs_view self.now.attrs.items) }
+    {
+        u32_view(&self.attrs, INPUT_INTERFACE, order)
+    }
+
+    /// The priority of the route, the least first, `RTA_PRIORITY`.
+    pub fn priority(&self) -> Option<u32>
+        ensures { result ≡ number_view Order.Little 4 6 (attrs_view self.now.attrs.items) }
+    {
+        self.priority_ordered(Order::Little)
+    }
+
+    /// The priority of the route, the least first, `RTA_PRIORITY`, in this order.
+    pub fn priority_ordered(&self, order: Order) -> Option<u32>
+        ensures { result ≡ number_view order 4 6 (attrs_view self.now.attrs.items) }
+    {
+        u32_view(&self.attrs, PRIORITY, order)
+    }
+
+    /// The routing table: `RTA_TABLE`, or the head's where there is no such number.
+    pub fn table_id(&self) -> u32
+        ensures { result ≡ unwrap_or (number_view Order.Little 4 15 (attrs_view self.now.attrs.items)) self.now.head.table }
+    {
+        self.table_id_ordered(Order::Little)
+    }
+
+    /// The routing table: `RTA_TABLE` in this order, or the head's where there is no such number.
+    pub fn table_id_ordered(&self, order: Order) -> u32
+        ensures { result ≡ unwrap_or (number_view order 4 15 (attrs_view self.now.attrs.items)) self.now.head.table }
+    {
+        u32_view(&self.attrs, TABLE, order).unwrap_or(u32::from(self.head.table))
+    }
+
+    /// The metrics: the list of `RTA_METRICS`, empty where there is none.
+    pub fn metrics(&self) -> &[Attr]
+        ensures { attrs_view result.now ≡ items_view 8 (attrs_view self.now.attrs.items) }
+    {
+        list_of(&self.attrs, METRICS)
+    }
+
+    /// The next hops of `RTA_MULTIPATH`, empty where there are none.
+    pub fn hops(&self) -> &[Hop]
+        ensures { hops_view result.now ≡ hop_items_view 9 (attrs_view self.now.attrs.items) }
+    {
+        hops_of(&self.attrs, MULTIPATH)
+    }
+}

@@ -1,0 +1,73 @@
+//! What the first attribute of a number says, whatever the family.
+
+ghost use Rattle.std.specs.Prelude.{◌≡◌};
+ghost use Rattle.std.specs.Option.{option_copied};
+ghost use Rattle.nl_attr.specs.View.{attrs_view, hops_view};
+ghost use Rattle.nl_route.specs.Views.{number_view, text_view, bytes_view, items_view, hop_items_view};
+
+use nl_attr::{Attr, Hop, Order, Value, find};
+
+/// The first byte.
+pub(crate) fn u8_view(attrs: &[Attr], number: u16) -> Option<u8>
+    ensures { result ≡ number_view Order.Little 1 number (attrs_view attrs.now) }
+{
+    find(attrs, number)?.u8_value()
+}
+
+/// The number in the first two bytes.
+pub(crate) fn u16_view(attrs: &[Attr], number: u16, order: Order) -> Option<u16>
+    ensures { result ≡ number_view order 2 number (attrs_view attrs.now) }
+{
+    find(attrs, number)?.u16_value_ordered(order)
+}
+
+/// The number in the first four bytes.
+pub(crate) fn u32_view(attrs: &[Attr], number: u16, order: Order) -> Option<u32>
+    ensures { result ≡ number_view order 4 number (attrs_view attrs.now) }
+{
+    find(attrs, number)?.u32_value_ordered(order)
+}
+
+/// The bytes before the first zero byte, or all.
+pub(crate) fn text_of(attrs: &[Attr], number: u16) -> Option<&[u8]>
+    ensures { option_copied result ≡ text_view number (attrs_view attrs.now) }
+{
+    find(attrs, number)?.text()
+}
+
+/// All bytes.
+pub(crate) fn bytes_of(attrs: &[Attr], number: u16) -> Option<&[u8]>
+    ensures { option_copied result ≡ bytes_view number (attrs_view attrs.now) }
+{
+    find(attrs, number)?.bytes()
+}
+
+/// The list that it holds, empty where there is none.
+pub(crate) fn list_of(attrs: &[Attr], number: u16) -> &[Attr]
+    ensures { attrs_view result.now ≡ items_view number (attrs_view attrs.now) }
+{
+    match find(attrs, number) {
+        Some(
+            Attr {
+                value: Value::List(list),
+                ..
+            },
+        ) => list.as_slice(),
+        _ => &[],
+    }
+}
+
+/// The next hops that it holds, empty where there are none.
+pub(crate) fn hops_of(attrs: &[Attr], number: u16) -> &[Hop]
+    ensures { hops_view result.now ≡ hop_items_view number (attrs_view attrs.now) }
+{
+    match find(attrs, number) {
+        Some(
+            Attr {
+                value: Value::Hops(hops),
+                ..
+            },
+        ) => hops.as_slice(),
+        _ => &[],
+    }
+}
