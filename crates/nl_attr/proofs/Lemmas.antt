@@ -19,3 +19,4 @@ pub mod Told
 pub mod Every
 pub mod Exact
 pub mod Texts
+pub mod Sums

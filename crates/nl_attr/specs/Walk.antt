@@ -86,3 +86,20 @@ module _ {P : Type 0} (h : ℕ) (Is : P → Region → Type 0) (o : Order) where
       (item : List ℕ) × (pad : List ℕ) × (rest : List ℕ) × IsPiece o h 2 left item pad rest × Is p (record { order = o; place = place; left = left })
       × IsWalk (place + length item + length pad) rest ps
   IsWalk place left (Err f ∷ ps) = (f.place ≡ place) × (broken_length o h 2 left ≡ Some f.reason) × (ps ≡ [])
+
+-- the bytes that the items occupy
+abbrev pub spans_of : {P : Type 0} → (P → ℕ) → List (Result P Fault) → ℕ
+spans_of span [] = 0
+spans_of span (Ok p ∷ ps) = span p + spans_of span ps
+spans_of span (Err f ∷ ps) = spans_of span ps
+
+-- the item lies in the bytes, and its payload, behind its head of h bytes, is that part of them
+pub record LiesIn (bytes : List ℕ) (h place span : ℕ) (payload : List ℕ) : Type 0 where
+  pub within : place + span ≤ length bytes
+  pub holds : h + length payload ≤ span
+  pub part : payload ≡ take (length payload) (drop (place + h) bytes)
+
+abbrev pub EachLies : {P : Type 0} → (P → Type 0) → List (Result P Fault) → Type 0
+EachLies Lies [] = Unit {0}
+EachLies Lies (Ok p ∷ ps) = Lies p × EachLies Lies ps
+EachLies Lies (Err f ∷ ps) = EachLies Lies ps

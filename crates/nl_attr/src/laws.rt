@@ -36,11 +36,12 @@ pub fn fits_or_fault()
 {}
 
 /// The visits of a region, up to any place, are no more than its length once for each level that is left.
-pub fn visits_bound()
+pub fn visits_are_bounded()
     ensures { (s : Shape) (ctx : Ctx) (l place : ℕ) (bytes : List ℕ) (q total : ℕ) → l ≤ s.depth → Visits s (start_of ctx l place bytes) q total → total ≤ (s.depth - l + 1) * length bytes }
 {}
 
-/// The visits up to a place have one sum.
+/// The visits up to a place, behind faults too, have a sum, and one alone.
 pub fn one_sum()
-    ensures { (s : Shape) (start : Head) (q a b : ℕ) → Visits s start q a → Visits s start q b → a ≡ b }
+    ensures some { (s : Shape) (start : Head) (q : ℕ) → (total : ℕ) × Visits s start q total }
+    ensures only { (s : Shape) (start : Head) (q a b : ℕ) → Visits s start q a → Visits s start q b → a ≡ b }
 {}

@@ -1,4 +1,5 @@
-//! Attributes of netlink messages.
+//! Attributes of netlink messages (netlink(7), rtnetlink(7)): walkers, trees, reading, and the laws of
+//! regions.
 #![tactic(auto)]
 
 mod fault;
@@ -9,7 +10,6 @@ mod payload;
 mod reading;
 mod stack;
 mod tree;
-mod uses;
 mod views;
 mod walk;
 

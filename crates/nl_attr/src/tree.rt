@@ -1,3 +1,5 @@
+//! Attributes, what they hold, and next hops.
+
 ghost use Rattle.std.specs.Prelude.{◌≡◌};
 ghost use Rattle.nl_attr.specs.Tree.{holds_of};
 
@@ -6,28 +8,42 @@ use crate::payload::Payload;
 /// The two flag bits of an attribute's type.
 #[derive(Clone, Copy, Debug, PartialEq, Eq)]
 pub struct AttrFlags {
+    /// `NLA_F_NESTED`, 0x8000.
     pub nested: bool,
+    /// `NLA_F_NET_BYTEORDER`, 0x4000. It is kept and changes nothing that is read.
     pub net: bool,
 }
 
+/// Where an attribute stands, which says what its number means.
 #[derive(Clone, Copy, Debug, PartialEq, Eq)]
 pub enum Ctx {
+    /// `IFLA_*` of a link.
     Link,
+    /// `IFLA_INFO_*` in a link's `IFLA_LINKINFO`.
     LinkInfo,
+    /// `IFA_*` of an address.
     Addr,
+    /// `RTA_*` of a route, and of each of its next hops.
     Route,
+    /// `RTAX_*` in a route's `RTA_METRICS`.
     Metrics,
+    /// `NDA_*` of a neighbour.
     Neigh,
+    /// Any other list.
     Plain,
 }
 
+/// What the payload of an attribute is.
 #[derive(Clone, Copy, Debug, PartialEq, Eq)]
 pub enum Content {
     Bytes,
+    /// Attributes of this context.
     List(Ctx),
+    /// Next hops, `rtnexthop`, whose attributes have the context of routes.
     Hops,
 }
 
+/// An attribute, `rtattr`: its number below 16,384, its two flag bits, and its value.
 #[cycle(tree)]
 #[derive(Debug, Drop, PartialEq, Eq)]
 pub struct Attr {
@@ -36,6 +52,7 @@ pub struct Attr {
     pub value: Value,
 }
 
+/// What an attribute holds.
 #[cycle(tree)]
 #[derive(Debug, Drop, PartialEq, Eq)]
 pub enum Value {
@@ -44,6 +61,8 @@ pub enum Value {
     Hops(Vec<Hop>),
 }
 
+/// A next hop, `rtnexthop`: flags, hops (the weight less one), the index of the interface, and
+/// attributes.
 #[cycle(tree)]
 #[derive(Debug, Drop, PartialEq, Eq)]
 pub struct Hop {
@@ -53,7 +72,9 @@ pub struct Hop {
     pub attrs: Vec<Attr>,
 }
 
-/// What an attribute holds.
+/// What an attribute holds, the first line that applies: `RTA_MULTIPATH` of a route next hops,
+/// `IFLA_LINKINFO` of a link and `RTA_METRICS` of a route a list, whatever their flags; a nested one
+/// a plain list; any other bytes.
 pub fn holds(ctx: Ctx, number: u16, flags: AttrFlags) -> Content
     ensures { result ≡ holds_of ctx number flags }
 {

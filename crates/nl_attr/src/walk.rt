@@ -1,3 +1,5 @@
+//! Walks over the attributes or the next hops of a region, which allocate nothing.
+
 ghost use Rattle.std.specs.Prelude.{◌≡◌, ◌+◌, ◌≤◌, ◌<◌, ◌^◌, length, MatchResult, Ok};
 ghost use Rattle.nl_attr.specs.Numbers.{aligned, len_of, span_of};
 ghost use Rattle.nl_attr.specs.Walk.{HeadIs, IsHopPart, index_of};
@@ -7,7 +9,7 @@ use crate::order::Order;
 use crate::tree::AttrFlags;
 use std::marker::Model;
 
-/// The least multiple of 4 that is not below `n`.
+/// The least multiple of 4 that is not below `n` (`NLMSG_ALIGN`, `RTA_ALIGN`).
 pub fn align4(n: u32) -> u32
     requires { n ≤ 4294967292 }
     ensures { result ≡ aligned n }
@@ -15,7 +17,7 @@ pub fn align4(n: u32) -> u32
     (n + 3) / 4 * 4
 }
 
-/// The length that the head at the front says, where it is as least `min` and within the bytes.
+/// The length that the head at the front says, where it is at least `min` and within the bytes.
 fn head_len(order: Order, left: &[u8], min: usize) -> Result<usize, Reason>
     requires { 2 ≤ min }
     ensures { HeadIs order min 2 left.now result }
@@ -41,14 +43,18 @@ fn index_at(order: Order, left: &[u8]) -> i32
 /// An attribute as it lies in its region.
 #[derive(Clone, Copy, Debug)]
 pub struct Part<'a> {
+    /// The type without its two flag bits: below 16,384.
     pub number: u16,
     pub flags: AttrFlags,
+    /// The place of its head, counted from the region's start.
     pub place: u32,
+    /// How many bytes it occupies: head, payload, and the padding as far as present.
     pub span: u32,
     pub payload: &'a [u8],
 }
 
-/// Goes over the attributes of a region.
+/// Goes over the attributes of a region, in the order of their places. After the last it answers
+/// None; where no whole attribute stands at the front of what is left, the fault, and then None.
 #[derive(Debug, Drop)]
 pub struct Attrs<'a> {
     order: Order,
@@ -69,26 +75,36 @@ impl<'a> Model for Attrs<'a> {
 
 impl<'a> Attrs<'a> {
     ghost use Rattle.std.specs.Prelude.{List, Result};
-    ghost use Rattle.std.specs.Iterator.{Drains};
+    ghost use Rattle.std.specs.Iterator.{Yields, Drains};
     ghost use Rattle.nl_attr.specs.declared.fault.Fault.{Fault};
     ghost use Rattle.nl_attr.specs.declared.walk.Part.{Part};
     ghost use Rattle.nl_attr.specs.Walk.{GivesPart, IsPart};
-    ghost use Rattle.nl_attr.specs.Walk.{IsWalk};
+    ghost use Rattle.nl_attr.specs.Walk.{Region, IsWalk, EachLies, LiesIn, spans_of};
 
+    /// A walk over a region whose numbers have their lowest byte first.
     pub fn of(bytes: &'a [u8]) -> Self
         requires { length bytes.now ≤ 1048576 }
         ensures start { result ≡ record { order = Order.Little; place = 0; left = bytes.now } }
         // What comes is the pieces of the bytes in their order, then the fault of what is no piece.
         ensures walk { (parts : List (Result Part Fault)) → Drains GivesPart result parts → IsWalk 4 IsPart Order.Little 0 bytes.now parts }
+        // They lie in the bytes, and so do their payloads.
+        ensures inside { (parts : List (Result Part Fault)) (walk : Region) → Yields GivesPart result parts walk → EachLies (λ p. LiesIn bytes.now 4 p.place p.span p.payload.now) parts }
+        // Where the walk stands then is the sum of their spans.
+        ensures seen { (parts : List (Result Part Fault)) (walk : Region) → Yields GivesPart result parts walk → walk.place ≡ spans_of (λ p. p.span) parts }
     {
         Attrs::of_ordered(bytes, Order::Little)
     }
 
+    /// A walk over a region whose numbers are in this order.
     pub fn of_ordered(bytes: &'a [u8], order: Order) -> Self
         requires { length bytes.now ≤ 1048576 }
         ensures start { result ≡ record { order = order; place = 0; left = bytes.now } }
         // What comes is the pieces of the bytes in their order, then the fault of what is no piece.
         ensures walk { (parts : List (Result Part Fault)) → Drains GivesPart result parts → IsWalk 4 IsPart order 0 bytes.now parts }
+        // They lie in the bytes, and so do their payloads.
+        ensures inside { (parts : List (Result Part Fault)) (walk : Region) → Yields GivesPart result parts walk → EachLies (λ p. LiesIn bytes.now 4 p.place p.span p.payload.now) parts }
+        // Where the walk stands then is the sum of their spans.
+        ensures seen { (parts : List (Result Part Fault)) (walk : Region) → Yields GivesPart result parts walk → walk.place ≡ spans_of (λ p. p.span) parts }
     {
         Attrs {
             order,
@@ -97,6 +113,7 @@ impl<'a> Attrs<'a> {
         }
     }
 
+    /// The sum of the spans that were handed out.
     pub fn seen(&self) -> u64
         ensures { result ≡ self.now.place }
     {
@@ -152,8 +169,11 @@ pub struct HopPart<'a> {
     pub flags: u8,
     pub hops: u8,
     pub ifindex: i32,
+    /// The place of its head, counted from the region's start.
     pub place: u32,
+    /// How many bytes it occupies: head, attributes, and the padding as far as present.
     pub span: u32,
+    /// The region of its attributes.
     pub rest: &'a [u8],
 }
 
@@ -174,7 +194,7 @@ fn hop_part(order: Order, left: &[u8], len: usize, place: u32, span: u32) -> Hop
     }
 }
 
-/// Goes over the next hops of a region.
+/// Goes over the next hops of a region, in the order of their places, and ends as `Attrs` does.
 #[derive(Debug, Drop)]
 pub struct HopParts<'a> {
     order: Order,
@@ -195,26 +215,36 @@ impl<'a> Model for HopParts<'a> {
 
 impl<'a> HopParts<'a> {
     ghost use Rattle.std.specs.Prelude.{List, Result};
-    ghost use Rattle.std.specs.Iterator.{Drains};
+    ghost use Rattle.std.specs.Iterator.{Yields, Drains};
     ghost use Rattle.nl_attr.specs.declared.fault.Fault.{Fault};
     ghost use Rattle.nl_attr.specs.declared.walk.HopPart.{HopPart};
     ghost use Rattle.nl_attr.specs.Walk.{GivesHop};
-    ghost use Rattle.nl_attr.specs.Walk.{IsWalk};
+    ghost use Rattle.nl_attr.specs.Walk.{Region, IsWalk, EachLies, LiesIn, spans_of};
 
+    /// A walk over a region whose numbers have their lowest byte first.
     pub fn of(bytes: &'a [u8]) -> Self
         requires { length bytes.now ≤ 1048576 }
         ensures start { result ≡ record { order = Order.Little; place = 0; left = bytes.now } }
         // What comes is the pieces of the bytes in their order, then the fault of what is no piece.
         ensures walk { (parts : List (Result HopPart Fault)) → Drains GivesHop result parts → IsWalk 8 IsHopPart Order.Little 0 bytes.now parts }
+        // They lie in the bytes, and so do their payloads.
+        ensures inside { (parts : List (Result HopPart Fault)) (walk : Region) → Yields GivesHop result parts walk → EachLies (λ p. LiesIn bytes.now 8 p.place p.span p.rest.now) parts }
+        // Where the walk stands then is the sum of their spans.
+        ensures seen { (parts : List (Result HopPart Fault)) (walk : Region) → Yields GivesHop result parts walk → walk.place ≡ spans_of (λ p. p.span) parts }
     {
         HopParts::of_ordered(bytes, Order::Little)
     }
 
+    /// A walk over a region whose numbers are in this order.
     pub fn of_ordered(bytes: &'a [u8], order: Order) -> Self
         requires { length bytes.now ≤ 1048576 }
         ensures start { result ≡ record { order = order; place = 0; left = bytes.now } }
         // What comes is the pieces of the bytes in their order, then the fault of what is no piece.
         ensures walk { (parts : List (Result HopPart Fault)) → Drains GivesHop result parts → IsWalk 8 IsHopPart order 0 bytes.now parts }
+        // They lie in the bytes, and so do their payloads.
+        ensures inside { (parts : List (Result HopPart Fault)) (walk : Region) → Yields GivesHop result parts walk → EachLies (λ p. LiesIn bytes.now 8 p.place p.span p.rest.now) parts }
+        // Where the walk stands then is the sum of their spans.
+        ensures seen { (parts : List (Result HopPart Fault)) (walk : Region) → Yields GivesHop result parts walk → walk.place ≡ spans_of (λ p. p.span) parts }
     {
         HopParts {
             order,
@@ -223,6 +253,7 @@ impl<'a> HopParts<'a> {
         }
     }
 
+    /// The sum of the spans that were handed out.
     pub fn seen(&self) -> u64
         ensures { result ≡ self.now.place }
     {

@@ -75,7 +75,7 @@ taken (w ∷ ws) v (inr h) =
     let r = taken ws v h in
     (w ∷ r.0, omega (arith, r.1), λ x g ne. elim g [ inl f ↦ inl f | inr t ↦ inr (r.2 x t ne) ])
 
-rises_later : (p m : ℕ) (vs : List (ℕ × ℕ)) (x : ℕ × ℕ) → Rises p m vs → Has vs x → p ≤ x.0
+pub rises_later : (p m : ℕ) (vs : List (ℕ × ℕ)) (x : ℕ × ℕ) → Rises p m vs → Has vs x → p ≤ x.0
 rises_later p m [] x h g = absurd g
 rises_later p m (v ∷ vs) x h (inl e) = omega (arith, h.0, ap (λ (y : ℕ × ℕ). y.0) e)
 rises_later p m (v ∷ vs) x h (inr g) = omega (arith, h.0, rises_later (suc v.0) m vs x h.2 g)

@@ -68,7 +68,7 @@ Rises-to p m n [] le h = omega arith
 Rises-to p m n (v ∷ vs) le h = (h.0, omega (arith, h.1), Rises-to (suc v.0) m n vs le h.2)
 
 -- a visit within what begins at h is one within what begins at s
-visited_then : (S : Shape) (s h : Head) (v : ℕ × ℕ) → HeadAt S s h → Visited S h v → Visited S s v
+pub visited_then : (S : Shape) (s h : Head) (v : ℕ × ℕ) → HeadAt S s h → Visited S h v → Visited S s v
 visited_then S s h v p k = (k.0, head_then S s h k.0 p k.1, k.2, k.3, k.4)
 
 empty_covers : (S : Shape) (s : Head) → s.left ≡ [] → Covers S s ([], None)
@@ -94,7 +94,7 @@ pub record Inside (S : Shape) (s : Head) (i : Scan) : Type 0 where
   pub every : (v : ℕ × ℕ) (k : Head) → inner_of S s ≡ Some k → Visited S k v → UpTo i.1 v.0 → Has i.0 v
   pub ends : EndsIn (suc s.place) (s.place + span_of S.order 2 s.left) i.1
 
-item_bounds : (S : Shape) (s k : Head) → broken S s ≡ None → inner_of S s ≡ Some k → (suc s.place ≤ k.place) × (k.place + length k.left ≤ s.place + span_of S.order 2 s.left)
+pub item_bounds : (S : Shape) (s k : Head) → broken S s ≡ None → inner_of S s ≡ Some k → (suc s.place ≤ k.place) × (k.place + length k.left ≤ s.place + span_of S.order 2 s.left)
 item_bounds S s k e is =
     let w = sound_within S.order (least s.sort) 2 s.left (sound_of S s.sort s.ctx s.level s.left e) in
     let at = inner_at_place S s.sort s.place s.ctx s.level s.left k is in

@@ -1,17 +1,19 @@
 -- All that a walk gives is its pieces in order, and then its end or its fault.
-use Rattle.std.proofs.Common.{◌≡◌, ◌≢◌, ℕ, ◌+◌, ◌<◌, ◌≤◌, List, [], ◌∷◌, ◌++◌, length, take, drop, get_or, Option, Some, None, Result, Ok, Err, refl, sym, ap, subst, ◌∙◌, arith, add_assoc, length-drop}
-use Rattle.std.specs.Iterator.{Drains}
-use Rattle.std.proofs.lemmas.List.{length-take, get_or-drop}
+use Rattle.std.proofs.Common.{◌≡◌, ◌≢◌, ℕ, ◌+◌, ◌<◌, ◌≤◌, List, [], ◌∷◌, ◌++◌, length, take, drop, get_or, Option, Some, None, Result, Ok, Err, refl, sym, ap, subst, ◌∙◌, arith, ◌⊎◌, inl, inr, add_assoc, length-drop}
+use Rattle.std.specs.Iterator.{Yields, Drains}
+use Rattle.std.proofs.lemmas.List.{length-take, get_or-drop, drop-take, drop-drop}
 use Rattle.nl_attr.specs.declared.fault.Fault.{Fault}
+use Rattle.nl_attr.specs.declared.walk.Part.{Part}
+use Rattle.nl_attr.specs.declared.walk.HopPart.{HopPart}
 use Rattle.nl_attr.specs.declared.order.Order.{Order}
 use Rattle.nl_attr.specs.Shape.{Shape}
 use Rattle.nl_attr.specs.Numbers.{AreBytes, len_of, span_of}
 use Rattle.nl_attr.specs.Walk.{Region}
-use Rattle.nl_attr.specs.Walk.{Gives, broken_length, after, ended}
+use Rattle.nl_attr.specs.Walk.{Gives, broken_length, payload_of, after, ended, IsPart, IsHopPart, spans_of, LiesIn, EachLies}
 use Rattle.nl_attr.specs.Layout.{IsPiece}
 use Rattle.nl_attr.specs.Walk.{IsWalk}
 use Rattle.nl_attr.proofs.Lemmas.Numbers.{bytes_drop}
-use Rattle.nl_attr.proofs.Lemmas.Reading.{sound_within, span_at_least}
+use Rattle.nl_attr.proofs.Lemmas.Reading.{sound_within, span_at_least, payload_length}
 use Rattle.nl_attr.proofs.Lemmas.Scan.{span_within}
 use Rattle.nl_attr.proofs.Lemmas.Pieces.{piece_at}
 
@@ -42,3 +44,61 @@ walk_is h Is r (Ok p ∷ ps) four fits d =
 walk_is h Is r (Err f ∷ ps) four fits d =
     let step = d.1.1.1 in
     (step.2, step.1, nothing_more h Is d.1.1.0 ps (ap (λ (x : Region). x.left) step.3) (d.0, (d.1.0, d.1.1.2, d.1.2)))
+
+-- ---- what was handed out so far
+
+lies_here : (o : Order) (h : ℕ) (bytes left : List ℕ) (place : ℕ) → broken_length o h 2 left ≡ None → left ≡ drop place bytes → place ≤ length bytes → LiesIn bytes h place (span_of o 2 left) (payload_of o h 2 left)
+lies_here o h bytes left place e at le =
+    let w = sound_within o h 2 left e in
+    let size = payload_length o h 2 left w in
+    let len : length left + place ≡ length bytes = omega (arith, ap (length {A = ℕ}) at, length-drop place bytes) in
+    record {
+      within = omega (arith, span_within o 2 left, len);
+      holds = omega (arith, size, span_at_least o 2 left w.high);
+      part = payload_take o h left (length (payload_of o h 2 left)) w.low (omega arith) ∙ ap (take (length (payload_of o h 2 left))) (ap (drop h) at ∙ drop-drop h place bytes);
+    } where
+      payload_take : (o : Order) (h : ℕ) (left : List ℕ) (n : ℕ) → h ≤ len_of o 2 left → n + h ≡ len_of o 2 left → payload_of o h 2 left ≡ take n (drop h left)
+      payload_take o h left n low e = let k : len_of o 2 left ≡ h + n = omega arith in ap (λ (m : ℕ). drop h (take m left)) k ∙ drop-take h n left
+
+-- a walk stands at what is left of the bytes, or at its end
+abbrev pub Stands : List ℕ → Region → Type 0
+Stands bytes r = (r.place ≤ length bytes) × ((r.left ≡ []) ⊎ (r.left ≡ drop r.place bytes))
+
+-- what a part says of its place in the region
+pub record Placed {P : Type 0} (h : ℕ) (Is : P → Region → Type 0) (place span : P → ℕ) (payload : P → List ℕ) : Type 0 where
+  pub place_is : (p : P) (r : Region) → Is p r → place p ≡ r.place
+  pub span_is : (p : P) (r : Region) → Is p r → span p ≡ span_of r.order 2 r.left
+  pub payload_is : (p : P) (r : Region) → Is p r → payload p ≡ payload_of r.order h 2 r.left
+
+module _ {P : Type 0} {h : ℕ} {Is : P → Region → Type 0} {place span : P → ℕ} {payload : P → List ℕ} (placed : Placed h Is place span payload) where
+  -- the place is the sum of the spans
+  pub seen_is : (r s : Region) (ps : List (Result P Fault)) → Yields (Gives h Is) r ps s → s.place ≡ r.place + spans_of span ps
+  seen_is r s [] y = omega (arith, ap (λ (x : Region). x.place) y)
+  seen_is r s (Ok p ∷ ps) y = omega (arith, seen_is y.0 s ps y.2, ap (λ (x : Region). x.place) y.1.3, placed.span_is p r y.1.2)
+  seen_is r s (Err f ∷ ps) y = omega (arith, seen_is y.0 s ps y.2, ap (λ (x : Region). x.place) y.1.3)
+
+  -- the parts lie in the bytes
+  pub each_lies : (bytes : List ℕ) (r s : Region) (ps : List (Result P Fault)) → Stands bytes r → Yields (Gives h Is) r ps s → EachLies (λ p. LiesIn bytes h (place p) (span p) (payload p)) ps
+  each_lies bytes r s [] at y = tt
+  each_lies bytes r s (Ok p ∷ ps) at y =
+      let left : r.left ≡ drop r.place bytes = elim at.1 [ inl none ↦ absurd (y.1.0 none) | inr e ↦ e ] in
+      let e = y.1.1.0 in
+      let n = span_of r.order 2 r.left in
+      let lies = lies_here r.order h bytes r.left r.place e left at.0 in
+      let next : Stands bytes (after r) = (lies.within, inr (ap (drop n) left ∙ drop-drop n r.place bytes)) in (
+        lies_same (placed.place_is p r y.1.2) (placed.span_is p r y.1.2) (placed.payload_is p r y.1.2) lies,
+        each_lies bytes y.0 s ps (subst (Stands bytes) (sym y.1.3) next) y.2,
+      ) where
+        lies_same : {a b c d : ℕ} {xs ys : List ℕ} → a ≡ b → c ≡ d → xs ≡ ys → LiesIn bytes h b d ys → LiesIn bytes h a c xs
+        lies_same f g k l = rw (f, g, k) l
+  each_lies bytes r s (Err f ∷ ps) at y = each_lies bytes y.0 s ps (subst (Stands bytes) (sym y.1.3) (at.0, inl refl)) y.2
+
+pub part_placed : Placed 4 IsPart (λ (p : Part). p.place) (λ p. p.span) (λ p. p.payload.now)
+part_placed = record { place_is = λ p r i. i.place; span_is = λ p r i. i.span; payload_is = λ p r i. i.payload }
+
+pub hop_placed : Placed 8 IsHopPart (λ (p : HopPart). p.place) (λ p. p.span) (λ p. p.rest.now)
+hop_placed = record { place_is = λ p r i. i.place; span_is = λ p r i. i.span; payload_is = λ p r i. i.rest }
+
+-- a walk that begins stands at the bytes
+pub begins_at : (o : Order) (bytes : List ℕ) → Stands bytes (record { order = o; place = 0; left = bytes })
+begins_at o bytes = (omega arith, inr refl)
