@@ -21,6 +21,3 @@ pub use reading::{read_list, read_list_ordered};
 pub use tree::{Attr, AttrFlags, Content, Ctx, Hop, Value, holds};
 pub use views::find;
 pub use walk::{Attrs, HopPart, HopParts, Part, align4};
-
-#[cfg(test)]
-mod tests;

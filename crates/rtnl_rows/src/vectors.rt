@@ -1,0 +1,100 @@
+//! The bytes and trees that several tests share.
+
+ghost use Rattle.std.specs.Prelude.{◌≤◌, IfOk, vec_len};
+
+use nl_attr::{Attr, AttrFlags, Hop, Payload, Value};
+use std::alloc::{AllocError, Global};
+use std::test::Fail;
+
+/// The longest region or datagram that is read.
+pub const LONGEST: usize = 1_048_576;
+
+/// The bytes of hexadecimal text, in which blanks are for reading.
+pub fn bytes_of(alloc: Global, text: &str) -> Result<Vec<u8>, Fail>
+    ensures { IfOk result (λ v. vec_len v ≤ LONGEST) }
+{
+    let digits: Vec<u8> = text.bytes().filter(|c| *c != b' ').collect(alloc)?;
+    let bytes = hex::decode(alloc, digits.as_slice())?;
+    if bytes.len() > LONGEST {
+        return Err(Fail::new("too long"));
+    }
+    Ok(bytes)
+}
+
+/// The same with zero bytes after them.
+pub fn bytes_and_zeros(alloc: Global, text: &str, zeros: usize) -> Result<Vec<u8>, Fail>
+    ensures { IfOk result (λ v. vec_len v ≤ LONGEST) }
+{
+    let mut bytes = bytes_of(alloc, text)?;
+    for _ in 0..zeros {
+        bytes.push(0)?;
+    }
+    if bytes.len() > LONGEST {
+        return Err(Fail::new("too long"));
+    }
+    Ok(bytes)
+}
+
+pub const PLAIN: AttrFlags = AttrFlags {
+    nested: false,
+    net: false,
+};
+
+pub const NESTED: AttrFlags = AttrFlags {
+    nested: true,
+    net: false,
+};
+
+/// An attribute of bytes.
+pub fn leaf(alloc: Global, number: u16, bytes: &[u8]) -> Result<Attr, AllocError> {
+    Ok(Attr {
+        number,
+        flags: PLAIN,
+        value: Value::Bytes(Payload::from_slice(alloc, bytes)?),
+    })
+}
+
+/// An attribute of one other.
+pub fn list_of(alloc: Global, number: u16, flags: AttrFlags, attr: Attr) -> Result<Attr, AllocError> {
+    let mut attrs = Vec::new(alloc);
+    attrs.push(attr)?;
+    Ok(Attr {
+        number,
+        flags,
+        value: Value::List(attrs),
+    })
+}
+
+/// A next hop by a gateway.
+pub fn gateway(alloc: Global, hops: u8, ifindex: i32, address: [u8; 4]) -> Result<Hop, AllocError> {
+    let mut attrs = Vec::new(alloc);
+    attrs.push(leaf(alloc, 5, &address)?)?;
+    Ok(Hop {
+        flags: 0,
+        hops,
+        ifindex,
+        attrs,
+    })
+}
+
+/// The multipath attribute of two next hops, by 192.0.2.1 and 192.0.2.2.
+pub fn two_hops(alloc: Global) -> Result<Vec<Attr>, AllocError> {
+    let mut hops = Vec::new(alloc);
+    hops.push(gateway(alloc, 0, 2, [192, 0, 2, 1])?)?;
+    hops.push(gateway(alloc, 1, 3, [192, 0, 2, 2])?)?;
+    let mut attrs = Vec::new(alloc);
+    attrs.push(Attr {
+        number: 9,
+        flags: PLAIN,
+        value: Value::Hops(hops),
+    })?;
+    Ok(attrs)
+}
+
+/// The region of those two next hops.
+pub const TWO_HOPS: &str =
+    "24000900 10000000 02000000 08000500 c0000201 10000001 03000000 08000500 c0000202";
+
+/// The same with the highest byte of a number first.
+pub const TWO_HOPS_BIG: &str =
+    "00240009 00100000 00000002 00080005 c0000201 00100001 00000003 00080005 c0000202";
