@@ -9,10 +9,11 @@ use Rattle.nl_route.specs.declared.rtmsg.RouteHead.{RouteHead}
 use Rattle.nl_route.specs.declared.ndmsg.NeighHead.{NeighHead}
 use Rattle.nl_route.specs.Fields.{Field, byte, number, signed, pad}
 
--- ifinfomsg, 16 bytes
+-- the fields of ifinfomsg, 16 bytes
 abbrev pub link_fields : LinkHead → List Field
 link_fields h = byte h.family ∷ pad 1 ∷ number 2 h.hardware ∷ signed h.index ∷ number 4 h.flags ∷ number 4 h.change ∷ []
 
+-- what is read of the bytes of ifinfomsg
 abbrev pub link_of : Order → List ℕ → LinkHead
 link_of o bytes = record {
   family = slice_index bytes 0;
@@ -22,10 +23,11 @@ link_of o bytes = record {
   change = number_of o 4 (drop 12 bytes);
 }
 
--- ifaddrmsg, 8 bytes
+-- the fields of ifaddrmsg, 8 bytes
 abbrev pub addr_fields : AddrHead → List Field
 addr_fields h = byte h.family ∷ byte h.prefixlen ∷ byte h.flags ∷ byte h.scope ∷ number 4 h.index ∷ []
 
+-- what is read of the bytes of ifaddrmsg
 abbrev pub addr_of : Order → List ℕ → AddrHead
 addr_of o bytes = record {
   family = slice_index bytes 0;
@@ -35,10 +37,11 @@ addr_of o bytes = record {
   index = number_of o 4 (drop 4 bytes);
 }
 
--- rtmsg, 12 bytes
+-- the fields of rtmsg, 12 bytes
 abbrev pub route_fields : RouteHead → List Field
 route_fields h = byte h.family ∷ byte h.dst_len ∷ byte h.src_len ∷ byte h.tos ∷ byte h.table ∷ byte h.protocol ∷ byte h.scope ∷ byte h.sort ∷ number 4 h.flags ∷ []
 
+-- what is read of the bytes of rtmsg
 abbrev pub route_of : Order → List ℕ → RouteHead
 route_of o bytes = record {
   family = slice_index bytes 0;
@@ -52,10 +55,11 @@ route_of o bytes = record {
   flags = number_of o 4 (drop 8 bytes);
 }
 
--- ndmsg, 12 bytes
+-- the fields of ndmsg, 12 bytes
 abbrev pub neigh_fields : NeighHead → List Field
 neigh_fields h = byte h.family ∷ pad 1 ∷ pad 2 ∷ signed h.ifindex ∷ number 2 h.state ∷ byte h.flags ∷ byte h.sort ∷ []
 
+-- what is read of the bytes of ndmsg
 abbrev pub neigh_of : Order → List ℕ → NeighHead
 neigh_of o bytes = record {
   family = slice_index bytes 0;

@@ -27,16 +27,18 @@ items_in (bytes bs) = no_items
 items_in (list is) = is
 items_in (hops hs) = no_items
 
--- the next hops that a value holds, none where it holds no hops
+-- the same of an attribute, where there is one
+abbrev pub items_by : Option Entry → Items
+items_by None = no_items
+items_by (Some e) = items_in e.value
+
+-- the next hops that a value holds, none where it holds none
 abbrev pub hops_in : Val → HopItems
 hops_in (bytes bs) = no_hops
 hops_in (list is) = no_hops
 hops_in (hops hs) = hs
 
-abbrev pub items_by : Option Entry → Items
-items_by None = no_items
-items_by (Some e) = items_in e.value
-
+-- the same of an attribute, where there is one
 abbrev pub hops_by : Option Entry → HopItems
 hops_by None = no_hops
 hops_by (Some e) = hops_in e.value

@@ -159,14 +159,14 @@ impl Addr {
         bytes_of(&self.attrs, BROADCAST)
     }
 
-    /// All flags: `IFA_FLAGS`, or the head's where there is no such number.
+    /// All flags: `IFA_FLAGS`, its lowest byte first, or the head's where there is no such number.
     pub fn flags_full(&self) -> u32
         ensures { result ≡ unwrap_or (number_view Order.Little 4 8 (attrs_view self.now.attrs.items)) self.now.head.flags }
     {
         self.flags_full_ordered(Order::Little)
     }
 
-    /// All flags: `IFA_FLAGS` in this order, or the head's where there is no such number.
+    /// All flags: `IFA_FLAGS`, its bytes in this order, or the head's where there is no such number.
     pub fn flags_full_ordered(&self, order: Order) -> u32
         ensures { result ≡ unwrap_or (number_view order 4 8 (attrs_view self.now.attrs.items)) self.now.head.flags }
     {

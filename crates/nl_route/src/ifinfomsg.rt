@@ -140,28 +140,28 @@ impl Link {
         text_of(&self.attrs, INTERFACE_NAME)
     }
 
-    /// The greatest packet in bytes, `IFLA_MTU`.
+    /// The greatest packet in bytes, `IFLA_MTU`, its lowest byte first.
     pub fn mtu(&self) -> Option<u32>
         ensures { result ≡ number_view Order.Little 4 4 (attrs_view self.now.attrs.items) }
     {
         self.mtu_ordered(Order::Little)
     }
 
-    /// The greatest packet in bytes, `IFLA_MTU`, in this order.
+    /// The greatest packet in bytes, `IFLA_MTU`, its bytes in this order.
     pub fn mtu_ordered(&self, order: Order) -> Option<u32>
         ensures { result ≡ number_view order 4 4 (attrs_view self.now.attrs.items) }
     {
         u32_view(&self.attrs, MTU, order)
     }
 
-    /// The index of the interface that this one is a port of, `IFLA_MASTER`.
+    /// The index of the interface that this one is a port of, `IFLA_MASTER`, its lowest byte first.
     pub fn master(&self) -> Option<u32>
         ensures { result ≡ number_view Order.Little 4 10 (attrs_view self.now.attrs.items) }
     {
         self.master_ordered(Order::Little)
     }
 
-    /// The index of the interface that this one is a port of, `IFLA_MASTER`, in this order.
+    /// The index of the interface that this one is a port of, `IFLA_MASTER`, its bytes in this order.
     pub fn master_ordered(&self, order: Order) -> Option<u32>
         ensures { result ≡ number_view order 4 10 (attrs_view self.now.attrs.items) }
     {

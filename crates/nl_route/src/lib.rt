@@ -18,6 +18,3 @@ pub use ifaddrmsg::{Addr, AddrHead};
 pub use ifinfomsg::{Link, LinkHead};
 pub use ndmsg::{Neigh, NeighHead};
 pub use rtmsg::{Route, RouteHead};
-
-#[cfg(test)]
-mod tests;

@@ -145,28 +145,28 @@ impl Neigh {
         bytes_of(&self.attrs, LINK_LAYER_ADDRESS)
     }
 
-    /// The VLAN of a bridge's entry, `NDA_VLAN`.
+    /// The VLAN of a bridge's entry, `NDA_VLAN`, its lowest byte first.
     pub fn vlan(&self) -> Option<u16>
         ensures { result ≡ number_view Order.Little 2 5 (attrs_view self.now.attrs.items) }
     {
         self.vlan_ordered(Order::Little)
     }
 
-    /// The VLAN of a bridge's entry, `NDA_VLAN`, in this order.
+    /// The VLAN of a bridge's entry, `NDA_VLAN`, its bytes in this order.
     pub fn vlan_ordered(&self, order: Order) -> Option<u16>
         ensures { result ≡ number_view order 2 5 (attrs_view self.now.attrs.items) }
     {
         u16_view(&self.attrs, VLAN, order)
     }
 
-    /// The VXLAN network identifier, `NDA_VNI`.
+    /// The VXLAN network identifier, `NDA_VNI`, its lowest byte first.
     pub fn vni(&self) -> Option<u32>
         ensures { result ≡ number_view Order.Little 4 7 (attrs_view self.now.attrs.items) }
     {
         self.vni_ordered(Order::Little)
     }
 
-    /// The VXLAN network identifier, `NDA_VNI`, in this order.
+    /// The VXLAN network identifier, `NDA_VNI`, its bytes in this order.
     pub fn vni_ordered(&self, order: Order) -> Option<u32>
         ensures { result ≡ number_view order 4 7 (attrs_view self.now.attrs.items) }
     {

@@ -189,56 +189,58 @@ impl Route {
         bytes_of(&self.attrs, PREFERRED_SOURCE)
     }
 
-    /// The index of the output interface, `RTA_OIF`.
+    /// The index of the output interface, `RTA_OIF`, its lowest byte first.
     pub fn oif(&self) -> Option<u32>
         ensures { result ≡ number_view Order.Little 4 4 (attrs_view self.now.attrs.items) }
     {
         self.oif_ordered(Order::Little)
     }
 
-    /// The index of the output interface, `RTA_OIF`, in this order.
+    /// The index of the output interface, `RTA_OIF`, its bytes in this order.
     pub fn oif_ordered(&self, order: Order) -> Option<u32>
         ensures { result ≡ number_view order 4 4 (attrs_view self.now.attrs.items) }
     {
         u32_view(&self.attrs, OUTPUT_INTERFACE, order)
     }
 
-    /// The index of the input interface, `RTA_IIF`.
+    /// The index of the input interface, `RTA_IIF`, its lowest byte first.
     pub fn iif(&self) -> Option<u32>
         ensures { result ≡ number_view Order.Little 4 3 (attrs_view self.now.attrs.items) }
     {
         self.iif_ordered(Order::Little)
     }
 
-    /// The index of the input interface, `RTA_IIF`, in this order.
+    /// The index of the input interface, `RTA_IIF`, its bytes in this order.
     pub fn iif_ordered(&self, order: Order) -> Option<u32>
         ensures { result ≡ number_view order 4 3 (attrs_view self.now.attrs.items) }
     {
         u32_view(&self.attrs, INPUT_INTERFACE, order)
     }
 
-    /// The priority of the route, the least first, `RTA_PRIORITY`.
+    /// The priority of the route, `RTA_PRIORITY`, its lowest byte first.
     pub fn priority(&self) -> Option<u32>
         ensures { result ≡ number_view Order.Little 4 6 (attrs_view self.now.attrs.items) }
     {
         self.priority_ordered(Order::Little)
     }
 
-    /// The priority of the route, the least first, `RTA_PRIORITY`, in this order.
+    /// The priority of the route, `RTA_PRIORITY`, its bytes in this order.
     pub fn priority_ordered(&self, order: Order) -> Option<u32>
         ensures { result ≡ number_view order 4 6 (attrs_view self.now.attrs.items) }
     {
         u32_view(&self.attrs, PRIORITY, order)
     }
 
-    /// The routing table: `RTA_TABLE`, or the head's where there is no such number.
+    /// The routing table: `RTA_TABLE`, its lowest byte first, or the head's where there is no such
+    /// number.
     pub fn table_id(&self) -> u32
         ensures { result ≡ unwrap_or (number_view Order.Little 4 15 (attrs_view self.now.attrs.items)) self.now.head.table }
     {
         self.table_id_ordered(Order::Little)
     }
 
-    /// The routing table: `RTA_TABLE` in this order, or the head's where there is no such number.
+    /// The routing table: `RTA_TABLE`, its bytes in this order, or the head's where there is no such
+    /// number.
     pub fn table_id_ordered(&self, order: Order) -> u32
         ensures { result ≡ unwrap_or (number_view order 4 15 (attrs_view self.now.attrs.items)) self.now.head.table }
     {

@@ -2,6 +2,18 @@
 #![tactic(auto)]
 
 #[cfg(test)]
+mod datagrams;
+#[cfg(test)]
+mod families;
+#[cfg(test)]
+mod hostile;
+#[cfg(test)]
+mod numbers;
+#[cfg(test)]
 mod regions;
 #[cfg(test)]
+mod trees;
+#[cfg(test)]
 mod vectors;
+#[cfg(test)]
+mod walkers;

@@ -1,6 +1,6 @@
-//! Regions of attributes: walkers, trees, first faults and visits, in both byte orders.
+//! Regions of attributes: what is read, first faults and visits, in both byte orders.
 
-use crate::vectors::{TWO_HOPS, bytes_and_zeros};
+use crate::vectors::{TWO_HOPS, TWO_HOPS_BIG, bytes_and_zeros};
 use nl_attr::{Ctx, Depth, Fault, ListError, Order, Reason, read_list_ordered};
 use std::alloc::Global;
 use std::process::Abort;
@@ -10,7 +10,8 @@ use std::test::Fail;
 /// and the reason of the fault; and the visits.
 #[derive(Drop)]
 struct Case {
-    bytes: &'static str,
+    little: &'static str,
+    big: &'static str,
     zeros: usize,
     base: u32,
     ctx: Ctx,
@@ -20,7 +21,10 @@ struct Case {
 }
 
 fn check(rt: &impl Abort, alloc: Global, order: Order, case: &Case) -> Result<(), Fail> {
-    let text = case.bytes;
+    let text = match order {
+        Order::Little => case.little,
+        Order::Big => case.big,
+    };
     let bytes = bytes_and_zeros(alloc, text, case.zeros)?;
     let depth = Depth::new(case.depth)?;
     assert!(rt; case.base <= 1_048_576);
@@ -47,60 +51,87 @@ fn check(rt: &impl Abort, alloc: Global, order: Order, case: &Case) -> Result<()
     }
 }
 
-fn cubic() -> Case {
-    Case {
-        bytes: "0d000800 09001000 6375626963 000000",
-        zeros: 0,
-        base: 0,
-        ctx: Ctx::Route,
-        depth: 8,
-        answer: Ok(1),
-        visits: 25,
+fn check_both(rt: &impl Abort, alloc: Global, cases: &[Case]) -> Result<(), Fail> {
+    for case in cases {
+        check(rt, alloc, Order::Little, case)?;
+        check(rt, alloc, Order::Big, case)?;
     }
+    Ok(())
+}
+
+fn at(place: u32, reason: Reason) -> Result<usize, (u32, Reason)> {
+    Err((place, reason))
 }
 
 #[test]
-fn reads_or_refuses_at_the_first_fault(rt: HostRuntime) -> Result<(), Fail> {
-    let at = |place, reason| Err((place, reason));
-    let route = |bytes, depth, answer, visits| Case {
-        bytes,
-        zeros: 0,
-        base: 0,
-        ctx: Ctx::Route,
-        depth,
-        answer,
-        visits,
+fn next_hops_and_metrics(rt: HostRuntime) -> Result<(), Fail> {
+    let route = |little, big, depth, answer, visits| -> Case {
+        Case {
+            little,
+            big,
+            zeros: 0,
+            base: 0,
+            ctx: Ctx::Route,
+            depth,
+            answer,
+            visits,
+        }
     };
-    let plain = |bytes, zeros, depth, answer, visits| Case {
-        bytes,
-        zeros,
-        base: 0,
-        ctx: Ctx::Plain,
-        depth,
-        answer,
-        visits,
+    let hops = |depth, answer, visits| -> Case {
+        Case {
+            base: 28,
+            ..route(TWO_HOPS, TWO_HOPS_BIG, depth, answer, visits)
+        }
     };
-    let nested = "60000180 5c000180 58000180 54000180 50000180 4c000180 48000180 44000180 40000200";
+    let cubic = (
+        "0d000800 09001000 6375626963 000000",
+        "000d0008 00090010 6375626963 000000",
+    );
+    let bad = ("0c000900 07000000 02000000", "000c0009 00070000 00000002");
+    let none = ("04000900", "00040009");
     let cases = [
-        Case { base: 28, ..route(TWO_HOPS, 2, Ok(1), 84) },
-        Case { base: 28, ..route(TWO_HOPS, 1, at(28, Reason::TooDeep), 36) },
-        cubic(),
-        route("0c000900 07000000 02000000", 8, at(4, Reason::BadLength), 12),
-        route("04000900", 1, at(0, Reason::TooDeep), 4),
-        route("04000900", 2, Ok(1), 4),
-        plain("04000180 03000100", 0, 0, at(0, Reason::TooDeep), 4),
-        plain("04000180 03000100", 0, 1, at(4, Reason::BadLength), 4),
-        plain("08000180 03000100 00", 0, 1, at(4, Reason::BadLength), 8),
-        plain(nested, 60, 8, Ok(1), 720),
-        plain(nested, 60, 7, at(28, Reason::TooDeep), 656),
-        plain("fcff0180 f8ff0200", 65_524, 8, Ok(1), 131_060),
-        plain("fdff0180", 65_529, 8, at(0, Reason::TooLong), 65_533),
-        plain("ffff0100", 65_531, 8, Ok(1), 65_535),
-        plain("", 0, 0, Ok(0), 0),
-        plain("", 3, 0, at(0, Reason::Cut), 0),
+        hops(2, Ok(1), 84),
+        hops(1, at(28, Reason::TooDeep), 36),
+        route(cubic.0, cubic.1, 8, Ok(1), 25),
+        route(bad.0, bad.1, 8, at(4, Reason::BadLength), 12),
+        route(none.0, none.1, 1, at(0, Reason::TooDeep), 4),
+        route(none.0, none.1, 2, Ok(1), 4),
     ];
-    for case in &cases {
-        check(&rt, rt.alloc(), Order::Little, case)?;
-    }
-    Ok(())
+    check_both(&rt, rt.alloc(), &cases)
+}
+
+#[test]
+fn nested_lists(rt: HostRuntime) -> Result<(), Fail> {
+    let plain = |little, big, zeros, depth, answer, visits| -> Case {
+        Case {
+            little,
+            big,
+            zeros,
+            base: 0,
+            ctx: Ctx::Plain,
+            depth,
+            answer,
+            visits,
+        }
+    };
+    let nine = (
+        "60000180 5c000180 58000180 54000180 50000180 4c000180 48000180 44000180 40000200",
+        "00608001 005c8001 00588001 00548001 00508001 004c8001 00488001 00448001 00400002",
+    );
+    let bad = ("04000180 03000100", "00048001 00030001");
+    let inside = ("08000180 03000100 00", "00088001 00030001 00");
+    let longest = ("fcff0180 f8ff0200", "fffc8001 fff80002");
+    let cases = [
+        plain(nine.0, nine.1, 60, 8, Ok(1), 720),
+        plain(nine.0, nine.1, 60, 7, at(28, Reason::TooDeep), 656),
+        plain(bad.0, bad.1, 0, 0, at(0, Reason::TooDeep), 4),
+        plain(bad.0, bad.1, 0, 1, at(4, Reason::BadLength), 4),
+        plain(inside.0, inside.1, 0, 1, at(4, Reason::BadLength), 8),
+        plain(longest.0, longest.1, 65_524, 8, Ok(1), 131_060),
+        plain("fdff0180", "fffd8001", 65_529, 8, at(0, Reason::TooLong), 65_533),
+        plain("ffff0100", "ffff0001", 65_531, 8, Ok(1), 65_535),
+        plain("", "", 0, 0, Ok(0), 0),
+        plain("", "", 3, 0, at(0, Reason::Cut), 0),
+    ];
+    check_both(&rt, rt.alloc(), &cases)
 }

@@ -1,8 +1,8 @@
 -- Reading items one after the other.
 use Rattle.std.proofs.Common.{◌≡◌, ℕ, ◌+◌, ◌%◌, List, [], ◌∷◌, ◌++◌, drop, None, Ok, Err, refl, ap, subst, ◌∙◌, add_assoc}
 use Rattle.std.specs.Prelude.{slice_index}
-use Rattle.nl_attr.specs.declared.walk.Part.{Part}
-use Rattle.nl_attr.specs.declared.walk.HopPart.{HopPart}
+use Rattle.nl_attr.specs.declared.walk.attrs.Part.{Part}
+use Rattle.nl_attr.specs.declared.walk.hops.HopPart.{HopPart}
 use Rattle.nl_attr.specs.declared.tree.Ctx.TheVariants.{Route}
 use Rattle.nl_attr.specs.declared.tree.Ctx.{Ctx}
 use Rattle.nl_attr.specs.declared.order.Order.{Order}

@@ -1,8 +1,8 @@
 -- The numbers of one turn of a walk.
 use Rattle.std.proofs.Common.{◌≡◌, ◌≢◌, ℕ, suc, ◌+◌, ◌-◌, ◌*◌, ◌/◌, ◌<◌, ◌≤◌, ◌^◌, min, List, [], length, take, drop, Option, Some, None, Result, Ok, Err, Fits, w64, refl, sym, ap, subst, ◌∙◌, arith, length-drop, add_assoc}
 use Rattle.std.proofs.Math.Nat.{mul-le-mul_left}
-use Rattle.nl_attr.specs.declared.walk.Part.{Part}
-use Rattle.nl_attr.specs.declared.walk.HopPart.{HopPart}
+use Rattle.nl_attr.specs.declared.walk.attrs.Part.{Part}
+use Rattle.nl_attr.specs.declared.walk.hops.HopPart.{HopPart}
 use Rattle.nl_attr.specs.declared.order.Order.{Order}
 use Rattle.nl_attr.specs.Shape.{Shape}
 use Rattle.nl_attr.specs.Numbers.{len_of, span_of}

@@ -3,8 +3,8 @@ use Rattle.std.proofs.Common.{◌≡◌, ◌≢◌, ℕ, ◌+◌, ◌<◌, ◌�
 use Rattle.std.specs.Iterator.{Yields, Drains}
 use Rattle.std.proofs.lemmas.List.{length-take, get_or-drop, drop-take, drop-drop}
 use Rattle.nl_attr.specs.declared.fault.Fault.{Fault}
-use Rattle.nl_attr.specs.declared.walk.Part.{Part}
-use Rattle.nl_attr.specs.declared.walk.HopPart.{HopPart}
+use Rattle.nl_attr.specs.declared.walk.attrs.Part.{Part}
+use Rattle.nl_attr.specs.declared.walk.hops.HopPart.{HopPart}
 use Rattle.nl_attr.specs.declared.order.Order.{Order}
 use Rattle.nl_attr.specs.Shape.{Shape}
 use Rattle.nl_attr.specs.Numbers.{AreBytes, len_of, span_of}

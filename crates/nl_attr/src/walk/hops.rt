@@ -1,0 +1,148 @@
+//! The next hops of a region.
+
+ghost use Rattle.std.specs.Prelude.{◌≡◌, ◌+◌, ◌≤◌, length, Ok};
+ghost use Rattle.nl_attr.specs.Numbers.{span_of};
+ghost use Rattle.nl_attr.specs.Walk.{HeadIs, IsHopPart, index_of};
+
+use crate::fault::{Fault, Reason};
+use crate::order::Order;
+use crate::walk::{align4, head_len};
+use std::marker::Model;
+
+/// The index of the interface in the head of a next hop.
+fn index_at(order: Order, left: &[u8]) -> i32
+    requires { 8 ≤ length left.now }
+    ensures { result ≡ index_of order left.now }
+{
+    order.read_i32(&left[4..])
+}
+
+/// A next hop as it lies in its region.
+#[derive(Clone, Copy, Debug)]
+pub struct HopPart<'a> {
+    pub flags: u8,
+    pub hops: u8,
+    pub ifindex: i32,
+    /// The place of its head, counted from the region's start.
+    pub place: u32,
+    /// How many bytes it occupies: head, attributes, and the padding as far as present.
+    pub span: u32,
+    /// The region of its attributes.
+    pub rest: &'a [u8],
+}
+
+/// The next hop of `len` bytes at the front.
+#[tactic(auto, using(crate::proofs::Lemmas::Signed::signed))]
+fn hop_part(order: Order, left: &[u8], len: usize, place: u32, span: u32) -> HopPart<'_>
+    requires sound { HeadIs order 8 2 left.now (Ok len) }
+    requires span { span ≡ span_of order 2 left.now }
+    ensures { IsHopPart result (record { order = order; place = place; left = left.now }) }
+{
+    HopPart {
+        flags: left[2],
+        hops: left[3],
+        ifindex: index_at(order, left),
+        place,
+        span,
+        rest: &left[8..len],
+    }
+}
+
+/// Goes over the next hops of a region, in the order of their places, and ends as `Attrs` does.
+#[derive(Debug, Drop)]
+pub struct HopParts<'a> {
+    order: Order,
+    left: &'a [u8],
+    place: u32,
+}
+
+impl<'a> Model for HopParts<'a> {
+    ghost use Rattle.std.specs.Prelude.{◌+◌, ◌≤◌, length};
+    ghost use Rattle.nl_attr.specs.Walk.{Region};
+
+    ghost Value = { Region };
+
+    ghost view = { λ a. record { order = a.order; place = a.place; left = a.left.now } };
+
+    ghost invariant = { λ a. a.place + length a.left.now ≤ 1048576 };
+}
+
+impl<'a> HopParts<'a> {
+    ghost use Rattle.std.specs.Prelude.{List, Result};
+    ghost use Rattle.std.specs.Iterator.{Yields, Drains};
+    ghost use Rattle.nl_attr.specs.declared.fault.Fault.{Fault};
+    ghost use Rattle.nl_attr.specs.declared.walk.hops.HopPart.{HopPart};
+    ghost use Rattle.nl_attr.specs.Walk.{GivesHop};
+    ghost use Rattle.nl_attr.specs.Walk.{Region, IsWalk, EachLies, LiesIn, spans_of};
+
+    /// A walk over a region whose numbers have their lowest byte first.
+    pub fn of(bytes: &'a [u8]) -> Self
+        requires { length bytes.now ≤ 1048576 }
+        ensures start { result ≡ record { order = Order.Little; place = 0; left = bytes.now } }
+        // What comes is the pieces of the bytes in their order, then the fault of what is no piece.
+        ensures walk { (parts : List (Result HopPart Fault)) → Drains GivesHop result parts → IsWalk 8 IsHopPart Order.Little 0 bytes.now parts }
+        // They lie in the bytes, and so do their payloads.
+        ensures inside { (parts : List (Result HopPart Fault)) (walk : Region) → Yields GivesHop result parts walk → EachLies (λ p. LiesIn bytes.now 8 p.place p.span p.rest.now) parts }
+        // Where the walk stands then is the sum of their spans.
+        ensures seen { (parts : List (Result HopPart Fault)) (walk : Region) → Yields GivesHop result parts walk → walk.place ≡ spans_of (λ p. p.span) parts }
+    {
+        HopParts::of_ordered(bytes, Order::Little)
+    }
+
+    /// A walk over a region whose numbers are in this order.
+    pub fn of_ordered(bytes: &'a [u8], order: Order) -> Self
+        requires { length bytes.now ≤ 1048576 }
+        ensures start { result ≡ record { order = order; place = 0; left = bytes.now } }
+        // What comes is the pieces of the bytes in their order, then the fault of what is no piece.
+        ensures walk { (parts : List (Result HopPart Fault)) → Drains GivesHop result parts → IsWalk 8 IsHopPart order 0 bytes.now parts }
+        // They lie in the bytes, and so do their payloads.
+        ensures inside { (parts : List (Result HopPart Fault)) (walk : Region) → Yields GivesHop result parts walk → EachLies (λ p. LiesIn bytes.now 8 p.place p.span p.rest.now) parts }
+        // Where the walk stands then is the sum of their spans.
+        ensures seen { (parts : List (Result HopPart Fault)) (walk : Region) → Yields GivesHop result parts walk → walk.place ≡ spans_of (λ p. p.span) parts }
+    {
+        HopParts {
+            order,
+            left: bytes,
+            place: 0,
+        }
+    }
+
+    /// The sum of the spans that were handed out.
+    pub fn seen(&self) -> u64
+        ensures { result ≡ self.now.place }
+    {
+        self.place as u64
+    }
+}
+
+impl<'a> Iterator for HopParts<'a> {
+    ghost use Rattle.std.specs.Prelude.{length};
+    ghost use Rattle.std.specs.Iterator.{at_most};
+    ghost use Rattle.nl_attr.specs.Walk.{GivesHop};
+
+    type Item = Result<HopPart<'a>, Fault>;
+
+    ghost next_gives = { GivesHop };
+
+    ghost remaining = { λ w. at_most (length w.left) };
+
+    fn next(&mut self) -> Option<Result<HopPart<'a>, Fault>> {
+        let left = self.left;
+        if left.is_empty() {
+            return None;
+        }
+        let place = self.place;
+        match head_len(self.order, left, 8) {
+            Err(reason) => {
+                self.left = &left[left.len()..];
+                Some(Err(Fault { place, reason }))
+            }
+            Ok(len) => {
+                let span = (align4(len as u32) as usize).min(left.len());
+                self.left = &left[span..];
+                self.place = place + span as u32;
+                Some(Ok(hop_part(self.order, left, len, place, span as u32)))
+            }
+        }
+    }
+}
