@@ -1,0 +1,7 @@
+mod Digits
+mod Listing
+mod Plain
+mod Recordings
+mod Showing
+mod Streams
+mod Trees

@@ -1,0 +1,72 @@
+-- The lines of a recording, read one after another.
+use Rattle.std.proofs.Common.{◌≡◌, ℕ, ◌+◌, ◌<◌, List, [], ◌∷◌, ◌++◌, get_or, drop, length, Option, Some, None, Result, Ok, Err, refl, sym, subst, ◌∙◌, ap, append_assoc, append-nil, arith}
+use Rattle.std.proofs.lemmas.List.{at_drop_more, at_drop_all}
+use Rattle.rtnl.specs.Lines.{Fails, datagrams_from, line_at, with_first, ◌>>=◌}
+use Rattle.rtnl.specs.declared.error.RunError.{RunError}
+use Rattle.rtnl.specs.declared.error.RunError.TheVariants.{BadLine, ReadFault, WriteFault, Memory}
+
+-- datagrams, and then those that are read
+abbrev pub with_front : List (List ℕ) → Result (List (List ℕ)) ℕ → Result (List (List ℕ)) ℕ
+with_front front read = read >>= λ rest. Ok (front ++ rest)
+
+-- datagrams, and then that of a line, if it has one
+abbrev pub grown : List (List ℕ) → Option (List ℕ) → List (List ℕ)
+grown found None = found
+grown found (Some datagram) = found ++ datagram ∷ []
+
+-- the n-th line of all stands at that place
+abbrev pub IsLine : List (List ℕ) → ℕ → List ℕ → Type 0
+IsLine lines n line = (n < length lines) × (line ≡ get_or lines n line)
+
+-- the place of a line, under another name
+pub line_at_place : (lines : List (List ℕ)) (n place : ℕ) (line : List ℕ) → n ≡ place → IsLine lines place line → IsLine lines n line
+line_at_place lines n place line same at = subst (λ k. IsLine lines k line) (sym same) at
+
+front_again : (found : List (List ℕ)) (datagram : Option (List ℕ)) (read : Result (List (List ℕ)) ℕ) →
+    with_front found (read >>= λ more. Ok (with_first datagram more)) ≡ with_front (grown found datagram) read
+front_again found None (Ok more) = refl
+front_again found (Some datagram) (Ok more) = ap Ok (sym (append_assoc found (datagram ∷ []) more))
+front_again found None (Err e) = refl
+front_again found (Some datagram) (Err e) = refl
+
+one_line : (found lines : List (List ℕ)) (n : ℕ) (line : List ℕ) → IsLine lines n line →
+    with_front found (datagrams_from (n + 1) (drop n lines)) ≡ with_front found (line_at (n + 1) line >>= λ d. datagrams_from (n + 1 + 1) (drop (n + 1) lines) >>= λ more. Ok (with_first d more))
+unfolding datagrams_from
+one_line found lines n line at =
+    at_drop_more (λ ls. with_front found (datagrams_from (n + 1) ls)) lines n line at.0
+    ∙ ap (λ x. with_front found (line_at (n + 1) x >>= λ d. datagrams_from (n + 1 + 1) (drop (n + 1) lines) >>= λ more. Ok (with_first d more))) (sym at.1)
+
+-- a line that is read goes to the datagrams before it
+pub next_line : (found lines : List (List ℕ)) (n : ℕ) (line : List ℕ) (datagram : Option (List ℕ)) (all : Result (List (List ℕ)) ℕ) →
+    IsLine lines n line → line_at (n + 1) line ≡ Ok datagram →
+    with_front found (datagrams_from (n + 1) (drop n lines)) ≡ all →
+    with_front (grown found datagram) (datagrams_from (n + 1 + 1) (drop (n + 1) lines)) ≡ all
+next_line found lines n line datagram all at read so_far =
+    sym (front_again found datagram (datagrams_from (n + 1 + 1) (drop (n + 1) lines)))
+    ∙ sym (ap (λ r. with_front found (r >>= λ d. datagrams_from (n + 1 + 1) (drop (n + 1) lines) >>= λ more. Ok (with_first d more))) read)
+    ∙ sym (one_line found lines n line at)
+    ∙ so_far
+
+bad_line : (found lines : List (List ℕ)) (n bad : ℕ) (line : List ℕ) (all : Result (List (List ℕ)) ℕ) →
+    IsLine lines n line → line_at (n + 1) line ≡ Err bad →
+    with_front found (datagrams_from (n + 1) (drop n lines)) ≡ all → all ≡ Err bad
+bad_line found lines n bad line all at read so_far =
+    sym so_far
+    ∙ one_line found lines n line at
+    ∙ ap (λ r. with_front found (r >>= λ d. datagrams_from (n + 1 + 1) (drop (n + 1) lines) >>= λ more. Ok (with_first d more))) read
+
+-- an error at a line is that of the whole
+pub failed_line : (found lines : List (List ℕ)) (n : ℕ) (line : List ℕ) (all : Result (List (List ℕ)) ℕ) (e : RunError) →
+    IsLine lines n line → Fails e (line_at (n + 1) line) →
+    with_front found (datagrams_from (n + 1) (drop n lines)) ≡ all → Fails e all
+failed_line found lines n line all (BadLine bad) at read so_far = bad_line found lines n bad line all at read so_far
+failed_line found lines n line all ReadFault at read so_far = read
+failed_line found lines n line all WriteFault at read so_far = read
+failed_line found lines n line all Memory at read so_far = tt
+
+-- after the last line
+pub no_line : (found lines : List (List ℕ)) (n : ℕ) (all : Result (List (List ℕ)) ℕ) → n ≡ length lines →
+    with_front found (datagrams_from (n + 1) (drop n lines)) ≡ all → all ≡ Ok found
+unfolding datagrams_from
+no_line found lines n all past so_far =
+    sym so_far ∙ at_drop_all (λ ls. with_front found (datagrams_from (n + 1) ls)) lines n (omega (arith, past)) ∙ ap Ok (append-nil found)

@@ -1,0 +1,61 @@
+-- What reading a datagram answers, and what is shown of it.
+use Rattle.std.proofs.Common.{◌≡◌, ℕ, ◌<◌, ◌≤◌, ◌↔◌, ◌⊎◌, inl, inr, List, [], ◌∷◌, ◌++◌, ◌+◌, length, map, Result, Ok, Err, IfOk, IfErr, refl, ◌≢◌, subst, sym, ap, ◌∙◌, append_assoc, append-nil}
+use Rattle.std.proofs.lemmas.Bool.{cases_lt}
+use Rattle.std.specs.Global.{Vec}
+use Rattle.nl_attr.specs.declared.fault.Fault.{Fault}
+use Rattle.nl_frame.specs.declared.body.Message.{Message}
+use Rattle.nl_frame.specs.declared.reading.ReadError.{ReadError}
+use Rattle.nl_frame.specs.declared.reading.ReadError.TheVariants.{TooLarge, Layout as Fails, Memory}
+use Rattle.nl_frame.specs.Heads.{IsFirstFault, whole}
+use Rattle.nl_frame.specs.Layout.{Layout}
+use Rattle.nl_frame.specs.Limits.{Bounds}
+use Rattle.nl_frame.specs.Told.{IfFault}
+use Rattle.nl_frame.specs.View.{message_view}
+use Rattle.rtnl.specs.Shown.{Answer, Answers, EachAnswers, datagram_text, is_taken, shown_from, verdict_from, with_one}
+use Rattle.rtnl.specs.declared.error.Verdict.{Verdict}
+use Rattle.rtnl.specs.declared.error.Verdict.TheVariants.{Clean}
+
+module _ (b : Bounds) (d : List ℕ) (r : Result (Vec Message) ReadError) (large : (r ≡ Err TooLarge) ↔ (b.datagram < length d)) where
+  -- a datagram that isn't too large is within the limit
+  within : ((r ≡ Err TooLarge) → ⊥) → length d ≤ b.datagram
+  within not_large = by_case (cases_lt b.datagram (length d))
+    where
+      by_case : (b.datagram < length d) ⊎ (length d ≤ b.datagram) → length d ≤ b.datagram
+      by_case (inl less) = absurd (not_large (large.1 less))
+      by_case (inr fits) = fits
+
+  pub answers_messages : (v : Vec Message) → r ≡ Ok v → IfOk r (λ (x : Vec Message). Layout b.shape (map message_view x.items) d) → Answers b d (Ok (map message_view v.items))
+  answers_messages v is fits = (within (λ e. cc), subst (λ x. IfOk x (λ (x : Vec Message). Layout b.shape (map message_view x.items) d)) is fits)
+
+  pub answers_refusal : (e : ReadError) → r ≡ Err e → (e ≢ Memory) → IfErr r (λ x. IfFault x (λ g. IsFirstFault b.shape (whole d) g.place g.reason)) → Answers b d (Err e)
+  answers_refusal TooLarge is other first = large.0 is
+  answers_refusal (Fails f) is other first = (within (λ h. cc), subst (λ x. IfErr x (λ y. IfFault y (λ g. IsFirstFault b.shape (whole d) g.place g.reason))) is first)
+  answers_refusal Memory is other first = absurd (other refl)
+
+-- one text after another
+pub one_more : (old mid new x y : List ℕ) → mid ≡ old ++ x → new ≡ mid ++ y → new ≡ old ++ (x ++ y)
+one_more old mid new x y first next = next ∙ ap (λ t. t ++ y) first ∙ append_assoc old x y
+
+-- whatever the answers of the rest are, with them all datagrams are shown
+abbrev pub Continues : Bounds → List (List ℕ) → List ℕ → ℕ → List (List ℕ) → List ℕ → Verdict → Type 0
+Continues b all old number rest now verdict =
+    (more : List Answer) → EachAnswers b rest more
+    → (answers : List Answer) × EachAnswers b all answers × (now ++ shown_from b.shape.order number rest more ≡ old ++ shown_from b.shape.order 1 all answers)
+      × (verdict_from verdict more ≡ verdict_from Clean answers)
+
+module _ (b : Bounds) (all : List (List ℕ)) (old : List ℕ) where
+  pub begins : Continues b all old 1 all old Clean
+  begins = λ more each. (more, each, refl, refl)
+
+  -- one datagram more
+  pub goes_on : (number : ℕ) (d : List ℕ) (rest : List (List ℕ)) (now next : List ℕ) (verdict : Verdict) (a : Answer) → Continues b all old number (d ∷ rest) now verdict
+      → Answers b d a → next ≡ now ++ datagram_text b.shape.order number d a → Continues b all old (number + 1) rest next (with_one verdict (is_taken a))
+  unfolding shown_from
+  goes_on number d rest now next verdict a h answers e = λ more each.
+      let r = h (a ∷ more) (answers, each) in
+      (r.0, r.1, ap (λ t. t ++ shown_from b.shape.order (number + 1) rest more) e ∙ append_assoc now (datagram_text b.shape.order number d a) (shown_from b.shape.order (number + 1) rest more) ∙ r.2, r.3)
+
+  pub ends : (number : ℕ) (now : List ℕ) (verdict : Verdict) → Continues b all old number [] now verdict
+      → (answers : List Answer) × EachAnswers b all answers × (now ≡ old ++ shown_from b.shape.order 1 all answers) × (verdict ≡ verdict_from Clean answers)
+  unfolding shown_from
+  ends number now verdict h = let r = h [] tt in (r.0, r.1, sym (append-nil now) ∙ r.2, r.3)

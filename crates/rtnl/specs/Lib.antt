@@ -1,0 +1,14 @@
+pub mod Attributes
+pub mod Codes
+pub mod Datagrams
+pub mod Lines
+pub mod Messages
+pub mod NamedBits
+pub mod Names
+pub mod Rows
+pub mod Shown
+pub mod Streams
+pub mod Text
+pub mod Trees
+pub mod Types
+pub mod Values

@@ -1,0 +1,76 @@
+-- The lines of a recording, each of them a comment, blank, or a datagram in hexadecimal.
+use Rattle.std.specs.Prelude.{◌≡◌, ℕ, ◌+◌, ◌==◌, ◌||◌, not, if◌then◌else◌, Bool, false, List, [], ◌∷◌, filter, length, Option, Some, None, Result, Ok, Err}
+use Rattle.std.specs.List.{slice_split}
+use Rattle.hex.specs.Hex.{decode_of}
+use Rattle.hex.specs.declared.error.FromHexError.{FromHexError}
+use Rattle.rtnl.specs.declared.error.RunError.{RunError}
+use Rattle.rtnl.specs.declared.error.RunError.TheVariants.{BadLine, ReadFault, WriteFault, Memory}
+
+-- the byte that ends a line
+abbrev pub is_newline : ℕ → Bool
+is_newline byte = byte == 10
+
+-- a space, a tab or a carriage return
+abbrev pub is_blank : ℕ → Bool
+is_blank byte = byte == 32 || (byte == 9 || byte == 13)
+
+-- what is left of a line once the blanks are taken out
+abbrev pub compact : List ℕ → List ℕ
+compact line = filter (λ byte. not (is_blank byte)) line
+
+-- the line's first byte is `#`
+abbrev pub is_comment : List ℕ → Bool
+is_comment [] = false
+is_comment (byte ∷ _) = byte == 35
+
+-- the line is a comment, or empty but for blanks
+abbrev pub is_skipped : List ℕ → Bool
+is_skipped line = is_comment line || length (compact line) == 0
+
+-- decoded bytes, or the number of their line
+abbrev pub decoded : ℕ → Result (List ℕ) FromHexError → Result (Option (List ℕ)) ℕ
+decoded number (Ok bytes) = Ok (Some bytes)
+decoded number (Err _) = Err number
+
+-- the datagram of the line of this number, if it has one, or the number, if the line is bad
+abbrev pub line_at : ℕ → List ℕ → Result (Option (List ℕ)) ℕ
+line_at number line = if is_skipped line then Ok None else decoded number (decode_of (compact line))
+
+infixl 10 ◌>>=◌
+-- a step, and the next one if no line was bad so far
+abbrev pub ◌>>=◌ : {A B : Type 0} → Result A ℕ → (A → Result B ℕ) → Result B ℕ
+(Ok x) >>= f = f x
+(Err number) >>= f = Err number
+
+-- a line's datagram, if it has one, and then others
+abbrev pub with_first : Option (List ℕ) → List (List ℕ) → List (List ℕ)
+with_first None rest = rest
+with_first (Some datagram) rest = datagram ∷ rest
+
+-- the datagrams of lines, the first of them of this number, or the number of the first bad line
+unfoldable pub datagrams_from : ℕ → List (List ℕ) → Result (List (List ℕ)) ℕ
+datagrams_from number [] = Ok []
+datagrams_from number (line ∷ lines) = do
+  datagram ← line_at number line
+  datagrams ← datagrams_from (number + 1) lines
+  Ok (with_first datagram datagrams)
+
+-- the lines of an input, each ended by a newline or by the end of the input
+abbrev pub lines_of : List ℕ → List (List ℕ)
+lines_of input = slice_split is_newline input
+
+-- the datagrams of an input, or the number of its first bad line, counted from 1 over all lines
+abbrev pub datagrams : List ℕ → Result (List (List ℕ)) ℕ
+datagrams input = datagrams_from 1 (lines_of input)
+
+-- an error is that of the definition, or memory ran out
+abbrev pub Fails : {Y : Type 0} → RunError → Result Y ℕ → Type 0
+Fails (BadLine number) expected = expected ≡ Err number
+Fails ReadFault expected = ⊥
+Fails WriteFault expected = ⊥
+Fails Memory expected = Unit {0}
+
+-- an answer, seen by view, is what the definition gives, or memory ran out
+abbrev pub Gives : {X Y : Type 0} → (X → Y) → Result X RunError → Result Y ℕ → Type 0
+Gives view (Ok x) expected = expected ≡ Ok (view x)
+Gives view (Err e) expected = Fails e expected

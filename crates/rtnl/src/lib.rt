@@ -1,0 +1,21 @@
+//! Shows recordings of rtnetlink datagrams: where bytes come from and go to, the lines of a
+//! recording, and the words of the printed text.
+#![tactic(auto)]
+
+mod broken;
+mod error;
+mod lines;
+mod show;
+mod sink;
+mod source;
+mod text;
+
+pub use broken::Broken;
+pub use error::{RunError, Verdict};
+pub use nl_frame as frame;
+pub use show::run_show;
+pub use sink::{Sink, VecSink, WriteSink};
+pub use source::{ReadSource, SliceSource, Source};
+
+#[cfg(test)]
+mod tests;

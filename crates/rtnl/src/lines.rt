@@ -1,0 +1,62 @@
+ghost use Rattle.std.specs.Prelude.{◌≡◌, ◌≤◌, length, map, option_map, IfOk};
+ghost use Rattle.rtnl.specs.Lines.{Gives, compact, datagrams, is_blank, is_comment, line_at};
+
+use crate::error::RunError;
+use crate::source::LONGEST_INPUT;
+use hex::FromHexError;
+use std::alloc::{AllocError, Global};
+
+fn is_blank_byte(byte: u8) -> bool
+    ensures { result ≡ is_blank byte }
+{
+    matches!(byte, b' ' | b'\t' | b'\r')
+}
+
+fn begins_comment(line: &[u8]) -> bool
+    ensures { result ≡ is_comment line.now }
+{
+    matches!(line, [b'#', ..])
+}
+
+fn without_blanks(alloc: Global, line: &[u8]) -> Result<Vec<u8>, AllocError>
+    ensures { IfOk result (λ v. v.items ≡ compact line.now) }
+{
+    line.iter()
+        .copied()
+        .filter(|byte| !is_blank_byte(*byte))
+        .collect(alloc)
+}
+
+// The datagram of a line, if it has one.
+fn read_line(alloc: Global, number: u32, line: &[u8]) -> Result<Option<Vec<u8>>, RunError>
+    ensures { Gives (λ o. option_map (λ d. d.items) o) result (line_at number line.now) }
+{
+    if begins_comment(line) {
+        return Ok(None);
+    }
+    let digits = without_blanks(alloc, line)?;
+    if digits.is_empty() {
+        return Ok(None);
+    }
+    match hex::decode(alloc, digits.as_slice()) {
+        Ok(datagram) => Ok(Some(datagram)),
+        Err(FromHexError::OutOfMemory) => Err(RunError::Memory),
+        Err(_) => Err(RunError::BadLine(number)),
+    }
+}
+
+/// The datagrams of the lines of a recording, or the first line that is bad.
+pub(crate) fn read_datagrams(alloc: Global, input: &[u8]) -> Result<Vec<Vec<u8>>, RunError>
+    requires { length input.now ≤ LONGEST_INPUT }
+    ensures { Gives (λ v. map (λ d. d.items) v.items) result (datagrams input.now) }
+{
+    let mut datagrams = Vec::new(alloc);
+    let mut number = 0;
+    for line in input.split(|byte| *byte == b'\n') {
+        number += 1;
+        if let Some(datagram) = read_line(alloc, number, line)? {
+            datagrams.push(datagram)?;
+        }
+    }
+    Ok(datagrams)
+}

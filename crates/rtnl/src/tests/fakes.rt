@@ -1,0 +1,130 @@
+ghost use Rattle.std.specs.Prelude.{None, ◌≤◌, IfOk};
+
+use crate::{Broken, Sink, Source};
+use std::alloc::Global;
+use std::io::{self, Read, Write};
+
+/// Gives `left` zero bytes, and then fails at each call.
+#[derive(Drop)]
+pub struct FailingSource {
+    pub left: usize,
+    pub failures: u64,
+}
+
+impl Source for FailingSource {
+    ghost remaining = { λ _. None };
+
+    ghost is_ended = { λ _. Unit {0} };
+
+    ghost failure_count = { λ s. s.failures };
+
+    fn failures(&self) -> u64 {
+        self.failures
+    }
+
+    fn take(&mut self, buffer: &mut [u8]) -> Result<usize, Broken> {
+        let count = self.left.min(buffer.len());
+        if count == 0 {
+            self.failures = self.failures.saturating_add(1);
+            return Err(Broken);
+        }
+        let (room, _) = buffer.split_at_mut(count);
+        room.fill(0);
+        self.left -= count;
+        Ok(count)
+    }
+}
+
+/// Takes up to `each` bytes in each of `calls` calls, and then fails, or takes none.
+#[derive(Drop)]
+pub struct TightSink {
+    pub bytes: Vec<u8>,
+    pub each: usize,
+    pub calls: usize,
+    pub fails: bool,
+    pub failures: u64,
+}
+
+impl TightSink {
+    pub fn new(alloc: Global, each: usize, calls: usize, fails: bool) -> Self {
+        TightSink {
+            bytes: Vec::new(alloc),
+            each,
+            calls,
+            fails,
+            failures: 0,
+        }
+    }
+}
+
+impl Sink for TightSink {
+    ghost contents = { λ _. None };
+
+    ghost is_stalled = { λ _. Unit {0} };
+
+    ghost failure_count = { λ s. s.failures };
+
+    fn failures(&self) -> u64 {
+        self.failures
+    }
+
+    fn give(&mut self, bytes: &[u8]) -> Result<usize, Broken> {
+        if self.calls == 0 {
+            if !self.fails {
+                return Ok(0);
+            }
+            self.failures = self.failures.saturating_add(1);
+            return Err(Broken);
+        }
+        self.calls -= 1;
+        let count = bytes.len().min(self.each);
+        let (front, _) = bytes.split_at(count);
+        match self.bytes.extend_from_slice(front) {
+            Ok(()) => Ok(count),
+            Err(_) => {
+                self.failures = self.failures.saturating_add(1);
+                Err(Broken)
+            }
+        }
+    }
+}
+
+/// A file that holds `left` bytes of room or of content, in calls of up to three bytes, and whose
+/// device fails at the end if it is broken.
+#[derive(Drop)]
+pub struct ShortFile {
+    pub left: usize,
+    pub broken: bool,
+}
+
+impl ShortFile {
+    fn count(&mut self, wanted: usize) -> io::Result<usize>
+        ensures { IfOk result (λ count. count ≤ wanted) }
+    {
+        let count = self.left.min(wanted).min(3);
+        if count == 0 && self.broken {
+            return Err(io::Error::from(io::ErrorKind::BrokenPipe));
+        }
+        self.left -= count;
+        Ok(count)
+    }
+}
+
+impl Read for ShortFile {
+    fn read(&mut self, buffer: &mut [u8]) -> io::Result<usize> {
+        let count = self.count(buffer.len())?;
+        let (room, _) = buffer.split_at_mut(count);
+        room.fill(7);
+        Ok(count)
+    }
+}
+
+impl Write for ShortFile {
+    fn write(&mut self, bytes: &[u8]) -> io::Result<usize> {
+        self.count(bytes.len())
+    }
+
+    fn flush(&mut self) -> io::Result<()> {
+        Ok(())
+    }
+}

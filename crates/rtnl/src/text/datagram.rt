@@ -1,0 +1,52 @@
+//! The lines that are printed of a datagram beside its messages.
+
+ghost use Rattle.std.specs.Prelude.{◌≡◌, ◌++◌, OnOk};
+ghost use Rattle.std.specs.String.{string_bytes};
+ghost use Rattle.rtnl.specs.Datagrams.{datagram_line, reason_text, refused_line, too_large_line};
+
+use nl_attr::{Fault, Reason};
+use std::alloc::AllocError;
+use std::fmt::Write;
+
+/// Writes the line of a datagram of this number, counted from 1, with this many bytes.
+#[tactic(auto, unfolding(crate::specs::Datagrams::datagram_line))]
+pub(crate) fn push_datagram_line(
+    out: &mut String,
+    number: usize,
+    size: usize,
+) -> Result<(), AllocError>
+    ensures { OnOk result (string_bytes out.new ≡ string_bytes out.old ++ datagram_line number size) }
+{
+    writeln!(out, "datagram {number} bytes {size}")
+}
+
+#[tactic(auto, unfolding(crate::specs::Datagrams::reason_text))]
+fn reason_name(reason: Reason) -> &'static str
+    ensures { result.now ≡ reason_text reason }
+{
+    match reason {
+        Reason::Cut => "cut",
+        Reason::BadLength => "bad length",
+        Reason::ShortBody => "short body",
+        Reason::TooLong => "too long",
+        Reason::TooDeep => "too deep",
+    }
+}
+
+/// Writes that a datagram was refused at its first fault.
+#[tactic(auto, unfolding(crate::specs::Datagrams::refused_line))]
+pub(crate) fn push_refused_line(out: &mut String, fault: Fault) -> Result<(), AllocError>
+    ensures { OnOk result (string_bytes out.new ≡ string_bytes out.old ++ refused_line fault.reason fault.place) }
+{
+    let reason = reason_name(fault.reason);
+    let place = fault.place;
+    writeln!(out, "refused {reason} at {place}")
+}
+
+/// Writes that a datagram was refused for its size.
+#[tactic(auto, unfolding(crate::specs::Datagrams::too_large_line))]
+pub(crate) fn push_too_large_line(out: &mut String) -> Result<(), AllocError>
+    ensures { OnOk result (string_bytes out.new ≡ string_bytes out.old ++ too_large_line) }
+{
+    out.push_str("refused too large\n")
+}

@@ -1,0 +1,13 @@
+//! The printed text.
+
+pub(crate) mod attributes;
+pub(crate) mod body;
+pub(crate) mod datagram;
+pub(crate) mod digits;
+pub(crate) mod flags;
+pub(crate) mod message;
+pub(crate) mod names;
+pub(crate) mod rows;
+pub(crate) mod tree;
+pub(crate) mod types;
+pub(crate) mod values;
