@@ -1,0 +1,86 @@
+//! The command `rtnl`: shows recordings of rtnetlink datagrams.
+#![tactic(auto)]
+
+mod arguments;
+
+use arguments::{Reading, Request};
+use nl_attr::Order;
+use rtnl::frame::Limits;
+use rtnl::{ReadSource, RunError, Source, Verdict, WriteSink, run_show};
+use std::fs::File;
+use std::io;
+use std::process::ExitCode;
+
+/// A datagram was refused, or a line is bad.
+const BLEMISHED: u8 = 1;
+
+/// The words are wrong.
+const USAGE: u8 = 2;
+
+/// A read or a write failed.
+const FAULT: u8 = 3;
+
+/// Memory ran out.
+const MEMORY: u8 = 4;
+
+/// A status, once what had to be said was said or could not be.
+fn ended(_said: io::Result<()>, status: u8) -> ExitCode {
+    ExitCode::from(status)
+}
+
+/// The status of a run, with a line on standard error where it stopped.
+fn outcome(rt: &HostRuntime, answer: Result<Verdict, RunError>) -> ExitCode {
+    match answer {
+        Ok(Verdict::Clean) => ExitCode::SUCCESS,
+        Ok(Verdict::Blemished) => ExitCode::from(BLEMISHED),
+        Err(error) => {
+            let status = match error {
+                RunError::BadLine(_) => BLEMISHED,
+                RunError::ReadFault | RunError::WriteFault => FAULT,
+                RunError::Memory => MEMORY,
+            };
+            ended(eprintln!(rt; "rtnl: {error}"), status)
+        }
+    }
+}
+
+/// Shows what the source gives on standard output.
+fn show_source<S: Source>(rt: &HostRuntime, source: &mut S, order: Order) -> ExitCode {
+    let limits = Limits::standard().with_order(order);
+    let mut sink = WriteSink::new(io::writer(rt));
+    outcome(rt, run_show(rt.alloc(), source, &mut sink, &limits))
+}
+
+/// Shows a recording: the file, or standard input where none is named.
+fn show(rt: &HostRuntime, file: Option<&str>, order: Order) -> ExitCode {
+    match file {
+        None => show_source(rt, &mut ReadSource::new(rt.reader()), order),
+        Some(path) => match File::open(rt, path) {
+            Ok(opened) => show_source(rt, &mut ReadSource::new(opened), order),
+            Err(_) => outcome(rt, Err(RunError::ReadFault)),
+        },
+    }
+}
+
+fn main(rt: HostRuntime) -> ExitCode {
+    let alloc = rt.alloc();
+    let args = match std::env::args(&rt) {
+        Ok(args) => args,
+        Err(error) => match error.kind() {
+            io::ErrorKind::OutOfMemory => return outcome(&rt, Err(RunError::Memory)),
+            _ => return ended(eprintln!(rt; "rtnl: an argument is not text"), USAGE),
+        },
+    };
+    let words: Vec<String> = match args.collect(alloc) {
+        Ok(words) => words,
+        Err(_) => return outcome(&rt, Err(RunError::Memory)),
+    };
+    match arguments::read(alloc, words.as_slice()) {
+        Ok(Reading::Request(Request::Show { file, order })) => show(&rt, file, order),
+        Ok(Reading::Told(error)) => {
+            let status = if error.use_stderr() { USAGE } else { 0 };
+            ended(error.print(&rt), status)
+        }
+        Err(_) => outcome(&rt, Err(RunError::Memory)),
+    }
+}
