@@ -16,6 +16,3 @@ pub use nl_frame as frame;
 pub use show::run_show;
 pub use sink::{Sink, VecSink, WriteSink};
 pub use source::{ReadSource, SliceSource, Source};
-
-#[cfg(test)]
-mod tests;

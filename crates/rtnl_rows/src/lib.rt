@@ -4,6 +4,8 @@
 #[cfg(test)]
 mod datagrams;
 #[cfg(test)]
+mod fakes;
+#[cfg(test)]
 mod families;
 #[cfg(test)]
 mod hostile;
@@ -11,6 +13,10 @@ mod hostile;
 mod numbers;
 #[cfg(test)]
 mod regions;
+#[cfg(test)]
+mod shown;
+#[cfg(test)]
+mod streams;
 #[cfg(test)]
 mod trees;
 #[cfg(test)]

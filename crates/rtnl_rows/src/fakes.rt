@@ -1,17 +1,19 @@
+//! Sources and sinks that fail, or move few bytes at a time.
+
 ghost use Rattle.std.specs.Prelude.{None, ◌≤◌, IfOk};
 
-use crate::{Broken, Sink, Source};
+use rtnl::{Broken, Sink, Source};
 use std::alloc::Global;
 use std::io::{self, Read, Write};
 
-/// Gives `left` zero bytes, and then fails at each call.
+/// Gives some bytes, and then fails at each call.
 #[derive(Drop)]
-pub struct FailingSource {
-    pub left: usize,
+pub struct BrokenSource<'a> {
+    pub left: &'a [u8],
     pub failures: u64,
 }
 
-impl Source for FailingSource {
+impl Source for BrokenSource<'_> {
     ghost remaining = { λ _. None };
 
     ghost is_ended = { λ _. Unit {0} };
@@ -23,14 +25,15 @@ impl Source for FailingSource {
     }
 
     fn take(&mut self, buffer: &mut [u8]) -> Result<usize, Broken> {
-        let count = self.left.min(buffer.len());
+        let count = self.left.len().min(buffer.len());
         if count == 0 {
             self.failures = self.failures.saturating_add(1);
             return Err(Broken);
         }
+        let (next, rest) = self.left.split_at(count);
         let (room, _) = buffer.split_at_mut(count);
-        room.fill(0);
-        self.left -= count;
+        room.copy_from_slice(next);
+        self.left = rest;
         Ok(count)
     }
 }
@@ -89,8 +92,8 @@ impl Sink for TightSink {
     }
 }
 
-/// A file that holds `left` bytes of room or of content, in calls of up to three bytes, and whose
-/// device fails at the end if it is broken.
+/// A file with room for `left` bytes, or as many blanks, in calls of up to three bytes, whose device
+/// fails at the end where it is broken.
 #[derive(Drop)]
 pub struct ShortFile {
     pub left: usize,
@@ -114,7 +117,7 @@ impl Read for ShortFile {
     fn read(&mut self, buffer: &mut [u8]) -> io::Result<usize> {
         let count = self.count(buffer.len())?;
         let (room, _) = buffer.split_at_mut(count);
-        room.fill(7);
+        room.fill(b' ');
         Ok(count)
     }
 }

@@ -1,4 +1,0 @@
-mod fakes;
-mod lines;
-mod streams;
-mod text;

@@ -1,0 +1,212 @@
+//! What `run_show` prints of whole inputs.
+
+use crate::vectors::{DONE, DONE_BIG, LOOPBACK, LOOPBACK_BIG, TWO_HOPS_ROUTE};
+use nl_attr::Order;
+use rtnl::frame::Limits;
+use rtnl::{RunError, SliceSource, VecSink, Verdict, run_show};
+use std::alloc::Global;
+use std::process::Abort;
+use std::test::Fail;
+
+/// An input is shown as this text, with this verdict.
+fn shows(
+    rt: &impl Abort,
+    alloc: Global,
+    order: Order,
+    input: &str,
+    text: &str,
+    verdict: Verdict,
+) -> Result<(), Fail> {
+    let limits = Limits::standard().with_order(order);
+    let mut source = SliceSource::new(input.as_bytes());
+    let mut sink = VecSink::new(alloc);
+    let answer = run_show(alloc, &mut source, &mut sink, &limits)?;
+    let written = str::from_utf8(sink.bytes.as_slice())?;
+    assert_eq!(rt; written, text);
+    assert_eq!(rt; answer, verdict);
+    Ok(())
+}
+
+fn is_shown(rt: &impl Abort, alloc: Global, input: &str, text: &str) -> Result<(), Fail> {
+    shows(rt, alloc, Order::Little, input, text, Verdict::Clean)
+}
+
+const DONE_TEXT: &str = "datagram 1 bytes 20
+message 3 done flags 0x0002 MULTI seq 1 port 12345
+  done status 0 tail -
+";
+
+const LOOPBACK_TEXT: &str = "datagram 1 bytes 48
+message 16 newlink flags 0x0002 MULTI seq 1 port 12345
+  link family 0 type 772 index 1 flags 0x00010049 UP,LOOPBACK,RUNNING,LOWER_UP change 0x00000000
+    attr 3 IFNAME - text lo
+    attr 4 MTU - u32 65536
+";
+
+const TWO_HOPS_TEXT: &str = "datagram 1 bytes 64
+message 24 newroute flags 0x0002 MULTI seq 1 port 12345
+  route family 2 dst_len 0 src_len 0 tos 0 table 254 protocol 3 scope 0 type 1 flags 0x00000000
+    attr 9 MULTIPATH - hops 2
+      hop flags 0x00 - hops 0 index 2
+        attr 5 GATEWAY - ipv4 192.0.2.1
+      hop flags 0x00 - hops 1 index 3
+        attr 5 GATEWAY - ipv4 192.0.2.2
+";
+
+#[test]
+fn a_link_and_a_route(rt: HostRuntime) -> Result<(), Fail> {
+    is_shown(&rt, rt.alloc(), LOOPBACK, LOOPBACK_TEXT)?;
+    is_shown(&rt, rt.alloc(), TWO_HOPS_ROUTE, TWO_HOPS_TEXT)
+}
+
+#[test]
+fn an_address(rt: HostRuntime) -> Result<(), Fail> {
+    let input = "30000000 1400 0200 01000000 39300000 020880fe 01000000 08000100 7f000001 08000200 7f000001 07000300 6c6f0000";
+    let text = "datagram 1 bytes 48
+message 20 newaddr flags 0x0002 MULTI seq 1 port 12345
+  addr family 2 prefix 8 flags 0x80 scope 254 index 1
+    attr 1 ADDRESS - ipv4 127.0.0.1
+    attr 2 LOCAL - ipv4 127.0.0.1
+    attr 3 LABEL - text lo
+";
+    is_shown(&rt, rt.alloc(), input, text)
+}
+
+#[test]
+fn a_neighbour(rt: HostRuntime) -> Result<(), Fail> {
+    let input = "3c000000 1c00 0200 01000000 39300000 0a000000 02000000 02008001 14000100 fe800000 00000000 00000000 00000001 0a000200 02000000 00010000";
+    let text = "datagram 1 bytes 60
+message 28 newneigh flags 0x0002 MULTI seq 1 port 12345
+  neigh family 10 index 2 state 0x0002 REACHABLE flags 0x80 ROUTER type 1
+    attr 1 DST - ipv6 fe80:0000:0000:0000:0000:0000:0000:0001
+    attr 2 LLADDR - hex 020000000001
+";
+    is_shown(&rt, rt.alloc(), input, text)
+}
+
+#[test]
+fn metrics(rt: HostRuntime) -> Result<(), Fail> {
+    let input = "2c000000 1800 0200 01000000 39300000 02000000 fe030001 00000000 0d000800 09001000 6375626963 000000";
+    let text = "datagram 1 bytes 44
+message 24 newroute flags 0x0002 MULTI seq 1 port 12345
+  route family 2 dst_len 0 src_len 0 tos 0 table 254 protocol 3 scope 0 type 1 flags 0x00000000
+    attr 8 METRICS - list 1
+      attr 16 CC_ALGO - text cubic
+";
+    is_shown(&rt, rt.alloc(), input, text)
+}
+
+#[test]
+fn another_type(rt: HostRuntime) -> Result<(), Fail> {
+    let input = "1c000000 2000 0200 01000000 39300000 02000000 fe000001 00000000";
+    let text = "datagram 1 bytes 28
+message 32 other flags 0x0002 MULTI seq 1 port 12345
+  bytes 02000000fe00000100000000
+";
+    is_shown(&rt, rt.alloc(), input, text)
+}
+
+#[test]
+fn an_error_and_new_flags(rt: HostRuntime) -> Result<(), Fail> {
+    let input = "24000000 0200 0000 01000000 39300000 ffffffff 20000000 1200 0103 01000000 00000000";
+    let text = "datagram 1 bytes 36
+message 2 error flags 0x0000 - seq 1 port 12345
+  error code -1 answers len 32 type 18 flags 0x0301 seq 1 port 0 tail -
+";
+    is_shown(&rt, rt.alloc(), input, text)?;
+    let input = "20000000 1000 0206 01000000 39300000 00000403 01000000 49000100 00000000";
+    let text = "datagram 1 bytes 32
+message 16 newlink flags 0x0602 MULTI,EXCL,CREATE seq 1 port 12345
+  link family 0 type 772 index 1 flags 0x00010049 UP,LOOPBACK,RUNNING,LOWER_UP change 0x00000000
+";
+    is_shown(&rt, rt.alloc(), input, text)
+}
+
+#[test]
+fn forms_that_do_not_apply(rt: HostRuntime) -> Result<(), Fail> {
+    // An MTU of two bytes, one in network order, a name that is no text, a nested attribute, and a
+    // number without a name.
+    let input = "44000000 1000 0000 01000000 39300000 00000403 01000000 49000100 00000000 06000400 dc050000 08000440 00000100 05000300 01000000 04001480 0600ff3f abcd0000";
+    let text = "datagram 1 bytes 68
+message 16 newlink flags 0x0000 - seq 1 port 12345
+  link family 0 type 772 index 1 flags 0x00010049 UP,LOOPBACK,RUNNING,LOWER_UP change 0x00000000
+    attr 4 MTU - hex dc05
+    attr 4 MTU net hex 00000100
+    attr 3 IFNAME - hex 01
+    attr 20 IFALIAS nested list 0
+    attr 16383 - - hex abcd
+";
+    is_shown(&rt, rt.alloc(), input, text)
+}
+
+#[test]
+fn a_refusal_and_what_comes_behind_it(rt: HostRuntime) -> Result<(), Fail> {
+    let input = "24000000 1000 0200 01000000 39300000 00000000 00000000 00000000 00000000 03000100 00000000 0300 0200 01000000 39300000
+10000000 0100 0000 00000000 00000000
+
+";
+    let text = "datagram 1 bytes 52
+refused bad length at 32
+datagram 2 bytes 16
+message 1 noop flags 0x0000 - seq 0 port 0
+  bytes -
+";
+    shows(&rt, rt.alloc(), Order::Little, input, text, Verdict::Blemished)
+}
+
+#[test]
+fn each_refusal_by_name(rt: HostRuntime) -> Result<(), Fail> {
+    let alloc = rt.alloc();
+    let cases = [
+        ("000000000000000000000000000000", "15", "cut at 0"),
+        ("10000000 1000 0200 01000000 39300000", "16", "short body at 0"),
+    ];
+    for (input, size, reason) in cases {
+        let text = format!(in alloc; "datagram 1 bytes {size}\nrefused {reason}\n")?;
+        shows(&rt, alloc, Order::Little, input, text.as_str(), Verdict::Blemished)?;
+    }
+    Ok(())
+}
+
+#[test]
+fn both_orders(rt: HostRuntime) -> Result<(), Fail> {
+    let alloc = rt.alloc();
+    let refused = "datagram 1 bytes 20\nrefused bad length at 0\n";
+    for (order, mine, link, other) in [
+        (Order::Little, DONE, LOOPBACK, DONE_BIG),
+        (Order::Big, DONE_BIG, LOOPBACK_BIG, DONE),
+    ] {
+        shows(&rt, alloc, order, mine, DONE_TEXT, Verdict::Clean)?;
+        shows(&rt, alloc, order, link, LOOPBACK_TEXT, Verdict::Clean)?;
+        shows(&rt, alloc, order, other, refused, Verdict::Blemished)?;
+    }
+    Ok(())
+}
+
+#[test]
+fn lines_are_read_as_they_may_be_written(rt: HostRuntime) -> Result<(), Fail> {
+    let alloc = rt.alloc();
+    is_shown(&rt, alloc, "", "")?;
+    is_shown(&rt, alloc, "# a comment\n\n \t\r\n", "")?;
+    let input = "# the end of a dump\n14000000\t03000200 01000000 39300000 00000000\r\n\n";
+    is_shown(&rt, alloc, input, DONE_TEXT)?;
+    let input = "10000000FFFF000000000000000000aa";
+    let text = "datagram 1 bytes 16
+message 65535 other flags 0x0000 - seq 0 port 2852126720
+  bytes -
+";
+    is_shown(&rt, alloc, input, text)
+}
+
+#[test]
+fn a_bad_line_ends_the_run(rt: HostRuntime) -> Result<(), Fail> {
+    let alloc = rt.alloc();
+    for (input, line) in [("abc", 1), ("# odd\n\n1400000\n", 3), ("00\n0g\n", 2), (" #00", 1)] {
+        let mut source = SliceSource::new(input.as_bytes());
+        let mut sink = VecSink::new(alloc);
+        let answer = run_show(alloc, &mut source, &mut sink, &Limits::standard());
+        assert_eq!(rt; answer, Err(RunError::BadLine(line)), "{input}");
+        assert!(rt; sink.bytes.is_empty());
+    }
+    Ok(())
+}
