@@ -1,6 +1,5 @@
 -- The tree that a value of the program stands for.
-use Rattle.std.specs.Prelude.{ℕ, List, [], ◌∷◌, map}
-use Rattle.nl_attr.specs.declared.tree.AttrFlags.{AttrFlags}
+use Rattle.std.specs.Prelude.{List, [], ◌∷◌, map}
 use Rattle.nl_attr.specs.declared.tree.Value.{Value, fold-Value}
 use Rattle.nl_attr.specs.declared.tree.Value.TheOpen.{Value-F, Attr-F, Hop-F}
 use Rattle.nl_attr.specs.declared.tree.Value.TheFolds.{fold-Attr, fold-Hop}

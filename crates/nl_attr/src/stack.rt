@@ -147,13 +147,7 @@ fn list_of<'a>(
 }
 
 /// A region of next hops, of which nothing is read.
-fn hops_of<'a>(
-    alloc: Global,
-    bytes: &'a [u8],
-    base: u32,
-    level: u8,
-    shape: Shape,
-) -> HopsRegion<'a>
+fn hops_of<'a>(alloc: Global, bytes: &'a [u8], base: u32, level: u8, shape: Shape) -> HopsRegion<'a>
     requires { length bytes.now ≤ 1048576 }
     ensures rest { hops_rest shape result ≡ map_value hops (hops_of_region shape level base bytes.now) }
     ensures spot { hops_spot result ≡ spot_of shape hop_head base level bytes.now }
@@ -263,12 +257,7 @@ fn open_value<'a>(
 }
 
 /// One turn of a region of attributes.
-fn step_list<'a>(
-    alloc: Global,
-    region: ListRegion<'a>,
-    shape: Shape,
-    visits: &mut u64,
-) -> Turn<'a>
+fn step_list<'a>(alloc: Global, region: ListRegion<'a>, shape: Shape, visits: &mut u64) -> Turn<'a>
     requires limit { shape.depth ≤ 32 }
     requires limits { IsWithinLimits shape (list_spot region) }
     requires room { visits.old + (list_rest shape region).1 ≤ 34603008 }
@@ -309,12 +298,7 @@ fn step_list<'a>(
 }
 
 /// One turn of a region of next hops.
-fn step_hops<'a>(
-    alloc: Global,
-    region: HopsRegion<'a>,
-    shape: Shape,
-    visits: &mut u64,
-) -> Turn<'a>
+fn step_hops<'a>(alloc: Global, region: HopsRegion<'a>, shape: Shape, visits: &mut u64) -> Turn<'a>
     requires limit { shape.depth ≤ 32 }
     requires limits { IsWithinLimits shape (hops_spot region) }
     requires room { visits.old + (hops_rest shape region).1 ≤ 34603008 }

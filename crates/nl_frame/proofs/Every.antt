@@ -1,11 +1,11 @@
 -- All visits of a datagram, behind faults too, and their bound.
-use Rattle.std.proofs.Common.{◌≡◌, ◌≢◌, ℕ, zero, suc, ◌+◌, ◌-◌, ◌*◌, ◌<◌, ◌≤◌, List, [], ◌∷◌, ◌++◌, length, Option, Some, None, refl, sym, ap, subst, arith, length-drop}
+use Rattle.std.proofs.Common.{◌≡◌, ℕ, zero, suc, ◌+◌, ◌-◌, ◌*◌, ◌≤◌, List, [], ◌++◌, length, Option, Some, None, refl, sym, subst, arith, length-drop}
 use Rattle.std.proofs.Math.Nat.{mul-le-mul_left}
 use Rattle.nl_attr.specs.declared.fault.Reason.{Reason}
 use Rattle.nl_attr.specs.Shape.{Shape}
 use Rattle.nl_attr.specs.Heads.{Head}
 use Rattle.nl_attr.specs.Visits.{Has, spans}
-use Rattle.nl_attr.proofs.Lemmas.Reading.{or_else_none, sound_within, span_at_least, rest_shorter}
+use Rattle.nl_attr.proofs.Lemmas.Reading.{or_else_none, sound_within, rest_shorter}
 use Rattle.nl_attr.proofs.Lemmas.Scan.{span_within}
 use Rattle.nl_attr.proofs.Lemmas.First.{sum_append}
 use Rattle.nl_attr.proofs.Lemmas.Visited.{Has-left, Has-right}

@@ -3,7 +3,7 @@ use Rattle.std.specs.Prelude.{◌≡◌, ◌≤◌, ◌+◌, ℕ, nat_lt, if◌t
 use Rattle.nl_attr.specs.declared.order.Order.{Order}
 use Rattle.nl_attr.specs.declared.fault.Reason.{Reason}
 use Rattle.nl_attr.specs.declared.fault.Reason.TheVariants.{ShortBody}
-use Rattle.nl_attr.specs.Numbers.{number_of, len_of, span_of}
+use Rattle.nl_attr.specs.Numbers.{number_of, span_of}
 use Rattle.nl_attr.specs.Walk.{broken_length, payload_of}
 use Rattle.nl_attr.specs.Heads.{or_else}
 use Rattle.nl_frame.specs.declared.form.Form.{Form}

@@ -130,32 +130,36 @@ fn read_family(
     let order = limits.order();
     match group {
         Group::Link => {
-            let Tally { result, visits } =
-                Link::read_body_ordered(alloc, bytes, base, depth, order);
+            let Tally { result, visits } = Link::read_body_ordered(
+                alloc, bytes, base, depth, order,
+            );
             Tally {
                 result: result.map(Body::Link),
                 visits,
             }
         }
         Group::Addr => {
-            let Tally { result, visits } =
-                Addr::read_body_ordered(alloc, bytes, base, depth, order);
+            let Tally { result, visits } = Addr::read_body_ordered(
+                alloc, bytes, base, depth, order,
+            );
             Tally {
                 result: result.map(Body::Addr),
                 visits,
             }
         }
         Group::Route => {
-            let Tally { result, visits } =
-                Route::read_body_ordered(alloc, bytes, base, depth, order);
+            let Tally { result, visits } = Route::read_body_ordered(
+                alloc, bytes, base, depth, order,
+            );
             Tally {
                 result: result.map(Body::Route),
                 visits,
             }
         }
         Group::Neigh => {
-            let Tally { result, visits } =
-                Neigh::read_body_ordered(alloc, bytes, base, depth, order);
+            let Tally { result, visits } = Neigh::read_body_ordered(
+                alloc, bytes, base, depth, order,
+            );
             Tally {
                 result: result.map(Body::Neigh),
                 visits,

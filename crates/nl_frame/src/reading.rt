@@ -77,8 +77,7 @@ fn read_message(
     ensures told { Tells message_view result (map_value (message_of frame.now.header) (body_at limits.now.shape frame.now.form (place + 16) frame.now.payload.now)) }
     ensures bound { result.visits ≤ (limits.now.shape.depth + 1) * length frame.now.payload.now }
 {
-    let Tally { result, visits } =
-        Body::read(alloc, frame.payload, frame.form, place + 16, limits);
+    let Tally { result, visits } = Body::read(alloc, frame.payload, frame.form, place + 16, limits);
     match result {
         Ok(body) => Tally {
             result: Ok(Message {

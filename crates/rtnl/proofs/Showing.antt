@@ -2,7 +2,6 @@
 use Rattle.std.proofs.Common.{◌≡◌, ℕ, ◌<◌, ◌≤◌, ◌↔◌, ◌⊎◌, inl, inr, List, [], ◌∷◌, ◌++◌, ◌+◌, length, map, Result, Ok, Err, IfOk, IfErr, refl, ◌≢◌, subst, sym, ap, ◌∙◌, append_assoc, append-nil}
 use Rattle.std.proofs.lemmas.Bool.{cases_lt}
 use Rattle.std.specs.Global.{Vec}
-use Rattle.nl_attr.specs.declared.fault.Fault.{Fault}
 use Rattle.nl_frame.specs.declared.body.Message.{Message}
 use Rattle.nl_frame.specs.declared.reading.ReadError.{ReadError}
 use Rattle.nl_frame.specs.declared.reading.ReadError.TheVariants.{TooLarge, Layout as Fails, Memory}
@@ -41,7 +40,7 @@ abbrev pub Continues : Bounds → List (List ℕ) → List ℕ → ℕ → List 
 Continues b all old number rest now verdict =
     (more : List Answer) → EachAnswers b rest more
     → (answers : List Answer) × EachAnswers b all answers × (now ++ shown_from b.shape.order number rest more ≡ old ++ shown_from b.shape.order 1 all answers)
-      × (verdict_from verdict more ≡ verdict_from Clean answers)
+    × (verdict_from verdict more ≡ verdict_from Clean answers)
 
 module _ (b : Bounds) (all : List (List ℕ)) (old : List ℕ) where
   pub begins : Continues b all old 1 all old Clean

@@ -1,5 +1,5 @@
 -- Attributes and next hops by their fields, and how many they are.
-use Rattle.std.proofs.Common.{◌≡◌, ℕ, ◌+◌, ◌++◌, Bool, List, [], ◌∷◌, length, refl, ap, sym, ◌∙◌, arith, codes, Vec, Global}
+use Rattle.std.proofs.Common.{◌≡◌, ◌++◌, Bool, List, [], ◌∷◌, length, refl, ap, sym, ◌∙◌, arith, codes, Vec, Global}
 use Rattle.std.specs.Fmt.{decimal}
 use Rattle.nl_attr.specs.declared.order.Order.{Order}
 use Rattle.nl_attr.specs.declared.tree.Attr.{Attr}

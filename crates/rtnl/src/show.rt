@@ -80,7 +80,11 @@ fn push_datagrams(
 }
 
 /// The text of all datagrams, and the verdict.
-fn text_of(alloc: Global, datagrams: &[Vec<u8>], limits: &Limits) -> Result<(String, Verdict), AllocError>
+fn text_of(
+    alloc: Global,
+    datagrams: &[Vec<u8>],
+    limits: &Limits,
+) -> Result<(String, Verdict), AllocError>
     ensures { IfOk result (λ p. Shows limits.now (map (λ d. d.items) datagrams.now) (string_bytes p.0) p.1) }
 {
     let mut text = String::new(alloc);

@@ -29,10 +29,13 @@ prints
   message 3 done flags 0x0002 MULTI seq 1 port 12345
     done status 0 tail -";
 
-const STATUSES: &str = "Statuses: 0 all datagrams shown; 1 one was refused, or a line is bad; 2 wrong words; 3 a read or a write failed; 4 out of memory.";
+const STATUSES: &str =
+    "Statuses: 0 all datagrams shown; 1 one was refused, or a line is bad; 2 wrong words; 3 a read or a write failed; 4 out of memory.";
 
 fn file_argument<'a>(alloc: Global) -> Arg<'a> {
-    Arg::new(alloc, "FILE").help("Hexadecimal lines, one datagram each; standard input where it isn't given")
+    Arg::new(alloc, "FILE").help(
+        "Hexadecimal lines, one datagram each; standard input where it isn't given",
+    )
 }
 
 fn order_option<'a>(alloc: Global) -> Arg<'a> {

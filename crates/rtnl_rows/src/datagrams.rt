@@ -122,7 +122,8 @@ fn get_without_padding_and_after_it(rt: HostRuntime) -> Result<(), Fail> {
     let text = "11000000 1200 0103 01000000 00000000 00";
     assert!(rt; only(alloc, text)? == get(0x301));
     // Whole padding, and a message behind it.
-    let text = "11000000 1200 0103 01000000 00000000 00 000000 14000000 0300 0200 01000000 39300000 00000000";
+    let text =
+        "11000000 1200 0103 01000000 00000000 00 000000 14000000 0300 0200 01000000 39300000 00000000";
     let (list, visits) = read(alloc, text, &Limits::standard())?;
     assert_eq!(rt; visits, 0);
     assert_eq!(rt; list.len(), 2);
@@ -181,7 +182,8 @@ fn nothing_and_too_little(rt: HostRuntime) -> Result<(), Fail> {
 
 #[test]
 fn an_earlier_attribute_before_a_later_header(rt: HostRuntime) -> Result<(), Fail> {
-    let text = "24000000 1000 0200 01000000 39300000 00000000 00000000 00000000 00000000 03000100 00000000 0300 0200 01000000 39300000";
+    let text =
+        "24000000 1000 0200 01000000 39300000 00000000 00000000 00000000 00000000 03000100 00000000 0300 0200 01000000 39300000";
     let bad = fault(32, Reason::BadLength);
     refuses(&rt, rt.alloc(), text, &Limits::standard(), bad, 0)
 }
@@ -202,9 +204,11 @@ fn errors_and_their_headers(rt: HostRuntime) -> Result<(), Fail> {
             },
         }
     };
-    let refused = "24000000 0200 0000 01000000 39300000 ffffffff 20000000 1200 0103 01000000 00000000";
+    let refused =
+        "24000000 0200 0000 01000000 39300000 ffffffff 20000000 1200 0103 01000000 00000000";
     assert!(rt; only(alloc, refused)? == error(-1));
-    let taken = "24000000 0200 0000 01000000 39300000 00000000 20000000 1200 0103 01000000 00000000";
+    let taken =
+        "24000000 0200 0000 01000000 39300000 00000000 20000000 1200 0103 01000000 00000000";
     assert!(rt; only(alloc, taken)? == error(0));
     let bare = "10000000 0200 0000 01000000 39300000";
     let short = fault(0, Reason::ShortBody);

@@ -221,7 +221,9 @@ fn views_of_a_link(rt: HostRuntime) -> Result<(), Fail> {
     let alloc = rt.alloc();
     // MASTER 7, OPERSTATE 6, LINKINFO with KIND `veth`.
     let head = "00000100 02000000 43100100 00000000";
-    let text = format!(in alloc; "{head} 08000a00 07000000 05001000 06000000 0d001200 09000100 7665746800 000000")?;
+    let text = format!(in alloc;
+        "{head} 08000a00 07000000 05001000 06000000 0d001200 09000100 7665746800 000000"
+    )?;
     let bytes = bytes_of(alloc, text.as_str())?;
     assert!(rt; bytes.len() >= 16);
     let link = Link::read_body(alloc, bytes.as_slice(), 0, Depth::standard()).result?;
@@ -260,8 +262,11 @@ fn views_of_an_address(rt: HostRuntime) -> Result<(), Fail> {
 }
 
 /// DST, SRC, GATEWAY and PREFSRC of 192.0.2.0, .1, .2 and .3, and IIF 1, OIF 2, PRIORITY 1024.
-const ROUTE: &str = "02181800 fe030001 00000000 08000100 c0000200 08000200 c0000201 08000500 c0000202 08000700 c0000203 08000300 01000000 08000400 02000000 08000600 00040000";
-const ROUTE_BIG: &str = "02181800 fe030001 00000000 00080001 c0000200 00080002 c0000201 00080005 c0000202 00080007 c0000203 00080003 00000001 00080004 00000002 00080006 00000400";
+const ROUTE: &str =
+    "02181800 fe030001 00000000 08000100 c0000200 08000200 c0000201 08000500 c0000202 08000700 c0000203 08000300 01000000 08000400 02000000 08000600 00040000";
+
+const ROUTE_BIG: &str =
+    "02181800 fe030001 00000000 00080001 c0000200 00080002 c0000201 00080005 c0000202 00080007 c0000203 00080003 00000001 00080004 00000002 00080006 00000400";
 
 #[test]
 fn views_of_a_route(rt: HostRuntime) -> Result<(), Fail> {
@@ -320,16 +325,28 @@ fn views_of_a_neighbour(rt: HostRuntime) -> Result<(), Fail> {
 fn heads_in_both_orders(rt: HostRuntime) {
     let addr = AddrHead::read(&[2, 8, 0x80, 0xfe, 1, 2, 3, 4]);
     assert_eq!(rt; addr.index, 0x0403_0201);
-    assert_eq!(rt; AddrHead::read_ordered(&addr.write_ordered(Order::Big), Order::Big), addr);
-    assert_eq!(rt; addr.write_ordered(Order::Big), [2, 8, 0x80, 0xfe, 4, 3, 2, 1]);
+    assert_eq!(rt;
+        AddrHead::read_ordered(&addr.write_ordered(Order::Big), Order::Big),
+        addr
+    );
+    assert_eq!(rt;
+        addr.write_ordered(Order::Big),
+        [2, 8, 0x80, 0xfe, 4, 3, 2, 1]
+    );
     let route = RouteHead::read(&[2, 24, 0, 0, 254, 3, 0, 1, 0, 0, 1, 0]);
     assert_eq!(rt; route.flags, 0x10000);
-    assert_eq!(rt; route.write_ordered(Order::Big), [2, 24, 0, 0, 254, 3, 0, 1, 0, 1, 0, 0]);
+    assert_eq!(rt;
+        route.write_ordered(Order::Big),
+        [2, 24, 0, 0, 254, 3, 0, 1, 0, 1, 0, 0]
+    );
     let big = [2, 24, 0, 0, 254, 3, 0, 1, 0, 1, 0, 0];
     assert_eq!(rt; RouteHead::read_ordered(&big, Order::Big), route);
     let neigh = NeighHead::read(&[10, 9, 9, 9, 0xfe, 0xff, 0xff, 0xff, 2, 0, 0x80, 1]);
     assert_eq!(rt; neigh.ifindex, -2);
-    assert_eq!(rt; neigh.write(), [10, 0, 0, 0, 0xfe, 0xff, 0xff, 0xff, 2, 0, 0x80, 1]);
+    assert_eq!(rt;
+        neigh.write(),
+        [10, 0, 0, 0, 0xfe, 0xff, 0xff, 0xff, 2, 0, 0x80, 1]
+    );
     let big = [10, 0, 0, 0, 0xff, 0xff, 0xff, 0xfe, 0, 2, 0x80, 1];
     assert_eq!(rt; neigh.write_ordered(Order::Big), big);
     assert_eq!(rt; NeighHead::read_ordered(&big, Order::Big), neigh);

@@ -43,7 +43,11 @@ fn each_prefix_of_a_dump(rt: HostRuntime) -> Result<(), Fail> {
             place: start,
             reason,
         };
-        assert_eq!(rt; read.result.err(), Some(ReadError::Layout(fault)), "{size} bytes");
+        assert_eq!(rt;
+            read.result.err(),
+            Some(ReadError::Layout(fault)),
+            "{size} bytes"
+        );
     }
     Ok(())
 }
@@ -70,12 +74,7 @@ struct Field {
     greatest: (u32, u64),
 }
 
-fn check_field(
-    rt: &impl Abort,
-    alloc: Global,
-    text: &str,
-    field: &Field,
-) -> Result<(), Fail> {
+fn check_field(rt: &impl Abort, alloc: Global, text: &str, field: &Field) -> Result<(), Fail> {
     for (value, (place, visits)) in [
         ([0, 0, 0, 0], field.least),
         ([3, 0, 0, 0], field.least),
@@ -91,7 +90,13 @@ fn check_field(
             reason: Reason::BadLength,
         };
         let answer = read.result.err();
-        assert_eq!(rt; answer, Some(ReadError::Layout(fault)), "{} at {}", value[0], field.place);
+        assert_eq!(rt;
+            answer,
+            Some(ReadError::Layout(fault)),
+            "{} at {}",
+            value[0],
+            field.place
+        );
     }
     Ok(())
 }
@@ -138,7 +143,10 @@ fn the_length_of_a_name(rt: HostRuntime) -> Result<(), Fail> {
     assert_eq!(rt; link.attrs.len(), 1);
     let name = link.attrs.first().ok_or("a name")?;
     assert_eq!(rt; name.number, 3);
-    assert_eq!(rt; name.bytes(), Some(b"lo\0\0\x08\0\x04\0\0\0\x01".as_slice()));
+    assert_eq!(rt;
+        name.bytes(),
+        Some(b"lo\0\0\x08\0\x04\0\0\0\x01".as_slice())
+    );
     Ok(())
 }
 

@@ -15,7 +15,10 @@ fn reads_and_writes_numbers(rt: HostRuntime) {
     assert_eq!(rt; Order::Big.read_i32(&[0xff, 0xff, 0xff, 0xfe]), -2);
     assert_eq!(rt; Order::Little.u16_bytes(0x1234), [0x34, 0x12]);
     assert_eq!(rt; Order::Big.u16_bytes(0x1234), [0x12, 0x34]);
-    assert_eq!(rt; Order::Little.u32_bytes(0x1234_5678), [0x78, 0x56, 0x34, 0x12]);
+    assert_eq!(rt;
+        Order::Little.u32_bytes(0x1234_5678),
+        [0x78, 0x56, 0x34, 0x12]
+    );
     assert_eq!(rt; Order::Big.u32_bytes(0x1234_5678), [0x12, 0x34, 0x56, 0x78]);
     assert_eq!(rt; Order::Little.i32_bytes(-2), [0xfe, 0xff, 0xff, 0xff]);
     assert_eq!(rt; Order::Big.i32_bytes(-2), [0xff, 0xff, 0xff, 0xfe]);
@@ -41,7 +44,10 @@ fn limits_have_ranges(rt: HostRuntime) -> Result<(), Fail> {
         (8, 65_536, terabyte + 1, 0),
         (8, 65_536, 0, 65_537),
     ] {
-        assert_eq!(rt; Limits::new(depth, datagram, total, entries), Err(LimitFault));
+        assert_eq!(rt;
+            Limits::new(depth, datagram, total, entries),
+            Err(LimitFault)
+        );
     }
     let least = Limits::new(0, 16, 0, 0)?;
     assert_eq!(rt; least.depth().get(), 0);

@@ -61,7 +61,8 @@ fn a_link_and_a_route(rt: HostRuntime) -> Result<(), Fail> {
 
 #[test]
 fn an_address(rt: HostRuntime) -> Result<(), Fail> {
-    let input = "30000000 1400 0200 01000000 39300000 020880fe 01000000 08000100 7f000001 08000200 7f000001 07000300 6c6f0000";
+    let input =
+        "30000000 1400 0200 01000000 39300000 020880fe 01000000 08000100 7f000001 08000200 7f000001 07000300 6c6f0000";
     let text = "datagram 1 bytes 48
 message 20 newaddr flags 0x0002 MULTI seq 1 port 12345
   addr family 2 prefix 8 flags 0x80 scope 254 index 1
@@ -74,7 +75,8 @@ message 20 newaddr flags 0x0002 MULTI seq 1 port 12345
 
 #[test]
 fn a_neighbour(rt: HostRuntime) -> Result<(), Fail> {
-    let input = "3c000000 1c00 0200 01000000 39300000 0a000000 02000000 02008001 14000100 fe800000 00000000 00000000 00000001 0a000200 02000000 00010000";
+    let input =
+        "3c000000 1c00 0200 01000000 39300000 0a000000 02000000 02008001 14000100 fe800000 00000000 00000000 00000001 0a000200 02000000 00010000";
     let text = "datagram 1 bytes 60
 message 28 newneigh flags 0x0002 MULTI seq 1 port 12345
   neigh family 10 index 2 state 0x0002 REACHABLE flags 0x80 ROUTER type 1
@@ -86,7 +88,8 @@ message 28 newneigh flags 0x0002 MULTI seq 1 port 12345
 
 #[test]
 fn metrics(rt: HostRuntime) -> Result<(), Fail> {
-    let input = "2c000000 1800 0200 01000000 39300000 02000000 fe030001 00000000 0d000800 09001000 6375626963 000000";
+    let input =
+        "2c000000 1800 0200 01000000 39300000 02000000 fe030001 00000000 0d000800 09001000 6375626963 000000";
     let text = "datagram 1 bytes 44
 message 24 newroute flags 0x0002 MULTI seq 1 port 12345
   route family 2 dst_len 0 src_len 0 tos 0 table 254 protocol 3 scope 0 type 1 flags 0x00000000
@@ -108,7 +111,8 @@ message 32 other flags 0x0002 MULTI seq 1 port 12345
 
 #[test]
 fn an_error_and_new_flags(rt: HostRuntime) -> Result<(), Fail> {
-    let input = "24000000 0200 0000 01000000 39300000 ffffffff 20000000 1200 0103 01000000 00000000";
+    let input =
+        "24000000 0200 0000 01000000 39300000 ffffffff 20000000 1200 0103 01000000 00000000";
     let text = "datagram 1 bytes 36
 message 2 error flags 0x0000 - seq 1 port 12345
   error code -1 answers len 32 type 18 flags 0x0301 seq 1 port 0 tail -
@@ -126,7 +130,8 @@ message 16 newlink flags 0x0602 MULTI,EXCL,CREATE seq 1 port 12345
 fn forms_that_do_not_apply(rt: HostRuntime) -> Result<(), Fail> {
     // An MTU of two bytes, one in network order, a name that is no text, a nested attribute, and a
     // number without a name.
-    let input = "44000000 1000 0000 01000000 39300000 00000403 01000000 49000100 00000000 06000400 dc050000 08000440 00000100 05000300 01000000 04001480 0600ff3f abcd0000";
+    let input =
+        "44000000 1000 0000 01000000 39300000 00000403 01000000 49000100 00000000 06000400 dc050000 08000440 00000100 05000300 01000000 04001480 0600ff3f abcd0000";
     let text = "datagram 1 bytes 68
 message 16 newlink flags 0x0000 - seq 1 port 12345
   link family 0 type 772 index 1 flags 0x00010049 UP,LOOPBACK,RUNNING,LOWER_UP change 0x00000000
@@ -141,7 +146,8 @@ message 16 newlink flags 0x0000 - seq 1 port 12345
 
 #[test]
 fn a_refusal_and_what_comes_behind_it(rt: HostRuntime) -> Result<(), Fail> {
-    let input = "24000000 1000 0200 01000000 39300000 00000000 00000000 00000000 00000000 03000100 00000000 0300 0200 01000000 39300000
+    let input =
+        "24000000 1000 0200 01000000 39300000 00000000 00000000 00000000 00000000 03000100 00000000 0300 0200 01000000 39300000
 10000000 0100 0000 00000000 00000000
 
 ";
@@ -151,7 +157,14 @@ datagram 2 bytes 16
 message 1 noop flags 0x0000 - seq 0 port 0
   bytes -
 ";
-    shows(&rt, rt.alloc(), Order::Little, input, text, Verdict::Blemished)
+    shows(
+        &rt,
+        rt.alloc(),
+        Order::Little,
+        input,
+        text,
+        Verdict::Blemished,
+    )
 }
 
 #[test]
@@ -159,11 +172,22 @@ fn each_refusal_by_name(rt: HostRuntime) -> Result<(), Fail> {
     let alloc = rt.alloc();
     let cases = [
         ("000000000000000000000000000000", "15", "cut at 0"),
-        ("10000000 1000 0200 01000000 39300000", "16", "short body at 0"),
+        (
+            "10000000 1000 0200 01000000 39300000",
+            "16",
+            "short body at 0",
+        ),
     ];
     for (input, size, reason) in cases {
         let text = format!(in alloc; "datagram 1 bytes {size}\nrefused {reason}\n")?;
-        shows(&rt, alloc, Order::Little, input, text.as_str(), Verdict::Blemished)?;
+        shows(
+            &rt,
+            alloc,
+            Order::Little,
+            input,
+            text.as_str(),
+            Verdict::Blemished,
+        )?;
     }
     Ok(())
 }
@@ -201,7 +225,12 @@ message 65535 other flags 0x0000 - seq 0 port 2852126720
 #[test]
 fn a_bad_line_ends_the_run(rt: HostRuntime) -> Result<(), Fail> {
     let alloc = rt.alloc();
-    for (input, line) in [("abc", 1), ("# odd\n\n1400000\n", 3), ("00\n0g\n", 2), (" #00", 1)] {
+    for (input, line) in [
+        ("abc", 1),
+        ("# odd\n\n1400000\n", 3),
+        ("00\n0g\n", 2),
+        (" #00", 1),
+    ] {
         let mut source = SliceSource::new(input.as_bytes());
         let mut sink = VecSink::new(alloc);
         let answer = run_show(alloc, &mut source, &mut sink, &Limits::standard());

@@ -55,7 +55,10 @@ fn counts_the_failures_of_a_writer(rt: HostRuntime) {
 
 #[test]
 fn reads_a_reader_to_its_end(rt: HostRuntime) {
-    for (broken, answer) in [(false, Ok(Verdict::Clean)), (true, Err(RunError::ReadFault))] {
+    for (broken, answer) in [
+        (false, Ok(Verdict::Clean)),
+        (true, Err(RunError::ReadFault)),
+    ] {
         let mut source = ReadSource::new(ShortFile {
             left: 20_000,
             broken,
@@ -105,7 +108,8 @@ fn reads_the_longest_input_and_one_byte_more(rt: HostRuntime) -> Result<(), Fail
 
 #[test]
 fn stops_where_a_sink_does(rt: HostRuntime) {
-    let text = "datagram 1 bytes 20\nmessage 3 done flags 0x0002 MULTI seq 1 port 12345\n  done status 0 tail -\n";
+    let text =
+        "datagram 1 bytes 20\nmessage 3 done flags 0x0002 MULTI seq 1 port 12345\n  done status 0 tail -\n";
     let cases = [
         (7, 2, true, Err(RunError::WriteFault), "datagram 1 byt", 1),
         (7, 0, true, Err(RunError::WriteFault), "", 1),

@@ -31,9 +31,30 @@ fn reads_next_hops(rt: HostRuntime) -> Result<(), Fail> {
 fn reads_the_lists_of_links_and_routes(rt: HostRuntime) -> Result<(), Fail> {
     let alloc = rt.alloc();
     let cases = [
-        ("0d000800 09001000 6375626963 000000", Ctx::Route, 8, 16, b"cubic".as_slice(), PLAIN),
-        ("0c001200 08000100 76657468", Ctx::Link, 18, 1, b"veth".as_slice(), PLAIN),
-        ("0c000180 08000240 01020304", Ctx::Neigh, 1, 2, [1, 2, 3, 4].as_slice(), NESTED),
+        (
+            "0d000800 09001000 6375626963 000000",
+            Ctx::Route,
+            8,
+            16,
+            b"cubic".as_slice(),
+            PLAIN,
+        ),
+        (
+            "0c001200 08000100 76657468",
+            Ctx::Link,
+            18,
+            1,
+            b"veth".as_slice(),
+            PLAIN,
+        ),
+        (
+            "0c000180 08000240 01020304",
+            Ctx::Neigh,
+            1,
+            2,
+            [1, 2, 3, 4].as_slice(),
+            NESTED,
+        ),
     ];
     for (text, ctx, outer, inner, payload, flags) in cases {
         let bytes = bytes_of(alloc, text)?;
@@ -73,7 +94,10 @@ fn reads_thirty_two_levels_and_no_more(rt: HostRuntime) -> Result<(), Fail> {
 #[test]
 fn finds_the_first_of_a_number(rt: HostRuntime) -> Result<(), Fail> {
     let alloc = rt.alloc();
-    let bytes = bytes_of(alloc, "06000300 61000000 06000300 62000000 06000400 dc050000")?;
+    let bytes = bytes_of(
+        alloc,
+        "06000300 61000000 06000300 62000000 06000400 dc050000",
+    )?;
     let read = read_list(alloc, bytes.as_slice(), 0, Ctx::Link, 0, Depth::standard());
     let list = read.result?;
     assert_eq!(rt; list.len(), 3);

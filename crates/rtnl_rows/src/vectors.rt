@@ -56,7 +56,12 @@ pub fn leaf(alloc: Global, number: u16, bytes: &[u8]) -> Result<Attr, AllocError
 }
 
 /// An attribute of one other.
-pub fn list_of(alloc: Global, number: u16, flags: AttrFlags, attr: Attr) -> Result<Attr, AllocError> {
+pub fn list_of(
+    alloc: Global,
+    number: u16,
+    flags: AttrFlags,
+    attr: Attr,
+) -> Result<Attr, AllocError> {
     let mut attrs = Vec::new(alloc);
     attrs.push(attr)?;
     Ok(Attr {
@@ -117,17 +122,23 @@ pub fn nested_lists(alloc: Global, count: u16, order: Order) -> Result<Vec<u8>, 
 
 /// The end of a dump.
 pub const DONE: &str = "14000000 0300 0200 01000000 39300000 00000000";
+
 pub const DONE_BIG: &str = "00000014 0003 0002 00000001 00003039 00000000";
 
 /// The loopback link.
-pub const LOOPBACK: &str = "30000000 1000 0200 01000000 39300000 00000403 01000000 49000100 00000000 07000300 6c6f0000 08000400 00000100";
-pub const LOOPBACK_BIG: &str = "00000030 0010 0002 00000001 00003039 00000304 00000001 00010049 00000000 00070003 6c6f0000 00080004 00010000";
+pub const LOOPBACK: &str =
+    "30000000 1000 0200 01000000 39300000 00000403 01000000 49000100 00000000 07000300 6c6f0000 08000400 00000100";
+
+pub const LOOPBACK_BIG: &str =
+    "00000030 0010 0002 00000001 00003039 00000304 00000001 00010049 00000000 00070003 6c6f0000 00080004 00010000";
 
 /// The link `eth0`.
-pub const ETHERNET: &str = "2c000000 1000 0200 01000000 39300000 00000100 02000000 43100100 00000000 09000300 65746830 00000000";
+pub const ETHERNET: &str =
+    "2c000000 1000 0200 01000000 39300000 00000100 02000000 43100100 00000000 09000300 65746830 00000000";
 
 /// A route by two next hops.
-pub const TWO_HOPS_ROUTE: &str = "40000000 1800 0200 01000000 39300000 02000000 fe030001 00000000 24000900 10000000 02000000 08000500 c0000201 10000001 03000000 08000500 c0000202";
+pub const TWO_HOPS_ROUTE: &str =
+    "40000000 1800 0200 01000000 39300000 02000000 fe030001 00000000 24000900 10000000 02000000 08000500 c0000201 10000001 03000000 08000500 c0000202";
 
 /// A header of these fields.
 pub fn header_of(len: u32, kind: u16, flags: u16, seq: u32, port: u32) -> Header {

@@ -26,6 +26,7 @@ fn aligns_to_four(rt: HostRuntime) {
 
 /// The name `lo`, and then a length of 3.
 const NAME_AND_FAULT: &str = "07000300 6c6f0000 03000400 00000100";
+
 const NAME_AND_FAULT_BIG: &str = "00070003 6c6f0000 00030004 00010000";
 
 fn gives_a_name_and_a_fault(rt: &impl Abort, mut walk: Attrs<'_>) -> Result<(), Fail> {
@@ -88,14 +89,8 @@ fn flag_bits_are_no_part_of_the_number(rt: HostRuntime) -> Result<(), Fail> {
 
 fn gives_two_hops(rt: &impl Abort, mut walk: HopParts<'_>, order: Order) -> Result<(), Fail> {
     let gateways = match order {
-        Order::Little => [
-            [8, 0, 5, 0, 192, 0, 2, 1],
-            [8, 0, 5, 0, 192, 0, 2, 2],
-        ],
-        Order::Big => [
-            [0, 8, 0, 5, 192, 0, 2, 1],
-            [0, 8, 0, 5, 192, 0, 2, 2],
-        ],
+        Order::Little => [[8, 0, 5, 0, 192, 0, 2, 1], [8, 0, 5, 0, 192, 0, 2, 2]],
+        Order::Big => [[0, 8, 0, 5, 192, 0, 2, 1], [0, 8, 0, 5, 192, 0, 2, 2]],
     };
     let heads = [(0, 2, 0), (1, 3, 16)];
     for (gateway, (hops, ifindex, place)) in gateways.iter().zip(heads) {
@@ -117,7 +112,11 @@ fn gives_next_hops(rt: HostRuntime) -> Result<(), Fail> {
     let little = bytes_of(rt.alloc(), TWO_HOPS)?;
     let hops = little.as_slice().get(4..).ok_or("hops")?;
     gives_two_hops(&rt, HopParts::of(hops), Order::Little)?;
-    gives_two_hops(&rt, HopParts::of_ordered(hops, Order::Little), Order::Little)?;
+    gives_two_hops(
+        &rt,
+        HopParts::of_ordered(hops, Order::Little),
+        Order::Little,
+    )?;
     let big = bytes_of(rt.alloc(), TWO_HOPS_BIG)?;
     let hops = big.as_slice().get(4..).ok_or("hops")?;
     gives_two_hops(&rt, HopParts::of_ordered(hops, Order::Big), Order::Big)

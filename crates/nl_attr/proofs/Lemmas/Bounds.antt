@@ -1,5 +1,5 @@
 -- How many bytes are visited at most.
-use Rattle.std.proofs.Common.{◌≡◌, ℕ, zero, suc, ◌+◌, ◌-◌, ◌*◌, ◌/◌, ◌%◌, ◌<◌, ◌≤◌, min, Bool, true, false, cond, ltb, List, [], ◌∷◌, length, drop, take, Option, Some, None, Result, Ok, Err, refl, subst, arith, length-drop}
+use Rattle.std.proofs.Common.{◌≡◌, ℕ, zero, suc, ◌+◌, ◌-◌, ◌*◌, ◌/◌, ◌≤◌, min, Bool, true, false, cond, ltb, List, [], ◌∷◌, length, drop, Option, Some, None, Ok, Err, refl, subst, arith, length-drop}
 use Rattle.std.proofs.lemmas.Bool.{ltb-false}
 use Rattle.std.proofs.Math.Nat.{mul-le-mul_left}
 use Rattle.nl_attr.specs.declared.fault.Reason.{Reason}
@@ -13,7 +13,7 @@ use Rattle.nl_attr.specs.Shape.{Shape}
 use Rattle.nl_attr.specs.Numbers.{len_of, span_of}
 use Rattle.nl_attr.specs.Walk.{broken_length}
 use Rattle.nl_attr.specs.Tree.{Items, HopItems, list, hops}
-use Rattle.nl_attr.specs.Heads.{attr_head, hop_head, broken_container, broken_in, content_at}
+use Rattle.nl_attr.specs.Heads.{attr_head, broken_container, broken_in, content_at}
 use Rattle.nl_attr.specs.Reading.{Outcome, and_then, map_value, counted, checked, value_by, items_at, hops_at}
 use Rattle.nl_attr.proofs.Lemmas.Reading.{or_else_none, IsWithin, sound_within, span_at_least, payload_shorter, rest_shorter, payload_length}
 use Rattle.nl_attr.specs.Walk.{payload_of}

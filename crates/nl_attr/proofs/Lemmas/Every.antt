@@ -1,22 +1,20 @@
 -- All visits of a region, behind faults too, and their bound.
-use Rattle.std.proofs.Common.{◌≡◌, ◌≢◌, ℕ, zero, suc, ◌+◌, ◌-◌, ◌*◌, ◌<◌, ◌≤◌, ◌⊎◌, Bool, true, false, cond, ltb, List, [], ◌∷◌, ◌++◌, length, take, drop, Option, Some, None, refl, sym, ap, subst, ◌∙◌, arith, inl, inr, length-drop}
+use Rattle.std.proofs.Common.{◌≡◌, ℕ, zero, suc, ◌+◌, ◌-◌, ◌*◌, ◌<◌, ◌≤◌, ◌⊎◌, ltb, List, [], ◌∷◌, ◌++◌, length, Option, Some, None, refl, sym, ap, subst, ◌∙◌, arith, inl, inr}
 use Rattle.std.specs.List.{AllByRecursion}
 use Rattle.std.proofs.lemmas.Bool.{ltb-false}
 use Rattle.nl_attr.specs.declared.fault.Reason.{Reason}
-use Rattle.nl_attr.specs.declared.fault.Reason.TheVariants.{TooLong, TooDeep}
 use Rattle.nl_attr.specs.declared.tree.Ctx.{Ctx}
-use Rattle.nl_attr.specs.declared.tree.Ctx.TheVariants.{Route}
 use Rattle.nl_attr.specs.declared.tree.Content.{Content}
 use Rattle.nl_attr.specs.declared.tree.Content.TheVariants as content
 use Rattle.nl_attr.specs.Shape.{Shape}
 use Rattle.nl_attr.specs.Numbers.{aligned, len_of, span_of}
 use Rattle.nl_attr.specs.Walk.{broken_length, payload_of}
-use Rattle.nl_attr.specs.Heads.{Sort, attr_head, hop_head, Head, least, content_at, broken, broken_in, broken_container, IsSound, follower, inner_in, inner_at, inner_of, HeadAt, start_of}
+use Rattle.nl_attr.specs.Heads.{Sort, attr_head, hop_head, Head, least, content_at, broken, broken_in, broken_container, IsSound, follower, inner_in, inner_at, inner_of, start_of}
 use Rattle.nl_attr.specs.Visits.{IsVisit, Visits, VisitsBy, Rises, Has, spans}
 use Rattle.nl_attr.proofs.Lemmas.Reading.{or_else_none, sound_within, payload_shorter, rest_shorter}
 use Rattle.nl_attr.proofs.Lemmas.Bounds.{turn_bound, at_level, tests_none}
 use Rattle.nl_attr.proofs.Lemmas.First.{sum_append}
-use Rattle.nl_attr.proofs.Lemmas.Scan.{least_some, Begins, same, after, inside, head_begins, head_lies, sound_of, follower_shorter, inner_shorter, follower_lies, inner_lies}
+use Rattle.nl_attr.proofs.Lemmas.Scan.{least_some, same, after, inside, head_begins, head_lies, sound_of, follower_lies, inner_lies}
 use Rattle.nl_attr.proofs.Lemmas.Visited.{Visited, Has-left, Has-right, itself}
 
 abbrev pub onward : List ℕ → Option Reason → ℕ × ℕ → List (ℕ × ℕ) → List (ℕ × ℕ) → List (ℕ × ℕ)

@@ -1,6 +1,5 @@
 -- What is read ends at the first fault, or there is none.
-use Rattle.std.proofs.Common.{◌≡◌, ℕ, zero, suc, ◌+◌, ◌-◌, ◌*◌, ◌%◌, ◌<◌, ◌≤◌, List, [], ◌∷◌, ◌++◌, length, take, drop, Option, Some, None, Result, Ok, Err, refl, sym, ap, subst, ◌∙◌, arith, add_assoc}
-use Rattle.std.specs.Prelude.{slice_index}
+use Rattle.std.proofs.Common.{◌≡◌, ℕ, zero, suc, ◌+◌, List, [], ◌∷◌, ◌++◌, length, drop, Option, Some, None, Result, Ok, Err, refl, subst, arith}
 use Rattle.nl_attr.specs.declared.fault.Reason.{Reason}
 use Rattle.nl_attr.specs.declared.fault.Reason.TheVariants.{Cut, BadLength, ShortBody, TooLong, TooDeep}
 use Rattle.nl_attr.specs.declared.fault.Fault.{Fault}
@@ -8,11 +7,9 @@ use Rattle.nl_attr.specs.declared.tree.Content.{Content}
 use Rattle.nl_attr.specs.declared.tree.Content.TheVariants as content
 use Rattle.nl_attr.specs.declared.tree.Ctx.{Ctx}
 use Rattle.nl_attr.specs.declared.tree.Ctx.TheVariants.{Route}
-use Rattle.nl_attr.specs.declared.order.Order.{Order}
 use Rattle.nl_attr.specs.Shape.{Shape}
-use Rattle.nl_attr.specs.Numbers.{len_of, kind_of, span_of}
-use Rattle.nl_attr.specs.Walk.{flags_of, index_of}
-use Rattle.nl_attr.specs.Tree.{Val, bytes, list, hops, Items, item, HopItems, hop}
+use Rattle.nl_attr.specs.Numbers.{span_of}
+use Rattle.nl_attr.specs.Tree.{list, hops, Items, HopItems}
 use Rattle.nl_attr.specs.Heads.{attr_head, hop_head, Head, broken, content_at, follower, inner_in, inner_of, FaultAt, IsFirstFault, start_of}
 use Rattle.nl_attr.specs.Visits.{spans}
 use Rattle.nl_attr.specs.Reading.{Outcome, and_then, map_value, counted, checked, value_by, items_at, hops_at, items_of_region}

@@ -1,14 +1,12 @@
 -- What fits a region is what is read of it, so no two lists fit one.
-use Rattle.std.proofs.Common.{◌≡◌, ℕ, zero, suc, ◌+◌, ◌-◌, ◌*◌, ◌/◌, ◌%◌, ◌^◌, ◌<◌, ◌≤◌, min, Bool, true, false, cond, eqb, ltb, ◌||◌, ◌⊎◌, ℤ, List, [], ◌∷◌, ◌++◌, length, take, drop, Option, Some, None, Result, Ok, Err, refl, sym, ap, subst, ◌∙◌, arith, inl, inr, append_assoc, length-append}
+use Rattle.std.proofs.Common.{◌≡◌, ℕ, ◌+◌, ◌*◌, ◌/◌, ◌%◌, ◌<◌, ◌≤◌, min, Bool, true, false, cond, eqb, ltb, ◌||◌, ◌⊎◌, ℤ, List, ◌∷◌, ◌++◌, length, take, drop, Some, None, Result, Ok, refl, sym, ap, subst, ◌∙◌, arith, inl, inr, append_assoc, length-append}
 use Rattle.std.proofs.lemmas.Bool.{le-ltb}
-use Rattle.std.proofs.lemmas.List.{take_at, drop_at, append-nil}
+use Rattle.std.proofs.lemmas.List.{take_at, drop_at}
 use Rattle.std.specs.Prelude.{slice_index}
 use Rattle.std.specs.Int.{w32, cast_signed, cast_unsigned}
 use Rattle.std.proofs.lemmas.Int.{to_z-of_z}
 use Rattle.std.proofs.Math.Facts.{Fits-lt-pow, Fits-of_z}
-use Rattle.byteorder.specs.Endian.{little_number}
-use Rattle.nl_attr.specs.declared.fault.Reason.{Reason}
-use Rattle.nl_attr.specs.declared.fault.Reason.TheVariants.{Cut, BadLength, ShortBody, TooLong, TooDeep}
+use Rattle.nl_attr.specs.declared.fault.Reason.TheVariants.{Cut, BadLength, TooLong, TooDeep}
 use Rattle.nl_attr.specs.declared.fault.Fault.{Fault}
 use Rattle.nl_attr.specs.declared.tree.AttrFlags.{AttrFlags}
 use Rattle.nl_attr.specs.declared.tree.Ctx.{Ctx}
@@ -17,12 +15,12 @@ use Rattle.nl_attr.specs.declared.tree.Content.{Content}
 use Rattle.nl_attr.specs.declared.tree.Content.TheVariants as content
 use Rattle.nl_attr.specs.declared.order.Order.{Order}
 use Rattle.nl_attr.specs.Shape.{Shape}
-use Rattle.nl_attr.specs.Numbers.{aligned, num, len_of, kind_of, span_of}
+use Rattle.nl_attr.specs.Numbers.{num, len_of, kind_of, span_of}
 use Rattle.nl_attr.specs.Walk.{flags_of, index_of, broken_length}
 use Rattle.nl_attr.specs.Tree.{Val, bytes, list, hops, Items, no_items, item, HopItems, no_hops, hop, holds_of}
 use Rattle.nl_attr.specs.Layout.{IsPadded, IsPiece, kind_number, FitsVal, Fits, FitsHops}
 use Rattle.nl_attr.specs.Heads.{broken_container}
-use Rattle.nl_attr.specs.Reading.{Outcome, and_then, map_value, more_visits, counted, checked, value_by, items_at, hops_at, items_of_region, hops_of_region, value_at, attr_at}
+use Rattle.nl_attr.specs.Reading.{Outcome, and_then, map_value, more_visits, checked, items_at, items_of_region, hops_of_region, value_at, attr_at}
 use Rattle.nl_attr.proofs.Lemmas.Numbers.{number_of-num, kind_of-num, index_of-num, past_head, past_hop, flags_at, count_at, head_length, head_then, hop_then}
 use Rattle.nl_attr.proofs.Lemmas.Reading.{items_step, hops_step}
 use Rattle.nl_attr.specs.Walk.{payload_of}

@@ -1,5 +1,5 @@
 -- Numbers and their bytes.
-use Rattle.std.proofs.Common.{◌≡◌, ℕ, zero, suc, ◌+◌, ◌-◌, ◌*◌, ◌/◌, ◌%◌, ◌^◌, ◌<◌, ◌≤◌, min, List, [], ◌∷◌, ◌++◌, length, take, drop, get_or, refl, sym, ap, subst, ◌∙◌, arith, inl, inr}
+use Rattle.std.proofs.Common.{◌≡◌, ℕ, zero, suc, ◌+◌, ◌*◌, ◌/◌, ◌%◌, ◌^◌, ◌<◌, ◌≤◌, List, [], ◌∷◌, ◌++◌, length, take, drop, get_or, refl, sym, ap, subst, ◌∙◌, arith, inl, inr}
 use Rattle.std.specs.Prelude.{reverse, ℤ, FitsSigned}
 use Rattle.std.specs.Int.{w32, cast_signed, cast_unsigned}
 use Rattle.std.proofs.lemmas.List.{reverse-reverse, length-reverse, take-append-drop, take_at, length-take, get_or-drop, get_or-take, get_or_past}
@@ -8,11 +8,11 @@ use Rattle.std.proofs.lemmas.Grind.{reverse_onto}
 use Rattle.std.proofs.lemmas.Int.{of_z-to_z, to_z-of_z}
 use Rattle.std.proofs.Math.Facts.{sfits_to_z, Fits-of_lt, Fits-lt-pow, Fits-of_z}
 use Rattle.std.proofs.Math.Nat.{pow-suc}
-use Rattle.byteorder.specs.Endian.{big_from, little_from}
+use Rattle.byteorder.specs.Endian.{big_from}
 use Rattle.byteorder.specs.Numbers.{little_from-cons, big_from-cons, little_from-take, big_from-take}
 use Rattle.nl_attr.specs.declared.order.Order.{Order}
 use Rattle.nl_attr.specs.declared.order.Order.TheVariants.{Little, Big}
-use Rattle.nl_attr.specs.Numbers.{AreBytes, aligned, le, num, number_of, len_of, kind_of, span_of}
+use Rattle.nl_attr.specs.Numbers.{AreBytes, le, num, number_of, kind_of}
 
 -- the number that bytes are the form of, the lowest first
 abbrev pub number : List ℕ → ℕ

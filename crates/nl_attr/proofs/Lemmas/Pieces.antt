@@ -1,15 +1,13 @@
 -- The item at the front of a region whose head is sound is a piece of it.
-use Rattle.std.proofs.Common.{◌≡◌, ◌≢◌, ℕ, zero, suc, ◌+◌, ◌-◌, ◌*◌, ◌/◌, ◌%◌, ◌^◌, ◌<◌, ◌≤◌, min, ◌⊎◌, List, [], ◌∷◌, ◌++◌, length, take, drop, get_or, Option, Some, None, refl, sym, ap, subst, ◌∙◌, arith, inl, inr, append_assoc, length-append, length-drop}
+use Rattle.std.proofs.Common.{◌≡◌, ℕ, zero, suc, ◌+◌, ◌-◌, ◌*◌, ◌/◌, ◌≤◌, min, List, [], ◌∷◌, ◌++◌, length, take, drop, None, refl, sym, ap, ◌∙◌, arith, inl, inr, append_assoc, length-drop}
 use Rattle.std.proofs.lemmas.List.{take-append-drop, length-take, nil_from_length}
 use Rattle.std.proofs.lemmas.Bool.{cases_lt}
 use Rattle.nl_attr.specs.declared.order.Order.{Order}
-use Rattle.nl_attr.specs.Shape.{Shape}
-use Rattle.nl_attr.specs.Numbers.{AreBytes, aligned, num, len_of, kind_of, span_of}
+use Rattle.nl_attr.specs.Numbers.{AreBytes, num, len_of, span_of}
 use Rattle.nl_attr.specs.Walk.{broken_length}
 use Rattle.nl_attr.specs.Layout.{IsPadded, IsPiece}
-use Rattle.nl_attr.specs.Walk.{payload_of}
 use Rattle.nl_attr.proofs.Lemmas.Numbers.{front_is, front_below}
-use Rattle.nl_attr.proofs.Lemmas.Reading.{IsWithin, sound_within, span_at_least}
+use Rattle.nl_attr.proofs.Lemmas.Reading.{sound_within, span_at_least}
 
 pub take_take : (n m : ℕ) (xs : List ℕ) → n ≤ m → take n (take m xs) ≡ take n xs
 take_take zero m xs h = refl

@@ -1,5 +1,5 @@
 -- The heads of a region from left to right, and that the fault met first is at the least place.
-use Rattle.std.proofs.Common.{◌≡◌, ◌≢◌, ℕ, zero, suc, ◌+◌, ◌-◌, ◌*◌, ◌/◌, ◌%◌, ◌<◌, ◌≤◌, min, Bool, true, false, cond, ltb, ◌⊎◌, List, [], ◌∷◌, ◌++◌, length, take, drop, Option, Some, None, refl, sym, ap, subst, ◌∙◌, arith, inl, inr, length-drop}
+use Rattle.std.proofs.Common.{◌≡◌, ◌≢◌, ℕ, zero, suc, ◌+◌, ◌*◌, ◌/◌, ◌<◌, ◌≤◌, min, List, [], ◌∷◌, ◌++◌, length, Option, Some, None, refl, sym, ap, subst, ◌∙◌, arith, length-drop}
 use Rattle.std.proofs.lemmas.List.{nil_from_length}
 use Rattle.nl_attr.specs.declared.fault.Reason.{Reason}
 use Rattle.nl_attr.specs.declared.fault.Reason.TheVariants.{Cut, BadLength, ShortBody, TooLong, TooDeep}
@@ -11,8 +11,8 @@ use Rattle.nl_attr.specs.declared.order.Order.{Order}
 use Rattle.nl_attr.specs.Shape.{Shape}
 use Rattle.nl_attr.specs.Numbers.{aligned, len_of, span_of}
 use Rattle.nl_attr.specs.Walk.{broken_length}
-use Rattle.nl_attr.specs.Heads.{Sort, attr_head, hop_head, Head, least, content_at, broken, broken_container, broken_in, IsSound, follower, inner_in, inner_at, inner_of, HeadAt, first, next, inner, FaultAt, IsFirstFault}
-use Rattle.nl_attr.proofs.Lemmas.Reading.{or_else_none, IsWithin, sound_within, span_at_least, payload_length}
+use Rattle.nl_attr.specs.Heads.{Sort, attr_head, hop_head, Head, least, content_at, broken, broken_in, IsSound, follower, inner_in, inner_at, inner_of, HeadAt, first, next, inner, FaultAt, IsFirstFault}
+use Rattle.nl_attr.proofs.Lemmas.Reading.{or_else_none, sound_within, span_at_least, payload_length}
 use Rattle.nl_attr.specs.Walk.{payload_of}
 
 abbrev pub Scan : Type 0

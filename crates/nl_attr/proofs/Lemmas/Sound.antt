@@ -1,16 +1,14 @@
 -- A list that is read fits the region.
-use Rattle.std.proofs.Common.{◌≡◌, ℕ, zero, suc, ◌+◌, ◌-◌, ◌*◌, ◌/◌, ◌%◌, ◌^◌, ◌<◌, ◌≤◌, min, Bool, true, false, cond, eqb, ltb, List, [], ◌∷◌, ◌++◌, length, take, drop, get_or, Option, Some, None, Result, Ok, Err, refl, sym, ap, subst, ◌∙◌, arith, length-drop}
+use Rattle.std.proofs.Common.{◌≡◌, ℕ, zero, suc, ◌+◌, ◌/◌, ◌%◌, ◌^◌, ◌<◌, ◌≤◌, Bool, true, false, cond, eqb, ltb, List, [], ◌∷◌, ◌++◌, length, take, drop, Option, Some, None, Result, Ok, Err, refl, sym, ap, subst, ◌∙◌, arith}
 use Rattle.std.specs.Prelude.{slice_index}
-use Rattle.std.specs.Int.{w32, cast_signed, cast_unsigned}
+use Rattle.std.specs.Int.{w32, cast_unsigned}
 use Rattle.std.proofs.lemmas.Int.{of_z-to_z}
 use Rattle.std.proofs.Math.Facts.{sfits_to_z, Fits-of_lt}
 use Rattle.nl_attr.proofs.Lemmas.Numbers.{two_bytes, four_bytes, two_fit, four_fit, bytes_take, bytes_drop}
 use Rattle.std.proofs.lemmas.Bool.{ltb-false}
-use Rattle.std.proofs.lemmas.List.{take-append-drop, length-take, get_or-drop, get_or-take, get_or_past, nil_from_length}
-use Rattle.std.proofs.lemmas.Bool.{cases_lt}
-use Rattle.std.proofs.Common.{inl, inr}
+use Rattle.std.proofs.lemmas.List.{take-append-drop, length-take, nil_from_length}
 use Rattle.nl_attr.specs.declared.fault.Reason.{Reason}
-use Rattle.nl_attr.specs.declared.fault.Reason.TheVariants.{Cut, BadLength, ShortBody, TooLong, TooDeep}
+use Rattle.nl_attr.specs.declared.fault.Reason.TheVariants.{TooLong, TooDeep}
 use Rattle.nl_attr.specs.declared.fault.Fault.{Fault}
 use Rattle.nl_attr.specs.declared.tree.Ctx.{Ctx}
 use Rattle.nl_attr.specs.declared.tree.Ctx.TheVariants.{Route}
@@ -20,11 +18,11 @@ use Rattle.nl_attr.specs.declared.order.Order.{Order}
 use Rattle.nl_attr.specs.Shape.{Shape}
 use Rattle.nl_attr.specs.Numbers.{AreBytes, num, number_of, len_of, kind_of, span_of}
 use Rattle.nl_attr.specs.Walk.{flags_of, index_of, broken_length}
-use Rattle.nl_attr.specs.Tree.{Val, bytes, list, hops, Items, no_items, item, HopItems, no_hops, hop, holds_of}
+use Rattle.nl_attr.specs.Tree.{Val, bytes, list, hops, Items, no_items, item, HopItems, no_hops, hop}
 use Rattle.nl_attr.specs.Layout.{kind_number, FitsVal, Fits, FitsHops}
 use Rattle.nl_attr.specs.Heads.{attr_head, broken_in, broken_container, content_at}
 use Rattle.nl_attr.specs.Reading.{Outcome, and_then, map_value, checked, value_by, items_at, hops_at}
-use Rattle.nl_attr.proofs.Lemmas.Reading.{IsWithin, sound_within, or_else_none, payload_shorter, rest_shorter, payload_length}
+use Rattle.nl_attr.proofs.Lemmas.Reading.{IsWithin, sound_within, or_else_none, payload_shorter, rest_shorter}
 use Rattle.nl_attr.proofs.Lemmas.Pieces.{piece_at, take_take}
 use Rattle.nl_attr.specs.Walk.{payload_of}
 

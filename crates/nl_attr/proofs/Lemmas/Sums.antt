@@ -1,17 +1,15 @@
 -- The visits up to any place have a sum, behind faults too.
-use Rattle.std.proofs.Common.{◌≡◌, ◌≢◌, ℕ, zero, suc, ◌+◌, ◌*◌, ◌<◌, ◌≤◌, min, ◌⊎◌, List, [], ◌∷◌, ◌++◌, length, drop, Option, Some, None, refl, sym, ap, subst, ◌∙◌, arith, inl, inr, length-drop}
+use Rattle.std.proofs.Common.{◌≡◌, ◌≢◌, ℕ, zero, suc, ◌+◌, ◌<◌, ◌≤◌, min, List, [], ◌∷◌, length, Option, Some, None, refl, sym, subst, arith, inl, inr, length-drop}
 use Rattle.std.proofs.lemmas.Bool.{cases_lt}
-use Rattle.std.proofs.lemmas.List.{nil_from_length}
 use Rattle.std.specs.List.{AllByRecursion}
 use Rattle.nl_attr.specs.declared.fault.Reason.{Reason}
-use Rattle.nl_attr.specs.declared.tree.Ctx.{Ctx}
 use Rattle.nl_attr.specs.Shape.{Shape}
 use Rattle.nl_attr.specs.Numbers.{aligned, len_of, span_of}
 use Rattle.nl_attr.specs.Walk.{broken_length}
 use Rattle.nl_attr.specs.Heads.{Head, least, broken, IsSound, follower, inner_of, HeadAt, first, next}
-use Rattle.nl_attr.specs.Visits.{Rises, Has, spans, VisitsBy, Visits}
+use Rattle.nl_attr.specs.Visits.{Rises, Has, spans, Visits}
 use Rattle.nl_attr.proofs.Lemmas.Reading.{sound_within, span_at_least, rest_shorter}
-use Rattle.nl_attr.proofs.Lemmas.Scan.{span_within, head_lies, head_then, least_some, inside_reached, inner_shorter}
+use Rattle.nl_attr.proofs.Lemmas.Scan.{span_within, head_lies, least_some, inside_reached, inner_shorter}
 use Rattle.nl_attr.proofs.Lemmas.Visited.{Visited, Rises-append, Rises-from, Rises-to, All-append, All-map, visited_then, item_bounds}
 use Rattle.nl_attr.proofs.Lemmas.Every.{onward, within, visits, every_has, rises_later}
 

@@ -1,9 +1,8 @@
 -- What the exact outcome says in the words of the layout.
-use Rattle.std.proofs.Common.{◌≡◌, ℕ, ◌+◌, ◌≤◌, List, length, Option, Some, None, Result, Ok, Err, refl, sym, ap, subst, ◌∙◌, arith}
+use Rattle.std.proofs.Common.{◌≡◌, ℕ, ◌+◌, List, length, Result, Ok, Err, sym, ap, ◌∙◌, arith}
 use Rattle.std.specs.Prelude.{IfOk, IfErr}
 use Rattle.std.specs.Global.{Vec}
 use Rattle.nl_attr.specs.Numbers.{AreBytes}
-use Rattle.nl_attr.specs.declared.fault.Reason.{Reason}
 use Rattle.nl_attr.specs.declared.fault.Fault.{Fault}
 use Rattle.nl_attr.specs.declared.fault.ListError.{ListError}
 use Rattle.nl_attr.specs.declared.fault.ListError.TheVariants.{Layout, Memory}
@@ -17,7 +16,7 @@ use Rattle.nl_attr.specs.Layout.{Fits}
 use Rattle.nl_attr.specs.Heads.{IsFirstFault, start_of}
 use Rattle.nl_attr.specs.Reading.{Outcome, items_of_region}
 use Rattle.nl_attr.specs.Told.{Says, Tells, IfLayout, VisitsUpTo}
-use Rattle.nl_attr.proofs.Lemmas.Fitting.{items_fit, one_list}
+use Rattle.nl_attr.proofs.Lemmas.Fitting.{items_fit}
 use Rattle.nl_attr.proofs.Lemmas.Sound.{items_sound}
 use Rattle.nl_attr.proofs.Lemmas.First.{read_first}
 use Rattle.nl_attr.proofs.Lemmas.Exact.{read_all_visits}

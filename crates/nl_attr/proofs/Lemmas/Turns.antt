@@ -1,15 +1,13 @@
 -- The numbers of one turn of a walk.
-use Rattle.std.proofs.Common.{◌≡◌, ◌≢◌, ℕ, suc, ◌+◌, ◌-◌, ◌*◌, ◌/◌, ◌<◌, ◌≤◌, ◌^◌, min, List, [], length, take, drop, Option, Some, None, Result, Ok, Err, Fits, w64, refl, sym, ap, subst, ◌∙◌, arith, length-drop, add_assoc}
-use Rattle.std.proofs.Math.Nat.{mul-le-mul_left}
+use Rattle.std.proofs.Common.{◌≡◌, ℕ, ◌+◌, ◌*◌, ◌/◌, ◌≤◌, min, List, length, Some, None, Ok, ap, ◌∙◌, arith, length-drop}
 use Rattle.nl_attr.specs.declared.walk.attrs.Part.{Part}
 use Rattle.nl_attr.specs.declared.walk.hops.HopPart.{HopPart}
 use Rattle.nl_attr.specs.declared.order.Order.{Order}
-use Rattle.nl_attr.specs.Shape.{Shape}
 use Rattle.nl_attr.specs.Numbers.{len_of, span_of}
 use Rattle.nl_attr.specs.Walk.{Region}
 use Rattle.nl_attr.specs.Walk.{broken_length, IsPart, IsHopPart, GivesPart, GivesHop, after}
 use Rattle.nl_attr.specs.Walk.{payload_of}
-use Rattle.nl_attr.proofs.Lemmas.Reading.{IsWithin, sound_within, payload_length, span_at_least}
+use Rattle.nl_attr.proofs.Lemmas.Reading.{sound_within, payload_length, span_at_least}
 
 -- where a walk stands after an item
 pub record Turns (h : ℕ) (r s : Region) (payload : List ℕ) : Type 0 where

@@ -1,5 +1,5 @@
 -- A scan visits each sound head up to its end, once and in order.
-use Rattle.std.proofs.Common.{Bool, true, false, cond, ltb, ◌||◌, ◌≡◌, ◌≢◌, ℕ, zero, suc, ◌+◌, ◌-◌, ◌*◌, ◌/◌, ◌<◌, ◌≤◌, min, ◌⊎◌, List, [], ◌∷◌, ◌++◌, length, drop, Option, Some, None, refl, sym, ap, subst, ◌∙◌, arith, inl, inr, length-drop}
+use Rattle.std.proofs.Common.{Bool, true, false, cond, ltb, ◌||◌, ◌≡◌, ◌≢◌, ℕ, zero, suc, ◌+◌, ◌<◌, ◌≤◌, List, [], ◌∷◌, ◌++◌, length, Option, Some, None, refl, sym, ap, subst, ◌∙◌, arith, inl, inr, length-drop}
 use Rattle.std.proofs.lemmas.List.{nil_from_length}
 use Rattle.std.specs.List.{AllByRecursion}
 use Rattle.nl_attr.specs.declared.fault.Reason.{Reason}
@@ -9,16 +9,15 @@ use Rattle.nl_attr.specs.declared.tree.Ctx.{Ctx}
 use Rattle.nl_attr.specs.Tree.{Items}
 use Rattle.nl_attr.specs.Reading.{Outcome, items_of_region}
 use Rattle.nl_attr.proofs.Lemmas.First.{SameEnd, items_scan}
-use Rattle.std.proofs.Common.{Result, Ok, Err}
+use Rattle.std.proofs.Common.{Err}
 use Rattle.nl_attr.specs.declared.tree.Content.{Content}
 use Rattle.nl_attr.specs.declared.tree.Content.TheVariants as content
-use Rattle.nl_attr.specs.declared.order.Order.{Order}
 use Rattle.nl_attr.specs.Shape.{Shape}
-use Rattle.nl_attr.specs.Numbers.{aligned, len_of, span_of}
+use Rattle.nl_attr.specs.Numbers.{len_of, span_of}
 use Rattle.nl_attr.specs.Walk.{broken_length}
-use Rattle.nl_attr.specs.Heads.{Sort, attr_head, hop_head, content_at, broken_in, broken_container, or_else, Head, least, broken, IsSound, follower, inner_of, HeadAt, first, next, inner, start_of}
-use Rattle.nl_attr.specs.Visits.{Rises, Has, spans, Visits, IsVisit}
-use Rattle.nl_attr.proofs.Lemmas.Scan.{Scan, scan, turn, join, stopped, inner_scan, Begins, same, after, inside, head_begins, head_then, head_lies, follower_reached, inside_reached, inside_long, inner_lies, follower_lies, same_head, follower_shorter, inner_shorter, InsideFinds, Finds, scan_finds, span_within, no_length, some_left, sound_of, least_some, inner_at_place}
+use Rattle.nl_attr.specs.Heads.{Sort, attr_head, hop_head, content_at, broken_in, broken_container, or_else, Head, least, broken, IsSound, follower, inner_of, HeadAt, first, start_of}
+use Rattle.nl_attr.specs.Visits.{Rises, Has, Visits}
+use Rattle.nl_attr.proofs.Lemmas.Scan.{Scan, scan, turn, join, stopped, inner_scan, same, after, inside, head_begins, head_then, head_lies, follower_reached, inside_reached, inner_lies, follower_lies, same_head, follower_shorter, inner_shorter, InsideFinds, Finds, scan_finds, span_within, no_length, sound_of, least_some, inner_at_place}
 use Rattle.nl_attr.proofs.Lemmas.Reading.{sound_within, span_at_least, payload_length}
 
 -- heads up to the fault, where there is one

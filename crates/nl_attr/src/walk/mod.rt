@@ -7,11 +7,10 @@ ghost use Rattle.nl_attr.specs.Walk.{HeadIs};
 mod attrs;
 mod hops;
 
-pub use attrs::{Attrs, Part};
-pub use hops::{HopPart, HopParts};
-
 use crate::fault::Reason;
 use crate::order::Order;
+pub use attrs::{Attrs, Part};
+pub use hops::{HopPart, HopParts};
 
 /// The least multiple of 4 that is not below `n` (`NLMSG_ALIGN`, `RTA_ALIGN`).
 pub fn align4(n: u32) -> u32

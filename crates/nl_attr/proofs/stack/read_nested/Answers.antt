@@ -1,4 +1,4 @@
-use Rattle.std.proofs.Common.{◌≡◌, ◌+◌, ◌++◌, length, arith, subst, sym, ◌∙◌, lit<}
+use Rattle.std.proofs.Common.{◌≡◌, ◌++◌, arith, subst, lit<}
 use Rattle.std.specs.Option.{option_to_list}
 use Rattle.std.specs.Global.{Vec}
 use Rattle.nl_attr.specs.declared.tree.Attr.{Attr}

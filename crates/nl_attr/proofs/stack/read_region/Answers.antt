@@ -1,4 +1,4 @@
-use Rattle.std.proofs.Common.{◌+◌, ◌-◌, ◌≤◌, length, arith}
+use Rattle.std.proofs.Common.{◌+◌, ◌-◌, length, arith}
 use Rattle.nl_attr.specs.Tree.{list}
 use Rattle.nl_attr.specs.Reading.{map_value, items_of_region}
 use Rattle.nl_attr.specs.View.{value_view}

@@ -1,5 +1,4 @@
-use Rattle.std.proofs.Common.{◌≡◌, ◌≤◌, ◌+◌, ◌*◌, length, map}
-use Rattle.nl_frame.specs.Reading.{messages_of}
+use Rattle.std.proofs.Common.{length, map}
 use Rattle.nl_frame.specs.View.{message_view}
 use Rattle.nl_frame.proofs.Loop.{IsReading}
 use Rattle.nl_frame.proofs.reading.read_messages.Given as goal

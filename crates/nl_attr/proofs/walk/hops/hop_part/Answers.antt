@@ -1,4 +1,4 @@
-use Rattle.std.proofs.Common.{◌≡◌, ◌∙◌, ℤ, w32, arith, rules, to_z, of_z}
+use Rattle.std.proofs.Common.{◌∙◌, w32, rules}
 use Rattle.nl_attr.proofs.Lemmas.Reading.{payload_is}
 use Rattle.std.proofs.lemmas.Int.{to_z-of_z}
 use Rattle.nl_attr.proofs.walk.hops.hop_part.Goals as goal
