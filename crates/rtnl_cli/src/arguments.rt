@@ -84,7 +84,7 @@ fn request_of<'a>(matches: &ArgMatches<'a>) -> Request<'a> {
 }
 
 /// What the words, the program's name first, ask for. It fails only for memory.
-pub fn read<'a>(alloc: Global, words: &'a [String]) -> Result<Reading<'a>, AllocError> {
+pub(crate) fn read<'a>(alloc: Global, words: &'a [String]) -> Result<Reading<'a>, AllocError> {
     match whole_command(alloc)?.try_get_matches_from(words) {
         Ok(matches) => Ok(Reading::Request(request_of(&matches))),
         Err(error) => match error.kind() {

@@ -49,7 +49,7 @@ pub struct TightSink {
 }
 
 impl TightSink {
-    pub fn new(alloc: Global, each: usize, calls: usize, fails: bool) -> Self {
+    pub(crate) fn new(alloc: Global, each: usize, calls: usize, fails: bool) -> Self {
         TightSink {
             bytes: Vec::new(alloc),
             each,

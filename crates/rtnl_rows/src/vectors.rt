@@ -11,7 +11,7 @@ use std::test::Fail;
 pub const LONGEST: usize = 1_048_576;
 
 /// The bytes of hexadecimal text, in which blanks are for reading.
-pub fn bytes_of(alloc: Global, text: &str) -> Result<Vec<u8>, Fail>
+pub(crate) fn bytes_of(alloc: Global, text: &str) -> Result<Vec<u8>, Fail>
     ensures { IfOk result (λ v. vec_len v ≤ LONGEST) }
 {
     let digits: Vec<u8> = text.bytes().filter(|c| *c != b' ').collect(alloc)?;
@@ -23,7 +23,7 @@ pub fn bytes_of(alloc: Global, text: &str) -> Result<Vec<u8>, Fail>
 }
 
 /// The same with zero bytes after them.
-pub fn bytes_and_zeros(alloc: Global, text: &str, zeros: usize) -> Result<Vec<u8>, Fail>
+pub(crate) fn bytes_and_zeros(alloc: Global, text: &str, zeros: usize) -> Result<Vec<u8>, Fail>
     ensures { IfOk result (λ v. vec_len v ≤ LONGEST) }
 {
     let mut bytes = bytes_of(alloc, text)?;
@@ -47,7 +47,7 @@ pub const NESTED: AttrFlags = AttrFlags {
 };
 
 /// An attribute of bytes.
-pub fn leaf(alloc: Global, number: u16, bytes: &[u8]) -> Result<Attr, AllocError> {
+pub(crate) fn leaf(alloc: Global, number: u16, bytes: &[u8]) -> Result<Attr, AllocError> {
     Ok(Attr {
         number,
         flags: PLAIN,
@@ -56,7 +56,7 @@ pub fn leaf(alloc: Global, number: u16, bytes: &[u8]) -> Result<Attr, AllocError
 }
 
 /// An attribute of one other.
-pub fn list_of(
+pub(crate) fn list_of(
     alloc: Global,
     number: u16,
     flags: AttrFlags,
@@ -72,7 +72,12 @@ pub fn list_of(
 }
 
 /// A next hop by a gateway.
-pub fn gateway(alloc: Global, hops: u8, ifindex: i32, address: [u8; 4]) -> Result<Hop, AllocError> {
+pub(crate) fn gateway(
+    alloc: Global,
+    hops: u8,
+    ifindex: i32,
+    address: [u8; 4],
+) -> Result<Hop, AllocError> {
     let mut attrs = Vec::new(alloc);
     attrs.push(leaf(alloc, 5, &address)?)?;
     Ok(Hop {
@@ -84,7 +89,7 @@ pub fn gateway(alloc: Global, hops: u8, ifindex: i32, address: [u8; 4]) -> Resul
 }
 
 /// The multipath attribute of two next hops, by 192.0.2.1 and 192.0.2.2.
-pub fn two_hops(alloc: Global) -> Result<Vec<Attr>, AllocError> {
+pub(crate) fn two_hops(alloc: Global) -> Result<Vec<Attr>, AllocError> {
     let mut hops = Vec::new(alloc);
     hops.push(gateway(alloc, 0, 2, [192, 0, 2, 1])?)?;
     hops.push(gateway(alloc, 1, 3, [192, 0, 2, 2])?)?;
@@ -106,7 +111,7 @@ pub const TWO_HOPS_BIG: &str =
     "00240009 00100000 00000002 00080005 c0000201 00100001 00000003 00080005 c0000202";
 
 /// So many nested lists, each of which holds the next, the last empty.
-pub fn nested_lists(alloc: Global, count: u16, order: Order) -> Result<Vec<u8>, Fail>
+pub(crate) fn nested_lists(alloc: Global, count: u16, order: Order) -> Result<Vec<u8>, Fail>
     ensures { IfOk result (λ v. vec_len v ≤ LONGEST) }
 {
     let mut bytes = Vec::new(alloc);
@@ -141,7 +146,7 @@ pub const TWO_HOPS_ROUTE: &str =
     "40000000 1800 0200 01000000 39300000 02000000 fe030001 00000000 24000900 10000000 02000000 08000500 c0000201 10000001 03000000 08000500 c0000202";
 
 /// A header of these fields.
-pub fn header_of(len: u32, kind: u16, flags: u16, seq: u32, port: u32) -> Header {
+pub(crate) fn header_of(len: u32, kind: u16, flags: u16, seq: u32, port: u32) -> Header {
     Header {
         len,
         kind,
