@@ -193,6 +193,24 @@ fn each_refusal_by_name(rt: HostRuntime) -> Result<(), Fail> {
 }
 
 #[test]
+fn a_length_of_three_and_a_head_of_another_type(rt: HostRuntime) -> Result<(), Fail> {
+    let alloc = rt.alloc();
+    let input =
+        "30000000 1000 0200 01000000 39300000 00000403 01000000 49000100 00000000 07000300 6c6f0000 03000400 00000100";
+    let text = "datagram 1 bytes 48\nrefused bad length at 40\n";
+    shows(&rt, alloc, Order::Little, input, text, Verdict::Blemished)?;
+    // Behind the 12 bytes of a neighbour's head stands a length of zero.
+    let input = "000000000000000000000000000000
+30000000 1c00 0200 01000000 39300000 00000403 01000000 49000100 00000000 07000300 6c6f0000 08000400 00000100";
+    let text = "datagram 1 bytes 15
+refused cut at 0
+datagram 2 bytes 48
+refused bad length at 28
+";
+    shows(&rt, alloc, Order::Little, input, text, Verdict::Blemished)
+}
+
+#[test]
 fn both_orders(rt: HostRuntime) -> Result<(), Fail> {
     let alloc = rt.alloc();
     let refused = "datagram 1 bytes 20\nrefused bad length at 0\n";
