@@ -2,6 +2,8 @@
 #![tactic(auto)]
 
 #[cfg(test)]
+mod bodies;
+#[cfg(test)]
 mod datagrams;
 #[cfg(test)]
 mod fakes;
@@ -21,5 +23,7 @@ mod streams;
 mod trees;
 #[cfg(test)]
 mod vectors;
+#[cfg(test)]
+mod views;
 #[cfg(test)]
 mod walkers;
