@@ -1,3 +1,5 @@
+//! The failure of a read or a write.
+
 use thiserror::Error;
 
 /// A call of a source or of a sink failed, and moved no byte.

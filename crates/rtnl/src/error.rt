@@ -1,3 +1,5 @@
+//! What a run answers.
+
 ghost use Rattle.std.specs.Prelude.{◌≡◌};
 
 use std::alloc::{AllocError, AllocFailed};

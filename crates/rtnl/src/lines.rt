@@ -1,3 +1,5 @@
+//! The lines of a recording.
+
 ghost use Rattle.std.specs.Prelude.{◌≡◌, ◌≤◌, length, map, option_map, IfOk};
 ghost use Rattle.rtnl.specs.Lines.{Gives, compact, datagrams, is_blank, is_comment, line_at};
 
@@ -27,7 +29,7 @@ fn without_blanks(alloc: Global, line: &[u8]) -> Result<Vec<u8>, AllocError>
         .collect(alloc)
 }
 
-// The datagram of a line, if it has one.
+/// The datagram of a line, if it has one.
 fn read_line(alloc: Global, number: u32, line: &[u8]) -> Result<Option<Vec<u8>>, RunError>
     ensures { Gives (λ o. option_map (λ d. d.items) o) result (line_at number line.now) }
 {

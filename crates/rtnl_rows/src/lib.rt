@@ -10,6 +10,8 @@ mod fakes;
 #[cfg(test)]
 mod families;
 #[cfg(test)]
+mod forms;
+#[cfg(test)]
 mod hostile;
 #[cfg(test)]
 mod numbers;

@@ -48,7 +48,7 @@ impl fmt::Display for Hex8 {
     }
 }
 
-// The digit of a number below sixteen.
+/// The digit of a number below sixteen.
 fn digit(number: u8) -> char
     requires { number < 16 }
     ensures digit { result ≡ slice_index lower_digits number }

@@ -13,7 +13,7 @@ use nl_frame::Message;
 use std::alloc::{AllocError, Global};
 use std::fmt::Write;
 
-// Writes the line of a message's header.
+/// Writes the line of a message's header.
 #[tactic(auto, unfolding(crate::specs::Messages::message_line), using(std::proofs::Common::append_assoc))]
 fn push_message_line(
     out: &mut String,

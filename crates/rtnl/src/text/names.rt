@@ -1,3 +1,5 @@
+//! Lists of names.
+
 ghost use Rattle.std.specs.Prelude.{◌≡◌, ℕ, List, true, ◌∷◌, ◌++◌, OnOk, IfOk, map};
 ghost use Rattle.std.specs.String.{string_bytes};
 ghost use Rattle.bitflags.specs.Sets.{Row};
@@ -6,7 +8,7 @@ ghost use Rattle.rtnl.specs.Names.{names_set, names_text, rest_text};
 use bitflags::{Flag, Flags};
 use std::alloc::AllocError;
 
-// Writes one name, behind a comma if there are others before it.
+/// Writes one name, behind a comma if there are others before it.
 #[tactic(auto, using(crate::proofs::Listing::first_name, crate::proofs::Listing::next_name))]
 fn push_name(out: &mut String, any: bool, name: &str) -> Result<(), AllocError>
     ensures { OnOk result ((names : List (List ℕ)) → string_bytes out.new ++ rest_text true names
@@ -18,7 +20,7 @@ fn push_name(out: &mut String, any: bool, name: &str) -> Result<(), AllocError>
     out.push_str(name)
 }
 
-// Writes the name of a flag if the value has it, and says whether there is a name by now.
+/// Writes the name of a flag if the value has it, and says whether there is a name by now.
 fn push_flag<F: Flags>(
     out: &mut String,
     any: bool,

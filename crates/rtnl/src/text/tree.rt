@@ -34,7 +34,7 @@ fn deeper_indent(alloc: Global, indent: &str) -> Result<String, AllocError>
     format!(in alloc; "{indent}  ")
 }
 
-// The context of the attributes inside one.
+/// The context of the attributes inside one.
 fn inner(ctx: Ctx, number: u16, flags: AttrFlags) -> Ctx
     ensures { result ≡ inner_context (holds_of ctx number flags) }
 {
@@ -67,7 +67,7 @@ fn push_inline(
     }
 }
 
-// Writes an attribute's own line.
+/// Writes an attribute's own line.
 #[tactic(auto, unfolding(crate::specs::Trees::attr_line))]
 fn push_attr_line(
     out: &mut String,
@@ -87,7 +87,7 @@ fn push_attr_line(
     out.push_str("\n")
 }
 
-// Writes a next hop's own line.
+/// Writes a next hop's own line.
 #[tactic(auto, unfolding(crate::specs::Trees::hop_line), using(std::proofs::Common::append_assoc))]
 fn push_hop_line(
     out: &mut String,
@@ -104,7 +104,7 @@ fn push_hop_line(
     writeln!(out, " hops {hops} index {index}")
 }
 
-// Writes an attribute, and what it holds.
+/// Writes an attribute, and what it holds.
 #[cycle(printing)]
 fn push_attr(
     alloc: Global,
@@ -122,7 +122,7 @@ fn push_attr(
     push_held(alloc, out, order, indent, inner, &attr.value)
 }
 
-// Writes what an attribute holds, in the context of the attributes inside.
+/// Writes what an attribute holds, in the context of the attributes inside.
 #[cycle(printing)]
 fn push_held(
     alloc: Global,
@@ -166,7 +166,7 @@ pub(crate) fn push_attrs(
     Ok(())
 }
 
-// Writes a next hop, and its attributes.
+/// Writes a next hop, and its attributes.
 #[cycle(printing)]
 fn push_hop(
     alloc: Global,

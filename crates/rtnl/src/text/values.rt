@@ -53,7 +53,7 @@ fn push_u32_value(out: &mut String, order: Order, net: bool, bytes: &[u8]) -> Re
     write!(out, "u32 {number}")
 }
 
-// The bytes without one zero byte at their end.
+/// The bytes without one zero byte at their end.
 fn stem(bytes: &[u8]) -> &[u8]
     ensures { result.now ≡ stem_of bytes.entry.now }
 {
