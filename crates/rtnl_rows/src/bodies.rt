@@ -83,9 +83,10 @@ fn the_loopback_address(rt: HostRuntime) -> Result<(), Fail> {
         assert_eq!(rt; read.visits, 24);
         let addr = read.result?;
         assert_eq!(rt; addr.head.index, 1);
-        assert_eq!(rt; addr.address(), Some([127, 0, 0, 1].as_slice()));
-        assert_eq!(rt; addr.local(), Some([127, 0, 0, 1].as_slice()));
-        assert_eq!(rt; addr.label(), Some(b"lo".as_slice()));
+        let host = [127, 0, 0, 1];
+        assert_eq!(rt; addr.address().ok_or("an address")?, host.as_slice());
+        assert_eq!(rt; addr.local().ok_or("a local address")?, host.as_slice());
+        assert_eq!(rt; addr.label().ok_or("a label")?, b"lo".as_slice());
     }
     Ok(())
 }
