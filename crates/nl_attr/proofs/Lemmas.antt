@@ -5,7 +5,9 @@ pub mod Bounds
 pub mod Loop
 pub mod Turns
 pub mod Steps
+pub mod Going
 pub mod Nested
+pub mod Hops
 pub mod Kept
 pub mod Numbers
 pub mod Fitting

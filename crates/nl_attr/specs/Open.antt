@@ -65,6 +65,13 @@ module _ (S : Shape) where
   resume [] o = o
   resume (f ∷ fs) o = and_then (resume fs o) (goes_on f)
 
+-- what opened is read to its end, and then those that wait for it
+abbrev pub opened_rest : Shape → Turn → Outcome Val
+opened_rest S (turn.Opens f t) = and_then (open_rest S t) (goes_on S f)
+opened_rest S (turn.OpensTwo f g t) = and_then (and_then (open_rest S t) (goes_on S g)) (goes_on S f)
+opened_rest S (turn.Ends v) = (Ok (value_view v), 0)
+opened_rest S (turn.Fails e) = (Ok (bytes []), 0)
+
 -- a refusal after m visits, where n were made before and o was left
 abbrev pub FailsAs : ℕ → Outcome Val → ℕ → ListError → Type 0
 FailsAs n o m (Layout f) = more_visits n o ≡ (Err f, m)
@@ -72,8 +79,8 @@ FailsAs n o m Memory = m ≤ n + o.1
 
 -- a turn keeps the outcome
 abbrev pub Goes : Shape → ℕ → Outcome Val → ℕ → Turn → Type 0
-Goes S n o m (turn.Stays t) = more_visits n o ≡ more_visits m (open_rest S t)
-Goes S n o m (turn.Opens f t) = more_visits n o ≡ more_visits m (and_then (open_rest S t) (goes_on S f))
+Goes S n o m (turn.Opens f t) = more_visits n o ≡ more_visits m (opened_rest S (turn.Opens f t))
+Goes S n o m (turn.OpensTwo f g t) = more_visits n o ≡ more_visits m (opened_rest S (turn.OpensTwo f g t))
 Goes S n o m (turn.Ends v) = more_visits n o ≡ (Ok (value_view v), m)
 Goes S n o m (turn.Fails e) = FailsAs n o m e
 
@@ -178,10 +185,37 @@ abbrev pub Fills : Sort → Val → Type 0
 Fills attr_head v = Unit {0}
 Fills hop_head v = Closes attr_head v
 
+-- what opened lies in this room, each in the one that waits for it
+abbrev pub OpensIn : Shape → Room → Turn → Type 0
+OpensIn S r (turn.Opens f t) = IsIn S r (frame_spot f) × IsIn S (room_in (frame_spot f)) (open_spot t)
+OpensIn S r (turn.OpensTwo f g t) = IsIn S r (frame_spot f) × IsIn S (room_in (frame_spot f)) (frame_spot g) × IsIn S (room_in (frame_spot g)) (open_spot t)
+OpensIn S r (turn.Ends v) = ⊥
+OpensIn S r (turn.Fails e) = ⊥
+
+abbrev pub Opens : Turn → Type 0
+Opens (turn.Opens f t) = Unit {0}
+Opens (turn.OpensTwo f g t) = Unit {0}
+Opens (turn.Ends v) = ⊥
+Opens (turn.Fails e) = ⊥
+
+-- how many regions wait then
+abbrev pub frames_in : Turn → ℕ
+frames_in (turn.Opens f t) = 1
+frames_in (turn.OpensTwo f g t) = 2
+frames_in (turn.Ends v) = 0
+frames_in (turn.Fails e) = 0
+
+-- they stand behind the others, and the region that opened is the one that is read
+abbrev pub PutsOn : List Frame → Turn → List Frame → Open → Type 0
+PutsOn fs (turn.Opens f t) gs top = (gs ≡ fs ++ f ∷ []) × (top ≡ t)
+PutsOn fs (turn.OpensTwo f g t) gs top = (gs ≡ (fs ++ f ∷ []) ++ g ∷ []) × (top ≡ t)
+PutsOn fs (turn.Ends v) gs top = ⊥
+PutsOn fs (turn.Fails e) gs top = ⊥
+
 -- a turn keeps the regions in one another, and less is left
 abbrev pub Moves : Shape → Spot → Turn → Type 0
-Moves S s (turn.Stays t) = Advances s (open_spot t) × (length (open_spot t).region.left < length s.region.left)
 Moves S s (turn.Opens f t) = Advances s (frame_spot f) × IsIn S (room_in (frame_spot f)) (open_spot t) × (length (frame_spot f).region.left + suc (length (open_spot t).region.left) < length s.region.left)
+Moves S s (turn.OpensTwo f g t) = (s.sort ≡ hop_head) × Advances s (frame_spot f) × IsIn S (room_in (frame_spot f)) (frame_spot g) × IsIn S (room_in (frame_spot g)) (open_spot t) × (length (frame_spot f).region.left + suc (length (frame_spot g).region.left) + suc (length (open_spot t).region.left) < length s.region.left)
 Moves S s (turn.Ends v) = Closes s.sort (value_view v)
 Moves S s (turn.Fails e) = Unit {0}
 

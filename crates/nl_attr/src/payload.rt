@@ -47,7 +47,12 @@ impl Payload {
         let len = bytes.len();
         let store = if len <= INLINE {
             let mut buffer = [0; INLINE];
-            buffer[..len].copy_from_slice(bytes);
+            if len == 4 {
+                // Most payloads are numbers or addresses of four bytes: one store.
+                buffer[..4].copy_from_slice(bytes);
+            } else {
+                buffer[..len].copy_from_slice(bytes);
+            }
             Store::Inline(len as u8, buffer)
         } else {
             Store::Heap(Vec::from_slice(alloc, bytes)?)

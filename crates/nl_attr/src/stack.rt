@@ -1,13 +1,14 @@
 //! Reading by one loop over a stack of open regions, so that nesting takes no call stack.
 
-ghost use Rattle.std.specs.Prelude.{◌≡◌, ◌≤◌, ◌<◌, ◌+◌, ◌-◌, ◌*◌, ℕ, [], ◌∷◌, length, IfOk};
+ghost use Rattle.std.specs.Prelude.{◌≡◌, ◌≢◌, ◌≤◌, ◌<◌, ◌+◌, ◌-◌, ◌*◌, ℕ, [], ◌∷◌, ◌++◌, length, map, IfOk};
 ghost use Rattle.nl_attr.specs.Heads.{broken_container, attr_head, hop_head};
 ghost use Rattle.nl_attr.specs.Reading.{Outcome, and_then, map_value, more_visits, items_of_region, hops_of_region, value_at};
 ghost use Rattle.nl_attr.specs.Shape.{Shape as ShapeOf};
-ghost use Rattle.nl_attr.specs.Tree.{Val, list, hops, Items};
-ghost use Rattle.nl_attr.specs.View.{value_view, attrs_view};
+ghost use Rattle.nl_attr.specs.Tree.{Val, bytes as held, list, hops, Items, item};
+ghost use Rattle.nl_attr.specs.View.{attr_view, hop_view, value_view, attrs_view};
 ghost use Rattle.nl_attr.specs.Told.{Says};
-ghost use Rattle.nl_attr.specs.Open.{list_rest, hops_rest, open_rest, list_goes_on, hops_go_on, goes_on, Goes, Spot, spot_of, list_spot, hops_spot, open_spot, frame_spot, room_in, IsIn, IsWithinLimits, Closes, Fills, Moves, Passes};
+ghost use Rattle.nl_attr.specs.Open.{list_rest, hops_rest, open_rest, opened_rest, list_goes_on, hops_go_on, goes_on, Goes, Spot, spot_of, list_spot, hops_spot, open_spot, frame_spot, room_in, Opens, OpensIn, PutsOn, frames_in, IsWithinLimits, Closes, Fills, Moves, Passes};
+ghost use Rattle.arrayvec.specs.ArrayVec.{array_vec_len};
 
 use crate::fault::{Fault, ListError, Reason};
 use crate::limits::Shape;
@@ -85,11 +86,13 @@ impl<'a> MadeWith<Global> for Frame<'a> {
     }
 }
 
-/// What one turn leads to.
+/// Where reading a region leads.
 #[derive(Drop)]
 enum Turn<'a> {
-    Stays(Open<'a>),
+    /// A region opens in it, for which it waits.
     Opens(Frame<'a>, Open<'a>),
+    /// A region opens in the attributes of one of its next hops.
+    OpensTwo(Frame<'a>, Frame<'a>, Open<'a>),
     Ends(Value),
     Fails(ListError),
 }
@@ -124,7 +127,11 @@ fn layout(base: u32, fault: Fault) -> ListError
     })
 }
 
-/// A region of attributes, of which nothing is read.
+/// The most items for which room is made before the first is read.
+const FIRST_ROOM: usize = 32;
+
+/// A region of attributes, of which nothing is read; with room for as many as it has where each has
+/// eight bytes.
 fn list_of<'a>(
     alloc: Global,
     bytes: &'a [u8],
@@ -132,32 +139,82 @@ fn list_of<'a>(
     ctx: Ctx,
     level: u8,
     shape: Shape,
-) -> ListRegion<'a>
+) -> Result<ListRegion<'a>, AllocError>
     requires { length bytes.now ≤ 1048576 }
-    ensures rest { list_rest shape result ≡ map_value list (items_of_region shape ctx level base bytes.now) }
-    ensures spot { list_spot result ≡ spot_of shape attr_head base level bytes.now }
+    ensures rest { IfOk result (λ r. list_rest shape r ≡ map_value list (items_of_region shape ctx level base bytes.now)) }
+    ensures spot { IfOk result (λ r. list_spot r ≡ spot_of shape attr_head base level bytes.now) }
 {
-    ListRegion {
+    Ok(ListRegion {
         walk: Attrs::of_ordered(bytes, shape.order()),
         ctx,
         base,
         level,
-        list: Vec::new(alloc),
-    }
+        list: Vec::with_capacity(alloc, (bytes.len() / 8).min(FIRST_ROOM))?,
+    })
 }
 
-/// A region of next hops, of which nothing is read.
-fn hops_of<'a>(alloc: Global, bytes: &'a [u8], base: u32, level: u8, shape: Shape) -> HopsRegion<'a>
+/// A region of next hops, of which nothing is read; with room for as many as it has where each has
+/// sixteen bytes.
+fn hops_of<'a>(
+    alloc: Global,
+    bytes: &'a [u8],
+    base: u32,
+    level: u8,
+    shape: Shape,
+) -> Result<HopsRegion<'a>, AllocError>
     requires { length bytes.now ≤ 1048576 }
-    ensures rest { hops_rest shape result ≡ map_value hops (hops_of_region shape level base bytes.now) }
-    ensures spot { hops_spot result ≡ spot_of shape hop_head base level bytes.now }
+    ensures rest { IfOk result (λ r. hops_rest shape r ≡ map_value hops (hops_of_region shape level base bytes.now)) }
+    ensures spot { IfOk result (λ r. hops_spot r ≡ spot_of shape hop_head base level bytes.now) }
 {
-    HopsRegion {
+    Ok(HopsRegion {
         walk: HopParts::of_ordered(bytes, shape.order()),
         base,
         level,
-        list: Vec::new(alloc),
-    }
+        list: Vec::with_capacity(alloc, (bytes.len() / 16).min(FIRST_ROOM))?,
+    })
+}
+
+/// Adds an attribute to those that were collected.
+#[inline(always)]
+fn keep_attr(
+    list: &mut Vec<Attr>,
+    number: u16,
+    flags: AttrFlags,
+    value: Value,
+) -> Result<(), AllocError>
+    ensures { IfOk result (λ _. map attr_view list.new.items ≡ map attr_view list.old.items ++ item number flags (value_view value) ∷ []) }
+{
+    let attr = Attr {
+        number,
+        flags,
+        value,
+    };
+    list.push(attr)?;
+    Ok(())
+}
+
+/// Adds a next hop to those that were collected.
+#[inline(always)]
+fn keep_hop(list: &mut Vec<Hop>, hop: Hop) -> Result<(), AllocError>
+    ensures { IfOk result (λ _. map hop_view list.new.items ≡ map hop_view list.old.items ++ hop_view hop ∷ []) }
+{
+    list.push(hop)?;
+    Ok(())
+}
+
+/// Adds an attribute of these bytes.
+#[inline(always)]
+fn keep_bytes(
+    alloc: Global,
+    list: &mut Vec<Attr>,
+    number: u16,
+    flags: AttrFlags,
+    payload: &[u8],
+) -> Result<(), AllocError>
+    ensures { IfOk result (λ _. map attr_view list.new.items ≡ map attr_view list.old.items ++ item number flags (held payload.now) ∷ []) }
+{
+    let payload = Payload::from_slice(alloc, payload)?;
+    keep_attr(list, number, flags, Value::Bytes(payload))
 }
 
 /// Collects the attribute that a region waits for.
@@ -170,14 +227,7 @@ fn take_value<'a>(waits: ListWaits<'a>, value: Value) -> Result<ListRegion<'a>, 
         number,
         flags,
     } = waits;
-    let attr = Attr {
-        number,
-        flags,
-        value,
-    };
-    if region.list.push(attr).is_err() {
-        return Err(AllocError);
-    }
+    keep_attr(&mut region.list, number, flags, value)?;
     Ok(region)
 }
 
@@ -198,9 +248,7 @@ fn take_attrs<'a>(waits: HopsWaits<'a>, attrs: Vec<Attr>) -> Result<HopsRegion<'
         ifindex,
         attrs,
     };
-    if region.list.push(hop).is_err() {
-        return Err(AllocError);
-    }
+    keep_hop(&mut region.list, hop)?;
     Ok(region)
 }
 
@@ -220,7 +268,7 @@ fn attach<'a>(frame: Frame<'a>, value: Value) -> Result<Open<'a>, AllocError>
     }
 }
 
-/// Reads the payload of an attribute, or opens the region that it is.
+/// Opens the region that the payload of an attribute is.
 fn open_value<'a>(
     alloc: Global,
     waits: ListWaits<'a>,
@@ -231,119 +279,21 @@ fn open_value<'a>(
 ) -> Turn<'a>
     requires level { waits.region.level ≤ 32 }
     requires size { length payload.now ≤ 1048576 }
+    requires opens { content ≢ Content.Bytes }
     ensures goes { (n m : ℕ) (o : Outcome Val) → more_visits n o ≡ more_visits m (and_then (value_at shape content waits.entry.region.level place payload.now) (list_goes_on shape waits.entry)) → Goes shape n o m result }
     ensures moves { (s : Spot) → broken_container shape waits.entry.region.level content (length payload.now + 4) ≡ None → IsWithinLimits shape s → Passes s (list_spot waits.entry.region) place payload.now → Moves shape s result }
 {
     let level = waits.region.level + 1;
     match content {
-        Content::Bytes => {
-            let Ok(all) = Payload::from_slice(alloc, payload) else {
-                return Turn::Fails(ListError::Memory);
-            };
-            match take_value(waits, Value::Bytes(all)) {
-                Ok(region) => Turn::Stays(Open::List(region)),
-                Err(AllocError) => Turn::Fails(ListError::Memory),
-            }
-        }
-        Content::List(ctx) => {
-            let inner = list_of(alloc, payload, place, ctx, level, shape);
-            Turn::Opens(Frame::List(waits), Open::List(inner))
-        }
-        Content::Hops => {
-            let inner = hops_of(alloc, payload, place, level, shape);
-            Turn::Opens(Frame::List(waits), Open::Hops(inner))
-        }
-    }
-}
-
-/// One turn of a region of attributes.
-fn step_list<'a>(alloc: Global, region: ListRegion<'a>, shape: Shape, visits: &mut u64) -> Turn<'a>
-    requires limit { shape.depth ≤ 32 }
-    requires limits { IsWithinLimits shape (list_spot region) }
-    requires room { visits.old + (list_rest shape region).1 ≤ 34603008 }
-    ensures goes { Goes shape visits.old (list_rest shape region.entry) visits.new result }
-    ensures moves { Moves shape (list_spot region.entry) result }
-{
-    let ListRegion {
-        mut walk,
-        ctx,
-        base,
-        level,
-        list,
-    } = region;
-    let part = match walk.next() {
-        None => return Turn::Ends(Value::List(list)),
-        Some(Err(fault)) => return Turn::Fails(layout(base, fault)),
-        Some(Ok(part)) => part,
-    };
-    *visits += part.span as u64;
-    let content = holds(ctx, part.number, part.flags);
-    if let Some(reason) = container_fault(content, part.payload.len() + 4, level, shape) {
-        let place = part.place;
-        return Turn::Fails(layout(base, Fault { place, reason }));
-    }
-    let waits = ListWaits {
-        region: ListRegion {
-            walk,
-            ctx,
-            base,
-            level,
-            list,
+        Content::Bytes => unreachable!(),
+        Content::List(ctx) => match list_of(alloc, payload, place, ctx, level, shape) {
+            Ok(inner) => Turn::Opens(Frame::List(waits), Open::List(inner)),
+            Err(AllocError) => Turn::Fails(ListError::Memory),
         },
-        number: part.number,
-        flags: part.flags,
-    };
-    let place = base + part.place + 4;
-    open_value(alloc, waits, part.payload, place, content, shape)
-}
-
-/// One turn of a region of next hops.
-fn step_hops<'a>(alloc: Global, region: HopsRegion<'a>, shape: Shape, visits: &mut u64) -> Turn<'a>
-    requires limit { shape.depth ≤ 32 }
-    requires limits { IsWithinLimits shape (hops_spot region) }
-    requires room { visits.old + (hops_rest shape region).1 ≤ 34603008 }
-    ensures goes { Goes shape visits.old (hops_rest shape region.entry) visits.new result }
-    ensures moves { Moves shape (hops_spot region.entry) result }
-{
-    let HopsRegion {
-        mut walk,
-        base,
-        level,
-        list,
-    } = region;
-    let part = match walk.next() {
-        None => return Turn::Ends(Value::Hops(list)),
-        Some(Err(fault)) => return Turn::Fails(layout(base, fault)),
-        Some(Ok(part)) => part,
-    };
-    *visits += part.span as u64;
-    let place = base + part.place + 8;
-    let inner = list_of(alloc, part.rest, place, Ctx::Route, level + 1, shape);
-    let waits = HopsWaits {
-        region: HopsRegion {
-            walk,
-            base,
-            level,
-            list,
+        Content::Hops => match hops_of(alloc, payload, place, level, shape) {
+            Ok(inner) => Turn::Opens(Frame::List(waits), Open::Hops(inner)),
+            Err(AllocError) => Turn::Fails(ListError::Memory),
         },
-        flags: part.flags,
-        hops: part.hops,
-        ifindex: part.ifindex,
-    };
-    Turn::Opens(Frame::Hops(waits), Open::List(inner))
-}
-
-/// One turn of the region on top.
-fn step<'a>(alloc: Global, top: Open<'a>, shape: Shape, visits: &mut u64) -> Turn<'a>
-    requires limit { shape.depth ≤ 32 }
-    requires limits { IsWithinLimits shape (open_spot top) }
-    requires room { visits.old + (open_rest shape top).1 ≤ 34603008 }
-    ensures goes { Goes shape visits.old (open_rest shape top.entry) visits.new result }
-    ensures moves { Moves shape (open_spot top.entry) result }
-{
-    match top {
-        Open::List(region) => step_list(alloc, region, shape, visits),
-        Open::Hops(region) => step_hops(alloc, region, shape, visits),
     }
 }
 
@@ -359,32 +309,171 @@ fn attrs_in(value: Value) -> Vec<Attr>
     }
 }
 
-/// The attributes of the region that waits, by one loop over the regions that are open in it.
+/// Reads a region of attributes up to the first that opens another region.
+#[inline(always)]
+fn read_attrs<'a>(alloc: Global, region: ListRegion<'a>, shape: Shape, visits: &mut u64) -> Turn<'a>
+    requires limit { shape.depth ≤ 32 }
+    requires limits { IsWithinLimits shape (list_spot region) }
+    requires room { visits.old + (list_rest shape region).1 ≤ 34603008 }
+    ensures goes { Goes shape visits.old (list_rest shape region.entry) visits.new result }
+    ensures moves { Moves shape (list_spot region.entry) result }
+{
+    let ListRegion {
+        mut walk,
+        ctx,
+        base,
+        level,
+        mut list,
+    } = region;
+    'attrs: loop {
+        let part = match walk.next() {
+            None => return Turn::Ends(Value::List(list)),
+            Some(Err(fault)) => return Turn::Fails(layout(base, fault)),
+            Some(Ok(part)) => part,
+        };
+        *visits += part.span as u64;
+        let content = holds(ctx, part.number, part.flags);
+        if let Content::Bytes = content {
+            match keep_bytes(alloc, &mut list, part.number, part.flags, part.payload) {
+                Ok(()) => continue 'attrs,
+                Err(AllocError) => return Turn::Fails(ListError::Memory),
+            }
+        }
+        if let Some(reason) = container_fault(content, part.payload.len() + 4, level, shape) {
+            let place = part.place;
+            return Turn::Fails(layout(base, Fault { place, reason }));
+        }
+        let waits = ListWaits {
+            region: ListRegion {
+                walk,
+                ctx,
+                base,
+                level,
+                list,
+            },
+            number: part.number,
+            flags: part.flags,
+        };
+        let place = base + part.place + 4;
+        return open_value(alloc, waits, part.payload, place, content, shape);
+    }
+}
+
+/// Reads a region of next hops up to the first in whose attributes a region opens.
+fn read_hops<'a>(alloc: Global, region: HopsRegion<'a>, shape: Shape, visits: &mut u64) -> Turn<'a>
+    requires limit { shape.depth ≤ 32 }
+    requires limits { IsWithinLimits shape (hops_spot region) }
+    requires room { visits.old + (hops_rest shape region).1 ≤ 34603008 }
+    ensures goes { Goes shape visits.old (hops_rest shape region.entry) visits.new result }
+    ensures moves { Moves shape (hops_spot region.entry) result }
+{
+    let HopsRegion {
+        mut walk,
+        base,
+        level,
+        mut list,
+    } = region;
+    'hops: loop {
+        let part = match walk.next() {
+            None => return Turn::Ends(Value::Hops(list)),
+            Some(Err(fault)) => return Turn::Fails(layout(base, fault)),
+            Some(Ok(part)) => part,
+        };
+        *visits += part.span as u64;
+        let place = base + part.place + 8;
+        let inner = match list_of(alloc, part.rest, place, Ctx::Route, level + 1, shape) {
+            Ok(inner) => inner,
+            Err(AllocError) => return Turn::Fails(ListError::Memory),
+        };
+        match read_attrs(alloc, inner, shape, visits) {
+            Turn::Ends(value) => {
+                let hop = Hop {
+                    flags: part.flags,
+                    hops: part.hops,
+                    ifindex: part.ifindex,
+                    attrs: attrs_in(value),
+                };
+                match keep_hop(&mut list, hop) {
+                    Ok(()) => continue 'hops,
+                    Err(AllocError) => return Turn::Fails(ListError::Memory),
+                }
+            }
+            Turn::Opens(frame, innermost) => {
+                let waits = HopsWaits {
+                    region: HopsRegion {
+                        walk,
+                        base,
+                        level,
+                        list,
+                    },
+                    flags: part.flags,
+                    hops: part.hops,
+                    ifindex: part.ifindex,
+                };
+                return Turn::OpensTwo(Frame::Hops(waits), frame, innermost);
+            }
+            Turn::OpensTwo(_, _, _) => unreachable!(),
+            Turn::Fails(error) => return Turn::Fails(error),
+        }
+    }
+}
+
+/// Reads a region up to where another opens.
+fn read_open<'a>(alloc: Global, top: Open<'a>, shape: Shape, visits: &mut u64) -> Turn<'a>
+    requires limit { shape.depth ≤ 32 }
+    requires limits { IsWithinLimits shape (open_spot top) }
+    requires room { visits.old + (open_rest shape top).1 ≤ 34603008 }
+    ensures goes { Goes shape visits.old (open_rest shape top.entry) visits.new result }
+    ensures moves { Moves shape (open_spot top.entry) result }
+{
+    match top {
+        Open::List(region) => read_attrs(alloc, region, shape, visits),
+        Open::Hops(region) => read_hops(alloc, region, shape, visits),
+    }
+}
+
+/// The region that opened; those that wait for it go onto the stack.
+fn open_on<'a>(stack: &mut ArrayVec<Frame<'a>, 33, Global>, turn: Turn<'a>) -> Open<'a>
+    requires opens { Opens turn }
+    requires room { array_vec_len stack.old + frames_in turn ≤ 33 }
+    ensures { PutsOn stack.old.items turn.entry stack.new.items result }
+{
+    match turn {
+        Turn::Opens(frame, inner) => {
+            stack.push(frame);
+            inner
+        }
+        Turn::OpensTwo(frame, second, inner) => {
+            stack.push(frame);
+            stack.push(second);
+            inner
+        }
+        Turn::Ends(_) => unreachable!(),
+        Turn::Fails(_) => unreachable!(),
+    }
+}
+
+/// The attributes of the region that waits for what a turn opened, by one loop over all that are open.
 fn read_nested<'a>(
     alloc: Global,
     outermost: Frame<'a>,
-    inner: Open<'a>,
+    turn: Turn<'a>,
     shape: Shape,
     visits: &mut u64,
 ) -> Result<Vec<Attr>, ListError>
     requires limit { shape.depth ≤ 32 }
     requires sort { (frame_spot outermost).sort ≡ attr_head }
     requires limits { IsWithinLimits shape (frame_spot outermost) }
-    requires nested { IsIn shape (room_in (frame_spot outermost)) (open_spot inner) }
-    requires room { visits.old + (and_then (open_rest shape inner) (goes_on shape outermost)).1 ≤ 34603008 }
-    ensures told { (o : Outcome Items) → more_visits visits.old (and_then (open_rest shape inner.entry) (goes_on shape outermost.entry)) ≡ map_value list o → Says (λ v. attrs_view v.items) result visits.new o }
-    ensures bound { visits.new ≤ visits.old + (and_then (open_rest shape inner.entry) (goes_on shape outermost.entry)).1 }
+    requires nested { OpensIn shape (room_in (frame_spot outermost)) turn }
+    requires room { visits.old + (and_then (opened_rest shape turn) (goes_on shape outermost)).1 ≤ 34603008 }
+    ensures told { (o : Outcome Items) → more_visits visits.old (and_then (opened_rest shape turn.entry) (goes_on shape outermost.entry)) ≡ map_value list o → Says (λ v. attrs_view v.items) result visits.new o }
+    ensures bound { visits.new ≤ visits.old + (and_then (opened_rest shape turn.entry) (goes_on shape outermost.entry)).1 }
 {
     let mut stack: ArrayVec<Frame<'a>, 33, Global> = ArrayVec::new_in(alloc);
     stack.push(outermost);
-    let mut top = inner;
+    let mut top = open_on(&mut stack, turn);
     'regions: loop {
-        match step(alloc, top, shape, visits) {
-            Turn::Stays(same) => top = same,
-            Turn::Opens(below, inner) => {
-                stack.push(below);
-                top = inner;
-            }
+        match read_open(alloc, top, shape, visits) {
             Turn::Ends(value) => match stack.pop() {
                 None => return Ok(attrs_in(value)),
                 Some(below) => match attach(below, value) {
@@ -393,11 +482,13 @@ fn read_nested<'a>(
                 },
             },
             Turn::Fails(error) => return Err(error),
+            turn => top = open_on(&mut stack, turn),
         }
     }
 }
 
-/// The attributes of a region; the stack is made when a first region opens in it.
+/// The attributes of a region. The stack is made where a region opens in one that opened in it: most
+/// need none.
 pub(crate) fn read_region(
     alloc: Global,
     bytes: &[u8],
@@ -415,15 +506,23 @@ pub(crate) fn read_region(
     ensures told { Says (λ v. attrs_view v.items) result visits.new (items_of_region shape ctx level base bytes.now) }
     ensures bound { visits.new ≤ (shape.depth - level + 1) * length bytes.now }
 {
-    let mut top = Open::List(list_of(alloc, bytes, base, ctx, level, shape));
+    let mut top = match list_of(alloc, bytes, base, ctx, level, shape) {
+        Ok(region) => Open::List(region),
+        Err(AllocError) => return Err(ListError::Memory),
+    };
     'items: loop {
-        match step(alloc, top, shape, visits) {
-            Turn::Stays(same) => top = same,
-            Turn::Opens(outermost, inner) => {
-                return read_nested(alloc, outermost, inner, shape, visits);
-            }
+        match read_open(alloc, top, shape, visits) {
             Turn::Ends(value) => return Ok(attrs_in(value)),
             Turn::Fails(error) => return Err(error),
+            Turn::OpensTwo(_, _, _) => unreachable!(),
+            Turn::Opens(outermost, inner) => match read_open(alloc, inner, shape, visits) {
+                Turn::Ends(value) => match attach(outermost, value) {
+                    Ok(open) => top = open,
+                    Err(AllocError) => return Err(ListError::Memory),
+                },
+                Turn::Fails(error) => return Err(error),
+                turn => return read_nested(alloc, outermost, turn, shape, visits),
+            },
         }
     }
 }

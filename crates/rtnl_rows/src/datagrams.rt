@@ -1,7 +1,8 @@
 //! Whole datagrams, in both byte orders.
 
 use crate::vectors::{
-    DONE, DONE_BIG, LOOPBACK, LOOPBACK_BIG, TWO_HOPS_ROUTE, bytes_of, header_of, two_hops,
+    DONE, DONE_BIG, LOOPBACK, LOOPBACK_BIG, TWO_HOPS_ROUTE, TWO_HOPS_ROUTE_BIG, bytes_of,
+    header_of, two_hops,
 };
 use nl_attr::{Fault, Order, Reason};
 use nl_frame::{Body, Limits, Message, ReadError, read_datagram};
@@ -138,8 +139,14 @@ fn get_without_padding_and_after_it(rt: HostRuntime) -> Result<(), Fail> {
 fn route_by_two_hops(rt: HostRuntime) -> Result<(), Fail> {
     let alloc = rt.alloc();
     let deep = Limits::new(2, 65_536, 0, 0)?;
-    for limits in [Limits::standard(), deep] {
-        let (list, visits) = read(alloc, TWO_HOPS_ROUTE, &limits)?;
+    let big = Limits::standard().with_order(Order::Big);
+    for (text, limits) in [
+        (TWO_HOPS_ROUTE, Limits::standard()),
+        (TWO_HOPS_ROUTE, deep),
+        (TWO_HOPS_ROUTE_BIG, big),
+        (TWO_HOPS_ROUTE_BIG, deep.with_order(Order::Big)),
+    ] {
+        let (list, visits) = read(alloc, text, &limits)?;
         assert_eq!(rt; visits, 84);
         let head = RouteHead {
             family: 2,
@@ -167,7 +174,9 @@ fn route_by_two_hops(rt: HostRuntime) -> Result<(), Fail> {
     }
     let shallow = Limits::new(1, 65_536, 0, 0)?;
     let deep = fault(28, Reason::TooDeep);
-    refuses(&rt, alloc, TWO_HOPS_ROUTE, &shallow, deep, 36)
+    refuses(&rt, alloc, TWO_HOPS_ROUTE, &shallow, deep, 36)?;
+    let shallow = shallow.with_order(Order::Big);
+    refuses(&rt, alloc, TWO_HOPS_ROUTE_BIG, &shallow, deep, 36)
 }
 
 #[test]
@@ -182,10 +191,15 @@ fn nothing_and_too_little(rt: HostRuntime) -> Result<(), Fail> {
 
 #[test]
 fn an_earlier_attribute_before_a_later_header(rt: HostRuntime) -> Result<(), Fail> {
-    let text =
+    let alloc = rt.alloc();
+    let little =
         "24000000 1000 0200 01000000 39300000 00000000 00000000 00000000 00000000 03000100 00000000 0300 0200 01000000 39300000";
+    let big =
+        "00000024 0010 0002 00000001 00003039 00000000 00000000 00000000 00000000 00030001 00000000 0003 0002 00000001 00003039";
     let bad = fault(32, Reason::BadLength);
-    refuses(&rt, rt.alloc(), text, &Limits::standard(), bad, 0)
+    let limits = Limits::standard();
+    refuses(&rt, alloc, little, &limits, bad, 0)?;
+    refuses(&rt, alloc, big, &limits.with_order(Order::Big), bad, 0)
 }
 
 #[test]

@@ -9,11 +9,13 @@ use Rattle.nl_attr.specs.declared.tree.Ctx.{Ctx}
 use Rattle.nl_attr.specs.Shape.{Shape}
 use Rattle.nl_attr.specs.declared.stack.Open.{Open}
 use Rattle.nl_attr.specs.declared.stack.Frame.{Frame}
+use Rattle.nl_attr.specs.declared.stack.Turn.{Turn}
+use Rattle.nl_attr.specs.declared.stack.Turn.TheVariants as turn
 use Rattle.nl_attr.specs.Tree.{Val, list, Items}
 use Rattle.nl_attr.specs.Heads.{Sort, attr_head, hop_head}
 use Rattle.nl_attr.specs.Reading.{Outcome, and_then, map_value, more_visits, items_of_region}
 use Rattle.nl_attr.specs.Told.{Says}
-use Rattle.nl_attr.specs.Open.{open_rest, goes_on, resume, FailsAs, Spot, open_spot, frame_spot, levels_in, IsWithinLimits, Takes, Room, IsIn, room_in, Nests, list_room, spot_end, work, spots, Advances, Closes, Fills}
+use Rattle.nl_attr.specs.Open.{open_rest, opened_rest, goes_on, Goes, resume, FailsAs, Spot, open_spot, frame_spot, levels_in, IsWithinLimits, Takes, Room, IsIn, room_in, Nests, list_room, spot_end, work, spots, Advances, Closes, Fills, Opens, OpensIn, PutsOn, frames_in, Moves}
 use Rattle.nl_attr.proofs.Lemmas.Reading.{more_then}
 use Rattle.nl_attr.proofs.Lemmas.Bounds.{items_bound, map_bound}
 
@@ -33,7 +35,7 @@ resume-more : (S : Shape) (fs : List Frame) (n : ℕ) (o : Outcome Val) → resu
 resume-more S [] n o = refl
 resume-more S (f ∷ fs) n o = ap (λ p. and_then p (goes_on S f)) (resume-more S fs n o) ∙ more_then n (resume S fs o) (goes_on S f)
 
-then_more : {A B : Type 0} (o : Outcome A) (f : A → Outcome B) → o.1 ≤ (and_then o f).1
+pub then_more : {A B : Type 0} (o : Outcome A) (f : A → Outcome B) → o.1 ≤ (and_then o f).1
 then_more (Ok x, v) f = omega arith
 then_more (Err d, v) f = omega arith
 
@@ -66,7 +68,7 @@ nests_two : (S : Shape) (r : Room) (ss : List Spot) (s t : Spot) → Nests S r (
 nests_two S r [] s t n = n.1.0
 nests_two S r (x ∷ xs) s t n = nests_two S (room_in x) xs s t n.1
 
-advances_in : (S : Shape) (s t : Spot) → Advances s t → (q : Room) → IsIn S q s → IsIn S q t
+pub advances_in : (S : Shape) (s t : Spot) → Advances s t → (q : Room) → IsIn S q s → IsIn S q t
 advances_in S s t a q i = record {
   sort = subst (Takes q.sort) (sym a.sort) i.sort;
   level = a.level ∙ i.level;
@@ -108,17 +110,33 @@ module _ {S : Shape} {start : Room} {whole : Outcome Val} {n : ℕ} {fs : List F
   pub has_room : IsReading S start whole n fs top → n + (open_rest S top).1 ≤ whole.1
   has_room i = omega (arith, ap (λ (o : Outcome Val). o.1) i.same, resume_visits S fs (open_rest S top))
 
-  pub stays : (m : ℕ) (t : Open) → IsReading S start whole n fs top → more_visits n (open_rest S top) ≡ more_visits m (open_rest S t) → Advances (open_spot top) (open_spot t) → IsReading S start whole m fs t
-  stays m t i e a = record {
-    same = sym (resume_same S fs n m (open_rest S top) (open_rest S t) e) ∙ i.same;
-    nests = nests_swap S start (map frame_spot fs) (open_spot top) (open_spot t) i.nests (advances_in S (open_spot top) (open_spot t) a);
-  }
-
-  pub opens : (m : ℕ) (gs : List Frame) (f : Frame) (t : Open) → IsReading S start whole n fs top → gs ≡ fs ++ f ∷ [] → more_visits n (open_rest S top) ≡ more_visits m (and_then (open_rest S t) (goes_on S f)) → Advances (open_spot top) (frame_spot f) → IsIn S (room_in (frame_spot f)) (open_spot t) → IsReading S start whole m gs t
+  opens : (m : ℕ) (gs : List Frame) (f : Frame) (t : Open) → IsReading S start whole n fs top → gs ≡ fs ++ f ∷ [] → more_visits n (open_rest S top) ≡ more_visits m (and_then (open_rest S t) (goes_on S f)) → Advances (open_spot top) (frame_spot f) → IsIn S (room_in (frame_spot f)) (open_spot t) → IsReading S start whole m gs t
   opens m gs f t i is e a inner = rw is (record {
     same = ap (more_visits m) (resume-push S fs f (open_rest S t)) ∙ sym (resume_same S fs n m (open_rest S top) _ e) ∙ i.same;
     nests = rw (map_push frame_spot fs f) (nests_push S start (map frame_spot fs) (frame_spot f) (open_spot t) (nests_swap S start (map frame_spot fs) (open_spot top) (frame_spot f) i.nests (advances_in S (open_spot top) (frame_spot f) a)) inner);
   })
+
+  opens_two : (m : ℕ) (gs : List Frame) (f g : Frame) (t : Open) → IsReading S start whole n fs top → gs ≡ (fs ++ f ∷ []) ++ g ∷ [] → more_visits n (open_rest S top) ≡ more_visits m (and_then (and_then (open_rest S t) (goes_on S g)) (goes_on S f)) → Advances (open_spot top) (frame_spot f) → IsIn S (room_in (frame_spot f)) (frame_spot g) → IsIn S (room_in (frame_spot g)) (open_spot t) → IsReading S start whole m gs t
+  opens_two m gs f g t i is e a middle inner = rw is (record {
+    same = ap (more_visits m) (resume-push S (fs ++ f ∷ []) g (open_rest S t) ∙ resume-push S fs f (and_then (open_rest S t) (goes_on S g))) ∙ sym (resume_same S fs n m (open_rest S top) _ e) ∙ i.same;
+    nests = rw (map_push frame_spot (fs ++ f ∷ []) g, map_push frame_spot fs f) (nests_push S start (map frame_spot fs ++ frame_spot f ∷ []) (frame_spot g) (open_spot t) (nests_push S start (map frame_spot fs) (frame_spot f) (frame_spot g) (nests_swap S start (map frame_spot fs) (open_spot top) (frame_spot f) i.nests (advances_in S (open_spot top) (frame_spot f) a)) middle) inner);
+  })
+
+  -- what a turn opens is read next
+  pub opens_on : (m : ℕ) (t : Turn) (gs : List Frame) (next : Open) → IsReading S start whole n fs top → Goes S n (open_rest S top) m t → Moves S (open_spot top) t → PutsOn fs t gs next → IsReading S start whole m gs next
+  opens_on m (turn.Opens f t) gs next i g v p = subst (λ (x : Open). IsReading S start whole m gs x) (sym p.1) (opens m gs f t i p.0 g v.0 v.1)
+  opens_on m (turn.OpensTwo f h t) gs next i g v p = subst (λ (x : Open). IsReading S start whole m gs x) (sym p.1) (opens_two m gs f h t i p.0 g v.1 v.2 v.3)
+  opens_on m (turn.Ends v) gs next i g w p = absurd p
+  opens_on m (turn.Fails e) gs next i g w p = absurd p
+
+  -- the stack has room for them
+  pub has_places : (t : Turn) → IsReading S start whole n fs top → S.depth ≤ 32 → Moves S (open_spot top) t → length fs + frames_in t ≤ 33
+  has_places (turn.Opens f t) i d v = omega (arith, is_low i, d)
+  has_places (turn.OpensTwo f g t) i d v =
+      let k = nests_last S start (map frame_spot fs) (open_spot top) i.nests in
+      omega (arith, k.1.level, k.2, v.1.level, v.2.level, v.2.limits.level, d, length-map fs frame_spot)
+  has_places (turn.Ends v) i d w = omega (arith, is_low i, d)
+  has_places (turn.Fails e) i d w = omega (arith, is_low i, d)
 
   pub closes : (m : ℕ) (gs : List Frame) (f : Frame) (t : Open) (v : Val) → IsReading S start whole n fs top → fs ≡ gs ++ f ∷ [] → more_visits n (open_rest S top) ≡ (Ok v, m) → open_rest S t ≡ goes_on S f v → open_spot t ≡ frame_spot f → IsReading S start whole m gs t
   closes m gs f t v i is e goes spot =
@@ -160,6 +178,17 @@ module _ {S : Shape} {start : Room} {whole : Outcome Val} {n : ℕ} {fs : List F
   fails_visits m (Layout f) i e = omega (arith, ap (λ (o : Outcome Val). o.1) (faults m f i e))
   fails_visits m Memory i e = omega (arith, e, has_room i)
 
+pub fails_within : (n m : ℕ) (o : Outcome Val) (e : ListError) → FailsAs n o m e → m ≤ n + o.1
+fails_within n m o (Layout f) e = omega (arith, ap (λ (p : Outcome Val). p.1) e)
+fails_within n m o Memory e = e
+
+-- what goes on with what a turn opened keeps the outcome too
+pub opened_then : (S : Shape) (n m : ℕ) (o : Outcome Val) (t : Turn) (goes : Val → Outcome Val) → Opens t → Goes S n o m t → more_visits n (and_then o goes) ≡ more_visits m (and_then (opened_rest S t) goes)
+opened_then S n m o (turn.Opens f t) goes w e = sym (more_then n o goes) ∙ ap (λ (p : Outcome Val). and_then p goes) e ∙ more_then m (opened_rest S (turn.Opens f t)) goes
+opened_then S n m o (turn.OpensTwo f g t) goes w e = sym (more_then n o goes) ∙ ap (λ (p : Outcome Val). and_then p goes) e ∙ more_then m (opened_rest S (turn.OpensTwo f g t)) goes
+opened_then S n m o (turn.Ends v) goes w e = absurd w
+opened_then S n m o (turn.Fails x) goes w e = absurd w
+
 -- the work that is left
 pub work_of : (fs : List Frame) (t : Open) → work (spots fs t) ≡ work (map frame_spot fs) + suc (length (open_spot t).region.left)
 work_of fs t = work_last (map frame_spot fs) (open_spot t)
@@ -167,11 +196,11 @@ work_of fs t = work_last (map frame_spot fs) (open_spot t)
 work_push : (fs : List Frame) (f : Frame) → work (map frame_spot (fs ++ f ∷ [])) ≡ work (map frame_spot fs) + suc (length (frame_spot f).region.left)
 work_push fs f = rw map_push (work_last (map frame_spot fs) (frame_spot f))
 
-pub work_less : (fs : List Frame) (top t : Open) → length (open_spot t).region.left < length (open_spot top).region.left → work (spots fs t) < work (spots fs top)
-work_less fs top t h = omega (arith, work_of fs t, work_of fs top)
-
-pub work_opens : (fs gs : List Frame) (top : Open) (f : Frame) (t : Open) → gs ≡ fs ++ f ∷ [] → length (frame_spot f).region.left + suc (length (open_spot t).region.left) < length (open_spot top).region.left → work (spots gs t) < work (spots fs top)
-work_opens fs gs top f t is h = rw is (omega (arith, work_of (fs ++ f ∷ []) t, work_push fs f, work_of fs top))
+pub work_opens : (S : Shape) (fs gs : List Frame) (top : Open) (t : Turn) (next : Open) → PutsOn fs t gs next → Moves S (open_spot top) t → work (spots gs next) < work (spots fs top)
+work_opens S fs gs top (turn.Opens f t) next p v = rw (p.0, p.1) (omega (arith, v.2, work_of (fs ++ f ∷ []) t, work_push fs f, work_of fs top))
+work_opens S fs gs top (turn.OpensTwo f g t) next p v = rw (p.0, p.1) (omega (arith, v.4, work_of ((fs ++ f ∷ []) ++ g ∷ []) t, work_push (fs ++ f ∷ []) g, work_push fs f, work_of fs top))
+work_opens S fs gs top (turn.Ends w) next p v = absurd p
+work_opens S fs gs top (turn.Fails e) next p v = absurd p
 
 pub work_closes : (fs gs : List Frame) (top : Open) (f : Frame) (t : Open) → fs ≡ gs ++ f ∷ [] → open_spot t ≡ frame_spot f → work (spots gs t) < work (spots fs top)
 work_closes fs gs top f t is spot = rw is (omega (arith, work_of (gs ++ f ∷ []) top, work_push gs f, work_of gs t, ap (λ (s : Spot). length s.region.left) spot))
@@ -211,9 +240,26 @@ ends_told o v is m i same none made e = value_is o is m (sym same ∙ ends m v i
 abbrev pub room_of : Spot → Room
 room_of s = list_room s.level (s.base + spot_end s)
 
-pub nested_begins : (S : Shape) (n : ℕ) (f : Frame) (t : Open) → (frame_spot f).sort ≡ attr_head → IsWithinLimits S (frame_spot f) → IsIn S (room_in (frame_spot f)) (open_spot t)
-    → IsReading S (room_of (frame_spot f)) (more_visits n (and_then (open_rest S t) (goes_on S f))) n (f ∷ []) t
-nested_begins S n f t kind limits inner = record {
+lies_first : (S : Shape) (f : Frame) → (frame_spot f).sort ≡ attr_head → IsWithinLimits S (frame_spot f) → IsIn S (room_of (frame_spot f)) (frame_spot f)
+lies_first S f kind limits = record { sort = subst (λ (k : Sort). Takes hop_head k) (sym kind) tt; level = refl; inside = omega arith; limits = limits }
+
+-- what a turn opens in a region that lies in another
+pub opens_in : (S : Shape) (r : Room) (s : Spot) (t : Turn) → Opens t → IsIn S r s → Moves S s t → OpensIn S r t
+opens_in S r s (turn.Opens f t) o i v = (advances_in S s (frame_spot f) v.0 r i, v.1)
+opens_in S r s (turn.OpensTwo f g t) o i v = (advances_in S s (frame_spot f) v.1 r i, v.2, v.3)
+opens_in S r s (turn.Ends v) o i w = absurd o
+opens_in S r s (turn.Fails e) o i w = absurd o
+
+-- the outermost waits for what a turn opened in it
+pub nested_begins : (S : Shape) (n : ℕ) (outermost : Frame) (t : Turn) (gs : List Frame) (next : Open) → (frame_spot outermost).sort ≡ attr_head → IsWithinLimits S (frame_spot outermost) → OpensIn S (room_in (frame_spot outermost)) t → PutsOn (outermost ∷ []) t gs next
+    → IsReading S (room_of (frame_spot outermost)) (more_visits n (and_then (opened_rest S t) (goes_on S outermost))) n gs next
+nested_begins S n o (turn.Opens f t) gs next kind limits inner p = rw (p.0, p.1) (record {
   same = refl;
-  nests = (record { sort = subst (λ (k : Sort). Takes hop_head k) (sym kind) tt; level = refl; inside = omega arith; limits = limits }, (inner, tt));
-}
+  nests = (lies_first S o kind limits, (inner.0, (inner.1, tt)));
+})
+nested_begins S n o (turn.OpensTwo f g t) gs next kind limits inner p = rw (p.0, p.1) (record {
+  same = refl;
+  nests = (lies_first S o kind limits, (inner.0, (inner.1, (inner.2, tt))));
+})
+nested_begins S n o (turn.Ends v) gs next kind limits inner p = absurd p
+nested_begins S n o (turn.Fails e) gs next kind limits inner p = absurd p

@@ -53,7 +53,7 @@ map_both f g (Err e, v) = refl
 more_more : {A : Type 0} (n m : ℕ) (o : Outcome A) → more_visits n (more_visits m o) ≡ more_visits (n + m) o
 more_more n m o = ap (λ (k : ℕ). (o.0, k)) (sym (add_assoc n m o.1))
 
-zero_more : {A : Type 0} (o : Outcome A) → more_visits 0 o ≡ o
+pub zero_more : {A : Type 0} (o : Outcome A) → more_visits 0 o ≡ o
 zero_more o = ap (λ (n : ℕ). (o.0, n)) (omega arith)
 
 -- a container that breaks a rule

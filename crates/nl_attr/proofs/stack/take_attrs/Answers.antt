@@ -1,7 +1,5 @@
-use Rattle.std.proofs.Common.{◌≡◌, ◌∙◌, ◌++◌, ◌∷◌, [], ap, map, arith}
-use Rattle.std.proofs.lemmas.List.{map_push}
-use Rattle.std.proofs.lemmas.Grind.{common_steps}
-use Rattle.nl_attr.specs.declared.tree.Hop.{roll-Hop}
+use Rattle.std.proofs.Common.{ℤ, map, ◌++◌, ◌∷◌, [], ap, ◌∙◌, rules, w32, to_z, of_z}
+use Rattle.std.proofs.lemmas.Int.{to_z-of_z}
 use Rattle.nl_attr.specs.declared.tree.Value.TheFolds.{fold-roll-Hop}
 use Rattle.nl_attr.specs.Tree.{Val, hops, hop}
 use Rattle.nl_attr.specs.View.{Front, HopFront, value_step, attr_step, hop_step, hop_view, attrs_view}
@@ -11,7 +9,10 @@ use Rattle.nl_attr.proofs.stack.take_attrs.Goals as goal
 
 pub returns-clause-rest : goal.returns-clause-rest
 returns-clause-rest c = λ S.
-    let old = c.args.waits.region.list.items in
-    let e : c.push.new.self.items ≡ old ++ roll-Hop (record { flags = c.args.waits.flags; hops = c.args.waits.hops; ifindex = c.args.waits.ifindex; attrs = c.args.attrs }) ∷ [] = grind (arith, common_steps) in
-    collected hops (map hop_view old) (map hop_view c.push.new.self.items) (hop c.args.waits.flags c.args.waits.hops c.args.waits.ifindex (attrs_view c.args.attrs.items)) (hops_left S c.args.waits.region)
-    (ap (map hop_view) e ∙ map_push hop_view old (roll-Hop (record { flags = c.args.waits.flags; hops = c.args.waits.hops; ifindex = c.args.waits.ifindex; attrs = c.args.attrs })) ∙ ap (λ f. map hop_view old ++ f ∷ []) (fold-roll-Hop Val Front HopFront value_step attr_step hop_step (record { flags = c.args.waits.flags; hops = c.args.waits.hops; ifindex = c.args.waits.ifindex; attrs = c.args.attrs })))
+    let w = c.args.waits in
+    let old = map hop_view w.region.list.items in
+    let index : ℤ = to_z w32 (of_z w32 w.ifindex) in
+    collected hops old (map hop_view c.keep_hop.new.list.items) (hop w.flags w.hops w.ifindex (attrs_view c.args.attrs.items)) (hops_left S w.region)
+    (c.in_ok-keep_hop.ensures
+    ∙ ap (λ f. old ++ f ∷ []) (fold-roll-Hop Val Front HopFront value_step attr_step hop_step (record { flags = w.flags; hops = w.hops; ifindex = index; attrs = c.args.attrs }))
+    ∙ ap (λ (i : ℤ). old ++ hop w.flags w.hops i (attrs_view c.args.attrs.items) ∷ []) (to_z-of_z w32 w.ifindex (search rules)))
