@@ -1,0 +1,57 @@
+#!/usr/bin/env bash
+# The bytes of attributes are walked once, and every walk is counted: a search in the sources of all
+# crates but the tests and the examples of callers.
+set -u
+cd "$(dirname "${BASH_SOURCE[0]}")/.." || exit 1
+passed=0
+failed=0
+
+# same NAME FOUND WANTED
+same() {
+  if [ "$2" = "$3" ]; then
+    passed=$((passed + 1))
+  else
+    failed=$((failed + 1))
+    printf 'FAILED %s\nfound:\n%s\nwanted:\n%s\n' "$1" "$2" "$3"
+  fi
+}
+
+sources() {
+  find crates -path '*/src/*.rt' -not -path 'crates/rtnl_rows/*' -not -path 'crates/rtnl_uses/*' | LC_ALL=C sort
+}
+
+# files_with PATTERN: the source files that have a line of code with it
+files_with() {
+  sources | while read -r file; do
+    grep -vE '^[[:space:]]*//' "$file" | grep -qE "$1" && echo "$file"
+  done
+}
+
+same 'walkers are made in their own modules and where a region is opened' \
+  "$(files_with '\b(Attrs|HopParts)::of')" \
+  'crates/nl_attr/src/stack.rt
+crates/nl_attr/src/walk/attrs.rt
+crates/nl_attr/src/walk/hops.rt'
+
+same 'each step of a walk where regions are read is followed by its count' \
+  "$(grep -c 'walk\.next()' crates/nl_attr/src/stack.rt)" \
+  "$(grep -c '\*visits += part\.span as u64;' crates/nl_attr/src/stack.rt)"
+
+same 'lengths and types of attributes and next hops are read by the walkers alone' \
+  "$(files_with 'read_u16\(')" \
+  'crates/nl_attr/src/order.rt
+crates/nl_attr/src/views.rt
+crates/nl_attr/src/walk/attrs.rt
+crates/nl_attr/src/walk/mod.rt
+crates/nl_frame/src/header.rt
+crates/nl_route/src/ifinfomsg.rt
+crates/nl_route/src/ndmsg.rt
+crates/rtnl/src/text/values.rt'
+
+same 'no call that answers a tally takes the result of another without its visits' \
+  "$(grep -lE 'read_(list|body|datagram|messages|message|family)[a-z_]*\(.*\)\.result' \
+    $(sources | grep -E '/nl_(attr|route|frame)/'))" \
+  ''
+
+echo "$passed passed, $failed failed"
+[ "$failed" -eq 0 ]
