@@ -1,0 +1,55 @@
+//! Each caller once, over bytes worked by hand.
+
+use crate::attributes::count_of;
+use crate::datagrams::message_count;
+use crate::families::read_named;
+use crate::recordings::show_text;
+use nl_attr::{Depth, Fault, Reason};
+use nl_frame::Limits;
+use rtnl::Verdict;
+use std::test::Fail;
+
+#[test]
+fn attributes_of_a_number(rt: HostRuntime) {
+    let region = b"\x05\0\x01\0a\0\0\0\x04\0\x02\0\x05\0\x01\x80b";
+    assert_eq!(rt; count_of(region, 1), Ok(2));
+    let fault = Fault {
+        place: 4,
+        reason: Reason::BadLength,
+    };
+    assert_eq!(rt; count_of(b"\x04\0\x01\0\x03\0\x01\0", 1), Err(fault));
+}
+
+#[test]
+fn name_and_mtu(rt: HostRuntime) -> Result<(), Fail> {
+    let body = b"\0\0\x04\x03\x01\0\0\0\0\0\0\0\0\0\0\0\x07\0\x03\0lo\0\0\x08\0\x04\0\0\0\x01\0";
+    let named = read_named(rt.alloc(), body, Depth::standard())?;
+    assert!(rt;
+        named
+            .name
+            .is_some_and(|name| name.as_slice() == b"lo".as_slice())
+    );
+    assert_eq!(rt; named.mtu, Some(65_536));
+    Ok(())
+}
+
+#[test]
+fn two_messages(rt: HostRuntime) {
+    let noop = b"\x10\0\0\0\x01\0\0\0\0\0\0\0\0\0\0\0\x10\0\0\0\x01\0\0\0\0\0\0\0\0\0\0\0";
+    assert_eq!(rt; message_count(rt.alloc(), noop, &Limits::standard()), Ok(2));
+}
+
+#[test]
+fn text_of_a_recording(rt: HostRuntime) -> Result<(), Fail> {
+    let recording = b"1000 0000 0100 0000 0100 0000 0000 0000\n00\n";
+    let (text, verdict) = show_text(rt.alloc(), recording, &Limits::standard())?;
+    let wanted = b"datagram 1 bytes 16
+message 1 noop flags 0x0000 - seq 1 port 0
+  bytes -
+datagram 2 bytes 1
+refused cut at 0
+";
+    assert!(rt; text.as_slice() == wanted.as_slice());
+    assert_eq!(rt; verdict, Verdict::Blemished);
+    Ok(())
+}
