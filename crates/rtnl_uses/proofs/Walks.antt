@@ -1,10 +1,12 @@
 -- What a walk over attributes has given so far, and that it ends with its fault.
-use Rattle.std.proofs.Common.{◌≡◌, ◌+◌, ◌==◌, ℕ, List, [], ◌∷◌, ◌++◌, map, count_by, cond, Bool, true, Some, Result, Ok, Err, refl, sym, ap, subst, ◌∙◌, eq-eqb, arith}
+use Rattle.std.proofs.Common.{◌≡◌, ◌+◌, ◌≤◌, ◌==◌, ℕ, List, [], ◌∷◌, ◌++◌, length, map, count_by, cond, Bool, true, Some, Result, Ok, Err, refl, sym, ap, subst, ◌∙◌, eq-eqb, length-drop, arith}
+use Rattle.std.proofs.Math.Nat.{min-le_right}
 use Rattle.std.proofs.lemmas.List.{map_push}
 use Rattle.std.proofs.lemmas.List.Sums.{sum_by_push}
 use Rattle.std.specs.Iterator.{Yields, Drains}
 use Rattle.nl_attr.specs.declared.fault.Fault.{Fault}
 use Rattle.nl_attr.specs.declared.walk.attrs.Part.{Part}
+use Rattle.nl_attr.specs.Numbers.{aligned, len_of, span_of}
 use Rattle.nl_attr.specs.Walk.{Region, GivesPart}
 
 went_on : (s t u : Region) (xs : List (Result Part Fault)) (x : Result Part Fault) → Yields GivesPart s xs t → GivesPart t (Some x) u → Yields GivesPart s (xs ++ x ∷ []) u
@@ -14,6 +16,12 @@ went_on s t u (_ ∷ xs) x y g = (y.0, y.1, went_on y.0 t u xs x y.2 g)
 -- behind a fault nothing comes
 pub ends_at_fault : (s t u : Region) (xs : List (Result Part Fault)) (f : Fault) → Yields GivesPart s xs t → GivesPart t (Some (Err f)) u → Drains GivesPart s (xs ++ Err f ∷ [])
 ends_at_fault s t u xs f y g = (u, (u, went_on s t u xs (Err f) y g, (ap (λ (r : Region). r.left) g.3, refl)))
+
+-- what is left behind an attribute lies in the bytes, as what was left before it
+pub stays_within : (r s : Region) (p : Part) (size : ℕ) → GivesPart r (Some (Ok p)) s → r.place + length r.left ≤ size → s.place + length s.left ≤ size
+stays_within r s p size g within =
+    let n = span_of r.order 2 r.left in
+    rw g.3 (omega (arith, within, length-drop n r.left, min-le_right (aligned (len_of r.order 2 r.left)) (length r.left)))
 
 -- what came is attributes, of which so many have this number
 abbrev pub Counts : List (Result Part Fault) → ℕ → ℕ → Type 0

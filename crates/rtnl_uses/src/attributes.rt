@@ -1,6 +1,6 @@
 //! A caller of `nl_attr`.
 
-ghost use Rattle.std.specs.Prelude.{◌≡◌, ◌≤◌, ◌==◌, ◌∷◌, ◌++◌, [], List, length, map, count_by, IfOk, IfErr, Ok, Err};
+ghost use Rattle.std.specs.Prelude.{◌≡◌, ◌<◌, ◌≤◌, ◌==◌, ◌∷◌, ◌++◌, [], List, length, map, count_by, IfOk, IfErr, Ok, Err};
 ghost use Rattle.nl_attr.specs.Walk.{IsWalk, IsPart};
 ghost use Rattle.nl_attr.specs.declared.order.Order.{Order};
 ghost use Rattle.nl_attr.specs.declared.walk.attrs.Part.{Part};
@@ -17,6 +17,8 @@ pub fn count_of(region: &[u8], number: u16) -> Result<usize, Fault>
     // These attributes stand before the fault.
     ensures refused { IfErr result (λ fault. (parts : List Part)
         × IsWalk 4 IsPart Order.Little 0 region.now (map (λ p. Ok p) parts ++ Err fault ∷ [])) }
+    // It is at a byte of the region.
+    ensures place { IfErr result (λ fault. fault.place < length region.now) }
 {
     let mut count = 0;
     for part in Attrs::of(region) {

@@ -6,4 +6,5 @@ use Rattle.rtnl_uses.proofs.attributes.count_of.Given as goal
 abbrev pub invariant-loop-part : goal.invariant-loop-part
 invariant-loop-part l =
     (l.count + length l.part-iterator.left ≤ length l.fn.region)
+    × (l.part-iterator.place + length l.part-iterator.left ≤ length l.fn.region)
     × ((parts : List Part) × (l.yielded ≡ map (λ p. Ok p) parts) × (l.count ≡ count_by (λ p. p.number == l.fn.number) parts))
