@@ -41,7 +41,7 @@ run() {
   echo $? >"$files.status"
 }
 
-# is_refused NUMBER INPUT [WORD..]: a run whose growth of this number is refused asks for so many.
+# is_refused NUMBER INPUT [WORD..]: a run in which the growth of this number is refused came so far.
 is_refused() {
   local number=$1 input=$2
   shift 2
