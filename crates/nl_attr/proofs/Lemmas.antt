@@ -22,3 +22,9 @@ pub mod Every
 pub mod Exact
 pub mod Texts
 pub mod Sums
+pub mod Opened
+pub mod Lengths
+pub mod Extents
+pub mod Means
+pub mod Writing
+pub mod Fitted

@@ -5,6 +5,8 @@ use Rattle.nl_attr.specs.declared.fault.Reason.TheVariants.{Cut, BadLength, Shor
 use Rattle.nl_attr.specs.declared.fault.Fault.{Fault}
 use Rattle.nl_attr.specs.declared.fault.ListError.{ListError}
 use Rattle.nl_attr.specs.declared.fault.ListError.TheVariants.{Layout, Memory}
+use Rattle.nl_attr.specs.declared.fault.WriteError.{WriteError}
+use Rattle.nl_attr.specs.declared.fault.WriteError.TheVariants as unwritten
 
 abbrev pub reason_code : Reason → ℕ
 reason_code Cut = 1
@@ -20,3 +22,9 @@ fault_code f = reason_code f.reason
 abbrev pub list_code : ListError → ℕ
 list_code (Layout f) = fault_code f
 list_code Memory = 13
+
+abbrev pub write_code : WriteError → ℕ
+write_code unwritten.Mismatch = 11
+write_code unwritten.TooDeep = 5
+write_code unwritten.TooLong = 4
+write_code unwritten.Memory = 13

@@ -13,3 +13,6 @@ pub mod Codes
 pub mod Told
 pub mod Open
 pub mod Kept
+pub mod Written
+pub mod Proper
+pub mod Measured

@@ -1,4 +1,4 @@
-//! What reading refuses, and what it answers beside its result.
+//! What reading and writing refuse, and what they answer beside their results.
 
 ghost use Rattle.std.specs.Prelude.{◌≡◌};
 
@@ -104,6 +104,50 @@ impl<T: Drop> From<AllocFailed<T>> for ListError {
 
     fn from(_error: AllocFailed<T>) -> ListError {
         ListError::Memory
+    }
+}
+
+/// Why a list of attributes was not written.
+#[derive(Clone, Copy, Debug, PartialEq, Eq, Error)]
+pub enum WriteError {
+    /// The number of an attribute is 16,384 or more, or its value is of another kind than its
+    /// context, number and flags say.
+    #[error("mismatch")]
+    Mismatch,
+    /// A container opens a level above the depth limit.
+    #[error("too deep")]
+    TooDeep,
+    /// An attribute or a next hop has more than 65,535 bytes, or a region more than 1,048,576.
+    #[error("too long")]
+    TooLong,
+    /// A growth was refused. It comes after all others.
+    #[error("out of memory")]
+    Memory,
+}
+
+impl WriteError {
+    ghost use Rattle.nl_attr.specs.Codes.{write_code};
+
+    /// The number of this refusal: 11, 5, 4 or 13, in the order of the variants.
+    pub fn code(self) -> u8
+        ensures { result ≡ write_code self }
+    {
+        match self {
+            WriteError::Mismatch => 11,
+            WriteError::TooDeep => 5,
+            WriteError::TooLong => 4,
+            WriteError::Memory => 13,
+        }
+    }
+}
+
+impl From<AllocError> for WriteError {
+    ghost use Rattle.nl_attr.specs.declared.fault.WriteError.TheVariants.{Memory};
+
+    ghost from_gives = { λ _ e. e ≡ Memory };
+
+    fn from(_error: AllocError) -> WriteError {
+        WriteError::Memory
     }
 }
 

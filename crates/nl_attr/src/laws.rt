@@ -6,11 +6,13 @@ ghost use Rattle.nl_attr.specs.declared.order.Order.{Order};
 ghost use Rattle.nl_attr.specs.declared.tree.Ctx.{Ctx};
 ghost use Rattle.nl_attr.specs.declared.fault.Reason.{Reason};
 ghost use Rattle.nl_attr.specs.Shape.{Shape};
-ghost use Rattle.nl_attr.specs.Numbers.{num, number_of, AreBytes};
+ghost use Rattle.nl_attr.specs.Numbers.{aligned, num, number_of, AreBytes};
 ghost use Rattle.nl_attr.specs.Tree.{Items};
 ghost use Rattle.nl_attr.specs.Layout.{Fits};
 ghost use Rattle.nl_attr.specs.Heads.{FaultAt, Head, start_of};
 ghost use Rattle.nl_attr.specs.Visits.{Visits};
+ghost use Rattle.nl_attr.specs.Written.{written, items_len};
+ghost use Rattle.nl_attr.specs.Proper.{IsProper, IsRanged};
 
 /// Bytes are the form of the number that is read of them, and of no other number of so many bytes.
 pub fn one_number()
@@ -44,4 +46,21 @@ pub fn visits_are_bounded()
 pub fn one_sum()
     ensures some { (s : Shape) (start : Head) (q : ℕ) → (total : ℕ) × Visits s start q total }
     ensures only { (s : Shape) (start : Head) (q a b : ℕ) → Visits s start q a → Visits s start q b → a ≡ b }
+{}
+
+/// A list is written as many bytes in either order.
+pub fn written_length()
+    ensures { (o : Order) (is : Items) → length (written o is) ≡ items_len is }
+{}
+
+/// A list that can be written fits the bytes that it is written as.
+pub fn written_fits()
+    ensures { (s : Shape) (ctx : Ctx) (l : ℕ) (is : Items) → IsProper is ctx l s.depth → IsRanged is → Fits s is (written s.order is) ctx l }
+{}
+
+/// A list that fits a region can be written, and is as long as the region with its last padding.
+pub fn fitting_is_proper()
+    ensures proper { (s : Shape) (ctx : Ctx) (l : ℕ) (bytes : List ℕ) (is : Items) → Fits s is bytes ctx l → length bytes ≤ 1048576 → IsProper is ctx l s.depth }
+    ensures len { (s : Shape) (ctx : Ctx) (l : ℕ) (bytes : List ℕ) (is : Items) → Fits s is bytes ctx l → items_len is ≡ aligned (length bytes) }
+    ensures ranged { (s : Shape) (ctx : Ctx) (l : ℕ) (bytes : List ℕ) (is : Items) → Fits s is bytes ctx l → IsRanged is }
 {}

@@ -1,10 +1,12 @@
-//! Attributes of netlink messages (netlink(7), rtnetlink(7)): walkers, trees, reading, and the laws of
-//! regions.
+//! Attributes of netlink messages (netlink(7), rtnetlink(7)): walkers, trees, reading and writing, and
+//! the laws of regions.
 #![tactic(auto)]
 
+mod appending;
 mod fault;
 pub mod laws;
 mod limits;
+mod measuring;
 mod order;
 mod payload;
 mod reading;
@@ -12,12 +14,16 @@ mod stack;
 mod tree;
 mod views;
 mod walk;
+mod writing;
 
-pub use fault::{Fault, LimitFault, ListError, Reason, Tally};
+pub use appending::append_list;
+pub use fault::{Fault, LimitFault, ListError, Reason, Tally, WriteError};
 pub use limits::Depth;
+pub use measuring::{Extent, measure};
 pub use order::Order;
 pub use payload::Payload;
 pub use reading::{read_list, read_list_ordered};
 pub use tree::{Attr, AttrFlags, Content, Ctx, Hop, Value, holds};
 pub use views::find;
 pub use walk::{Attrs, HopPart, HopParts, Part, align4};
+pub use writing::{list_len, write_list, write_list_ordered};

@@ -1,0 +1,108 @@
+-- What is written is read again.
+use Rattle.std.proofs.Common.{◌≡◌, ℕ, ◌+◌, ◌-◌, ◌%◌, ◌^◌, ◌<◌, ◌≤◌, List, ◌∷◌, ◌++◌, length, replicate, refl, sym, ap, ◌∙◌, arith, inl, inr, append_assoc}
+use Rattle.std.proofs.lemmas.List.{length-replicate}
+use Rattle.std.specs.Int.{w32, cast_unsigned}
+use Rattle.nl_attr.specs.declared.order.Order.{Order}
+use Rattle.nl_attr.specs.declared.tree.Ctx.{Ctx}
+use Rattle.nl_attr.specs.declared.tree.Ctx.TheVariants.{Route}
+use Rattle.nl_attr.specs.declared.tree.Content.{Content}
+use Rattle.nl_attr.specs.declared.tree.Content.TheVariants as content
+use Rattle.nl_attr.specs.Shape.{Shape}
+use Rattle.nl_attr.specs.Numbers.{aligned, num}
+use Rattle.nl_attr.specs.Tree.{Val, bytes, list, hops, Items, no_items, item, HopItems, no_hops, hop, holds_of}
+use Rattle.nl_attr.specs.Layout.{IsPiece, kind_number, FitsVal, Fits, FitsHops}
+use Rattle.nl_attr.specs.Written.{padded, attr_item, hop_item, written, written_val, written_hops, val_len, items_len, hops_len}
+use Rattle.nl_attr.specs.Proper.{IsMismatched, IsMismatchedVal, IsMismatchedHops, IsDeep, IsDeepVal, IsDeepHops, HasLong, HasLongVal, HasLongHops, IsProper, IsRanged, IsRangedVal, IsRangedHops}
+use Rattle.nl_attr.proofs.Lemmas.Lengths.{length-val, length-items, length-hops, length-attr, length-hop}
+
+gap_after : (n : ℕ) → n + (aligned n - n) ≡ aligned n
+gap_after n = omega arith
+
+-- an item as it is written is a piece
+made : (o : Order) (h : ℕ) (it body rest : List ℕ) → it ≡ num (length it) 2 o ++ body → h ≤ length it → length it ≤ 65535 → IsPiece o h 2 (padded it ++ rest) it (replicate (aligned (length it) - length it) 0) rest
+made o h it body rest says low high =
+    record {
+      parts = append_assoc it (replicate (aligned (length it) - length it) 0) rest;
+      least = low;
+      fits = omega (arith, high);
+      body = body;
+      says = says;
+      padded = inl (ap (λ k. length it + k) (length-replicate {A = ℕ} (aligned (length it) - length it) 0) ∙ gap_after (length it));
+    }
+
+-- a region that is written ends at an aligned place
+mutual
+  items_whole : (is : Items) → items_len is % 4 ≡ 0
+  items_whole no_items = refl
+  items_whole (item n flags v more) = omega (arith, items_whole more)
+
+  hops_whole : (hs : HopItems) → hops_len hs % 4 ≡ 0
+  hops_whole no_hops = refl
+  hops_whole (hop flags count index attrs more) = omega (arith, hops_whole more)
+
+not_above : (a b : ℕ) → (a < b → ⊥) → b ≤ a
+not_above a b h = omega (arith, h)
+
+under : (k : ℕ) → (16384 ≤ k → ⊥) → k < 16384
+under k h = omega (arith, h)
+
+module _ (S : Shape) where
+  mutual
+    writes_val : (v : Val) (c : Content) (l len : ℕ) → len ≡ 4 + val_len v → len ≤ 65535 → (IsMismatchedVal v c → ⊥) → (IsDeepVal v l S.depth → ⊥) → (HasLongVal v → ⊥) → IsRangedVal v → FitsVal S v c (written_val S.order v) len l
+    writes_val (bytes bs) content.Bytes l len e f m d s r = refl
+    writes_val (bytes bs) (content.List c) l len e f m d s r = absurd (m tt)
+    writes_val (bytes bs) content.Hops l len e f m d s r = absurd (m tt)
+    writes_val (list is) content.Bytes l len e f m d s r = absurd (m tt)
+    writes_val (list is) (content.List c) l len e f m d s r =
+        (omega (arith, e, f, items_whole is), not_above S.depth (l + 1) (λ x. d (inl x)), writes_items is c (l + 1) r m (λ x. d (inr x)) (λ x. s (inr x)))
+    writes_val (list is) content.Hops l len e f m d s r = absurd (m tt)
+    writes_val (hops hs) content.Bytes l len e f m d s r = absurd (m tt)
+    writes_val (hops hs) (content.List c) l len e f m d s r = absurd (m tt)
+    writes_val (hops hs) content.Hops l len e f m d s r =
+        (omega (arith, e, f, hops_whole hs), not_above S.depth (l + 2) (λ x. d (inl x)), writes_hops hs (l + 1) r m (λ x. d (inr x)) (λ x. s (inr x)))
+
+    writes_items : (is : Items) (ctx : Ctx) (l : ℕ) → IsRanged is → (IsMismatched is ctx → ⊥) → (IsDeep is l S.depth → ⊥) → (HasLong is → ⊥) → Fits S is (written S.order is) ctx l
+    writes_items no_items ctx l r m d s = refl
+    writes_items (item n flags v more) ctx l r m d s =
+        let payload = written_val S.order v in
+        let it = attr_item S.order n flags payload in
+        let body = num (kind_number n flags) 2 S.order ++ payload in
+        let len : length it ≡ 4 + length payload = length-attr S.order n flags payload in
+        let size : length it ≡ 4 + val_len v = omega (arith, len, length-val S.order v) in
+        let high : length it ≤ 65535 = omega (arith, size, not_above 65535 (4 + val_len v) (λ x. s (inl x))) in
+        let says : it ≡ num (length it) 2 S.order ++ body = ap (λ k. num k 2 S.order ++ body) (sym len) in (
+          it,
+          replicate (aligned (length it) - length it) 0,
+          written S.order more,
+          payload,
+          made S.order 4 it body (written S.order more) says (omega (arith, len)) high,
+          says,
+          under n (λ x. m (inl x)),
+          writes_val v (holds_of ctx n flags) l (length it) size high (λ x. m (inr (inl x))) (λ x. d (inl x)) (λ x. s (inr (inl x))) r.0,
+          writes_items more ctx l r.1 (λ x. m (inr (inr x))) (λ x. d (inr x)) (λ x. s (inr (inr x))),
+        )
+
+    writes_hops : (hs : HopItems) (l : ℕ) → IsRangedHops hs → (IsMismatchedHops hs → ⊥) → (IsDeepHops hs l S.depth → ⊥) → (HasLongHops hs → ⊥) → FitsHops S hs (written_hops S.order hs) l
+    writes_hops no_hops l r m d s = refl
+    writes_hops (hop flags count index attrs more) l r m d s =
+        let payload = written S.order attrs in
+        let it = hop_item S.order flags count index payload in
+        let body = flags ∷ count ∷ (num (cast_unsigned w32 index) 4 S.order ++ payload) in
+        let len : length it ≡ 8 + length payload = length-hop S.order flags count index payload in
+        let size : length it ≡ 8 + items_len attrs = omega (arith, len, length-items S.order attrs) in
+        let high : length it ≤ 65535 = omega (arith, size, not_above 65535 (8 + items_len attrs) (λ x. s (inl x))) in
+        let says : it ≡ num (length it) 2 S.order ++ body = ap (λ k. num k 2 S.order ++ body) (sym len) in (
+          it,
+          replicate (aligned (length it) - length it) 0,
+          written_hops S.order more,
+          payload,
+          made S.order 8 it body (written_hops S.order more) says (omega (arith, len)) high,
+          says,
+          r.0,
+          writes_items attrs Route (l + 1) r.1 (λ x. m (inl x)) (λ x. d (inl x)) (λ x. s (inr (inl (inr x)))),
+          writes_hops more l r.2 (λ x. m (inr x)) (λ x. d (inr x)) (λ x. s (inr (inr x))),
+        )
+
+  -- what is proper fits what it is written as
+  pub written_fits : (ctx : Ctx) (l : ℕ) (is : Items) → IsProper is ctx l S.depth → IsRanged is → Fits S is (written S.order is) ctx l
+  written_fits ctx l is p r = writes_items is ctx l r p.matched p.shallow (λ x. p.short (inr x))

@@ -1,0 +1,13 @@
+use Rattle.std.proofs.Common.{◌+◌, ◌-◌, ◌++◌, take, drop, ap, ◌∙◌, arith}
+use Rattle.nl_attr.specs.Numbers.{num}
+use Rattle.nl_attr.specs.Written.{padded}
+use Rattle.nl_attr.proofs.Lemmas.Lengths.{when_ok, closed}
+use Rattle.nl_attr.proofs.appending.close_item.Goals as goal
+
+pub returns-clause-items : goal.returns-clause-items
+returns-clause-items c =
+    let v = c.args.out.now in
+    let s = c.args.start in
+    let n = c.len.result - s in
+    when_ok c.resize-done.result _ _ _ (c.resize-done.ensures.succeeds (omega (arith, c.len.ensures, c.requires.space))) c.resize-done.ensures.items
+    ∙ ?

@@ -1,0 +1,108 @@
+-- Which lists can be written, and why others can't.
+use Rattle.std.specs.Prelude.{◌<◌, ◌≤◌, ◌+◌, ◌⊎◌, ℕ, FitsSigned}
+use Rattle.std.specs.Int.{w32}
+use Rattle.nl_attr.specs.declared.tree.Ctx.{Ctx}
+use Rattle.nl_attr.specs.declared.tree.Ctx.TheVariants.{Route}
+use Rattle.nl_attr.specs.declared.tree.Content.{Content}
+use Rattle.nl_attr.specs.declared.tree.Content.TheVariants as content
+use Rattle.nl_attr.specs.Tree.{Val, bytes, list, hops, Items, no_items, item, HopItems, no_hops, hop, holds_of}
+use Rattle.nl_attr.specs.Written.{val_len, items_len, hops_len}
+
+abbrev mutual
+  pub IsMismatchedVal : Val → Content → Type 0
+  IsMismatchedVal (bytes bs) content.Bytes = ⊥
+  IsMismatchedVal (bytes bs) (content.List c) = Unit {0}
+  IsMismatchedVal (bytes bs) content.Hops = Unit {0}
+  IsMismatchedVal (list is) content.Bytes = Unit {0}
+  IsMismatchedVal (list is) (content.List c) = IsMismatched is c
+  IsMismatchedVal (list is) content.Hops = Unit {0}
+  IsMismatchedVal (hops hs) content.Bytes = Unit {0}
+  IsMismatchedVal (hops hs) (content.List c) = Unit {0}
+  IsMismatchedVal (hops hs) content.Hops = IsMismatchedHops hs
+
+  -- some number has more than 14 bits, or some value is of another kind than its attribute holds
+  pub IsMismatched : Items → Ctx → Type 0
+  IsMismatched no_items ctx = ⊥
+  IsMismatched (item n flags v more) ctx = (16384 ≤ n) ⊎ (IsMismatchedVal v (holds_of ctx n flags) ⊎ IsMismatched more ctx)
+
+  pub IsMismatchedHops : HopItems → Type 0
+  IsMismatchedHops no_hops = ⊥
+  IsMismatchedHops (hop flags count index attrs more) = IsMismatched attrs Route ⊎ IsMismatchedHops more
+
+abbrev mutual
+  pub IsDeepVal : Val → ℕ → ℕ → Type 0
+  IsDeepVal (bytes bs) l D = ⊥
+  IsDeepVal (list is) l D = (D < l + 1) ⊎ IsDeep is (l + 1) D
+  IsDeepVal (hops hs) l D = (D < l + 2) ⊎ IsDeepHops hs (l + 1) D
+
+  -- some container of a list at level l opens a level above the depth D
+  pub IsDeep : Items → ℕ → ℕ → Type 0
+  IsDeep no_items l D = ⊥
+  IsDeep (item n flags v more) l D = IsDeepVal v l D ⊎ IsDeep more l D
+
+  pub IsDeepHops : HopItems → ℕ → ℕ → Type 0
+  IsDeepHops no_hops l D = ⊥
+  IsDeepHops (hop flags count index attrs more) l D = IsDeep attrs (l + 1) D ⊎ IsDeepHops more l D
+
+-- a region of so many bytes is too long
+abbrev pub IsLongRegion : ℕ → Type 0
+IsLongRegion len = 1048576 < len
+
+-- an item of so many bytes is too long for its length field
+abbrev pub IsLongItem : ℕ → Type 0
+IsLongItem len = 65535 < len
+
+abbrev mutual
+  pub HasLongVal : Val → Type 0
+  HasLongVal (bytes bs) = ⊥
+  HasLongVal (list is) = IsLongRegion (items_len is) ⊎ HasLong is
+  HasLongVal (hops hs) = IsLongRegion (hops_len hs) ⊎ HasLongHops hs
+
+  -- some attribute, next hop or inner region is too long
+  pub HasLong : Items → Type 0
+  HasLong no_items = ⊥
+  HasLong (item n flags v more) = IsLongItem (4 + val_len v) ⊎ (HasLongVal v ⊎ HasLong more)
+
+  pub HasLongHops : HopItems → Type 0
+  HasLongHops no_hops = ⊥
+  HasLongHops (hop flags count index attrs more) = IsLongItem (8 + items_len attrs) ⊎ ((IsLongRegion (items_len attrs) ⊎ HasLong attrs) ⊎ HasLongHops more)
+
+-- the list, or something in it, is too long
+abbrev pub IsLong : Items → Type 0
+IsLong is = IsLongRegion (items_len is) ⊎ HasLong is
+
+-- a list that can be written at level l where containers may open D levels
+pub record IsProper (is : Items) (ctx : Ctx) (l D : ℕ) : Type 0 where
+  pub matched : IsMismatched is ctx → ⊥
+  pub shallow : IsDeep is l D → ⊥
+  pub short : IsLong is → ⊥
+
+abbrev mutual
+  pub IsRangedVal : Val → Type 0
+  IsRangedVal (bytes bs) = Unit {0}
+  IsRangedVal (list is) = IsRanged is
+  IsRangedVal (hops hs) = IsRangedHops hs
+
+  -- each index of an interface has 32 bits, as every one of the program has
+  pub IsRanged : Items → Type 0
+  IsRanged no_items = Unit {0}
+  IsRanged (item n flags v more) = IsRangedVal v × IsRanged more
+
+  pub IsRangedHops : HopItems → Type 0
+  IsRangedHops no_hops = Unit {0}
+  IsRangedHops (hop flags count index attrs more) = FitsSigned w32 index × IsRanged attrs × IsRangedHops more
+
+abbrev mutual
+  pub IsSizedVal : Val → Type 0
+  IsSizedVal (bytes bs) = Unit {0}
+  IsSizedVal (list is) = IsSized is
+  IsSizedVal (hops hs) = IsSizedHops hs
+
+  -- each number has 14 bits, and each length 16
+  pub IsSized : Items → Type 0
+  IsSized no_items = Unit {0}
+  IsSized (item n flags v more) = (n < 16384) × (4 + val_len v ≤ 65535) × IsSizedVal v × IsSized more
+
+  pub IsSizedHops : HopItems → Type 0
+  IsSizedHops no_hops = Unit {0}
+  IsSizedHops (hop flags count index attrs more) = (8 + items_len attrs ≤ 65535) × IsSized attrs × IsSizedHops more

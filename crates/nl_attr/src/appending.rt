@@ -1,0 +1,151 @@
+//! Lists appended to bytes that have room for them.
+
+ghost use Rattle.std.specs.Prelude.{◌≡◌, ◌≤◌, ◌<◌, ◌+◌, ◌-◌, ◌++◌, ◌∷◌, length, take, drop, vec_len, vec_capacity, FitsSigned};
+ghost use Rattle.std.specs.Int.{w32, cast_unsigned};
+ghost use Rattle.nl_attr.specs.declared.tree.Hop.{out-Hop};
+ghost use Rattle.nl_attr.specs.Numbers.{aligned, num};
+ghost use Rattle.nl_attr.specs.Layout.{kind_number};
+ghost use Rattle.nl_attr.specs.View.{attrs_view, hops_view, value_view};
+ghost use Rattle.nl_attr.specs.Written.{padded, attr_item, hop_item, written, written_val, written_hops, val_len, items_len, hops_len};
+ghost use Rattle.nl_attr.specs.Proper.{IsSized, IsSizedVal, IsSizedHops, IsRanged, IsRangedVal, IsRangedHops};
+
+use crate::order::Order;
+use crate::tree::{Attr, AttrFlags, Hop, Value};
+
+/// Appends bytes for which there is room.
+fn put(out: &mut Vec<u8>, bytes: &[u8])
+    requires { vec_len out.old + length bytes.now ≤ vec_capacity out.old }
+    ensures items { out.new.items ≡ out.old.items ++ bytes.now }
+    ensures len { vec_len out.new ≡ vec_len out.old + length bytes.now }
+    ensures room { vec_capacity out.old ≤ vec_capacity out.new }
+{
+    let _done = out.extend_from_slice(bytes);
+}
+
+/// The type field of an attribute.
+fn kind_field(number: u16, flags: AttrFlags) -> u16
+    requires { number < 16384 }
+    ensures { result ≡ kind_number number flags }
+{
+    let net = if flags.net { 16384 } else { 0 };
+    let nested = if flags.nested { 32768 } else { 0 };
+    number + net + nested
+}
+
+/// Appends the head of an attribute, its length still 0.
+fn put_attr_head(out: &mut Vec<u8>, order: Order, number: u16, flags: AttrFlags)
+    requires number { number < 16384 }
+    requires space { vec_len out.old + 4 ≤ vec_capacity out.old }
+    ensures items { out.new.items ≡ out.old.items ++ (0 ∷ 0 ∷ num (kind_number number flags) 2 order) }
+    ensures len { vec_len out.new ≡ vec_len out.old + 4 }
+    ensures room { vec_capacity out.old ≤ vec_capacity out.new }
+{
+    let kind = order.u16_bytes(kind_field(number, flags));
+    put(out, &[0, 0]);
+    put(out, &kind);
+}
+
+/// Appends the head of a next hop, its length still 0.
+fn put_hop_head(out: &mut Vec<u8>, order: Order, flags: u8, hops: u8, ifindex: &i32)
+    requires { vec_len out.old + 8 ≤ vec_capacity out.old }
+    ensures items { out.new.items ≡ out.old.items ++ (0 ∷ 0 ∷ flags ∷ hops ∷ num (cast_unsigned w32 ifindex.now) 4 order) }
+    ensures len { vec_len out.new ≡ vec_len out.old + 8 }
+    ensures room { vec_capacity out.old ≤ vec_capacity out.new }
+    ensures ranged { FitsSigned w32 ifindex.now }
+{
+    let index = order.i32_bytes(*ifindex);
+    put(out, &[0, 0, flags, hops]);
+    put(out, &index);
+}
+
+/// Writes the length of the item that begins at `start` into its first two bytes, and pads it.
+fn close_item(out: &mut Vec<u8>, order: Order, start: usize)
+    requires begun { start + 2 ≤ vec_len out.old }
+    requires short { vec_len out.old - start ≤ 65535 }
+    requires space { start + aligned (vec_len out.old - start) ≤ vec_capacity out.old }
+    ensures items { out.new.items ≡ take start out.old.items ++ padded (num (vec_len out.old - start) 2 order ++ drop (start + 2) out.old.items) }
+    ensures room { vec_capacity out.old ≤ vec_capacity out.new }
+{
+    let len = out.len() - start;
+    let field = order.u16_bytes(len as u16);
+    out[start] = field[0];
+    out[start + 1] = field[1];
+    let _done = out.resize(start + (len + 3) / 4 * 4, 0);
+}
+
+#[cycle(appending)]
+fn append_value(value: &Value, order: Order, out: &mut Vec<u8>)
+    requires sized { IsSizedVal (value_view value.now) }
+    requires space { vec_len out.old + val_len (value_view value.now) ≤ vec_capacity out.old }
+    ensures items { out.new.items ≡ out.old.items ++ written_val order (value_view value.now) }
+    ensures room { vec_capacity out.old ≤ vec_capacity out.new }
+    ensures ranged { IsRangedVal (value_view value.now) }
+{
+    match value {
+        Value::Bytes(payload) => put(out, payload.as_slice()),
+        Value::List(attrs) => append_list(attrs, order, out),
+        Value::Hops(hops) => append_hops(hops, order, out),
+    }
+}
+
+#[cycle(appending)]
+fn append_attr(attr: &Attr, order: Order, out: &mut Vec<u8>)
+    requires number { attr.now.number < 16384 }
+    requires short { 4 + val_len (value_view attr.now.value) ≤ 65535 }
+    requires sized { IsSizedVal (value_view attr.now.value) }
+    requires space { vec_len out.old + aligned (4 + val_len (value_view attr.now.value)) ≤ vec_capacity out.old }
+    ensures items { out.new.items ≡ out.old.items ++ padded (attr_item order attr.now.number attr.now.flags (written_val order (value_view attr.now.value))) }
+    ensures room { vec_capacity out.old ≤ vec_capacity out.new }
+    ensures ranged { IsRangedVal (value_view attr.now.value) }
+{
+    let start = out.len();
+    put_attr_head(out, order, attr.number, attr.flags);
+    append_value(&attr.value, order, out);
+    close_item(out, order, start);
+}
+
+/// Appends a list, each attribute with its padding, numbers in this order. It takes no memory: the
+/// list has been measured, and there is room for its length.
+///
+/// The length of a container is filled in once its last byte stands, so nothing is measured again.
+#[cycle(appending)]
+pub fn append_list(attrs: &[Attr], order: Order, out: &mut Vec<u8>)
+    requires sized { IsSized (attrs_view attrs.now) }
+    requires space { vec_len out.old + items_len (attrs_view attrs.now) ≤ vec_capacity out.old }
+    ensures items { out.new.items ≡ out.old.items ++ written order (attrs_view attrs.now) }
+    ensures room { vec_capacity out.old ≤ vec_capacity out.new }
+    // What a list of the program holds is in the range of its types.
+    ensures ranged { IsRanged (attrs_view attrs.now) }
+{
+    for attr in attrs {
+        append_attr(attr, order, out);
+    }
+}
+
+#[cycle(appending)]
+fn append_hop(hop: &Hop, order: Order, out: &mut Vec<u8>)
+    requires short { 8 + items_len (attrs_view (out-Hop hop.now).attrs.items) ≤ 65535 }
+    requires sized { IsSized (attrs_view (out-Hop hop.now).attrs.items) }
+    requires space { vec_len out.old + aligned (8 + items_len (attrs_view (out-Hop hop.now).attrs.items)) ≤ vec_capacity out.old }
+    ensures items { out.new.items ≡ out.old.items ++ padded (hop_item order (out-Hop hop.now).flags (out-Hop hop.now).hops (out-Hop hop.now).ifindex (written order (attrs_view (out-Hop hop.now).attrs.items))) }
+    ensures room { vec_capacity out.old ≤ vec_capacity out.new }
+    ensures ranged { FitsSigned w32 (out-Hop hop.now).ifindex × IsRanged (attrs_view (out-Hop hop.now).attrs.items) }
+{
+    let start = out.len();
+    put_hop_head(out, order, hop.flags, hop.hops, &hop.ifindex);
+    append_list(&hop.attrs, order, out);
+    close_item(out, order, start);
+}
+
+#[cycle(appending)]
+fn append_hops(hops: &[Hop], order: Order, out: &mut Vec<u8>)
+    requires sized { IsSizedHops (hops_view hops.now) }
+    requires space { vec_len out.old + hops_len (hops_view hops.now) ≤ vec_capacity out.old }
+    ensures items { out.new.items ≡ out.old.items ++ written_hops order (hops_view hops.now) }
+    ensures room { vec_capacity out.old ≤ vec_capacity out.new }
+    ensures ranged { IsRangedHops (hops_view hops.now) }
+{
+    for hop in hops {
+        append_hop(hop, order, out);
+    }
+}

@@ -1,0 +1,161 @@
+//! How long lists are when they are written, and whether they may be.
+
+ghost use Rattle.std.specs.Prelude.{◌≡◌, ◌≤◌, ◌↔◌, ◌⊎◌, Some, IsTrue, IfSome};
+ghost use Rattle.nl_attr.specs.Tree.{Items, HopItems};
+ghost use Rattle.nl_attr.specs.View.{attrs_view, hops_view, attr_view, hop_view, value_view};
+ghost use Rattle.nl_attr.specs.Written.{items_len};
+ghost use Rattle.nl_attr.specs.Proper.{IsMismatched, IsDeep, IsLong, IsSized};
+ghost use Rattle.nl_attr.specs.Measured.{extent_of, extent_of_val, extent_of_hops, item_len, join};
+
+use crate::limits::Depth;
+use crate::tree::{Attr, Content, Ctx, Hop, Value, holds};
+
+/// The most bytes that an item may have, since its length field has 16 bits.
+const LONGEST_ITEM: usize = 65535;
+
+/// The most bytes that a region may have.
+const LONGEST_REGION: usize = 1048576;
+
+/// What a list comes to when it is written.
+#[derive(Clone, Copy, Debug, PartialEq, Eq)]
+pub struct Extent {
+    /// Whether a container opens a level above the depth limit.
+    pub deep: bool,
+    /// How many bytes are written; none where an item or a region is too long.
+    pub len: Option<usize>,
+}
+
+/// The written length of an item, from those of its head and its payload.
+fn item_size(head: usize, payload: Option<usize>) -> Option<usize>
+    requires { head ≤ 8 }
+    ensures { result ≡ item_len head payload }
+{
+    let len = payload?;
+    if len > LONGEST_ITEM - head {
+        return None;
+    }
+    Some((head + len + 3) / 4 * 4)
+}
+
+/// The extent of an item with its head.
+fn item_extent(head: usize, inner: Extent) -> Extent
+    requires { head ≤ 8 }
+    ensures { result ≡ record { deep = inner.deep; len = item_len head inner.len } }
+{
+    Extent {
+        deep: inner.deep,
+        len: item_size(head, inner.len),
+    }
+}
+
+/// Two parts of a region.
+fn both(first: Extent, second: Extent) -> Extent
+    ensures { Some result ≡ join (Some first) (Some second) }
+{
+    let len = match (first.len, second.len) {
+        (Some(a), Some(b)) => match a.checked_add(b) {
+            Some(sum) if sum <= LONGEST_REGION => Some(sum),
+            _ => None,
+        },
+        _ => None,
+    };
+    Extent {
+        deep: first.deep || second.deep,
+        len,
+    }
+}
+
+/// What the value of an attribute comes to, where containers may open `room` more levels; none where
+/// something is of the wrong kind.
+#[cycle(measuring)]
+fn measure_value(value: &Value, content: Content, room: u8) -> Option<Extent>
+    ensures { result ≡ extent_of_val (value_view value.now) content room }
+{
+    match (value, content) {
+        (Value::Bytes(payload), Content::Bytes) => Some(Extent {
+            deep: false,
+            len: Some(payload.len()),
+        }),
+        (Value::List(attrs), Content::List(ctx)) => {
+            let inner = measure_list(attrs, ctx, room.saturating_sub(1))?;
+            Some(Extent {
+                deep: room < 1 || inner.deep,
+                len: inner.len,
+            })
+        }
+        (Value::Hops(hops), Content::Hops) => {
+            let inner = measure_hops(hops, room.saturating_sub(1))?;
+            Some(Extent {
+                deep: room < 2 || inner.deep,
+                len: inner.len,
+            })
+        }
+        _ => None,
+    }
+}
+
+#[cycle(measuring)]
+fn measure_attr(attr: &Attr, ctx: Ctx, room: u8) -> Option<Extent>
+    ensures { (more : Items) → extent_of (attr_view attr.now more) ctx room ≡ join result (extent_of more ctx room) }
+{
+    if attr.number > 16383 {
+        return None;
+    }
+    let content = holds(ctx, attr.number, attr.flags);
+    let inner = measure_value(&attr.value, content, room)?;
+    Some(item_extent(4, inner))
+}
+
+#[cycle(measuring)]
+fn measure_list(attrs: &[Attr], ctx: Ctx, room: u8) -> Option<Extent>
+    ensures { result ≡ extent_of (attrs_view attrs.now) ctx room }
+{
+    let mut all = Extent {
+        deep: false,
+        len: Some(0),
+    };
+    for attr in attrs {
+        all = both(all, measure_attr(attr, ctx, room)?);
+    }
+    Some(all)
+}
+
+#[cycle(measuring)]
+fn measure_hop(hop: &Hop, room: u8) -> Option<Extent>
+    ensures { (more : HopItems) → extent_of_hops (hop_view hop.now more) room ≡ join result (extent_of_hops more room) }
+{
+    let inner = measure_list(&hop.attrs, Ctx::Route, room.saturating_sub(1))?;
+    Some(item_extent(8, inner))
+}
+
+#[cycle(measuring)]
+fn measure_hops(hops: &[Hop], room: u8) -> Option<Extent>
+    ensures { result ≡ extent_of_hops (hops_view hops.now) room }
+{
+    let mut all = Extent {
+        deep: false,
+        len: Some(0),
+    };
+    for hop in hops {
+        all = both(all, measure_hop(hop, room)?);
+    }
+    Some(all)
+}
+
+/// What a list of this context comes to when it is written; none where an attribute has a number of
+/// 16,384 or more, or a value of another kind than its context, number and flags say.
+///
+/// So a caller that writes the list behind bytes of its own decides every refusal in one walk, before
+/// any memory is taken: first none, then `deep`, then no `len`. Where there is a `len`, `append_list`
+/// may be called with room for so many bytes.
+pub fn measure(attrs: &[Attr], ctx: Ctx, depth: Depth) -> Option<Extent>
+    ensures mismatch { (result ≡ None) ↔ IsMismatched (attrs_view attrs.now) ctx }
+    ensures deep { IfSome result (λ e. IsTrue e.deep ↔ IsDeep (attrs_view attrs.now) 0 depth) }
+    ensures long { IfSome result (λ e. (e.len ≡ None) ↔ IsLong (attrs_view attrs.now)) }
+    ensures len { IfSome result (λ e. IfSome e.len (λ n. n ≡ items_len (attrs_view attrs.now))) }
+    ensures limit { IfSome result (λ e. IfSome e.len (λ n. n ≤ 1048576)) }
+    // Then it may be appended.
+    ensures sized { IfSome result (λ e. IfSome e.len (λ n. IsSized (attrs_view attrs.now))) }
+{
+    measure_list(attrs, ctx, depth.get())
+}
