@@ -71,18 +71,19 @@ two_bytes Little n xs = refl
 two_bytes Big n xs = refl
 
 -- an item whose length is stored, and its padding
-pub closed : (o : Order) (xs : List ℕ) (s n vlen : ℕ) → s + 2 ≤ vlen → vlen ≡ length xs → vlen ≡ s + n
-    → take (s + (n + 3) / 4 * 4) (set (set xs s (slice_index (num n 2 o) 0)) (s + 1) (slice_index (num n 2 o) 1)) ++ replicate (s + (n + 3) / 4 * 4 - vlen) 0 ≡ take s xs ++ padded (num n 2 o ++ drop (s + 2) xs)
-closed o xs s n vlen h len all =
+pub closed : (o : Order) (xs field : List ℕ) (s n vlen : ℕ) → field ≡ num n 2 o → s + 2 ≤ vlen → vlen ≡ length xs → vlen ≡ s + n
+    → take (s + (n + 3) / 4 * 4) (set (set xs s (slice_index field 0)) (s + 1) (slice_index field 1)) ++ replicate (s + (n + 3) / 4 * 4 - vlen) 0 ≡ take s xs ++ padded (num n 2 o ++ drop (s + 2) xs)
+closed o xs field s n vlen f h len all =
     let one : s + 1 ≡ suc s = omega arith in
     let two : s + 2 ≡ suc (suc s) = omega arith in
     let top = s + (n + 3) / 4 * 4 in
-    let a = slice_index (num n 2 o) 0 in
-    let b = slice_index (num n 2 o) 1 in
+    let a = slice_index field 0 in
+    let b = slice_index field 1 in
     let z = set (set xs s a) (s + 1) b in
     let it = num n 2 o ++ drop (s + 2) xs in
+    let says : a ∷ b ∷ drop (s + 2) xs ≡ it = ap (λ (ys : List ℕ). slice_index ys 0 ∷ slice_index ys 1 ∷ drop (s + 2) xs) f ∙ two_bytes o n (drop (s + 2) xs) in
     let whole : z ≡ take s xs ++ it =
-    ap (λ (k : ℕ). set (set xs s a) k b) one ∙ set_two xs s a b (omega arith) ∙ ap (λ k. take s xs ++ (a ∷ b ∷ drop k xs)) (sym two) ∙ ap (λ (ys : List ℕ). take s xs ++ ys) (two_bytes o n (drop (s + 2) xs)) in
+    ap (λ (k : ℕ). set (set xs s a) k b) one ∙ set_two xs s a b (omega arith) ∙ ap (λ k. take s xs ++ (a ∷ b ∷ drop k xs)) (sym two) ∙ ap (λ (ys : List ℕ). take s xs ++ ys) says in
     let size : length z ≡ s + n = length-set (set xs s a) (s + 1) b ∙ length-set xs s a ∙ sym len ∙ all in
     let item-size : length it ≡ n = omega (arith, length-append (num n 2 o) (drop (s + 2) xs), length-num o n 2, length-drop (s + 2) xs) in
     let gap : top - vlen ≡ aligned (length it) - length it = ap (λ k. top - k) all ∙ left n (aligned n) ∙ ap (λ k. aligned k - k) (sym item-size) in

@@ -1,5 +1,6 @@
 -- What the extent of a list says of it.
-use Rattle.std.proofs.Common.{◌≡◌, ℕ, ◌+◌, ◌-◌, ◌<◌, ◌≤◌, Bool, true, false, cond, ltb, ◌||◌, ◌⊎◌, Option, Some, None, refl, sym, ap, ◌∙◌, arith, inl, inr}
+use Rattle.std.proofs.Common.{◌≡◌, ℕ, ◌+◌, ◌-◌, ◌<◌, ◌≤◌, Bool, true, false, cond, ltb, ◌||◌, ◌⊎◌, Option, Some, None, refl, sym, ap, subst, arith, inl, inr}
+use Rattle.std.specs.Prelude.{◌↔◌, IsTrue, IfSome}
 use Rattle.std.proofs.lemmas.Bool.{ltb-true, ltb-false}
 use Rattle.nl_attr.specs.declared.tree.Ctx.{Ctx}
 use Rattle.nl_attr.specs.declared.tree.Ctx.TheVariants.{Route}
@@ -136,3 +137,56 @@ mutual
   hops_mean (hop flags count index attrs more) room l D e =
       means_item 8 (items_len attrs) (hops_len more) (IsMismatched attrs Route) (IsMismatchedHops more) (IsDeep attrs (l + 1) D) (IsDeepHops more l D) (IsLong attrs) (HasLongHops more) (IsSized attrs) (IsSizedHops more)
       (extent_of attrs Route (room - 1)) (extent_of_hops more room) (list_means attrs Route (room - 1) (l + 1) D (omega (arith, e))) (hops_mean more room l D e)
+
+-- what each part of an extent says
+says_is : (b : Bool) (P : Type 0) → Says b P → IsTrue b ↔ P
+says_is true P h = (λ t. h, λ p. refl)
+says_is false P h = (λ t. absurd (cc), λ p. absurd (h p))
+
+len_none : (o : Option ℕ) (L : Type 0) (n : ℕ) (S : Type 0) → LenSays o L n S → (o ≡ None) ↔ L
+len_none None L n S h = (λ e. h, λ x. refl)
+len_none (Some m) L n S h = (λ e. absurd (cc), λ x. absurd (h.0 x))
+
+len_is : (o : Option ℕ) (L : Type 0) (n : ℕ) (S : Type 0) → LenSays o L n S → IfSome o (λ m. m ≡ n)
+len_is None L n S h = tt
+len_is (Some m) L n S h = h.1
+
+len_fits : (o : Option ℕ) (L : Type 0) (n : ℕ) (S : Type 0) → LenSays o L n S → IfSome o (λ m. S)
+len_fits None L n S h = tt
+len_fits (Some m) L n S h = h.2
+
+len_below : (o : Option ℕ) (H : Type 0) (n : ℕ) (S : Type 0) → LenSays o ((1048576 < n) ⊎ H) n S → IfSome o (λ m. m ≤ 1048576)
+len_below None H n S h = tt
+len_below (Some m) H n S h = let short : 1048576 < n → ⊥ = λ x. h.0 (inl x) in omega (arith, short, h.1)
+
+module _ (is : Items) (ctx : Ctx) (D : ℕ) where
+  abbrev pub MeansList : Option Extent → Type 0
+  MeansList o = Means (IsMismatched is ctx) (IsDeep is 0 D) (IsLong is) (items_len is) (IsSized is) o
+
+  -- the extent at the outermost level
+  pub measured : (room : ℕ) (o : Option Extent) → room ≡ D → o ≡ extent_of is ctx room → MeansList o
+  measured room o r e = subst MeansList (sym e) (list_means is ctx room 0 D (omega (arith, r)))
+
+  pub means_mismatch : (o : Option Extent) → MeansList o → (o ≡ None) ↔ IsMismatched is ctx
+  means_mismatch None m = (λ e. m, λ h. refl)
+  means_mismatch (Some x) m = (λ e. absurd (cc), λ h. absurd (m.0 h))
+
+  pub means_deep : (o : Option Extent) → MeansList o → IfSome o (λ e. IsTrue e.deep ↔ IsDeep is 0 D)
+  means_deep None m = tt
+  means_deep (Some x) m = says_is x.deep (IsDeep is 0 D) m.1
+
+  pub means_long : (o : Option Extent) → MeansList o → IfSome o (λ e. (e.len ≡ None) ↔ IsLong is)
+  means_long None m = tt
+  means_long (Some x) m = len_none x.len (IsLong is) (items_len is) (IsSized is) m.2
+
+  pub means_len : (o : Option Extent) → MeansList o → IfSome o (λ e. IfSome e.len (λ n. n ≡ items_len is))
+  means_len None m = tt
+  means_len (Some x) m = len_is x.len (IsLong is) (items_len is) (IsSized is) m.2
+
+  pub means_limit : (o : Option Extent) → MeansList o → IfSome o (λ e. IfSome e.len (λ n. n ≤ 1048576))
+  means_limit None m = tt
+  means_limit (Some x) m = len_below x.len (HasLong is) (items_len is) (IsSized is) m.2
+
+  pub means_sized : (o : Option Extent) → MeansList o → IfSome o (λ e. IfSome e.len (λ n. IsSized is))
+  means_sized None m = tt
+  means_sized (Some x) m = len_fits x.len (IsLong is) (items_len is) (IsSized is) m.2
