@@ -63,10 +63,10 @@ abbrev mutual
   extent_of_hops no_hops room = Some empty_extent
   extent_of_hops (hop flags count index attrs more) room = join (extent_of_item 8 (extent_of attrs Route (room - 1))) (extent_of_hops more room)
 
--- the first of the refusals that applies, or that the list can be written
-abbrev pub Answers : {X : Type 0} → Items → Ctx → ℕ → Result X WriteError → Type 0
-Answers is ctx D (Ok x) = IsProper is ctx 0 D
-Answers is ctx D (Err Mismatch) = IsMismatched is ctx
-Answers is ctx D (Err TooDeep) = (IsMismatched is ctx → ⊥) × IsDeep is 0 D
-Answers is ctx D (Err TooLong) = (IsMismatched is ctx → ⊥) × (IsDeep is 0 D → ⊥) × IsLong is
-Answers is ctx D (Err Memory) = IsProper is ctx 0 D
+-- what a result says of a list: the first refusal that applies, or that it can be written
+abbrev pub Judges : {X : Type 0} → Items → Ctx → ℕ → Result X WriteError → Type 0
+Judges is ctx D (Ok x) = IsProper is ctx 0 D
+Judges is ctx D (Err Mismatch) = IsMismatched is ctx
+Judges is ctx D (Err TooDeep) = (IsMismatched is ctx → ⊥) × IsDeep is 0 D
+Judges is ctx D (Err TooLong) = (IsMismatched is ctx → ⊥) × (IsDeep is 0 D → ⊥) × IsLong is
+Judges is ctx D (Err Memory) = IsProper is ctx 0 D

@@ -113,6 +113,7 @@ pub fn append_list(attrs: &[Attr], order: Order, out: &mut Vec<u8>)
     requires sized { IsSized (attrs_view attrs.now) }
     requires space { vec_len out.old + items_len (attrs_view attrs.now) ≤ vec_capacity out.old }
     ensures items { out.new.items ≡ out.old.items ++ written order (attrs_view attrs.now) }
+    ensures len { vec_len out.new ≡ vec_len out.old + items_len (attrs_view attrs.now) }
     ensures room { vec_capacity out.old ≤ vec_capacity out.new }
     // What a list of the program holds is in the range of its types.
     ensures ranged { IsRanged (attrs_view attrs.now) }

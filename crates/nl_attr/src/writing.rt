@@ -6,7 +6,7 @@ ghost use Rattle.nl_attr.specs.View.{attrs_view};
 ghost use Rattle.nl_attr.specs.Layout.{Fits};
 ghost use Rattle.nl_attr.specs.Written.{written, items_len};
 ghost use Rattle.nl_attr.specs.Proper.{IsMismatched, IsDeep, IsLong, IsSized};
-ghost use Rattle.nl_attr.specs.Measured.{Answers};
+ghost use Rattle.nl_attr.specs.Measured.{Judges};
 
 use crate::appending::append_list;
 use crate::fault::WriteError;
@@ -17,7 +17,7 @@ use crate::tree::{Attr, Ctx};
 
 /// The length of a list that can be written, or why it can't.
 fn check(attrs: &[Attr], ctx: Ctx, depth: Depth) -> Result<usize, WriteError>
-    ensures told { Answers (attrs_view attrs.now) ctx depth result }
+    ensures told { Judges (attrs_view attrs.now) ctx depth result }
     ensures known { result ≡ Err WriteError.Memory → ⊥ }
     ensures len { IfOk result (λ n. n ≡ items_len (attrs_view attrs.now)) }
     ensures limit { IfOk result (λ n. n ≤ 1048576) }

@@ -29,9 +29,6 @@ pub region_last : (b : Option ℕ) → IsWithin b → region_len b (Some 0) ≡ 
 region_last None h = refl
 region_last (Some b) h = let e : ltb 1048576 (b + 0) ≡ false = le-ltb 1048576 (b + 0) (omega (arith, h)) in rw e (ap (λ n. Some n) (omega arith))
 
-capped : ℕ → Option ℕ
-capped n = cond (ltb 1048576 n) None (Some n)
-
 pub region_assoc : (a b c : Option ℕ) → region_len (region_len a b) c ≡ region_len a (region_len b c)
 region_assoc None b c = refl
 region_assoc (Some a) None c = refl

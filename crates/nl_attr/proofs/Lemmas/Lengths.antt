@@ -1,5 +1,5 @@
 -- How many bytes are written, and what stands where an item is closed.
-use Rattle.std.proofs.Common.{◌≡◌, ℕ, ℤ, zero, suc, ◌+◌, ◌-◌, ◌*◌, ◌/◌, ◌%◌, ◌≤◌, List, [], ◌∷◌, ◌++◌, length, take, drop, set, replicate, Result, Ok, Err, is_ok, refl, sym, ap, ◌∙◌, arith, length-append, length-drop, length-set, append_assoc}
+use Rattle.std.proofs.Common.{◌≡◌, ℕ, ℤ, zero, suc, ◌+◌, ◌-◌, ◌*◌, ◌/◌, ◌≤◌, List, [], ◌∷◌, ◌++◌, length, take, drop, set, replicate, Result, Ok, Err, is_ok, refl, sym, ap, ◌∙◌, arith, length-append, length-drop, length-set, append_assoc}
 use Rattle.std.specs.Prelude.{IsOk, if◌then◌else◌, slice_index}
 use Rattle.std.specs.Int.{w32, cast_unsigned}
 use Rattle.std.proofs.lemmas.List.{length-replicate, take_all, take_at, drop_at}

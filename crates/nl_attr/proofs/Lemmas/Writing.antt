@@ -1,5 +1,5 @@
 -- What is written is read again.
-use Rattle.std.proofs.Common.{◌≡◌, ℕ, ◌+◌, ◌-◌, ◌%◌, ◌^◌, ◌<◌, ◌≤◌, List, ◌∷◌, ◌++◌, length, replicate, refl, sym, ap, ◌∙◌, arith, inl, inr, append_assoc}
+use Rattle.std.proofs.Common.{◌≡◌, ℕ, ◌+◌, ◌-◌, ◌%◌, ◌<◌, ◌≤◌, List, ◌∷◌, ◌++◌, length, replicate, refl, sym, ap, ◌∙◌, arith, inl, inr, append_assoc}
 use Rattle.std.proofs.lemmas.List.{length-replicate}
 use Rattle.std.specs.Int.{w32, cast_unsigned}
 use Rattle.nl_attr.specs.declared.order.Order.{Order}
@@ -13,7 +13,7 @@ use Rattle.nl_attr.specs.Tree.{Val, bytes, list, hops, Items, no_items, item, Ho
 use Rattle.nl_attr.specs.Layout.{IsPiece, kind_number, FitsVal, Fits, FitsHops}
 use Rattle.nl_attr.specs.Written.{padded, attr_item, hop_item, written, written_val, written_hops, val_len, items_len, hops_len}
 use Rattle.nl_attr.specs.Proper.{IsMismatched, IsMismatchedVal, IsMismatchedHops, IsDeep, IsDeepVal, IsDeepHops, HasLong, HasLongVal, HasLongHops, IsProper, IsRanged, IsRangedVal, IsRangedHops}
-use Rattle.nl_attr.proofs.Lemmas.Lengths.{length-val, length-items, length-hops, length-attr, length-hop}
+use Rattle.nl_attr.proofs.Lemmas.Lengths.{length-val, length-items, length-attr, length-hop}
 
 gap_after : (n : ℕ) → n + (aligned n - n) ≡ aligned n
 gap_after n = omega arith

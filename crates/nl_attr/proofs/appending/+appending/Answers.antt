@@ -66,9 +66,11 @@ append_list-loop-attr-preserved t c =
     let i = c.loop-attr.invariant in
     let sized = subst (λ (ys : Items). IsSized ys) d i.sized in
     let g = grown _ _ _ _ one c.append_attr.ensures.items c.loop-attr.out.ok.0 c.append_attr.new.out.ok.0 in
+    let size = length-padded_attr o x.number x.flags (value_view x.value) in
     record {
       sized = sized.3;
-      space = omega (arith, i.space, ap items_len d, g, length-padded_attr o x.number x.flags (value_view x.value), c.append_attr.ensures.room);
+      space = omega (arith, i.space, ap items_len d, g, size, c.append_attr.ensures.room);
+      len = omega (arith, i.len, ap items_len d, g, size);
       whole = ap (λ (ys : List ℕ). ys ++ written o rest) c.append_attr.ensures.items ∙ append_assoc c.loop-attr.out.items one (written o rest) ∙ sym (ap (λ (ys : Items). c.loop-attr.out.items ++ written o ys) d) ∙ i.whole;
       room = omega (arith, i.room, c.append_attr.ensures.room);
       ranged = λ r. i.ranged (subst (λ (ys : Items). IsRanged ys) (sym d) (c.append_attr.ensures.ranged, r));

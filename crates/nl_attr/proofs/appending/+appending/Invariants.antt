@@ -9,6 +9,7 @@ invariant-append_list-loop-attr l = record {
   sized : IsSized (attrs_view (drop l.attr-index l.attrs));
   space : vec_len l.out + items_len (attrs_view (drop l.attr-index l.attrs)) ≤ vec_capacity l.out;
   whole : l.out.items ++ written l.order (attrs_view (drop l.attr-index l.attrs)) ≡ l.fn.out.items ++ written l.order (attrs_view l.fn.attrs);
+  len : vec_len l.out + items_len (attrs_view (drop l.attr-index l.attrs)) ≡ vec_len l.fn.out + items_len (attrs_view l.fn.attrs);
   room : vec_capacity l.fn.out ≤ vec_capacity l.out;
   ranged : IsRanged (attrs_view (drop l.attr-index l.attrs)) → IsRanged (attrs_view l.fn.attrs);
 }
