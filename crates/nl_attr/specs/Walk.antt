@@ -85,7 +85,7 @@ module _ {P : Type 0} (h : ℕ) (Is : P → Region → Type 0) (o : Order) where
   IsWalk place left (Ok p ∷ ps) =
       (item : List ℕ) × (pad : List ℕ) × (rest : List ℕ) × IsPiece o h 2 left item pad rest × Is p (record { order = o; place = place; left = left })
       × IsWalk (place + length item + length pad) rest ps
-  IsWalk place left (Err f ∷ ps) = (f.place ≡ place) × (broken_length o h 2 left ≡ Some f.reason) × (ps ≡ [])
+  IsWalk place left (Err f ∷ ps) = (left ≢ []) × (f.place ≡ place) × (broken_length o h 2 left ≡ Some f.reason) × (ps ≡ [])
 
 -- the bytes that the items occupy
 abbrev pub spans_of : {P : Type 0} → (P → ℕ) → List (Result P Fault) → ℕ

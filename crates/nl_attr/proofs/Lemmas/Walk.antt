@@ -41,7 +41,7 @@ walk_is h Is r (Ok p ∷ ps) four fits d =
     )
 walk_is h Is r (Err f ∷ ps) four fits d =
     let step = d.1.1.1 in
-    (step.2, step.1, nothing_more h Is d.1.1.0 ps (ap (λ (x : Region). x.left) step.3) (d.0, (d.1.0, d.1.1.2, d.1.2)))
+    (step.0, step.2, step.1, nothing_more h Is d.1.1.0 ps (ap (λ (x : Region). x.left) step.3) (d.0, (d.1.0, d.1.1.2, d.1.2)))
 
 -- ---- what was handed out so far
 
