@@ -9,6 +9,8 @@ pub mod Layout
 pub mod Heads
 pub mod Told
 pub mod Kept
+pub mod Written
+pub mod Proper
 pub use Rattle.nl_attr.specs.Numbers
 pub use Rattle.nl_attr.specs.Shape
 pub use Rattle.nl_attr.specs.Walk
@@ -19,3 +21,5 @@ pub use Rattle.nl_attr.specs.Layout as Regions
 pub use Rattle.nl_attr.specs.Heads as RegionHeads
 pub use Rattle.nl_route.specs.Fields
 pub use Rattle.nl_route.specs.Body
+pub use Rattle.nl_attr.specs.Written as RegionWritten
+pub use Rattle.nl_attr.specs.Proper as RegionProper

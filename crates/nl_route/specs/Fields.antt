@@ -31,3 +31,11 @@ written o (byte n ∷ fs) = n ∷ written o fs
 written o (number w n ∷ fs) = num n w o ++ written o fs
 written o (signed z ∷ fs) = num (cast_unsigned w32 z) 4 o ++ written o fs
 written o (pad w ∷ fs) = zeros w ++ written o fs
+
+-- each number is in the range of its field
+abbrev pub AreRanged : List Field → Type 0
+AreRanged [] = Unit {0}
+AreRanged (byte n ∷ fs) = (n < 256) × AreRanged fs
+AreRanged (number w n ∷ fs) = (n < 256 ^ w) × AreRanged fs
+AreRanged (signed z ∷ fs) = FitsSigned w32 z × AreRanged fs
+AreRanged (pad w ∷ fs) = AreRanged fs

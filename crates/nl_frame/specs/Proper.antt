@@ -1,0 +1,80 @@
+-- Which messages can be written, and why others can't.
+use Rattle.std.specs.Prelude.{◌≢◌, ◌<◌, ◌≤◌, ◌^◌, ◌⊎◌, ℕ, List, [], ◌∷◌, length, Some, None, FitsSigned}
+use Rattle.std.specs.Int.{w32}
+use Rattle.nl_attr.specs.Proper as attrs
+use Rattle.nl_route.specs.Fields.{AreRanged}
+use Rattle.nl_frame.specs.declared.form.Form.{Form}
+use Rattle.nl_frame.specs.declared.form.Form.TheVariants as form
+use Rattle.nl_frame.specs.Header.{header_fields}
+use Rattle.nl_frame.specs.Form.{form_of, context_of}
+use Rattle.nl_frame.specs.Message.{group_of, fields_of, BodyVal, noop, error, done, overrun, family, get, other, MessageVal}
+use Rattle.nl_frame.specs.Written.{written_len}
+
+-- a body of another form, a DONE without status that has four bytes or more, or mismatched attributes
+abbrev pub IsMismatchedBody : BodyVal → Form → Type 0
+IsMismatchedBody (noop bs) f = f ≢ form.Noop
+IsMismatchedBody (error code h tail) f = f ≢ form.Error
+IsMismatchedBody (done None tail) f = (f ≢ form.Done) ⊎ (4 ≤ length tail)
+IsMismatchedBody (done (Some z) tail) f = f ≢ form.Done
+IsMismatchedBody (overrun bs) f = f ≢ form.Overrun
+IsMismatchedBody (family h is) f = (f ≢ form.Family (group_of h)) ⊎ attrs.IsMismatched is (context_of (group_of h))
+IsMismatchedBody (get n tail) f = f ≢ form.Get
+IsMismatchedBody (other bs) f = f ≢ form.Other
+
+-- some body isn't of its message's type
+abbrev pub IsMismatched : List MessageVal → Type 0
+IsMismatched [] = ⊥
+IsMismatched (m ∷ ms) = IsMismatchedBody m.body (form_of m.kind) ⊎ IsMismatched ms
+
+abbrev pub IsDeepBody : BodyVal → ℕ → Type 0
+IsDeepBody (noop bs) D = ⊥
+IsDeepBody (error code h tail) D = ⊥
+IsDeepBody (done status tail) D = ⊥
+IsDeepBody (overrun bs) D = ⊥
+IsDeepBody (family h is) D = attrs.IsDeep is 0 D
+IsDeepBody (get n tail) D = ⊥
+IsDeepBody (other bs) D = ⊥
+
+-- some container opens a level above the depth D
+abbrev pub IsDeep : List MessageVal → ℕ → Type 0
+IsDeep [] D = ⊥
+IsDeep (m ∷ ms) D = IsDeepBody m.body D ⊎ IsDeep ms D
+
+abbrev pub IsLongBody : BodyVal → Type 0
+IsLongBody (noop bs) = ⊥
+IsLongBody (error code h tail) = ⊥
+IsLongBody (done status tail) = ⊥
+IsLongBody (overrun bs) = ⊥
+IsLongBody (family h is) = attrs.IsLong is
+IsLongBody (get n tail) = ⊥
+IsLongBody (other bs) = ⊥
+
+-- something in some body is too long
+abbrev pub HasLong : List MessageVal → Type 0
+HasLong [] = ⊥
+HasLong (m ∷ ms) = IsLongBody m.body ⊎ HasLong ms
+
+-- the datagram, or something in it, is too long
+abbrev pub IsLong : List MessageVal → Type 0
+IsLong ms = (1048576 < written_len ms) ⊎ HasLong ms
+
+-- messages that can be written where containers may open D levels
+pub record IsProper (ms : List MessageVal) (D : ℕ) : Type 0 where
+  pub matched : IsMismatched ms → ⊥
+  pub shallow : IsDeep ms D → ⊥
+  pub short : IsLong ms → ⊥
+
+abbrev pub IsRangedBody : BodyVal → Type 0
+IsRangedBody (noop bs) = Unit {0}
+IsRangedBody (error code h tail) = FitsSigned w32 code × AreRanged (header_fields h)
+IsRangedBody (done None tail) = Unit {0}
+IsRangedBody (done (Some z) tail) = FitsSigned w32 z
+IsRangedBody (overrun bs) = Unit {0}
+IsRangedBody (family h is) = AreRanged (fields_of h) × attrs.IsRanged is
+IsRangedBody (get n tail) = n < 256
+IsRangedBody (other bs) = Unit {0}
+
+-- each number is in the range of its type, as every one of the program is
+abbrev pub IsRanged : List MessageVal → Type 0
+IsRanged [] = Unit {0}
+IsRanged (m ∷ ms) = (m.kind < 2 ^ 16) × (m.flags < 2 ^ 16) × (m.seq < 2 ^ 32) × (m.port < 2 ^ 32) × IsRangedBody m.body × IsRanged ms
