@@ -1,6 +1,6 @@
 //! Every name of an attribute, and every named bit, as it is printed.
 
-use crate::shown::{is_shown};
+use crate::shown::is_shown;
 use std::test::Fail;
 
 /// A message with each named attribute of links once.

@@ -27,7 +27,12 @@ fn shows(
     Ok(())
 }
 
-fn is_shown(rt: &impl Abort, alloc: Global, input: &str, text: &str) -> Result<(), Fail> {
+pub(crate) fn is_shown(
+    rt: &impl Abort,
+    alloc: Global,
+    input: &str,
+    text: &str,
+) -> Result<(), Fail> {
     shows(rt, alloc, Order::Little, input, text, Verdict::Clean)
 }
 
