@@ -9,3 +9,4 @@ pub mod Firsts
 pub mod Told
 pub mod Kept
 pub mod Every
+pub mod WrittenLengths

@@ -1,12 +1,14 @@
 //! Laws over the definitions alone: each contract is a law, and each body is empty.
 
 ghost use Rattle.std.specs.Prelude.{◌≡◌, ◌≤◌, ◌+◌, ◌*◌, ◌↔◌, ℕ, List, length};
+ghost use Rattle.nl_attr.specs.declared.order.Order.{Order};
 ghost use Rattle.nl_attr.specs.declared.fault.Reason.{Reason};
 ghost use Rattle.nl_attr.specs.Shape.{Shape};
 ghost use Rattle.nl_attr.specs.Numbers.{AreBytes};
 ghost use Rattle.nl_frame.specs.Message.{MessageVal};
 ghost use Rattle.nl_frame.specs.Layout.{Layout};
 ghost use Rattle.nl_frame.specs.Heads.{Rest, FaultAt, Visits, whole};
+ghost use Rattle.nl_frame.specs.Written.{written, written_len};
 
 /// At most one list of messages is the layout of a datagram.
 pub fn one_layout()
@@ -26,4 +28,9 @@ pub fn visits_are_bounded()
 /// The visits up to a place have one sum.
 pub fn one_sum()
     ensures { (s : Shape) (d : Rest) (q a b : ℕ) → Visits s d q a → Visits s d q b → a ≡ b }
+{}
+
+/// Messages are written as many bytes in either order.
+pub fn written_length()
+    ensures { (o : Order) (ms : List MessageVal) → length (written o ms) ≡ written_len ms }
 {}

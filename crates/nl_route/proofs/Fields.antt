@@ -3,14 +3,14 @@ use Rattle.std.proofs.Common.{◌≡◌, ℕ, ℤ, zero, suc, ◌+◌, ◌^◌, 
 use Rattle.std.specs.Prelude.{FitsSigned}
 use Rattle.std.specs.Int.{w32, cast_signed, cast_unsigned}
 use Rattle.std.proofs.lemmas.Int.{of_z-to_z, to_z-of_z}
-use Rattle.std.proofs.lemmas.List.{take-append-drop, drop-drop, get_or-drop, get_or-take}
+use Rattle.std.proofs.lemmas.List.{take-append-drop, drop-drop, get_or-drop, get_or-take, take_at, drop_at}
 use Rattle.std.proofs.Math.Facts.{sfits_to_z, Fits-of_lt, Fits-lt-pow, Fits-of_z}
 use Rattle.std.proofs.Math.ListN.{drop_of_length-le}
 use Rattle.std.proofs.Math.Seq.{drop-cons, drop-append_seam}
 use Rattle.nl_attr.specs.declared.order.Order.{Order}
 use Rattle.nl_attr.specs.Numbers.{AreBytes, num, number_of}
 use Rattle.nl_attr.proofs.Lemmas.Numbers.{length-num, front_is, front_below, number_of-num}
-use Rattle.nl_route.specs.Fields.{Field, byte, number, signed, pad, AreFields, zeros, written}
+use Rattle.nl_route.specs.Fields.{Field, byte, number, signed, pad, AreFields, AreRanged, zeros, written}
 
 abbrev pub width : Field → ℕ
 width (byte n) = 1
@@ -137,3 +137,36 @@ read_written o (signed z ∷ fs) front h =
     (step o fs front (num k 4 o) (written o fs) 4 (length-num o k 4) (read_written o fs (front ++ num k 4 o) h.1))
 read_written o (pad w ∷ fs) front h =
     cons_same (pad w) (pad w) _ fs refl (step o fs front (zeros w) (written o fs) w (length-zeros w) (read_written o fs (front ++ zeros w) h))
+
+-- ---- what is written of fields has them
+
+-- the bytes are as many as the fields have, whatever the numbers
+pub length-written : (o : Order) (fs : List Field) → length (written o fs) ≡ size_of fs
+length-written o [] = refl
+length-written o (byte n ∷ fs) = omega (arith, length-written o fs)
+length-written o (number w n ∷ fs) = omega (arith, length-append (num n w o) (written o fs), length-num o n w, length-written o fs)
+length-written o (signed z ∷ fs) = let k : ℕ = cast_unsigned w32 z in omega (arith, length-append (num k 4 o) (written o fs), length-num o k 4, length-written o fs)
+length-written o (pad w ∷ fs) = omega (arith, length-append (zeros w) (written o fs), length-zeros w, length-written o fs)
+
+-- the fields behind a part
+behind : (o : Order) (fs : List Field) (part rest : List ℕ) (w : ℕ) → length part ≡ w → AreFields o fs rest → AreFields o fs (drop w (part ++ rest))
+behind o fs part rest w e h = subst (AreFields o fs) (sym (drop_at part rest w e)) h
+
+pub written_has_fields : (o : Order) (fs : List Field) → AreRanged fs → AreFields o fs (written o fs)
+written_has_fields o [] h = refl
+written_has_fields o (byte n ∷ fs) h = (refl, h.0, written_has_fields o fs h.1)
+written_has_fields o (number w n ∷ fs) h =
+    (take_at (num n w o) (written o fs) w (length-num o n w), h.0, behind o fs (num n w o) (written o fs) w (length-num o n w) (written_has_fields o fs h.1))
+written_has_fields o (signed z ∷ fs) h =
+    let k : ℕ = cast_unsigned w32 z in
+    (take_at (num k 4 o) (written o fs) 4 (length-num o k 4), h.0, behind o fs (num k 4 o) (written o fs) 4 (length-num o k 4) (written_has_fields o fs h.1))
+written_has_fields o (pad w ∷ fs) h =
+    (omega (arith, length-append (zeros w) (written o fs), length-zeros w), behind o fs (zeros w) (written o fs) w (length-zeros w) (written_has_fields o fs h))
+
+-- numbers that bytes have are in the ranges of their fields
+pub fields_are_ranged : (o : Order) (fs : List Field) (bytes : List ℕ) → AreFields o fs bytes → AreRanged fs
+fields_are_ranged o [] bytes h = tt
+fields_are_ranged o (byte n ∷ fs) bytes h = (h.1, fields_are_ranged o fs (drop 1 bytes) h.2)
+fields_are_ranged o (number w n ∷ fs) bytes h = (h.1, fields_are_ranged o fs (drop w bytes) h.2)
+fields_are_ranged o (signed z ∷ fs) bytes h = (h.1, fields_are_ranged o fs (drop 4 bytes) h.2)
+fields_are_ranged o (pad w ∷ fs) bytes h = fields_are_ranged o fs (drop w bytes) h.1

@@ -1,0 +1,5 @@
+use Rattle.nl_frame.proofs.WrittenLengths.{length-messages}
+use Rattle.nl_frame.proofs.laws.written_length.Goals as goal
+
+pub returns : goal.returns
+returns c = length-messages
