@@ -10,3 +10,4 @@ pub mod Told
 pub mod Kept
 pub mod Every
 pub mod WrittenLengths
+pub mod WrittenLayouts

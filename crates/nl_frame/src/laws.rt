@@ -9,6 +9,7 @@ ghost use Rattle.nl_frame.specs.Message.{MessageVal};
 ghost use Rattle.nl_frame.specs.Layout.{Layout};
 ghost use Rattle.nl_frame.specs.Heads.{Rest, FaultAt, Visits, whole};
 ghost use Rattle.nl_frame.specs.Written.{written, written_len};
+ghost use Rattle.nl_frame.specs.Proper.{IsProper, IsRanged};
 
 /// At most one list of messages is the layout of a datagram.
 pub fn one_layout()
@@ -33,4 +34,9 @@ pub fn one_sum()
 /// Messages are written as many bytes in either order.
 pub fn written_length()
     ensures { (o : Order) (ms : List MessageVal) → length (written o ms) ≡ written_len ms }
+{}
+
+/// Messages that can be written are the layout of the bytes that they are written as.
+pub fn written_has_layout()
+    ensures { (s : Shape) (ms : List MessageVal) → IsProper ms s.depth → IsRanged ms → Layout s ms (written s.order ms) }
 {}

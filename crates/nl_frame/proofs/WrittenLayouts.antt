@@ -1,0 +1,141 @@
+-- Messages are the layout of what they are written as.
+use Rattle.std.proofs.Common.{◌≡◌, ◌≢◌, ℕ, ◌+◌, ◌-◌, ◌<◌, ◌≤◌, List, [], ◌∷◌, ◌++◌, length, take, drop, replicate, Some, None, refl, sym, ap, subst, ◌∙◌, arith, inl, inr, append_assoc, length-append}
+use Rattle.std.proofs.lemmas.Bool.{cases_eq}
+use Rattle.std.proofs.lemmas.List.{length-replicate, take_at, drop_at}
+use Rattle.nl_attr.specs.declared.order.Order.{Order}
+use Rattle.nl_attr.specs.Shape.{Shape}
+use Rattle.nl_attr.specs.Numbers.{aligned, num}
+use Rattle.nl_attr.specs.Layout.{IsPiece, Fits}
+use Rattle.nl_attr.specs.Written.{padded}
+use Rattle.nl_attr.specs.Written as attrs
+use Rattle.nl_attr.proofs.Lemmas.Writing.{written_fits}
+use Rattle.nl_route.specs.Fields.{Field, number, signed, AreFields, AreRanged}
+use Rattle.nl_route.specs.Fields as fields
+use Rattle.nl_route.proofs.Fields.{size_of, length-written, written_has_fields}
+use Rattle.nl_frame.specs.declared.form.Form.{Form}
+use Rattle.nl_frame.specs.declared.form.Form.TheVariants as form
+use Rattle.nl_frame.specs.declared.form.Group.TheVariants as group
+use Rattle.nl_frame.specs.Header.{header_fields}
+use Rattle.nl_frame.specs.Form.{form_of, head_size, context_of}
+use Rattle.nl_frame.specs.Message.{group_of, fields_of, BodyVal, noop, error, done, overrun, family, get, other, MessageVal}
+use Rattle.nl_frame.specs.Layout.{BodyOf, Layout}
+use Rattle.nl_frame.specs.Written.{body_len, header_for, body_written, message_item, written, written_len}
+use Rattle.nl_frame.specs.Proper.{IsMismatchedBody, IsMismatched, IsDeepBody, IsDeep, IsLongBody, HasLong, IsProper, IsRangedBody, IsRanged}
+use Rattle.nl_frame.proofs.WrittenLengths.{size_of_head, length-message}
+
+-- ---- forms that aren't different are the same
+
+-- a type that has this form
+abbrev kind_for : Form → ℕ
+kind_for form.Noop = 1
+kind_for form.Error = 2
+kind_for form.Done = 3
+kind_for form.Overrun = 4
+kind_for (form.Family group.Link) = 16
+kind_for (form.Family group.Addr) = 20
+kind_for (form.Family group.Route) = 24
+kind_for (form.Family group.Neigh) = 28
+kind_for form.Get = 18
+kind_for form.Other = 0
+
+form_of-kind_for : (f : Form) → form_of (kind_for f) ≡ f
+form_of-kind_for form.Noop = refl
+form_of-kind_for form.Error = refl
+form_of-kind_for form.Done = refl
+form_of-kind_for form.Overrun = refl
+form_of-kind_for (form.Family group.Link) = refl
+form_of-kind_for (form.Family group.Addr) = refl
+form_of-kind_for (form.Family group.Route) = refl
+form_of-kind_for (form.Family group.Neigh) = refl
+form_of-kind_for form.Get = refl
+form_of-kind_for form.Other = refl
+
+same_form : (f g : Form) → (f ≢ g → ⊥) → f ≡ g
+same_form f g h = elim (cases_eq (kind_for f) (kind_for g)) [
+  | inl e ↦ sym (form_of-kind_for f) ∙ ap form_of e ∙ form_of-kind_for g
+  | inr ne ↦ absurd (h (λ e. ne (ap kind_for e)))
+]
+
+-- ---- fields at the front
+
+record IsFront (o : Order) (fs : List Field) (n : ℕ) (tail bytes : List ℕ) : Type 0 where
+  pub long : n ≤ length bytes
+  pub are : AreFields o fs (take n bytes)
+  pub rest : drop n bytes ≡ tail
+
+front_written : (o : Order) (fs : List Field) (n : ℕ) (tail : List ℕ) → size_of fs ≡ n → AreRanged fs → IsFront o fs n tail (fields.written o fs ++ tail)
+front_written o fs n tail e r =
+    let front = fields.written o fs in
+    let len : length front ≡ n = length-written o fs ∙ e in
+    record {
+      long = omega (arith, len, length-append front tail);
+      are = subst (AreFields o fs) (sym (take_at front tail n len)) (written_has_fields o fs r);
+      rest = drop_at front tail n len;
+    }
+
+-- ---- bodies
+
+body_writes : (S : Shape) (c : BodyVal) (f : Form) → IsRangedBody c → (IsMismatchedBody c f → ⊥) → (IsDeepBody c S.depth → ⊥) → (IsLongBody c → ⊥) → BodyOf S c f (body_written S.order c)
+body_writes S (noop bs) f r m d s = (same_form f form.Noop m, refl)
+body_writes S (error z h tail) f r m d s =
+    let front = front_written S.order (signed z ∷ header_fields h) 20 tail refl r in
+    (same_form f form.Error m, front.long, front.are, front.rest)
+body_writes S (done None tail) f r m d s = (same_form f form.Done (λ x. m (inl x)), below 4 (length tail) (λ x. m (inr x)), refl) where
+  below : (a b : ℕ) → (a ≤ b → ⊥) → b < a
+  below a b h = omega (arith, h)
+body_writes S (done (Some z) tail) f r m d s =
+    let front = front_written S.order (signed z ∷ []) 4 tail refl (r, tt) in
+    (same_form f form.Done m, front.long, front.are, front.rest)
+body_writes S (overrun bs) f r m d s = (same_form f form.Overrun m, refl)
+body_writes S (family h is) f r m d s =
+    let g = group_of h in
+    let front = front_written S.order (fields_of h) (head_size g) (attrs.written S.order is) (size_of_head h) r.0 in
+    let fit = written_fits S (context_of g) 0 is (record { matched = λ x. m (inr x); shallow = d; short = s }) r.1 in
+    (same_form f (form.Family g) (λ x. m (inl x)), (front.long, front.are, subst (λ (xs : List ℕ). Fits S is xs (context_of g) 0) (sym front.rest) fit))
+body_writes S (get n tail) f r m d s = (same_form f form.Get m, refl)
+body_writes S (other bs) f r m d s = (same_form f form.Other m, refl)
+
+-- ---- messages
+
+gap_after : (n : ℕ) → n + (aligned n - n) ≡ aligned n
+gap_after n = omega arith
+
+-- a message as it is written is a piece
+made : (o : Order) (it body rest : List ℕ) → it ≡ num (length it) 4 o ++ body → 16 ≤ length it → length it ≤ 1048576 → IsPiece o 16 4 (padded it ++ rest) it (replicate (aligned (length it) - length it) 0) rest
+made o it body rest says low high =
+    record {
+      parts = append_assoc it (replicate (aligned (length it) - length it) 0) rest;
+      least = low;
+      fits = omega (arith, high);
+      body = body;
+      says = says;
+      padded = inl (ap (λ k. length it + k) (length-replicate {A = ℕ} (aligned (length it) - length it) 0) ∙ gap_after (length it));
+    }
+
+module _ (S : Shape) where
+  messages_write : (ms : List MessageVal) → IsRanged ms → (IsMismatched ms → ⊥) → (IsDeep ms S.depth → ⊥) → (HasLong ms → ⊥) → written_len ms ≤ 1048576 → Layout S ms (written S.order ms)
+  messages_write [] r m d s top = refl
+  messages_write (x ∷ ms) r m d s top =
+      let o = S.order in
+      let it = message_item o x in
+      let payload = body_written o x.body in
+      let h = header_for x in
+      let len : length it ≡ 16 + body_len x.body = length-message o x in
+      let high : 16 + body_len x.body ≤ 1048576 = omega (arith, top) in
+      let front = front_written o (header_fields h) 16 payload refl (omega (arith, high), (r.0, (r.1, (r.2, (r.3, tt))))) in
+      let behind = fields.written o (number 2 x.kind ∷ number 2 x.flags ∷ number 4 x.seq ∷ number 4 x.port ∷ []) in
+      let says : it ≡ num (length it) 4 o ++ (behind ++ payload) = append_assoc (num (16 + body_len x.body) 4 o) behind payload ∙ ap (λ k. num k 4 o ++ (behind ++ payload)) (sym len) in (
+        it,
+        replicate (aligned (length it) - length it) 0,
+        written o ms,
+        made o it (behind ++ payload) (written o ms) says front.long (omega (arith, len, high)),
+        subst (λ (k : ℕ). AreFields o (header_fields (record { len = k; kind = x.kind; flags = x.flags; seq = x.seq; port = x.port })) (take 16 it)) (sym len) front.are,
+        subst (λ (xs : List ℕ). BodyOf S x.body (form_of x.kind) xs) (sym front.rest) (body_writes S x.body (form_of x.kind) r.4 (λ y. m (inl y)) (λ y. d (inl y)) (λ y. s (inl y))),
+        messages_write ms r.5 (λ y. m (inr y)) (λ y. d (inr y)) (λ y. s (inr y)) (omega (arith, top)),
+      )
+
+  -- what is proper is the layout of what it is written as
+  pub written_has_layout : (ms : List MessageVal) → IsProper ms S.depth → IsRanged ms → Layout S ms (written S.order ms)
+  written_has_layout ms p r = messages_write ms r p.matched p.shallow (λ x. p.short (inr x)) (not_above 1048576 (written_len ms) (λ x. p.short (inl x))) where
+    not_above : (a b : ℕ) → (a < b → ⊥) → b ≤ a
+    not_above a b h = omega (arith, h)
