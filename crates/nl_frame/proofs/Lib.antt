@@ -11,3 +11,4 @@ pub mod Kept
 pub mod Every
 pub mod WrittenLengths
 pub mod WrittenLayouts
+pub mod ProperLayouts

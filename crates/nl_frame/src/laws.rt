@@ -4,7 +4,7 @@ ghost use Rattle.std.specs.Prelude.{◌≡◌, ◌≤◌, ◌+◌, ◌*◌, ◌�
 ghost use Rattle.nl_attr.specs.declared.order.Order.{Order};
 ghost use Rattle.nl_attr.specs.declared.fault.Reason.{Reason};
 ghost use Rattle.nl_attr.specs.Shape.{Shape};
-ghost use Rattle.nl_attr.specs.Numbers.{AreBytes};
+ghost use Rattle.nl_attr.specs.Numbers.{aligned, AreBytes};
 ghost use Rattle.nl_frame.specs.Message.{MessageVal};
 ghost use Rattle.nl_frame.specs.Layout.{Layout};
 ghost use Rattle.nl_frame.specs.Heads.{Rest, FaultAt, Visits, whole};
@@ -39,4 +39,11 @@ pub fn written_length()
 /// Messages that can be written are the layout of the bytes that they are written as.
 pub fn written_has_layout()
     ensures { (s : Shape) (ms : List MessageVal) → IsProper ms s.depth → IsRanged ms → Layout s ms (written s.order ms) }
+{}
+
+/// Messages that are a datagram's layout can be written, and are as long as it with its last padding.
+pub fn layout_is_proper()
+    ensures proper { (s : Shape) (ms : List MessageVal) (d : List ℕ) → Layout s ms d → length d ≤ 1048576 → IsProper ms s.depth }
+    ensures len { (s : Shape) (ms : List MessageVal) (d : List ℕ) → Layout s ms d → written_len ms ≡ aligned (length d) }
+    ensures ranged { (s : Shape) (ms : List MessageVal) (d : List ℕ) → AreBytes d → Layout s ms d → IsRanged ms }
 {}
