@@ -12,3 +12,4 @@ pub mod Every
 pub mod WrittenLengths
 pub mod WrittenLayouts
 pub mod ProperLayouts
+pub mod Sums

@@ -26,9 +26,10 @@ pub fn visits_are_bounded()
     ensures { (s : Shape) (d : List ℕ) (q total : ℕ) → Visits s (whole d) q total → total ≤ (s.depth + 1) * length d }
 {}
 
-/// The visits up to a place have one sum.
+/// The visits up to a place, behind faults too, have a sum, and one alone.
 pub fn one_sum()
-    ensures { (s : Shape) (d : Rest) (q a b : ℕ) → Visits s d q a → Visits s d q b → a ≡ b }
+    ensures some { (s : Shape) (d : Rest) (q : ℕ) → (total : ℕ) × Visits s d q total }
+    ensures only { (s : Shape) (d : Rest) (q a b : ℕ) → Visits s d q a → Visits s d q b → a ≡ b }
 {}
 
 /// Messages are written as many bytes in either order.

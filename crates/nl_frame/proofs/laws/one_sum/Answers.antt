@@ -1,5 +1,9 @@
 use Rattle.nl_frame.proofs.Every.{one_sum}
+use Rattle.nl_frame.proofs.Sums.{some_sum}
 use Rattle.nl_frame.proofs.laws.one_sum.Goals as goal
 
-pub returns : goal.returns
-returns c = one_sum
+pub returns-clause-some : goal.returns-clause-some
+returns-clause-some c = some_sum
+
+pub returns-clause-only : goal.returns-clause-only
+returns-clause-only c = one_sum
