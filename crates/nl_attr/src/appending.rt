@@ -12,8 +12,8 @@ ghost use Rattle.nl_attr.specs.Proper.{IsSized, IsSizedVal, IsSizedHops, IsRange
 use crate::order::Order;
 use crate::tree::{Attr, AttrFlags, Hop, Value};
 
-/// Appends bytes for which there is room.
-fn put(out: &mut Vec<u8>, bytes: &[u8])
+/// Appends bytes for which there is room. It takes no memory.
+pub fn append_bytes(out: &mut Vec<u8>, bytes: &[u8])
     requires { vec_len out.old + length bytes.now ≤ vec_capacity out.old }
     ensures items { out.new.items ≡ out.old.items ++ bytes.now }
     ensures len { vec_len out.new ≡ vec_len out.old + length bytes.now }
@@ -41,8 +41,8 @@ fn put_attr_head(out: &mut Vec<u8>, order: Order, number: u16, flags: AttrFlags)
     ensures room { vec_capacity out.old ≤ vec_capacity out.new }
 {
     let kind = order.u16_bytes(kind_field(number, flags));
-    put(out, &[0, 0]);
-    put(out, &kind);
+    append_bytes(out, &[0, 0]);
+    append_bytes(out, &kind);
 }
 
 /// Appends the head of a next hop, its length still 0.
@@ -54,8 +54,8 @@ fn put_hop_head(out: &mut Vec<u8>, order: Order, flags: u8, hops: u8, ifindex: &
     ensures ranged { FitsSigned w32 ifindex.now }
 {
     let index = order.i32_bytes(*ifindex);
-    put(out, &[0, 0, flags, hops]);
-    put(out, &index);
+    append_bytes(out, &[0, 0, flags, hops]);
+    append_bytes(out, &index);
 }
 
 /// Writes the length of the item that begins at `start` into its first two bytes, and pads it.
@@ -82,7 +82,7 @@ fn append_value(value: &Value, order: Order, out: &mut Vec<u8>)
     ensures ranged { IsRangedVal (value_view value.now) }
 {
     match value {
-        Value::Bytes(payload) => put(out, payload.as_slice()),
+        Value::Bytes(payload) => append_bytes(out, payload.as_slice()),
         Value::List(attrs) => append_list(attrs, order, out),
         Value::Hops(hops) => append_hops(hops, order, out),
     }

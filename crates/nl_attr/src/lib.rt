@@ -16,7 +16,7 @@ mod views;
 mod walk;
 mod writing;
 
-pub use appending::append_list;
+pub use appending::{append_bytes, append_list};
 pub use fault::{Fault, LimitFault, ListError, Reason, Tally, WriteError};
 pub use limits::Depth;
 pub use measuring::{Extent, measure};

@@ -108,7 +108,7 @@ DoFit (number w n ∷ fs) = (n < 256 ^ w) × DoFit fs
 DoFit (signed z ∷ fs) = FitsSigned w32 z × DoFit fs
 DoFit (pad w ∷ fs) = DoFit fs
 
-length-zeros : (n : ℕ) → length (zeros n) ≡ n
+pub length-zeros : (n : ℕ) → length (zeros n) ≡ n
 length-zeros zero = refl
 length-zeros (suc n) = ap suc (length-zeros n)
 

@@ -1,9 +1,9 @@
 //! What the heads of all families have in common.
 
-ghost use Rattle.std.specs.Prelude.{◌≡◌, ◌≤◌, ℕ, List, length, take};
+ghost use Rattle.std.specs.Prelude.{◌≡◌, ◌≤◌, ◌+◌, ◌++◌, ℕ, List, length, take, vec_len, vec_capacity};
 ghost use Rattle.nl_attr.specs.declared.order.Order.{Order};
 ghost use Rattle.nl_attr.specs.declared.tree.Ctx.{Ctx};
-ghost use Rattle.nl_route.specs.Fields.{Field, AreFields};
+ghost use Rattle.nl_route.specs.Fields.{Field, AreFields, AreRanged, written};
 
 use nl_attr::{Ctx, Order};
 
@@ -33,4 +33,16 @@ pub trait Head: Sized + Drop {
         ensures fields { AreFields order (fields result) (take SIZE bytes.now) }
         // No other head has.
         ensures only { (h : Self) → AreFields order (fields h) (take SIZE bytes.now) → h ≡ result };
+
+    /// Appends the bytes of the head, its numbers in this order. It takes no memory.
+    fn put_front(&self, order: Order, out: &mut Vec<u8>)
+        requires { vec_len out.old + SIZE ≤ vec_capacity out.old }
+        ensures items { out.new.items ≡ out.old.items ++ written order (fields self.now) }
+        ensures len { vec_len out.new ≡ vec_len out.old + SIZE }
+        ensures room { vec_capacity out.old ≤ vec_capacity out.new }
+        // What a head of the program holds is in the range of its fields.
+        ensures ranged { AreRanged (fields self.now) };
+
+    // A head is small.
+    ghost small: { SIZE ≤ 64 };
 }

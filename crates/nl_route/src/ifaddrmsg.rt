@@ -3,14 +3,14 @@
 ghost use Rattle.std.specs.Prelude.{◌≡◌, unwrap_or};
 ghost use Rattle.std.specs.Option.{option_copied};
 ghost use Rattle.nl_attr.specs.View.{attrs_view};
-ghost use Rattle.nl_route.specs.Fields.{AreFields, written};
+ghost use Rattle.nl_route.specs.Fields.{AreFields, AreRanged, written};
 ghost use Rattle.nl_route.specs.Heads.{addr_fields, addr_of};
 ghost use Rattle.nl_route.specs.Views.{number_view, text_view, bytes_view};
 
 use crate::family::Family;
 use crate::head::Head;
 use crate::views::{bytes_of, text_of, u32_view};
-use nl_attr::{Ctx, Order};
+use nl_attr::{Ctx, Order, append_bytes};
 
 /// `IFA_ADDRESS`.
 const ADDRESS: u16 = 1;
@@ -73,11 +73,21 @@ impl AddrHead {
         }
     }
 
+    /// The same head, so that clauses know its numbers to be in the ranges of their types.
+    fn ranged(self) -> Self
+        ensures same { result ≡ self }
+        ensures ranged { AreRanged (addr_fields self) }
+    {
+        self
+    }
+
     /// The bytes of the head, the lowest byte of a number first.
     pub fn write(&self) -> [u8; 8]
         ensures bytes { result ≡ written Order.Little (addr_fields self.now) }
         // They are read as this head again.
         ensures back { addr_of Order.Little result ≡ self.now }
+        // Each number is in the range of its field.
+        ensures ranged { AreRanged (addr_fields self.now) }
     {
         self.write_ordered(Order::Little)
     }
@@ -87,6 +97,8 @@ impl AddrHead {
         ensures bytes { result ≡ written order (addr_fields self.now) }
         // They are read as this head again.
         ensures back { addr_of order result ≡ self.now }
+        // Each number is in the range of its field.
+        ensures ranged { AreRanged (addr_fields self.now) }
     {
         let AddrHead {
             family,
@@ -94,7 +106,7 @@ impl AddrHead {
             flags,
             scope,
             index,
-        } = *self;
+        } = self.ranged();
         let mut bytes = [0; 8];
         bytes[0] = family;
         bytes[1] = prefixlen;
@@ -106,6 +118,7 @@ impl AddrHead {
 }
 
 impl Head for AddrHead {
+    ghost use Rattle.std.proofs.Common.{lit≤};
     ghost use Rattle.nl_attr.specs.declared.tree.Ctx.TheVariants.{Addr};
     ghost use Rattle.nl_route.specs.Heads.{addr_fields, addr_of};
 
@@ -119,6 +132,8 @@ impl Head for AddrHead {
 
     ghost of = { addr_of };
 
+    ghost small = { lit≤ tt };
+
     fn context() -> Ctx {
         Ctx::Addr
     }
@@ -127,6 +142,10 @@ impl Head for AddrHead {
         let mut front = [0; 8];
         front.copy_from_slice(&bytes[..8]);
         AddrHead::read_ordered(&front, order)
+    }
+
+    fn put_front(&self, order: Order, out: &mut Vec<u8>) {
+        append_bytes(out, &self.write_ordered(order));
     }
 }
 

@@ -3,14 +3,14 @@
 ghost use Rattle.std.specs.Prelude.{◌≡◌};
 ghost use Rattle.std.specs.Option.{option_copied};
 ghost use Rattle.nl_attr.specs.View.{attrs_view};
-ghost use Rattle.nl_route.specs.Fields.{AreFields, written};
+ghost use Rattle.nl_route.specs.Fields.{AreFields, AreRanged, written};
 ghost use Rattle.nl_route.specs.Heads.{link_fields, link_of};
 ghost use Rattle.nl_route.specs.Views.{number_view, text_view, items_view};
 
 use crate::family::Family;
 use crate::head::Head;
 use crate::views::{list_of, text_of, u8_view, u32_view};
-use nl_attr::{Ctx, Order};
+use nl_attr::{Ctx, Order, append_bytes};
 
 /// `IFLA_IFNAME`.
 const INTERFACE_NAME: u16 = 3;
@@ -75,11 +75,21 @@ impl LinkHead {
         }
     }
 
+    /// The same head, so that clauses know its numbers to be in the ranges of their types.
+    fn ranged(self) -> Self
+        ensures same { result ≡ self }
+        ensures ranged { AreRanged (link_fields self) }
+    {
+        self
+    }
+
     /// The bytes of the head, the lowest byte of a number first; the second byte is zero.
     pub fn write(&self) -> [u8; 16]
         ensures bytes { result ≡ written Order.Little (link_fields self.now) }
         // They are read as this head again.
         ensures back { link_of Order.Little result ≡ self.now }
+        // Each number is in the range of its field.
+        ensures ranged { AreRanged (link_fields self.now) }
     {
         self.write_ordered(Order::Little)
     }
@@ -89,6 +99,8 @@ impl LinkHead {
         ensures bytes { result ≡ written order (link_fields self.now) }
         // They are read as this head again.
         ensures back { link_of order result ≡ self.now }
+        // Each number is in the range of its field.
+        ensures ranged { AreRanged (link_fields self.now) }
     {
         let LinkHead {
             family,
@@ -96,7 +108,7 @@ impl LinkHead {
             index,
             flags,
             change,
-        } = *self;
+        } = self.ranged();
         let mut bytes = [0; 16];
         bytes[0] = family;
         bytes[2..4].copy_from_slice(&order.u16_bytes(hardware));
@@ -108,6 +120,7 @@ impl LinkHead {
 }
 
 impl Head for LinkHead {
+    ghost use Rattle.std.proofs.Common.{lit≤};
     ghost use Rattle.nl_attr.specs.declared.tree.Ctx.TheVariants.{Link};
     ghost use Rattle.nl_route.specs.Heads.{link_fields, link_of};
 
@@ -121,6 +134,8 @@ impl Head for LinkHead {
 
     ghost of = { link_of };
 
+    ghost small = { lit≤ tt };
+
     fn context() -> Ctx {
         Ctx::Link
     }
@@ -129,6 +144,10 @@ impl Head for LinkHead {
         let mut front = [0; 16];
         front.copy_from_slice(&bytes[..16]);
         LinkHead::read_ordered(&front, order)
+    }
+
+    fn put_front(&self, order: Order, out: &mut Vec<u8>) {
+        append_bytes(out, &self.write_ordered(order));
     }
 }
 

@@ -11,6 +11,7 @@ mod ifinfomsg;
 mod ndmsg;
 mod rtmsg;
 mod views;
+mod writing;
 
 pub use family::Family;
 pub use head::Head;

@@ -3,14 +3,14 @@
 ghost use Rattle.std.specs.Prelude.{◌≡◌};
 ghost use Rattle.std.specs.Option.{option_copied};
 ghost use Rattle.nl_attr.specs.View.{attrs_view};
-ghost use Rattle.nl_route.specs.Fields.{AreFields, written};
+ghost use Rattle.nl_route.specs.Fields.{AreFields, AreRanged, written};
 ghost use Rattle.nl_route.specs.Heads.{neigh_fields, neigh_of};
 ghost use Rattle.nl_route.specs.Views.{number_view, bytes_view};
 
 use crate::family::Family;
 use crate::head::Head;
 use crate::views::{bytes_of, u16_view, u32_view};
-use nl_attr::{Ctx, Order};
+use nl_attr::{Ctx, Order, append_bytes};
 
 /// `NDA_DST`.
 const DESTINATION: u16 = 1;
@@ -73,11 +73,21 @@ impl NeighHead {
         }
     }
 
+    /// The same head, so that clauses know its numbers to be in the ranges of their types.
+    fn ranged(self) -> Self
+        ensures same { result ≡ self }
+        ensures ranged { AreRanged (neigh_fields self) }
+    {
+        self
+    }
+
     /// The bytes of the head, the lowest byte of a number first; what is not kept is zero.
     pub fn write(&self) -> [u8; 12]
         ensures bytes { result ≡ written Order.Little (neigh_fields self.now) }
         // They are read as this head again.
         ensures back { neigh_of Order.Little result ≡ self.now }
+        // Each number is in the range of its field.
+        ensures ranged { AreRanged (neigh_fields self.now) }
     {
         self.write_ordered(Order::Little)
     }
@@ -87,6 +97,8 @@ impl NeighHead {
         ensures bytes { result ≡ written order (neigh_fields self.now) }
         // They are read as this head again.
         ensures back { neigh_of order result ≡ self.now }
+        // Each number is in the range of its field.
+        ensures ranged { AreRanged (neigh_fields self.now) }
     {
         let NeighHead {
             family,
@@ -94,7 +106,7 @@ impl NeighHead {
             state,
             flags,
             sort,
-        } = *self;
+        } = self.ranged();
         let mut bytes = [0; 12];
         bytes[0] = family;
         bytes[4..8].copy_from_slice(&order.i32_bytes(ifindex));
@@ -106,6 +118,7 @@ impl NeighHead {
 }
 
 impl Head for NeighHead {
+    ghost use Rattle.std.proofs.Common.{lit≤};
     ghost use Rattle.nl_attr.specs.declared.tree.Ctx.TheVariants.{Neigh};
     ghost use Rattle.nl_route.specs.Heads.{neigh_fields, neigh_of};
 
@@ -119,6 +132,8 @@ impl Head for NeighHead {
 
     ghost of = { neigh_of };
 
+    ghost small = { lit≤ tt };
+
     fn context() -> Ctx {
         Ctx::Neigh
     }
@@ -127,6 +142,10 @@ impl Head for NeighHead {
         let mut front = [0; 12];
         front.copy_from_slice(&bytes[..12]);
         NeighHead::read_ordered(&front, order)
+    }
+
+    fn put_front(&self, order: Order, out: &mut Vec<u8>) {
+        append_bytes(out, &self.write_ordered(order));
     }
 }
 

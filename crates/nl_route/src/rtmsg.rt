@@ -3,14 +3,14 @@
 ghost use Rattle.std.specs.Prelude.{◌≡◌, unwrap_or};
 ghost use Rattle.std.specs.Option.{option_copied};
 ghost use Rattle.nl_attr.specs.View.{attrs_view, hops_view};
-ghost use Rattle.nl_route.specs.Fields.{AreFields, written};
+ghost use Rattle.nl_route.specs.Fields.{AreFields, AreRanged, written};
 ghost use Rattle.nl_route.specs.Heads.{route_fields, route_of};
 ghost use Rattle.nl_route.specs.Views.{number_view, bytes_view, items_view, hop_items_view};
 
 use crate::family::Family;
 use crate::head::Head;
 use crate::views::{bytes_of, hops_of, list_of, u32_view};
-use nl_attr::{Attr, Ctx, Hop, Order};
+use nl_attr::{Attr, Ctx, Hop, Order, append_bytes};
 
 /// `RTA_DST`.
 const DESTINATION: u16 = 1;
@@ -95,11 +95,21 @@ impl RouteHead {
         }
     }
 
+    /// The same head, so that clauses know its numbers to be in the ranges of their types.
+    fn ranged(self) -> Self
+        ensures same { result ≡ self }
+        ensures ranged { AreRanged (route_fields self) }
+    {
+        self
+    }
+
     /// The bytes of the head, the lowest byte of a number first.
     pub fn write(&self) -> [u8; 12]
         ensures bytes { result ≡ written Order.Little (route_fields self.now) }
         // They are read as this head again.
         ensures back { route_of Order.Little result ≡ self.now }
+        // Each number is in the range of its field.
+        ensures ranged { AreRanged (route_fields self.now) }
     {
         self.write_ordered(Order::Little)
     }
@@ -109,6 +119,8 @@ impl RouteHead {
         ensures bytes { result ≡ written order (route_fields self.now) }
         // They are read as this head again.
         ensures back { route_of order result ≡ self.now }
+        // Each number is in the range of its field.
+        ensures ranged { AreRanged (route_fields self.now) }
     {
         let RouteHead {
             family,
@@ -120,7 +132,7 @@ impl RouteHead {
             scope,
             sort,
             flags,
-        } = *self;
+        } = self.ranged();
         let mut bytes = [0; 12];
         bytes[0] = family;
         bytes[1] = dst_len;
@@ -136,6 +148,7 @@ impl RouteHead {
 }
 
 impl Head for RouteHead {
+    ghost use Rattle.std.proofs.Common.{lit≤};
     ghost use Rattle.nl_attr.specs.declared.tree.Ctx.TheVariants.{Route};
     ghost use Rattle.nl_route.specs.Heads.{route_fields, route_of};
 
@@ -149,6 +162,8 @@ impl Head for RouteHead {
 
     ghost of = { route_of };
 
+    ghost small = { lit≤ tt };
+
     fn context() -> Ctx {
         Ctx::Route
     }
@@ -157,6 +172,10 @@ impl Head for RouteHead {
         let mut front = [0; 12];
         front.copy_from_slice(&bytes[..12]);
         RouteHead::read_ordered(&front, order)
+    }
+
+    fn put_front(&self, order: Order, out: &mut Vec<u8>) {
+        append_bytes(out, &self.write_ordered(order));
     }
 }
 
