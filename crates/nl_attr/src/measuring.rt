@@ -48,8 +48,8 @@ fn item_extent(head: usize, inner: Extent) -> Extent
     }
 }
 
-/// Two parts of a region.
-fn both(first: Extent, second: Extent) -> Extent
+/// What two parts of a region come to together; no length above 1,048,576 bytes.
+pub fn both(first: Extent, second: Extent) -> Extent
     ensures { Some result ≡ join (Some first) (Some second) }
 {
     let len = match (first.len, second.len) {

@@ -11,6 +11,7 @@ pub mod Told
 pub mod Kept
 pub mod Written
 pub mod Proper
+pub mod Measured
 pub use Rattle.nl_attr.specs.Numbers
 pub use Rattle.nl_attr.specs.Shape
 pub use Rattle.nl_attr.specs.Walk

@@ -1,10 +1,12 @@
--- What reading a datagram tells.
+-- What reading and writing a datagram tell.
 use Rattle.std.specs.Prelude.{◌≡◌, ℕ, List, length, Result, Ok, Err}
 use Rattle.nl_attr.specs.declared.fault.Fault.{Fault}
 use Rattle.nl_attr.specs.Shape.{Shape}
 use Rattle.nl_attr.specs.Codes.{fault_code}
 use Rattle.nl_frame.specs.declared.reading.ReadError.{ReadError}
 use Rattle.nl_frame.specs.declared.reading.ReadError.TheVariants.{TooLarge, Layout, Memory}
+use Rattle.nl_frame.specs.declared.writing.WriteError.{WriteError}
+use Rattle.nl_frame.specs.declared.writing.WriteError.TheVariants as unwritten
 use Rattle.nl_frame.specs.Heads.{Visits, whole}
 
 -- a fault of the layout, and no other error
@@ -25,3 +27,10 @@ abbrev pub read_code : ReadError → ℕ
 read_code (Layout f) = fault_code f
 read_code TooLarge = 6
 read_code Memory = 13
+
+abbrev pub write_code : WriteError → ℕ
+write_code unwritten.Mismatch = 11
+write_code unwritten.TooDeep = 5
+write_code unwritten.TooLong = 4
+write_code unwritten.TooLarge = 6
+write_code unwritten.Memory = 13

@@ -1,9 +1,10 @@
 //! The header of a message, `nlmsghdr` of netlink(7).
 
-ghost use Rattle.std.specs.Prelude.{◌≡◌, ◌≤◌, length};
-ghost use Rattle.nl_frame.specs.Header.{header_of};
+ghost use Rattle.std.specs.Prelude.{◌≡◌, ◌≤◌, ◌+◌, ◌++◌, length, vec_len, vec_capacity};
+ghost use Rattle.nl_route.specs.Fields.{AreRanged, written};
+ghost use Rattle.nl_frame.specs.Header.{header_of, header_fields};
 
-use nl_attr::Order;
+use nl_attr::{Order, append_bytes};
 
 /// The header of a message, 16 bytes: the length of header and payload in bytes (the padding behind
 /// them not counted), the type, the flags, the sequence number, and the port id.
@@ -29,5 +30,23 @@ impl Header {
             seq: order.read_u32(&bytes[8..]),
             port: order.read_u32(&bytes[12..]),
         }
+    }
+
+    /// Appends the 16 bytes of the header. It takes no memory.
+    pub(crate) fn put(self, order: Order, out: &mut Vec<u8>)
+        requires { vec_len out.old + 16 ≤ vec_capacity out.old }
+        ensures items { out.new.items ≡ out.old.items ++ written order (header_fields self) }
+        ensures len { vec_len out.new ≡ vec_len out.old + 16 }
+        ensures room { vec_capacity out.old ≤ vec_capacity out.new }
+        // Each number is in the range of its field.
+        ensures ranged { AreRanged (header_fields self) }
+    {
+        let mut bytes = [0; 16];
+        bytes[..4].copy_from_slice(&order.u32_bytes(self.len));
+        bytes[4..6].copy_from_slice(&order.u16_bytes(self.kind));
+        bytes[6..8].copy_from_slice(&order.u16_bytes(self.flags));
+        bytes[8..12].copy_from_slice(&order.u32_bytes(self.seq));
+        bytes[12..].copy_from_slice(&order.u32_bytes(self.port));
+        append_bytes(out, &bytes);
     }
 }

@@ -1,13 +1,16 @@
 //! Netlink datagrams: messages, their headers and their bodies (netlink(7), rtnetlink(7)).
 #![tactic(auto)]
 
+mod appending;
 mod body;
 mod form;
 mod front;
 mod header;
 pub mod laws;
 mod limits;
+mod measuring;
 mod reading;
+mod writing;
 
 pub use body::{Body, Message};
 pub use form::{Form, Group};
@@ -15,3 +18,4 @@ pub use header::Header;
 pub use limits::Limits;
 pub use nl_attr::{LimitFault, Order};
 pub use reading::{ReadError, read_datagram};
+pub use writing::{WriteError};

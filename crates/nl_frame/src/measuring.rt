@@ -1,0 +1,116 @@
+//! How long messages are when they are written, and whether they may be.
+
+ghost use Rattle.std.specs.Prelude.{◌≡◌, ◌≤◌, ◌<◌, ◌+◌, ◌↔◌, Some, IsTrue, IfSome, length, map};
+ghost use Rattle.nl_attr.specs.View.{attrs_view};
+ghost use Rattle.nl_attr.specs.Written as attrs;
+ghost use Rattle.nl_attr.specs.Proper as proper;
+ghost use Rattle.nl_frame.specs.Form.{form_of};
+ghost use Rattle.nl_frame.specs.Message.{done};
+ghost use Rattle.nl_frame.specs.View.{body_view, message_view};
+ghost use Rattle.nl_frame.specs.Proper.{IsMismatchedBody, IsMismatched, IsDeepBody, IsDeep};
+ghost use Rattle.nl_frame.specs.Measured.{IsLenOf, IsBodyLen, IsMessageLen, IsLen};
+
+use crate::body::{Body, Message};
+use crate::form::{Form, Group};
+use nl_attr::{Depth, Extent, both};
+use nl_route::{Family, Head};
+
+/// The most bytes that a datagram may have.
+const LONGEST: usize = 1_048_576;
+
+/// Bytes behind so many others, without attributes.
+fn plain(head: usize, tail: usize) -> Extent
+    requires { head ≤ 20 }
+    ensures deep { IsTrue result.deep → ⊥ }
+    ensures len { IsLenOf 1048640 ⊥ (Unit {0}) (head + tail) result.len }
+{
+    let len = if tail > LONGEST {
+        None
+    } else {
+        Some(head + tail)
+    };
+    Extent { deep: false, len }
+}
+
+/// The body of a family's message.
+fn measure_family<H: Head>(family: &Family<H>, depth: Depth) -> Option<Extent>
+    ensures mismatch { (result ≡ None) ↔ proper.IsMismatched (attrs_view family.now.attrs.items) H.ctx }
+    ensures deep { IfSome result (λ e. IsTrue e.deep ↔ proper.IsDeep (attrs_view family.now.attrs.items) 0 depth) }
+    ensures len { IfSome result (λ e. IsLenOf 1048640 (proper.IsLong (attrs_view family.now.attrs.items)) (proper.IsSized (attrs_view family.now.attrs.items)) (H.SIZE + attrs.items_len (attrs_view family.now.attrs.items)) e.len) }
+{
+    family.measure(depth)
+}
+
+/// The body of a DONE message: its status is there exactly where there are four bytes.
+fn measure_done(status: &Option<i32>, tail: &[u8]) -> Option<Extent>
+    ensures mismatch { (result ≡ None) ↔ IsMismatchedBody (done status.now tail.now) Form.Done }
+    ensures deep { IfSome result (λ e. IsTrue e.deep → ⊥) }
+    ensures len { IfSome result (λ e. IsBodyLen (done status.now tail.now) e.len) }
+{
+    match status {
+        Some(_) => Some(plain(4, tail.len())),
+        None => {
+            if tail.len() < 4 {
+                Some(plain(0, tail.len()))
+            } else {
+                None
+            }
+        }
+    }
+}
+
+/// A body in a message of this form; none where it is of another form, a DONE without status has four
+/// bytes or more, or an attribute's value is of the wrong kind.
+fn measure_body(body: &Body, form: Form, depth: Depth) -> Option<Extent>
+    ensures mismatch { (result ≡ None) ↔ IsMismatchedBody (body_view body.now) form }
+    ensures deep { IfSome result (λ e. IsTrue e.deep ↔ IsDeepBody (body_view body.now) depth) }
+    ensures len { IfSome result (λ e. IsBodyLen (body_view body.now) e.len) }
+{
+    match (body, form) {
+        (Body::Noop(bytes), Form::Noop) => Some(plain(0, bytes.len())),
+        (Body::Error { tail, .. }, Form::Error) => Some(plain(20, tail.len())),
+        (Body::Done { status, tail }, Form::Done) => measure_done(status, tail),
+        (Body::Overrun(bytes), Form::Overrun) => Some(plain(0, bytes.len())),
+        (Body::Link(family), Form::Family(Group::Link)) => measure_family(family, depth),
+        (Body::Addr(family), Form::Family(Group::Addr)) => measure_family(family, depth),
+        (Body::Route(family), Form::Family(Group::Route)) => measure_family(family, depth),
+        (Body::Neigh(family), Form::Family(Group::Neigh)) => measure_family(family, depth),
+        (Body::Get { tail, .. }, Form::Get) => Some(plain(1, tail.len())),
+        (Body::Other(bytes), Form::Other) => Some(plain(0, bytes.len())),
+        _ => None,
+    }
+}
+
+/// A message with its header and its padding.
+fn measure_message(message: &Message, depth: Depth) -> Option<Extent>
+    ensures mismatch { (result ≡ None) ↔ IsMismatchedBody (body_view message.now.body) (form_of message.now.kind) }
+    ensures deep { IfSome result (λ e. IsTrue e.deep ↔ IsDeepBody (body_view message.now.body) depth) }
+    ensures len { IfSome result (λ e. IsMessageLen (body_view message.now.body) e.len) }
+{
+    let inner = measure_body(&message.body, Form::of(message.kind), depth)?;
+    let len = match inner.len {
+        None => None,
+        Some(len) => Some((16 + len + 3) / 4 * 4),
+    };
+    Some(Extent {
+        deep: inner.deep,
+        len,
+    })
+}
+
+/// What messages come to when they are written; none where a body isn't of its message's type, or a
+/// value in it is of another kind than its attribute holds.
+pub(crate) fn measure_messages(messages: &[Message], depth: Depth) -> Option<Extent>
+    ensures mismatch { (result ≡ None) ↔ IsMismatched (map message_view messages.now) }
+    ensures deep { IfSome result (λ e. IsTrue e.deep ↔ IsDeep (map message_view messages.now) depth) }
+    ensures len { IfSome result (λ e. IsLen (map message_view messages.now) e.len) }
+{
+    let mut all = Extent {
+        deep: false,
+        len: Some(0),
+    };
+    for message in messages {
+        all = both(all, measure_message(message, depth)?);
+    }
+    Some(all)
+}
