@@ -1,5 +1,5 @@
 -- A message whose length is stored once its last byte stands.
-use Rattle.std.proofs.Common.{◌≡◌, ℕ, ◌+◌, ◌-◌, List, ◌++◌, length, take, drop, refl, sym, ap, ◌∙◌, arith, append_assoc, length-append}
+use Rattle.std.proofs.Common.{◌≡◌, ℕ, ◌+◌, ◌-◌, List, ◌++◌, length, take, drop, sym, ap, ◌∙◌, arith, append_assoc, length-append}
 use Rattle.std.proofs.lemmas.List.{take_at, drop_at}
 use Rattle.nl_attr.specs.declared.order.Order.{Order}
 use Rattle.nl_attr.specs.Numbers.{num}

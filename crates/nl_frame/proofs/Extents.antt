@@ -1,5 +1,5 @@
 -- What is measured of messages, one after the other.
-use Rattle.std.proofs.Common.{◌≡◌, ℕ, ◌+◌, ◌<◌, ◌≤◌, Bool, true, false, cond, ltb, ◌||◌, List, [], ◌∷◌, Option, Some, None, refl, sym, ap, subst, ◌∙◌, arith, inl, inr}
+use Rattle.std.proofs.Common.{◌≡◌, ℕ, ◌+◌, ◌≤◌, Bool, true, false, cond, ltb, ◌||◌, List, [], ◌∷◌, Option, Some, None, refl, subst, arith, inl, inr}
 use Rattle.std.proofs.lemmas.Bool.{ltb-true, ltb-false}
 use Rattle.std.specs.Prelude.{◌⊎◌, ◌↔◌, IsTrue}
 use Rattle.nl_attr.specs.declared.measuring.Extent.{Extent}
@@ -55,13 +55,13 @@ pub measured_on : (D : ℕ) (m : MessageVal) (whole rest : List MessageVal) (all
 measured_on D m whole rest all e new is matched deep len h =
     let same : record { deep = all.deep || e.deep; len = region_len all.len e.len } ≡ new = cc in
     subst (λ (x : Extent). IsMeasuring D whole rest x) same (
-      record {
-        mismatch = λ x. elim (h.mismatch x) [ inl y ↦ absurd (matched y) | inr y ↦ y ];
-        mismatched = λ x. h.mismatched (inr x);
-        deep = λ x. elim (h.deep x) [ inl y ↦ inl (true_or all.deep e.deep (inl y)) | inr y ↦ elim y [ inl z ↦ inl (true_or all.deep e.deep (inr (deep.1 z))) | inr z ↦ inr z ] ];
-        deeper = λ x. elim x [ inl y ↦ elim (or_true all.deep e.deep y) [ inl z ↦ h.deeper (inl z) | inr z ↦ h.deeper (inr (inl (deep.0 z))) ] | inr y ↦ h.deeper (inr (inr y)) ];
-        part = part_on m whole rest all.len e.len h.part len;
-      }
+    record {
+      mismatch = λ x. elim (h.mismatch x) [ inl y ↦ absurd (matched y) | inr y ↦ y ];
+      mismatched = λ x. h.mismatched (inr x);
+      deep = λ x. elim (h.deep x) [ inl y ↦ inl (true_or all.deep e.deep (inl y)) | inr y ↦ elim y [ inl z ↦ inl (true_or all.deep e.deep (inr (deep.1 z))) | inr z ↦ inr z ] ];
+      deeper = λ x. elim x [ inl y ↦ elim (or_true all.deep e.deep y) [ inl z ↦ h.deeper (inl z) | inr z ↦ h.deeper (inr (inl (deep.0 z))) ] | inr y ↦ h.deeper (inr (inr y)) ];
+      part = part_on m whole rest all.len e.len h.part len;
+    }
     )
 
 -- nothing is left

@@ -18,4 +18,4 @@ pub use header::Header;
 pub use limits::Limits;
 pub use nl_attr::{LimitFault, Order};
 pub use reading::{ReadError, read_datagram};
-pub use writing::{WriteError};
+pub use writing::{WriteError, write_datagram};

@@ -1,8 +1,16 @@
 //! Writing a datagram.
 
-ghost use Rattle.std.specs.Prelude.{◌≡◌};
+ghost use Rattle.std.specs.Prelude.{◌≡◌, ◌≤◌, ◌<◌, ◌↔◌, Err, IfOk, map};
+ghost use Rattle.nl_frame.specs.View.{message_view};
+ghost use Rattle.nl_frame.specs.Written.{written, written_len};
+ghost use Rattle.nl_frame.specs.Proper.{IsMismatched, IsDeep, IsLong, IsRanged};
+ghost use Rattle.nl_frame.specs.Measured.{IsSized, Judges};
 
-use std::alloc::AllocError;
+use crate::appending::append_messages;
+use crate::body::Message;
+use crate::limits::Limits;
+use crate::measuring::measure_messages;
+use std::alloc::{AllocError, Global};
 use thiserror::Error;
 
 /// Why messages were not written. The first that applies is told, in the order of the variants, each
@@ -52,4 +60,64 @@ impl From<AllocError> for WriteError {
     fn from(_error: AllocError) -> WriteError {
         WriteError::Memory
     }
+}
+
+/// The length of messages that can be written, or why they can't.
+fn check(messages: &[Message], limits: &Limits) -> Result<usize, WriteError>
+    ensures told { Judges (map message_view messages.now) limits.now result }
+    ensures known { result ≡ Err WriteError.Memory → ⊥ }
+    ensures len { IfOk result (λ n. n ≡ written_len (map message_view messages.now)) }
+    ensures limit { IfOk result (λ n. n ≤ 1048576) }
+    ensures sized { IfOk result (λ n. IsSized (map message_view messages.now)) }
+{
+    let extent = match measure_messages(messages, limits.depth()) {
+        None => return Err(WriteError::Mismatch),
+        Some(extent) => extent,
+    };
+    if extent.deep {
+        return Err(WriteError::TooDeep);
+    }
+    match extent.len {
+        None => Err(WriteError::TooLong),
+        Some(len) => {
+            if len > limits.datagram() as usize {
+                Err(WriteError::TooLarge)
+            } else {
+                Ok(len)
+            }
+        }
+    }
+}
+
+/// The datagram of these messages, each with its padding of zeros to a multiple of four bytes
+/// (`NLMSG_ALIGN` of netlink(7)), the last one too; numbers in the order of the limits.
+///
+/// It refuses, in this order: `Mismatch` for a body that isn't of its message's type, a DONE without
+/// status that has four bytes or more, and an attribute whose number is 16,384 or more or whose value
+/// is of another kind than its context, number and flags say; `TooDeep` for a container that opens a
+/// level above the depth limit; `TooLong` for an attribute or a next hop of more than 65,535 bytes, or
+/// a region or a datagram of more than 1,048,576; `TooLarge` for a datagram above the datagram limit;
+/// `Memory` where the one growth, which comes after all that, is refused. Of the limits, it reads the
+/// order, the depth and the size of a datagram.
+pub fn write_datagram(
+    alloc: Global,
+    messages: &[Message],
+    limits: &Limits,
+) -> Result<Vec<u8>, WriteError>
+    ensures mismatch { (result ≡ Err WriteError.Mismatch) ↔ IsMismatched (map message_view messages.now) }
+    ensures deep { (result ≡ Err WriteError.TooDeep) ↔ ((IsMismatched (map message_view messages.now) → ⊥) × IsDeep (map message_view messages.now) limits.now.shape.depth) }
+    ensures long { (result ≡ Err WriteError.TooLong) ↔ ((IsMismatched (map message_view messages.now) → ⊥) × (IsDeep (map message_view messages.now) limits.now.shape.depth → ⊥) × IsLong (map message_view messages.now)) }
+    ensures large { (result ≡ Err WriteError.TooLarge) ↔ ((IsMismatched (map message_view messages.now) → ⊥) × (IsDeep (map message_view messages.now) limits.now.shape.depth → ⊥) × (IsLong (map message_view messages.now) → ⊥) × (limits.now.datagram < written_len (map message_view messages.now))) }
+    // Otherwise they are written, unless memory runs out.
+    ensures written { IfOk result (λ v. v.items ≡ written limits.now.shape.order (map message_view messages.now)) }
+    // What messages of the program hold is in the range of its types.
+    ensures ranged { IfOk result (λ v. IsRanged (map message_view messages.now)) }
+{
+    let len = match check(messages, limits) {
+        Ok(len) => len,
+        Err(error) => return Err(error),
+    };
+    let mut out = Vec::with_capacity(alloc, len)?;
+    append_messages(messages, limits.order(), &mut out);
+    Ok(out)
 }

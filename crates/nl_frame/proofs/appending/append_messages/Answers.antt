@@ -1,6 +1,6 @@
-use Rattle.std.proofs.Common.{◌≡◌, ◌+◌, ◌∷◌, ◌++◌, List, ℕ, drop, map, ap, sym, subst, ◌∙◌, arith, append_assoc}
+use Rattle.std.proofs.Common.{◌+◌, ◌++◌, List, ℕ, drop, map, ap, sym, subst, ◌∙◌, arith, append_assoc}
 use Rattle.nl_attr.specs.Written.{padded}
-use Rattle.nl_attr.proofs.Lemmas.Extents.{from_place, past_end}
+use Rattle.nl_attr.proofs.Lemmas.Extents.{from_place}
 use Rattle.nl_frame.specs.Message.{MessageVal}
 use Rattle.nl_frame.specs.View.{message_view}
 use Rattle.nl_frame.specs.Written.{message_item, written, written_len}

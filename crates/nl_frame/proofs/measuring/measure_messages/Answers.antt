@@ -1,6 +1,5 @@
-use Rattle.std.proofs.Common.{List, drop, map, ap, subst, refl, inl, ◌+◌, ◌↔◌}
+use Rattle.std.proofs.Common.{List, drop, map, ap, subst, refl, inl, ◌+◌}
 use Rattle.nl_attr.proofs.Lemmas.Extents.{from_place, past_end}
-use Rattle.nl_frame.specs.declared.body.Message.{Message}
 use Rattle.nl_frame.specs.Message.{MessageVal}
 use Rattle.nl_frame.specs.View.{message_view}
 use Rattle.nl_frame.proofs.Extents.{IsMeasuring, begun, measured_on, whole_deep, whole_len}
