@@ -80,6 +80,11 @@ is_shown() {
     [ "$(grep '^datagram ' "$folder/output")" = "$(sizes_of "$1")" ]
 }
 
+# is_canonical FILE: each datagram of the recording is canonical.
+is_canonical() {
+  ends 0 "$(awk '!/^#/ && NF { printf "datagram %d canonical\n", ++count }' "$1")" '' "$program" check "$1"
+}
+
 # ---- lines, and what is shown of them
 
 # A DONE of status 0: length 20, type 3, flags 2, sequence number 1, port 12345 (0x3039).
@@ -106,6 +111,13 @@ short_attribute='24000000 1000 0200 01000000 39300000 00000000 00000000 00000000
 # A link with nine lists in one another, the heads 4 bytes apart from place 32 on; eight levels may open.
 nine_lists='44000000 1000 0200 01000000 39300000 00000000 00000000 00000000 00000000 24000180 20000180 1c000180 18000180 14000180 10000180 0c000180 08000180 04000180'
 
+# A GET for links of 17 bytes, without the padding that its writing has, and with it.
+short_get='11000000 1200 0103 01000000 00000000 00'
+whole_get="$short_get 000000"
+# A name whose padding isn't zero.
+padded_by_one='28000000 1000 0200 01000000 39300000 00000000 00000000 00000000 00000000 06000300 6c6f0100'
+padded_by_zeros='28000000 1000 0200 01000000 39300000 00000000 00000000 00000000 00000000 06000300 6c6f0000'
+
 read_fault='rtnl: read fault'
 write_fault='rtnl: write fault'
 bad_first_line='rtnl: line 1: bad line'
@@ -125,7 +137,24 @@ expect 'order big, FILE' 1 "$loopback_refused" '' show --order=big "$folder/link
 expect 'order little over big numbers' 1 "$loopback_refused" '' show --order little <<<"$loopback_big"
 for file in examples/*.hex; do
   check "recording $file" is_shown "$file"
+  check "recording $file, checked" is_canonical "$file"
 done
+
+expect 'check: canonical, accepted, refused' 1 \
+  $'datagram 1 canonical\ndatagram 2 accepted\ndatagram 3 refused bad length at 32' '' \
+  check < <(printf '%s\n' "$finish" "$short_get" "$short_attribute")
+expect 'check FILE' 0 'datagram 1 canonical' '' check "$folder/link" </dev/null
+expect 'check by order' 0 'datagram 1 canonical' '' check --order big <<<"$loopback_big"
+expect 'check in the other order' 1 'datagram 1 refused bad length at 0' '' check <<<"$loopback_big"
+expect 'check: padding whole, and of zeros' 0 $'datagram 1 canonical\ndatagram 2 accepted\ndatagram 3 canonical' '' \
+  check < <(printf '%s\n' "$whole_get" "$padded_by_one" "$padded_by_zeros")
+expect 'check: a datagram too large' 1 'datagram 1 refused too large' '' check < <(zeros 65540)
+expect 'check: no datagram' 0 '' '' check </dev/null
+expect 'check: a bad line' 1 '' "$bad_first_line" check <<<'0g'
+expect 'check: a missing file' 3 '' "$read_fault" check "$folder/missing" <<<"$finish"
+check 'check: a full device' ends 3 '' "$write_fault" into_full_device check <<<"$finish"
+expect 'help of check' 0 "$said" '' check --help <<<"$finish"
+expect 'check: two files' 2 '' "$said" check "$folder/link" "$folder/link" <<<"$finish"
 
 expect 'help' 0 "$said" '' --help <<<"$finish"
 expect 'help of show' 0 "$said" '' show --help <<<"$finish"

@@ -99,6 +99,9 @@ check 'a DONE, its text' cmp -s "$folder/done.text" "$folder/found.output"
 refuse_each 'examples/routes.hex' 0 /dev/null show examples/routes.hex
 check 'examples/routes.hex, its datagrams' [ "$(grep -c '^datagram ' "$folder/found.output")" = 3 ]
 
+refuse_each 'examples/routes.hex, checked' 0 /dev/null check examples/routes.hex
+check 'examples/routes.hex, its check' [ "$(grep -c ' canonical$' "$folder/found.output")" = 3 ]
+
 echo zz >"$folder/bad"
 refuse_each 'a bad line' 1 "$folder/bad" show
 refuse_each 'wrong words' 2 /dev/null show --order middle

@@ -13,5 +13,6 @@ pub mod Scan
 pub mod Steps
 pub mod Sums
 pub mod Told
+pub mod Writable
 pub mod WrittenLayouts
 pub mod WrittenLengths

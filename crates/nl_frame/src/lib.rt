@@ -3,6 +3,7 @@
 
 mod appending;
 mod body;
+mod canonical;
 mod form;
 mod front;
 mod header;
@@ -13,6 +14,7 @@ mod reading;
 mod writing;
 
 pub use body::{Body, Message};
+pub use canonical::is_canonical;
 pub use form::{Form, Group};
 pub use header::Header;
 pub use limits::Limits;

@@ -2,6 +2,7 @@
 
 ghost use Rattle.std.specs.Prelude.{◌≡◌, ◌≤◌, ◌<◌, ◌↔◌, Err, IfOk, map};
 ghost use Rattle.nl_frame.specs.View.{message_view};
+ghost use Rattle.nl_frame.specs.Layout.{Layout};
 ghost use Rattle.nl_frame.specs.Written.{written, written_len};
 ghost use Rattle.nl_frame.specs.Proper.{IsMismatched, IsDeep, IsLong, IsRanged};
 ghost use Rattle.nl_frame.specs.Measured.{IsSized, Judges};
@@ -112,6 +113,8 @@ pub fn write_datagram(
     ensures written { IfOk result (λ v. v.items ≡ written limits.now.shape.order (map message_view messages.now)) }
     // What messages of the program hold is in the range of its types.
     ensures ranged { IfOk result (λ v. IsRanged (map message_view messages.now)) }
+    // They are the layout of what is written: it is read as them again.
+    ensures again { IfOk result (λ v. Layout limits.now.shape (map message_view messages.now) v.items) }
 {
     let len = match check(messages, limits) {
         Ok(len) => len,

@@ -1,7 +1,9 @@
+mod Checking
 mod Digits
 mod Listing
 mod Plain
 mod Recordings
+mod Running
 mod Showing
 mod Streams
 mod Trees

@@ -10,9 +10,7 @@ use Rattle.nl_frame.specs.Layout.{Layout}
 use Rattle.nl_frame.specs.Limits.{Bounds}
 use Rattle.nl_frame.specs.Told.{IfFault}
 use Rattle.nl_frame.specs.View.{message_view}
-use Rattle.rtnl.specs.Shown.{Answer, Answers, EachAnswers, datagram_text, is_taken, shown_from, verdict_from, with_one}
-use Rattle.rtnl.specs.declared.error.Verdict.{Verdict}
-use Rattle.rtnl.specs.declared.error.Verdict.TheVariants.{Clean}
+use Rattle.rtnl.specs.Shown.{Answers}
 
 module _ (b : Bounds) (d : List ℕ) (r : Result (Vec Message) ReadError) (large : (r ≡ Err TooLarge) ↔ (b.datagram < length d)) where
   -- a datagram that isn't too large is within the limit
@@ -34,27 +32,3 @@ module _ (b : Bounds) (d : List ℕ) (r : Result (Vec Message) ReadError) (large
 -- one text after another
 pub one_more : (old mid new x y : List ℕ) → mid ≡ old ++ x → new ≡ mid ++ y → new ≡ old ++ (x ++ y)
 one_more old mid new x y first next = next ∙ ap (λ t. t ++ y) first ∙ append_assoc old x y
-
--- whatever the answers of the rest are, with them all datagrams are shown
-abbrev pub Continues : Bounds → List (List ℕ) → List ℕ → ℕ → List (List ℕ) → List ℕ → Verdict → Type 0
-Continues b all old number rest now verdict =
-    (more : List Answer) → EachAnswers b rest more
-    → (answers : List Answer) × EachAnswers b all answers × (now ++ shown_from b.shape.order number rest more ≡ old ++ shown_from b.shape.order 1 all answers)
-    × (verdict_from verdict more ≡ verdict_from Clean answers)
-
-module _ (b : Bounds) (all : List (List ℕ)) (old : List ℕ) where
-  pub begins : Continues b all old 1 all old Clean
-  begins = λ more each. (more, each, refl, refl)
-
-  -- one datagram more
-  pub goes_on : (number : ℕ) (d : List ℕ) (rest : List (List ℕ)) (now next : List ℕ) (verdict : Verdict) (a : Answer) → Continues b all old number (d ∷ rest) now verdict
-      → Answers b d a → next ≡ now ++ datagram_text b.shape.order number d a → Continues b all old (number + 1) rest next (with_one verdict (is_taken a))
-  unfolding shown_from
-  goes_on number d rest now next verdict a h answers e = λ more each.
-      let r = h (a ∷ more) (answers, each) in
-      (r.0, r.1, ap (λ t. t ++ shown_from b.shape.order (number + 1) rest more) e ∙ append_assoc now (datagram_text b.shape.order number d a) (shown_from b.shape.order (number + 1) rest more) ∙ r.2, r.3)
-
-  pub ends : (number : ℕ) (now : List ℕ) (verdict : Verdict) → Continues b all old number [] now verdict
-      → (answers : List Answer) × EachAnswers b all answers × (now ≡ old ++ shown_from b.shape.order 1 all answers) × (verdict ≡ verdict_from Clean answers)
-  unfolding shown_from
-  ends number now verdict h = let r = h [] tt in (r.0, r.1, sym (append-nil now) ∙ r.2, r.3)

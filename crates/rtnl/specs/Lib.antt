@@ -1,4 +1,5 @@
 pub mod Attributes
+pub mod Checked
 pub mod Codes
 pub mod Datagrams
 pub mod Lines
@@ -6,6 +7,7 @@ pub mod Messages
 pub mod NamedBits
 pub mod Names
 pub mod Rows
+pub mod Runs
 pub mod Shown
 pub mod Streams
 pub mod Text

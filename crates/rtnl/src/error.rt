@@ -15,6 +15,17 @@ pub enum Verdict {
     Blemished,
 }
 
+impl Verdict {
+    ghost use Rattle.rtnl.specs.Runs.{with_one};
+
+    /// This verdict, and a datagram more.
+    pub(crate) fn and(self, taken: bool) -> Verdict
+        ensures { result ≡ with_one self taken }
+    {
+        if taken { self } else { Verdict::Blemished }
+    }
+}
+
 /// Why a run stopped.
 #[derive(Clone, Copy, Debug, PartialEq, Eq, Error)]
 pub enum RunError {

@@ -3,6 +3,7 @@
 #![tactic(auto)]
 
 mod broken;
+mod check;
 mod error;
 mod lines;
 mod show;
@@ -11,6 +12,7 @@ mod source;
 mod text;
 
 pub use broken::Broken;
+pub use check::run_check;
 pub use error::{RunError, Verdict};
 pub use nl_frame as frame;
 pub use show::run_show;

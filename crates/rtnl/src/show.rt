@@ -3,30 +3,18 @@
 ghost use Rattle.std.specs.Prelude.{◌≡◌, ◌≢◌, ◌+◌, ◌<◌, ◌++◌, ◌⊎◌, ℕ, List, map, length, OnOk, OnErr, IfOk, Err};
 ghost use Rattle.std.specs.String.{string_bytes};
 ghost use Rattle.std.specs.Io.KnownBytes.{IsAtEnd};
-ghost use Rattle.rtnl.specs.Shown.{Answer, Answers, EachAnswers, Shows, ShowsInput, ShowsFront, HasBadLine, datagram_text, is_taken, refusal_text, shown_from, verdict_from};
-ghost use Rattle.rtnl.specs.Shown as spec;
+ghost use Rattle.rtnl.specs.Runs.{EachIs, HasBadLine, texts_from, verdict_from};
+ghost use Rattle.rtnl.specs.Shown.{Answer, Answers, Shows, ShowsInput, ShowsFront, datagram_text, is_taken};
 ghost use Rattle.rtnl.specs.Streams.{ConsumesMoreThan, HasFailed};
 
 use crate::error::{RunError, Verdict};
 use crate::lines::read_datagrams;
 use crate::sink::{Sink, give_all};
 use crate::source::{LONGEST_INPUT, Source, read_input};
-use crate::text::datagram::{push_datagram_line, push_refused_line, push_too_large_line};
+use crate::text::datagram::{push_datagram_line, push_refusal};
 use crate::text::message::push_messages;
-use nl_frame::{Limits, ReadError, read_datagram};
+use nl_frame::{Limits, read_datagram};
 use std::alloc::{AllocError, Global};
-
-/// Writes the line of a refusal. It fails where that was for memory.
-fn push_refusal(out: &mut String, error: ReadError) -> Result<(), AllocError>
-    ensures refusal { OnOk result (error ≢ ReadError.Memory) }
-    ensures text { OnOk result (string_bytes out.new ≡ string_bytes out.old ++ refusal_text error) }
-{
-    match error {
-        ReadError::TooLarge => push_too_large_line(out),
-        ReadError::Layout(fault) => push_refused_line(out, fault),
-        ReadError::Memory => Err(AllocError),
-    }
-}
 
 /// Writes what is shown of a datagram, and says whether it was taken.
 fn push_datagram(
@@ -53,13 +41,6 @@ fn push_datagram(
     }
 }
 
-/// A verdict, and a datagram more.
-fn with_one(verdict: Verdict, taken: bool) -> Verdict
-    ensures { result ≡ spec.with_one verdict taken }
-{
-    if taken { verdict } else { Verdict::Blemished }
-}
-
 /// Writes what is shown of all datagrams, and answers the verdict.
 fn push_datagrams(
     alloc: Global,
@@ -67,14 +48,14 @@ fn push_datagrams(
     datagrams: &[Vec<u8>],
     limits: &Limits,
 ) -> Result<Verdict, AllocError>
-    ensures { IfOk result (λ verdict. (answers : List Answer) × EachAnswers limits.now (map (λ d. d.items) datagrams.now) answers
-        × (string_bytes out.new ≡ string_bytes out.old ++ shown_from limits.now.shape.order 1 (map (λ d. d.items) datagrams.now) answers)
-        × (verdict ≡ verdict_from Verdict.Clean answers)) }
+    ensures { IfOk result (λ verdict. (answers : List Answer) × EachIs (Answers limits.now) (map (λ d. d.items) datagrams.now) answers
+        × (string_bytes out.new ≡ string_bytes out.old ++ texts_from (datagram_text limits.now.shape.order) 1 (map (λ d. d.items) datagrams.now) answers)
+        × (verdict ≡ verdict_from is_taken Verdict.Clean answers)) }
 {
     let mut verdict = Verdict::Clean;
     for (index, datagram) in datagrams.iter().enumerate() {
         let taken = push_datagram(alloc, out, index + 1, datagram.as_slice(), limits)?;
-        verdict = with_one(verdict, taken);
+        verdict = verdict.and(taken);
     }
     Ok(verdict)
 }

@@ -1,12 +1,12 @@
-//! The command `rtnl`: shows recordings of rtnetlink datagrams.
+//! The command `rtnl`: shows and checks recordings of rtnetlink datagrams.
 #![tactic(auto)]
 
 mod arguments;
 
-use arguments::{Reading, Request};
+use arguments::{Command, Reading, Request};
 use nl_attr::Order;
 use rtnl::frame::Limits;
-use rtnl::{ReadSource, RunError, Source, Verdict, WriteSink, run_show};
+use rtnl::{ReadSource, RunError, Source, Verdict, WriteSink, run_check, run_show};
 use std::fs::File;
 use std::io;
 use std::process::ExitCode;
@@ -44,19 +44,33 @@ fn outcome(rt: &HostRuntime, answer: Result<Verdict, RunError>) -> ExitCode {
     }
 }
 
-/// Shows what the source gives on standard output.
-fn show_source<S: Source>(rt: &HostRuntime, source: &mut S, order: Order) -> ExitCode {
+/// Does what was asked with what the source gives; the text goes to standard output.
+fn run<S: Source>(rt: &HostRuntime, source: &mut S, command: Command, order: Order) -> ExitCode {
     let limits = Limits::standard().with_order(order);
     let mut sink = WriteSink::new(io::writer(rt));
-    outcome(rt, run_show(rt.alloc(), source, &mut sink, &limits))
+    let answer = match command {
+        Command::Show => run_show(rt.alloc(), source, &mut sink, &limits),
+        Command::Check => run_check(rt.alloc(), source, &mut sink, &limits),
+    };
+    outcome(rt, answer)
 }
 
-/// Shows a recording: the file, or standard input where none is named.
-fn show(rt: &HostRuntime, file: Option<&str>, order: Order) -> ExitCode {
-    match file {
-        None => show_source(rt, &mut ReadSource::new(rt.reader()), order),
+/// Does what was asked with a recording: the file, or standard input where none is named.
+fn answer(rt: &HostRuntime, request: &Request<'_>) -> ExitCode {
+    match request.file {
+        None => run(
+            rt,
+            &mut ReadSource::new(rt.reader()),
+            request.command,
+            request.order,
+        ),
         Some(path) => match File::open(rt, path) {
-            Ok(opened) => show_source(rt, &mut ReadSource::new(opened), order),
+            Ok(opened) => run(
+                rt,
+                &mut ReadSource::new(opened),
+                request.command,
+                request.order,
+            ),
             Err(_) => outcome(rt, Err(RunError::ReadFault)),
         },
     }
@@ -76,7 +90,7 @@ fn main(rt: HostRuntime) -> ExitCode {
         Err(_) => return outcome(&rt, Err(RunError::Memory)),
     };
     match arguments::read(alloc, words.as_slice()) {
-        Ok(Reading::Request(Request::Show { file, order })) => show(&rt, file, order),
+        Ok(Reading::Request(request)) => answer(&rt, &request),
         Ok(Reading::Told(error)) => {
             let status = if error.use_stderr() { USAGE } else { 0 };
             ended(error.print(&rt), status)

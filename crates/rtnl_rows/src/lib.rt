@@ -31,3 +31,7 @@ mod vectors;
 mod views;
 #[cfg(test)]
 mod walkers;
+#[cfg(test)]
+mod writes;
+#[cfg(test)]
+mod written;

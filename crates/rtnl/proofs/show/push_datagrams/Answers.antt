@@ -3,23 +3,24 @@ use Rattle.std.proofs.lemmas.List.{drop_more}
 use Rattle.std.proofs.Math.ListN.{drop_of_length-le}
 use Rattle.std.specs.Global.{Vec}
 use Rattle.std.specs.String.{string_bytes}
-use Rattle.rtnl.specs.Shown.{Answers, datagram_text, with_one}
-use Rattle.rtnl.proofs.Showing.{Continues, goes_on, ends}
+use Rattle.rtnl.specs.Shown.{Answers, datagram_text, is_taken}
+use Rattle.rtnl.specs.Runs.{with_one}
+use Rattle.rtnl.proofs.Running.{Continues, goes_on, ends}
 use Rattle.rtnl.proofs.show.push_datagrams.Goals as goal
 
 pub loop-index-preserved : goal.loop-index-preserved
 loop-index-preserved c =
     let d = c.index-datagrams-index.result in
     let e : drop c.loop-index.index c.args.datagrams.now ≡ d ∷ drop (c.loop-index.index + 1) c.args.datagrams.now = drop_more c.args.datagrams.now c.loop-index.index d c.loop-index-test.true ∙ search rules in
-    let here = subst (λ (rest : List (Vec _)). Continues c.args.limits.now (map (λ d. d.items) c.args.datagrams.now) (string_bytes c.args.out.now) (c.loop-index.index + 1) (map (λ d. d.items) rest) (string_bytes c.loop-index.out) c.loop-index.verdict) e c.loop-index.invariant in
+    let here = subst (λ (rest : List (Vec _)). Continues (Answers c.args.limits.now) (datagram_text c.args.limits.now.shape.order) is_taken (map (λ d. d.items) c.args.datagrams.now) (string_bytes c.args.out.now) (c.loop-index.index + 1) (map (λ d. d.items) rest) (string_bytes c.loop-index.out) c.loop-index.verdict) e c.loop-index.invariant in
     let told = c.in_ok-taken.ensures in
     let answers = subst (λ x. Answers c.args.limits.now x told.0) c.as_slice.ensures.value told.1 in
     let text = told.2 ∙ ap (λ x. string_bytes c.loop-index.out ++ datagram_text c.args.limits.now.shape.order (c.loop-index.index + 1) x told.0) c.as_slice.ensures.value in
-    let next = goes_on c.args.limits.now (map (λ d. d.items) c.args.datagrams.now) (string_bytes c.args.out.now) (c.loop-index.index + 1) d.items (map (λ d. d.items) (drop (c.loop-index.index + 1) c.args.datagrams.now)) (string_bytes c.loop-index.out) (string_bytes c.push_datagram.new.out) c.loop-index.verdict told.0 here answers text in
-    subst (λ v. Continues c.args.limits.now (map (λ d. d.items) c.args.datagrams.now) (string_bytes c.args.out.now) (c.loop-index.index + 1 + 1) (map (λ d. d.items) (drop (c.loop-index.index + 1) c.args.datagrams.now)) (string_bytes c.push_datagram.new.out) v) (sym (c.with_one-verdict.ensures ∙ ap (with_one c.loop-index.verdict) told.3)) next
+    let next = goes_on (Answers c.args.limits.now) (datagram_text c.args.limits.now.shape.order) is_taken (map (λ d. d.items) c.args.datagrams.now) (string_bytes c.args.out.now) (c.loop-index.index + 1) d.items (map (λ d. d.items) (drop (c.loop-index.index + 1) c.args.datagrams.now)) (string_bytes c.loop-index.out) (string_bytes c.push_datagram.new.out) c.loop-index.verdict told.0 here answers text in
+    subst (λ v. Continues (Answers c.args.limits.now) (datagram_text c.args.limits.now.shape.order) is_taken (map (λ d. d.items) c.args.datagrams.now) (string_bytes c.args.out.now) (c.loop-index.index + 1 + 1) (map (λ d. d.items) (drop (c.loop-index.index + 1) c.args.datagrams.now)) (string_bytes c.push_datagram.new.out) v) (sym (c.and-verdict.ensures ∙ ap (with_one c.loop-index.verdict) told.3)) next
 
 pub returns : goal.returns
 returns c =
     let e : drop c.loop-index.index c.args.datagrams.now ≡ [] = drop_of_length-le c.args.datagrams.now c.loop-index-test.false in
-    let here = subst (λ (rest : List (Vec _)). Continues c.args.limits.now (map (λ d. d.items) c.args.datagrams.now) (string_bytes c.args.out.now) (c.loop-index.index + 1) (map (λ d. d.items) rest) (string_bytes c.loop-index.out) c.loop-index.verdict) e c.loop-index.invariant in
-    ends c.args.limits.now (map (λ d. d.items) c.args.datagrams.now) (string_bytes c.args.out.now) (c.loop-index.index + 1) (string_bytes c.loop-index.out) c.loop-index.verdict here
+    let here = subst (λ (rest : List (Vec _)). Continues (Answers c.args.limits.now) (datagram_text c.args.limits.now.shape.order) is_taken (map (λ d. d.items) c.args.datagrams.now) (string_bytes c.args.out.now) (c.loop-index.index + 1) (map (λ d. d.items) rest) (string_bytes c.loop-index.out) c.loop-index.verdict) e c.loop-index.invariant in
+    ends (Answers c.args.limits.now) (datagram_text c.args.limits.now.shape.order) is_taken (map (λ d. d.items) c.args.datagrams.now) (string_bytes c.args.out.now) (c.loop-index.index + 1) (string_bytes c.loop-index.out) c.loop-index.verdict here

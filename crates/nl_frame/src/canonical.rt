@@ -1,0 +1,43 @@
+//! Whether a datagram is written as its messages are.
+
+ghost use Rattle.std.specs.Prelude.{◌≡◌, ◌<◌, ◌↔◌, IsTrue, length, List, IfOk, IfErr, Err};
+ghost use Rattle.nl_frame.specs.Message.{MessageVal};
+ghost use Rattle.nl_frame.specs.Layout.{Layout};
+ghost use Rattle.nl_frame.specs.Heads.{IsFirstFault, whole};
+ghost use Rattle.nl_frame.specs.Told.{IfFault};
+ghost use Rattle.nl_frame.specs.Written.{written};
+
+use crate::limits::Limits;
+use crate::reading::{ReadError, read_datagram};
+use crate::writing::{WriteError, write_datagram};
+use std::alloc::Global;
+
+/// Whether a datagram is canonical: written as its messages are, every padding whole and of zeros, and
+/// every byte of a head that is not kept zero.
+///
+/// It refuses as `read_datagram` does, or for memory.
+pub fn is_canonical(alloc: Global, bytes: &[u8], limits: &Limits) -> Result<bool, ReadError>
+    ensures large { result ≡ Err ReadError.TooLarge ↔ limits.now.datagram < length bytes.now }
+    // The datagram has a layout, and is canonical exactly where it is what that is written as.
+    ensures canonical { IfOk result (λ canonical. (ms : List MessageVal) × Layout limits.now.shape ms bytes.now × (IsTrue canonical ↔ written limits.now.shape.order ms ≡ bytes.now)) }
+    // A fault is the one at the least place.
+    ensures first { IfErr result (λ e. IfFault e (λ f. IsFirstFault limits.now.shape (whole bytes.now) f.place f.reason)) }
+    // Then no list of messages is the layout.
+    ensures none { IfErr result (λ e. IfFault e (λ _. (ms : List MessageVal) → Layout limits.now.shape ms bytes.now → ⊥)) }
+{
+    let _limit = limits.datagram();
+    let messages = match read_datagram(alloc, bytes, limits).result {
+        Ok(messages) => messages,
+        Err(error) => return Err(error),
+    };
+    match write_datagram(alloc, messages.as_slice(), limits) {
+        Ok(written) => Ok(written.as_slice() == bytes),
+        Err(error) => match error {
+            WriteError::Memory => Err(ReadError::Memory),
+            WriteError::Mismatch => unreachable!(),
+            WriteError::TooDeep => unreachable!(),
+            WriteError::TooLong => unreachable!(),
+            WriteError::TooLarge => unreachable!(),
+        },
+    }
+}

@@ -1,0 +1,53 @@
+-- What a check finds of the datagrams of an input.
+use Rattle.std.specs.Prelude.{◌≡◌, ◌<◌, ◌≤◌, ◌↔◌, ◌++◌, ℕ, List, length, codes, Bool, true, false, IsTrue, Option, Result, Ok, Err}
+use Rattle.std.specs.Fmt.{decimal}
+use Rattle.nl_frame.specs.declared.reading.ReadError.{ReadError}
+use Rattle.nl_frame.specs.declared.reading.ReadError.TheVariants.{TooLarge, Layout as Fails, Memory}
+use Rattle.nl_frame.specs.Limits.{Bounds}
+use Rattle.nl_frame.specs.Message.{MessageVal}
+use Rattle.nl_frame.specs.Layout.{Layout}
+use Rattle.nl_frame.specs.Heads.{IsFirstFault, whole}
+use Rattle.nl_frame.specs.Written.{written}
+use Rattle.rtnl.specs.Text.{◌⨟◌}
+use Rattle.rtnl.specs.Shown.{refusal_text}
+use Rattle.rtnl.specs.Runs.{Prints, OfInput, FrontOfInput}
+use Rattle.rtnl.specs.declared.error.Verdict.{Verdict}
+
+-- whether an accepted datagram is canonical, or why it is refused
+abbrev pub Finding : Type 0
+Finding = Result Bool ReadError
+
+-- within the limits the datagram has a layout, and is or isn't what that is written as; or it has this first fault, or is too large
+abbrev pub Finds : Bounds → List ℕ → Finding → Type 0
+Finds b d (Ok canonical) = (length d ≤ b.datagram) × ((ms : List MessageVal) × Layout b.shape ms d × (IsTrue canonical ↔ written b.shape.order ms ≡ d))
+Finds b d (Err TooLarge) = b.datagram < length d
+Finds b d (Err (Fails f)) = (length d ≤ b.datagram) × IsFirstFault b.shape (whole d) f.place f.reason
+Finds b d (Err Memory) = ⊥
+
+-- the datagram of this number
+unfoldable pub number_front : ℕ → List ℕ
+number_front number = codes "datagram " ⨟ decimal number ⨟ codes " "
+
+-- what stands behind it
+unfoldable pub finding_text : Finding → List ℕ
+finding_text (Ok true) = codes "canonical\n"
+finding_text (Ok false) = codes "accepted\n"
+finding_text (Err e) = refusal_text e
+
+-- the line of the datagram of this number
+abbrev pub checked_line : ℕ → List ℕ → Finding → List ℕ
+checked_line number d finding = number_front number ++ finding_text finding
+
+abbrev pub is_accepted : Finding → Bool
+is_accepted (Ok _) = true
+is_accepted (Err _) = false
+
+-- what a check says of datagrams, and the verdict on them
+abbrev pub Checks : Bounds → List (List ℕ) → List ℕ → Verdict → Type 0
+Checks b = Prints (Finds b) checked_line is_accepted
+
+abbrev pub ChecksInput : Bounds → Option (List ℕ) → Option (List ℕ) → Option (List ℕ) → Option (List ℕ) → Verdict → Type 0
+ChecksInput b = OfInput (Checks b)
+
+abbrev pub ChecksFront : Bounds → Option (List ℕ) → Option (List ℕ) → Option (List ℕ) → Option (List ℕ) → Type 0
+ChecksFront b = FrontOfInput (Checks b)

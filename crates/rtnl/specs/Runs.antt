@@ -1,0 +1,51 @@
+-- A run over the datagrams of an input: what is found of each, what is printed of it, and the verdict.
+use Rattle.std.specs.Prelude.{◌≡◌, ◌+◌, ℕ, List, [], ◌∷◌, ◌++◌, Bool, true, false, Option, Ok, Err}
+use Rattle.std.specs.Io.KnownBytes.{Appends, Consumes}
+use Rattle.rtnl.specs.Lines.{datagrams}
+use Rattle.rtnl.specs.Streams.{AppendsPrefix}
+use Rattle.rtnl.specs.declared.error.Verdict.{Verdict}
+use Rattle.rtnl.specs.declared.error.Verdict.TheVariants.{Clean, Blemished}
+
+-- what is found of datagrams, one finding for each
+abbrev pub EachIs : {X : Type 0} → (List ℕ → X → Type 0) → List (List ℕ) → List X → Type 0
+EachIs Is [] [] = Unit {0}
+EachIs Is [] (_ ∷ _) = ⊥
+EachIs Is (_ ∷ _) [] = ⊥
+EachIs Is (d ∷ ds) (x ∷ found) = Is d x × EachIs Is ds found
+
+-- the texts of the datagrams from this number on
+unfoldable pub texts_from : {X : Type 0} → (ℕ → List ℕ → X → List ℕ) → ℕ → List (List ℕ) → List X → List ℕ
+texts_from text number [] _ = []
+texts_from text number (d ∷ ds) [] = []
+texts_from text number (d ∷ ds) (x ∷ found) = text number d x ++ texts_from text (number + 1) ds found
+
+-- a verdict, and a datagram more
+abbrev pub with_one : Verdict → Bool → Verdict
+with_one verdict true = verdict
+with_one verdict false = Blemished
+
+-- clean exactly where each datagram is taken, and the verdict before was clean
+abbrev pub verdict_from : {X : Type 0} → (X → Bool) → Verdict → List X → Verdict
+verdict_from is_taken verdict [] = verdict
+verdict_from is_taken verdict (x ∷ found) = verdict_from is_taken (with_one verdict (is_taken x)) found
+
+-- the text of datagrams, and the verdict on them
+abbrev pub Prints : {X : Type 0} → (List ℕ → X → Type 0) → (ℕ → List ℕ → X → List ℕ) → (X → Bool) → List (List ℕ) → List ℕ → Verdict → Type 0
+Prints {X} Is text is_taken ds printed verdict =
+    (found : List X) × EachIs Is ds found × (printed ≡ texts_from text 1 ds found) × (verdict ≡ verdict_from is_taken Clean found)
+
+-- the bytes that were consumed are an input of whose datagrams this is what was appended
+abbrev pub OfInput : (List (List ℕ) → List ℕ → Verdict → Type 0) → Option (List ℕ) → Option (List ℕ) → Option (List ℕ) → Option (List ℕ) → Verdict → Type 0
+OfInput Of from_old from_new to_old to_new verdict =
+    (input : List ℕ) × (ds : List (List ℕ)) × (text : List ℕ) × Consumes from_old from_new input × (datagrams input ≡ Ok ds)
+    × Of ds text verdict × Appends to_old to_new text
+
+-- the same, where only a front of it was appended
+abbrev pub FrontOfInput : (List (List ℕ) → List ℕ → Verdict → Type 0) → Option (List ℕ) → Option (List ℕ) → Option (List ℕ) → Option (List ℕ) → Type 0
+FrontOfInput Of from_old from_new to_old to_new =
+    (input : List ℕ) × (ds : List (List ℕ)) × (text : List ℕ) × (verdict : Verdict) × Consumes from_old from_new input × (datagrams input ≡ Ok ds)
+    × Of ds text verdict × AppendsPrefix to_old to_new text
+
+-- the bytes that were consumed are an input with this bad line
+abbrev pub HasBadLine : Option (List ℕ) → Option (List ℕ) → ℕ → Type 0
+HasBadLine from_old from_new number = (input : List ℕ) × Consumes from_old from_new input × (datagrams input ≡ Err number)

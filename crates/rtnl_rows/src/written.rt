@@ -1,0 +1,229 @@
+//! Bodies and datagrams written, canonical datagrams, and what a check says.
+
+use crate::vectors::{
+    DONE, DONE_BIG, LOOPBACK, LOOPBACK_BIG, NESTED, PLAIN, TWO_HOPS_ROUTE, TWO_HOPS_ROUTE_BIG,
+    bytes_of, leaf, list_of,
+};
+use nl_attr::{Attr, Depth, Order, Payload, Value};
+use nl_frame::{
+    Body, Limits, Message, ReadError, WriteError, is_canonical, read_datagram, write_datagram,
+};
+use nl_route::{Link, LinkHead, Route};
+use rtnl::{SliceSource, VecSink, Verdict, run_check};
+use std::alloc::Global;
+use std::process::Abort;
+use std::test::Fail;
+
+/// A GET of 17 bytes, and the end of a dump behind it.
+const SHORT_GET: &str = "11000000 1200 0103 01000000 00000000 00";
+
+/// A metric of five bytes, whose inner padding is missing.
+const METRIC: &str =
+    "2c000000 1800 0200 01000000 39300000 02000000 fe030001 00000000 0d000800 09001000 6375626963 000000";
+
+/// A link whose attribute's length is wrong, before a bad header.
+const BAD: &str =
+    "24000000 1000 0200 01000000 39300000 00000000 00000000 00000000 00000000 03000100 00000000 0300 0200 01000000 39300000";
+
+/// A datagram is read, written as these bytes, and canonical where it is they.
+fn writes(
+    rt: &impl Abort,
+    alloc: Global,
+    limits: &Limits,
+    text: &str,
+    written: &str,
+) -> Result<(), Fail> {
+    let bytes = bytes_of(alloc, text)?;
+    let expected = bytes_of(alloc, written)?;
+    let messages = read_datagram(alloc, bytes.as_slice(), limits).result?;
+    let found = write_datagram(alloc, messages.as_slice(), limits)?;
+    assert!(rt; found == expected, "{text}");
+    let canonical = is_canonical(alloc, bytes.as_slice(), limits)?;
+    assert!(rt; canonical == (text == written), "{text}");
+    Ok(())
+}
+
+#[test]
+fn datagrams_in_both_orders(rt: HostRuntime) -> Result<(), Fail> {
+    let alloc = rt.alloc();
+    let little = Limits::standard();
+    let big = little.with_order(Order::Big);
+    for text in ["", DONE, LOOPBACK, TWO_HOPS_ROUTE] {
+        writes(&rt, alloc, &little, text, text)?;
+    }
+    for text in ["", DONE_BIG, LOOPBACK_BIG, TWO_HOPS_ROUTE_BIG] {
+        writes(&rt, alloc, &big, text, text)?;
+    }
+    Ok(())
+}
+
+#[test]
+fn padding_is_whole_and_zero(rt: HostRuntime) -> Result<(), Fail> {
+    let alloc = rt.alloc();
+    let limits = Limits::standard();
+    let whole = "11000000 1200 0103 01000000 00000000 00 000000";
+    writes(&rt, alloc, &limits, SHORT_GET, whole)?;
+    writes(&rt, alloc, &limits, whole, whole)?;
+    let ones = "11000000 1200 0103 01000000 00000000 00 ffffff";
+    writes(&rt, alloc, &limits, ones, whole)?;
+    let both =
+        "11000000 1200 0103 01000000 00000000 00 000000 14000000 0300 0200 01000000 39300000 00000000";
+    writes(&rt, alloc, &limits, both, both)?;
+    // The inner padding is written too, and counts in the list and the message around it.
+    let metric =
+        "2c000000 1800 0200 01000000 39300000 02000000 fe030001 00000000 10000800 09001000 6375626963 000000";
+    writes(&rt, alloc, &limits, METRIC, metric)?;
+    // A byte of a head that is not kept.
+    let kept =
+        "20000000 1000 0200 01000000 39300000 00000403 01000000 49000100 00000000";
+    let pad =
+        "20000000 1000 0200 01000000 39300000 00ff0403 01000000 49000100 00000000";
+    writes(&rt, alloc, &limits, pad, kept)
+}
+
+#[test]
+fn refusals_are_those_of_reading(rt: HostRuntime) -> Result<(), Fail> {
+    let alloc = rt.alloc();
+    let bytes = bytes_of(alloc, BAD)?;
+    let limits = Limits::standard();
+    let read = read_datagram(alloc, bytes.as_slice(), &limits).result.err();
+    assert!(rt; read.is_some() && is_canonical(alloc, bytes.as_slice(), &limits).err() == read);
+    let least = Limits::new(8, 16, 0, 0)?;
+    let refused = is_canonical(alloc, bytes.as_slice(), &least).err();
+    assert!(rt; refused == Some(ReadError::TooLarge));
+    Ok(())
+}
+
+#[test]
+fn bodies_come_back_the_same(rt: HostRuntime) -> Result<(), Fail> {
+    let alloc = rt.alloc();
+    let depth = Depth::standard();
+    let text = "00000304 00000001 00010049 00000000 00070003 6c6f0000 00080004 00010000";
+    let bytes = bytes_of(alloc, text)?;
+    assert!(rt; bytes.len() == 32);
+    let link = Link::read_body_ordered(alloc, bytes.as_slice(), 0, depth, Order::Big).result?;
+    let mut out = Vec::new(alloc);
+    link.write_body_ordered(depth, &mut out, Order::Big)?;
+    assert!(rt; out == bytes && link.body_len() == Some(32));
+    let datagram = bytes_of(alloc, TWO_HOPS_ROUTE)?;
+    let body = datagram.as_slice().get(16..).ok_or("a body")?;
+    assert!(rt; body.len() == 48);
+    let route = Route::read_body(alloc, body, 16, depth).result?;
+    let mut out = Vec::new(alloc);
+    route.write_body(depth, &mut out)?;
+    assert!(rt; out.as_slice() == body && route.body_len() == Some(48));
+    Ok(())
+}
+
+/// One message is refused so.
+fn refuses(
+    rt: &impl Abort,
+    alloc: Global,
+    kind: u16,
+    body: Body,
+    limits: &Limits,
+    error: WriteError,
+) -> Result<(), Fail> {
+    let mut messages = Vec::new(alloc);
+    messages.push(Message {
+        kind,
+        flags: 0,
+        seq: 0,
+        port: 0,
+        body,
+    })?;
+    let written = write_datagram(alloc, messages.as_slice(), limits);
+    assert!(rt; written.err() == Some(error));
+    Ok(())
+}
+
+/// So many zero bytes.
+fn zeros(alloc: Global, count: usize) -> Result<Vec<u8>, Fail> {
+    let mut bytes = Vec::new(alloc);
+    for _ in 0..count {
+        bytes.push(0)?;
+    }
+    Ok(bytes)
+}
+
+/// A link with one attribute.
+fn link(alloc: Global, attr: Attr) -> Result<Body, Fail> {
+    let mut attrs = Vec::new(alloc);
+    attrs.push(attr)?;
+    let head = LinkHead {
+        family: 0,
+        hardware: 0,
+        index: 0,
+        flags: 0,
+        change: 0,
+    };
+    Ok(Body::Link(Link { head, attrs }))
+}
+
+#[test]
+fn messages_that_cannot_be_written(rt: HostRuntime) -> Result<(), Fail> {
+    let alloc = rt.alloc();
+    let standard = Limits::standard();
+    let done = Body::Done {
+        status: Some(0),
+        tail: Vec::new(alloc),
+    };
+    refuses(&rt, alloc, 16, done, &standard, WriteError::Mismatch)?;
+    let done = Body::Done {
+        status: None,
+        tail: zeros(alloc, 4)?,
+    };
+    refuses(&rt, alloc, 3, done, &standard, WriteError::Mismatch)?;
+    let body = link(alloc, leaf(alloc, 16_384, &[])?)?;
+    refuses(&rt, alloc, 16, body, &standard, WriteError::Mismatch)?;
+    let long = Attr {
+        number: 1,
+        flags: PLAIN,
+        value: Value::Bytes(Payload::from_vec(zeros(alloc, 65_532)?)),
+    };
+    refuses(&rt, alloc, 16, link(alloc, long)?, &standard, WriteError::TooLong)?;
+    let flat = Limits::new(0, 65_536, 0, 0)?;
+    let nested = list_of(alloc, 1, NESTED, leaf(alloc, 2, &[])?)?;
+    refuses(&rt, alloc, 16, link(alloc, nested)?, &flat, WriteError::TooDeep)?;
+    let body = Body::Other(zeros(alloc, 65_521)?);
+    refuses(&rt, alloc, 40, body, &standard, WriteError::TooLarge)?;
+    let body = Body::Other(zeros(alloc, 1_048_561)?);
+    refuses(&rt, alloc, 40, body, &standard, WriteError::TooLong)
+}
+
+#[test]
+fn the_largest_datagram(rt: HostRuntime) -> Result<(), Fail> {
+    let alloc = rt.alloc();
+    let mut messages = Vec::new(alloc);
+    messages.push(Message {
+        kind: 40,
+        flags: 0,
+        seq: 0,
+        port: 0,
+        body: Body::Other(zeros(alloc, 65_520)?),
+    })?;
+    let written = write_datagram(alloc, messages.as_slice(), &Limits::standard())?;
+    assert!(rt; written.len() == 65_536);
+    assert!(rt; written.as_slice().starts_with(&[0, 0, 1, 0, 40, 0, 0, 0]));
+    // A route by next hops at depth 1.
+    let bytes = bytes_of(alloc, TWO_HOPS_ROUTE)?;
+    let read = read_datagram(alloc, bytes.as_slice(), &Limits::standard()).result?;
+    let shallow = Limits::new(1, 65_536, 0, 0)?;
+    let refused = write_datagram(alloc, read.as_slice(), &shallow).err();
+    assert!(rt; refused == Some(WriteError::TooDeep));
+    Ok(())
+}
+
+#[test]
+fn a_check_of_three(rt: HostRuntime) -> Result<(), Fail> {
+    let alloc = rt.alloc();
+    let input = format!(in alloc; "{DONE}\n{SHORT_GET}\n{BAD}\n")?;
+    let mut source = SliceSource::new(input.as_bytes());
+    let mut sink = VecSink::new(alloc);
+    let verdict = run_check(alloc, &mut source, &mut sink, &Limits::standard())?;
+    assert!(rt; verdict == Verdict::Blemished);
+    let text =
+        "datagram 1 canonical\ndatagram 2 accepted\ndatagram 3 refused bad length at 32\n";
+    assert!(rt; sink.bytes.as_slice() == text.as_bytes());
+    Ok(())
+}
