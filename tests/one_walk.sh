@@ -23,7 +23,7 @@ sources() {
 # files_with PATTERN: the source files that have a line of code with it
 files_with() {
   sources | while read -r file; do
-    grep -vE '^[[:space:]]*//' "$file" | grep -qE "$1" && echo "$file"
+    grep -vE '^[[:space:]]*//' "$file" | grep -qE -e "$1" && echo "$file"
   done
 }
 
@@ -48,9 +48,15 @@ crates/nl_route/src/ifinfomsg.rt
 crates/nl_route/src/ndmsg.rt
 crates/rtnl/src/text/values.rt'
 
+same 'calls that answer a tally' "$(files_with '-> Tally<')" \
+  'crates/nl_attr/src/reading.rt
+crates/nl_frame/src/body.rt
+crates/nl_frame/src/reading.rt
+crates/nl_route/src/family.rt'
+
 same 'no call that answers a tally takes the result of another without its visits' \
   "$(grep -lE 'read_(list|body|datagram|messages|message|family)[a-z_]*\(.*\)\.result' \
-    $(sources | grep -E '/nl_(attr|route|frame)/'))" \
+    /dev/null $(files_with '-> Tally<'))" \
   ''
 
 echo "$passed passed, $failed failed"

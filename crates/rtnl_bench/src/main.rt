@@ -40,7 +40,9 @@ fn read(alloc: Global, datagrams: &[Vec<u8>], limits: &Limits) -> Result<u64> {
         let tally = read_datagram(alloc, datagram.as_slice(), limits);
         count = count.wrapping_add(tally.visits);
         for message in tally.result?.as_slice() {
-            count = count.wrapping_add(1).wrapping_add(attributes(message) as u64);
+            count = count
+                .wrapping_add(1)
+                .wrapping_add(attributes(message) as u64);
         }
     }
     Ok(count)

@@ -74,10 +74,8 @@ fn padding_is_whole_and_zero(rt: HostRuntime) -> Result<(), Fail> {
         "2c000000 1800 0200 01000000 39300000 02000000 fe030001 00000000 10000800 09001000 6375626963 000000";
     writes(&rt, alloc, &limits, METRIC, metric)?;
     // A byte of a head that is not kept.
-    let kept =
-        "20000000 1000 0200 01000000 39300000 00000403 01000000 49000100 00000000";
-    let pad =
-        "20000000 1000 0200 01000000 39300000 00ff0403 01000000 49000100 00000000";
+    let kept = "20000000 1000 0200 01000000 39300000 00000403 01000000 49000100 00000000";
+    let pad = "20000000 1000 0200 01000000 39300000 00ff0403 01000000 49000100 00000000";
     writes(&rt, alloc, &limits, pad, kept)
 }
 
@@ -181,10 +179,24 @@ fn messages_that_cannot_be_written(rt: HostRuntime) -> Result<(), Fail> {
         flags: PLAIN,
         value: Value::Bytes(Payload::from_vec(zeros(alloc, 65_532)?)),
     };
-    refuses(&rt, alloc, 16, link(alloc, long)?, &standard, WriteError::TooLong)?;
+    refuses(
+        &rt,
+        alloc,
+        16,
+        link(alloc, long)?,
+        &standard,
+        WriteError::TooLong,
+    )?;
     let flat = Limits::new(0, 65_536, 0, 0)?;
     let nested = list_of(alloc, 1, NESTED, leaf(alloc, 2, &[])?)?;
-    refuses(&rt, alloc, 16, link(alloc, nested)?, &flat, WriteError::TooDeep)?;
+    refuses(
+        &rt,
+        alloc,
+        16,
+        link(alloc, nested)?,
+        &flat,
+        WriteError::TooDeep,
+    )?;
     let body = Body::Other(zeros(alloc, 65_521)?);
     refuses(&rt, alloc, 40, body, &standard, WriteError::TooLarge)?;
     let body = Body::Other(zeros(alloc, 1_048_561)?);
@@ -222,8 +234,7 @@ fn a_check_of_three(rt: HostRuntime) -> Result<(), Fail> {
     let mut sink = VecSink::new(alloc);
     let verdict = run_check(alloc, &mut source, &mut sink, &Limits::standard())?;
     assert!(rt; verdict == Verdict::Blemished);
-    let text =
-        "datagram 1 canonical\ndatagram 2 accepted\ndatagram 3 refused bad length at 32\n";
+    let text = "datagram 1 canonical\ndatagram 2 accepted\ndatagram 3 refused bad length at 32\n";
     assert!(rt; sink.bytes.as_slice() == text.as_bytes());
     Ok(())
 }
