@@ -28,3 +28,4 @@ pub mod Extents
 pub mod Means
 pub mod Writing
 pub mod Fitted
+pub mod Comparing

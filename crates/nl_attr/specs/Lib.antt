@@ -16,3 +16,4 @@ pub mod Kept
 pub mod Written
 pub mod Proper
 pub mod Measured
+pub mod Compared

@@ -23,7 +23,7 @@ pub fn append_bytes(out: &mut Vec<u8>, bytes: &[u8])
 }
 
 /// The type field of an attribute.
-fn kind_field(number: u16, flags: AttrFlags) -> u16
+pub(crate) fn kind_field(number: u16, flags: AttrFlags) -> u16
     requires { number < 16384 }
     ensures { result ≡ kind_number number flags }
 {
