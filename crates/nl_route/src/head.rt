@@ -1,8 +1,9 @@
 //! What the heads of all families have in common.
 
-ghost use Rattle.std.specs.Prelude.{◌≡◌, ◌≤◌, ◌+◌, ◌++◌, ℕ, List, length, take, vec_len, vec_capacity};
+ghost use Rattle.std.specs.Prelude.{◌≡◌, ◌≤◌, ◌+◌, ◌++◌, ℕ, List, length, take, IfSome, vec_len, vec_capacity};
 ghost use Rattle.nl_attr.specs.declared.order.Order.{Order};
 ghost use Rattle.nl_attr.specs.declared.tree.Ctx.{Ctx};
+ghost use Rattle.nl_attr.specs.Compared.{Begins};
 ghost use Rattle.nl_route.specs.Fields.{Field, AreFields, AreRanged, written};
 
 use nl_attr::{Ctx, Order};
@@ -42,6 +43,11 @@ pub trait Head: Sized + Drop {
         ensures room { vec_capacity out.old ≤ vec_capacity out.new }
         // What a head of the program holds is in the range of its fields.
         ensures ranged { AreRanged (fields self.now) };
+
+    /// How long the head is, where bytes begin with what it is written as; none where they don't.
+    fn begins_with_front(&self, order: Order, bytes: &[u8]) -> Option<usize>
+        ensures begins { Begins (written order (fields self.now)) bytes.now result }
+        ensures within { IfSome result (λ n. n ≤ length bytes.now) };
 
     // A head is small.
     ghost small: { SIZE ≤ 64 };

@@ -10,7 +10,7 @@ ghost use Rattle.nl_route.specs.Views.{number_view, text_view, items_view};
 use crate::family::Family;
 use crate::head::Head;
 use crate::views::{list_of, text_of, u8_view, u32_view};
-use nl_attr::{Ctx, Order, append_bytes};
+use nl_attr::{Ctx, Order, append_bytes, begins_with_bytes};
 
 /// `IFLA_IFNAME`.
 const INTERFACE_NAME: u16 = 3;
@@ -148,6 +148,10 @@ impl Head for LinkHead {
 
     fn put_front(&self, order: Order, out: &mut Vec<u8>) {
         append_bytes(out, &self.write_ordered(order));
+    }
+
+    fn begins_with_front(&self, order: Order, bytes: &[u8]) -> Option<usize> {
+        begins_with_bytes(&self.write_ordered(order), bytes)
     }
 }
 

@@ -4,6 +4,7 @@
 //! attributes. One file for each family has its head, its body's name and its views.
 #![tactic(auto)]
 
+mod comparing;
 mod family;
 mod head;
 mod ifaddrmsg;

@@ -10,7 +10,7 @@ ghost use Rattle.nl_route.specs.Views.{number_view, bytes_view, items_view, hop_
 use crate::family::Family;
 use crate::head::Head;
 use crate::views::{bytes_of, hops_of, list_of, u32_view};
-use nl_attr::{Attr, Ctx, Hop, Order, append_bytes};
+use nl_attr::{Attr, Ctx, Hop, Order, append_bytes, begins_with_bytes};
 
 /// `RTA_DST`.
 const DESTINATION: u16 = 1;
@@ -176,6 +176,10 @@ impl Head for RouteHead {
 
     fn put_front(&self, order: Order, out: &mut Vec<u8>) {
         append_bytes(out, &self.write_ordered(order));
+    }
+
+    fn begins_with_front(&self, order: Order, bytes: &[u8]) -> Option<usize> {
+        begins_with_bytes(&self.write_ordered(order), bytes)
     }
 }
 
