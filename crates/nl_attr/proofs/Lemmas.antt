@@ -29,3 +29,4 @@ pub mod Means
 pub mod Writing
 pub mod Fitted
 pub mod Comparing
+pub mod Sized

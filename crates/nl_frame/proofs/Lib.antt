@@ -1,4 +1,5 @@
 pub mod Appended
+pub mod Beginnings
 pub mod Bodies
 pub mod Every
 pub mod Extents

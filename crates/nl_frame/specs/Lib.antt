@@ -12,6 +12,7 @@ pub mod Kept
 pub mod Written
 pub mod Proper
 pub mod Measured
+pub mod Compared
 pub use Rattle.nl_attr.specs.Numbers
 pub use Rattle.nl_attr.specs.Shape
 pub use Rattle.nl_attr.specs.Walk

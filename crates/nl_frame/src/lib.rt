@@ -4,6 +4,7 @@
 mod appending;
 mod body;
 mod canonical;
+mod comparing;
 mod form;
 mod front;
 mod header;

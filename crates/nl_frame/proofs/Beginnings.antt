@@ -1,0 +1,63 @@
+-- Bytes that begin with messages.
+use Rattle.std.proofs.Common.{◌≡◌, ℕ, ◌+◌, ◌-◌, ◌<◌, ◌≤◌, List, [], ◌∷◌, ◌++◌, length, drop, replicate, Option, Some, None, sym, ap, subst, ◌∙◌, arith, inl, inr, append_assoc}
+use Rattle.nl_attr.specs.declared.order.Order.{Order}
+use Rattle.nl_attr.specs.Numbers.{aligned}
+use Rattle.nl_attr.specs.Written.{padded}
+use Rattle.nl_attr.specs.Compared.{Begins}
+use Rattle.nl_attr.proofs.Lemmas.Comparing.{behind, two, not_first, not_second, padded_item, not_padded}
+use Rattle.nl_attr.proofs.Lemmas.Sized.{list_is_sized}
+use Rattle.nl_route.specs.Fields as fields
+use Rattle.nl_route.proofs.Fields.{length-written}
+use Rattle.nl_frame.specs.declared.header.Header.{Header}
+use Rattle.nl_frame.specs.declared.form.Form.{Form}
+use Rattle.nl_frame.specs.Header.{header_fields}
+use Rattle.nl_frame.specs.Form.{form_of, context_of}
+use Rattle.nl_frame.specs.Message.{group_of, BodyVal, noop, error, done, overrun, family, get, other, MessageVal}
+use Rattle.nl_frame.specs.Written.{body_len, header_for, body_written, message_item, written_len}
+use Rattle.nl_frame.specs.Proper.{IsMismatchedBody, IsMismatched, IsLongBody, HasLong, IsLong}
+use Rattle.nl_frame.specs.Compared.{AreSized}
+use Rattle.nl_frame.specs.Measured.{IsSizedBody}
+use Rattle.nl_frame.proofs.WrittenLengths.{length-body}
+
+module _ (o : Order) (m : MessageVal) where
+  abbrev pub front : List ℕ
+  front = fields.written o (header_fields (header_for m))
+
+  -- a header that says the length of a body which has been compared
+  pub header_is : (n : ℕ) → n ≡ length (body_written o m.body) → fields.written o (header_fields (record { len = 16 + n; kind = m.kind; flags = m.flags; seq = m.seq; port = m.port })) ≡ front
+  header_is n e = ap (λ k. fields.written o (header_fields (record { len = 16 + k; kind = m.kind; flags = m.flags; seq = m.seq; port = m.port }))) (e ∙ length-body o m.body)
+
+  module _ (bytes : List ℕ) where
+    pub no_body : Begins (body_written o m.body) (drop 16 bytes) None → Begins (padded (message_item o m)) bytes None
+    no_body p = not_padded (message_item o m) bytes (not_second front (body_written o m.body) bytes 16 (length-written o (header_fields (header_for m))) p)
+
+    pub no_header : Begins front bytes None → Begins (padded (message_item o m)) bytes None
+    no_header p = not_padded (message_item o m) bytes (not_first front (body_written o m.body) bytes p)
+
+    pub whole_message : (n k : ℕ) (r : Option ℕ) → Begins (body_written o m.body) (drop 16 bytes) (Some n) → Begins front bytes (Some k) → Begins (replicate (aligned (16 + n) - (16 + n)) 0) (drop (16 + n) bytes) r
+        → Begins (padded (message_item o m)) bytes (behind (16 + n) r)
+    whole_message n k r p q gap =
+        let size : k ≡ 16 = q.0 ∙ length-written o (header_fields (header_for m)) in
+        let head : Begins front bytes (Some 16) = subst (λ (j : ℕ). Begins front bytes (Some j)) size q in
+        padded_item (message_item o m) bytes (16 + n) r (two front (body_written o m.body) bytes 16 (Some n) head p) gap
+
+-- ---- messages that are neither mismatched nor too long are sized
+
+not_above : (a b : ℕ) → (a < b → ⊥) → b ≤ a
+not_above a b h = omega (arith, h)
+
+body_is_sized : (b : BodyVal) (f : Form) → (IsMismatchedBody b f → ⊥) → (IsLongBody b → ⊥) → IsSizedBody b
+body_is_sized (noop bs) f m s = tt
+body_is_sized (error code h tail) f m s = tt
+body_is_sized (done status tail) f m s = tt
+body_is_sized (overrun bs) f m s = tt
+body_is_sized (family h is) f m s = list_is_sized is (context_of (group_of h)) (λ x. m (inr x)) (λ x. s (inr x))
+body_is_sized (get n tail) f m s = tt
+body_is_sized (other bs) f m s = tt
+
+all_are_sized : (ms : List MessageVal) → (IsMismatched ms → ⊥) → (HasLong ms → ⊥) → written_len ms ≤ 1048576 → AreSized ms
+all_are_sized [] m s top = tt
+all_are_sized (x ∷ ms) m s top = (omega (arith, top), body_is_sized x.body (form_of x.kind) (λ y. m (inl y)) (λ y. s (inl y)), all_are_sized ms (λ y. m (inr y)) (λ y. s (inr y)) (omega (arith, top)))
+
+pub messages_are_sized : (ms : List MessageVal) → (IsMismatched ms → ⊥) → (IsLong ms → ⊥) → AreSized ms
+messages_are_sized ms m s = all_are_sized ms m (λ x. s (inr x)) (not_above 1048576 (written_len ms) (λ x. s (inl x)))
