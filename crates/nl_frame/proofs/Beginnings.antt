@@ -1,5 +1,5 @@
 -- Bytes that begin with messages.
-use Rattle.std.proofs.Common.{◌≡◌, ℕ, ◌+◌, ◌-◌, ◌<◌, ◌≤◌, List, [], ◌∷◌, ◌++◌, length, drop, replicate, Option, Some, None, sym, ap, subst, ◌∙◌, arith, inl, inr, append_assoc}
+use Rattle.std.proofs.Common.{◌≡◌, ℕ, ◌+◌, ◌-◌, ◌<◌, ◌≤◌, List, [], ◌∷◌, length, drop, replicate, Option, Some, None, ap, subst, ◌∙◌, arith, inl, inr}
 use Rattle.nl_attr.specs.declared.order.Order.{Order}
 use Rattle.nl_attr.specs.Numbers.{aligned}
 use Rattle.nl_attr.specs.Written.{padded}
@@ -8,12 +8,11 @@ use Rattle.nl_attr.proofs.Lemmas.Comparing.{behind, two, not_first, not_second, 
 use Rattle.nl_attr.proofs.Lemmas.Sized.{list_is_sized}
 use Rattle.nl_route.specs.Fields as fields
 use Rattle.nl_route.proofs.Fields.{length-written}
-use Rattle.nl_frame.specs.declared.header.Header.{Header}
 use Rattle.nl_frame.specs.declared.form.Form.{Form}
 use Rattle.nl_frame.specs.Header.{header_fields}
 use Rattle.nl_frame.specs.Form.{form_of, context_of}
 use Rattle.nl_frame.specs.Message.{group_of, BodyVal, noop, error, done, overrun, family, get, other, MessageVal}
-use Rattle.nl_frame.specs.Written.{body_len, header_for, body_written, message_item, written_len}
+use Rattle.nl_frame.specs.Written.{header_for, body_written, message_item, written_len}
 use Rattle.nl_frame.specs.Proper.{IsMismatchedBody, IsMismatched, IsLongBody, HasLong, IsLong}
 use Rattle.nl_frame.specs.Compared.{AreSized}
 use Rattle.nl_frame.specs.Measured.{IsSizedBody}

@@ -7,15 +7,16 @@ ghost use Rattle.nl_frame.specs.Heads.{IsFirstFault, whole};
 ghost use Rattle.nl_frame.specs.Told.{IfFault};
 ghost use Rattle.nl_frame.specs.Written.{written};
 
+use crate::comparing::are_written;
 use crate::limits::Limits;
 use crate::reading::{ReadError, read_datagram};
-use crate::writing::{WriteError, write_datagram};
 use std::alloc::Global;
 
 /// Whether a datagram is canonical: written as its messages are, every padding whole and of zeros, and
 /// every byte of a head that is not kept zero.
 ///
-/// It refuses as `read_datagram` does, or for memory.
+/// It refuses as `read_datagram` does. What was read is compared with the bytes where they stand; no
+/// second datagram is made.
 pub fn is_canonical(alloc: Global, bytes: &[u8], limits: &Limits) -> Result<bool, ReadError>
     ensures large { result ≡ Err ReadError.TooLarge ↔ limits.now.datagram < length bytes.now }
     // The datagram has a layout, and is canonical exactly where it is what that is written as.
@@ -30,14 +31,5 @@ pub fn is_canonical(alloc: Global, bytes: &[u8], limits: &Limits) -> Result<bool
         Ok(messages) => messages,
         Err(error) => return Err(error),
     };
-    match write_datagram(alloc, messages.as_slice(), limits) {
-        Ok(written) => Ok(written.as_slice() == bytes),
-        Err(error) => match error {
-            WriteError::Memory => Err(ReadError::Memory),
-            WriteError::Mismatch => unreachable!(),
-            WriteError::TooDeep => unreachable!(),
-            WriteError::TooLong => unreachable!(),
-            WriteError::TooLarge => unreachable!(),
-        },
-    }
+    Ok(are_written(messages.as_slice(), limits.order(), bytes))
 }

@@ -16,19 +16,6 @@ use crate::body::{Body, Message};
 use crate::header::Header;
 use nl_attr::{Order, begins_with_bytes, begins_with_zeros};
 
-/// The bytes of a header.
-fn header_bytes(header: Header, order: Order) -> [u8; 16]
-    ensures { result ≡ fields.written order (header_fields header) }
-{
-    let mut bytes = [0; 16];
-    bytes[..4].copy_from_slice(&order.u32_bytes(header.len));
-    bytes[4..6].copy_from_slice(&order.u16_bytes(header.kind));
-    bytes[6..8].copy_from_slice(&order.u16_bytes(header.flags));
-    bytes[8..12].copy_from_slice(&order.u32_bytes(header.seq));
-    bytes[12..].copy_from_slice(&order.u32_bytes(header.port));
-    bytes
-}
-
 /// A front, and the bytes behind it.
 fn begins_with_both(front: &[u8], tail: &[u8], bytes: &[u8]) -> Option<usize>
     ensures begins { Begins (front.now ++ tail.now) bytes.now result }
@@ -51,7 +38,7 @@ fn begins_with_error(
     ensures within { IfSome result (λ n. n ≤ length bytes.now) }
 {
     let front = begins_with_bytes(&order.i32_bytes(code), bytes)?;
-    let rest = begins_with_both(&header_bytes(answered, order), tail, &bytes[front..])?;
+    let rest = begins_with_both(&answered.bytes(order), tail, &bytes[front..])?;
     Some(front + rest)
 }
 
@@ -108,7 +95,7 @@ fn begins_with_message(message: &Message, order: Order, bytes: &[u8]) -> Option<
         seq: message.seq,
         port: message.port,
     };
-    begins_with_bytes(&header_bytes(header, order), bytes)?;
+    begins_with_bytes(&header.bytes(order), bytes)?;
     let gap = begins_with_zeros((len + 3) / 4 * 4 - len, &bytes[len..])?;
     Some(len + gap)
 }

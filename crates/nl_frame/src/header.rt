@@ -32,6 +32,19 @@ impl Header {
         }
     }
 
+    /// The 16 bytes of the header.
+    pub(crate) fn bytes(self, order: Order) -> [u8; 16]
+        ensures { result ≡ written order (header_fields self) }
+    {
+        let mut bytes = [0; 16];
+        bytes[..4].copy_from_slice(&order.u32_bytes(self.len));
+        bytes[4..6].copy_from_slice(&order.u16_bytes(self.kind));
+        bytes[6..8].copy_from_slice(&order.u16_bytes(self.flags));
+        bytes[8..12].copy_from_slice(&order.u32_bytes(self.seq));
+        bytes[12..].copy_from_slice(&order.u32_bytes(self.port));
+        bytes
+    }
+
     /// Appends the 16 bytes of the header. It takes no memory.
     pub(crate) fn put(self, order: Order, out: &mut Vec<u8>)
         requires { vec_len out.old + 16 ≤ vec_capacity out.old }
@@ -41,12 +54,6 @@ impl Header {
         // Each number is in the range of its field.
         ensures ranged { AreRanged (header_fields self) }
     {
-        let mut bytes = [0; 16];
-        bytes[..4].copy_from_slice(&order.u32_bytes(self.len));
-        bytes[4..6].copy_from_slice(&order.u16_bytes(self.kind));
-        bytes[6..8].copy_from_slice(&order.u16_bytes(self.flags));
-        bytes[8..12].copy_from_slice(&order.u32_bytes(self.seq));
-        bytes[12..].copy_from_slice(&order.u32_bytes(self.port));
-        append_bytes(out, &bytes);
+        append_bytes(out, &self.bytes(order));
     }
 }

@@ -6,7 +6,7 @@ use Rattle.nl_attr.specs.Numbers.{num}
 use Rattle.nl_attr.specs.Layout.{kind_number}
 use Rattle.nl_attr.specs.Tree.{Items, HopItems}
 use Rattle.nl_attr.specs.View.{HopFront, attrs_view, hops_view, value_view}
-use Rattle.nl_attr.specs.Written.{padded, attr_item, hop_item, written, written_val, written_hops, val_len, items_len}
+use Rattle.nl_attr.specs.Written.{padded, attr_item, hop_item, written, written_val, written_hops, items_len}
 use Rattle.nl_attr.specs.Proper.{IsSized, IsSizedHops}
 use Rattle.nl_attr.specs.Compared.{Begins}
 use Rattle.nl_attr.proofs.Lemmas.Extents.{from_place, past_end}

@@ -17,7 +17,7 @@ returns-in_err-rest-clause-begins c =
     let n = c.in_ok-front.front in
     let e : c.i32_bytes.result ≡ front = search rules in
     let p = subst (λ (text : List ℕ). Begins text bytes (Some n)) e c.in_ok-front.ensures.begins in
-    let q = subst (λ (text : List ℕ). Begins (text ++ tail) (drop n bytes) None) c.header_bytes.ensures (from _ bytes n None c.in_err-rest.ensures.begins) in
+    let q = subst (λ (text : List ℕ). Begins (text ++ tail) (drop n bytes) None) c.bytes.ensures (from _ bytes n None c.in_err-rest.ensures.begins) in
     let whole = two front (rest ++ tail) bytes n None p q in
     let r = subst (λ (text : List ℕ). Begins text bytes None) (sym (append_assoc front rest tail)) whole in
     subst (λ (r : Option ℕ). Begins ((front ++ rest) ++ tail) bytes r) (sym c.from_residual-in_err-rest.ensures) r
@@ -33,6 +33,6 @@ returns-clause-begins c =
     let e : c.i32_bytes.result ≡ front = search rules in
     let k = c.in_ok-rest.rest in
     let p = subst (λ (text : List ℕ). Begins text bytes (Some n)) e c.in_ok-front.ensures.begins in
-    let q = subst (λ (text : List ℕ). Begins (text ++ tail) (drop n bytes) (Some k)) c.header_bytes.ensures (from _ bytes n (Some k) c.in_ok-rest.ensures.begins) in
+    let q = subst (λ (text : List ℕ). Begins (text ++ tail) (drop n bytes) (Some k)) c.bytes.ensures (from _ bytes n (Some k) c.in_ok-rest.ensures.begins) in
     let whole = two front (rest ++ tail) bytes n (Some k) p q in
     subst (λ (text : List ℕ). Begins text bytes (Some (n + k))) (sym (append_assoc front rest tail)) whole

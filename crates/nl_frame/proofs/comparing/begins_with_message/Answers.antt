@@ -1,4 +1,4 @@
-use Rattle.std.proofs.Common.{◌≡◌, ◌+◌, ℕ, List, Option, Some, None, sym, subst, ◌∙◌, arith}
+use Rattle.std.proofs.Common.{◌+◌, ℕ, List, Option, Some, None, sym, subst, ◌∙◌, arith}
 use Rattle.nl_attr.specs.Written.{padded}
 use Rattle.nl_attr.specs.Compared.{Begins}
 use Rattle.nl_attr.proofs.Lemmas.Comparing.{from}
@@ -24,7 +24,7 @@ returns-in_err-begins_with_bytes-clause-begins c =
     let o = c.args.order in
     let m = message_view c.args.message.now in
     let bytes = c.args.bytes.now in
-    let e = c.header_bytes.ensures ∙ header_is o m c.in_ok-len.field-0 c.in_ok-len.ensures.begins.0 in
+    let e = c.bytes.ensures ∙ header_is o m c.in_ok-len.field-0 c.in_ok-len.ensures.begins.0 in
     let r = no_header o m bytes (subst (λ (text : List ℕ). Begins text bytes None) e c.in_err-begins_with_bytes.ensures.begins) in
     subst (λ (r : Option ℕ). Begins (padded (message_item o m)) bytes r) (sym c.from_residual-in_err-begins_with_bytes.ensures) r
 
@@ -36,7 +36,7 @@ returns-in_err-gap-clause-begins c =
     let n = c.in_ok-len.field-0 in
     let k = c.in_ok-begins_with_bytes.field-0 in
     let body = from (body_written o m.body) bytes 16 (Some n) c.in_ok-len.ensures.begins in
-    let e = c.header_bytes.ensures ∙ header_is o m n body.0 in
+    let e = c.bytes.ensures ∙ header_is o m n body.0 in
     let head = subst (λ (text : List ℕ). Begins text bytes (Some k)) e c.in_ok-begins_with_bytes.ensures.begins in
     let r = whole_message o m bytes n k None body head (from _ bytes (16 + n) None c.in_err-gap.ensures.begins) in
     subst (λ (r : Option ℕ). Begins (padded (message_item o m)) bytes r) (sym c.from_residual-in_err-gap.ensures) r
@@ -49,6 +49,6 @@ returns-clause-begins c =
     let n = c.in_ok-len.field-0 in
     let k = c.in_ok-begins_with_bytes.field-0 in
     let body = from (body_written o m.body) bytes 16 (Some n) c.in_ok-len.ensures.begins in
-    let e = c.header_bytes.ensures ∙ header_is o m n body.0 in
+    let e = c.bytes.ensures ∙ header_is o m n body.0 in
     let head = subst (λ (text : List ℕ). Begins text bytes (Some k)) e c.in_ok-begins_with_bytes.ensures.begins in
     whole_message o m bytes n k (Some c.in_ok-gap.gap) body head (from _ bytes (16 + n) (Some c.in_ok-gap.gap) c.in_ok-gap.ensures.begins)

@@ -1,4 +1,4 @@
-use Rattle.std.proofs.Common.{◌≡◌, ◌+◌, ◌∷◌, drop, map, arith, ap, sym, List, ℕ, Option, Some, None, subst}
+use Rattle.std.proofs.Common.{◌+◌, drop, map, arith, ap, sym, List, ℕ, Option, Some, None, subst}
 use Rattle.nl_attr.specs.Written.{padded}
 use Rattle.nl_attr.specs.Compared.{Begins}
 use Rattle.nl_attr.proofs.Lemmas.Extents.{from_place, past_end}
