@@ -1,13 +1,12 @@
 //! Messages appended to bytes that have room for them.
 
-ghost use Rattle.std.specs.Prelude.{◌≡◌, ◌≤◌, ◌<◌, ◌+◌, ◌-◌, ◌^◌, ◌++◌, ◌∷◌, [], length, map, take, drop, vec_len, vec_capacity, FitsSigned};
+ghost use Rattle.std.specs.Prelude.{◌≡◌, ◌≤◌, ◌<◌, ◌+◌, ◌-◌, ◌++◌, ◌∷◌, [], length, map, take, drop, vec_len, vec_capacity, FitsSigned};
 ghost use Rattle.std.specs.Int.{w32};
 ghost use Rattle.nl_attr.specs.Numbers.{aligned, num};
 ghost use Rattle.nl_attr.specs.Written.{padded};
-ghost use Rattle.nl_route.specs.Fields.{AreRanged, signed};
+ghost use Rattle.nl_route.specs.Fields.{signed};
 ghost use Rattle.nl_route.specs.Fields as fields;
-ghost use Rattle.nl_frame.specs.Header.{header_fields};
-ghost use Rattle.nl_frame.specs.Message.{error, done, get};
+ghost use Rattle.nl_frame.specs.Message.{error, done};
 ghost use Rattle.nl_frame.specs.View.{body_view, message_view};
 ghost use Rattle.nl_frame.specs.Written.{body_len, body_written, message_item, written, written_len};
 ghost use Rattle.nl_frame.specs.Proper.{IsRangedBody, IsRanged};
@@ -101,7 +100,7 @@ fn append_body(body: &Body, order: Order, out: &mut Vec<u8>)
 /// (`NLMSG_ALIGN`).
 fn close_message(out: &mut Vec<u8>, order: Order, start: usize)
     requires begun { start + 4 ≤ vec_len out.old }
-    requires short { vec_len out.old - start ≤ 1048704 }
+    requires short { vec_len out.old - start ≤ 1048592 }
     requires space { start + aligned (vec_len out.old - start) ≤ vec_capacity out.old }
     ensures items { out.new.items ≡ take start out.old.items ++ padded (num (vec_len out.old - start) 4 order ++ drop (start + 4) out.old.items) }
     ensures len { vec_len out.new ≡ start + aligned (vec_len out.old - start) }

@@ -1,9 +1,6 @@
 //! How long messages are when they are written, and whether they may be.
 
-ghost use Rattle.std.specs.Prelude.{◌≡◌, ◌≤◌, ◌<◌, ◌+◌, ◌↔◌, Some, IsTrue, IfSome, length, map};
-ghost use Rattle.nl_attr.specs.View.{attrs_view};
-ghost use Rattle.nl_attr.specs.Written as attrs;
-ghost use Rattle.nl_attr.specs.Proper as proper;
+ghost use Rattle.std.specs.Prelude.{◌≡◌, ◌≤◌, ◌+◌, ◌↔◌, IsTrue, IfSome, map};
 ghost use Rattle.nl_frame.specs.Form.{form_of};
 ghost use Rattle.nl_frame.specs.Message.{done};
 ghost use Rattle.nl_frame.specs.View.{body_view, message_view};
@@ -13,7 +10,6 @@ ghost use Rattle.nl_frame.specs.Measured.{IsLenOf, IsBodyLen, IsMessageLen, IsLe
 use crate::body::{Body, Message};
 use crate::form::{Form, Group};
 use nl_attr::{Depth, Extent, both};
-use nl_route::{Family, Head};
 
 /// The most bytes that a datagram may have.
 const LONGEST: usize = 1_048_576;
@@ -32,16 +28,7 @@ fn plain(head: usize, tail: usize) -> Extent
     Extent { deep: false, len }
 }
 
-/// The body of a family's message.
-fn measure_family<H: Head>(family: &Family<H>, depth: Depth) -> Option<Extent>
-    ensures mismatch { (result ≡ None) ↔ proper.IsMismatched (attrs_view family.now.attrs.items) H.ctx }
-    ensures deep { IfSome result (λ e. IsTrue e.deep ↔ proper.IsDeep (attrs_view family.now.attrs.items) 0 depth) }
-    ensures len { IfSome result (λ e. IsLenOf 1048640 (proper.IsLong (attrs_view family.now.attrs.items)) (proper.IsSized (attrs_view family.now.attrs.items)) (H.SIZE + attrs.items_len (attrs_view family.now.attrs.items)) e.len) }
-{
-    family.measure(depth)
-}
-
-/// The body of a DONE message: its status is there exactly where there are four bytes.
+/// The body of a DONE message; none where it has four bytes or more but no status.
 fn measure_done(status: &Option<i32>, tail: &[u8]) -> Option<Extent>
     ensures mismatch { (result ≡ None) ↔ IsMismatchedBody (done status.now tail.now) Form.Done }
     ensures deep { IfSome result (λ e. IsTrue e.deep → ⊥) }
@@ -71,10 +58,10 @@ fn measure_body(body: &Body, form: Form, depth: Depth) -> Option<Extent>
         (Body::Error { tail, .. }, Form::Error) => Some(plain(20, tail.len())),
         (Body::Done { status, tail }, Form::Done) => measure_done(status, tail),
         (Body::Overrun(bytes), Form::Overrun) => Some(plain(0, bytes.len())),
-        (Body::Link(family), Form::Family(Group::Link)) => measure_family(family, depth),
-        (Body::Addr(family), Form::Family(Group::Addr)) => measure_family(family, depth),
-        (Body::Route(family), Form::Family(Group::Route)) => measure_family(family, depth),
-        (Body::Neigh(family), Form::Family(Group::Neigh)) => measure_family(family, depth),
+        (Body::Link(family), Form::Family(Group::Link)) => family.measure(depth),
+        (Body::Addr(family), Form::Family(Group::Addr)) => family.measure(depth),
+        (Body::Route(family), Form::Family(Group::Route)) => family.measure(depth),
+        (Body::Neigh(family), Form::Family(Group::Neigh)) => family.measure(depth),
         (Body::Get { tail, .. }, Form::Get) => Some(plain(1, tail.len())),
         (Body::Other(bytes), Form::Other) => Some(plain(0, bytes.len())),
         _ => None,

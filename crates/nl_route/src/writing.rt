@@ -1,6 +1,6 @@
 //! Writing the body of a family's message, whatever the family.
 
-ghost use Rattle.std.specs.Prelude.{◌≡◌, ◌≤◌, ◌<◌, ◌+◌, ◌++◌, ◌↔◌, ◌⊎◌, Some, Err, IsTrue, IfOk, IfErr, IfSome, vec_len, vec_capacity};
+ghost use Rattle.std.specs.Prelude.{◌≡◌, ◌≤◌, ◌<◌, ◌+◌, ◌++◌, ◌↔◌, ◌⊎◌, Err, IsTrue, IfOk, IfErr, IfSome, vec_len, vec_capacity};
 ghost use Rattle.nl_attr.specs.Shape.{shape_of};
 ghost use Rattle.nl_attr.specs.View.{attrs_view};
 ghost use Rattle.nl_attr.specs.Written as attrs;
