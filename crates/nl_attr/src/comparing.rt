@@ -63,6 +63,7 @@ fn begins_with_hop_head(
     Some(front + index)
 }
 
+/// A value, as its attribute's payload.
 #[cycle(comparing)]
 fn begins_with_value(value: &Value, order: Order, bytes: &[u8]) -> Option<usize>
     requires sized { IsSizedVal (value_view value.now) }
@@ -76,6 +77,7 @@ fn begins_with_value(value: &Value, order: Order, bytes: &[u8]) -> Option<usize>
     }
 }
 
+/// An attribute with its padding.
 #[cycle(comparing)]
 fn begins_with_attr(attr: &Attr, order: Order, bytes: &[u8]) -> Option<usize>
     requires number { attr.now.number < 16384 }
@@ -113,6 +115,7 @@ pub fn begins_with(attrs: &[Attr], order: Order, bytes: &[u8]) -> Option<usize>
     Some(done)
 }
 
+/// A next hop with its padding.
 #[cycle(comparing)]
 fn begins_with_hop(hop: &Hop, order: Order, bytes: &[u8]) -> Option<usize>
     requires short { 8 + items_len (attrs_view (out-Hop hop.now).attrs.items) ≤ 65535 }
@@ -128,6 +131,7 @@ fn begins_with_hop(hop: &Hop, order: Order, bytes: &[u8]) -> Option<usize>
     closes_item(8 + inner, order, bytes)
 }
 
+/// Next hops, each with its padding.
 #[cycle(comparing)]
 fn begins_with_hops(hops: &[Hop], order: Order, bytes: &[u8]) -> Option<usize>
     requires sized { IsSizedHops (hops_view hops.now) }

@@ -54,6 +54,7 @@ fn begins_with_done(status: Option<i32>, tail: &[u8], order: Order, bytes: &[u8]
     }
 }
 
+/// The body of a message, which its type has chosen.
 fn begins_with_body(body: &Body, order: Order, bytes: &[u8]) -> Option<usize>
     requires sized { IsSizedBody (body_view body.now) }
     ensures begins { Begins (body_written order (body_view body.now)) bytes.now result }
@@ -100,6 +101,7 @@ fn begins_with_message(message: &Message, order: Order, bytes: &[u8]) -> Option<
     Some(len + gap)
 }
 
+/// Messages, each with its padding.
 fn begins_with_messages(messages: &[Message], order: Order, bytes: &[u8]) -> Option<usize>
     requires sized { AreSized (map message_view messages.now) }
     ensures begins { Begins (written order (map message_view messages.now)) bytes.now result }
@@ -115,6 +117,8 @@ fn begins_with_messages(messages: &[Message], order: Order, bytes: &[u8]) -> Opt
 
 /// Whether bytes are what the messages are written as, each with its padding, with numbers in this
 /// order. It takes no memory: messages and bytes are gone over side by side.
+///
+/// Messages that were read of a datagram are neither mismatched nor too long.
 pub(crate) fn are_written(messages: &[Message], order: Order, bytes: &[u8]) -> bool
     requires matched { IsMismatched (map message_view messages.now) → ⊥ }
     requires short { IsLong (map message_view messages.now) → ⊥ }
