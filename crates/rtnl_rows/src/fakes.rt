@@ -38,6 +38,30 @@ impl Source for BrokenSource<'_> {
     }
 }
 
+/// Gives blanks without end, and counts them.
+#[derive(Drop)]
+pub struct EndlessSource {
+    pub given: u64,
+}
+
+impl Source for EndlessSource {
+    ghost remaining = { λ _. None };
+
+    ghost is_ended = { λ _. ⊥ };
+
+    ghost failure_count = { λ _. 0 };
+
+    fn failures(&self) -> u64 {
+        0
+    }
+
+    fn take(&mut self, buffer: &mut [u8]) -> Result<usize, Broken> {
+        buffer.fill(b' ');
+        self.given = self.given.saturating_add(buffer.len() as u64);
+        Ok(buffer.len())
+    }
+}
+
 /// Takes up to `each` bytes in each of `calls` calls, and then fails, or takes none.
 #[derive(Drop)]
 pub struct TightSink {

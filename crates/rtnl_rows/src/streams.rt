@@ -1,6 +1,6 @@
 //! Reads and writes that fail, or move few bytes at a time.
 
-use crate::fakes::{BrokenSource, ShortFile, TightSink};
+use crate::fakes::{BrokenSource, EndlessSource, ShortFile, TightSink};
 use crate::vectors::DONE;
 use rtnl::frame::Limits;
 use rtnl::{
@@ -80,6 +80,21 @@ fn a_source_that_fails_has_not_ended(rt: HostRuntime) {
     let shown = run_show(rt.alloc(), &mut source, &mut sink, &Limits::standard());
     assert_eq!(rt; shown, Err(RunError::ReadFault));
     assert_eq!(rt; source.failures, 1);
+    assert!(rt; sink.bytes.is_empty());
+}
+
+#[test]
+fn a_source_that_fails_at_once_and_one_without_end(rt: HostRuntime) {
+    let mut source = BrokenSource {
+        left: &[],
+        failures: 0,
+    };
+    let mut sink = VecSink::new(rt.alloc());
+    let shown = run_show(rt.alloc(), &mut source, &mut sink, &Limits::standard());
+    assert!(rt; shown == Err(RunError::ReadFault) && source.failures == 1);
+    let mut source = EndlessSource { given: 0 };
+    let shown = run_show(rt.alloc(), &mut source, &mut sink, &Limits::standard());
+    assert!(rt; shown == Err(RunError::ReadFault) && source.given == 16_777_217);
     assert!(rt; sink.bytes.is_empty());
 }
 
