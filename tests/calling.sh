@@ -4,20 +4,7 @@
 # the status is 1 where one differs.
 set -u
 cd "$(dirname "${BASH_SOURCE[0]}")/.." || exit 1
-passed=0
-failed=0
-
-# check NAME COMMAND..: a case that passes where the command does.
-check() {
-  local name=$1
-  shift
-  if "$@"; then
-    passed=$((passed + 1))
-  else
-    failed=$((failed + 1))
-    echo "failed: $name"
-  fi
-}
+. tests/counting.sh
 
 # block SORT PAGE: the page's first block of this sort.
 block() { awk -v "fence=\`\`\`$1" '/^```/ { if (inside) exit; inside = $0 == fence; next } inside' "$2"; }
@@ -66,5 +53,4 @@ compare nl_route families
 compare nl_frame datagrams
 compare rtnl recordings
 
-echo "$passed passed, $failed failed"
-[ "$failed" = 0 ]
+finish

@@ -3,17 +3,11 @@
 # crates but the tests and the examples of callers.
 set -u
 cd "$(dirname "${BASH_SOURCE[0]}")/.." || exit 1
-passed=0
-failed=0
+. tests/counting.sh
 
-# same NAME FOUND WANTED
+# same NAME FOUND WANTED: a case that passes where what was found is what is wanted.
 same() {
-  if [ "$2" = "$3" ]; then
-    passed=$((passed + 1))
-  else
-    failed=$((failed + 1))
-    printf 'FAILED %s\nfound:\n%s\nwanted:\n%s\n' "$1" "$2" "$3"
-  fi
+  check "$1" [ "$2" = "$3" ]
 }
 
 sources() {
@@ -59,5 +53,4 @@ same 'no call that answers a tally takes the result of another without its visit
     /dev/null $(files_with '-> Tally<'))" \
   ''
 
-echo "$passed passed, $failed failed"
-[ "$failed" -eq 0 ]
+finish

@@ -7,23 +7,10 @@ cd "$(dirname "${BASH_SOURCE[0]}")/.." || exit 1
 program=$PWD/crates/rtnl_cli/out/rtnl_cli
 folder=$(mktemp -d) || exit 1
 trap 'rm -rf "$folder"' EXIT
-passed=0
-failed=0
+. tests/counting.sh
 
 # What stands for some text, whatever it is: the texts of clap are not ours.
 said='(some text)'
-
-# check NAME COMMAND..: a case that passes where the command does.
-check() {
-  local name=$1
-  shift
-  if "$@"; then
-    passed=$((passed + 1))
-  else
-    failed=$((failed + 1))
-    echo "failed: $name"
-  fi
-}
 
 # holds FILE TEXT: the file has exactly these lines, no byte for no text, some text for $said.
 holds() {
@@ -216,5 +203,4 @@ expect 'an input too long' 3 '' "$read_fault" <"$folder/too_long"
 expect 'a FILE too long' 3 '' "$read_fault" show "$folder/too_long" </dev/null
 check 'out of memory' ends 4 '' 'rtnl: out of memory' in_little_memory <"$folder/longest"
 
-echo "$passed passed, $failed failed"
-[ "$failed" = 0 ]
+finish

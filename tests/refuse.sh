@@ -10,20 +10,7 @@ folder=$(mktemp -d) || exit 1
 trap 'rm -rf "$folder"' EXIT
 library=$folder/refuse.so
 mark=$folder/refused
-passed=0
-failed=0
-
-# check NAME COMMAND..: a case that passes where the command does.
-check() {
-  local name=$1
-  shift
-  if "$@"; then
-    passed=$((passed + 1))
-  else
-    failed=$((failed + 1))
-    echo "failed: $name"
-  fi
-}
+. tests/counting.sh
 
 # The program asks the C library for memory by no function that the library here doesn't count.
 asks_by_counted_functions() {
@@ -108,5 +95,4 @@ refuse_each 'wrong words' 2 /dev/null show --order middle
 refuse_each 'a missing file' 3 /dev/null show "$folder/missing"
 refuse_each 'help' 0 /dev/null --help
 
-echo "$passed passed, $failed failed"
-[ "$failed" = 0 ]
+finish

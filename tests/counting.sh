@@ -1,0 +1,21 @@
+# Counts cases for the scripts beside it, which read it in.
+passed=0
+failed=0
+
+# check NAME COMMAND..: a case that passes where the command does.
+check() {
+  local name=$1
+  shift
+  if "$@"; then
+    passed=$((passed + 1))
+  else
+    failed=$((failed + 1))
+    echo "failed: $name"
+  fi
+}
+
+# The last line of a script, and its status.
+finish() {
+  echo "$passed passed, $failed failed"
+  [ "$failed" = 0 ]
+}
