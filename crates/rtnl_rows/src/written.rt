@@ -14,7 +14,7 @@ use std::alloc::Global;
 use std::process::Abort;
 use std::test::Fail;
 
-/// A GET of 17 bytes, and the end of a dump behind it.
+/// A GET of 17 bytes, without its padding.
 const SHORT_GET: &str = "11000000 1200 0103 01000000 00000000 00";
 
 /// A metric of five bytes, whose inner padding is missing.
