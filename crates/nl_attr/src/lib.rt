@@ -21,7 +21,7 @@ pub use appending::{append_bytes, append_list};
 pub use comparing::{begins_with, begins_with_bytes, begins_with_zeros};
 pub use fault::{Fault, LimitFault, ListError, Reason, Tally, WriteError};
 pub use limits::Depth;
-pub use measuring::{Extent, both, measure};
+pub use measuring::{Extent, measure};
 pub use order::Order;
 pub use payload::Payload;
 pub use reading::{read_list, read_list_ordered};

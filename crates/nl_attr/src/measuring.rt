@@ -48,20 +48,22 @@ fn item_extent(head: usize, inner: Extent) -> Extent
     }
 }
 
-/// What two parts of a region come to together; no length above 1,048,576 bytes.
-pub fn both(first: Extent, second: Extent) -> Extent
-    ensures { Some result ≡ join (Some first) (Some second) }
-{
-    let len = match (first.len, second.len) {
-        (Some(a), Some(b)) => match a.checked_add(b) {
-            Some(sum) if sum <= LONGEST_REGION => Some(sum),
+impl Extent {
+    /// What two parts of a region come to together; no length above 1,048,576 bytes.
+    pub fn and(self, other: Extent) -> Extent
+        ensures { Some result ≡ join (Some self) (Some other) }
+    {
+        let len = match (self.len, other.len) {
+            (Some(a), Some(b)) => match a.checked_add(b) {
+                Some(sum) if sum <= LONGEST_REGION => Some(sum),
+                _ => None,
+            },
             _ => None,
-        },
-        _ => None,
-    };
-    Extent {
-        deep: first.deep || second.deep,
-        len,
+        };
+        Extent {
+            deep: self.deep || other.deep,
+            len,
+        }
     }
 }
 
@@ -115,7 +117,7 @@ fn measure_list(attrs: &[Attr], ctx: Ctx, room: u8) -> Option<Extent>
         len: Some(0),
     };
     for attr in attrs {
-        all = both(all, measure_attr(attr, ctx, room)?);
+        all = all.and(measure_attr(attr, ctx, room)?);
     }
     Some(all)
 }
@@ -137,7 +139,7 @@ fn measure_hops(hops: &[Hop], room: u8) -> Option<Extent>
         len: Some(0),
     };
     for hop in hops {
-        all = both(all, measure_hop(hop, room)?);
+        all = all.and(measure_hop(hop, room)?);
     }
     Some(all)
 }

@@ -14,6 +14,7 @@ pub mod Scan
 pub mod Steps
 pub mod Sums
 pub mod Told
+pub mod Within
 pub mod Writable
 pub mod WrittenLayouts
 pub mod WrittenLengths

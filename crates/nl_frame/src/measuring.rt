@@ -9,7 +9,7 @@ ghost use Rattle.nl_frame.specs.Measured.{IsLenOf, IsBodyLen, IsMessageLen, IsLe
 
 use crate::body::{Body, Message};
 use crate::form::{Form, Group};
-use nl_attr::{Depth, Extent, both};
+use nl_attr::{Depth, Extent};
 
 /// The most bytes that a datagram may have.
 const LONGEST: usize = 1_048_576;
@@ -97,7 +97,7 @@ pub(crate) fn measure_messages(messages: &[Message], depth: Depth) -> Option<Ext
         len: Some(0),
     };
     for message in messages {
-        all = both(all, measure_message(message, depth)?);
+        all = all.and(measure_message(message, depth)?);
     }
     Some(all)
 }

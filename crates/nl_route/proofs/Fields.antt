@@ -9,7 +9,7 @@ use Rattle.std.proofs.Math.ListN.{drop_of_length-le}
 use Rattle.std.proofs.Math.Seq.{drop-cons, drop-append_seam}
 use Rattle.nl_attr.specs.declared.order.Order.{Order}
 use Rattle.nl_attr.specs.Numbers.{AreBytes, num, number_of}
-use Rattle.nl_attr.proofs.Lemmas.Numbers.{length-num, front_is, front_below, number_of-num}
+use Rattle.nl_attr.proofs.Lemmas.Numbers.{bytes_drop, length-num, front_is, front_below, number_of-num}
 use Rattle.nl_route.specs.Fields.{Field, byte, number, signed, pad, AreFields, AreRanged, zeros, written}
 
 abbrev pub width : Field → ℕ
@@ -32,9 +32,6 @@ read_at o (pad w ∷ fs) place bytes = pad w ∷ read_at o fs (place + w) bytes
 
 -- ---- bytes have the fields that are read of them
 
-drop_bytes : (n : ℕ) (bytes : List ℕ) → AreBytes bytes → AreBytes (drop n bytes)
-drop_bytes n bytes h i = rw (get_or-drop n bytes i 0) (h (n + i))
-
 first_byte : (place : ℕ) (bytes : List ℕ) → place < length bytes → take 1 (drop place bytes) ≡ get_or bytes place 0 ∷ []
 first_byte place bytes h = ap (take 1) (drop-cons bytes place 0 h)
 
@@ -50,14 +47,14 @@ read_sound o (byte n ∷ fs) place bytes h e =
     (first_byte place bytes (omega arith), h place, subst (AreFields o (read_at o fs (place + 1) bytes)) (sym (drop-drop 1 place bytes)) (read_sound o fs (place + 1) bytes h (omega arith)))
 read_sound o (number w n ∷ fs) place bytes h e =
     let le : w ≤ length (drop place bytes) = omega (arith, length-drop place bytes) in (
-      sym (front_is o w (drop place bytes) (drop_bytes place bytes h) le),
-      front_below o w (drop place bytes) (drop_bytes place bytes h) le,
+      sym (front_is o w (drop place bytes) (bytes_drop place bytes h) le),
+      front_below o w (drop place bytes) (bytes_drop place bytes h) le,
       subst (AreFields o (read_at o fs (place + w) bytes)) (sym (drop-drop w place bytes)) (read_sound o fs (place + w) bytes h (omega arith)),
     )
 read_sound o (signed z ∷ fs) place bytes h e =
     let le : 4 ≤ length (drop place bytes) = omega (arith, length-drop place bytes) in (
-      signed_is o (drop place bytes) (drop_bytes place bytes h) le,
-      signed_fits o (drop place bytes) (drop_bytes place bytes h) le,
+      signed_is o (drop place bytes) (bytes_drop place bytes h) le,
+      signed_fits o (drop place bytes) (bytes_drop place bytes h) le,
       subst (AreFields o (read_at o fs (place + 4) bytes)) (sym (drop-drop 4 place bytes)) (read_sound o fs (place + 4) bytes h (omega arith)),
     )
 read_sound o (pad w ∷ fs) place bytes h e =

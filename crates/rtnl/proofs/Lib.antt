@@ -1,8 +1,8 @@
-mod Checking
 mod Digits
 mod Listing
 mod Plain
 mod Recordings
+mod Refusing
 mod Running
 mod Showing
 mod Streams

@@ -1,15 +1,13 @@
 -- What a check finds of the datagrams of an input.
-use Rattle.std.specs.Prelude.{◌≡◌, ◌<◌, ◌≤◌, ◌↔◌, ◌++◌, ℕ, List, length, codes, Bool, true, false, IsTrue, Option, Result, Ok, Err}
+use Rattle.std.specs.Prelude.{◌≡◌, ◌≤◌, ◌↔◌, ◌++◌, ℕ, List, length, codes, Bool, true, false, IsTrue, Option, Result, Ok, Err}
 use Rattle.std.specs.Fmt.{decimal}
 use Rattle.nl_frame.specs.declared.reading.ReadError.{ReadError}
-use Rattle.nl_frame.specs.declared.reading.ReadError.TheVariants.{TooLarge, Layout as Fails, Memory}
 use Rattle.nl_frame.specs.Limits.{Bounds}
 use Rattle.nl_frame.specs.Message.{MessageVal}
 use Rattle.nl_frame.specs.Layout.{Layout}
-use Rattle.nl_frame.specs.Heads.{IsFirstFault, whole}
 use Rattle.nl_frame.specs.Written.{written}
 use Rattle.rtnl.specs.Text.{◌⨟◌}
-use Rattle.rtnl.specs.Shown.{refusal_text}
+use Rattle.rtnl.specs.Shown.{Refuses, refusal_text}
 use Rattle.rtnl.specs.Runs.{Prints, OfInput, FrontOfInput}
 use Rattle.rtnl.specs.declared.error.Verdict.{Verdict}
 
@@ -17,12 +15,10 @@ use Rattle.rtnl.specs.declared.error.Verdict.{Verdict}
 abbrev pub Finding : Type 0
 Finding = Result Bool ReadError
 
--- within the limits the datagram has a layout, and is or isn't what that is written as; or it has this first fault, or is too large
+-- within the limit the datagram has a layout, and is or isn't what that is written as; or it is refused so
 abbrev pub Finds : Bounds → List ℕ → Finding → Type 0
 Finds b d (Ok canonical) = (length d ≤ b.datagram) × ((ms : List MessageVal) × Layout b.shape ms d × (IsTrue canonical ↔ written b.shape.order ms ≡ d))
-Finds b d (Err TooLarge) = b.datagram < length d
-Finds b d (Err (Fails f)) = (length d ≤ b.datagram) × IsFirstFault b.shape (whole d) f.place f.reason
-Finds b d (Err Memory) = ⊥
+Finds b d (Err e) = Refuses b d e
 
 -- the datagram of this number
 unfoldable pub number_front : ℕ → List ℕ

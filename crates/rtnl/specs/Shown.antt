@@ -16,12 +16,16 @@ use Rattle.rtnl.specs.declared.error.Verdict.{Verdict}
 abbrev pub Answer : Type 0
 Answer = Result (List MessageVal) ReadError
 
--- within the limits the datagram has this layout, or this first fault, or is too large
+-- the datagram is too large, or within the limit it has this first fault
+abbrev pub Refuses : Bounds → List ℕ → ReadError → Type 0
+Refuses b d TooLarge = b.datagram < length d
+Refuses b d (Fails f) = (length d ≤ b.datagram) × IsFirstFault b.shape (whole d) f.place f.reason
+Refuses b d Memory = ⊥
+
+-- within the limit the datagram has this layout, or it is refused so
 abbrev pub Answers : Bounds → List ℕ → Answer → Type 0
 Answers b d (Ok ms) = (length d ≤ b.datagram) × Layout b.shape ms d
-Answers b d (Err TooLarge) = b.datagram < length d
-Answers b d (Err (Fails f)) = (length d ≤ b.datagram) × IsFirstFault b.shape (whole d) f.place f.reason
-Answers b d (Err Memory) = ⊥
+Answers b d (Err e) = Refuses b d e
 
 -- the line of a refusal
 abbrev pub refusal_text : ReadError → List ℕ

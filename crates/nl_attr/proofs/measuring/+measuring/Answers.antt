@@ -15,7 +15,7 @@ measure_list-loop-attr-preserved t c =
     let d = from_place c.args.attrs.now c.loop-attr.attr-index c.attr-item.result c.loop-attr-test.true c.attr-item.is in
     let part = ap (λ (ys : List Attr). extent_of (attrs_view ys) c.args.ctx c.args.room) d ∙ c.in_ok-measure_attr.ensures (attrs_view rest) in
     let i = c.loop-attr.invariant in
-    (joined_on c.loop-attr.all c.in_ok-measure_attr.field-0 c.both-all.result (extent_of (attrs_view rest) c.args.ctx c.args.room) _ _ part c.both-all.ensures i.0, joined_within c.loop-attr.all c.in_ok-measure_attr.field-0 c.both-all.result c.both-all.ensures)
+    (joined_on c.loop-attr.all c.in_ok-measure_attr.field-0 c.and-all.result (extent_of (attrs_view rest) c.args.ctx c.args.room) _ _ part c.and-all.ensures i.0, joined_within c.loop-attr.all c.in_ok-measure_attr.field-0 c.and-all.result c.and-all.ensures)
 
 pub measure_list-returns-in_err-measure_attr : goal.measure_list-returns-in_err-measure_attr
 measure_list-returns-in_err-measure_attr t c =
@@ -39,7 +39,7 @@ measure_hops-loop-hop-preserved t c =
     let d = from_place c.args.hops.now c.loop-hop.hop-index c.hop-item.result c.loop-hop-test.true c.hop-item.is in
     let part = ap (λ (ys : List Hop). extent_of_hops (hops_view ys) c.args.room) d ∙ c.in_ok-measure_hop.ensures (hops_view rest) in
     let i = c.loop-hop.invariant in
-    (joined_on c.loop-hop.all c.in_ok-measure_hop.field-0 c.both-all.result (extent_of_hops (hops_view rest) c.args.room) _ _ part c.both-all.ensures i.0, joined_within c.loop-hop.all c.in_ok-measure_hop.field-0 c.both-all.result c.both-all.ensures)
+    (joined_on c.loop-hop.all c.in_ok-measure_hop.field-0 c.and-all.result (extent_of_hops (hops_view rest) c.args.room) _ _ part c.and-all.ensures i.0, joined_within c.loop-hop.all c.in_ok-measure_hop.field-0 c.and-all.result c.and-all.ensures)
 
 pub measure_hops-returns-in_err-measure_hop : goal.measure_hops-returns-in_err-measure_hop
 measure_hops-returns-in_err-measure_hop t c =

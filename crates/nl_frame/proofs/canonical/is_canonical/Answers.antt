@@ -4,7 +4,8 @@ use Rattle.nl_frame.specs.declared.body.Message.{Message}
 use Rattle.nl_frame.specs.Layout.{Layout}
 use Rattle.nl_frame.specs.Proper.{IsMismatched, IsLong}
 use Rattle.nl_frame.specs.View.{message_view}
-use Rattle.nl_frame.proofs.Writable.{within, writable}
+use Rattle.nl_frame.proofs.Within.{within}
+use Rattle.nl_frame.proofs.Writable.{writable}
 use Rattle.nl_frame.proofs.canonical.is_canonical.Goals as goal
 
 pub are_written-requires-clause-matched : goal.are_written-requires-clause-matched
@@ -13,7 +14,7 @@ are_written-requires-clause-matched c =
     let ms = map message_view c.in-Ok.messages.items in
     let d = c.args.bytes.now in
     let fits : Layout b.shape ms d = subst (λ r. IfOk r (λ (v : Vec Message). Layout b.shape (map message_view v.items) d)) c.in-Ok.is c.read_datagram.ensures.fits in
-    let w = writable b ms d c.datagram-limit.ensures.limits fits (within c.read_datagram.result.result c.in-Ok.messages b.datagram (length d) c.read_datagram.ensures.large c.in-Ok.is) in
+    let w = writable b ms d c.datagram-limit.ensures.limits fits (within c.read_datagram.result.result b.datagram (length d) c.read_datagram.ensures.large (λ e. let ok = c.in-Ok.is in cc)) in
     let same : map message_view c.as_slice.result.now ≡ ms = search (rules, c.as_slice.ensures.value) in
     λ m. w.proper.matched (subst IsMismatched same m)
 
@@ -23,6 +24,6 @@ are_written-requires-clause-short c =
     let ms = map message_view c.in-Ok.messages.items in
     let d = c.args.bytes.now in
     let fits : Layout b.shape ms d = subst (λ r. IfOk r (λ (v : Vec Message). Layout b.shape (map message_view v.items) d)) c.in-Ok.is c.read_datagram.ensures.fits in
-    let w = writable b ms d c.datagram-limit.ensures.limits fits (within c.read_datagram.result.result c.in-Ok.messages b.datagram (length d) c.read_datagram.ensures.large c.in-Ok.is) in
+    let w = writable b ms d c.datagram-limit.ensures.limits fits (within c.read_datagram.result.result b.datagram (length d) c.read_datagram.ensures.large (λ e. let ok = c.in-Ok.is in cc)) in
     let same : map message_view c.as_slice.result.now ≡ ms = search (rules, c.as_slice.ensures.value) in
     λ m. w.proper.short (subst IsLong same m)

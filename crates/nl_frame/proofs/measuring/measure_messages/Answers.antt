@@ -16,7 +16,7 @@ loop-message-preserved c =
     let d = ap (map message_view) (from_place xs c.loop-message.message-index c.message-item.result c.loop-message-test.true c.message-item.is) in
     let i = subst (λ (ms : List MessageVal). IsMeasuring c.args.depth whole ms c.loop-message.all) d c.loop-message.invariant in
     let e = c.in_ok-measure_message.ensures in
-    measured_on c.args.depth (message_view c.message-item.result) whole rest c.loop-message.all c.in_ok-measure_message.field-0 c.both-all.result c.both-all.ensures (λ h. absurd (let n = e.mismatch.1 h in cc)) e.deep e.len i
+    measured_on c.args.depth (message_view c.message-item.result) whole rest c.loop-message.all c.in_ok-measure_message.field-0 c.and-all.result c.and-all.ensures (λ h. absurd (let n = e.mismatch.1 h in cc)) e.deep e.len i
 
 pub returns-in_err-measure_message-clause-mismatch : goal.returns-in_err-measure_message-clause-mismatch
 returns-in_err-measure_message-clause-mismatch c =

@@ -3,7 +3,8 @@ use Rattle.std.specs.String.{string_bytes}
 use Rattle.nl_frame.specs.View.{message_view}
 use Rattle.rtnl.specs.Datagrams.{datagram_line}
 use Rattle.rtnl.specs.Messages.{messages_text}
-use Rattle.rtnl.proofs.Showing.{answers_messages, answers_refusal, one_more}
+use Rattle.rtnl.proofs.Refusing.{refuses}
+use Rattle.rtnl.proofs.Showing.{answers_messages, one_more}
 use Rattle.rtnl.proofs.show.push_datagram.Goals as goal
 
 pub returns-in_ok-push_messages-in-Ok : goal.returns-in_ok-push_messages-in-Ok
@@ -17,7 +18,7 @@ returns-in_ok-push_messages-in-Ok c = (
 pub returns-in_ok-push_refusal-in-Err : goal.returns-in_ok-push_refusal-in-Err
 returns-in_ok-push_refusal-in-Err c = (
   Err c.in-Err.error,
-  answers_refusal c.args.limits.now c.args.bytes.now c.read_datagram.result.result c.read_datagram.ensures.large c.in-Err.error c.in-Err.is c.in_ok-push_refusal-in-Err.ensures.refusal c.read_datagram.ensures.first,
+  refuses c.args.limits.now c.args.bytes.now c.read_datagram.result.result c.read_datagram.ensures.large c.in-Err.error c.in-Err.is c.in_ok-push_refusal-in-Err.ensures.refusal c.read_datagram.ensures.first,
   one_more _ _ _ _ _ c.in_ok-push_datagram_line.ensures c.in_ok-push_refusal-in-Err.ensures.text,
   refl,
 )
