@@ -1,9 +1,18 @@
 -- The lines of a recording, read one after another.
-use Rattle.std.proofs.Common.{◌≡◌, ℕ, ◌+◌, ◌<◌, List, [], ◌∷◌, ◌++◌, get_or, drop, length, Option, Some, None, Result, Ok, Err, refl, sym, subst, ◌∙◌, ap, append_assoc, append-nil, arith}
+use Rattle.std.proofs.Common.{rules, ◌≡◌, Bool, true, false, not, filter, ℕ, ◌+◌, ◌<◌, List, [], ◌∷◌, ◌++◌, get_or, drop, length, Option, Some, None, Result, Ok, Err, refl, sym, subst, ◌∙◌, ap, append_assoc, append-nil, arith}
 use Rattle.std.proofs.lemmas.List.{at_drop_more, at_drop_all}
+use Rattle.std.specs.List.{list_any}
 use Rattle.rtnl.specs.Lines.{Fails, datagrams_from, line_at, with_first, ◌>>=◌}
 use Rattle.rtnl.specs.declared.error.RunError.{RunError}
 use Rattle.rtnl.specs.declared.error.RunError.TheVariants.{BadLine, ReadFault, WriteFault, Memory}
+
+-- a list without what a filter takes out stays whole
+pub filter_none : (test : ℕ → Bool) (xs : List ℕ) → list_any test xs ≡ false → filter (λ x. not (test x)) xs ≡ xs
+filter_none test [] none = refl
+filter_none test (x ∷ xs) none = by_case (test x) refl (λ h. filter_none test xs h) where
+  by_case : (b : Bool) → test x ≡ b → (list_any test xs ≡ false → filter (λ y. not (test y)) xs ≡ xs) → filter (λ y. not (test y)) (x ∷ xs) ≡ x ∷ xs
+  by_case true is rest = let h : true ≡ false = search (rules, sym is, none) in absurd cc
+  by_case false is rest = rw is (ap (λ l. x ∷ l) (rest (rw is at none)))
 
 -- datagrams, and then those that are read
 abbrev pub with_front : List (List ℕ) → Result (List (List ℕ)) ℕ → Result (List (List ℕ)) ℕ

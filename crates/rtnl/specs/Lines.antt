@@ -23,18 +23,18 @@ abbrev pub is_comment : List ℕ → Bool
 is_comment [] = false
 is_comment (byte ∷ _) = byte == 35
 
--- the line is a comment, or empty but for blanks
-abbrev pub is_skipped : List ℕ → Bool
-is_skipped line = is_comment line || length (compact line) == 0
-
 -- decoded bytes, or the number of their line
 abbrev pub decoded : ℕ → Result (List ℕ) FromHexError → Result (Option (List ℕ)) ℕ
 decoded number (Ok bytes) = Ok (Some bytes)
 decoded number (Err _) = Err number
 
+-- the datagram that these digits of a line are, if there are any
+abbrev pub digits_at : ℕ → List ℕ → Result (Option (List ℕ)) ℕ
+digits_at number digits = if length digits == 0 then Ok None else decoded number (decode_of digits)
+
 -- the datagram of the line of this number, if it has one, or the number, if the line is bad
 abbrev pub line_at : ℕ → List ℕ → Result (Option (List ℕ)) ℕ
-line_at number line = if is_skipped line then Ok None else decoded number (decode_of (compact line))
+line_at number line = if is_comment line then Ok None else digits_at number (compact line)
 
 infixl 10 ◌>>=◌
 -- a step, and the next one if no line was bad so far
