@@ -73,8 +73,9 @@ pub(crate) fn read_datagrams(alloc: Global, input: &[u8]) -> Result<Vec<Vec<u8>>
     let mut number = 0;
     for line in input.split(|byte| *byte == b'\n') {
         number += 1;
-        if let Some(datagram) = read_line(alloc, number, line)? {
-            datagrams.push(datagram)?;
+        match read_line(alloc, number, line)? {
+            Some(datagram) => datagrams.push(datagram)?,
+            None => continue,
         }
     }
     Ok(datagrams)

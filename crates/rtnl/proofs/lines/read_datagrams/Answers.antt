@@ -15,19 +15,6 @@ returns-in_err-datagram c =
     let error = err_from_is_err_and c.from_residual.result c.from_residual.ensures.1 in
     rw (error.1, error.2) (failed_line _ _ _ _ _ _ at c.in_err-datagram.ensures c.loop-line.invariant.found)
 
-pub loop-line-preserved-in-Continue-branch-3 : goal.loop-line-preserved-in-Continue-branch-3
-loop-line-preserved-in-Continue-branch-3 c =
-    record {
-      can_next = search rules;
-      finite = search rules;
-      counted = omega (arith, length_push c.loop-line.yielded c.in-Some.line);
-      found =
-          let lines = YieldsList-from_slice_split _ is_newline c.args.input.now (cc) (cc) (cc) (λ x b q k. search (rules, tests)) in
-          let turn = YieldsList-turn lines c.loop-line.yielded _ c.loop-line.yielded_by _ _ c.in-Some.line c.in-Some.is c.next.ensures.steps in
-          let at = line_at_place _ c.loop-line.number _ _ c.loop-line.invariant.counted turn in
-          rw (c.in_ok-push.ensures.items, map_push) (next_line _ _ _ _ (Some c.in-Some-2.datagram.items) _ at (rw c.in-Some-2.is at c.in_ok-datagram.ensures) c.loop-line.invariant.found);
-    }
-
 pub loop-line-preserved : goal.loop-line-preserved
 loop-line-preserved c =
     record {
@@ -38,7 +25,20 @@ loop-line-preserved c =
           let lines = YieldsList-from_slice_split _ is_newline c.args.input.now (cc) (cc) (cc) (λ x b q k. search (rules, tests)) in
           let turn = YieldsList-turn lines c.loop-line.yielded _ c.loop-line.yielded_by _ _ c.in-Some.line c.in-Some.is c.next.ensures.steps in
           let at = line_at_place _ c.loop-line.number _ _ c.loop-line.invariant.counted turn in
-          next_line _ _ _ _ None _ at (rw c.in_default.is at c.in_ok-datagram.ensures) c.loop-line.invariant.found;
+          rw (c.in_ok-push-in-Some-2.ensures.items, map_push) (next_line _ _ _ _ (Some c.in-Some-2.datagram.items) _ at (rw c.in-Some-2.is at c.in_ok-datagram.ensures) c.loop-line.invariant.found);
+    }
+
+pub loop-line-preserved-in-None-2 : goal.loop-line-preserved-in-None-2
+loop-line-preserved-in-None-2 c =
+    record {
+      can_next = search rules;
+      finite = search rules;
+      counted = omega (arith, length_push c.loop-line.yielded c.in-Some.line);
+      found =
+          let lines = YieldsList-from_slice_split _ is_newline c.args.input.now (cc) (cc) (cc) (λ x b q k. search (rules, tests)) in
+          let turn = YieldsList-turn lines c.loop-line.yielded _ c.loop-line.yielded_by _ _ c.in-Some.line c.in-Some.is c.next.ensures.steps in
+          let at = line_at_place _ c.loop-line.number _ _ c.loop-line.invariant.counted turn in
+          next_line _ _ _ _ None _ at (rw c.in-None-2.is at c.in_ok-datagram.ensures) c.loop-line.invariant.found;
     }
 
 pub returns : goal.returns
