@@ -43,7 +43,8 @@ crates/nl_route/src/ndmsg.rt
 crates/rtnl/src/text/values.rt'
 
 same 'calls that answer a tally' "$(files_with '-> Tally<')" \
-  'crates/nl_attr/src/reading.rt
+  'crates/nl_attr/src/fault.rt
+crates/nl_attr/src/reading.rt
 crates/nl_frame/src/body.rt
 crates/nl_frame/src/reading.rt
 crates/nl_route/src/family.rt'

@@ -1,6 +1,7 @@
 //! What reading and writing refuse, and what they answer beside their results.
 
-ghost use Rattle.std.specs.Prelude.{◌≡◌};
+ghost use Rattle.std.specs.Prelude.{◌≡◌, IsOkAnd, MatchResult, Err};
+ghost use Rattle.std.specs.Result.{ForOk};
 
 use std::alloc::{AllocError, AllocFailed};
 use thiserror::Error;
@@ -171,4 +172,19 @@ impl LimitFault {
 pub struct Tally<T, E> {
     pub result: Result<T, E>,
     pub visits: u64,
+}
+
+impl<T, E> Tally<T, E> {
+    /// What was read, made into something else, with the same visits. A refusal stays as it is.
+    pub fn map<U, F: FnOnce(T) -> U>(self, make: F) -> Tally<U, E>
+        requires { ForOk self.result (F.pre make) }
+        ensures cases { MatchResult self.result (λ x. IsOkAnd result.result (F.post make x)) (λ e. result.result ≡ Err e) }
+        ensures visits { result.visits ≡ self.visits }
+    {
+        let Tally { result, visits } = self;
+        Tally {
+            result: result.map(make),
+            visits,
+        }
+    }
 }

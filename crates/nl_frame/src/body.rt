@@ -129,42 +129,10 @@ fn read_family(
     let depth = limits.depth();
     let order = limits.order();
     match group {
-        Group::Link => {
-            let Tally { result, visits } = Link::read_body_ordered(
-                alloc, bytes, base, depth, order,
-            );
-            Tally {
-                result: result.map(Body::Link),
-                visits,
-            }
-        }
-        Group::Addr => {
-            let Tally { result, visits } = Addr::read_body_ordered(
-                alloc, bytes, base, depth, order,
-            );
-            Tally {
-                result: result.map(Body::Addr),
-                visits,
-            }
-        }
-        Group::Route => {
-            let Tally { result, visits } = Route::read_body_ordered(
-                alloc, bytes, base, depth, order,
-            );
-            Tally {
-                result: result.map(Body::Route),
-                visits,
-            }
-        }
-        Group::Neigh => {
-            let Tally { result, visits } = Neigh::read_body_ordered(
-                alloc, bytes, base, depth, order,
-            );
-            Tally {
-                result: result.map(Body::Neigh),
-                visits,
-            }
-        }
+        Group::Link => Link::read_body_ordered(alloc, bytes, base, depth, order).map(Body::Link),
+        Group::Addr => Addr::read_body_ordered(alloc, bytes, base, depth, order).map(Body::Addr),
+        Group::Route => Route::read_body_ordered(alloc, bytes, base, depth, order).map(Body::Route),
+        Group::Neigh => Neigh::read_body_ordered(alloc, bytes, base, depth, order).map(Body::Neigh),
     }
 }
 

@@ -77,7 +77,7 @@ impl<H: Head> Family<H> {
         ensures kept { IfOk result.result (λ b. H.SIZE + kept (attrs_view b.attrs.items) ≤ length bytes.now) }
     {
         let head = H::read_front(bytes, order);
-        let Tally { result, visits } = read_list_ordered(
+        read_list_ordered(
             alloc,
             &bytes[H::SIZE..],
             base + H::SIZE as u32,
@@ -85,16 +85,7 @@ impl<H: Head> Family<H> {
             0,
             depth,
             order,
-        );
-        match result {
-            Ok(attrs) => Tally {
-                result: Ok(Family { head, attrs }),
-                visits,
-            },
-            Err(e) => Tally {
-                result: Err(e),
-                visits,
-            },
-        }
+        )
+        .map(|attrs| Family { head, attrs })
     }
 }
