@@ -1,10 +1,10 @@
 //! Bodies of the families in both byte orders, read at a base.
 
-use crate::vectors::{bytes_of, two_hops};
+use crate::reading::{addr_in, link_in, neigh_in, route_in};
+use crate::vectors::{bytes_of, ensure, two_hops};
 use nl_attr::{Depth, Fault, ListError, Order, Reason};
-use nl_route::{Addr, Link, Neigh, Route};
+use nl_route::{Addr, Route};
 use std::alloc::Global;
-use std::process::Abort;
 use std::test::Fail;
 
 /// A route by two next hops, its head and its attributes.
@@ -14,128 +14,109 @@ const ROUTE: &str =
 const ROUTE_BIG: &str =
     "02000000 fe030001 00000000 00240009 00100000 00000002 00080005 c0000201 00100001 00000003 00080005 c0000202";
 
-fn check_route(rt: &impl Abort, alloc: Global, text: &str, order: Order) -> Result<(), Fail> {
+fn reads_two_hops(alloc: Global, text: &str, order: Order) -> Result<(), Fail> {
     let bytes = bytes_of(alloc, text)?;
-    assert!(rt; bytes.len() >= 12);
+    if bytes.len() < 12 {
+        return Err(Fail::new("no head"));
+    }
     let read = Route::read_body_ordered(alloc, bytes.as_slice(), 16, Depth::new(2)?, order);
-    assert_eq!(rt; read.visits, 84);
     let route = read.result?;
-    assert_eq!(rt; route.head.table, 254);
-    assert!(rt; route.attrs == two_hops(alloc)?);
-    assert_eq!(rt; route.hops().len(), 2);
+    let attrs = two_hops(alloc)?;
+    let is_so = route.head.table == 254 && route.attrs == attrs && route.hops().len() == 2;
+    ensure(is_so && read.visits == 84, text)
+}
+
+fn two_hops_are_too_deep(alloc: Global, text: &str, order: Order) -> Result<(), Fail> {
+    let bytes = bytes_of(alloc, text)?;
+    if bytes.len() < 12 {
+        return Err(Fail::new("no head"));
+    }
     let read = Route::read_body_ordered(alloc, bytes.as_slice(), 16, Depth::new(1)?, order);
-    assert_eq!(rt; read.visits, 36);
+    let refusal = read.result.err();
     let fault = Fault {
         place: 28,
         reason: Reason::TooDeep,
     };
-    assert_eq!(rt; read.result.err(), Some(ListError::Layout(fault)));
-    Ok(())
+    let is_so = refusal == Some(ListError::Layout(fault));
+    ensure(is_so && read.visits == 36, text)
 }
 
 #[test]
 fn a_route_by_two_hops(rt: HostRuntime) -> Result<(), Fail> {
-    check_route(&rt, rt.alloc(), ROUTE, Order::Little)?;
-    check_route(&rt, rt.alloc(), ROUTE_BIG, Order::Big)
+    let alloc = rt.alloc();
+    reads_two_hops(alloc, ROUTE, Order::Little)?;
+    reads_two_hops(alloc, ROUTE_BIG, Order::Big)?;
+    two_hops_are_too_deep(alloc, ROUTE, Order::Little)?;
+    two_hops_are_too_deep(alloc, ROUTE_BIG, Order::Big)
+}
+
+fn reads_cubic(alloc: Global, text: &str, order: Order) -> Result<(), Fail> {
+    let (route, visits) = route_in(alloc, text, order)?;
+    let metric = route.metrics().first().ok_or("a metric")?;
+    let is_so = metric.number == 16 && metric.text() == Some(b"cubic".as_slice());
+    ensure(is_so && visits == 25, text)
 }
 
 #[test]
 fn metrics_of_a_route(rt: HostRuntime) -> Result<(), Fail> {
-    let alloc = rt.alloc();
-    for (text, order) in [
-        (
-            "02000000 fe030001 00000000 0d000800 09001000 6375626963 000000",
-            Order::Little,
-        ),
-        (
-            "02000000 fe030001 00000000 000d0008 00090010 6375626963 000000",
-            Order::Big,
-        ),
-    ] {
-        let bytes = bytes_of(alloc, text)?;
-        assert!(rt; bytes.len() >= 12);
-        let read = Route::read_body_ordered(alloc, bytes.as_slice(), 0, Depth::standard(), order);
-        assert_eq!(rt; read.visits, 25);
-        let route = read.result?;
-        let metric = route.metrics().first().ok_or("a metric")?;
-        assert_eq!(rt; metric.number, 16);
-        assert_eq!(rt; metric.text(), Some(b"cubic".as_slice()));
-    }
-    Ok(())
+    let little = "02000000 fe030001 00000000 0d000800 09001000 6375626963 000000";
+    let big = "02000000 fe030001 00000000 000d0008 00090010 6375626963 000000";
+    reads_cubic(rt.alloc(), little, Order::Little)?;
+    reads_cubic(rt.alloc(), big, Order::Big)
+}
+
+fn is_of_loopback(addr: &Addr) -> bool {
+    let host = Some([127, 0, 0, 1].as_slice());
+    addr.head.index == 1
+        && addr.address() == host
+        && addr.local() == host
+        && addr.label() == Some(b"lo".as_slice())
+}
+
+fn reads_loopback(alloc: Global, text: &str, order: Order) -> Result<(), Fail> {
+    let (addr, visits) = addr_in(alloc, text, order)?;
+    ensure(is_of_loopback(&addr) && visits == 24, text)
 }
 
 #[test]
 fn the_loopback_address(rt: HostRuntime) -> Result<(), Fail> {
-    let alloc = rt.alloc();
-    for (text, order) in [
-        (
-            "020880fe 01000000 08000100 7f000001 08000200 7f000001 07000300 6c6f0000",
-            Order::Little,
-        ),
-        (
-            "020880fe 00000001 00080001 7f000001 00080002 7f000001 00070003 6c6f0000",
-            Order::Big,
-        ),
-    ] {
-        let bytes = bytes_of(alloc, text)?;
-        assert!(rt; bytes.len() >= 8);
-        let read = Addr::read_body_ordered(alloc, bytes.as_slice(), 0, Depth::standard(), order);
-        assert_eq!(rt; read.visits, 24);
-        let addr = read.result?;
-        assert_eq!(rt; addr.head.index, 1);
-        let host = [127, 0, 0, 1];
-        assert_eq!(rt; addr.address().ok_or("an address")?, host.as_slice());
-        assert_eq!(rt; addr.local().ok_or("a local address")?, host.as_slice());
-        assert_eq!(rt; addr.label().ok_or("a label")?, b"lo".as_slice());
-    }
-    Ok(())
+    let little = "020880fe 01000000 08000100 7f000001 08000200 7f000001 07000300 6c6f0000";
+    let big = "020880fe 00000001 00080001 7f000001 00080002 7f000001 00070003 6c6f0000";
+    reads_loopback(rt.alloc(), little, Order::Little)?;
+    reads_loopback(rt.alloc(), big, Order::Big)
+}
+
+fn reads_neighbour(alloc: Global, text: &str, order: Order) -> Result<(), Fail> {
+    let (neigh, visits) = neigh_in(alloc, text, order)?;
+    let station = Some([2, 0, 0, 0, 0, 1].as_slice());
+    let is_so = neigh.head.ifindex == 2 && neigh.state() == 2 && neigh.lladdr() == station;
+    ensure(is_so && visits == 32, text)
 }
 
 #[test]
 fn a_neighbour(rt: HostRuntime) -> Result<(), Fail> {
-    let alloc = rt.alloc();
-    for (text, order) in [
-        (
-            "0a000000 02000000 02008001 14000100 fe800000 00000000 00000000 00000001 0a000200 02000000 00010000",
-            Order::Little,
-        ),
-        (
-            "0a000000 00000002 00028001 00140001 fe800000 00000000 00000000 00000001 000a0002 02000000 00010000",
-            Order::Big,
-        ),
-    ] {
-        let bytes = bytes_of(alloc, text)?;
-        assert!(rt; bytes.len() >= 12);
-        let read = Neigh::read_body_ordered(alloc, bytes.as_slice(), 0, Depth::standard(), order);
-        assert_eq!(rt; read.visits, 32);
-        let neigh = read.result?;
-        assert_eq!(rt; neigh.head.ifindex, 2);
-        assert_eq!(rt; neigh.state(), 2);
-        assert_eq!(rt; neigh.lladdr(), Some([2, 0, 0, 0, 0, 1].as_slice()));
-    }
-    Ok(())
+    let little =
+        "0a000000 02000000 02008001 14000100 fe800000 00000000 00000000 00000001 0a000200 02000000 00010000";
+    let big =
+        "0a000000 00000002 00028001 00140001 fe800000 00000000 00000000 00000001 000a0002 02000000 00010000";
+    reads_neighbour(rt.alloc(), little, Order::Little)?;
+    reads_neighbour(rt.alloc(), big, Order::Big)
+}
+
+fn reads_first_name(alloc: Global, text: &str, order: Order) -> Result<(), Fail> {
+    let (link, _) = link_in(alloc, text, order)?;
+    let is_so = link.head.flags == 0x10049
+        && link.name() == Some(b"a".as_slice())
+        && link.mtu_ordered(order).is_none();
+    ensure(is_so, text)
 }
 
 #[test]
 fn the_first_of_two_names(rt: HostRuntime) -> Result<(), Fail> {
-    let alloc = rt.alloc();
-    for (text, order) in [
-        (
-            "00000403 01000000 49000100 00000000 06000300 61000000 06000300 62000000 06000400 dc050000",
-            Order::Little,
-        ),
-        (
-            "00000304 00000001 00010049 00000000 00060003 61000000 00060003 62000000 00060004 05dc0000",
-            Order::Big,
-        ),
-    ] {
-        let bytes = bytes_of(alloc, text)?;
-        assert!(rt; bytes.len() >= 16);
-        let read = Link::read_body_ordered(alloc, bytes.as_slice(), 0, Depth::standard(), order);
-        let link = read.result?;
-        assert_eq!(rt; link.head.flags, 0x10049);
-        assert_eq!(rt; link.name(), Some(b"a".as_slice()));
-        assert_eq!(rt; link.mtu_ordered(order), None);
-    }
-    Ok(())
+    let little =
+        "00000403 01000000 49000100 00000000 06000300 61000000 06000300 62000000 06000400 dc050000";
+    let big =
+        "00000304 00000001 00010049 00000000 00060003 61000000 00060003 62000000 00060004 05dc0000";
+    reads_first_name(rt.alloc(), little, Order::Little)?;
+    reads_first_name(rt.alloc(), big, Order::Big)
 }

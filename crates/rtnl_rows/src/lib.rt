@@ -18,6 +18,8 @@ mod names;
 #[cfg(test)]
 mod numbers;
 #[cfg(test)]
+mod reading;
+#[cfg(test)]
 mod regions;
 #[cfg(test)]
 mod shown;

@@ -10,6 +10,11 @@ use std::test::Fail;
 /// The longest region or datagram that is read.
 pub const LONGEST: usize = 1_048_576;
 
+/// A test goes on only where this holds.
+pub(crate) fn ensure(holds: bool, what: &str) -> Result<(), Fail> {
+    if holds { Ok(()) } else { Err(Fail::new(what)) }
+}
+
 /// The bytes of hexadecimal text, in which blanks are for reading.
 pub(crate) fn bytes_of(alloc: Global, text: &str) -> Result<Vec<u8>, Fail>
     ensures { IfOk result (λ v. vec_len v ≤ LONGEST) }
