@@ -3,7 +3,6 @@
 use nl_attr::{Ctx, Order};
 use nl_frame::{Form, Group};
 use nl_route::{AddrHead, Head, LinkHead, NeighHead, RouteHead};
-use std::test::Fail;
 
 #[test]
 fn types_have_forms(rt: HostRuntime) {
@@ -28,30 +27,45 @@ fn types_have_forms(rt: HostRuntime) {
         (32, Form::Other, 0),
     ];
     for (kind, form, least) in cases {
-        assert_eq!(rt; Form::of(kind), form, "{kind}");
-        assert_eq!(rt; form.least(), least, "{kind}");
+        assert!(rt; Form::of(kind) == form && form.least() == least, "{kind}");
     }
 }
 
-#[test]
-fn heads_stand_at_the_front(rt: HostRuntime) -> Result<(), Fail> {
-    assert_eq!(rt; LinkHead::context(), Ctx::Link);
-    assert_eq!(rt; AddrHead::context(), Ctx::Addr);
-    assert_eq!(rt; RouteHead::context(), Ctx::Route);
-    assert_eq!(rt; NeighHead::context(), Ctx::Neigh);
+fn contexts_are_those_of_families() -> bool {
+    LinkHead::context() == Ctx::Link
+        && AddrHead::context() == Ctx::Addr
+        && RouteHead::context() == Ctx::Route
+        && NeighHead::context() == Ctx::Neigh
+}
+
+fn link_stands_at_the_front() -> bool {
     let bytes = [0, 0, 3, 4, 0, 0, 0, 1, 0, 1, 0, 0x49, 0, 0, 0, 0, 0xff];
     let link = LinkHead::read_front(&bytes, Order::Big);
-    assert_eq!(rt; (link.hardware, link.index, link.flags), (772, 1, 0x10049));
+    link.hardware == 772 && link.index == 1 && link.flags == 0x10049
+}
+
+fn addr_stands_at_the_front() -> bool {
     let addr = AddrHead::read_front(&[2, 8, 0x80, 0xfe, 1, 0, 0, 0], Order::Little);
-    assert_eq!(rt; (addr.prefixlen, addr.scope, addr.index), (8, 254, 1));
+    addr.prefixlen == 8 && addr.scope == 254 && addr.index == 1
+}
+
+fn route_stands_at_the_front() -> bool {
     let route = [2, 24, 0, 0, 254, 3, 0, 1, 0, 0, 1, 0];
     let route = RouteHead::read_front(&route, Order::Little);
-    assert_eq!(rt;
-        (route.dst_len, route.table, route.flags),
-        (24, 254, 0x10000)
-    );
+    route.dst_len == 24 && route.table == 254 && route.flags == 0x10000
+}
+
+fn neigh_stands_at_the_front() -> bool {
     let neigh = [10, 0, 0, 0, 0, 0, 0, 2, 0, 0x80, 0x80, 1];
     let neigh = NeighHead::read_front(&neigh, Order::Big);
-    assert_eq!(rt; (neigh.ifindex, neigh.state, neigh.flags), (2, 0x80, 0x80));
-    Ok(())
+    neigh.ifindex == 2 && neigh.state == 0x80 && neigh.flags == 0x80
+}
+
+#[test]
+fn heads_stand_at_the_front(rt: HostRuntime) {
+    assert!(rt; contexts_are_those_of_families());
+    assert!(rt; link_stands_at_the_front());
+    assert!(rt; addr_stands_at_the_front());
+    assert!(rt; route_stands_at_the_front());
+    assert!(rt; neigh_stands_at_the_front());
 }

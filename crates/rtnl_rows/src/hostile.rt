@@ -1,10 +1,9 @@
 //! Truncated datagrams, and datagrams of which one length was changed.
 
-use crate::vectors::{DONE, ETHERNET, LOOPBACK, TWO_HOPS_ROUTE, bytes_of};
+use crate::vectors::{DONE, ETHERNET, LOOPBACK, TWO_HOPS_ROUTE, bytes_of, ensure};
 use nl_attr::{Fault, Reason};
 use nl_frame::{Body, Limits, Message, ReadError, read_datagram};
 use std::alloc::Global;
-use std::process::Abort;
 use std::test::Fail;
 
 /// A loopback link, an ethernet link, and the end, in one datagram.
@@ -15,39 +14,55 @@ fn dump(alloc: Global) -> Result<Vec<u8>, Fail> {
     Ok(bytes)
 }
 
+fn bad_length(place: u32) -> ReadError {
+    let reason = Reason::BadLength;
+    ReadError::Layout(Fault { place, reason })
+}
+
+/// What is read of so many bytes of the dump, where its last message that is whole in them ends at
+/// `start`: so many messages where nothing is left, or the refusal of the rest.
+fn is_prefix_answer(
+    answer: Result<Vec<Message>, ReadError>,
+    end: u32,
+    start: u32,
+    count: usize,
+) -> bool {
+    let left = end.saturating_sub(start);
+    let reason = if left <= 15 {
+        Reason::Cut
+    } else {
+        Reason::BadLength
+    };
+    match answer {
+        Ok(list) => left == 0 && list.len() == count,
+        Err(error) => left > 0
+            && error
+                == ReadError::Layout(Fault {
+                    place: start,
+                    reason,
+                }),
+    }
+}
+
+fn check_prefix(alloc: Global, prefix: &[u8], end: u32) -> bool {
+    let (start, visits, count) = match end {
+        0..48 => (0, 0, 0),
+        48..92 => (48, 16, 1),
+        92..112 => (92, 28, 2),
+        _ => (112, 28, 3),
+    };
+    let read = read_datagram(alloc, prefix, &Limits::standard());
+    is_prefix_answer(read.result, end, start, count) && read.visits == visits
+}
+
 #[test]
 fn each_prefix_of_a_dump(rt: HostRuntime) -> Result<(), Fail> {
     let alloc = rt.alloc();
     let bytes = dump(alloc)?;
-    assert_eq!(rt; bytes.len(), 112);
+    ensure(bytes.len() == 112, "a dump of 112 bytes")?;
     for (size, end) in (0..=112).zip(0u32..) {
         let prefix = bytes.as_slice().get(..size).ok_or("a prefix")?;
-        let read = read_datagram(alloc, prefix, &Limits::standard());
-        let (start, visits, count) = match end {
-            0..48 => (0, 0, 0),
-            48..92 => (48, 16, 1),
-            92..112 => (92, 28, 2),
-            _ => (112, 28, 3),
-        };
-        assert_eq!(rt; read.visits, visits, "{size} bytes");
-        if end == start {
-            assert_eq!(rt; read.result?.len(), count, "{size} bytes");
-            continue;
-        }
-        let reason = if end.saturating_sub(start) <= 15 {
-            Reason::Cut
-        } else {
-            Reason::BadLength
-        };
-        let fault = Fault {
-            place: start,
-            reason,
-        };
-        assert_eq!(rt;
-            read.result.err(),
-            Some(ReadError::Layout(fault)),
-            "{size} bytes"
-        );
+        assert!(rt; check_prefix(alloc, prefix, end), "{size} bytes");
     }
     Ok(())
 }
@@ -74,29 +89,32 @@ struct Field {
     greatest: (u32, u64),
 }
 
-fn check_field(rt: &impl Abort, alloc: Global, text: &str, field: &Field) -> Result<(), Fail> {
-    for (value, (place, visits)) in [
+/// A datagram with these bytes at a place has a bad length.
+fn is_refused(
+    alloc: Global,
+    text: &str,
+    at: usize,
+    with: &[u8],
+    (place, visits): (u32, u64),
+) -> Result<(), Fail> {
+    let bytes = changed(alloc, text, at, with)?;
+    let read = read_datagram(alloc, bytes.as_slice(), &Limits::standard());
+    let refusal = read.result.err();
+    ensure(
+        refusal == Some(bad_length(place)) && read.visits == visits,
+        text,
+    )
+}
+
+fn check_field(alloc: Global, text: &str, field: &Field) -> Result<(), Fail> {
+    for (value, answer) in [
         ([0, 0, 0, 0], field.least),
         ([3, 0, 0, 0], field.least),
         ([15, 0, 0, 0], field.middle),
         ([255, 255, 255, 255], field.greatest),
     ] {
         let with = value.as_slice().get(..field.width).ok_or("a width")?;
-        let bytes = changed(alloc, text, field.place, with)?;
-        let read = read_datagram(alloc, bytes.as_slice(), &Limits::standard());
-        assert_eq!(rt; read.visits, visits, "{} at {}", value[0], field.place);
-        let fault = Fault {
-            place,
-            reason: Reason::BadLength,
-        };
-        let answer = read.result.err();
-        assert_eq!(rt;
-            answer,
-            Some(ReadError::Layout(fault)),
-            "{} at {}",
-            value[0],
-            field.place
-        );
+        is_refused(alloc, text, field.place, with, answer)?;
     }
     Ok(())
 }
@@ -114,40 +132,35 @@ fn at(place: usize, width: usize, all: (u32, u64)) -> Field {
 #[test]
 fn each_length_of_a_link(rt: HostRuntime) -> Result<(), Fail> {
     for field in &[at(0, 4, (0, 0)), at(40, 2, (40, 8))] {
-        check_field(&rt, rt.alloc(), LOOPBACK, field)?;
+        check_field(rt.alloc(), LOOPBACK, field)?;
     }
     Ok(())
+}
+
+fn has_a_long_name(message: &Message) -> bool {
+    let Body::Link(link) = &message.body else {
+        return false;
+    };
+    match link.attrs.as_slice() {
+        [name] => {
+            name.number == 3 && name.bytes() == Some(b"lo\0\0\x08\0\x04\0\0\0\x01".as_slice())
+        }
+        _ => false,
+    }
 }
 
 /// The name of a link, whose length may reach over the attribute behind it.
 #[test]
 fn the_length_of_a_name(rt: HostRuntime) -> Result<(), Fail> {
     let alloc = rt.alloc();
-    for with in [[0, 0], [3, 0], [255, 255]] {
-        let bytes = changed(alloc, LOOPBACK, 32, &with)?;
-        let read = read_datagram(alloc, bytes.as_slice(), &Limits::standard());
-        let fault = Fault {
-            place: 32,
-            reason: Reason::BadLength,
-        };
-        assert_eq!(rt; read.visits, 0);
-        assert_eq!(rt; read.result.err(), Some(ReadError::Layout(fault)));
-    }
+    is_refused(alloc, LOOPBACK, 32, &[0, 0], (32, 0))?;
+    is_refused(alloc, LOOPBACK, 32, &[3, 0], (32, 0))?;
+    is_refused(alloc, LOOPBACK, 32, &[255, 255], (32, 0))?;
     let bytes = changed(alloc, LOOPBACK, 32, &[15, 0])?;
     let read = read_datagram(alloc, bytes.as_slice(), &Limits::standard());
-    assert_eq!(rt; read.visits, 16);
-    let list: Vec<Message> = read.result?;
-    let Body::Link(link) = &list.first().ok_or("a message")?.body else {
-        return Err(Fail::new("a link"));
-    };
-    assert_eq!(rt; link.attrs.len(), 1);
-    let name = link.attrs.first().ok_or("a name")?;
-    assert_eq!(rt; name.number, 3);
-    assert_eq!(rt;
-        name.bytes(),
-        Some(b"lo\0\0\x08\0\x04\0\0\0\x01".as_slice())
-    );
-    Ok(())
+    let list = read.result?;
+    let message = list.first().ok_or("a message")?;
+    ensure(read.visits == 16 && has_a_long_name(message), "a long name")
 }
 
 #[test]
@@ -170,7 +183,7 @@ fn each_length_of_a_route(rt: HostRuntime) -> Result<(), Fail> {
         at(56, 2, (56, 76)),
     ];
     for field in &fields {
-        check_field(&rt, rt.alloc(), TWO_HOPS_ROUTE, field)?;
+        check_field(rt.alloc(), TWO_HOPS_ROUTE, field)?;
     }
     Ok(())
 }

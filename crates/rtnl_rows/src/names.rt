@@ -36,7 +36,7 @@ message 17 dellink flags 0x0002 MULTI seq 1 port 12345
       attr 4 SLAVE_KIND - text n4
       attr 5 SLAVE_DATA - hex 05ab
 ";
-    is_shown(&rt, rt.alloc(), input, text)
+    is_shown(rt.alloc(), input, text)
 }
 
 /// A message with each named attribute of addresses once.
@@ -57,7 +57,7 @@ message 21 deladdr flags 0x0002 MULTI seq 1 port 12345
     attr 8 FLAGS - u32 65544
     attr 9 RT_PRIORITY - u32 65545
 ";
-    is_shown(&rt, rt.alloc(), input, text)
+    is_shown(rt.alloc(), input, text)
 }
 
 /// A message with each named attribute of routes once.
@@ -106,7 +106,7 @@ message 25 delroute flags 0x0002 MULTI seq 1 port 12345
       attr 16 CC_ALGO - text n16
     attr 9 MULTIPATH - hops 0
 ";
-    is_shown(&rt, rt.alloc(), input, text)
+    is_shown(rt.alloc(), input, text)
 }
 
 /// A message with each named attribute of neighbours once.
@@ -127,7 +127,7 @@ message 29 delneigh flags 0x0002 MULTI seq 1 port 12345
     attr 8 IFINDEX - u32 65544
     attr 9 MASTER - u32 65545
 ";
-    is_shown(&rt, rt.alloc(), input, text)
+    is_shown(rt.alloc(), input, text)
 }
 
 /// A message of each named type, with every bit of its flags and its head set.
@@ -213,7 +213,7 @@ datagram 17 bytes 16
 message 3 done flags 0xffff REQUEST,MULTI,ACK,ECHO,DUMP_INTR,DUMP_FILTERED seq 1 port 12345
   done status 0 tail -
 ";
-    is_shown(&rt, rt.alloc(), input, text)
+    is_shown(rt.alloc(), input, text)
 }
 
 /// Texts, numbers and addresses of other sizes than their forms have, empty ones, and ones in network
@@ -245,7 +245,7 @@ message 16 newlink flags 0x0002 MULTI seq 1 port 12345
     attr 16 OPERSTATE net hex 06
     attr 1 ADDRESS - hex -
 ";
-    is_shown(&rt, alloc, input, text)?;
+    is_shown(alloc, input, text)?;
     let input =
         "740000001c000200010000003930000000000000000000000000000014000100000102030405060708090a0b0c0d0e0f040001000700010001020300080001400a00ff01060006000102000006000640010200000500060001000000060005000102000006000540010200000800050001020304";
     let text = "datagram 1 bytes 116
@@ -262,5 +262,5 @@ message 28 newneigh flags 0x0002 MULTI seq 1 port 12345
     attr 5 VLAN net hex 0102
     attr 5 VLAN - hex 01020304
 ";
-    is_shown(&rt, alloc, input, text)
+    is_shown(alloc, input, text)
 }

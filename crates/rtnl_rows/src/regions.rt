@@ -1,9 +1,8 @@
 //! Regions of attributes: what is read, first faults and visits, in both byte orders.
 
-use crate::vectors::{TWO_HOPS, TWO_HOPS_BIG, bytes_and_zeros};
-use nl_attr::{Ctx, Depth, Fault, ListError, Order, Reason, read_list_ordered};
+use crate::vectors::{TWO_HOPS, TWO_HOPS_BIG, bytes_and_zeros, ensure};
+use nl_attr::{Attr, Ctx, Depth, Fault, ListError, Order, Reason, read_list_ordered};
 use std::alloc::Global;
-use std::process::Abort;
 use std::test::Fail;
 
 /// A region to read from level 0 on, and what reading must answer: how many attributes, or the place
@@ -20,41 +19,30 @@ struct Case {
     visits: u64,
 }
 
-fn check(rt: &impl Abort, alloc: Global, order: Order, case: &Case) -> Result<(), Fail> {
-    let text = match order {
-        Order::Little => case.little,
-        Order::Big => case.big,
-    };
-    let bytes = bytes_and_zeros(alloc, text, case.zeros)?;
-    let depth = Depth::new(case.depth)?;
-    assert!(rt; case.base <= 1_048_576);
-    let read = read_list_ordered(
-        alloc,
-        bytes.as_slice(),
-        case.base,
-        case.ctx,
-        0,
-        depth,
-        order,
-    );
-    assert_eq!(rt; read.visits, case.visits, "visits of {text}");
-    match (read.result, case.answer) {
-        (Ok(list), Ok(count)) => {
-            assert_eq!(rt; list.len(), count, "{text}");
-            Ok(())
-        }
-        (Err(ListError::Layout(fault)), Err((place, reason))) => {
-            assert!(rt; fault == Fault { place, reason }, "{text}");
-            Ok(())
-        }
-        _ => Err(Fail::new(text)),
+fn is_answer(found: Result<Vec<Attr>, ListError>, answer: Result<usize, (u32, Reason)>) -> bool {
+    match (found, answer) {
+        (Ok(list), Ok(count)) => list.len() == count,
+        (Err(ListError::Layout(fault)), Err((place, reason))) => fault == Fault { place, reason },
+        _ => false,
     }
 }
 
-fn check_both(rt: &impl Abort, alloc: Global, cases: &[Case]) -> Result<(), Fail> {
+fn check(alloc: Global, text: &str, order: Order, case: &Case) -> Result<(), Fail> {
+    let bytes = bytes_and_zeros(alloc, text, case.zeros)?;
+    let depth = Depth::new(case.depth)?;
+    if case.base > 1_048_576 {
+        return Err(Fail::new("a base too far"));
+    }
+    let (bytes, base) = (bytes.as_slice(), case.base);
+    let read = read_list_ordered(alloc, bytes, base, case.ctx, 0, depth, order);
+    let is_so = is_answer(read.result, case.answer);
+    ensure(is_so && read.visits == case.visits, text)
+}
+
+fn check_both(alloc: Global, cases: &[Case]) -> Result<(), Fail> {
     for case in cases {
-        check(rt, alloc, Order::Little, case)?;
-        check(rt, alloc, Order::Big, case)?;
+        check(alloc, case.little, Order::Little, case)?;
+        check(alloc, case.big, Order::Big, case)?;
     }
     Ok(())
 }
@@ -97,7 +85,7 @@ fn next_hops_and_metrics(rt: HostRuntime) -> Result<(), Fail> {
         route(none.0, none.1, 1, at(0, Reason::TooDeep), 4),
         route(none.0, none.1, 2, Ok(1), 4),
     ];
-    check_both(&rt, rt.alloc(), &cases)
+    check_both(rt.alloc(), &cases)
 }
 
 #[test]
@@ -140,5 +128,5 @@ fn nested_lists(rt: HostRuntime) -> Result<(), Fail> {
         plain("", "", 0, 0, Ok(0), 0),
         plain("", "", 3, 0, at(0, Reason::Cut), 0),
     ];
-    check_both(&rt, rt.alloc(), &cases)
+    check_both(rt.alloc(), &cases)
 }

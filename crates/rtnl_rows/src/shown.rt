@@ -1,16 +1,14 @@
 //! What `run_show` prints of whole inputs.
 
-use crate::vectors::{DONE, DONE_BIG, LOOPBACK, LOOPBACK_BIG, TWO_HOPS_ROUTE};
+use crate::vectors::{DONE, DONE_BIG, LOOPBACK, LOOPBACK_BIG, TWO_HOPS_ROUTE, ensure};
 use nl_attr::Order;
 use rtnl::frame::Limits;
 use rtnl::{RunError, SliceSource, VecSink, Verdict, run_show};
 use std::alloc::Global;
-use std::process::Abort;
 use std::test::Fail;
 
 /// An input is shown as this text, with this verdict.
 fn shows(
-    rt: &impl Abort,
     alloc: Global,
     order: Order,
     input: &str,
@@ -21,19 +19,12 @@ fn shows(
     let mut source = SliceSource::new(input.as_bytes());
     let mut sink = VecSink::new(alloc);
     let answer = run_show(alloc, &mut source, &mut sink, &limits)?;
-    let written = str::from_utf8(sink.bytes.as_slice())?;
-    assert_eq!(rt; written, text);
-    assert_eq!(rt; answer, verdict);
-    Ok(())
+    let is_text = sink.bytes.as_slice() == text.as_bytes();
+    ensure(is_text && answer == verdict, text)
 }
 
-pub(crate) fn is_shown(
-    rt: &impl Abort,
-    alloc: Global,
-    input: &str,
-    text: &str,
-) -> Result<(), Fail> {
-    shows(rt, alloc, Order::Little, input, text, Verdict::Clean)
+pub(crate) fn is_shown(alloc: Global, input: &str, text: &str) -> Result<(), Fail> {
+    shows(alloc, Order::Little, input, text, Verdict::Clean)
 }
 
 const DONE_TEXT: &str = "datagram 1 bytes 20
@@ -60,8 +51,8 @@ message 24 newroute flags 0x0002 MULTI seq 1 port 12345
 
 #[test]
 fn a_link_and_a_route(rt: HostRuntime) -> Result<(), Fail> {
-    is_shown(&rt, rt.alloc(), LOOPBACK, LOOPBACK_TEXT)?;
-    is_shown(&rt, rt.alloc(), TWO_HOPS_ROUTE, TWO_HOPS_TEXT)
+    is_shown(rt.alloc(), LOOPBACK, LOOPBACK_TEXT)?;
+    is_shown(rt.alloc(), TWO_HOPS_ROUTE, TWO_HOPS_TEXT)
 }
 
 #[test]
@@ -75,7 +66,7 @@ message 20 newaddr flags 0x0002 MULTI seq 1 port 12345
     attr 2 LOCAL - ipv4 127.0.0.1
     attr 3 LABEL - text lo
 ";
-    is_shown(&rt, rt.alloc(), input, text)
+    is_shown(rt.alloc(), input, text)
 }
 
 #[test]
@@ -88,7 +79,7 @@ message 28 newneigh flags 0x0002 MULTI seq 1 port 12345
     attr 1 DST - ipv6 fe80:0000:0000:0000:0000:0000:0000:0001
     attr 2 LLADDR - hex 020000000001
 ";
-    is_shown(&rt, rt.alloc(), input, text)
+    is_shown(rt.alloc(), input, text)
 }
 
 #[test]
@@ -101,7 +92,7 @@ message 24 newroute flags 0x0002 MULTI seq 1 port 12345
     attr 8 METRICS - list 1
       attr 16 CC_ALGO - text cubic
 ";
-    is_shown(&rt, rt.alloc(), input, text)
+    is_shown(rt.alloc(), input, text)
 }
 
 #[test]
@@ -111,7 +102,7 @@ fn another_type(rt: HostRuntime) -> Result<(), Fail> {
 message 32 other flags 0x0002 MULTI seq 1 port 12345
   bytes 02000000fe00000100000000
 ";
-    is_shown(&rt, rt.alloc(), input, text)
+    is_shown(rt.alloc(), input, text)
 }
 
 #[test]
@@ -122,13 +113,13 @@ fn an_error_and_new_flags(rt: HostRuntime) -> Result<(), Fail> {
 message 2 error flags 0x0000 - seq 1 port 12345
   error code -1 answers len 32 type 18 flags 0x0301 seq 1 port 0 tail -
 ";
-    is_shown(&rt, rt.alloc(), input, text)?;
+    is_shown(rt.alloc(), input, text)?;
     let input = "20000000 1000 0206 01000000 39300000 00000403 01000000 49000100 00000000";
     let text = "datagram 1 bytes 32
 message 16 newlink flags 0x0602 MULTI,EXCL,CREATE seq 1 port 12345
   link family 0 type 772 index 1 flags 0x00010049 UP,LOOPBACK,RUNNING,LOWER_UP change 0x00000000
 ";
-    is_shown(&rt, rt.alloc(), input, text)
+    is_shown(rt.alloc(), input, text)
 }
 
 #[test]
@@ -146,7 +137,7 @@ message 16 newlink flags 0x0000 - seq 1 port 12345
     attr 20 IFALIAS nested list 0
     attr 16383 - - hex abcd
 ";
-    is_shown(&rt, rt.alloc(), input, text)
+    is_shown(rt.alloc(), input, text)
 }
 
 #[test]
@@ -162,14 +153,7 @@ datagram 2 bytes 16
 message 1 noop flags 0x0000 - seq 0 port 0
   bytes -
 ";
-    shows(
-        &rt,
-        rt.alloc(),
-        Order::Little,
-        input,
-        text,
-        Verdict::Blemished,
-    )
+    shows(rt.alloc(), Order::Little, input, text, Verdict::Blemished)
 }
 
 #[test]
@@ -186,7 +170,6 @@ fn each_refusal_by_name(rt: HostRuntime) -> Result<(), Fail> {
     for (input, size, reason) in cases {
         let text = format!(in alloc; "datagram 1 bytes {size}\nrefused {reason}\n")?;
         shows(
-            &rt,
             alloc,
             Order::Little,
             input,
@@ -203,7 +186,7 @@ fn a_length_of_three_and_a_head_of_another_type(rt: HostRuntime) -> Result<(), F
     let input =
         "30000000 1000 0200 01000000 39300000 00000403 01000000 49000100 00000000 07000300 6c6f0000 03000400 00000100";
     let text = "datagram 1 bytes 48\nrefused bad length at 40\n";
-    shows(&rt, alloc, Order::Little, input, text, Verdict::Blemished)?;
+    shows(alloc, Order::Little, input, text, Verdict::Blemished)?;
     // Behind the 12 bytes of a neighbour's head stands a length of zero.
     let input = "000000000000000000000000000000
 30000000 1c00 0200 01000000 39300000 00000403 01000000 49000100 00000000 07000300 6c6f0000 08000400 00000100";
@@ -212,7 +195,7 @@ refused cut at 0
 datagram 2 bytes 48
 refused bad length at 28
 ";
-    shows(&rt, alloc, Order::Little, input, text, Verdict::Blemished)
+    shows(alloc, Order::Little, input, text, Verdict::Blemished)
 }
 
 #[test]
@@ -223,9 +206,9 @@ fn both_orders(rt: HostRuntime) -> Result<(), Fail> {
         (Order::Little, DONE, LOOPBACK, DONE_BIG),
         (Order::Big, DONE_BIG, LOOPBACK_BIG, DONE),
     ] {
-        shows(&rt, alloc, order, mine, DONE_TEXT, Verdict::Clean)?;
-        shows(&rt, alloc, order, link, LOOPBACK_TEXT, Verdict::Clean)?;
-        shows(&rt, alloc, order, other, refused, Verdict::Blemished)?;
+        shows(alloc, order, mine, DONE_TEXT, Verdict::Clean)?;
+        shows(alloc, order, link, LOOPBACK_TEXT, Verdict::Clean)?;
+        shows(alloc, order, other, refused, Verdict::Blemished)?;
     }
     Ok(())
 }
@@ -233,16 +216,24 @@ fn both_orders(rt: HostRuntime) -> Result<(), Fail> {
 #[test]
 fn lines_are_read_as_they_may_be_written(rt: HostRuntime) -> Result<(), Fail> {
     let alloc = rt.alloc();
-    is_shown(&rt, alloc, "", "")?;
-    is_shown(&rt, alloc, "# a comment\n\n \t\r\n", "")?;
+    is_shown(alloc, "", "")?;
+    is_shown(alloc, "# a comment\n\n \t\r\n", "")?;
     let input = "# the end of a dump\n14000000\t03000200 01000000 39300000 00000000\r\n\n";
-    is_shown(&rt, alloc, input, DONE_TEXT)?;
+    is_shown(alloc, input, DONE_TEXT)?;
     let input = "10000000FFFF000000000000000000aa";
     let text = "datagram 1 bytes 16
 message 65535 other flags 0x0000 - seq 0 port 2852126720
   bytes -
 ";
-    is_shown(&rt, alloc, input, text)
+    is_shown(alloc, input, text)
+}
+
+fn ends_at_line(alloc: Global, input: &str, line: u32) -> Result<(), Fail> {
+    let mut source = SliceSource::new(input.as_bytes());
+    let mut sink = VecSink::new(alloc);
+    let answer = run_show(alloc, &mut source, &mut sink, &Limits::standard());
+    let is_so = answer == Err(RunError::BadLine(line));
+    ensure(is_so && sink.bytes.is_empty(), input)
 }
 
 #[test]
@@ -254,11 +245,7 @@ fn a_bad_line_ends_the_run(rt: HostRuntime) -> Result<(), Fail> {
         ("00\n0g\n", 2),
         (" #00", 1),
     ] {
-        let mut source = SliceSource::new(input.as_bytes());
-        let mut sink = VecSink::new(alloc);
-        let answer = run_show(alloc, &mut source, &mut sink, &Limits::standard());
-        assert_eq!(rt; answer, Err(RunError::BadLine(line)), "{input}");
-        assert!(rt; sink.bytes.is_empty());
+        ends_at_line(alloc, input, line)?;
     }
     Ok(())
 }

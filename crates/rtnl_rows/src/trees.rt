@@ -1,154 +1,177 @@
 //! Trees of attributes by value, and what is read of one attribute.
 
 use crate::vectors::{
-    NESTED, PLAIN, TWO_HOPS, TWO_HOPS_BIG, bytes_of, leaf, list_of, nested_lists, two_hops,
+    NESTED, PLAIN, TWO_HOPS, TWO_HOPS_BIG, bytes_of, ensure, leaf, list_of, nested_lists, two_hops,
 };
 use nl_attr::{
-    Attr, AttrFlags, Content, Ctx, Depth, Fault, ListError, Order, Payload, Reason, Value, find,
-    holds, read_list, read_list_ordered,
+    Attr, AttrFlags, Content, Ctx, Depth, Fault, ListError, Order, Payload, Reason, find, holds,
+    read_list, read_list_ordered,
 };
 use std::alloc::Global;
-use std::process::Abort;
 use std::test::Fail;
+
+fn are_two_hops(alloc: Global, attrs: &[Attr]) -> Result<(), Fail> {
+    let expected = two_hops(alloc)?;
+    ensure(attrs == expected.as_slice(), "two hops")
+}
 
 #[test]
 fn reads_next_hops(rt: HostRuntime) -> Result<(), Fail> {
     let alloc = rt.alloc();
     let depth = Depth::new(2)?;
-    let hops = two_hops(alloc)?;
     let little = bytes_of(alloc, TWO_HOPS)?;
     let read = read_list(alloc, little.as_slice(), 28, Ctx::Route, 0, depth);
-    assert_eq!(rt; read.visits, 84);
-    assert_eq!(rt; read.result, Ok(two_hops(alloc)?));
+    ensure(read.visits == 84, "visits")?;
+    are_two_hops(alloc, read.result?.as_slice())?;
     let big = bytes_of(alloc, TWO_HOPS_BIG)?;
     let read = read_list_ordered(alloc, big.as_slice(), 28, Ctx::Route, 0, depth, Order::Big);
-    assert_eq!(rt; read.visits, 84);
-    assert_eq!(rt; read.result, Ok(hops));
-    Ok(())
+    ensure(read.visits == 84, "visits")?;
+    are_two_hops(alloc, read.result?.as_slice())
+}
+
+/// A region holds a list of this one attribute.
+fn reads_a_list(
+    alloc: Global,
+    text: &str,
+    ctx: Ctx,
+    number: u16,
+    flags: AttrFlags,
+    inner: Attr,
+) -> Result<(), Fail> {
+    let mut expected = Vec::new(alloc);
+    expected.push(list_of(alloc, number, flags, inner)?)?;
+    let bytes = bytes_of(alloc, text)?;
+    let read = read_list(alloc, bytes.as_slice(), 0, ctx, 0, Depth::standard());
+    let list = read.result?;
+    ensure(list == expected, text)
 }
 
 #[test]
 fn reads_the_lists_of_links_and_routes(rt: HostRuntime) -> Result<(), Fail> {
     let alloc = rt.alloc();
-    let cases = [
-        (
-            "0d000800 09001000 6375626963 000000",
-            Ctx::Route,
-            8,
-            16,
-            b"cubic".as_slice(),
-            PLAIN,
-        ),
-        (
-            "0c001200 08000100 76657468",
-            Ctx::Link,
-            18,
-            1,
-            b"veth".as_slice(),
-            PLAIN,
-        ),
-        (
-            "0c000180 08000240 01020304",
-            Ctx::Neigh,
-            1,
-            2,
-            [1, 2, 3, 4].as_slice(),
-            NESTED,
-        ),
-    ];
-    for (text, ctx, outer, inner, payload, flags) in cases {
-        let bytes = bytes_of(alloc, text)?;
-        let read = read_list(alloc, bytes.as_slice(), 0, ctx, 0, Depth::standard());
-        let mut attr = leaf(alloc, inner, payload)?;
-        attr.flags.net = inner == 2;
-        let mut list = Vec::new(alloc);
-        list.push(list_of(alloc, outer, flags, attr)?)?;
-        assert_eq!(rt; read.result, Ok(list), "{text}");
-    }
-    Ok(())
+    let text = "0d000800 09001000 6375626963 000000";
+    let metric = leaf(alloc, 16, b"cubic")?;
+    reads_a_list(alloc, text, Ctx::Route, 8, PLAIN, metric)?;
+    let text = "0c001200 08000100 76657468";
+    let kind = leaf(alloc, 1, b"veth")?;
+    reads_a_list(alloc, text, Ctx::Link, 18, PLAIN, kind)?;
+    let text = "0c000180 08000240 01020304";
+    let mut inner = leaf(alloc, 2, &[1, 2, 3, 4])?;
+    inner.flags.net = true;
+    reads_a_list(alloc, text, Ctx::Neigh, 1, NESTED, inner)
 }
 
-fn check_nesting(rt: &impl Abort, alloc: Global, order: Order) -> Result<(), Fail> {
+/// So many nested lists are read at depth 32 with so many visits, or are refused so.
+fn nests(
+    alloc: Global,
+    count: u16,
+    order: Order,
+    refusal: Option<ListError>,
+    visits: u64,
+) -> Result<(), Fail> {
     let depth = Depth::new(32)?;
-    let bytes = nested_lists(alloc, 32, order)?;
+    let bytes = nested_lists(alloc, count, order)?;
     let read = read_list_ordered(alloc, bytes.as_slice(), 0, Ctx::Plain, 0, depth, order);
-    assert!(rt; read.result.is_ok());
-    assert_eq!(rt; read.visits, 2_112);
-    let bytes = nested_lists(alloc, 33, order)?;
-    let read = read_list_ordered(alloc, bytes.as_slice(), 0, Ctx::Plain, 0, depth, order);
-    let fault = Fault {
-        place: 128,
-        reason: Reason::TooDeep,
-    };
-    assert_eq!(rt; read.result.err(), Some(ListError::Layout(fault)));
-    assert_eq!(rt; read.visits, 2_244);
-    Ok(())
+    let refused = read.result.err();
+    ensure(refused == refusal && read.visits == visits, "nested lists")
 }
 
 #[test]
 fn reads_thirty_two_levels_and_no_more(rt: HostRuntime) -> Result<(), Fail> {
-    check_nesting(&rt, rt.alloc(), Order::Little)?;
-    check_nesting(&rt, rt.alloc(), Order::Big)
+    let alloc = rt.alloc();
+    let fault = Fault {
+        place: 128,
+        reason: Reason::TooDeep,
+    };
+    let too_deep = Some(ListError::Layout(fault));
+    nests(alloc, 32, Order::Little, None, 2_112)?;
+    nests(alloc, 33, Order::Little, too_deep, 2_244)?;
+    nests(alloc, 32, Order::Big, None, 2_112)?;
+    nests(alloc, 33, Order::Big, too_deep, 2_244)
+}
+
+fn finds_a_name(list: &[Attr]) -> bool {
+    match find(list, 3) {
+        Some(name) => {
+            name.text() == Some(b"a".as_slice()) && name.bytes() == Some(b"a\0".as_slice())
+        }
+        None => false,
+    }
+}
+
+fn finds_a_short_mtu(list: &[Attr]) -> bool {
+    match find(list, 4) {
+        Some(mtu) => mtu.u32_value().is_none() && mtu.u16_value() == Some(1_500),
+        None => false,
+    }
 }
 
 #[test]
 fn finds_the_first_of_a_number(rt: HostRuntime) -> Result<(), Fail> {
     let alloc = rt.alloc();
-    let bytes = bytes_of(
-        alloc,
-        "06000300 61000000 06000300 62000000 06000400 dc050000",
-    )?;
+    let text = "06000300 61000000 06000300 62000000 06000400 dc050000";
+    let bytes = bytes_of(alloc, text)?;
     let read = read_list(alloc, bytes.as_slice(), 0, Ctx::Link, 0, Depth::standard());
     let list = read.result?;
-    assert_eq!(rt; list.len(), 3);
-    let name = find(list.as_slice(), 3).ok_or("a name")?;
-    assert_eq!(rt; name.text(), Some(b"a".as_slice()));
-    assert_eq!(rt; name.bytes(), Some(b"a\0".as_slice()));
-    let mtu = find(list.as_slice(), 4).ok_or("an MTU")?;
-    assert_eq!(rt; mtu.u32_value(), None);
-    assert_eq!(rt; mtu.u16_value(), Some(1_500));
-    assert!(rt; find(list.as_slice(), 5).is_none());
-    Ok(())
+    let list = list.as_slice();
+    let is_so = finds_a_name(list) && finds_a_short_mtu(list) && find(list, 5).is_none();
+    ensure(list.len() == 3 && is_so, "two names and an MTU")
+}
+
+fn is_of_five_bytes(attr: &Attr) -> bool {
+    attr.u8_value() == Some(1)
+        && attr.u16_value() == Some(0x0201)
+        && attr.u16_value_ordered(Order::Big) == Some(0x0102)
+        && attr.u32_value() == Some(0x0403_0201)
+        && attr.u32_value_ordered(Order::Big) == Some(0x0102_0304)
+        && attr.be16_value() == Some(0x0102)
+}
+
+fn is_of_one_byte(attr: &Attr) -> bool {
+    attr.u8_value() == Some(7)
+        && attr.u16_value().is_none()
+        && attr.u32_value_ordered(Order::Little).is_none()
+        && attr.be16_value().is_none()
 }
 
 #[test]
 fn reads_numbers_of_the_first_bytes(rt: HostRuntime) -> Result<(), Fail> {
-    let attr = leaf(rt.alloc(), 1, &[1, 2, 3, 4, 5])?;
-    assert_eq!(rt; attr.u8_value(), Some(1));
-    assert_eq!(rt; attr.u16_value(), Some(0x0201));
-    assert_eq!(rt; attr.u16_value_ordered(Order::Big), Some(0x0102));
-    assert_eq!(rt; attr.u32_value(), Some(0x0403_0201));
-    assert_eq!(rt; attr.u32_value_ordered(Order::Big), Some(0x0102_0304));
-    assert_eq!(rt; attr.be16_value(), Some(0x0102));
-    let short = leaf(rt.alloc(), 1, &[7])?;
-    assert_eq!(rt; short.u8_value(), Some(7));
-    assert_eq!(rt; short.u16_value(), None);
-    assert_eq!(rt; short.u32_value_ordered(Order::Little), None);
-    assert_eq!(rt; short.be16_value(), None);
-    assert_eq!(rt; leaf(rt.alloc(), 1, &[])?.u8_value(), None);
-    Ok(())
+    let alloc = rt.alloc();
+    let long = leaf(alloc, 1, &[1, 2, 3, 4, 5])?;
+    ensure(is_of_five_bytes(&long), "five bytes")?;
+    let short = leaf(alloc, 1, &[7])?;
+    ensure(is_of_one_byte(&short), "one byte")?;
+    let empty = leaf(alloc, 1, &[])?;
+    ensure(empty.u8_value().is_none(), "no byte")
+}
+
+fn has_text(alloc: Global, bytes: &[u8], text: &[u8]) -> Result<(), Fail> {
+    let attr = leaf(alloc, 3, bytes)?;
+    ensure(attr.text() == Some(text), "a text")
 }
 
 #[test]
 fn text_ends_at_a_zero_byte(rt: HostRuntime) -> Result<(), Fail> {
-    let alloc = rt.alloc();
-    assert_eq!(rt; leaf(alloc, 3, b"lo\0lo\0")?.text(), Some(b"lo".as_slice()));
-    assert_eq!(rt; leaf(alloc, 3, b"eth0")?.text(), Some(b"eth0".as_slice()));
-    assert_eq!(rt; leaf(alloc, 3, b"\0")?.text(), Some(b"".as_slice()));
-    Ok(())
+    has_text(rt.alloc(), b"lo\0lo\0", b"lo")?;
+    has_text(rt.alloc(), b"eth0", b"eth0")?;
+    has_text(rt.alloc(), b"\0", b"")
+}
+
+fn has_no_bytes(attr: &Attr) -> bool {
+    attr.bytes().is_none()
+        && attr.text().is_none()
+        && attr.u8_value().is_none()
+        && attr.u16_value().is_none()
+        && attr.u32_value().is_none()
+        && attr.be16_value().is_none()
 }
 
 #[test]
 fn a_list_has_no_bytes(rt: HostRuntime) -> Result<(), Fail> {
     let alloc = rt.alloc();
-    let attr = list_of(alloc, 1, NESTED, leaf(alloc, 2, &[1, 2, 3, 4])?)?;
-    assert_eq!(rt; attr.bytes(), None);
-    assert_eq!(rt; attr.text(), None);
-    assert_eq!(rt; attr.u8_value(), None);
-    assert_eq!(rt; attr.u16_value(), None);
-    assert_eq!(rt; attr.u32_value(), None);
-    assert_eq!(rt; attr.be16_value(), None);
-    Ok(())
+    let inner = leaf(alloc, 2, &[1, 2, 3, 4])?;
+    let attr = list_of(alloc, 1, NESTED, inner)?;
+    ensure(has_no_bytes(&attr), "a list")
 }
 
 #[test]
@@ -174,24 +197,26 @@ fn place_and_flags_say_what_an_attribute_holds(rt: HostRuntime) {
     }
 }
 
+fn is_of(payload: &Payload, bytes: &[u8]) -> bool {
+    payload.as_slice() == bytes
+        && payload.len() == bytes.len()
+        && payload.is_empty() == bytes.is_empty()
+}
+
+fn keeps(alloc: Global, bytes: &[u8]) -> Result<(), Fail> {
+    let payload = Payload::from_slice(alloc, bytes)?;
+    let copy = Payload::from_vec(Vec::from_slice(alloc, bytes)?);
+    ensure(is_of(&payload, bytes) && payload == copy, "a payload")
+}
+
 #[test]
 fn keeps_payloads_of_every_size(rt: HostRuntime) -> Result<(), Fail> {
     let alloc = rt.alloc();
     let source = [0x5a; 40];
     for size in [0, 1, 22, 23, 24, 40] {
-        let bytes = source.as_slice().get(..size).ok_or("a size")?;
-        let payload = Payload::from_slice(alloc, bytes)?;
-        assert_eq!(rt; payload.as_slice(), bytes);
-        assert_eq!(rt; payload.len(), size);
-        assert_eq!(rt; payload.is_empty(), size == 0);
-        let copy = Payload::from_vec(Vec::from_slice(alloc, bytes)?);
-        assert!(rt; payload == copy);
+        keeps(alloc, source.as_slice().get(..size).ok_or("a size")?)?;
     }
-    let one = Attr {
-        number: 1,
-        flags: PLAIN,
-        value: Value::Bytes(Payload::from_slice(alloc, &[1])?),
-    };
-    assert!(rt; one != leaf(alloc, 1, &[2])?);
-    Ok(())
+    let one = leaf(alloc, 1, &[1])?;
+    let other = leaf(alloc, 1, &[2])?;
+    ensure(one != other, "two payloads")
 }

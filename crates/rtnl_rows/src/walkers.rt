@@ -1,8 +1,7 @@
 //! Walkers over the parts of a region, in both byte orders.
 
-use crate::vectors::{NESTED, PLAIN, TWO_HOPS, TWO_HOPS_BIG, bytes_of};
-use nl_attr::{AttrFlags, Attrs, Fault, HopParts, Order, Reason, align4};
-use std::process::Abort;
+use crate::vectors::{NESTED, PLAIN, TWO_HOPS, TWO_HOPS_BIG, bytes_of, ensure};
+use nl_attr::{AttrFlags, Attrs, Fault, HopPart, HopParts, Order, Part, Reason, align4};
 use std::test::Fail;
 
 #[test]
@@ -29,38 +28,56 @@ const NAME_AND_FAULT: &str = "07000300 6c6f0000 03000400 00000100";
 
 const NAME_AND_FAULT_BIG: &str = "00070003 6c6f0000 00030004 00010000";
 
-fn gives_a_name_and_a_fault(rt: &impl Abort, mut walk: Attrs<'_>) -> Result<(), Fail> {
-    let part = walk.next().ok_or("a part")??;
-    assert_eq!(rt; part.number, 3);
-    assert_eq!(rt; part.flags, PLAIN);
-    assert_eq!(rt; part.place, 0);
-    assert_eq!(rt; part.span, 8);
-    assert_eq!(rt; part.payload, b"lo\0".as_slice());
+fn is_part(part: &Part<'_>, number: u16, flags: AttrFlags, place: u32, span: u32) -> bool {
+    part.number == number && part.flags == flags && part.place == place && part.span == span
+}
+
+fn next_is_name(walk: &mut Attrs<'_>) -> bool {
+    match walk.next() {
+        Some(Ok(part)) => is_part(&part, 3, PLAIN, 0, 8) && part.payload == b"lo\0".as_slice(),
+        _ => false,
+    }
+}
+
+fn next_is_fault(walk: &mut Attrs<'_>) -> bool {
     let fault = Fault {
         place: 8,
         reason: Reason::BadLength,
     };
-    assert_eq!(rt; walk.next().ok_or("a fault")?.err(), Some(fault));
-    assert!(rt; walk.next().is_none());
-    assert!(rt; walk.next().is_none());
-    assert_eq!(rt; walk.seen(), 8);
-    Ok(())
+    match walk.next() {
+        Some(Err(found)) => found == fault,
+        _ => false,
+    }
+}
+
+fn gives_a_name_and_a_fault(mut walk: Attrs<'_>) -> bool {
+    next_is_name(&mut walk)
+        && next_is_fault(&mut walk)
+        && walk.next().is_none()
+        && walk.next().is_none()
+        && walk.seen() == 8
 }
 
 #[test]
 fn gives_parts_then_the_fault_then_none(rt: HostRuntime) -> Result<(), Fail> {
     let bytes = bytes_of(rt.alloc(), NAME_AND_FAULT)?;
-    gives_a_name_and_a_fault(&rt, Attrs::of(bytes.as_slice()))?;
-    gives_a_name_and_a_fault(&rt, Attrs::of_ordered(bytes.as_slice(), Order::Little))?;
+    let plain = gives_a_name_and_a_fault(Attrs::of(bytes.as_slice()));
+    ensure(plain, "the order that is not named")?;
+    let little = Attrs::of_ordered(bytes.as_slice(), Order::Little);
+    ensure(gives_a_name_and_a_fault(little), "little")?;
     let bytes = bytes_of(rt.alloc(), NAME_AND_FAULT_BIG)?;
-    gives_a_name_and_a_fault(&rt, Attrs::of_ordered(bytes.as_slice(), Order::Big))
+    let big = Attrs::of_ordered(bytes.as_slice(), Order::Big);
+    ensure(gives_a_name_and_a_fault(big), "big")
 }
 
-#[test]
-fn flag_bits_are_no_part_of_the_number(rt: HostRuntime) -> Result<(), Fail> {
-    // The last part's padding is cut short.
-    let bytes = bytes_of(rt.alloc(), "04000180 040001c0 0400ff7f 05000200 61")?;
-    let mut walk = Attrs::of(bytes.as_slice());
+fn next_is(walk: &mut Attrs<'_>, number: u16, flags: AttrFlags, place: u32, span: u32) -> bool {
+    match walk.next() {
+        Some(Ok(part)) => is_part(&part, number, flags, place, span),
+        _ => false,
+    }
+}
+
+fn gives_numbers_without_flags(mut walk: Attrs<'_>) -> bool {
     let net = AttrFlags {
         nested: false,
         net: true,
@@ -69,74 +86,93 @@ fn flag_bits_are_no_part_of_the_number(rt: HostRuntime) -> Result<(), Fail> {
         nested: true,
         net: true,
     };
-    let parts = [
-        (1, NESTED, 0, 4),
-        (1, both, 4, 4),
-        (16_383, net, 8, 4),
-        (2, PLAIN, 12, 5),
-    ];
-    for (number, flags, place, span) in parts {
-        let part = walk.next().ok_or("a part")??;
-        assert_eq!(rt; part.number, number);
-        assert_eq!(rt; part.flags, flags);
-        assert_eq!(rt; part.place, place);
-        assert_eq!(rt; part.span, span);
-    }
-    assert!(rt; walk.next().is_none());
-    assert_eq!(rt; walk.seen(), 17);
-    Ok(())
+    next_is(&mut walk, 1, NESTED, 0, 4)
+        && next_is(&mut walk, 1, both, 4, 4)
+        && next_is(&mut walk, 16_383, net, 8, 4)
+        && next_is(&mut walk, 2, PLAIN, 12, 5)
+        && walk.next().is_none()
+        && walk.seen() == 17
 }
 
-fn gives_two_hops(rt: &impl Abort, mut walk: HopParts<'_>, order: Order) -> Result<(), Fail> {
-    let gateways = match order {
+#[test]
+fn flag_bits_are_no_part_of_the_number(rt: HostRuntime) -> Result<(), Fail> {
+    // The last part's padding is cut short.
+    let bytes = bytes_of(rt.alloc(), "04000180 040001c0 0400ff7f 05000200 61")?;
+    let is_so = gives_numbers_without_flags(Attrs::of(bytes.as_slice()));
+    ensure(is_so, "parts and their flags")
+}
+
+fn is_hop(hop: &HopPart<'_>, hops: u8, ifindex: i32, place: u32, rest: &[u8]) -> bool {
+    hop.flags == 0
+        && hop.hops == hops
+        && hop.ifindex == ifindex
+        && hop.place == place
+        && hop.span == 16
+        && hop.rest == rest
+}
+
+fn next_is_hop(walk: &mut HopParts<'_>, hops: u8, ifindex: i32, place: u32, rest: &[u8]) -> bool {
+    match walk.next() {
+        Some(Ok(hop)) => is_hop(&hop, hops, ifindex, place, rest),
+        _ => false,
+    }
+}
+
+fn gives_two_hops(mut walk: HopParts<'_>, order: Order) -> bool {
+    let [first, second] = match order {
         Order::Little => [[8, 0, 5, 0, 192, 0, 2, 1], [8, 0, 5, 0, 192, 0, 2, 2]],
         Order::Big => [[0, 8, 0, 5, 192, 0, 2, 1], [0, 8, 0, 5, 192, 0, 2, 2]],
     };
-    let heads = [(0, 2, 0), (1, 3, 16)];
-    for (gateway, (hops, ifindex, place)) in gateways.iter().zip(heads) {
-        let hop = walk.next().ok_or("a hop")??;
-        assert_eq!(rt; hop.flags, 0);
-        assert_eq!(rt; hop.hops, hops);
-        assert_eq!(rt; hop.ifindex, ifindex);
-        assert_eq!(rt; hop.place, place);
-        assert_eq!(rt; hop.span, 16);
-        assert_eq!(rt; hop.rest, gateway.as_slice());
-    }
-    assert!(rt; walk.next().is_none());
-    assert_eq!(rt; walk.seen(), 32);
-    Ok(())
+    next_is_hop(&mut walk, 0, 2, 0, &first)
+        && next_is_hop(&mut walk, 1, 3, 16, &second)
+        && walk.next().is_none()
+        && walk.seen() == 32
 }
 
 #[test]
 fn gives_next_hops(rt: HostRuntime) -> Result<(), Fail> {
     let little = bytes_of(rt.alloc(), TWO_HOPS)?;
     let hops = little.as_slice().get(4..).ok_or("hops")?;
-    gives_two_hops(&rt, HopParts::of(hops), Order::Little)?;
-    gives_two_hops(
-        &rt,
-        HopParts::of_ordered(hops, Order::Little),
-        Order::Little,
-    )?;
+    let plain = gives_two_hops(HopParts::of(hops), Order::Little);
+    ensure(plain, "the order that is not named")?;
+    let named = HopParts::of_ordered(hops, Order::Little);
+    ensure(gives_two_hops(named, Order::Little), "little")?;
     let big = bytes_of(rt.alloc(), TWO_HOPS_BIG)?;
     let hops = big.as_slice().get(4..).ok_or("hops")?;
-    gives_two_hops(&rt, HopParts::of_ordered(hops, Order::Big), Order::Big)
+    let named = HopParts::of_ordered(hops, Order::Big);
+    ensure(gives_two_hops(named, Order::Big), "big")
+}
+
+fn next_is_bare_hop(walk: &mut HopParts<'_>) -> bool {
+    match walk.next() {
+        Some(Ok(hop)) => {
+            hop.flags == 0x41 && hop.hops == 3 && hop.ifindex == -1 && hop.rest.is_empty()
+        }
+        _ => false,
+    }
+}
+
+fn next_hop_is_cut(walk: &mut HopParts<'_>) -> bool {
+    let fault = Fault {
+        place: 8,
+        reason: Reason::Cut,
+    };
+    match walk.next() {
+        Some(Err(found)) => found == fault,
+        _ => false,
+    }
+}
+
+fn gives_a_hop_and_a_fault(mut walk: HopParts<'_>) -> bool {
+    next_is_bare_hop(&mut walk)
+        && next_hop_is_cut(&mut walk)
+        && walk.next().is_none()
+        && walk.seen() == 8
 }
 
 #[test]
 fn next_hops_end_at_a_fault(rt: HostRuntime) -> Result<(), Fail> {
     let bytes = bytes_of(rt.alloc(), "08004103 ffffffff 08000000 000000")?;
-    let mut walk = HopParts::of(bytes.as_slice());
-    let hop = walk.next().ok_or("a hop")??;
-    assert_eq!(rt; hop.flags, 0x41);
-    assert_eq!(rt; hop.hops, 3);
-    assert_eq!(rt; hop.ifindex, -1);
-    assert!(rt; hop.rest.is_empty());
-    let fault = Fault {
-        place: 8,
-        reason: Reason::Cut,
-    };
-    assert_eq!(rt; walk.next().ok_or("a fault")?.err(), Some(fault));
-    assert!(rt; walk.next().is_none());
-    assert_eq!(rt; walk.seen(), 8);
-    Ok(())
+    let is_so = gives_a_hop_and_a_fault(HopParts::of(bytes.as_slice()));
+    ensure(is_so, "a hop and a fault")
 }

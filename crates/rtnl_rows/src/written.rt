@@ -2,7 +2,7 @@
 
 use crate::vectors::{
     DONE, DONE_BIG, LOOPBACK, LOOPBACK_BIG, NESTED, PLAIN, TWO_HOPS_ROUTE, TWO_HOPS_ROUTE_BIG,
-    bytes_of, leaf, list_of,
+    bytes_of, ensure, leaf, list_of,
 };
 use nl_attr::{Attr, Depth, Order, Payload, Value};
 use nl_frame::{
@@ -11,7 +11,6 @@ use nl_frame::{
 use nl_route::{Link, LinkHead, Route};
 use rtnl::{SliceSource, VecSink, Verdict, run_check};
 use std::alloc::Global;
-use std::process::Abort;
 use std::test::Fail;
 
 /// A GET of 17 bytes, without its padding.
@@ -26,21 +25,13 @@ const BAD: &str =
     "24000000 1000 0200 01000000 39300000 00000000 00000000 00000000 00000000 03000100 00000000 0300 0200 01000000 39300000";
 
 /// A datagram is read, written as these bytes, and canonical where it is they.
-fn writes(
-    rt: &impl Abort,
-    alloc: Global,
-    limits: &Limits,
-    text: &str,
-    written: &str,
-) -> Result<(), Fail> {
+fn writes(alloc: Global, limits: &Limits, text: &str, written: &str) -> Result<(), Fail> {
     let bytes = bytes_of(alloc, text)?;
     let expected = bytes_of(alloc, written)?;
     let messages = read_datagram(alloc, bytes.as_slice(), limits).result?;
     let found = write_datagram(alloc, messages.as_slice(), limits)?;
-    assert!(rt; found == expected, "{text}");
     let canonical = is_canonical(alloc, bytes.as_slice(), limits)?;
-    assert!(rt; canonical == (text == written), "{text}");
-    Ok(())
+    ensure(found == expected && canonical == (text == written), text)
 }
 
 #[test]
@@ -49,10 +40,10 @@ fn datagrams_in_both_orders(rt: HostRuntime) -> Result<(), Fail> {
     let little = Limits::standard();
     let big = little.with_order(Order::Big);
     for text in ["", DONE, LOOPBACK, TWO_HOPS_ROUTE] {
-        writes(&rt, alloc, &little, text, text)?;
+        writes(alloc, &little, text, text)?;
     }
     for text in ["", DONE_BIG, LOOPBACK_BIG, TWO_HOPS_ROUTE_BIG] {
-        writes(&rt, alloc, &big, text, text)?;
+        writes(alloc, &big, text, text)?;
     }
     Ok(())
 }
@@ -62,21 +53,21 @@ fn padding_is_whole_and_zero(rt: HostRuntime) -> Result<(), Fail> {
     let alloc = rt.alloc();
     let limits = Limits::standard();
     let whole = "11000000 1200 0103 01000000 00000000 00 000000";
-    writes(&rt, alloc, &limits, SHORT_GET, whole)?;
-    writes(&rt, alloc, &limits, whole, whole)?;
+    writes(alloc, &limits, SHORT_GET, whole)?;
+    writes(alloc, &limits, whole, whole)?;
     let ones = "11000000 1200 0103 01000000 00000000 00 ffffff";
-    writes(&rt, alloc, &limits, ones, whole)?;
+    writes(alloc, &limits, ones, whole)?;
     let both =
         "11000000 1200 0103 01000000 00000000 00 000000 14000000 0300 0200 01000000 39300000 00000000";
-    writes(&rt, alloc, &limits, both, both)?;
+    writes(alloc, &limits, both, both)?;
     // The inner padding is written too, and counts in the list and the message around it.
     let metric =
         "2c000000 1800 0200 01000000 39300000 02000000 fe030001 00000000 10000800 09001000 6375626963 000000";
-    writes(&rt, alloc, &limits, METRIC, metric)?;
+    writes(alloc, &limits, METRIC, metric)?;
     // A byte of a head that is not kept.
     let kept = "20000000 1000 0200 01000000 39300000 00000403 01000000 49000100 00000000";
     let pad = "20000000 1000 0200 01000000 39300000 00ff0403 01000000 49000100 00000000";
-    writes(&rt, alloc, &limits, pad, kept)
+    writes(alloc, &limits, pad, kept)
 }
 
 #[test]
@@ -85,37 +76,53 @@ fn refusals_are_those_of_reading(rt: HostRuntime) -> Result<(), Fail> {
     let bytes = bytes_of(alloc, BAD)?;
     let limits = Limits::standard();
     let read = read_datagram(alloc, bytes.as_slice(), &limits).result.err();
-    assert!(rt; read.is_some() && is_canonical(alloc, bytes.as_slice(), &limits).err() == read);
+    let checked = is_canonical(alloc, bytes.as_slice(), &limits).err();
     let least = Limits::new(8, 16, 0, 0)?;
     let refused = is_canonical(alloc, bytes.as_slice(), &least).err();
-    assert!(rt; refused == Some(ReadError::TooLarge));
-    Ok(())
+    let is_so = refused == Some(ReadError::TooLarge);
+    ensure(read.is_some() && checked == read && is_so, "refusals")
+}
+
+fn link_comes_back(alloc: Global, bytes: &[u8]) -> Result<(), Fail> {
+    if bytes.len() != 32 {
+        return Err(Fail::new("not 32 bytes"));
+    }
+    let depth = Depth::standard();
+    let link = Link::read_body_ordered(alloc, bytes, 0, depth, Order::Big).result?;
+    let mut out = Vec::new(alloc);
+    link.write_body_ordered(depth, &mut out, Order::Big)?;
+    ensure(
+        out.as_slice() == bytes && link.body_len() == Some(32),
+        "a link",
+    )
+}
+
+fn route_comes_back(alloc: Global, bytes: &[u8]) -> Result<(), Fail> {
+    if bytes.len() != 48 {
+        return Err(Fail::new("not 48 bytes"));
+    }
+    let depth = Depth::standard();
+    let route = Route::read_body(alloc, bytes, 16, depth).result?;
+    let mut out = Vec::new(alloc);
+    route.write_body(depth, &mut out)?;
+    ensure(
+        out.as_slice() == bytes && route.body_len() == Some(48),
+        "a route",
+    )
 }
 
 #[test]
 fn bodies_come_back_the_same(rt: HostRuntime) -> Result<(), Fail> {
     let alloc = rt.alloc();
-    let depth = Depth::standard();
     let text = "00000304 00000001 00010049 00000000 00070003 6c6f0000 00080004 00010000";
     let bytes = bytes_of(alloc, text)?;
-    assert!(rt; bytes.len() == 32);
-    let link = Link::read_body_ordered(alloc, bytes.as_slice(), 0, depth, Order::Big).result?;
-    let mut out = Vec::new(alloc);
-    link.write_body_ordered(depth, &mut out, Order::Big)?;
-    assert!(rt; out == bytes && link.body_len() == Some(32));
+    link_comes_back(alloc, bytes.as_slice())?;
     let datagram = bytes_of(alloc, TWO_HOPS_ROUTE)?;
-    let body = datagram.as_slice().get(16..).ok_or("a body")?;
-    assert!(rt; body.len() == 48);
-    let route = Route::read_body(alloc, body, 16, depth).result?;
-    let mut out = Vec::new(alloc);
-    route.write_body(depth, &mut out)?;
-    assert!(rt; out.as_slice() == body && route.body_len() == Some(48));
-    Ok(())
+    route_comes_back(alloc, datagram.as_slice().get(16..).ok_or("a body")?)
 }
 
 /// One message is refused so.
 fn refuses(
-    rt: &impl Abort,
     alloc: Global,
     kind: u16,
     body: Body,
@@ -131,8 +138,7 @@ fn refuses(
         body,
     })?;
     let written = write_datagram(alloc, messages.as_slice(), limits);
-    assert!(rt; written.err() == Some(error));
-    Ok(())
+    ensure(written.err() == Some(error), "a message")
 }
 
 /// So many zero bytes.
@@ -166,64 +172,56 @@ fn messages_that_cannot_be_written(rt: HostRuntime) -> Result<(), Fail> {
         status: Some(0),
         tail: Vec::new(alloc),
     };
-    refuses(&rt, alloc, 16, done, &standard, WriteError::Mismatch)?;
+    refuses(alloc, 16, done, &standard, WriteError::Mismatch)?;
     let done = Body::Done {
         status: None,
         tail: zeros(alloc, 4)?,
     };
-    refuses(&rt, alloc, 3, done, &standard, WriteError::Mismatch)?;
-    let body = link(alloc, leaf(alloc, 16_384, &[])?)?;
-    refuses(&rt, alloc, 16, body, &standard, WriteError::Mismatch)?;
+    refuses(alloc, 3, done, &standard, WriteError::Mismatch)?;
+    let body = Body::Other(zeros(alloc, 65_521)?);
+    refuses(alloc, 40, body, &standard, WriteError::TooLarge)?;
+    let body = Body::Other(zeros(alloc, 1_048_561)?);
+    refuses(alloc, 40, body, &standard, WriteError::TooLong)?;
+    refuses_links(alloc, &standard)
+}
+
+fn refuses_links(alloc: Global, standard: &Limits) -> Result<(), Fail> {
+    let reserved = link(alloc, leaf(alloc, 16_384, &[])?)?;
+    refuses(alloc, 16, reserved, standard, WriteError::Mismatch)?;
     let long = Attr {
         number: 1,
         flags: PLAIN,
         value: Value::Bytes(Payload::from_vec(zeros(alloc, 65_532)?)),
     };
-    refuses(
-        &rt,
-        alloc,
-        16,
-        link(alloc, long)?,
-        &standard,
-        WriteError::TooLong,
-    )?;
+    refuses(alloc, 16, link(alloc, long)?, standard, WriteError::TooLong)?;
     let flat = Limits::new(0, 65_536, 0, 0)?;
     let nested = list_of(alloc, 1, NESTED, leaf(alloc, 2, &[])?)?;
-    refuses(
-        &rt,
-        alloc,
-        16,
-        link(alloc, nested)?,
-        &flat,
-        WriteError::TooDeep,
-    )?;
-    let body = Body::Other(zeros(alloc, 65_521)?);
-    refuses(&rt, alloc, 40, body, &standard, WriteError::TooLarge)?;
-    let body = Body::Other(zeros(alloc, 1_048_561)?);
-    refuses(&rt, alloc, 40, body, &standard, WriteError::TooLong)
+    refuses(alloc, 16, link(alloc, nested)?, &flat, WriteError::TooDeep)
 }
 
 #[test]
 fn the_largest_datagram(rt: HostRuntime) -> Result<(), Fail> {
     let alloc = rt.alloc();
-    let mut messages = Vec::new(alloc);
-    messages.push(Message {
+    let messages = [Message {
         kind: 40,
         flags: 0,
         seq: 0,
         port: 0,
         body: Body::Other(zeros(alloc, 65_520)?),
-    })?;
-    let written = write_datagram(alloc, messages.as_slice(), &Limits::standard())?;
-    assert!(rt; written.len() == 65_536);
-    assert!(rt; written.as_slice().starts_with(&[0, 0, 1, 0, 40, 0, 0, 0]));
-    // A route by next hops at depth 1.
+    }];
+    let written = write_datagram(alloc, &messages, &Limits::standard())?;
+    let starts = written.as_slice().starts_with(&[0, 0, 1, 0, 40, 0, 0, 0]);
+    ensure(starts && written.len() == 65_536, "the largest")?;
+    a_route_is_too_deep(alloc)
+}
+
+/// A route by next hops at depth 1.
+fn a_route_is_too_deep(alloc: Global) -> Result<(), Fail> {
     let bytes = bytes_of(alloc, TWO_HOPS_ROUTE)?;
     let read = read_datagram(alloc, bytes.as_slice(), &Limits::standard()).result?;
     let shallow = Limits::new(1, 65_536, 0, 0)?;
     let refused = write_datagram(alloc, read.as_slice(), &shallow).err();
-    assert!(rt; refused == Some(WriteError::TooDeep));
-    Ok(())
+    ensure(refused == Some(WriteError::TooDeep), "a route")
 }
 
 #[test]
@@ -233,8 +231,7 @@ fn a_check_of_three(rt: HostRuntime) -> Result<(), Fail> {
     let mut source = SliceSource::new(input.as_bytes());
     let mut sink = VecSink::new(alloc);
     let verdict = run_check(alloc, &mut source, &mut sink, &Limits::standard())?;
-    assert!(rt; verdict == Verdict::Blemished);
     let text = "datagram 1 canonical\ndatagram 2 accepted\ndatagram 3 refused bad length at 32\n";
-    assert!(rt; sink.bytes.as_slice() == text.as_bytes());
-    Ok(())
+    let is_so = sink.bytes.as_slice() == text.as_bytes();
+    ensure(is_so && verdict == Verdict::Blemished, text)
 }
