@@ -1,9 +1,9 @@
 //! Bodies of the families in both byte orders, read at a base.
 
-use crate::reading::{addr_in, link_in, neigh_in, route_in};
+use crate::reading::body_in;
 use crate::vectors::{bytes_of, ensure, two_hops};
 use nl_attr::{Depth, Fault, ListError, Order, Reason};
-use nl_route::{Addr, Route};
+use nl_route::{Addr, AddrHead, LinkHead, NeighHead, Route, RouteHead};
 use std::alloc::Global;
 use std::test::Fail;
 
@@ -50,11 +50,17 @@ fn a_route_by_two_hops(rt: HostRuntime) -> Result<(), Fail> {
     two_hops_are_too_deep(alloc, ROUTE_BIG, Order::Big)
 }
 
+/// Its one metric names the congestion control `cubic`.
+pub(crate) fn is_by_cubic(route: &Route) -> bool {
+    match route.metrics() {
+        [metric] => metric.number == 16 && metric.text() == Some(b"cubic".as_slice()),
+        _ => false,
+    }
+}
+
 fn reads_cubic(alloc: Global, text: &str, order: Order) -> Result<(), Fail> {
-    let (route, visits) = route_in(alloc, text, order)?;
-    let metric = route.metrics().first().ok_or("a metric")?;
-    let is_so = metric.number == 16 && metric.text() == Some(b"cubic".as_slice());
-    ensure(is_so && visits == 25, text)
+    let (route, visits) = body_in::<RouteHead>(alloc, text, order)?;
+    ensure(is_by_cubic(&route) && visits == 25, text)
 }
 
 #[test]
@@ -74,7 +80,7 @@ fn is_of_loopback(addr: &Addr) -> bool {
 }
 
 fn reads_loopback(alloc: Global, text: &str, order: Order) -> Result<(), Fail> {
-    let (addr, visits) = addr_in(alloc, text, order)?;
+    let (addr, visits) = body_in::<AddrHead>(alloc, text, order)?;
     ensure(is_of_loopback(&addr) && visits == 24, text)
 }
 
@@ -87,7 +93,7 @@ fn the_loopback_address(rt: HostRuntime) -> Result<(), Fail> {
 }
 
 fn reads_neighbour(alloc: Global, text: &str, order: Order) -> Result<(), Fail> {
-    let (neigh, visits) = neigh_in(alloc, text, order)?;
+    let (neigh, visits) = body_in::<NeighHead>(alloc, text, order)?;
     let station = Some([2, 0, 0, 0, 0, 1].as_slice());
     let is_so = neigh.head.ifindex == 2 && neigh.state() == 2 && neigh.lladdr() == station;
     ensure(is_so && visits == 32, text)
@@ -104,7 +110,7 @@ fn a_neighbour(rt: HostRuntime) -> Result<(), Fail> {
 }
 
 fn reads_first_name(alloc: Global, text: &str, order: Order) -> Result<(), Fail> {
-    let (link, _) = link_in(alloc, text, order)?;
+    let (link, _) = body_in::<LinkHead>(alloc, text, order)?;
     let is_so = link.head.flags == 0x10049
         && link.name() == Some(b"a".as_slice())
         && link.mtu_ordered(order).is_none();

@@ -1,6 +1,7 @@
 //! Heads, bodies and views of the families, in both byte orders.
 
-use crate::reading::{addr_in, addr_of, link_of, neigh_in, neigh_of, route_in, route_of};
+use crate::bodies::is_by_cubic;
+use crate::reading::{body_in, body_of};
 use crate::vectors::ensure;
 use nl_attr::{Depth, Fault, Hop, ListError, Order, Reason};
 use nl_route::{Addr, AddrHead, Link, LinkHead, Neigh, NeighHead, Route, RouteHead};
@@ -75,20 +76,18 @@ const CUBIC: [u8; 28] = [
 fn metrics_hold_the_congestion_control(rt: HostRuntime) -> Result<(), Fail> {
     let read = Route::read_body(rt.alloc(), &CUBIC, 0, Depth::standard());
     let route = read.result?;
-    let metric = route.metrics().first().ok_or("there is a metric")?;
-    let is_so = metric.number == 16 && metric.text() == Some(b"cubic".as_slice());
-    ensure(read.visits == 25 && is_so, "its number and text")
+    ensure(read.visits == 25 && is_by_cubic(&route), "its metric")
 }
 
 #[test]
 fn table_of_more_than_a_byte(rt: HostRuntime) -> Result<(), Fail> {
     let alloc = rt.alloc();
-    let route = route_of(alloc, "02000000 fc030001 00000000", "08000f00 e8030000")?;
+    let route = body_of::<RouteHead>(alloc, "02000000 fc030001 00000000", "08000f00 e8030000")?;
     ensure(route.table_id() == 1000, "little")?;
     let big = "02000000 fc030001 00000000 0008000f 000003e8";
-    let (route, _) = route_in(alloc, big, Order::Big)?;
+    let (route, _) = body_in::<RouteHead>(alloc, big, Order::Big)?;
     ensure(route.table_id_ordered(Order::Big) == 1000, "big")?;
-    let bare = route_of(alloc, "02000000 fc030001 00000000", "")?;
+    let bare = body_of::<RouteHead>(alloc, "02000000 fc030001 00000000", "")?;
     ensure(bare.table_id() == 252, "bare")
 }
 
@@ -246,9 +245,9 @@ fn views_of_a_link(rt: HostRuntime) -> Result<(), Fail> {
     // MASTER 7, OPERSTATE 6, LINKINFO with KIND `veth`.
     let head = "00000100 02000000 43100100 00000000";
     let attrs = "08000a00 07000000 05001000 06000000 0d001200 09000100 7665746800 000000";
-    let link = link_of(alloc, head, attrs)?;
+    let link = body_of::<LinkHead>(alloc, head, attrs)?;
     ensure(is_veth(&link), "its views")?;
-    let bare = link_of(alloc, head, "")?;
+    let bare = body_of::<LinkHead>(alloc, head, "")?;
     let is_so = bare.master().is_none() && bare.operstate().is_none() && bare.kind().is_none();
     ensure(is_so, "none")
 }
@@ -262,7 +261,7 @@ fn views_of_an_address(rt: HostRuntime) -> Result<(), Fail> {
     let alloc = rt.alloc();
     // BROADCAST 192.0.2.255, FLAGS 0x280.
     let broadcast = Some([192, 0, 2, 255].as_slice());
-    let addr = addr_of(
+    let addr = body_of::<AddrHead>(
         alloc,
         "02188000 02000000",
         "08000400 c00002ff 08000800 80020000",
@@ -270,7 +269,7 @@ fn views_of_an_address(rt: HostRuntime) -> Result<(), Fail> {
     let is_so = addr.broadcast() == broadcast && addr.flags_full() == 0x280;
     ensure(is_so, "little")?;
     let text = "02188000 00000002 00080004 c00002ff 00080008 00000280";
-    let (addr, _) = addr_in(alloc, text, Order::Big)?;
+    let (addr, _) = body_in::<AddrHead>(alloc, text, Order::Big)?;
     let is_so = addr.head.index == 2
         && addr.broadcast() == broadcast
         && addr.flags_full_ordered(Order::Big) == 0x280
@@ -308,12 +307,12 @@ fn has_its_big_numbers(route: &Route) -> bool {
 #[test]
 fn views_of_a_route(rt: HostRuntime) -> Result<(), Fail> {
     let alloc = rt.alloc();
-    let little = route_of(alloc, "02181800 fe030001 00000000", ROUTE)?;
+    let little = body_of::<RouteHead>(alloc, "02181800 fe030001 00000000", ROUTE)?;
     ensure(
         has_its_numbers(&little) && has_its_addresses(&little),
         ROUTE,
     )?;
-    let (big, _) = route_in(alloc, ROUTE_BIG, Order::Big)?;
+    let (big, _) = body_in::<RouteHead>(alloc, ROUTE_BIG, Order::Big)?;
     ensure(
         has_its_big_numbers(&big) && has_its_addresses(&big),
         ROUTE_BIG,
@@ -334,11 +333,11 @@ fn views_of_a_neighbour(rt: HostRuntime) -> Result<(), Fail> {
     // VLAN 100, VNI 5000, and PORT 4789, which is in network order always.
     let head = "07000000 02000000 80000201";
     let attrs = "06000500 64000000 08000700 88130000 06000600 12b50000";
-    let little = neigh_of(alloc, head, attrs)?;
+    let little = body_of::<NeighHead>(alloc, head, attrs)?;
     let is_so = little.vlan() == Some(100) && little.vni() == Some(5000);
     ensure(is_so && is_of_port(&little), "little")?;
     let text = "07000000 00000002 00800201 00060005 00640000 00080007 00001388 00060006 12b50000";
-    let (big, _) = neigh_in(alloc, text, Order::Big)?;
+    let (big, _) = body_in::<NeighHead>(alloc, text, Order::Big)?;
     let is_so = big.vlan_ordered(Order::Big) == Some(100)
         && big.vni_ordered(Order::Big) == Some(5000);
     ensure(is_so && is_of_port(&big), "big")

@@ -159,25 +159,12 @@ message 1 noop flags 0x0000 - seq 0 port 0
 #[test]
 fn each_refusal_by_name(rt: HostRuntime) -> Result<(), Fail> {
     let alloc = rt.alloc();
-    let cases = [
-        ("000000000000000000000000000000", "15", "cut at 0"),
-        (
-            "10000000 1000 0200 01000000 39300000",
-            "16",
-            "short body at 0",
-        ),
-    ];
-    for (input, size, reason) in cases {
-        let text = format!(in alloc; "datagram 1 bytes {size}\nrefused {reason}\n")?;
-        shows(
-            alloc,
-            Order::Little,
-            input,
-            text.as_str(),
-            Verdict::Blemished,
-        )?;
-    }
-    Ok(())
+    let input = "000000000000000000000000000000";
+    let text = "datagram 1 bytes 15\nrefused cut at 0\n";
+    shows(alloc, Order::Little, input, text, Verdict::Blemished)?;
+    let input = "10000000 1000 0200 01000000 39300000";
+    let text = "datagram 1 bytes 16\nrefused short body at 0\n";
+    shows(alloc, Order::Little, input, text, Verdict::Blemished)
 }
 
 #[test]

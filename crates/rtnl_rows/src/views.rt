@@ -1,9 +1,9 @@
 //! Views of bodies whose attributes are absent, too short, or of another kind.
 
-use crate::reading::{addr_of, link_of, neigh_of, route_of};
+use crate::reading::body_of;
 use crate::vectors::{PLAIN, ensure, gateway, leaf, list_of};
 use nl_attr::{Attr, Hop, Order, Value};
-use nl_route::{Addr, Link, Neigh, Route};
+use nl_route::{Addr, AddrHead, Link, LinkHead, Neigh, NeighHead, Route, RouteHead};
 use std::alloc::Global;
 use std::test::Fail;
 
@@ -25,12 +25,12 @@ fn has_no_numbers(link: &Link) -> bool {
 }
 
 fn link_has_no_numbers(alloc: Global, attrs: &str) -> Result<(), Fail> {
-    let link = link_of(alloc, LINK, attrs)?;
+    let link = body_of::<LinkHead>(alloc, LINK, attrs)?;
     ensure(has_no_numbers(&link), attrs)
 }
 
 fn link_has_no_texts(alloc: Global, attrs: &str) -> Result<(), Fail> {
-    let link = link_of(alloc, LINK, attrs)?;
+    let link = body_of::<LinkHead>(alloc, LINK, attrs)?;
     ensure(link.name().is_none() && link.kind().is_none(), attrs)
 }
 
@@ -54,7 +54,7 @@ fn has_flags_alone(addr: &Addr) -> bool {
 }
 
 fn addr_has_none(alloc: Global, attrs: &str) -> Result<(), Fail> {
-    let addr = addr_of(alloc, ADDR, attrs)?;
+    let addr = body_of::<AddrHead>(alloc, ADDR, attrs)?;
     ensure(has_flags_alone(&addr), attrs)
 }
 
@@ -90,7 +90,7 @@ fn has_table_alone(route: &Route) -> bool {
 }
 
 fn route_has_none(alloc: Global, attrs: &str) -> Result<(), Fail> {
-    let route = route_of(alloc, ROUTE, attrs)?;
+    let route = body_of::<RouteHead>(alloc, ROUTE, attrs)?;
     let is_so = has_no_addresses(&route) && has_no_route_numbers(&route) && has_table_alone(&route);
     ensure(is_so, attrs)
 }
@@ -110,7 +110,7 @@ fn metrics_and_hops_of_another_kind(rt: HostRuntime) -> Result<(), Fail> {
     let alloc = rt.alloc();
     let mut hops: Vec<Hop> = Vec::new(alloc);
     hops.push(gateway(alloc, 0, 2, [192, 0, 2, 1])?)?;
-    let mut route = route_of(alloc, ROUTE, "")?;
+    let mut route = body_of::<RouteHead>(alloc, ROUTE, "")?;
     route.attrs.push(Attr {
         number: 8,
         flags: PLAIN,
@@ -135,7 +135,7 @@ fn has_state_alone(neigh: &Neigh) -> bool {
 }
 
 fn neigh_has_none(alloc: Global, attrs: &str) -> Result<(), Fail> {
-    let neigh = neigh_of(alloc, NEIGH, attrs)?;
+    let neigh = body_of::<NeighHead>(alloc, NEIGH, attrs)?;
     ensure(has_state_alone(&neigh), attrs)
 }
 

@@ -2,6 +2,7 @@
 
 use crate::vectors::{NESTED, PLAIN, TWO_HOPS, TWO_HOPS_BIG, bytes_of, ensure};
 use nl_attr::{AttrFlags, Attrs, Fault, HopPart, HopParts, Order, Part, Reason, align4};
+use std::alloc::Global;
 use std::test::Fail;
 
 #[test]
@@ -18,7 +19,7 @@ fn aligns_to_four(rt: HostRuntime) {
     ];
     for (number, aligned) in pairs {
         if number <= 4_294_967_292 {
-            assert_eq!(rt; align4(number), aligned);
+            assert!(rt; align4(number) == aligned);
         }
     }
 }
@@ -129,18 +130,27 @@ fn gives_two_hops(mut walk: HopParts<'_>, order: Order) -> bool {
         && walk.seen() == 32
 }
 
+fn gives_hops_in(alloc: Global, text: &str, order: Order) -> Result<(), Fail> {
+    let bytes = bytes_of(alloc, text)?;
+    let hops = bytes.as_slice().get(4..).ok_or("hops")?;
+    ensure(
+        gives_two_hops(HopParts::of_ordered(hops, order), order),
+        text,
+    )
+}
+
+fn gives_hops(alloc: Global) -> Result<(), Fail> {
+    let bytes = bytes_of(alloc, TWO_HOPS)?;
+    let hops = bytes.as_slice().get(4..).ok_or("hops")?;
+    let is_so = gives_two_hops(HopParts::of(hops), Order::Little);
+    ensure(is_so, "the order that is not named")
+}
+
 #[test]
 fn gives_next_hops(rt: HostRuntime) -> Result<(), Fail> {
-    let little = bytes_of(rt.alloc(), TWO_HOPS)?;
-    let hops = little.as_slice().get(4..).ok_or("hops")?;
-    let plain = gives_two_hops(HopParts::of(hops), Order::Little);
-    ensure(plain, "the order that is not named")?;
-    let named = HopParts::of_ordered(hops, Order::Little);
-    ensure(gives_two_hops(named, Order::Little), "little")?;
-    let big = bytes_of(rt.alloc(), TWO_HOPS_BIG)?;
-    let hops = big.as_slice().get(4..).ok_or("hops")?;
-    let named = HopParts::of_ordered(hops, Order::Big);
-    ensure(gives_two_hops(named, Order::Big), "big")
+    gives_hops(rt.alloc())?;
+    gives_hops_in(rt.alloc(), TWO_HOPS, Order::Little)?;
+    gives_hops_in(rt.alloc(), TWO_HOPS_BIG, Order::Big)
 }
 
 fn next_is_bare_hop(walk: &mut HopParts<'_>) -> bool {

@@ -16,10 +16,12 @@ fn writes(alloc: Global, attrs: &[Attr], ctx: Ctx, order: Order, text: &str) -> 
     let mut out = Vec::new(alloc);
     out.push(0xee)?;
     write_list_ordered(attrs, ctx, Depth::standard(), &mut out, order)?;
-    let (first, rest) = out.as_slice().split_first().ok_or("a byte")?;
+    let is_so = match out.as_slice() {
+        [first, rest @ ..] => *first == 0xee && rest == expected.as_slice(),
+        _ => false,
+    };
     let len = u32::try_from(expected.len()).ok();
-    let is_so = *first == 0xee && rest == expected.as_slice() && list_len(attrs, ctx) == len;
-    ensure(is_so, text)
+    ensure(is_so && list_len(attrs, ctx) == len, text)
 }
 
 /// Attributes are written as these in the two orders.

@@ -185,18 +185,24 @@ fn messages_that_cannot_be_written(rt: HostRuntime) -> Result<(), Fail> {
     refuses_links(alloc, &standard)
 }
 
+/// A link of this attribute is refused so.
+fn refuses_link(alloc: Global, attr: Attr, limits: &Limits, error: WriteError) -> Result<(), Fail> {
+    let body = link(alloc, attr)?;
+    refuses(alloc, 16, body, limits, error)
+}
+
 fn refuses_links(alloc: Global, standard: &Limits) -> Result<(), Fail> {
-    let reserved = link(alloc, leaf(alloc, 16_384, &[])?)?;
-    refuses(alloc, 16, reserved, standard, WriteError::Mismatch)?;
+    let reserved = leaf(alloc, 16_384, &[])?;
+    refuses_link(alloc, reserved, standard, WriteError::Mismatch)?;
     let long = Attr {
         number: 1,
         flags: PLAIN,
         value: Value::Bytes(Payload::from_vec(zeros(alloc, 65_532)?)),
     };
-    refuses(alloc, 16, link(alloc, long)?, standard, WriteError::TooLong)?;
+    refuses_link(alloc, long, standard, WriteError::TooLong)?;
     let flat = Limits::new(0, 65_536, 0, 0)?;
     let nested = list_of(alloc, 1, NESTED, leaf(alloc, 2, &[])?)?;
-    refuses(alloc, 16, link(alloc, nested)?, &flat, WriteError::TooDeep)
+    refuses_link(alloc, nested, &flat, WriteError::TooDeep)
 }
 
 #[test]
