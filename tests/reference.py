@@ -1,4 +1,4 @@
-"""A second reading of docs/FORMAT.md, written from that page by another hand and in another language.
+"""A second reading of docs/FORMAT.md, in another language and first written without a look at the code.
 
 It reads, writes and prints datagrams under the standard limits, so that compare.py can hold the built
 program against it. The names and forms of attributes, types and bits are those of crates/rtnl/specs.
