@@ -1,4 +1,6 @@
 mod Digits
+mod Entries
+mod Feeding
 mod Listing
 mod Plain
 mod Recordings

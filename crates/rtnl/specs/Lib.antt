@@ -6,10 +6,12 @@ pub mod Lines
 pub mod Messages
 pub mod NamedBits
 pub mod Names
+pub mod Requested
 pub mod Rows
 pub mod Runs
 pub mod Shown
 pub mod Streams
+pub mod Tabled
 pub mod Text
 pub mod Trees
 pub mod Types

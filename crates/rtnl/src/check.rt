@@ -3,7 +3,7 @@
 ghost use Rattle.std.specs.Prelude.{◌≡◌, ◌≢◌, ◌+◌, ◌<◌, ◌++◌, ◌⊎◌, ℕ, List, map, length, Ok, OnOk, OnErr, IfOk, Err};
 ghost use Rattle.std.specs.String.{string_bytes};
 ghost use Rattle.std.specs.Io.KnownBytes.{IsAtEnd};
-ghost use Rattle.rtnl.specs.Checked.{Finding, Finds, Checks, ChecksInput, ChecksFront, checked_line, finding_text, is_accepted, number_front};
+ghost use Rattle.rtnl.specs.Checked.{Finding, Finds, Checks, ChecksInput, ChecksFront, checked_line, finding_text, is_accepted};
 ghost use Rattle.rtnl.specs.Runs.{EachIs, HasBadLine, texts_from, verdict_from};
 ghost use Rattle.rtnl.specs.Streams.{ConsumesMoreThan, HasFailed};
 
@@ -11,17 +11,9 @@ use crate::error::{RunError, Verdict};
 use crate::lines::read_datagrams;
 use crate::sink::{Sink, give_all};
 use crate::source::{LONGEST_INPUT, Source, read_input};
-use crate::text::datagram::push_refusal;
+use crate::text::datagram::{push_number, push_refusal};
 use nl_frame::{Limits, is_canonical};
 use std::alloc::{AllocError, Global};
-use std::fmt::Write;
-
-#[tactic(auto, unfolding(crate::specs::Checked::number_front))]
-fn push_number(out: &mut String, number: usize) -> Result<(), AllocError>
-    ensures { OnOk result (string_bytes out.new ≡ string_bytes out.old ++ number_front number) }
-{
-    write!(out, "datagram {number} ")
-}
 
 #[tactic(auto, unfolding(crate::specs::Checked::finding_text))]
 fn push_accepted(out: &mut String, canonical: bool) -> Result<(), AllocError>

@@ -1,17 +1,19 @@
-//! The command `rtnl`: shows and checks recordings of rtnetlink datagrams.
+//! The command `rtnl`: shows and checks recordings of rtnetlink datagrams, reads them as the answers to a
+//! dump, and prints the request that begins one.
 #![tactic(auto)]
 
 mod arguments;
 
-use arguments::{Command, Reading, Request};
-use nl_attr::Order;
+use arguments::{Engine, Reading, Request};
 use rtnl::frame::Limits;
-use rtnl::{ReadSource, RunError, Source, Verdict, WriteSink, run_check, run_show};
+use rtnl::{
+    ReadSource, RunError, Source, Verdict, WriteSink, run_check, run_request, run_show, run_table,
+};
 use std::fs::File;
 use std::io;
 use std::process::ExitCode;
 
-/// A datagram was refused, or a line is bad.
+/// A datagram was refused, a dump is not complete, or a line is bad.
 const BLEMISHED: u8 = 1;
 
 /// The words are wrong.
@@ -45,32 +47,40 @@ fn outcome(rt: &HostRuntime, answer: Result<Verdict, RunError>) -> ExitCode {
 }
 
 /// Does what was asked with what the source gives; the text goes to standard output.
-fn run<S: Source>(rt: &HostRuntime, source: &mut S, command: Command, order: Order) -> ExitCode {
-    let limits = Limits::standard().with_order(order);
+fn run<S: Source>(rt: &HostRuntime, source: &mut S, engine: Engine, limits: &Limits) -> ExitCode {
     let mut sink = WriteSink::new(io::writer(rt));
-    let answer = match command {
-        Command::Show => run_show(rt.alloc(), source, &mut sink, &limits),
-        Command::Check => run_check(rt.alloc(), source, &mut sink, &limits),
+    let answer = match engine {
+        Engine::Show => run_show(rt.alloc(), source, &mut sink, limits),
+        Engine::Check => run_check(rt.alloc(), source, &mut sink, limits),
+        Engine::Table(dump) => run_table(rt.alloc(), source, &mut sink, dump, limits),
     };
     outcome(rt, answer)
 }
 
-/// Does what was asked with a recording: the file, or standard input where none is named.
+/// Does what was asked, with a recording: the file, or standard input where none is named; or without.
 fn answer(rt: &HostRuntime, request: &Request<'_>) -> ExitCode {
-    match request.file {
-        None => run(
-            rt,
-            &mut ReadSource::new(rt.reader()),
-            request.command,
-            request.order,
-        ),
-        Some(path) => match File::open(rt, path) {
-            Ok(opened) => run(
-                rt,
-                &mut ReadSource::new(opened),
-                request.command,
-                request.order,
-            ),
+    match request {
+        Request::Ask {
+            kind,
+            family,
+            seq,
+            order,
+        } => {
+            let mut sink = WriteSink::new(io::writer(rt));
+            let answer = run_request(rt.alloc(), &mut sink, *kind, *family, *seq, *order);
+            outcome(rt, answer)
+        }
+        Request::Recording {
+            engine,
+            limits,
+            file: None,
+        } => run(rt, &mut ReadSource::new(rt.reader()), *engine, limits),
+        Request::Recording {
+            engine,
+            limits,
+            file: Some(path),
+        } => match File::open(rt, path) {
+            Ok(opened) => run(rt, &mut ReadSource::new(opened), *engine, limits),
             Err(_) => outcome(rt, Err(RunError::ReadFault)),
         },
     }

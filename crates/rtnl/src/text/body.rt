@@ -2,8 +2,10 @@
 
 ghost use Rattle.std.specs.Prelude.{◌≡◌, ◌++◌, OnOk};
 ghost use Rattle.std.specs.String.{string_bytes};
+ghost use Rattle.nl_dump.specs.Items.{addr_item, link_item, neigh_item, route_item};
 ghost use Rattle.nl_frame.specs.View.{body_view};
 ghost use Rattle.rtnl.specs.Messages.{addr_line, body_text, bytes_line, done_line, error_line, get_line, link_line, neigh_line, route_line};
+ghost use Rattle.rtnl.specs.Tabled.{item_text};
 
 use crate::text::digits::{Hex2, Hex4, Hex8, HexBytes};
 use crate::text::flags::{LinkFlags, NeighFlags, NeighState};
@@ -11,7 +13,7 @@ use crate::text::names::push_names;
 use crate::text::tree::push_attrs;
 use nl_attr::{Ctx, Order};
 use nl_frame::{Body, Header};
-use nl_route::{AddrHead, LinkHead, NeighHead, RouteHead};
+use nl_route::{Addr, AddrHead, Link, LinkHead, Neigh, NeighHead, Route, RouteHead};
 use std::alloc::{AllocError, Global};
 use std::fmt::Write;
 
@@ -142,8 +144,64 @@ fn push_bytes(out: &mut String, payload: &[u8]) -> Result<(), AllocError>
     writeln!(out, "  bytes {payload}")
 }
 
+/// Writes the line of a link, and the lines of its attributes.
+#[tactic(auto, unfolding(crate::specs::Messages::body_text, crate::specs::Tabled::item_text), using(std::proofs::Common::append_assoc))]
+pub(crate) fn push_link_body(
+    alloc: Global,
+    out: &mut String,
+    order: Order,
+    link: &Link,
+) -> Result<(), AllocError>
+    ensures { OnOk result (string_bytes out.new ≡ string_bytes out.old ++ item_text order (link_item link.now)) }
+{
+    push_link(out, &link.head)?;
+    push_attrs(alloc, out, order, INDENT, Ctx::Link, &link.attrs)
+}
+
+/// Writes the line of an address, and the lines of its attributes.
+#[tactic(auto, unfolding(crate::specs::Messages::body_text, crate::specs::Tabled::item_text), using(std::proofs::Common::append_assoc))]
+pub(crate) fn push_addr_body(
+    alloc: Global,
+    out: &mut String,
+    order: Order,
+    addr: &Addr,
+) -> Result<(), AllocError>
+    ensures { OnOk result (string_bytes out.new ≡ string_bytes out.old ++ item_text order (addr_item addr.now)) }
+{
+    push_addr(out, &addr.head)?;
+    push_attrs(alloc, out, order, INDENT, Ctx::Addr, &addr.attrs)
+}
+
+/// Writes the line of a route, and the lines of its attributes.
+#[tactic(auto, unfolding(crate::specs::Messages::body_text, crate::specs::Tabled::item_text), using(std::proofs::Common::append_assoc))]
+pub(crate) fn push_route_body(
+    alloc: Global,
+    out: &mut String,
+    order: Order,
+    route: &Route,
+) -> Result<(), AllocError>
+    ensures { OnOk result (string_bytes out.new ≡ string_bytes out.old ++ item_text order (route_item route.now)) }
+{
+    push_route(out, &route.head)?;
+    push_attrs(alloc, out, order, INDENT, Ctx::Route, &route.attrs)
+}
+
+/// Writes the line of a neighbour, and the lines of its attributes.
+#[tactic(auto, unfolding(crate::specs::Messages::body_text, crate::specs::Tabled::item_text), using(std::proofs::Common::append_assoc))]
+pub(crate) fn push_neigh_body(
+    alloc: Global,
+    out: &mut String,
+    order: Order,
+    neigh: &Neigh,
+) -> Result<(), AllocError>
+    ensures { OnOk result (string_bytes out.new ≡ string_bytes out.old ++ item_text order (neigh_item neigh.now)) }
+{
+    push_neigh(out, &neigh.head)?;
+    push_attrs(alloc, out, order, INDENT, Ctx::Neigh, &neigh.attrs)
+}
+
 /// Writes the line of a body, and the lines of its attributes.
-#[tactic(auto, unfolding(crate::specs::Messages::body_text), using(std::proofs::Common::append_assoc))]
+#[tactic(auto, unfolding(crate::specs::Messages::body_text, crate::specs::Tabled::item_text), using(std::proofs::Common::append_assoc))]
 pub(crate) fn push_body(
     alloc: Global,
     out: &mut String,
@@ -163,21 +221,9 @@ pub(crate) fn push_body(
         } => push_error(out, *code, answered, tail),
         Body::Done { status, tail } => push_done(out, status.unwrap_or(0), tail),
         Body::Get { family, tail } => push_get(out, *family, tail),
-        Body::Link(link) => {
-            push_link(out, &link.head)?;
-            push_attrs(alloc, out, order, INDENT, Ctx::Link, &link.attrs)
-        }
-        Body::Addr(addr) => {
-            push_addr(out, &addr.head)?;
-            push_attrs(alloc, out, order, INDENT, Ctx::Addr, &addr.attrs)
-        }
-        Body::Route(route) => {
-            push_route(out, &route.head)?;
-            push_attrs(alloc, out, order, INDENT, Ctx::Route, &route.attrs)
-        }
-        Body::Neigh(neigh) => {
-            push_neigh(out, &neigh.head)?;
-            push_attrs(alloc, out, order, INDENT, Ctx::Neigh, &neigh.attrs)
-        }
+        Body::Link(link) => push_link_body(alloc, out, order, link),
+        Body::Addr(addr) => push_addr_body(alloc, out, order, addr),
+        Body::Route(route) => push_route_body(alloc, out, order, route),
+        Body::Neigh(neigh) => push_neigh_body(alloc, out, order, neigh),
     }
 }

@@ -2,6 +2,7 @@
 
 ghost use Rattle.std.specs.Prelude.{◌≡◌, ◌≢◌, ◌++◌, OnOk};
 ghost use Rattle.std.specs.String.{string_bytes};
+ghost use Rattle.rtnl.specs.Checked.{number_front};
 ghost use Rattle.rtnl.specs.Datagrams.{datagram_line, reason_text, refused_line, too_large_line};
 ghost use Rattle.rtnl.specs.Shown.{refusal_text};
 
@@ -20,6 +21,14 @@ pub(crate) fn push_datagram_line(
     ensures { OnOk result (string_bytes out.new ≡ string_bytes out.old ++ datagram_line number size) }
 {
     writeln!(out, "datagram {number} bytes {size}")
+}
+
+/// Writes what stands before a word on the datagram of this number, counted from 1.
+#[tactic(auto, unfolding(crate::specs::Checked::number_front))]
+pub(crate) fn push_number(out: &mut String, number: usize) -> Result<(), AllocError>
+    ensures { OnOk result (string_bytes out.new ≡ string_bytes out.old ++ number_front number) }
+{
+    write!(out, "datagram {number} ")
 }
 
 #[tactic(auto, unfolding(crate::specs::Datagrams::reason_text))]

@@ -4,6 +4,8 @@ pub(crate) mod attributes;
 pub(crate) mod body;
 pub(crate) mod datagram;
 pub(crate) mod digits;
+pub(crate) mod dump;
+pub(crate) mod entries;
 pub(crate) mod flags;
 pub(crate) mod message;
 pub(crate) mod names;

@@ -1,0 +1,66 @@
+-- Datagrams that are fed one after another.
+use Rattle.std.proofs.Common.{◌≡◌, ℕ, ◌+◌, List, [], ◌∷◌, ◌++◌, length, Result, Ok, refl, sym, ap, ◌∙◌, append_assoc, append-nil, ◌-◌, map, drop, arith, length-drop}
+use Rattle.std.proofs.Math.ListN.{drop_of_length-le}
+use Rattle.std.proofs.lemmas.List.{length-map}
+use Rattle.std.specs.Global.{Vec}
+use Rattle.nl_attr.specs.declared.order.Order.{Order}
+use Rattle.nl_frame.specs.Limits.{Bounds}
+use Rattle.nl_dump.specs.declared.dump.Dump.{Dump}
+use Rattle.nl_dump.specs.declared.dump.Progress.{Progress}
+use Rattle.nl_dump.specs.declared.errors.FeedError.{FeedError}
+use Rattle.nl_dump.specs.View.{View, table_at}
+use Rattle.nl_dump.specs.Steps.{IsWaiting, IsNew, Began, Fed}
+use Rattle.nl_dump.specs.Whole.{begins}
+use Rattle.nl_dump.proofs.Courses.{calls_end}
+use Rattle.rtnl.specs.Tabled.{dump_line, entries_text, ending_text, Answered, datagrams_of, IsTold, FeedsSome, fed_text, refusals_text, tabled_text, calls_of, IsRun}
+
+-- nothing is fed yet
+pub feeds_none : (u : View) (ds : List (List ℕ)) → FeedsSome u ds [] ds u
+feeds_none u ds = record { order = refl; told = tt; calls = λ b before calls. calls }
+
+-- no line yet
+pub refused_none : (out : List ℕ) → out ≡ out ++ refusals_text []
+unfolding refusals_text
+refused_none out = sym (append-nil out)
+
+-- one datagram more
+pub feeds_more : (u v w : View) (ds rest : List (List ℕ)) (fed : List Answered) (d : List ℕ) (r : Result Progress FeedError) → FeedsSome u ds fed (d ∷ rest) v → Fed v d r w → IsTold r → FeedsSome u ds ((d, r) ∷ fed) rest w
+feeds_more u v w ds rest fed d r h step told =
+    record {
+      order = h.order ∙ sym (append_assoc (datagrams_of fed) (d ∷ []) rest);
+      told = (told, h.told);
+      calls = λ b before calls. (v, h.calls b before calls, step);
+    }
+
+-- and its line
+pub refused_more : (old mid new : List ℕ) (fed : List Answered) (d : List ℕ) (r : Result Progress FeedError) (n : ℕ) → mid ≡ old ++ refusals_text fed → length fed ≡ n → new ≡ mid ++ fed_text (n + 1) r → new ≡ old ++ refusals_text ((d, r) ∷ fed)
+unfolding refusals_text
+refused_more old mid new fed d r n h size line =
+    line ∙ ap (λ t. t ++ fed_text (n + 1) r) h ∙ append_assoc old (refusals_text fed) (fed_text (n + 1) r) ∙ ap (λ k. old ++ (refusals_text fed ++ fed_text (k + 1) r)) (sym size)
+
+-- a whole run
+pub run_is : (b : Bounds) (d : Dump) (ds : List (List ℕ)) (request : Vec ℕ) (fed : List Answered) (unfed : List (List ℕ)) (new begun v : View) → IsNew b new → Began new d (Ok request) begun → FeedsSome begun ds fed unfed v → (IsWaiting v.state → unfed ≡ [])
+    → IsRun b d ds request fed unfed v
+run_is b d ds request fed unfed new begun v is_new began h all =
+    let calls = h.calls b (begins d (Ok request) ∷ []) (new, is_new, began) in
+    record { calls = calls; session = calls_end b (calls_of d request fed) v calls; order = h.order; told = h.told; all = all }
+
+-- nothing is left where all was fed
+pub none_left : {X : Type 0} (f : X → List ℕ) (xs : List X) (n : ℕ) → n ≡ length xs → map f (drop n xs) ≡ []
+none_left f xs n e = ap (map f) (drop_of_length-le xs (omega (arith, e)))
+
+pub left_length : {X : Type 0} (f : X → List ℕ) (xs : List X) (n : ℕ) → length (map f (drop n xs)) ≡ length xs - n
+left_length f xs n = length-map (drop n xs) f ∙ length-drop n xs
+
+-- the text of a run
+pub run_text : (d : Dump) (fed : List Answered) (unfed : List (List ℕ)) (v : View) (b : Bounds) (o : Order) (n : ℕ) (first second third all : List ℕ) → first ≡ [] → second ≡ first ++ dump_line d → third ≡ second ++ refusals_text fed
+    → all ≡ (third ++ entries_text o 1 (table_at d.kind v.tables).entries) ++ ending_text d.kind n v → o ≡ b.shape.order → v.limits ≡ b → n ≡ length unfed → all ≡ tabled_text d fed (length unfed) v
+run_text d fed unfed v b o n first second third all none line refusals rest order limits left =
+    let front : second ≡ dump_line d = line ∙ ap (λ t. t ++ dump_line d) none in
+    let more : third ≡ dump_line d ++ refusals_text fed = refusals ∙ ap (λ t. t ++ refusals_text fed) front in
+    let same : o ≡ v.limits.shape.order = order ∙ sym (ap (λ (x : Bounds). x.shape.order) limits) in
+    rest ∙ λ i. (more i ++ entries_text (same i) 1 (table_at d.kind v.tables).entries) ++ ending_text d.kind (left i) v
+
+-- a table's entries, and the four lines behind them
+pub five_parts : (old es first second third fourth a b c d : List ℕ) → a ≡ old ++ es → b ≡ a ++ first → c ≡ b ++ second → d ≡ c ++ third → d ++ fourth ≡ (old ++ es) ++ (first ++ (second ++ (third ++ fourth)))
+five_parts old es first second third fourth a b c d e f g h = rw (h, g, f, e) (simp append_assoc)

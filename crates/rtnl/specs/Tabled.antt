@@ -1,0 +1,178 @@
+-- What is printed of a dump: how it went, and the table that it gave.
+use Rattle.std.specs.Prelude.{◌≡◌, ℕ, ◌+◌, List, [], ◌∷◌, ◌++◌, length, codes, Bool, true, false, Option, Result, Ok, Err}
+use Rattle.std.specs.Fmt.{decimal, signed_decimal}
+use Rattle.std.specs.Global.{Vec}
+use Rattle.nl_attr.specs.declared.order.Order.{Order}
+use Rattle.nl_frame.specs.declared.form.Group.{Group}
+use Rattle.nl_frame.specs.declared.form.Group.TheVariants.{Link, Addr, Route, Neigh}
+use Rattle.nl_frame.specs.Limits.{Bounds}
+use Rattle.nl_frame.specs.Message.{family}
+use Rattle.nl_dump.specs.declared.dump.Dump.{Dump}
+use Rattle.nl_dump.specs.declared.dump.End.TheVariants.{Done, Error, Overrun, Abandoned}
+use Rattle.nl_dump.specs.declared.dump.State.{State}
+use Rattle.nl_dump.specs.declared.dump.State.TheVariants.{Idle, Waiting, Ended}
+use Rattle.nl_dump.specs.declared.dump.Progress.{Progress}
+use Rattle.nl_dump.specs.declared.errors.FeedError.{FeedError}
+use Rattle.nl_dump.specs.declared.errors.FeedError.TheVariants as feed
+use Rattle.nl_dump.specs.Items.{Item}
+use Rattle.nl_dump.specs.View.{View, table_at, complete_of}
+use Rattle.nl_dump.specs.Steps.{IsWaiting}
+use Rattle.nl_dump.specs.Whole.{Call, begins, feeds, Calls, SessionOf}
+use Rattle.rtnl.specs.Checked.{number_front}
+use Rattle.rtnl.specs.Datagrams.{refused_line, too_large_line}
+use Rattle.rtnl.specs.Messages.{body_text}
+use Rattle.rtnl.specs.Runs.{OfInput, FrontOfInput}
+use Rattle.rtnl.specs.Text.{◌⨟◌}
+use Rattle.rtnl.specs.declared.error.Verdict.{Verdict}
+use Rattle.rtnl.specs.declared.error.Verdict.TheVariants.{Clean, Blemished}
+
+-- the name of a family on the command line
+unfoldable pub kind_text : Group → List ℕ
+kind_text Link = codes "link"
+kind_text Addr = codes "addr"
+kind_text Route = codes "route"
+kind_text Neigh = codes "neigh"
+
+-- the dump that is read
+unfoldable pub dump_line : Dump → List ℕ
+dump_line d = codes "dump " ⨟ kind_text d.kind ⨟ codes " seq " ⨟ decimal d.seq ⨟ codes " port " ⨟ decimal d.port ⨟ codes "\n"
+
+-- a datagram was refused, since all datagrams would be too large
+unfoldable pub total_line : List ℕ
+total_line = codes "refused total\n"
+
+-- the line of the datagram of this number, where it was refused
+unfoldable pub fed_text : ℕ → Result Progress FeedError → List ℕ
+fed_text number (Ok progress) = []
+fed_text number (Err feed.NotWaiting) = []
+fed_text number (Err feed.Total) = number_front number ++ total_line
+fed_text number (Err feed.TooLarge) = number_front number ++ too_large_line
+fed_text number (Err (feed.Layout f)) = number_front number ++ refused_line f.reason f.place
+fed_text number (Err feed.Memory) = []
+
+-- a datagram that was fed, and its answer
+abbrev pub Answered : Type 0
+Answered = List ℕ × Result Progress FeedError
+
+-- the lines of the datagrams that were fed, the newest first; their numbers count from 1
+unfoldable pub refusals_text : List Answered → List ℕ
+refusals_text [] = []
+refusals_text (f ∷ fed) = refusals_text fed ++ fed_text (length fed + 1) f.1
+
+-- the entry of this number
+unfoldable pub entry_line : ℕ → List ℕ
+entry_line number = codes "entry " ⨟ decimal number ⨟ codes "\n"
+
+-- the body lines of an entry
+unfoldable pub item_text : Order → Item → List ℕ
+item_text o item = body_text o (family item.0 item.1)
+
+-- the entries of a table from this number on, each of which stands behind its key
+unfoldable pub entries_text : Order → ℕ → List (List ℕ × Item) → List ℕ
+entries_text o number [] = []
+entries_text o number (e ∷ es) = (entry_line number ++ item_text o e.1) ++ entries_text o (number + 1) es
+
+-- how the dump ended
+unfoldable pub end_line : State → List ℕ
+end_line Idle = codes "end none\n"
+end_line (Waiting d) = codes "end none\n"
+end_line (Ended d (Done status)) = codes "end done " ⨟ signed_decimal status ⨟ codes "\n"
+end_line (Ended d (Error code)) = codes "end error " ⨟ signed_decimal code ⨟ codes "\n"
+end_line (Ended d Overrun) = codes "end overrun\n"
+end_line (Ended d Abandoned) = codes "end none\n"
+
+unfoldable pub yes_no : Bool → List ℕ
+yes_no true = codes "yes"
+yes_no false = codes "no"
+
+-- what was counted of the dump
+unfoldable pub counts_line : ℕ → ℕ → ℕ → ℕ → Bool → Bool → List ℕ
+counts_line entries missed ignored unfed damaged interrupted =
+    codes "entries " ⨟ decimal entries ⨟ codes " missed " ⨟ decimal missed ⨟ codes " ignored " ⨟ decimal ignored
+    ⨟ codes " unfed " ⨟ decimal unfed ⨟ codes " damaged " ⨟ yes_no damaged ⨟ codes " interrupted " ⨟ yes_no interrupted ⨟ codes "\n"
+
+-- what was counted of all datagrams
+unfoldable pub sums_line : ℕ → ℕ → List ℕ
+sums_line received visits = codes "received " ⨟ decimal received ⨟ codes " visits " ⨟ decimal visits ⨟ codes "\n"
+
+unfoldable pub complete_line : Bool → List ℕ
+complete_line complete = codes "complete " ⨟ yes_no complete ⨟ codes "\n"
+
+-- how a session's dump of this family ended, with so many datagrams left
+unfoldable pub ending_text : Group → ℕ → View → List ℕ
+ending_text k unfed v =
+    let t = table_at k v.tables in
+    end_line v.state
+    ⨟ counts_line (length t.entries) t.missed v.ignored unfed v.damaged v.interrupted
+    ⨟ sums_line v.received v.visits
+    ⨟ complete_line (complete_of v)
+
+-- the text of a session's dump: the datagrams that were fed, and how many were not
+abbrev pub tabled_text : Dump → List Answered → ℕ → View → List ℕ
+tabled_text d fed unfed v =
+    ((dump_line d ++ refusals_text fed) ++ entries_text v.limits.shape.order 1 (table_at d.kind v.tables).entries) ++ ending_text d.kind unfed v
+
+-- datagrams in the order in which they were fed
+abbrev pub datagrams_of : List Answered → List (List ℕ)
+datagrams_of [] = []
+datagrams_of (f ∷ fed) = datagrams_of fed ++ f.0 ∷ []
+
+-- the calls that feed them after others, the newest first
+abbrev pub feeds_after : List Call → List Answered → List Call
+feeds_after before [] = before
+feeds_after before (f ∷ fed) = feeds f.0 f.1 ∷ feeds_after before fed
+
+-- the dump waited, and memory did not run out
+abbrev pub IsTold : Result Progress FeedError → Type 0
+IsTold (Ok progress) = Unit {0}
+IsTold (Err feed.NotWaiting) = ⊥
+IsTold (Err feed.Total) = Unit {0}
+IsTold (Err feed.TooLarge) = Unit {0}
+IsTold (Err (feed.Layout f)) = Unit {0}
+IsTold (Err feed.Memory) = ⊥
+
+abbrev pub AreTold : List Answered → Type 0
+AreTold [] = Unit {0}
+AreTold (f ∷ fed) = IsTold f.1 × AreTold fed
+
+-- a session is fed the first of these datagrams, which are answered so, and others are left
+pub record FeedsSome (u : View) (ds : List (List ℕ)) (fed : List Answered) (rest : List (List ℕ)) (v : View) : Type 0 where
+  pub order : ds ≡ datagrams_of fed ++ rest
+  pub told : AreTold fed
+  pub calls : (b : Bounds) (before : List Call) → Calls b before u → Calls b (feeds_after before fed) v
+
+-- the calls of a run: it begins the dump, and then feeds these datagrams
+abbrev pub calls_of : Dump → Vec ℕ → List Answered → List Call
+calls_of d request fed = feeds_after (begins d (Ok request) ∷ []) fed
+
+-- a new session of these limits begins the dump and is fed the datagrams in order, until the dump has ended
+pub record IsRun (b : Bounds) (d : Dump) (ds : List (List ℕ)) (request : Vec ℕ) (fed : List Answered) (unfed : List (List ℕ)) (v : View) : Type 0 where
+  -- each answer is that of its call
+  pub calls : Calls b (calls_of d request fed) v
+  -- the session is that of all calls
+  pub session : SessionOf b (calls_of d request fed) v
+  -- the first datagrams were fed, in order, each of them while the dump waited
+  pub order : ds ≡ datagrams_of fed ++ unfed
+  pub told : AreTold fed
+  -- and none is left while the dump waits
+  pub all : IsWaiting v.state → unfed ≡ []
+
+abbrev pub verdict_of : Bool → Verdict
+verdict_of true = Clean
+verdict_of false = Blemished
+
+-- the text of the session in which the run over these datagrams ends, and whether its dump is complete
+pub record Tables (b : Bounds) (d : Dump) (ds : List (List ℕ)) (text : List ℕ) (verdict : Verdict) : Type 0 where
+  pub request : Vec ℕ
+  pub fed : List Answered
+  pub unfed : List (List ℕ)
+  pub session : View
+  pub run : IsRun b d ds request fed unfed session
+  pub text_is : text ≡ tabled_text d fed (length unfed) session
+  pub verdict_is : verdict ≡ verdict_of (complete_of session)
+
+abbrev pub TablesInput : Bounds → Dump → Option (List ℕ) → Option (List ℕ) → Option (List ℕ) → Option (List ℕ) → Verdict → Type 0
+TablesInput b d = OfInput (Tables b d)
+
+abbrev pub TablesFront : Bounds → Dump → Option (List ℕ) → Option (List ℕ) → Option (List ℕ) → Option (List ℕ) → Type 0
+TablesFront b d = FrontOfInput (Tables b d)
