@@ -8,7 +8,7 @@ use Rattle.nl_frame.specs.Layout.{Layout}
 use Rattle.nl_frame.specs.Written.{written}
 use Rattle.rtnl.specs.Text.{◌⨟◌}
 use Rattle.rtnl.specs.Shown.{Refuses, refusal_text}
-use Rattle.rtnl.specs.Runs.{Prints, OfInput, FrontOfInput}
+use Rattle.rtnl.specs.Runs.{Prints, OfInput}
 use Rattle.rtnl.specs.declared.error.Verdict.{Verdict}
 
 -- whether an accepted datagram is canonical, or why it is refused
@@ -44,6 +44,3 @@ Checks b = Prints (Finds b) checked_line is_accepted
 
 abbrev pub ChecksInput : Bounds → Option (List ℕ) → Option (List ℕ) → Option (List ℕ) → Option (List ℕ) → Verdict → Type 0
 ChecksInput b = OfInput (Checks b)
-
-abbrev pub ChecksFront : Bounds → Option (List ℕ) → Option (List ℕ) → Option (List ℕ) → Option (List ℕ) → Type 0
-ChecksFront b = FrontOfInput (Checks b)

@@ -6,6 +6,10 @@ use Rattle.hex.specs.declared.error.FromHexError.{FromHexError}
 use Rattle.rtnl.specs.declared.error.RunError.{RunError}
 use Rattle.rtnl.specs.declared.error.RunError.TheVariants.{BadLine, ReadFault, WriteFault, Memory}
 
+-- the most bytes of a recording: 2^24
+abbrev pub longest_input : ℕ
+longest_input = 16777216
+
 -- the byte that ends a line
 abbrev pub is_newline : ℕ → Bool
 is_newline byte = byte == 10

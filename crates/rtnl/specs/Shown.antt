@@ -7,7 +7,7 @@ use Rattle.nl_frame.specs.Limits.{Bounds}
 use Rattle.nl_frame.specs.Message.{MessageVal}
 use Rattle.nl_frame.specs.Layout.{Layout}
 use Rattle.nl_frame.specs.Heads.{IsFirstFault, whole}
-use Rattle.rtnl.specs.Runs.{Prints, OfInput, FrontOfInput}
+use Rattle.rtnl.specs.Runs.{Prints, OfInput}
 use Rattle.rtnl.specs.Datagrams.{datagram_line, refused_line, too_large_line}
 use Rattle.rtnl.specs.Messages.{messages_text}
 use Rattle.rtnl.specs.declared.error.Verdict.{Verdict}
@@ -52,6 +52,3 @@ Shows b = Prints (Answers b) (datagram_text b.shape.order) is_taken
 
 abbrev pub ShowsInput : Bounds → Option (List ℕ) → Option (List ℕ) → Option (List ℕ) → Option (List ℕ) → Verdict → Type 0
 ShowsInput b = OfInput (Shows b)
-
-abbrev pub ShowsFront : Bounds → Option (List ℕ) → Option (List ℕ) → Option (List ℕ) → Option (List ℕ) → Type 0
-ShowsFront b = FrontOfInput (Shows b)

@@ -21,7 +21,7 @@ use Rattle.nl_dump.specs.Whole.{Call, begins, feeds, Calls, SessionOf}
 use Rattle.rtnl.specs.Checked.{number_front}
 use Rattle.rtnl.specs.Datagrams.{refused_line, too_large_line}
 use Rattle.rtnl.specs.Messages.{body_text}
-use Rattle.rtnl.specs.Runs.{OfInput, FrontOfInput}
+use Rattle.rtnl.specs.Runs.{OfInput}
 use Rattle.rtnl.specs.Text.{◌⨟◌}
 use Rattle.rtnl.specs.declared.error.Verdict.{Verdict}
 use Rattle.rtnl.specs.declared.error.Verdict.TheVariants.{Clean, Blemished}
@@ -173,6 +173,3 @@ pub record Tables (b : Bounds) (d : Dump) (ds : List (List ℕ)) (text : List �
 
 abbrev pub TablesInput : Bounds → Dump → Option (List ℕ) → Option (List ℕ) → Option (List ℕ) → Option (List ℕ) → Verdict → Type 0
 TablesInput b d = OfInput (Tables b d)
-
-abbrev pub TablesFront : Bounds → Dump → Option (List ℕ) → Option (List ℕ) → Option (List ℕ) → Option (List ℕ) → Type 0
-TablesFront b d = FrontOfInput (Tables b d)

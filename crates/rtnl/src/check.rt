@@ -1,16 +1,14 @@
 //! Checking a recording.
 
-ghost use Rattle.std.specs.Prelude.{◌≡◌, ◌≢◌, ◌+◌, ◌<◌, ◌++◌, ◌⊎◌, ℕ, List, map, length, Ok, OnOk, OnErr, IfOk, Err};
+ghost use Rattle.std.specs.Prelude.{◌≡◌, ◌++◌, List, map, Ok, OnOk, IfOk};
 ghost use Rattle.std.specs.String.{string_bytes};
-ghost use Rattle.std.specs.Io.KnownBytes.{IsAtEnd};
-ghost use Rattle.rtnl.specs.Checked.{Finding, Finds, Checks, ChecksInput, ChecksFront, checked_line, finding_text, is_accepted};
-ghost use Rattle.rtnl.specs.Runs.{EachIs, HasBadLine, texts_from, verdict_from};
-ghost use Rattle.rtnl.specs.Streams.{ConsumesMoreThan, HasFailed};
+ghost use Rattle.rtnl.specs.Checked.{Finding, Finds, Checks, ChecksInput, checked_line, finding_text, is_accepted};
+ghost use Rattle.rtnl.specs.Runs.{EachIs, Runs, texts_from, verdict_from};
 
 use crate::error::{RunError, Verdict};
-use crate::lines::read_datagrams;
-use crate::sink::{Sink, give_all};
-use crate::source::{LONGEST_INPUT, Source, read_input};
+use crate::run::{Command, run};
+use crate::sink::Sink;
+use crate::source::Source;
 use crate::text::datagram::{push_number, push_refusal};
 use nl_frame::{Limits, is_canonical};
 use std::alloc::{AllocError, Global};
@@ -70,17 +68,26 @@ fn push_checks(
     Ok(verdict)
 }
 
-/// The text of a check of all datagrams, and the verdict.
-fn text_of(
-    alloc: Global,
-    datagrams: &[Vec<u8>],
-    limits: &Limits,
-) -> Result<(String, Verdict), AllocError>
-    ensures { IfOk result (λ p. Checks limits.now (map (λ d. d.items) datagrams.now) (string_bytes p.0) p.1) }
-{
-    let mut text = String::new(alloc);
-    let verdict = push_checks(alloc, &mut text, datagrams, limits)?;
-    Ok((text, verdict))
+/// To check datagrams under these limits.
+#[derive(Clone, Copy)]
+struct Check {
+    limits: Limits,
+}
+
+impl Command for Check {
+    ghost use Rattle.rtnl.specs.Checked.{Checks};
+
+    ghost says = { λ c. Checks c.limits };
+
+    fn text_of(
+        &self,
+        alloc: Global,
+        datagrams: &[Vec<u8>],
+    ) -> Result<(String, Verdict), AllocError> {
+        let mut text = String::new(alloc);
+        let verdict = push_checks(alloc, &mut text, datagrams, &self.limits)?;
+        Ok((text, verdict))
+    }
 }
 
 /// Says of each datagram of the lines that a source gives whether it is canonical, accepted though not
@@ -97,23 +104,9 @@ pub fn run_check<S: Source, W: Sink>(
 ) -> Result<Verdict, RunError>
     // What was written is what a check says of the datagrams of what was read, and the verdict is theirs.
     ensures checked { IfOk result (λ verdict. ChecksInput limits.now (S.remaining source.old) (S.remaining source.new) (W.contents sink.old) (W.contents sink.new) verdict) }
-    // The source came to its end.
-    ensures ended { OnOk result (S.is_ended source.new × IsAtEnd (S.remaining source.new)) }
-    // No call failed.
-    ensures sound { OnOk result ((S.failure_count source.new ≡ S.failure_count source.old) × (W.failure_count sink.new ≡ W.failure_count sink.old)) }
-    ensures bad_line { (number : ℕ) → result ≡ Err (RunError.BadLine number) → S.is_ended source.new × HasBadLine (S.remaining source.old) (S.remaining source.new) number }
-    // A read failed in this call, or the input is too long.
-    ensures read_fault { result ≡ Err RunError.ReadFault → HasFailed (S.failure_count source.old) (S.failure_count source.new) ⊎ ConsumesMoreThan LONGEST_INPUT (S.remaining source.old) (S.remaining source.new) }
-    // A write failed in this call, or took no byte.
-    ensures write_fault { result ≡ Err RunError.WriteFault → HasFailed (W.failure_count sink.old) (W.failure_count sink.new) ⊎ W.is_stalled sink.new }
-    ensures nothing { OnErr result (result ≢ Err RunError.WriteFault → sink.new ≡ sink.old) }
-    ensures part { result ≡ Err RunError.WriteFault → ChecksFront limits.now (S.remaining source.old) (S.remaining source.new) (W.contents sink.old) (W.contents sink.new) }
+    // It ends as every run over a recording does.
+    ensures runs { Runs S.remaining S.is_ended S.failure_count W.contents W.is_stalled W.failure_count
+        (Checks limits.now) source.old source.new sink.old sink.new result }
 {
-    let input = read_input(alloc, source)?;
-    let datagrams = read_datagrams(alloc, input.as_slice())?;
-    let (text, verdict) = text_of(alloc, datagrams.as_slice(), limits)?;
-    match give_all(sink, text.as_str().as_bytes()) {
-        Ok(()) => Ok(verdict),
-        Err(_) => Err(RunError::WriteFault),
-    }
+    run(alloc, source, sink, &Check { limits: *limits })
 }

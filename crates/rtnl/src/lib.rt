@@ -2,11 +2,13 @@
 //! recording, and the words of the printed text.
 #![tactic(auto)]
 
+mod begun;
 mod broken;
 mod check;
 mod error;
 mod lines;
 mod request;
+mod run;
 mod show;
 mod sink;
 mod source;

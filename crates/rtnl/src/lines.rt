@@ -2,10 +2,9 @@
 
 ghost use Rattle.std.specs.List.{list_any};
 ghost use Rattle.std.specs.Prelude.{◌≡◌, ◌≤◌, length, map, option_map, IfOk};
-ghost use Rattle.rtnl.specs.Lines.{Gives, compact, datagrams, digits_at, is_blank, is_comment, line_at};
+ghost use Rattle.rtnl.specs.Lines.{Gives, compact, datagrams, digits_at, is_blank, is_comment, line_at, longest_input};
 
 use crate::error::RunError;
-use crate::source::LONGEST_INPUT;
 use hex::FromHexError;
 use std::alloc::{AllocError, Global};
 
@@ -66,7 +65,7 @@ fn read_line(alloc: Global, number: u32, line: &[u8]) -> Result<Option<Vec<u8>>,
 
 /// The datagrams of the lines of a recording, or the first line that is bad.
 pub(crate) fn read_datagrams(alloc: Global, input: &[u8]) -> Result<Vec<Vec<u8>>, RunError>
-    requires { length input.now ≤ LONGEST_INPUT }
+    requires { length input.now ≤ longest_input }
     ensures { Gives (λ v. map (λ d. d.items) v.items) result (datagrams input.now) }
 {
     let mut datagrams = Vec::new(alloc);

@@ -3,35 +3,18 @@
 ghost use Rattle.std.specs.Prelude.{◌≡◌, ◌≢◌, ◌++◌, ◌⊎◌, OnOk, OnErr, IfOk, IfErr, Err};
 ghost use Rattle.std.specs.String.{string_bytes};
 ghost use Rattle.std.specs.Io.KnownBytes.{Appends};
-ghost use Rattle.nl_dump.specs.Request.{request_of};
 ghost use Rattle.rtnl.specs.Requested.{bytes_alone, requested};
 ghost use Rattle.rtnl.specs.Streams.{AppendsPrefix, HasFailed};
 
+use crate::begun::begun;
 use crate::error::{RunError, Verdict};
 use crate::sink::{Sink, give_all};
 use crate::text::digits::HexBytes;
 use nl_attr::Order;
-use nl_dump::{Kind, Session};
+use nl_dump::{Dump, Kind};
 use nl_frame::Limits;
 use std::alloc::{AllocError, Global};
 use std::fmt::Write;
-
-/// The bytes of the request that begins a dump.
-fn request(
-    alloc: Global,
-    kind: Kind,
-    family: u8,
-    seq: u32,
-    order: Order,
-) -> Result<Vec<u8>, AllocError>
-    ensures { IfOk result (λ v. v.items ≡ request_of order (record { kind = kind; family = family; seq = seq; port = 0 })) }
-{
-    let mut session = Session::new(alloc, Limits::standard().with_order(order))?;
-    match session.begin(kind, family, seq, 0) {
-        Ok(request) => Ok(request),
-        Err(_) => Err(AllocError),
-    }
-}
 
 #[tactic(auto, unfolding(crate::specs::Requested::bytes_alone))]
 fn push_bytes_alone(out: &mut String, bytes: &[u8]) -> Result<(), AllocError>
@@ -41,17 +24,12 @@ fn push_bytes_alone(out: &mut String, bytes: &[u8]) -> Result<(), AllocError>
     writeln!(out, "{bytes}")
 }
 
-/// The line of the request.
-fn text_of(
-    alloc: Global,
-    kind: Kind,
-    family: u8,
-    seq: u32,
-    order: Order,
-) -> Result<String, AllocError>
-    ensures { IfOk result (λ s. string_bytes s ≡ requested order (record { kind = kind; family = family; seq = seq; port = 0 })) }
+/// The line of the request that begins a dump.
+fn text_of(alloc: Global, dump: &Dump, order: Order) -> Result<String, AllocError>
+    ensures { IfOk result (λ s. string_bytes s ≡ requested order dump.now) }
 {
-    let request = request(alloc, kind, family, seq, order)?;
+    let limits = Limits::standard().with_order(order);
+    let (_session, request) = begun(alloc, dump, &limits)?;
     let mut text = String::new(alloc);
     push_bytes_alone(&mut text, request.as_slice())?;
     Ok(text)
@@ -80,7 +58,13 @@ pub fn run_request<W: Sink>(
     ensures nothing { OnErr result (result ≢ Err RunError.WriteFault → sink.new ≡ sink.old) }
     ensures part { result ≡ Err RunError.WriteFault → AppendsPrefix (W.contents sink.old) (W.contents sink.new) (requested order (record { kind = kind; family = family; seq = seq; port = 0 })) }
 {
-    let text = text_of(alloc, kind, family, seq, order)?;
+    let dump = Dump {
+        kind,
+        family,
+        seq,
+        port: 0,
+    };
+    let text = text_of(alloc, &dump, order)?;
     match give_all(sink, text.as_str().as_bytes()) {
         Ok(()) => Ok(Verdict::Clean),
         Err(_) => Err(RunError::WriteFault),

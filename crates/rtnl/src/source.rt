@@ -2,6 +2,7 @@
 
 ghost use Rattle.std.specs.Prelude.{◌≡◌, ℕ, ◌+◌, ◌<◌, ◌≤◌, ◌⊎◌, List, [], length, Option, Some, OnOk, OnErr, IfOk, IfErr, IsTrue};
 ghost use Rattle.std.specs.Io.KnownBytes.{Consumes, IsAtEnd, ReadConsumes};
+ghost use Rattle.rtnl.specs.Lines.{longest_input};
 ghost use Rattle.rtnl.specs.Streams.{ConsumesAtMost, ConsumesMoreThan, HasFailed, one_failure_more};
 
 use crate::broken::Broken;
@@ -126,15 +127,15 @@ pub(crate) const LONGEST_INPUT: usize = 16_777_216;
 #[tactic(auto, using(crate::proofs::Streams::consumes_more))]
 pub(crate) fn read_input<S: Source>(alloc: Global, source: &mut S) -> Result<Vec<u8>, RunError>
     ensures all { IfOk result (λ input. Consumes (S.remaining source.old) (S.remaining source.new) input.items) }
-    ensures fits { IfOk result (λ input. length input.items ≤ LONGEST_INPUT) }
+    ensures fits { IfOk result (λ input. length input.items ≤ longest_input) }
     ensures ended { OnOk result (S.is_ended source.new × IsAtEnd (S.remaining source.new)) }
     ensures sound { OnOk result (S.failure_count source.new ≡ S.failure_count source.old) }
 
     ensures fault { result ≡ Err RunError.ReadFault →
         HasFailed (S.failure_count source.old) (S.failure_count source.new)
-        ⊎ ConsumesMoreThan LONGEST_INPUT (S.remaining source.old) (S.remaining source.new) }
+        ⊎ ConsumesMoreThan longest_input (S.remaining source.old) (S.remaining source.new) }
     ensures errors { IfErr result (λ e. (e ≡ RunError.ReadFault) ⊎ (e ≡ RunError.Memory)) }
-    ensures bounded { ConsumesAtMost (LONGEST_INPUT + 1) (S.remaining source.old) (S.remaining source.new) }
+    ensures bounded { ConsumesAtMost (longest_input + 1) (S.remaining source.old) (S.remaining source.new) }
 {
     let mut input = Vec::new(alloc);
     let mut buffer = [0u8; 8192];

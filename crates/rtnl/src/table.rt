@@ -1,20 +1,19 @@
 //! Reading a recording as the answers to a dump.
 
-ghost use Rattle.std.specs.Prelude.{◌≡◌, ◌≢◌, ◌+◌, ◌-◌, ◌<◌, ◌≤◌, ◌++◌, ◌⊎◌, ◌↔◌, IsTrue, ℕ, List, map, length, drop, Result, OnOk, OnErr, IfOk, Err};
+ghost use Rattle.std.specs.Prelude.{◌≡◌, ◌≤◌, ◌++◌, ◌↔◌, IsTrue, List, map, length, drop, Result, OnOk, IfOk};
 ghost use Rattle.std.specs.String.{string_bytes};
-ghost use Rattle.std.specs.Io.KnownBytes.{IsAtEnd};
 ghost use Rattle.nl_dump.specs.Steps.{Fed, IsWaiting};
 ghost use Rattle.nl_dump.specs.View.{table_at};
 ghost use Rattle.nl_dump.specs.declared.dump.Progress.{Progress as AnyProgress};
 ghost use Rattle.nl_dump.specs.declared.errors.FeedError.{FeedError as AnyFeedError};
-ghost use Rattle.rtnl.specs.Runs.{HasBadLine};
-ghost use Rattle.rtnl.specs.Streams.{ConsumesMoreThan, HasFailed};
-ghost use Rattle.rtnl.specs.Tabled.{Answered, FeedsSome, IsTold, Tables, TablesInput, TablesFront, ending_text, entries_text, fed_text, refusals_text, verdict_of};
+ghost use Rattle.rtnl.specs.Runs.{Runs};
+ghost use Rattle.rtnl.specs.Tabled.{Answered, FeedsSome, IsTold, Tables, TablesInput, ending_text, entries_text, fed_text, refusals_text, verdict_of};
 
+use crate::begun::begun;
 use crate::error::{RunError, Verdict};
-use crate::lines::read_datagrams;
-use crate::sink::{Sink, give_all};
-use crate::source::{LONGEST_INPUT, Source, read_input};
+use crate::run::{Command, run};
+use crate::sink::Sink;
+use crate::source::Source;
 use crate::text::dump::{
     Counts, push_complete_line, push_counts_line, push_dump_line, push_end_line, push_feed_error,
     push_sums_line,
@@ -105,32 +104,31 @@ fn verdict(complete: bool) -> Verdict
     }
 }
 
-/// The text of a dump that is fed these datagrams, and whether it is complete.
-fn text_of(
-    alloc: Global,
-    datagrams: &[Vec<u8>],
+/// To read datagrams as the answers to a dump, under these limits.
+#[derive(Clone, Copy)]
+struct Tabulate {
     dump: Dump,
-    limits: &Limits,
-) -> Result<(String, Verdict), AllocError>
-    ensures { IfOk result (λ p. Tables limits.now dump (map (λ d. d.items) datagrams.now) (string_bytes p.0) p.1) }
-{
-    let mut session = Session::new(alloc, *limits)?;
-    let Dump {
-        kind,
-        family,
-        seq,
-        port,
-    } = dump;
-    let _request = match session.begin(kind, family, seq, port) {
-        Ok(request) => request,
-        Err(_) => return Err(AllocError),
-    };
-    let mut text = String::new(alloc);
-    push_dump_line(&mut text, &dump)?;
-    let fed = feed_all(&mut session, &mut text, datagrams)?;
-    let unfed = datagrams.len() - fed;
-    push_session(alloc, &mut text, limits.order(), &session, kind, unfed)?;
-    Ok((text, verdict(session.complete())))
+    limits: Limits,
+}
+
+impl Command for Tabulate {
+    ghost use Rattle.rtnl.specs.Tabled.{Tables};
+
+    ghost says = { λ t. Tables t.limits t.dump };
+
+    fn text_of(
+        &self,
+        alloc: Global,
+        datagrams: &[Vec<u8>],
+    ) -> Result<(String, Verdict), AllocError> {
+        let (mut session, _request) = begun(alloc, &self.dump, &self.limits)?;
+        let mut text = String::new(alloc);
+        push_dump_line(&mut text, &self.dump)?;
+        let fed = feed_all(&mut session, &mut text, datagrams)?;
+        let unfed = datagrams.len() - fed;
+        push_session(alloc, &mut text, self.limits.order(), &session, self.dump.kind, unfed)?;
+        Ok((text, verdict(session.complete())))
+    }
 }
 
 /// Reads the datagrams of the lines that a source gives as the answers to a dump: a new session of
@@ -150,23 +148,9 @@ pub fn run_table<S: Source, W: Sink>(
     // What was written is the text of the session that the datagrams of what was read end in, and the
     // verdict is its.
     ensures tabled { IfOk result (λ verdict. TablesInput limits.now dump (S.remaining source.old) (S.remaining source.new) (W.contents sink.old) (W.contents sink.new) verdict) }
-    // The source came to its end.
-    ensures ended { OnOk result (S.is_ended source.new × IsAtEnd (S.remaining source.new)) }
-    // No call failed.
-    ensures sound { OnOk result ((S.failure_count source.new ≡ S.failure_count source.old) × (W.failure_count sink.new ≡ W.failure_count sink.old)) }
-    ensures bad_line { (number : ℕ) → result ≡ Err (RunError.BadLine number) → S.is_ended source.new × HasBadLine (S.remaining source.old) (S.remaining source.new) number }
-    // A read failed in this call, or the input is too long.
-    ensures read_fault { result ≡ Err RunError.ReadFault → HasFailed (S.failure_count source.old) (S.failure_count source.new) ⊎ ConsumesMoreThan LONGEST_INPUT (S.remaining source.old) (S.remaining source.new) }
-    // A write failed in this call, or took no byte.
-    ensures write_fault { result ≡ Err RunError.WriteFault → HasFailed (W.failure_count sink.old) (W.failure_count sink.new) ⊎ W.is_stalled sink.new }
-    ensures nothing { OnErr result (result ≢ Err RunError.WriteFault → sink.new ≡ sink.old) }
-    ensures part { result ≡ Err RunError.WriteFault → TablesFront limits.now dump (S.remaining source.old) (S.remaining source.new) (W.contents sink.old) (W.contents sink.new) }
+    // It ends as every run over a recording does.
+    ensures runs { Runs S.remaining S.is_ended S.failure_count W.contents W.is_stalled W.failure_count
+        (Tables limits.now dump) source.old source.new sink.old sink.new result }
 {
-    let input = read_input(alloc, source)?;
-    let datagrams = read_datagrams(alloc, input.as_slice())?;
-    let (text, verdict) = text_of(alloc, datagrams.as_slice(), dump, limits)?;
-    match give_all(sink, text.as_str().as_bytes()) {
-        Ok(()) => Ok(verdict),
-        Err(_) => Err(RunError::WriteFault),
-    }
+    run(alloc, source, sink, &Tabulate { dump, limits: *limits })
 }

@@ -1,0 +1,50 @@
+//! A run over a recording: its source to the end, its lines, what a command says of their datagrams, and the
+//! sink.
+
+ghost use Rattle.std.specs.Prelude.{map, IfOk};
+ghost use Rattle.rtnl.specs.Runs.{OfInput, Runs};
+
+use crate::error::{RunError, Verdict};
+use crate::lines::read_datagrams;
+use crate::sink::{Sink, give_all};
+use crate::source::{Source, read_input};
+use std::alloc::{AllocError, Global};
+
+/// What is said of the datagrams of a recording.
+pub(crate) trait Command {
+    ghost use Rattle.std.specs.Prelude.{ℕ, List, map, IfOk};
+    ghost use Rattle.std.specs.String.{string_bytes};
+    ghost use Rattle.rtnl.specs.declared.error.Verdict.{Verdict};
+
+    // The text of datagrams, and the verdict on them.
+    ghost says: { Self → List (List ℕ) → List ℕ → Verdict → Type 0 };
+
+    /// The text of all datagrams, in order, and the verdict on them.
+    fn text_of(
+        &self,
+        alloc: Global,
+        datagrams: &[Vec<u8>],
+    ) -> Result<(String, Verdict), AllocError>
+        ensures { IfOk result (λ p. says self.now (map (λ d. d.items) datagrams.now) (string_bytes p.0) p.1) };
+}
+
+/// Runs a command over a recording. The input is read to its end and all lines are checked, then the text
+/// is made, then it is written.
+pub(crate) fn run<S: Source, W: Sink, C: Command>(
+    alloc: Global,
+    source: &mut S,
+    sink: &mut W,
+    command: &C,
+) -> Result<Verdict, RunError>
+    ensures said { IfOk result (OfInput (C.says command.now) (S.remaining source.old) (S.remaining source.new) (W.contents sink.old) (W.contents sink.new)) }
+    ensures runs { Runs S.remaining S.is_ended S.failure_count W.contents W.is_stalled W.failure_count
+        (C.says command.now) source.old source.new sink.old sink.new result }
+{
+    let input = read_input(alloc, source)?;
+    let datagrams = read_datagrams(alloc, input.as_slice())?;
+    let (text, verdict) = command.text_of(alloc, datagrams.as_slice())?;
+    match give_all(sink, text.as_str().as_bytes()) {
+        Ok(()) => Ok(verdict),
+        Err(_) => Err(RunError::WriteFault),
+    }
+}
