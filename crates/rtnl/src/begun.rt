@@ -8,8 +8,8 @@ use nl_dump::{BeginError, Dump, Session};
 use nl_frame::Limits;
 use std::alloc::{AllocError, Global};
 
-/// A new session of these limits that begins a dump, and the request. A new session has no dump that
-/// waits and no last sequence number, so only memory can be refused.
+/// A new session of these limits that begins a dump, and the request. A new session has no dump
+/// that waits and no last sequence number, so only memory can be refused.
 pub(crate) fn begun(
     alloc: Global,
     dump: &Dump,

@@ -90,20 +90,22 @@ impl Command for Check {
     }
 }
 
-/// Says of each datagram of the lines that a source gives whether it is canonical, accepted though not
-/// canonical, or why it is refused.
+/// Says of each datagram of the lines that a source gives whether it is canonical, accepted though
+/// not canonical, or why it is refused.
 ///
-/// The input is read to its end and all lines are checked, then the text is made, then it is written.
-/// After a bad line, a read fault or the end of memory nothing was written; after a write fault a
-/// prefix of the text was. The verdict is Blemished exactly where a datagram was refused.
+/// The input is read to its end and all lines are checked, then the text is made, then it is
+/// written. After a bad line, a read fault or the end of memory nothing was written; after a write
+/// fault a prefix of the text was. The verdict is Blemished exactly where a datagram was refused.
 pub fn run_check<S: Source, W: Sink>(
     alloc: Global,
     source: &mut S,
     sink: &mut W,
     limits: &Limits,
 ) -> Result<Verdict, RunError>
-    // What was written is what a check says of the datagrams of what was read, and the verdict is theirs.
-    ensures checked { IfOk result (λ verdict. ChecksInput limits.now (S.remaining source.old) (S.remaining source.new) (W.contents sink.old) (W.contents sink.new) verdict) }
+    // What was written is what a check says of the datagrams of what was read, and the verdict is
+    // theirs.
+    ensures checked { IfOk result (ChecksInput limits.now (S.remaining source.old) (S.remaining source.new)
+        (W.contents sink.old) (W.contents sink.new)) }
     // It ends as every run over a recording does.
     ensures runs { Runs S.remaining S.is_ended S.failure_count W.contents W.is_stalled W.failure_count
         (Checks limits.now) source.old source.new sink.old sink.new result }

@@ -3,6 +3,7 @@
 ghost use Rattle.std.specs.Prelude.{◌≡◌, ◌≢◌, ◌++◌, ◌⊎◌, OnOk, OnErr, IfOk, IfErr, Err};
 ghost use Rattle.std.specs.String.{string_bytes};
 ghost use Rattle.std.specs.Io.KnownBytes.{Appends};
+ghost use Rattle.nl_dump.specs.Request.{dump_of};
 ghost use Rattle.rtnl.specs.Requested.{bytes_alone, requested};
 ghost use Rattle.rtnl.specs.Streams.{AppendsPrefix, HasFailed};
 
@@ -48,7 +49,7 @@ pub fn run_request<W: Sink>(
     order: Order,
 ) -> Result<Verdict, RunError>
     // What was written is the line of the request.
-    ensures requested { OnOk result (Appends (W.contents sink.old) (W.contents sink.new) (requested order (record { kind = kind; family = family; seq = seq; port = 0 }))) }
+    ensures requested { OnOk result (Appends (W.contents sink.old) (W.contents sink.new) (requested order (dump_of kind family seq 0))) }
     ensures clean { IfOk result (λ verdict. verdict ≡ Verdict.Clean) }
     // No call failed.
     ensures sound { OnOk result (W.failure_count sink.new ≡ W.failure_count sink.old) }
@@ -56,7 +57,7 @@ pub fn run_request<W: Sink>(
     // A write failed in this call, or took no byte.
     ensures write_fault { result ≡ Err RunError.WriteFault → HasFailed (W.failure_count sink.old) (W.failure_count sink.new) ⊎ W.is_stalled sink.new }
     ensures nothing { OnErr result (result ≢ Err RunError.WriteFault → sink.new ≡ sink.old) }
-    ensures part { result ≡ Err RunError.WriteFault → AppendsPrefix (W.contents sink.old) (W.contents sink.new) (requested order (record { kind = kind; family = family; seq = seq; port = 0 })) }
+    ensures part { result ≡ Err RunError.WriteFault → AppendsPrefix (W.contents sink.old) (W.contents sink.new) (requested order (dump_of kind family seq 0)) }
 {
     let dump = Dump {
         kind,

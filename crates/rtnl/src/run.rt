@@ -1,5 +1,5 @@
-//! A run over a recording: its source to the end, its lines, what a command says of their datagrams, and the
-//! sink.
+//! A run over a recording: its source to the end, its lines, what a command says of their
+//! datagrams, and the sink.
 
 ghost use Rattle.std.specs.Prelude.{map, IfOk};
 ghost use Rattle.rtnl.specs.Runs.{OfInput, Runs};
@@ -20,23 +20,20 @@ pub(crate) trait Command {
     ghost says: { Self → List (List ℕ) → List ℕ → Verdict → Type 0 };
 
     /// The text of all datagrams, in order, and the verdict on them.
-    fn text_of(
-        &self,
-        alloc: Global,
-        datagrams: &[Vec<u8>],
-    ) -> Result<(String, Verdict), AllocError>
+    fn text_of(&self, alloc: Global, datagrams: &[Vec<u8>]) -> Result<(String, Verdict), AllocError>
         ensures { IfOk result (λ p. says self.now (map (λ d. d.items) datagrams.now) (string_bytes p.0) p.1) };
 }
 
-/// Runs a command over a recording. The input is read to its end and all lines are checked, then the text
-/// is made, then it is written.
+/// Runs a command over a recording. The input is read to its end and all lines are checked, then
+/// the text is made, then it is written.
 pub(crate) fn run<S: Source, W: Sink, C: Command>(
     alloc: Global,
     source: &mut S,
     sink: &mut W,
     command: &C,
 ) -> Result<Verdict, RunError>
-    ensures said { IfOk result (OfInput (C.says command.now) (S.remaining source.old) (S.remaining source.new) (W.contents sink.old) (W.contents sink.new)) }
+    ensures said { IfOk result (OfInput (C.says command.now) (S.remaining source.old) (S.remaining source.new)
+        (W.contents sink.old) (W.contents sink.new)) }
     ensures runs { Runs S.remaining S.is_ended S.failure_count W.contents W.is_stalled W.failure_count
         (C.says command.now) source.old source.new sink.old sink.new result }
 {

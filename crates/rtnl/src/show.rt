@@ -83,9 +83,9 @@ impl Command for Show {
 /// Shows each datagram of the lines that a source gives: its messages and their attributes, or why
 /// it is refused.
 ///
-/// The input is read to its end and all lines are checked, then the text is made, then it is written.
-/// After a bad line, a read fault or the end of memory nothing was written; after a write fault a
-/// prefix of the text was. The verdict is Blemished exactly where a datagram was refused.
+/// The input is read to its end and all lines are checked, then the text is made, then it is
+/// written. After a bad line, a read fault or the end of memory nothing was written; after a write
+/// fault a prefix of the text was. The verdict is Blemished exactly where a datagram was refused.
 pub fn run_show<S: Source, W: Sink>(
     alloc: Global,
     source: &mut S,
@@ -93,7 +93,8 @@ pub fn run_show<S: Source, W: Sink>(
     limits: &Limits,
 ) -> Result<Verdict, RunError>
     // What was written is the text of the datagrams of what was read, and the verdict is theirs.
-    ensures shown { IfOk result (λ verdict. ShowsInput limits.now (S.remaining source.old) (S.remaining source.new) (W.contents sink.old) (W.contents sink.new) verdict) }
+    ensures shown { IfOk result (ShowsInput limits.now (S.remaining source.old) (S.remaining source.new)
+        (W.contents sink.old) (W.contents sink.new)) }
     // It ends as every run over a recording does.
     ensures runs { Runs S.remaining S.is_ended S.failure_count W.contents W.is_stalled W.failure_count
         (Shows limits.now) source.old source.new sink.old sink.new result }

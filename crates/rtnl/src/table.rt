@@ -126,18 +126,25 @@ impl Command for Tabulate {
         push_dump_line(&mut text, &self.dump)?;
         let fed = feed_all(&mut session, &mut text, datagrams)?;
         let unfed = datagrams.len() - fed;
-        push_session(alloc, &mut text, self.limits.order(), &session, self.dump.kind, unfed)?;
+        push_session(
+            alloc,
+            &mut text,
+            self.limits.order(),
+            &session,
+            self.dump.kind,
+            unfed,
+        )?;
         Ok((text, verdict(session.complete())))
     }
 }
 
 /// Reads the datagrams of the lines that a source gives as the answers to a dump: a new session of
-/// these limits begins it, and is fed them in order until it has ended. It writes why datagrams were
-/// refused, the entries of the dump's table, and how the dump ended.
+/// these limits begins it, and is fed them in order until it has ended. It writes why datagrams
+/// were refused, the entries of the dump's table, and how the dump ended.
 ///
-/// The input is read to its end and all lines are checked, then the text is made, then it is written.
-/// After a bad line, a read fault or the end of memory nothing was written; after a write fault a
-/// prefix of the text was. The verdict is Blemished exactly where the dump is not complete.
+/// The input is read to its end and all lines are checked, then the text is made, then it is
+/// written. After a bad line, a read fault or the end of memory nothing was written; after a write
+/// fault a prefix of the text was. The verdict is Blemished exactly where the dump is not complete.
 pub fn run_table<S: Source, W: Sink>(
     alloc: Global,
     source: &mut S,
@@ -145,12 +152,21 @@ pub fn run_table<S: Source, W: Sink>(
     dump: Dump,
     limits: &Limits,
 ) -> Result<Verdict, RunError>
-    // What was written is the text of the session that the datagrams of what was read end in, and the
-    // verdict is its.
-    ensures tabled { IfOk result (λ verdict. TablesInput limits.now dump (S.remaining source.old) (S.remaining source.new) (W.contents sink.old) (W.contents sink.new) verdict) }
+    // What was written is the text of the session that the datagrams of what was read end in, and
+    // the verdict is its.
+    ensures tabled { IfOk result (TablesInput limits.now dump (S.remaining source.old) (S.remaining source.new)
+        (W.contents sink.old) (W.contents sink.new)) }
     // It ends as every run over a recording does.
     ensures runs { Runs S.remaining S.is_ended S.failure_count W.contents W.is_stalled W.failure_count
         (Tables limits.now dump) source.old source.new sink.old sink.new result }
 {
-    run(alloc, source, sink, &Tabulate { dump, limits: *limits })
+    run(
+        alloc,
+        source,
+        sink,
+        &Tabulate {
+            dump,
+            limits: *limits,
+        },
+    )
 }
