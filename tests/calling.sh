@@ -51,6 +51,8 @@ compare() {
 compare nl_attr attributes
 compare nl_route families
 compare nl_frame datagrams
+compare nl_table tables
+compare nl_dump dumps
 compare rtnl recordings
 
 finish

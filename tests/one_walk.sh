@@ -45,6 +45,7 @@ crates/rtnl/src/text/values.rt'
 same 'calls that answer a tally' "$(files_with '-> Tally<')" \
   'crates/nl_attr/src/fault.rt
 crates/nl_attr/src/reading.rt
+crates/nl_dump/src/reading.rt
 crates/nl_frame/src/body.rt
 crates/nl_frame/src/reading.rt
 crates/nl_route/src/family.rt'
@@ -53,5 +54,21 @@ same 'no call that answers a tally takes the result of another without its visit
   "$(grep -lE 'read_(list|body|datagram|messages|message|family)[a-z_]*\(.*\)\.result' \
     /dev/null $(files_with '-> Tally<'))" \
   ''
+
+same 'a session adds the visits of each datagram that it takes, and nothing else' \
+  "$(grep -c 'self\.visits +=' crates/nl_dump/src/session.rt) $(grep -c '[^_a-z]take($' crates/nl_dump/src/session.rt)" \
+  '1 1'
+
+same 'datagrams are read by those who show, check and feed them alone' \
+  "$(files_with '(read_datagram|is_canonical)\(')" \
+  'crates/nl_dump/src/reading.rt
+crates/nl_frame/src/canonical.rt
+crates/nl_frame/src/reading.rt
+crates/rtnl/src/check.rt
+crates/rtnl/src/show.rt
+crates/rtnl_bench/src/main.rt'
+
+same 'the datagrams of a table are read by the session alone' \
+  "$(grep -cE 'session\.feed\(' crates/rtnl/src/table.rt)" '1'
 
 finish

@@ -1,14 +1,15 @@
 """A second reading of docs/FORMAT.md, in another language and first written without a look at the code.
 
-It reads, writes and prints datagrams under the standard limits, so that compare.py can hold the built
-program against it. The names and forms of attributes, types and bits are those of crates/rtnl/specs.
-An order is a prefix of the module struct: `<` for little, `>` for big.
+It reads, writes and prints datagrams, feeds them to a dump and makes requests, so that compare.py can hold
+the built program against it. Limits that are not arguments are the standard ones; a session's total is not
+here, since no recording reaches it. The names and forms of attributes, types and bits are those of
+crates/rtnl/specs. An order is a prefix of the module struct: `<` for little, `>` for big.
 """
 import os
 import re
 import struct
 
-DEPTH, LARGEST = 8, 65536
+DEPTH, LARGEST, ENTRIES = 8, 65536, 4096
 SPECS = os.path.join(os.path.dirname(os.path.abspath(__file__)), "../crates/rtnl/specs")
 ROW = re.compile(r'\((\w+), codes "(\w+)", (\w+)\)|\(codes "(\w+)", (0x[0-9a-f]+)\)')
 
@@ -51,11 +52,21 @@ FAMILIES = {
     **dict.fromkeys((28, 29), "Neigh"),
 }
 GETS = (18, 22, 26, 30)
+NEW = {"link": 16, "addr": 20, "route": 24, "neigh": 28}
 NESTED, NET = 0x8000, 0x4000
+ERROR, DONE, OVERRUN = 2, 3, 4
+INTERRUPTED = 0x10
+IFA_ADDRESS, IFA_LOCAL = 1, 2
+RTA_DST, RTA_SRC, RTA_OIF, RTA_GATEWAY, RTA_PRIORITY, RTA_TABLE = 1, 2, 4, 5, 6, 15
+NDA_DST, NDA_LLADDR, NDA_VLAN, NDA_VNI = 1, 2, 5, 7
+BRIDGE, KEY_FLAGS = 7, 2 | 4 | 8
 
 
 class Fault(Exception):
     """A broken rule and the place of the head that breaks it."""
+
+    def __str__(self):
+        return " at ".join(map(str, self.args))
 
 
 def aligned(length):
@@ -63,17 +74,6 @@ def aligned(length):
 
 
 # Reading: each item of a region by its fields.
-
-
-def head(data, place, end, form, order):
-    """The fields of a head, of which the first is the length of its item."""
-    size = struct.calcsize(order + form)
-    if end - place < size:
-        raise Fault("cut", place)
-    fields = struct.unpack_from(order + form, data, place)
-    if not size <= fields[0] <= end - place:
-        raise Fault("bad length", place)
-    return fields
 
 
 def content(context, number, is_nested):
@@ -84,67 +84,91 @@ def content(context, number, is_nested):
     return known or ("Plain" if is_nested else "bytes")
 
 
-def attributes(data, place, end, level, context, order):
-    found = []
-    while place < end:
-        length, kind = head(data, place, end, "HH", order)
-        holds = content(context, kind & 0x3FFF, kind & NESTED)
-        inside = place + 4, place + length
-        if holds != "bytes" and length > 65532:
-            raise Fault("too long", place)
-        if holds != "bytes" and level + (2 if holds == "hops" else 1) > DEPTH:
-            raise Fault("too deep", place)
-        if holds == "bytes":
-            value = data[slice(*inside)]
-        elif holds == "hops":
-            value = next_hops(data, *inside, level + 1, order)
-        else:
-            value = attributes(data, *inside, level + 1, holds, order)
-        found.append((kind, context, holds, value))
-        place = min(end, place + aligned(length))
-    return found
+class Reading:
+    """The reading of one datagram under a depth limit, and the visits that it made so far."""
 
+    def __init__(self, data, order, depth=DEPTH):
+        self.data, self.order, self.depth, self.visits = data, order, depth, 0
 
-def next_hops(data, place, end, level, order):
-    found = []
-    while place < end:
-        length, flags, hops, index = head(data, place, end, "HBBi", order)
-        found.append((flags, hops, index, attributes(data, place + 8, place + length, level + 1, "Route", order)))
-        place = min(end, place + aligned(length))
-    return found
+    def fields(self, form, place):
+        return struct.unpack_from(self.order + form, self.data, place)
 
+    def head(self, place, end, form):
+        """The fields of a head, of which the first is the length of its item."""
+        size = struct.calcsize(self.order + form)
+        if end - place < size:
+            raise Fault("cut", place)
+        fields = self.fields(form, place)
+        if not size <= fields[0] <= end - place:
+            raise Fault("bad length", place)
+        return fields
 
-def body(data, start, end, kind, order):
-    """The body of the message at `start`, by its type."""
-    place = start + 16
-    least = 20 if kind == 2 else 1 if kind in GETS else 0
-    if kind in FAMILIES:
-        least = struct.calcsize(order + HEADS[FAMILIES[kind]])
-    if end - place < least:
-        raise Fault("short body", start)
-    if kind in FAMILIES:
-        context = FAMILIES[kind]
-        fields = struct.unpack_from(order + HEADS[context], data, place)
-        return context, fields, attributes(data, place + least, end, 0, context, order)
-    if kind == 2:
-        return "error", struct.unpack_from(order + "iIHHII", data, place), data[place + 20 : end]
-    if kind in GETS:
-        return "get", (data[place],), data[place + 1 : end]
-    if kind == 3 and end - place >= 4:
-        return "done", struct.unpack_from(order + "i", data, place), data[place + 4 : end]
-    return "done" if kind == 3 else "bytes", (), data[place:end]
+    def visited(self, place, end, form):
+        """Each item of a region, which is visited: its place, its end and the fields behind its length."""
+        while place < end:
+            length, *fields = self.head(place, end, form)
+            following = min(end, place + aligned(length))
+            self.visits += following - place
+            yield place, place + length, fields
+            place = following
+
+    def attributes(self, place, end, level, context):
+        found = []
+        for place, behind, (kind,) in self.visited(place, end, "HH"):
+            holds = content(context, kind & 0x3FFF, kind & NESTED)
+            if holds != "bytes" and behind - place > 65532:
+                raise Fault("too long", place)
+            if holds != "bytes" and level + (2 if holds == "hops" else 1) > self.depth:
+                raise Fault("too deep", place)
+            if holds == "bytes":
+                value = self.data[place + 4 : behind]
+            elif holds == "hops":
+                value = self.next_hops(place + 4, behind, level + 1)
+            else:
+                value = self.attributes(place + 4, behind, level + 1, holds)
+            found.append((kind, context, holds, value))
+        return found
+
+    def next_hops(self, place, end, level):
+        found = []
+        for place, behind, fields in self.visited(place, end, "HBBi"):
+            found.append((*fields, self.attributes(place + 8, behind, level + 1, "Route")))
+        return found
+
+    def body(self, start, end, kind):
+        """The body of the message at `start`, by its type."""
+        place, data = start + 16, self.data
+        least = 20 if kind == ERROR else 1 if kind in GETS else 0
+        if kind in FAMILIES:
+            least = struct.calcsize(self.order + HEADS[FAMILIES[kind]])
+        if end - place < least:
+            raise Fault("short body", start)
+        if kind in FAMILIES:
+            context = FAMILIES[kind]
+            return context, self.fields(HEADS[context], place), self.attributes(place + least, end, 0, context)
+        if kind == ERROR:
+            return "error", self.fields("iIHHII", place), data[place + 20 : end]
+        if kind in GETS:
+            return "get", (data[place],), data[place + 1 : end]
+        if kind == DONE and end - place >= 4:
+            return "done", self.fields("i", place), data[place + 4 : end]
+        return "done" if kind == DONE else "bytes", (), data[place:end]
+
+    def messages(self):
+        """The messages of the datagram, or its first fault."""
+        if len(self.data) > LARGEST:
+            raise Fault("too large")
+        messages, place = [], 0
+        while place < len(self.data):
+            length, *fields = self.head(place, len(self.data), "IHHII")
+            messages.append((fields, self.body(place, place + length, fields[0])))
+            place = min(len(self.data), place + aligned(length))
+        return messages
 
 
 def read(data, order):
     """The messages of a datagram, or its first fault."""
-    if len(data) > LARGEST:
-        raise Fault("too large")
-    messages, place = [], 0
-    while place < len(data):
-        length, *fields = head(data, place, len(data), "IHHII", order)
-        messages.append((fields, body(data, place, place + length, fields[0], order)))
-        place = min(len(data), place + aligned(length))
-    return messages
+    return Reading(data, order).messages()
 
 
 # Writing.
@@ -174,6 +198,101 @@ def written(messages, order):
         rest = written_attributes(rest, order) if sort in HEADS else rest
         text += item("IHHII", fields, struct.pack(order + form, *values) + rest, order)
     return text
+
+
+def request(name, family, sequence, order):
+    """The request of a dump, for entries of one address family or of all."""
+    size = struct.calcsize(order + HEADS[FAMILIES[NEW[name]]])
+    body = "get", (family,), bytes(size - 1)
+    return written([((NEW[name] + 2, 0x0301, sequence, 0), body)], order)
+
+
+# Keys, tables and the dump.
+
+
+def first(found, number):
+    """The bytes of the first attribute of a number, or nothing where it is absent or holds others."""
+    items = (item for item in found if item[0] & 0x3FFF == number)
+    _, _, holds, value = next(items, (0, "", "absent", None))
+    return value if holds == "bytes" else None
+
+
+def first_number(found, number, form, order, otherwise=0):
+    """What the first attribute of a number begins with, or another where it has too few bytes."""
+    value = first(found, number) or b""
+    return struct.unpack_from(order + form, value)[0] if len(value) >= struct.calcsize(order + form) else otherwise
+
+
+def key(context, values, found, order):
+    """What an entry is told from the others of its family by, a tuple here."""
+    if context == "Link":
+        return values[2]
+    if context == "Addr":
+        family, prefix, _, _, index = values
+        return family, index, prefix, first(found, IFA_ADDRESS), first(found, IFA_LOCAL)
+    if context == "Route":
+        family, dst_len, src_len, tos, table, _, _, kind, _ = values
+        table = first_number(found, RTA_TABLE, "I", order, table)
+        numbers = [first_number(found, number, "I", order) for number in (RTA_PRIORITY, RTA_OIF)]
+        texts = [first(found, number) for number in (RTA_DST, RTA_SRC, RTA_GATEWAY)]
+        return family, dst_len, src_len, tos, table, kind, *numbers, *texts
+    family, index, _, flags, _ = values
+    front = family, index, flags & KEY_FLAGS, first(found, NDA_DST)
+    if family != BRIDGE:
+        return front
+    numbers = first_number(found, NDA_VLAN, "H", order), first_number(found, NDA_VNI, "I", order)
+    return *front, first(found, NDA_LLADDR), *numbers
+
+
+class Dump:
+    """A dump that a new session began, and what became of it."""
+
+    def __init__(self, name, sequence, port, order, depth=DEPTH, entries=ENTRIES):
+        self.name, self.sequence, self.port, self.order = name, sequence, port, order
+        self.depth, self.entries = depth, entries
+        self.table, self.end = {}, None
+        self.missed = self.ignored = self.received = self.visits = 0
+        self.is_damaged = self.is_interrupted = False
+
+    def feed(self, data):
+        """Takes a datagram, or refuses it with its first fault."""
+        reading = Reading(data, self.order, self.depth)
+        try:
+            for fields, body in reading.messages():
+                self.take(*fields, body)
+        except Fault:
+            self.is_damaged = True
+            raise
+        finally:
+            self.received += len(data)
+            self.visits += reading.visits
+
+    def take(self, kind, flags, sequence, port, body):
+        """Puts an item into the table, notes the end, or ignores the message."""
+        belongs = self.end is None and (sequence, port) == (self.sequence, self.port)
+        is_item, number = kind == NEW[self.name], body[1][0] if body[1] else 0
+        is_end = kind in (DONE, OVERRUN) or kind == ERROR and number != 0
+        if not belongs or not (is_item or is_end):
+            self.ignored += 1
+            return
+        if is_item:
+            self.put(body)
+        else:
+            self.end = kind, number
+        if (is_item or kind == DONE) and flags & INTERRUPTED:
+            self.is_interrupted = True
+
+    def put(self, body):
+        """Keeps an entry as the last one of its key, or misses it where the key is new and the table full."""
+        name = key(*body, self.order)
+        if name in self.table or len(self.table) < self.entries:
+            self.table[name] = body
+        else:
+            self.missed += 1
+
+    def is_complete(self):
+        is_done = self.end is not None and self.end[0] == DONE and self.end[1] >= 0
+        return is_done and not (self.is_interrupted or self.is_damaged or self.missed)
 
 
 # The text.
@@ -211,7 +330,8 @@ def attribute_lines(found, level, order):
         elif holds == "hops":
             yield f"{front} hops {len(value)}"
             for flags, hops, index, inside in value:
-                yield f"{indent}  hop flags 0x{flags:02x} {names(BITS['hop_flags'], flags)} hops {hops} index {index}"
+                flags = f"flags 0x{flags:02x} {names(BITS['hop_flags'], flags)}"
+                yield f"{indent}  hop {flags} hops {hops} index {index}"
                 yield from attribute_lines(inside, level + 2, order)
         else:
             yield f"{front} list {len(value)}"
@@ -240,19 +360,24 @@ def body_line(sort, values, rest):
     return f"done status {values[0] if values else 0} tail {tail}" if sort == "done" else f"bytes {tail}"
 
 
+def body_lines(sort, values, rest, order):
+    yield f"  {body_line(sort, values, rest)}"
+    if sort in HEADS:
+        yield from attribute_lines(rest, 0, order)
+
+
 def shown(number, data, order):
     """The lines of a datagram, and whether it was taken."""
     front = f"datagram {number} bytes {len(data)}"
     try:
         messages = read(data, order)
     except Fault as fault:
-        return [front, "refused " + " at ".join(map(str, fault.args))], False
+        return [front, f"refused {fault}"], False
     lines = [front]
-    for (kind, flags, sequence, port), (sort, values, rest) in messages:
+    for (kind, flags, sequence, port), found in messages:
         name, rows = KINDS.get(kind, ("other", BITS["message_flags"]))
         lines.append(f"message {kind} {name} flags 0x{flags:04x} {names(rows, flags)} seq {sequence} port {port}")
-        lines.append(f"  {body_line(sort, values, rest)}")
-        lines += attribute_lines(rest, 0, order) if sort in HEADS else []
+        lines += body_lines(*found, order)
     return lines, True
 
 
@@ -261,5 +386,32 @@ def checked(number, data, order):
     try:
         is_canonical = written(read(data, order), order) == data
     except Fault as fault:
-        return [f"datagram {number} refused " + " at ".join(map(str, fault.args))], False
+        return [f"datagram {number} refused {fault}"], False
     return [f"datagram {number} {'canonical' if is_canonical else 'accepted'}"], True
+
+
+def end_line(end):
+    if end is None:
+        return "end none"
+    kind, number = end
+    return "end overrun" if kind == OVERRUN else f"end {'done' if kind == DONE else 'error'} {number}"
+
+
+def tabled(datagrams, dump):
+    """The lines of a dump that is fed a recording, and whether it was complete."""
+    word = {False: "no", True: "yes"}
+    lines, unfed = [f"dump {dump.name} seq {dump.sequence} port {dump.port}"], 0
+    for number, data in enumerate(datagrams, 1):
+        if dump.end is not None:
+            unfed += 1
+            continue
+        try:
+            dump.feed(data)
+        except Fault as fault:
+            lines.append(f"datagram {number} refused {fault}")
+    for number, body in enumerate(dump.table.values(), 1):
+        lines += [f"entry {number}", *body_lines(*body, dump.order)]
+    counts = f"entries {len(dump.table)} missed {dump.missed} ignored {dump.ignored} unfed {unfed}"
+    states = f"damaged {word[dump.is_damaged]} interrupted {word[dump.is_interrupted]}"
+    lines += [end_line(dump.end), f"{counts} {states}", f"received {dump.received} visits {dump.visits}"]
+    return [*lines, f"complete {word[dump.is_complete()]}"], dump.is_complete()

@@ -3,7 +3,9 @@
 
 pub mod attributes;
 pub mod datagrams;
+pub mod dumps;
 pub mod families;
 pub mod recordings;
+pub mod tables;
 #[cfg(test)]
 mod tests;

@@ -2,10 +2,15 @@
 
 use crate::attributes::count_of;
 use crate::datagrams::message_count;
+use crate::dumps::take_answer;
 use crate::families::read_named;
 use crate::recordings::show_text;
+use crate::tables::keep;
 use nl_attr::{Depth, Fault, Reason};
+use nl_dump::{FeedError, Kind, Session};
 use nl_frame::Limits;
+use nl_route::Link;
+use nl_table::{Put, Table};
 use rtnl::Verdict;
 use std::test::Fail;
 
@@ -51,5 +56,26 @@ refused cut at 0
 ";
     assert!(rt; text.as_slice() == wanted.as_slice());
     assert_eq!(rt; verdict, Verdict::Blemished);
+    Ok(())
+}
+
+#[test]
+fn a_link_is_kept_once(rt: HostRuntime) -> Result<(), Fail> {
+    let body = b"\0\0\x04\x03\x01\0\0\0\0\0\0\0\0\0\0\0";
+    let mut table = Table::new(rt.alloc(), 1)?;
+    let first = Link::read_body(rt.alloc(), body, 0, Depth::standard()).result?;
+    let second = Link::read_body(rt.alloc(), body, 0, Depth::standard()).result?;
+    assert_eq!(rt; keep(rt.alloc(), &mut table, first)?, Put::Added);
+    assert_eq!(rt; keep(rt.alloc(), &mut table, second)?, Put::Replaced);
+    Ok(())
+}
+
+#[test]
+fn done_ends_a_dump(rt: HostRuntime) -> Result<(), Fail> {
+    let done = b"\x14\0\0\0\x03\0\x02\0\x01\0\0\0\0\0\0\0\0\0\0\0";
+    let mut session = Session::new(rt.alloc(), Limits::standard())?;
+    assert_eq!(rt; take_answer(&mut session, done), Err(FeedError::NotWaiting));
+    let _request = session.begin(Kind::Link, 0, 1, 0)?;
+    assert_eq!(rt; take_answer(&mut session, done), Ok(true));
     Ok(())
 }

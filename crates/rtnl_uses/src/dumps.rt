@@ -1,0 +1,27 @@
+//! A caller of `nl_dump`.
+
+ghost use Rattle.std.specs.Prelude.{◌+◌, ◌*◌, ◌≤◌, List, OnOk, OnErr, length};
+ghost use Rattle.nl_frame.specs.Message.{MessageVal};
+ghost use Rattle.nl_frame.specs.declared.form.Group.{Group};
+ghost use Rattle.nl_dump.specs.Every.{IsTheList, SameAnswer};
+ghost use Rattle.nl_dump.specs.View.{table_at};
+
+use nl_dump::{FeedError, Session};
+
+/// Takes a datagram that may answer a dump, and says whether the dump has ended with it.
+pub fn take_answer(session: &mut Session, datagram: &[u8]) -> Result<bool, FeedError>
+    // A datagram that is taken is one list of messages, which is written and read again.
+    ensures taken { OnOk result ((messages : List MessageVal)
+        × IsTheList session.old datagram.now messages) }
+    // One that is refused leaves the dump's answer and all tables as they were.
+    ensures refused { OnErr result (SameAnswer session.old session.new) }
+    // However it is answered, each byte received is visited once a level at most,
+    ensures visits { session.new.visits
+        ≤ (session.new.limits.shape.depth + 1) * session.new.received }
+    // and no table has more entries than the limit.
+    ensures tables { (family : Group)
+        → length (table_at family session.new.tables).entries ≤ session.new.limits.entries }
+{
+    let progress = session.feed(datagram)?;
+    Ok(progress.ended)
+}
