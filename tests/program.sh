@@ -1,7 +1,7 @@
 #!/usr/bin/env bash
-# Runs the built program over a table of cases: its words, what it reads, its status and what it writes.
-# Expected values are worked by hand from docs/FORMAT.md. The last line is 'N passed, M failed', and the
-# status is 1 where a case failed.
+# Runs the built program over a table of cases: its arguments, what it reads, its exit status and what it
+# writes. Expected values are worked by hand from docs/FORMAT.md. The last line is 'N passed, M failed', and
+# the status is 1 where a case failed.
 set -u
 cd "$(dirname "${BASH_SOURCE[0]}")/.." || exit 1
 program=$PWD/crates/rtnl_cli/out/rtnl_cli
@@ -10,12 +10,12 @@ trap 'rm -rf "$folder"' EXIT
 . tests/counting.sh
 
 # What stands for some text, whatever it is: the texts of clap are not ours.
-said='(some text)'
+any='(some text)'
 
-# holds FILE TEXT: the file has exactly these lines, no byte for no text, some text for $said.
+# holds FILE TEXT: the file has exactly these lines, no byte for no text, some text for $any.
 holds() {
   case $2 in
-    "$said") [ -s "$1" ] ;;
+    "$any") [ -s "$1" ] ;;
     '') [ ! -s "$1" ] ;;
     *) echo "$2" | cmp -s - "$1" ;;
   esac
@@ -30,7 +30,8 @@ ends() {
   [ "$found" = "$status" ] && holds "$folder/output" "$output" && holds "$folder/errors" "$errors"
 }
 
-# expect NAME STATUS OUTPUT ERRORS [WORD..]: a case of the program with these words, over standard input.
+# expect NAME STATUS OUTPUT ERRORS [ARGUMENT..]: a case of the program with these arguments, over standard
+# input.
 expect() {
   local name=$1 status=$2 output=$3 errors=$4
   shift 4
@@ -41,6 +42,9 @@ into_full_device() { "$program" "$@" >/dev/full; }
 into_closed_output() { "$program" "$@" >&-; }
 from_closed_input() { "$program" "$@" <&-; }
 with_full_errors() { "$program" "$@" 2>/dev/full; }
+
+# usage ARGUMENT..: a case of the program with these arguments, which are a usage error.
+usage() { expect "usage error: $*" 2 '' "$any" "$@" <<<"$finish"; }
 
 # The pipe that nobody reads is opened for both first, since else its opening would wait for a reader.
 into_pipe_without_reader() {
@@ -63,13 +67,21 @@ sizes_of() { awk '!/^#/ && NF { printf "datagram %d bytes %d\n", ++count, length
 
 # is_shown FILE: each datagram of the recording is shown with its size, and none is refused.
 is_shown() {
-  ends 0 "$said" '' "$program" show "$1" && ! grep -q '^refused' "$folder/output" &&
+  ends 0 "$any" '' "$program" show "$1" && ! grep -q '^refused' "$folder/output" &&
     [ "$(grep '^datagram ' "$folder/output")" = "$(sizes_of "$1")" ]
 }
 
 # is_canonical FILE: each datagram of the recording is canonical.
 is_canonical() {
   ends 0 "$(awk '!/^#/ && NF { printf "datagram %d canonical\n", ++count }' "$1")" '' "$program" check "$1"
+}
+
+# has_true_example COMMAND: the example in the help of this command prints what the help says.
+has_true_example() {
+  "$program" "$1" --help | sed '1,/^Example:$/d' >"$folder/example"
+  sed '/^prints$/,$d' "$folder/example" >"$folder/commands"
+  sed '1,/^prints$/d; s/^  //' "$folder/example" >"$folder/printed"
+  [ -s "$folder/printed" ] && (PATH=$folder:$PATH && bash "$folder/commands") | cmp -s - "$folder/printed"
 }
 
 # ---- lines, and what is shown of them
@@ -111,96 +123,9 @@ bad_first_line='rtnl: line 1: bad line'
 
 # ---- the cases
 
-# The first run also builds the program where it isn't built.
-check 'the script without words' ends 0 "$finish_text" '' ./rtnl <<<"$finish"
-expect 'no words' 0 "$finish_text" '' <<<"$finish"
-expect 'show, standard input' 0 "$finish_text" '' show <<<"$finish"
-echo "$loopback" >"$folder/link"
-expect 'show FILE' 0 "$loopback_text" '' show "$folder/link" <<<"$finish"
-expect 'show behind the end of options' 0 "$loopback_text" '' show -- "$folder/link" </dev/null
-expect 'order little' 0 "$loopback_text" '' show --order little <<<"$loopback"
-expect 'order big' 0 "$loopback_text" '' show --order big <<<"$loopback_big"
-expect 'order big, FILE' 1 "$loopback_refused" '' show --order=big "$folder/link" </dev/null
-expect 'order little over big numbers' 1 "$loopback_refused" '' show --order little <<<"$loopback_big"
-for file in examples/*.hex; do
-  check "recording $file" is_shown "$file"
-  check "recording $file, checked" is_canonical "$file"
-done
-
-expect 'check: canonical, accepted, refused' 1 \
-  $'datagram 1 canonical\ndatagram 2 accepted\ndatagram 3 refused bad length at 32' '' \
-  check < <(printf '%s\n' "$finish" "$short_get" "$short_attribute")
-expect 'check FILE' 0 'datagram 1 canonical' '' check "$folder/link" </dev/null
-expect 'check by order' 0 'datagram 1 canonical' '' check --order big <<<"$loopback_big"
-expect 'check in the other order' 1 'datagram 1 refused bad length at 0' '' check <<<"$loopback_big"
-expect 'check: padding whole, and of zeros' 0 $'datagram 1 canonical\ndatagram 2 accepted\ndatagram 3 canonical' '' \
-  check < <(printf '%s\n' "$whole_get" "$padded_by_one" "$padded_by_zeros")
-expect 'check: a datagram too large' 1 'datagram 1 refused too large' '' check < <(zeros 65540)
-expect 'check: no datagram' 0 '' '' check </dev/null
-expect 'check: a bad line' 1 '' "$bad_first_line" check <<<'0g'
-expect 'check: a missing file' 3 '' "$read_fault" check "$folder/missing" <<<"$finish"
-check 'check: a full device' ends 3 '' "$write_fault" into_full_device check <<<"$finish"
-expect 'help of check' 0 "$said" '' check --help <<<"$finish"
-expect 'check: two files' 2 '' "$said" check "$folder/link" "$folder/link" <<<"$finish"
-
-expect 'help' 0 "$said" '' --help <<<"$finish"
-expect 'help of show' 0 "$said" '' show --help <<<"$finish"
-expect 'a wrong order' 2 '' "$said" show --order middle <<<"$finish"
-expect 'no order' 2 '' "$said" show --order <<<"$finish"
-expect 'an unknown option' 2 '' "$said" --depth 3 <<<"$finish"
-expect 'an unknown option of show' 2 '' "$said" show --depth 3 <<<"$finish"
-expect 'an unknown command' 2 '' "$said" reveal <<<"$finish"
-expect 'two files' 2 '' "$said" show "$folder/link" "$folder/link" <<<"$finish"
-expect 'a word that is no text' 2 '' "$said" show $'\xff' <<<"$finish"
-expect 'wrong words before a missing file' 2 '' "$said" show --order middle "$folder/missing" <<<"$finish"
-
-expect 'a missing file' 3 '' "$read_fault" show "$folder/missing" <<<"$finish"
-expect 'a folder as FILE' 3 '' "$read_fault" show "$folder" <<<"$finish"
-expect 'a folder as standard input' 3 '' "$read_fault" <"$folder"
-check 'standard input closed' ends 3 '' "$read_fault" from_closed_input
-check 'a full device' ends 3 '' "$write_fault" into_full_device <<<"$finish"
-check 'standard output closed' ends 3 '' "$write_fault" into_closed_output <<<"$finish"
-check 'a pipe that nobody reads' ends 3 '' "$write_fault" into_pipe_without_reader <<<"$finish"
-check 'a fault that cannot be told' ends 3 '' '' with_full_errors show "$folder/missing" </dev/null
-check 'nothing for a full device' ends 0 '' '' into_full_device </dev/null
-
-expect 'an odd number of digits' 1 '' "$bad_first_line" < <(printf 'abc')
-expect 'odd digits with blanks' 1 '' "$bad_first_line" <<<'14 00 0'
-expect 'a byte that is no digit' 1 '' "$bad_first_line" <<<'0g'
-expect 'a byte above ASCII' 1 '' "$bad_first_line" < <(printf '\xff\xff\n')
-expect 'a zero byte' 1 '' "$bad_first_line" < <(printf '0\0\n')
-expect 'a form feed is no blank' 1 '' "$bad_first_line" < <(printf '00\f\n')
-expect 'a comment behind a blank' 1 '' "$bad_first_line" <<<' # note'
-expect 'a comment behind digits' 1 '' "$bad_first_line" <<<"$finish # note"
-expect 'lines are counted with comments and blank ones' 1 '' 'rtnl: line 6: bad line' \
-  < <(printf '# note\n\n%s\n \t\r\n# zz\nzz\n%s\n' "$finish" "$finish")
-expect 'the first bad line of two, behind a refused datagram' 1 '' 'rtnl: line 2: bad line' \
-  < <(printf '%s\n123\nzz\n' "$short_attribute")
-
-expect 'empty input' 0 '' '' </dev/null
-expect 'comments and blank lines alone' 0 '' '' < <(printf '# note\n\n \t\r\n#\n')
-expect 'upper-case digits' 0 "$loopback_text" '' <<<"${loopback^^}"
-expect 'tabs and carriage returns' 0 "$finish_text" '' < <(printf '\t%s\r\n' "${finish// /$'\t'}")
-expect 'no blanks' 0 "$finish_text" '' <<<"${finish// /}"
-expect 'no newline at the end' 0 "$finish_text" '' < <(printf '# note\n%s' "$finish")
-
-expect 'bad length of an attribute' 1 $'datagram 1 bytes 52\nrefused bad length at 32' '' <<<"$short_attribute"
-expect 'cut' 1 $'datagram 1 bytes 15\nrefused cut at 0' '' < <(zeros 15)
-expect 'short body' 1 $'datagram 1 bytes 16\nrefused short body at 0' '' <<<'10000000 0200 0000 01000000 39300000'
-expect 'too deep' 1 $'datagram 1 bytes 68\nrefused too deep at 64' '' <<<"$nine_lists"
-expect 'the largest datagram' 1 $'datagram 1 bytes 65536\nrefused bad length at 0' '' < <(zeros 65536)
-expect 'a datagram too large' 1 $'datagram 1 bytes 65537\nrefused too large' '' < <(zeros 65537)
-expect 'refused between two that are shown' 1 \
-  "$finish_text"$'\ndatagram 2 bytes 52\nrefused bad length at 32\ndatagram 3 bytes 20\n'"$finish_message" '' \
-  < <(printf '%s\n' "$finish" "$short_attribute" "$finish")
-
-# The longest input has 2^24 bytes, here a comment and the 46 bytes of a DONE with its blanks and newline.
-{ comment 16777170 && echo "$finish"; } >"$folder/longest"
-{ comment 16777171 && echo "$finish"; } >"$folder/too_long"
-expect 'the longest input' 0 "$finish_text" '' <"$folder/longest"
-expect 'the longest input as FILE' 0 "$finish_text" '' show "$folder/longest" </dev/null
-expect 'an input too long' 3 '' "$read_fault" <"$folder/too_long"
-expect 'a FILE too long' 3 '' "$read_fault" show "$folder/too_long" </dev/null
-check 'out of memory' ends 4 '' 'rtnl: out of memory' in_little_memory <"$folder/longest"
+. tests/program/show.sh
+. tests/program/check.sh
+. tests/program/table.sh
+. tests/program/request.sh
 
 finish

@@ -20,7 +20,7 @@ asks_by_counted_functions() {
     grep -Eq " ($asked)(@|\$)" "$folder/names" && ! grep -Eq " ($others)(@|\$)" "$folder/names"
 }
 
-# run FILES [WORD..]: a run over standard input; what it answers is FILES with three endings.
+# run FILES [ARGUMENT..]: a run over standard input; what it answers is FILES with three endings.
 run() {
   local files=$1
   shift
@@ -28,7 +28,7 @@ run() {
   echo $? >"$files.status"
 }
 
-# is_refused NUMBER INPUT [WORD..]: a run in which the growth of this number is refused came so far.
+# is_refused NUMBER INPUT [ARGUMENT..]: a run in which the growth of this number is refused came so far.
 is_refused() {
   local number=$1 input=$2
   shift 2
@@ -53,7 +53,7 @@ is_whole() {
 
 is_ended_or_whole() { is_ended || is_whole; }
 
-# refuse_each NAME STATUS INPUT [WORD..]: each growth of these runs in turn, and a run without a refusal.
+# refuse_each NAME STATUS INPUT [ARGUMENT..]: each growth of these runs in turn, and a run without a refusal.
 refuse_each() {
   local name=$1 status=$2 input=$3 number=1 ended=0
   shift 3
@@ -89,10 +89,48 @@ check 'examples/routes.hex, its datagrams' [ "$(grep -c '^datagram ' "$folder/fo
 refuse_each 'examples/routes.hex, checked' 0 /dev/null check examples/routes.hex
 check 'examples/routes.hex, its check' [ "$(grep -c ' canonical$' "$folder/found.output")" = 3 ]
 
+# A link and DONE in both orders, an address, a neighbour and a route with two next hops, each with DONE, and
+# a link before a header that is cut.
+finish_hex='14000000 0300 0200 01000000 39300000 00000000'
+link='30000000 1000 0200 01000000 39300000 00000403 01000000 49000100 00000000 07000300 6c6f0000 08000400 00000100'
+printf '%s\n' "$link" "$finish_hex" >"$folder/links"
+echo '00000030 0010 0002 00000001 00003039 00000304 00000001 00010049 00000000 00070003 6c6f0000 00080004 00010000' \
+  '00000014 0003 0002 00000001 00003039 00000000' >"$folder/links_big"
+echo '30000000 1400 0200 01000000 39300000 020880fe 01000000 08000100 7f000001 08000200 7f000001 07000300 6c6f0000' \
+  "$finish_hex" >"$folder/addresses"
+echo '40000000 1800 0200 01000000 39300000 02000000 fe030001 00000000 24000900 10000000 02000000 08000500 c0000201' \
+  '10000001 03000000 08000500 c0000202' "$finish_hex" >"$folder/routes"
+echo '3c000000 1c00 0200 01000000 39300000 0a000000 02000000 02008001 14000100 fe800000 00000000 00000000 00000001' \
+  '0a000200 02000000 00010000' "$finish_hex" >"$folder/neighbours"
+printf '%s\n' "$link 14000000 0300 0200 0100" "$link" "$finish_hex" >"$folder/cut"
+
+# table_each NAME STATUS FILE KIND [ARGUMENT..]: each growth of reading this file as a dump of this kind.
+table_each() {
+  local name=$1 status=$2 file=$3 kind=$4
+  shift 4
+  refuse_each "$name" "$status" "$folder/$file" table --kind "$kind" --seq 1 --port 12345 "$@"
+  check "$name, its entry" [ "$(grep -c '^entry ' "$folder/found.output")" = 1 ]
+}
+
+table_each 'a table of links' 0 links link
+table_each 'a table of links, order big' 0 links_big link --order big
+table_each 'a table of addresses' 0 addresses addr
+table_each 'a table of routes' 0 routes route --depth 2
+table_each 'a table of neighbours' 0 neighbours neigh --entries 1
+table_each 'a table, a datagram refused' 1 cut link
+
+refuse_each 'a request' 0 /dev/null request --kind link --seq 1
+refuse_each 'a request, order big' 0 /dev/null request --kind route --family 2 --seq 7 --order big
+check 'a request, its bytes' grep -qx 0000001c001a03010000000700000000020000000000000000000000 "$folder/found.output"
+
 echo zz >"$folder/bad"
 refuse_each 'a bad line' 1 "$folder/bad" show
-refuse_each 'wrong words' 2 /dev/null show --order middle
+refuse_each 'a bad line of a table' 1 "$folder/bad" table --kind link --seq 1 --port 1
+refuse_each 'a usage error' 2 /dev/null show --order middle
+refuse_each 'a number out of its range' 2 /dev/null table --kind link --seq 1 --port 1 --depth 33
+refuse_each 'a missing option' 2 /dev/null request --kind link
 refuse_each 'a missing file' 3 /dev/null show "$folder/missing"
 refuse_each 'help' 0 /dev/null --help
+refuse_each 'help of table' 0 /dev/null table --help
 
 finish

@@ -1,10 +1,11 @@
 //! Checking a recording.
 
-ghost use Rattle.std.specs.Prelude.{◌≡◌, ◌++◌, List, map, Ok, OnOk, IfOk};
+ghost use Rattle.std.specs.Prelude.{◌≡◌, ◌++◌, Ok, OnOk, IfOk};
 ghost use Rattle.std.specs.String.{string_bytes};
-ghost use Rattle.rtnl.specs.Checked.{Finding, Finds, Checks, ChecksInput, checked_line, finding_text, is_accepted};
-ghost use Rattle.rtnl.specs.Runs.{EachIs, Runs, texts_from, verdict_from};
+ghost use Rattle.rtnl.specs.Checked.{Checks, ChecksInput, finding_text};
+ghost use Rattle.rtnl.specs.Runs.{Runs};
 
+use crate::each::{Each, text_of_each};
 use crate::error::{RunError, Verdict};
 use crate::run::{Command, run};
 use crate::sink::Sink;
@@ -24,54 +25,42 @@ fn push_accepted(out: &mut String, canonical: bool) -> Result<(), AllocError>
     })
 }
 
-/// Writes what a check finds of a datagram, and says whether it is accepted.
-fn push_check(
-    alloc: Global,
-    out: &mut String,
-    number: usize,
-    bytes: &[u8],
-    limits: &Limits,
-) -> Result<bool, AllocError>
-    ensures { IfOk result (λ accepted. (f : Finding) × Finds limits.now bytes.now f
-        × (string_bytes out.new ≡ string_bytes out.old ++ checked_line number bytes.now f)
-        × (accepted ≡ is_accepted f)) }
-{
-    push_number(out, number)?;
-    match is_canonical(alloc, bytes, limits) {
-        Ok(canonical) => {
-            push_accepted(out, canonical)?;
-            Ok(true)
-        }
-        Err(error) => {
-            push_refusal(out, error)?;
-            Ok(false)
-        }
-    }
-}
-
-/// Writes what a check finds of all datagrams, and answers the verdict.
-fn push_checks(
-    alloc: Global,
-    out: &mut String,
-    datagrams: &[Vec<u8>],
-    limits: &Limits,
-) -> Result<Verdict, AllocError>
-    ensures { IfOk result (λ verdict. (found : List Finding) × EachIs (Finds limits.now) (map (λ d. d.items) datagrams.now) found
-        × (string_bytes out.new ≡ string_bytes out.old ++ texts_from checked_line 1 (map (λ d. d.items) datagrams.now) found)
-        × (verdict ≡ verdict_from is_accepted Verdict.Clean found)) }
-{
-    let mut verdict = Verdict::Clean;
-    for (index, datagram) in datagrams.iter().enumerate() {
-        let accepted = push_check(alloc, out, index + 1, datagram.as_slice(), limits)?;
-        verdict = verdict.and(accepted);
-    }
-    Ok(verdict)
-}
-
 /// To check datagrams under these limits.
 #[derive(Clone, Copy)]
 struct Check {
     limits: Limits,
+}
+
+impl Each for Check {
+    ghost use Rattle.rtnl.specs.Checked.{Finding, Finds, checked_line, is_accepted};
+
+    ghost Found = { Finding };
+
+    ghost finds = { λ c. Finds c.limits };
+
+    ghost text = { λ _. checked_line };
+
+    ghost takes = { is_accepted };
+
+    fn push(
+        &self,
+        alloc: Global,
+        out: &mut String,
+        number: usize,
+        bytes: &[u8],
+    ) -> Result<bool, AllocError> {
+        push_number(out, number)?;
+        match is_canonical(alloc, bytes, &self.limits) {
+            Ok(canonical) => {
+                push_accepted(out, canonical)?;
+                Ok(true)
+            }
+            Err(error) => {
+                push_refusal(out, error)?;
+                Ok(false)
+            }
+        }
+    }
 }
 
 impl Command for Check {
@@ -84,9 +73,7 @@ impl Command for Check {
         alloc: Global,
         datagrams: &[Vec<u8>],
     ) -> Result<(String, Verdict), AllocError> {
-        let mut text = String::new(alloc);
-        let verdict = push_checks(alloc, &mut text, datagrams, &self.limits)?;
-        Ok((text, verdict))
+        text_of_each(alloc, self, datagrams)
     }
 }
 

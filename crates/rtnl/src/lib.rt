@@ -5,6 +5,7 @@
 mod begun;
 mod broken;
 mod check;
+mod each;
 mod error;
 mod lines;
 mod request;

@@ -1,10 +1,10 @@
 //! Showing a recording.
 
-ghost use Rattle.std.specs.Prelude.{◌≡◌, ◌++◌, List, map, IfOk};
-ghost use Rattle.std.specs.String.{string_bytes};
-ghost use Rattle.rtnl.specs.Runs.{EachIs, Runs, texts_from, verdict_from};
-ghost use Rattle.rtnl.specs.Shown.{Answer, Answers, Shows, ShowsInput, datagram_text, is_taken};
+ghost use Rattle.std.specs.Prelude.{IfOk};
+ghost use Rattle.rtnl.specs.Runs.{Runs};
+ghost use Rattle.rtnl.specs.Shown.{Shows, ShowsInput};
 
+use crate::each::{Each, text_of_each};
 use crate::error::{RunError, Verdict};
 use crate::run::{Command, run};
 use crate::sink::Sink;
@@ -14,54 +14,42 @@ use crate::text::message::push_messages;
 use nl_frame::{Limits, read_datagram};
 use std::alloc::{AllocError, Global};
 
-/// Writes what is shown of a datagram, and says whether it was taken.
-fn push_datagram(
-    alloc: Global,
-    out: &mut String,
-    number: usize,
-    bytes: &[u8],
-    limits: &Limits,
-) -> Result<bool, AllocError>
-    ensures { IfOk result (λ taken. (a : Answer) × Answers limits.now bytes.now a
-        × (string_bytes out.new ≡ string_bytes out.old ++ datagram_text limits.now.shape.order number bytes.now a)
-        × (taken ≡ is_taken a)) }
-{
-    push_datagram_line(out, number, bytes.len())?;
-    match read_datagram(alloc, bytes, limits).result {
-        Ok(messages) => {
-            push_messages(alloc, out, limits.order(), messages.as_slice())?;
-            Ok(true)
-        }
-        Err(error) => {
-            push_refusal(out, error)?;
-            Ok(false)
-        }
-    }
-}
-
-/// Writes what is shown of all datagrams, and answers the verdict.
-fn push_datagrams(
-    alloc: Global,
-    out: &mut String,
-    datagrams: &[Vec<u8>],
-    limits: &Limits,
-) -> Result<Verdict, AllocError>
-    ensures { IfOk result (λ verdict. (answers : List Answer) × EachIs (Answers limits.now) (map (λ d. d.items) datagrams.now) answers
-        × (string_bytes out.new ≡ string_bytes out.old ++ texts_from (datagram_text limits.now.shape.order) 1 (map (λ d. d.items) datagrams.now) answers)
-        × (verdict ≡ verdict_from is_taken Verdict.Clean answers)) }
-{
-    let mut verdict = Verdict::Clean;
-    for (index, datagram) in datagrams.iter().enumerate() {
-        let taken = push_datagram(alloc, out, index + 1, datagram.as_slice(), limits)?;
-        verdict = verdict.and(taken);
-    }
-    Ok(verdict)
-}
-
 /// To show datagrams under these limits.
 #[derive(Clone, Copy)]
 struct Show {
     limits: Limits,
+}
+
+impl Each for Show {
+    ghost use Rattle.rtnl.specs.Shown.{Answer, Answers, datagram_text, is_taken};
+
+    ghost Found = { Answer };
+
+    ghost finds = { λ s. Answers s.limits };
+
+    ghost text = { λ s. datagram_text s.limits.shape.order };
+
+    ghost takes = { is_taken };
+
+    fn push(
+        &self,
+        alloc: Global,
+        out: &mut String,
+        number: usize,
+        bytes: &[u8],
+    ) -> Result<bool, AllocError> {
+        push_datagram_line(out, number, bytes.len())?;
+        match read_datagram(alloc, bytes, &self.limits).result {
+            Ok(messages) => {
+                push_messages(alloc, out, self.limits.order(), messages.as_slice())?;
+                Ok(true)
+            }
+            Err(error) => {
+                push_refusal(out, error)?;
+                Ok(false)
+            }
+        }
+    }
 }
 
 impl Command for Show {
@@ -74,9 +62,7 @@ impl Command for Show {
         alloc: Global,
         datagrams: &[Vec<u8>],
     ) -> Result<(String, Verdict), AllocError> {
-        let mut text = String::new(alloc);
-        let verdict = push_datagrams(alloc, &mut text, datagrams, &self.limits)?;
-        Ok((text, verdict))
+        text_of_each(alloc, self, datagrams)
     }
 }
 

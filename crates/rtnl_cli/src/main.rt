@@ -3,8 +3,10 @@
 #![tactic(auto)]
 
 mod arguments;
+mod commands;
 
-use arguments::{Engine, Reading, Request};
+use arguments::{Engine, Parsed, Task};
+use clap::Error;
 use rtnl::frame::Limits;
 use rtnl::{
     ReadSource, RunError, Source, Verdict, WriteSink, run_check, run_request, run_show, run_table,
@@ -16,7 +18,7 @@ use std::process::ExitCode;
 /// A datagram was refused, a dump is not complete, or a line is bad.
 const BLEMISHED: u8 = 1;
 
-/// The words are wrong.
+/// A usage error.
 const USAGE: u8 = 2;
 
 /// A read or a write failed.
@@ -25,12 +27,12 @@ const FAULT: u8 = 3;
 /// Memory ran out.
 const MEMORY: u8 = 4;
 
-/// A status, once what had to be said was said or could not be.
-fn ended(_said: io::Result<()>, status: u8) -> ExitCode {
+/// An exit status, after a message on standard error, be it printed or not.
+fn failed(_printed: io::Result<()>, status: u8) -> ExitCode {
     ExitCode::from(status)
 }
 
-/// The status of a run, with a line on standard error where it stopped.
+/// The exit status of a run, with a line on standard error where it failed.
 fn outcome(rt: &HostRuntime, answer: Result<Verdict, RunError>) -> ExitCode {
     match answer {
         Ok(Verdict::Clean) => ExitCode::SUCCESS,
@@ -41,12 +43,24 @@ fn outcome(rt: &HostRuntime, answer: Result<Verdict, RunError>) -> ExitCode {
                 RunError::ReadFault | RunError::WriteFault => FAULT,
                 RunError::Memory => MEMORY,
             };
-            ended(eprintln!(rt; "rtnl: {error}"), status)
+            failed(eprintln!(rt; "rtnl: {error}"), status)
         }
     }
 }
 
-/// Does what was asked with what the source gives; the text goes to standard output.
+/// Prints help on standard output, or a usage error on standard error.
+fn print_message(rt: &HostRuntime, message: &Error) -> ExitCode {
+    let printed = message.print(rt);
+    if message.use_stderr() {
+        return failed(printed, USAGE);
+    }
+    match printed {
+        Ok(()) => ExitCode::SUCCESS,
+        Err(_) => outcome(rt, Err(RunError::WriteFault)),
+    }
+}
+
+/// Runs an engine over a source; its text goes to standard output.
 fn run<S: Source>(rt: &HostRuntime, source: &mut S, engine: Engine, limits: &Limits) -> ExitCode {
     let mut sink = WriteSink::new(io::writer(rt));
     let answer = match engine {
@@ -57,10 +71,21 @@ fn run<S: Source>(rt: &HostRuntime, source: &mut S, engine: Engine, limits: &Lim
     outcome(rt, answer)
 }
 
-/// Does what was asked, with a recording: the file, or standard input where none is named; or without.
-fn answer(rt: &HostRuntime, request: &Request<'_>) -> ExitCode {
-    match request {
-        Request::Ask {
+/// Does what the arguments ask for.
+fn perform(rt: &HostRuntime, task: &Task) -> ExitCode {
+    match task {
+        Task::Recording {
+            engine,
+            limits,
+            file,
+        } => match file {
+            None => run(rt, &mut ReadSource::new(rt.reader()), *engine, limits),
+            Some(path) => match File::open(rt, path.as_str()) {
+                Ok(opened) => run(rt, &mut ReadSource::new(opened), *engine, limits),
+                Err(_) => outcome(rt, Err(RunError::ReadFault)),
+            },
+        },
+        Task::Request {
             kind,
             family,
             seq,
@@ -70,41 +95,25 @@ fn answer(rt: &HostRuntime, request: &Request<'_>) -> ExitCode {
             let answer = run_request(rt.alloc(), &mut sink, *kind, *family, *seq, *order);
             outcome(rt, answer)
         }
-        Request::Recording {
-            engine,
-            limits,
-            file: None,
-        } => run(rt, &mut ReadSource::new(rt.reader()), *engine, limits),
-        Request::Recording {
-            engine,
-            limits,
-            file: Some(path),
-        } => match File::open(rt, path) {
-            Ok(opened) => run(rt, &mut ReadSource::new(opened), *engine, limits),
-            Err(_) => outcome(rt, Err(RunError::ReadFault)),
-        },
     }
 }
 
 fn main(rt: HostRuntime) -> ExitCode {
     let alloc = rt.alloc();
-    let args = match std::env::args(&rt) {
-        Ok(args) => args,
+    let given = match std::env::args(&rt) {
+        Ok(given) => given,
         Err(error) => match error.kind() {
             io::ErrorKind::OutOfMemory => return outcome(&rt, Err(RunError::Memory)),
-            _ => return ended(eprintln!(rt; "rtnl: an argument is not text"), USAGE),
+            _ => return failed(eprintln!(rt; "rtnl: an argument is not text"), USAGE),
         },
     };
-    let words: Vec<String> = match args.collect(alloc) {
-        Ok(words) => words,
+    let arguments: Vec<String> = match given.collect(alloc) {
+        Ok(arguments) => arguments,
         Err(_) => return outcome(&rt, Err(RunError::Memory)),
     };
-    match arguments::read(alloc, words.as_slice()) {
-        Ok(Reading::Request(request)) => answer(&rt, &request),
-        Ok(Reading::Told(error)) => {
-            let status = if error.use_stderr() { USAGE } else { 0 };
-            ended(error.print(&rt), status)
-        }
+    match arguments::parse(alloc, arguments.as_slice()) {
+        Ok(Parsed::Task(task)) => perform(&rt, &task),
+        Ok(Parsed::Message(message)) => print_message(&rt, &message),
         Err(_) => outcome(&rt, Err(RunError::Memory)),
     }
 }

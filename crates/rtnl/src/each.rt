@@ -1,0 +1,73 @@
+//! What is said of each datagram of a recording by itself.
+
+ghost use Rattle.std.specs.Prelude.{◌≡◌, ◌++◌, List, map, IfOk};
+ghost use Rattle.std.specs.String.{string_bytes};
+ghost use Rattle.rtnl.specs.Runs.{EachIs, Prints, texts_from, verdict_from};
+
+use crate::error::Verdict;
+use std::alloc::{AllocError, Global};
+
+/// What is found of a datagram, and its text.
+pub(crate) trait Each {
+    ghost use Rattle.std.specs.Prelude.{◌≡◌, ◌++◌, ℕ, List, Bool, IfOk};
+    ghost use Rattle.std.specs.String.{string_bytes};
+
+    // What may be found of a datagram.
+    ghost Found: { Type 0 };
+
+    // Whether it is found of these bytes.
+    ghost finds: { Self → List ℕ → Found → Type 0 };
+
+    // The text of the datagram of this number, of which it is found.
+    ghost text: { Self → ℕ → List ℕ → Found → List ℕ };
+
+    // Whether the datagram is taken.
+    ghost takes: { Found → Bool };
+
+    /// Writes the text of the datagram of this number, counted from 1, and says whether it is taken.
+    fn push(
+        &self,
+        alloc: Global,
+        out: &mut String,
+        number: usize,
+        bytes: &[u8],
+    ) -> Result<bool, AllocError>
+        ensures { IfOk result (λ taken. (found : Found) × finds self.now bytes.now found
+            × (string_bytes out.new ≡ string_bytes out.old ++ text self.now number bytes.now found)
+            × (taken ≡ takes found)) };
+}
+
+/// Writes the texts of all datagrams, and answers the verdict on them.
+fn push_each<E: Each>(
+    alloc: Global,
+    out: &mut String,
+    each: &E,
+    datagrams: &[Vec<u8>],
+) -> Result<Verdict, AllocError>
+    ensures { IfOk result (λ verdict. (found : List E.Found)
+        × EachIs (E.finds each.now) (map (λ d. d.items) datagrams.now) found
+        × (string_bytes out.new
+        ≡ string_bytes out.old ++ texts_from (E.text each.now) 1 (map (λ d. d.items) datagrams.now) found)
+        × (verdict ≡ verdict_from E.takes Verdict.Clean found)) }
+{
+    let mut verdict = Verdict::Clean;
+    for (index, datagram) in datagrams.iter().enumerate() {
+        let taken = each.push(alloc, out, index + 1, datagram.as_slice())?;
+        verdict = verdict.and(taken);
+    }
+    Ok(verdict)
+}
+
+/// The texts of all datagrams, and the verdict on them.
+pub(crate) fn text_of_each<E: Each>(
+    alloc: Global,
+    each: &E,
+    datagrams: &[Vec<u8>],
+) -> Result<(String, Verdict), AllocError>
+    ensures { IfOk result (λ p. Prints (E.finds each.now) (E.text each.now) E.takes
+        (map (λ d. d.items) datagrams.now) (string_bytes p.0) p.1) }
+{
+    let mut text = String::new(alloc);
+    let verdict = push_each(alloc, &mut text, each, datagrams)?;
+    Ok((text, verdict))
+}

@@ -1,0 +1,188 @@
+//! The commands of the program, with their arguments, options and help.
+
+use clap::{Arg, Command, value_parser};
+use nl_attr::Order;
+use rtnl::dump::Kind;
+use std::alloc::{AllocError, Global};
+
+/// The kinds of a dump by their names.
+pub(crate) const KINDS: [(&str, Kind); 4] = [
+    ("link", Kind::Link),
+    ("addr", Kind::Addr),
+    ("route", Kind::Route),
+    ("neigh", Kind::Neigh),
+];
+
+/// The byte orders by their names.
+pub(crate) const ORDERS: [(&str, Order); 2] = [("little", Order::Little), ("big", Order::Big)];
+
+/// The values that options list, and those that they have by default.
+#[derive(Clone, Copy)]
+pub(crate) struct Values<'a> {
+    pub kinds: &'a [&'a str],
+    pub orders: &'a [&'a str],
+    pub depth: &'a str,
+    pub entries: &'a str,
+}
+
+const STATUSES: &str = "Exit status:
+  0  no datagram was refused; for `table`, the dump is complete
+  1  a datagram was refused, the dump is not complete, or a line is bad
+  2  usage error
+  3  a read or a write failed
+  4  out of memory";
+
+const SHOW_EXAMPLE: &str = "Example:
+  echo 1400000003000200010000003930000000000000 | rtnl show
+prints
+  datagram 1 bytes 20
+  message 3 done flags 0x0002 MULTI seq 1 port 12345
+    done status 0 tail -";
+
+const CHECK_EXAMPLE: &str = "Example:
+  echo 1100000012000103010000000000000000 | rtnl check
+prints
+  datagram 1 accepted";
+
+const TABLE_EXAMPLE: &str = "Example:
+  echo 20000000 1000 0200 01000000 39300000 00000100 02000000 01000000 00000000 \\
+    14000000 0300 0200 01000000 39300000 00000000 |
+    rtnl table --kind link --seq 1 --port 12345
+prints
+  dump link seq 1 port 12345
+  entry 1
+    link family 0 type 1 index 2 flags 0x00000001 UP change 0x00000000
+  end done 0
+  entries 1 missed 0 ignored 0 unfed 0 damaged no interrupted no
+  received 52 visits 0
+  complete yes";
+
+const REQUEST_EXAMPLE: &str = "Example:
+  rtnl request --kind route --family 2 --seq 7
+prints
+  1c0000001a0001030700000000000000020000000000000000000000";
+
+fn file_argument<'a>(alloc: Global) -> Arg<'a> {
+    Arg::new(alloc, "FILE").help(
+        "Lines of hexadecimal, one datagram each [default: standard input]",
+    )
+}
+
+fn order_option<'a>(alloc: Global, values: Values<'a>) -> Arg<'a> {
+    Arg::new(alloc, "order")
+        .long("order")
+        .value_name("ORDER")
+        .value_parser(values.orders)
+        .default_value("little")
+        .help("Byte order of the numbers")
+}
+
+fn kind_option<'a>(alloc: Global, values: Values<'a>) -> Arg<'a> {
+    Arg::new(alloc, "kind")
+        .long("kind")
+        .value_name("KIND")
+        .required(true)
+        .value_parser(values.kinds)
+        .help("What the dump asks for")
+}
+
+fn seq_option<'a>(alloc: Global) -> Arg<'a> {
+    Arg::new(alloc, "seq")
+        .long("seq")
+        .value_name("N")
+        .required(true)
+        .value_parser(value_parser!(u32))
+        .help("Sequence number of the request and its answers")
+}
+
+fn port_option<'a>(alloc: Global) -> Arg<'a> {
+    Arg::new(alloc, "port")
+        .long("port")
+        .value_name("N")
+        .required(true)
+        .value_parser(value_parser!(u32))
+        .help("Port id of the answers")
+}
+
+fn family_option<'a>(alloc: Global) -> Arg<'a> {
+    Arg::new(alloc, "family")
+        .long("family")
+        .value_name("N")
+        .value_parser(value_parser!(u8))
+        .default_value("0")
+        .help("Address family of the request, 0 to 255, where 0 is all")
+}
+
+fn depth_option<'a>(alloc: Global, values: Values<'a>) -> Arg<'a> {
+    Arg::new(alloc, "depth")
+        .long("depth")
+        .value_name("N")
+        .value_parser(value_parser!(u8).range(0..=32))
+        .default_value(values.depth)
+        .help("Most levels of attributes in one another, 0 to 32")
+}
+
+fn entries_option<'a>(alloc: Global, values: Values<'a>) -> Arg<'a> {
+    Arg::new(alloc, "entries")
+        .long("entries")
+        .value_name("N")
+        .value_parser(value_parser!(u32).range(0..=65536))
+        .default_value(values.entries)
+        .help("Most entries of the table, 0 to 65536")
+}
+
+fn show_command<'a>(alloc: Global, values: Values<'a>) -> Result<Command<'a>, AllocError> {
+    Command::new(alloc, "show")
+        .about("Prints each datagram of a recording: its messages and their attributes")
+        .after_help(SHOW_EXAMPLE)
+        .arg(order_option(alloc, values))?
+        .arg(file_argument(alloc))
+}
+
+fn check_command<'a>(alloc: Global, values: Values<'a>) -> Result<Command<'a>, AllocError> {
+    Command::new(alloc, "check")
+        .about(
+            "Prints of each datagram of a recording whether it is canonical, that is written as its messages are, accepted though not canonical, or why it is refused",
+        )
+        .after_help(CHECK_EXAMPLE)
+        .arg(order_option(alloc, values))?
+        .arg(file_argument(alloc))
+}
+
+fn table_command<'a>(alloc: Global, values: Values<'a>) -> Result<Command<'a>, AllocError> {
+    Command::new(alloc, "table")
+        .about(
+            "Reads the datagrams of a recording as the answers to a dump, and prints the entries of its table and how it ended",
+        )
+        .after_help(TABLE_EXAMPLE)
+        .arg(kind_option(alloc, values))?
+        .arg(seq_option(alloc))?
+        .arg(port_option(alloc))?
+        .arg(family_option(alloc))?
+        .arg(depth_option(alloc, values))?
+        .arg(entries_option(alloc, values))?
+        .arg(order_option(alloc, values))?
+        .arg(file_argument(alloc))
+}
+
+fn request_command<'a>(alloc: Global, values: Values<'a>) -> Result<Command<'a>, AllocError> {
+    Command::new(alloc, "request")
+        .about("Prints the request that begins a dump as one line of hexadecimal")
+        .after_help(REQUEST_EXAMPLE)
+        .arg(kind_option(alloc, values))?
+        .arg(seq_option(alloc))?
+        .arg(family_option(alloc))?
+        .arg(order_option(alloc, values))
+}
+
+/// The whole program.
+pub(crate) fn rtnl<'a>(alloc: Global, values: Values<'a>) -> Result<Command<'a>, AllocError> {
+    Command::new(alloc, "rtnl")
+        .bin_name("rtnl")?
+        .about("Reads recordings of rtnetlink datagrams. Without a command it is `rtnl show`.")
+        .after_help(STATUSES)
+        .subcommand(show_command(alloc, values)?)?
+        .subcommand(check_command(alloc, values)?)?
+        .subcommand(table_command(alloc, values)?)?
+        .subcommand(request_command(alloc, values)?)
+}

@@ -1,0 +1,86 @@
+# Cases of `show`, and of the program without a command, read in by ../program.sh.
+
+# The first run also builds the program where it isn't built.
+check 'the script without arguments' ends 0 "$finish_text" '' ./rtnl <<<"$finish"
+expect 'no arguments' 0 "$finish_text" '' <<<"$finish"
+expect 'show, standard input' 0 "$finish_text" '' show <<<"$finish"
+echo "$loopback" >"$folder/link"
+expect 'show FILE' 0 "$loopback_text" '' show "$folder/link" <<<"$finish"
+expect 'show behind the end of options' 0 "$loopback_text" '' show -- "$folder/link" </dev/null
+expect 'order little' 0 "$loopback_text" '' show --order little <<<"$loopback"
+expect 'order big' 0 "$loopback_text" '' show --order big <<<"$loopback_big"
+expect 'order big, FILE' 1 "$loopback_refused" '' show --order=big "$folder/link" </dev/null
+expect 'order little over big numbers' 1 "$loopback_refused" '' show --order little <<<"$loopback_big"
+for file in examples/*.hex; do
+  check "recording $file" is_shown "$file"
+  check "recording $file, checked" is_canonical "$file"
+done
+
+expect 'help' 0 "$any" '' --help <<<"$finish"
+expect 'help of show' 0 "$any" '' show --help <<<"$finish"
+expect 'help of request, as a command' 0 "$any" '' help request <<<"$finish"
+check 'help, a full device' ends 3 '' "$write_fault" into_full_device --help </dev/null
+ln -s "$program" "$folder/rtnl"
+for command in show check table request; do
+  check "example in the help of $command" has_true_example "$command"
+done
+usage show --order middle
+usage show --order
+usage show --order little --order big
+usage --depth 3
+usage show --depth 3
+usage --order big
+usage reveal
+usage show "$folder/link" "$folder/link"
+usage show $'\xff'
+# Arguments are looked at before FILE is opened.
+usage show --order middle "$folder/missing"
+
+expect 'a missing file' 3 '' "$read_fault" show "$folder/missing" <<<"$finish"
+expect 'a folder as FILE' 3 '' "$read_fault" show "$folder" <<<"$finish"
+expect 'a folder as standard input' 3 '' "$read_fault" <"$folder"
+check 'standard input closed' ends 3 '' "$read_fault" from_closed_input
+check 'a full device' ends 3 '' "$write_fault" into_full_device <<<"$finish"
+check 'standard output closed' ends 3 '' "$write_fault" into_closed_output <<<"$finish"
+check 'a pipe that nobody reads' ends 3 '' "$write_fault" into_pipe_without_reader <<<"$finish"
+check 'a fault that cannot be printed' ends 3 '' '' with_full_errors show "$folder/missing" </dev/null
+check 'nothing for a full device' ends 0 '' '' into_full_device </dev/null
+
+expect 'an odd number of digits' 1 '' "$bad_first_line" < <(printf 'abc')
+expect 'odd digits with blanks' 1 '' "$bad_first_line" <<<'14 00 0'
+expect 'a byte that is no digit' 1 '' "$bad_first_line" <<<'0g'
+expect 'a byte above ASCII' 1 '' "$bad_first_line" < <(printf '\xff\xff\n')
+expect 'a zero byte' 1 '' "$bad_first_line" < <(printf '0\0\n')
+expect 'a form feed is no blank' 1 '' "$bad_first_line" < <(printf '00\f\n')
+expect 'a comment behind a blank' 1 '' "$bad_first_line" <<<' # note'
+expect 'a comment behind digits' 1 '' "$bad_first_line" <<<"$finish # note"
+expect 'lines are counted with comments and blank ones' 1 '' 'rtnl: line 6: bad line' \
+  < <(printf '# note\n\n%s\n \t\r\n# zz\nzz\n%s\n' "$finish" "$finish")
+expect 'the first bad line of two, behind a refused datagram' 1 '' 'rtnl: line 2: bad line' \
+  < <(printf '%s\n123\nzz\n' "$short_attribute")
+
+expect 'empty input' 0 '' '' </dev/null
+expect 'comments and blank lines alone' 0 '' '' < <(printf '# note\n\n \t\r\n#\n')
+expect 'upper-case digits' 0 "$loopback_text" '' <<<"${loopback^^}"
+expect 'tabs and carriage returns' 0 "$finish_text" '' < <(printf '\t%s\r\n' "${finish// /$'\t'}")
+expect 'no blanks' 0 "$finish_text" '' <<<"${finish// /}"
+expect 'no newline at the end' 0 "$finish_text" '' < <(printf '# note\n%s' "$finish")
+
+expect 'bad length of an attribute' 1 $'datagram 1 bytes 52\nrefused bad length at 32' '' <<<"$short_attribute"
+expect 'cut' 1 $'datagram 1 bytes 15\nrefused cut at 0' '' < <(zeros 15)
+expect 'short body' 1 $'datagram 1 bytes 16\nrefused short body at 0' '' <<<'10000000 0200 0000 01000000 39300000'
+expect 'too deep' 1 $'datagram 1 bytes 68\nrefused too deep at 64' '' <<<"$nine_lists"
+expect 'the largest datagram' 1 $'datagram 1 bytes 65536\nrefused bad length at 0' '' < <(zeros 65536)
+expect 'a datagram too large' 1 $'datagram 1 bytes 65537\nrefused too large' '' < <(zeros 65537)
+expect 'refused between two that are shown' 1 \
+  "$finish_text"$'\ndatagram 2 bytes 52\nrefused bad length at 32\ndatagram 3 bytes 20\n'"$finish_message" '' \
+  < <(printf '%s\n' "$finish" "$short_attribute" "$finish")
+
+# The longest input has 2^24 bytes, here a comment and the 46 bytes of a DONE with its blanks and newline.
+{ comment 16777170 && echo "$finish"; } >"$folder/longest"
+{ comment 16777171 && echo "$finish"; } >"$folder/too_long"
+expect 'the longest input' 0 "$finish_text" '' <"$folder/longest"
+expect 'the longest input as FILE' 0 "$finish_text" '' show "$folder/longest" </dev/null
+expect 'an input too long' 3 '' "$read_fault" <"$folder/too_long"
+expect 'a FILE too long' 3 '' "$read_fault" show "$folder/too_long" </dev/null
+check 'out of memory' ends 4 '' 'rtnl: out of memory' in_little_memory <"$folder/longest"

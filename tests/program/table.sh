@@ -1,0 +1,333 @@
+# Cases of `table`, read in by ../program.sh.
+
+# A dump of links, and its parts.
+links=(table --kind link --seq 1 --port 12345)
+ethernet='2c000000 1000 0200 01000000 39300000 00000100 02000000 43100100 00000000 09000300 65746830 00000000'
+finish_big='00000014 0003 0002 00000001 00003039 00000000'
+loopback_body=$(tail -n +3 <<<"$loopback_text")
+ethernet_body='  link family 0 type 1 index 2 flags 0x00011043 UP,BROADCAST,RUNNING,MULTICAST,LOWER_UP change 0x00000000
+    attr 3 IFNAME - text eth0'
+# The loopback link once more, with an MTU of 1,500; and the same as part of a dump that was interrupted.
+loopback_later='30000000 1000 0200 01000000 39300000 00000403 01000000 49000100 00000000 07000300 6c6f0000 08000400 dc050000'
+loopback_interrupted="${loopback_later/0200/1200}"
+loopback_later_body="${loopback_body/65536/1500}"
+# The loopback link, and a header that is cut behind its flags.
+cut="$loopback 14000000 0300 0200 0100"
+# An ERROR of code -1 and one of code 0, an acknowledgement, of a dump's request.
+refusal='24000000 0200 0000 01000000 39300000 ffffffff 20000000 1200 0103 01000000 00000000'
+acknowledgement='24000000 0200 0000 01000000 39300000 00000000 20000000 1200 0103 01000000 00000000'
+
+two_links="dump link seq 1 port 12345
+entry 1
+$loopback_body
+entry 2
+$ethernet_body
+end done 0
+entries 2 missed 0 ignored 0 unfed 0 damaged no interrupted no
+received 112 visits 28
+complete yes"
+expect 'table: two datagrams' 0 "$two_links" '' "${links[@]}" < <(printf '%s\n' "$loopback" "$ethernet $finish")
+expect 'table: one datagram' 0 "$two_links" '' "${links[@]}" <<<"$loopback $ethernet $finish"
+echo "$loopback $ethernet $finish" >"$folder/links"
+expect 'table FILE' 0 "$two_links" '' "${links[@]}" "$folder/links" <<<"$finish"
+expect 'table: options behind FILE' 0 "$two_links" '' \
+  table "$folder/links" --port=12345 --seq=1 --kind=link </dev/null
+expect 'table: limits that just do' 0 "$two_links" '' "${links[@]}" --depth 0 --entries 2 "$folder/links" </dev/null
+
+one_link="dump link seq 1 port 12345
+entry 1
+$loopback_body
+end done 0
+entries 1 missed 0 ignored 0 unfed 0 damaged no interrupted no
+received 68 visits 16
+complete yes"
+expect 'table, order little' 0 "$one_link" '' "${links[@]}" --order little <<<"$loopback $finish"
+expect 'table, order big' 0 "$one_link" '' "${links[@]}" --order big <<<"$loopback_big $finish_big"
+expect 'table, big numbers in the other order' 1 'dump link seq 1 port 12345
+datagram 1 refused bad length at 0
+datagram 2 refused bad length at 0
+end none
+entries 0 missed 0 ignored 0 unfed 0 damaged yes interrupted no
+received 68 visits 0
+complete no' '' "${links[@]}" < <(printf '%s\n' "$loopback_big" "$finish_big")
+
+expect 'table: refused, then taken' 1 "dump link seq 1 port 12345
+datagram 1 refused cut at 48
+entry 1
+$loopback_body
+end done 0
+entries 1 missed 0 ignored 0 unfed 0 damaged yes interrupted no
+received 126 visits 32
+complete no" '' "${links[@]}" < <(printf '%s\n' "$cut" "$loopback" "$finish")
+expect 'table: refused alone' 1 'dump link seq 1 port 12345
+datagram 1 refused cut at 48
+end none
+entries 0 missed 0 ignored 0 unfed 0 damaged yes interrupted no
+received 58 visits 16
+complete no' '' "${links[@]}" <<<"$cut"
+expect 'table: a datagram too large' 1 'dump link seq 1 port 12345
+datagram 2 refused too large
+end done 0
+entries 0 missed 0 ignored 1 unfed 0 damaged yes interrupted no
+received 65596 visits 0
+complete no' '' "${links[@]}" < <(printf '%s\n' "$acknowledgement" "$(zeros 65540)" "$finish")
+expect 'table: unfed behind the end' 0 'dump link seq 1 port 12345
+end done 0
+entries 0 missed 0 ignored 0 unfed 1 damaged no interrupted no
+received 20 visits 0
+complete yes' '' "${links[@]}" < <(printf '%s\n' "$finish" "$loopback")
+expect 'table: not looked at behind the end' 0 'dump link seq 1 port 12345
+end done 0
+entries 0 missed 0 ignored 0 unfed 3 damaged no interrupted no
+received 20 visits 0
+complete yes' '' "${links[@]}" < <(printf '%s\n' "$finish" "$short_attribute" 00 "$finish")
+expect 'table: ignored behind the end in its datagram' 0 'dump link seq 1 port 12345
+end done 0
+entries 0 missed 0 ignored 1 unfed 0 damaged no interrupted no
+received 68 visits 16
+complete yes' '' "${links[@]}" <<<"$finish $loopback"
+
+expect 'table: interrupted by an item' 1 "dump link seq 1 port 12345
+entry 1
+$loopback_later_body
+entry 2
+$ethernet_body
+end done 0
+entries 2 missed 0 ignored 0 unfed 0 damaged no interrupted yes
+received 160 visits 44
+complete no" '' "${links[@]}" <<<"$loopback $ethernet $loopback_interrupted $finish"
+expect 'table: interrupted by the end' 1 'dump link seq 1 port 12345
+end done 0
+entries 0 missed 0 ignored 0 unfed 0 damaged no interrupted yes
+received 20 visits 0
+complete no' '' "${links[@]}" <<<"${finish/0200/1200}"
+expect 'table: not interrupted by what is ignored' 0 'dump link seq 1 port 12345
+end done 0
+entries 0 missed 0 ignored 1 unfed 0 damaged no interrupted no
+received 68 visits 16
+complete yes' '' "${links[@]}" <<<"${loopback_interrupted/01000000/02000000} $finish"
+
+three_messages="$loopback $ethernet $loopback_later $finish"
+expect 'table of two entries, of which one came twice' 0 "dump link seq 1 port 12345
+entry 1
+$loopback_later_body
+entry 2
+$ethernet_body
+end done 0
+entries 2 missed 0 ignored 0 unfed 0 damaged no interrupted no
+received 160 visits 44
+complete yes" '' "${links[@]}" <<<"$three_messages"
+expect 'table of one entry at most' 1 "dump link seq 1 port 12345
+entry 1
+$loopback_later_body
+end done 0
+entries 1 missed 1 ignored 0 unfed 0 damaged no interrupted no
+received 160 visits 44
+complete no" '' "${links[@]}" --entries 1 <<<"$three_messages"
+expect 'table of no entry at most' 1 'dump link seq 1 port 12345
+end done 0
+entries 0 missed 3 ignored 0 unfed 0 damaged no interrupted no
+received 160 visits 44
+complete no' '' "${links[@]}" --entries 0 <<<"$three_messages"
+
+# 4,097 links of 32 bytes with the indices 1 to 4,097, each a datagram, and what is printed of the first 4,096.
+many_links() {
+  awk 'BEGIN { for (i = 1; i <= 4097; i++)
+    printf "20000000 1000 0200 01000000 39300000 00000000 %02x%02x0000 00000000 00000000\n", i % 256, i / 256 }'
+}
+most_entries() {
+  awk 'BEGIN { for (i = 1; i <= 4096; i++)
+    printf "entry %d\n  link family 0 type 0 index %d flags 0x00000000 - change 0x00000000\n", i, i }'
+}
+expect 'table: the standard number of entries' 1 "dump link seq 1 port 12345
+$(most_entries)
+end done 0
+entries 4096 missed 1 ignored 0 unfed 0 damaged no interrupted no
+received 131124 visits 0
+complete no" '' "${links[@]}" < <(many_links && echo "$finish")
+
+expect 'table: ended by DONE with a status' 1 'dump link seq 1 port 12345
+end done -16
+entries 0 missed 0 ignored 0 unfed 0 damaged no interrupted no
+received 20 visits 0
+complete no' '' "${links[@]}" <<<'14000000 0300 0200 01000000 39300000 f0ffffff'
+expect 'table: ended by DONE without a status' 0 'dump link seq 1 port 12345
+end done 0
+entries 0 missed 0 ignored 0 unfed 0 damaged no interrupted no
+received 16 visits 0
+complete yes' '' "${links[@]}" <<<'10000000 0300 0200 01000000 39300000'
+expect 'table: ended by ERROR' 1 'dump link seq 1 port 12345
+end error -1
+entries 0 missed 0 ignored 0 unfed 1 damaged no interrupted no
+received 36 visits 0
+complete no' '' "${links[@]}" < <(printf '%s\n' "$refusal" "$finish")
+expect 'table: ended by OVERRUN' 1 'dump link seq 1 port 12345
+end overrun
+entries 0 missed 0 ignored 0 unfed 0 damaged no interrupted no
+received 16 visits 0
+complete no' '' "${links[@]}" <<<'10000000 0400 0000 01000000 39300000'
+expect 'table: not ended by an acknowledgement' 1 'dump link seq 1 port 12345
+end none
+entries 0 missed 0 ignored 1 unfed 0 damaged no interrupted no
+received 36 visits 0
+complete no' '' "${links[@]}" <<<"$acknowledgement"
+expect 'table: not ended by an ERROR that is too short' 1 'dump link seq 1 port 12345
+datagram 1 refused short body at 0
+end none
+entries 0 missed 0 ignored 0 unfed 0 damaged yes interrupted no
+received 16 visits 0
+complete no' '' "${links[@]}" <<<'10000000 0200 0000 01000000 39300000'
+nothing='dump link seq 1 port 12345
+end none
+entries 0 missed 0 ignored 0 unfed 0 damaged no interrupted no
+received 0 visits 0
+complete no'
+expect 'table: empty input' 1 "$nothing" '' "${links[@]}" </dev/null
+expect 'table: comments alone' 1 "$nothing" '' "${links[@]}" <<<'# note'
+
+expect 'table: another port' 1 'dump link seq 1 port 1
+end none
+entries 0 missed 0 ignored 2 unfed 0 damaged no interrupted no
+received 68 visits 16
+complete no' '' table --kind link --seq 1 --port 1 < <(printf '%s\n' "$loopback" "$finish")
+expect 'table: links of another sequence number, of another port, of neither' 0 'dump link seq 1 port 12345
+end done 0
+entries 0 missed 0 ignored 3 unfed 0 damaged no interrupted no
+received 164 visits 48
+complete yes' '' "${links[@]}" < <(printf '%s\n' "${loopback/01000000/02000000}" "${loopback/39300000/01000000}" \
+  "${loopback/01000000 39300000/00000000 00000000}" "$finish")
+expect 'table: a link that was deleted' 0 'dump link seq 1 port 12345
+end done 0
+entries 0 missed 0 ignored 1 unfed 0 damaged no interrupted no
+received 68 visits 16
+complete yes' '' "${links[@]}" <<<"${loopback/1000/1100} $finish"
+expect 'table of another kind' 0 'dump addr seq 1 port 12345
+end done 0
+entries 0 missed 0 ignored 1 unfed 0 damaged no interrupted no
+received 68 visits 16
+complete yes' '' table --kind addr --seq 1 --port 12345 <<<"$loopback $finish"
+expect 'table: the greatest numbers' 0 'dump link seq 4294967295 port 4294967295
+end done 0
+entries 0 missed 0 ignored 0 unfed 0 damaged no interrupted no
+received 20 visits 0
+complete yes' '' table --kind link --seq 4294967295 --port 4294967295 --family 255 --depth 32 --entries 65536 \
+  <<<'14000000 0300 0200 ffffffff ffffffff 00000000'
+expect 'table: the least numbers' 0 'dump link seq 0 port 0
+end done 0
+entries 0 missed 0 ignored 0 unfed 0 damaged no interrupted no
+received 20 visits 0
+complete yes' '' table --kind link --seq 0 --port 0 --family 0 --depth 0 --entries 0 \
+  <<<'14000000 0300 0200 00000000 00000000 00000000'
+
+neighbour='3c000000 1c00 0200 01000000 39300000 0a000000 02000000 02008001 14000100 fe800000 00000000 00000000 00000001 0a000200 02000000 00010000'
+expect 'table of neighbours' 0 'dump neigh seq 1 port 12345
+entry 1
+  neigh family 10 index 2 state 0x0002 REACHABLE flags 0x80 ROUTER type 1
+    attr 1 DST - ipv6 fe80:0000:0000:0000:0000:0000:0000:0001
+    attr 2 LLADDR - hex 020000000001
+end done 0
+entries 1 missed 0 ignored 0 unfed 0 damaged no interrupted no
+received 80 visits 32
+complete yes' '' table --kind neigh --seq 1 --port 12345 <<<"$neighbour $finish"
+
+address='30000000 1400 0200 01000000 39300000 020880fe 01000000 08000100 7f000001 08000200 7f000001 07000300 6c6f0000'
+addresses='dump addr seq 1 port 12345
+entry 1
+  addr family 2 prefix 8 flags 0x80 scope 254 index 1
+    attr 1 ADDRESS - ipv4 127.0.0.1
+    attr 2 LOCAL - ipv4 127.0.0.1
+    attr 3 LABEL - text lo
+end done 0
+entries 1 missed 0 ignored 0 unfed 0 damaged no interrupted no
+received 68 visits 24
+complete yes'
+expect 'table of addresses' 0 "$addresses" '' table --kind addr --seq 1 --port 12345 <<<"$address $finish"
+expect 'table of addresses, of which another family was asked for' 0 "$addresses" '' \
+  table --kind addr --seq 1 --port 12345 --family 10 <<<"$address $finish"
+
+routes=(table --kind route --seq 1 --port 12345)
+route='40000000 1800 0200 01000000 39300000 02000000 fe030001 00000000 24000900 10000000 02000000 08000500 c0000201 10000001 03000000 08000500 c0000202'
+route_table='dump route seq 1 port 12345
+entry 1
+  route family 2 dst_len 0 src_len 0 tos 0 table 254 protocol 3 scope 0 type 1 flags 0x00000000
+    attr 9 MULTIPATH - hops 2
+      hop flags 0x00 - hops 0 index 2
+        attr 5 GATEWAY - ipv4 192.0.2.1
+      hop flags 0x00 - hops 1 index 3
+        attr 5 GATEWAY - ipv4 192.0.2.2
+end done 0
+entries 1 missed 0 ignored 0 unfed 0 damaged no interrupted no
+received 84 visits 84
+complete yes'
+expect 'table of routes' 0 "$route_table" '' "${routes[@]}" <<<"$route $finish"
+expect 'table of routes, depth 2' 0 "$route_table" '' "${routes[@]}" --depth 2 <<<"$route $finish"
+expect 'table of routes, depth 1' 1 'dump route seq 1 port 12345
+datagram 1 refused too deep at 28
+end done 0
+entries 0 missed 0 ignored 0 unfed 0 damaged yes interrupted no
+received 84 visits 36
+complete no' '' "${routes[@]}" --depth 1 < <(printf '%s\n' "$route" "$finish")
+# The nine lists have 36, 32 and so on down to 4 bytes, each of which is a visit.
+expect 'table, the standard depth' 1 'dump link seq 1 port 12345
+datagram 1 refused too deep at 64
+end done 0
+entries 0 missed 0 ignored 0 unfed 0 damaged yes interrupted no
+received 88 visits 180
+complete no' '' "${links[@]}" < <(printf '%s\n' "$nine_lists" "$finish")
+expect 'table, depth 9' 0 'dump link seq 1 port 12345
+entry 1
+  link family 0 type 0 index 0 flags 0x00000000 - change 0x00000000
+    attr 1 ADDRESS nested list 1
+      attr 1 - nested list 1
+        attr 1 - nested list 1
+          attr 1 - nested list 1
+            attr 1 - nested list 1
+              attr 1 - nested list 1
+                attr 1 - nested list 1
+                  attr 1 - nested list 1
+                    attr 1 - nested list 0
+end done 0
+entries 1 missed 0 ignored 0 unfed 0 damaged no interrupted no
+received 88 visits 180
+complete yes' '' "${links[@]}" --depth 9 < <(printf '%s\n' "$nine_lists" "$finish")
+
+# is_tabled FILE KIND SEQ PORT COUNT: the recording is a complete dump of so many entries, no two with one key,
+# each of which is printed as `show` prints it.
+is_tabled() {
+  ends 0 "$any" '' "$program" table --kind "$2" --seq "$3" --port "$4" "$1" &&
+    [ "$(grep -c '^entry ' "$folder/output")" = "$5" ] &&
+    [ "$(grep '^  ' "$folder/output")" = "$("$program" show "$1" | grep '^  ' | grep -v '^  done ')" ]
+}
+check 'table of a recording of links' is_tabled examples/links.hex link 1 19050 1
+check 'table of a recording of addresses' is_tabled examples/addresses.hex addr 4294967295 19247 23
+check 'table of a recording of routes' is_tabled examples/routes.hex route 1011 19261 37
+
+expect 'table: a bad line behind the end' 1 '' 'rtnl: line 2: bad line' "${links[@]}" \
+  < <(printf '%s\n' "$loopback $finish" zz)
+expect 'table: a missing file' 3 '' "$read_fault" "${links[@]}" "$folder/missing" <<<"$finish"
+expect 'table: a folder as FILE' 3 '' "$read_fault" "${links[@]}" "$folder" <<<"$finish"
+expect 'table: an input too long' 3 '' "$read_fault" "${links[@]}" <"$folder/too_long"
+check 'table: out of memory' ends 4 '' 'rtnl: out of memory' in_little_memory "${links[@]}" <"$folder/longest"
+check 'table: standard input closed' ends 3 '' "$read_fault" from_closed_input "${links[@]}"
+check 'table: a full device' ends 3 '' "$write_fault" into_full_device "${links[@]}" <<<"$finish"
+check 'table: a full device, empty input' ends 3 '' "$write_fault" into_full_device "${links[@]}" </dev/null
+check 'table: standard output closed' ends 3 '' "$write_fault" into_closed_output "${links[@]}" <<<"$finish"
+
+expect 'help of table' 0 "$any" '' table --help <<<"$finish"
+usage table
+usage table --seq 1 --port 12345
+usage table --kind link --port 12345
+usage table --kind link --seq 1
+usage --kind link --seq 1 --port 12345
+for kind in links LINK '' lin; do usage table --kind "$kind" --seq 1 --port 12345; done
+for number in 4294967296 -1 0x1 1.0 '' one ' 1'; do
+  usage table --kind link --port 12345 --seq "$number"
+  usage table --kind link --port 12345 "--seq=$number"
+  usage table --kind link --seq 1 "--port=$number"
+done
+for option in family=256 family=-1 family=0x2 depth=33 depth=-1 depth=256 entries=65537 entries=-1 entries=4294967296 \
+  order=middle limit=3; do usage "${links[@]}" "--$option"; done
+usage "${links[@]}" --seq 2
+usage "${links[@]}" --depth
+usage "${links[@]}" "$folder/link" "$folder/links"
+usage "${links[@]}" --depth 33 "$folder/missing"
