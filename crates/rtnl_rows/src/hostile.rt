@@ -1,23 +1,11 @@
 //! Truncated datagrams, and datagrams of which one length was changed.
 
-use crate::vectors::{DONE, ETHERNET, LOOPBACK, TWO_HOPS_ROUTE, bytes_of, ensure};
+use crate::hostile_dumps::refuse_when_fresh;
+use crate::vectors::{DONE, ETHERNET, LOOPBACK, TWO_HOPS_ROUTE, changed, ensure, joined};
 use nl_attr::{Fault, Reason};
 use nl_frame::{Body, Limits, Message, ReadError, read_datagram};
 use std::alloc::Global;
 use std::test::Fail;
-
-/// A loopback link, an ethernet link, and the end, in one datagram.
-fn dump(alloc: Global) -> Result<Vec<u8>, Fail> {
-    let mut bytes = bytes_of(alloc, LOOPBACK)?;
-    bytes.extend_from_slice(bytes_of(alloc, ETHERNET)?.as_slice())?;
-    bytes.extend_from_slice(bytes_of(alloc, DONE)?.as_slice())?;
-    Ok(bytes)
-}
-
-fn bad_length(place: u32) -> ReadError {
-    let reason = Reason::BadLength;
-    ReadError::Layout(Fault { place, reason })
-}
 
 /// What is read of so many bytes of the dump, where its last message that is whole in them ends at
 /// `start`: so many messages where nothing is left, or the refusal of the rest.
@@ -58,24 +46,13 @@ fn check_prefix(alloc: Global, prefix: &[u8], end: u32) -> bool {
 #[test]
 fn each_prefix_of_a_dump(rt: HostRuntime) -> Result<(), Fail> {
     let alloc = rt.alloc();
-    let bytes = dump(alloc)?;
+    let bytes = joined(alloc, &[LOOPBACK, ETHERNET, DONE])?;
     ensure(bytes.len() == 112, "a dump of 112 bytes")?;
     for (size, end) in (0..=112).zip(0u32..) {
         let prefix = bytes.as_slice().get(..size).ok_or("a prefix")?;
         assert!(rt; check_prefix(alloc, prefix, end), "{size} bytes");
     }
     Ok(())
-}
-
-/// The same bytes with others at a place.
-fn changed(alloc: Global, text: &str, place: usize, with: &[u8]) -> Result<Vec<u8>, Fail> {
-    let old = bytes_of(alloc, text)?;
-    let mut new = Vec::new(alloc);
-    new.extend_from_slice(old.as_slice().get(..place).ok_or("a place")?)?;
-    new.extend_from_slice(with)?;
-    let end = place.saturating_add(with.len());
-    new.extend_from_slice(old.as_slice().get(end..).ok_or("an end")?)?;
-    Ok(new)
 }
 
 /// A length field: its place, how many bytes it has, and what reading answers where it is at most 3,
@@ -89,7 +66,7 @@ struct Field {
     greatest: (u32, u64),
 }
 
-/// A datagram with these bytes at a place has a bad length.
+/// A datagram with these bytes at a place has a bad length, also where a dump waits for it.
 fn is_refused(
     alloc: Global,
     text: &str,
@@ -98,12 +75,14 @@ fn is_refused(
     (place, visits): (u32, u64),
 ) -> Result<(), Fail> {
     let bytes = changed(alloc, text, at, with)?;
+    let reason = Reason::BadLength;
+    let fault = Fault { place, reason };
     let read = read_datagram(alloc, bytes.as_slice(), &Limits::standard());
     let refusal = read.result.err();
-    ensure(
-        refusal == Some(bad_length(place)) && read.visits == visits,
-        text,
-    )
+    let is_so = refusal == Some(ReadError::Layout(fault)) && read.visits == visits;
+    ensure(is_so, text)?;
+    let is_so = refuse_when_fresh(alloc, bytes.as_slice(), fault, visits)?;
+    ensure(is_so, "a dump that waits")
 }
 
 fn check_field(alloc: Global, text: &str, field: &Field) -> Result<(), Fail> {

@@ -6,13 +6,23 @@ mod bodies;
 #[cfg(test)]
 mod datagrams;
 #[cfg(test)]
+mod dumps;
+#[cfg(test)]
 mod fakes;
 #[cfg(test)]
 mod families;
 #[cfg(test)]
+mod feeding;
+#[cfg(test)]
 mod forms;
 #[cfg(test)]
 mod hostile;
+#[cfg(test)]
+mod hostile_dumps;
+#[cfg(test)]
+mod keys;
+#[cfg(test)]
+mod laws;
 #[cfg(test)]
 mod names;
 #[cfg(test)]
@@ -22,9 +32,13 @@ mod reading;
 #[cfg(test)]
 mod regions;
 #[cfg(test)]
+mod sessions;
+#[cfg(test)]
 mod shown;
 #[cfg(test)]
 mod streams;
+#[cfg(test)]
+mod tables;
 #[cfg(test)]
 mod trees;
 #[cfg(test)]

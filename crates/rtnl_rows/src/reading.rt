@@ -4,6 +4,7 @@ ghost use Rattle.std.specs.Prelude.{◌≤◌, IfOk, vec_len};
 
 use crate::vectors::{LONGEST, bytes_of};
 use nl_attr::{Depth, Order};
+use nl_frame::{Body, Limits, Message, read_datagram};
 use nl_route::{Family, Head};
 use std::alloc::Global;
 use std::test::Fail;
@@ -37,4 +38,13 @@ pub(crate) fn body_in<H: Head>(
     }
     let read = Family::read_body_ordered(alloc, bytes.as_slice(), 0, Depth::standard(), order);
     Ok((read.result?, read.visits))
+}
+
+/// The body of the last message of a datagram, its numbers in this order.
+pub(crate) fn body_in_datagram(alloc: Global, text: &str, order: Order) -> Result<Body, Fail> {
+    let bytes = bytes_of(alloc, text)?;
+    let limits = Limits::standard().with_order(order);
+    let mut messages = read_datagram(alloc, bytes.as_slice(), &limits).result?;
+    let Message { body, .. } = messages.pop().ok_or("a message")?;
+    Ok(body)
 }

@@ -41,6 +41,31 @@ pub(crate) fn bytes_and_zeros(alloc: Global, text: &str, zeros: usize) -> Result
     Ok(bytes)
 }
 
+/// The bytes of one text after the other.
+pub(crate) fn joined(alloc: Global, texts: &[&str]) -> Result<Vec<u8>, Fail> {
+    let mut bytes = Vec::new(alloc);
+    for text in texts {
+        bytes.extend_from_slice(bytes_of(alloc, text)?.as_slice())?;
+    }
+    Ok(bytes)
+}
+
+/// The bytes of a text with others at a place.
+pub(crate) fn changed(
+    alloc: Global,
+    text: &str,
+    place: usize,
+    with: &[u8],
+) -> Result<Vec<u8>, Fail> {
+    let old = bytes_of(alloc, text)?;
+    let mut new = Vec::new(alloc);
+    new.extend_from_slice(old.as_slice().get(..place).ok_or("a place")?)?;
+    new.extend_from_slice(with)?;
+    let end = place.saturating_add(with.len());
+    new.extend_from_slice(old.as_slice().get(end..).ok_or("an end")?)?;
+    Ok(new)
+}
+
 pub const PLAIN: AttrFlags = AttrFlags {
     nested: false,
     net: false,
@@ -152,6 +177,14 @@ pub const TWO_HOPS_ROUTE: &str =
 
 pub const TWO_HOPS_ROUTE_BIG: &str =
     "00000040 0018 0002 00000001 00003039 02000000 fe030001 00000000 00240009 00100000 00000002 00080005 c0000201 00100001 00000003 00080005 c0000202";
+
+/// The address 127.0.0.1/8 of the loopback link.
+pub const LOOPBACK_ADDRESS: &str =
+    "30000000 1400 0200 01000000 39300000 020880fe 01000000 08000100 7f000001 08000200 7f000001 07000300 6c6f0000";
+
+/// A neighbour of the link `eth0`, by an IPv6 address.
+pub const NEIGHBOUR: &str =
+    "3c000000 1c00 0200 01000000 39300000 0a000000 02000000 02008001 14000100 fe800000 00000000 00000000 00000001 0a000200 02000000 00010000";
 
 /// A header of these fields.
 pub(crate) fn header_of(len: u32, kind: u16, flags: u16, seq: u32, port: u32) -> Header {

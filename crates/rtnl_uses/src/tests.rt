@@ -76,6 +76,6 @@ fn done_ends_a_dump(rt: HostRuntime) -> Result<(), Fail> {
     let mut session = Session::new(rt.alloc(), Limits::standard())?;
     assert_eq!(rt; take_answer(&mut session, done), Err(FeedError::NotWaiting));
     let _request = session.begin(Kind::Link, 0, 1, 0)?;
-    assert_eq!(rt; take_answer(&mut session, done), Ok(true));
+    assert_eq!(rt; take_answer(&mut session, done), Ok(false));
     Ok(())
 }

@@ -1,0 +1,276 @@
+//! Dumps, from their first datagram to their end.
+
+use crate::feeding::{LINKS, Told, holds, in_state, refuses_text, takes_text, tells, waiting};
+use crate::vectors::{DONE, DONE_BIG, ETHERNET, LOOPBACK, LOOPBACK_BIG, ensure};
+use nl_attr::{Fault, Order, Reason};
+use nl_dump::{End, FeedError, Kind, Session, State};
+use nl_frame::Limits;
+use std::alloc::Global;
+use std::test::Fail;
+
+/// What a session tells whose dump was ended by DONE with status 0 and lost nothing.
+fn whole(received: u64, visits: u64) -> Told {
+    Told {
+        received,
+        visits,
+        complete: true,
+        ..in_state(State::Ended(LINKS, End::Done(0)))
+    }
+}
+
+/// Both links and the end have come, and all is held.
+fn is_whole(session: &Session) -> Result<(), Fail> {
+    tells(session, whole(112, 28), "the end")?;
+    let links = session.links();
+    let has_keys = links.key_at(0) == Some([1, 0, 0, 0].as_slice())
+        && links.key_at(1) == Some([2, 0, 0, 0].as_slice());
+    ensure(has_keys, "their keys")?;
+    holds(session, &[(1, Some(65_536)), (2, None)], 0, "both links")
+}
+
+fn in_two_datagrams(alloc: Global, session: &mut Session) -> Result<(), Fail> {
+    takes_text(alloc, session, &[LOOPBACK], (1, 0, false), "a link")?;
+    takes_text(alloc, session, &[ETHERNET, DONE], (1, 0, true), "the end")?;
+    is_whole(session)
+}
+
+fn in_one_datagram(alloc: Global, session: &mut Session) -> Result<(), Fail> {
+    let all = [LOOPBACK, ETHERNET, DONE];
+    takes_text(alloc, session, &all, (2, 0, true), "all")?;
+    is_whole(session)
+}
+
+/// Two sessions come to hold the same two links.
+fn come_to_one_table(alloc: Global, two: &mut Session, one: &mut Session) -> Result<(), Fail> {
+    in_two_datagrams(alloc, two)?;
+    in_one_datagram(alloc, one)?;
+    let is_so = two.links().get(0) == one.links().get(0)
+        && two.links().get(1) == one.links().get(1);
+    ensure(is_so, "one table")
+}
+
+#[test]
+fn two_datagrams_and_one(rt: HostRuntime) -> Result<(), Fail> {
+    let mut two = waiting(rt.alloc(), Kind::Link, Limits::standard())?;
+    let mut one = waiting(rt.alloc(), Kind::Link, Limits::standard())?;
+    come_to_one_table(rt.alloc(), &mut two, &mut one)
+}
+
+/// Both links, then the loopback link with other flags and an MTU of 1500, and the end, are taken.
+fn takes_three(alloc: Global, session: &mut Session, flags: &str) -> Result<(), Fail> {
+    let again = format!(in alloc;
+        "30000000 1000 {flags} 01000000 39300000 00000403 01000000 49000100 00000000 07000300 6c6f0000 08000400 dc050000"
+    )?;
+    let all = [LOOPBACK, ETHERNET, again.as_str(), DONE];
+    takes_text(alloc, session, &all, (3, 0, true), "three links")
+}
+
+/// They leave these links, and so many are missed.
+fn leaves(
+    alloc: Global,
+    session: &mut Session,
+    links: &[(i32, Option<u32>)],
+    missed: u64,
+) -> Result<(), Fail> {
+    takes_three(alloc, session, "0200")?;
+    let told = Told {
+        complete: missed == 0,
+        ..whole(160, 44)
+    };
+    tells(session, told, "an end")?;
+    holds(session, links, missed, "its links")
+}
+
+/// Within this limit of entries.
+fn leaves_within(
+    alloc: Global,
+    entries: u32,
+    links: &[(i32, Option<u32>)],
+    missed: u64,
+) -> Result<(), Fail> {
+    let limits = Limits::new(8, 65_536, 1_073_741_824, entries)?;
+    let mut session = waiting(alloc, Kind::Link, limits)?;
+    leaves(alloc, &mut session, links, missed)
+}
+
+#[test]
+fn a_table_that_is_full_misses_links(rt: HostRuntime) -> Result<(), Fail> {
+    leaves_within(rt.alloc(), 2, &[(1, Some(1500)), (2, None)], 0)?;
+    leaves_within(rt.alloc(), 1, &[(1, Some(1500))], 1)?;
+    leaves_within(rt.alloc(), 0, &[], 3)
+}
+
+fn is_interrupted_by_an_item(alloc: Global, session: &mut Session) -> Result<(), Fail> {
+    takes_three(alloc, session, "1200")?;
+    let told = Told {
+        interrupted: true,
+        complete: false,
+        ..whole(160, 44)
+    };
+    tells(session, told, "interrupted")?;
+    holds(session, &[(1, Some(1500)), (2, None)], 0, "its links")
+}
+
+#[test]
+fn an_item_that_says_so_interrupts(rt: HostRuntime) -> Result<(), Fail> {
+    let mut session = waiting(rt.alloc(), Kind::Link, Limits::standard())?;
+    is_interrupted_by_an_item(rt.alloc(), &mut session)
+}
+
+/// Of other messages, only the DONE that ends the dump interrupts it.
+fn is_interrupted_by_its_end(alloc: Global, session: &mut Session) -> Result<(), Fail> {
+    let other = "14000000 0300 1200 02000000 39300000 00000000";
+    takes_text(alloc, session, &[other], (0, 1, false), other)?;
+    ensure(!session.interrupted(), "not yet")?;
+    let end = "14000000 0300 1200 01000000 39300000 00000000";
+    takes_text(alloc, session, &[end], (0, 0, true), end)?;
+    let told = Told {
+        ignored: 1,
+        interrupted: true,
+        complete: false,
+        ..whole(40, 0)
+    };
+    tells(session, told, "interrupted")
+}
+
+#[test]
+fn an_end_that_says_so_interrupts(rt: HostRuntime) -> Result<(), Fail> {
+    let mut session = waiting(rt.alloc(), Kind::Link, Limits::standard())?;
+    is_interrupted_by_its_end(rt.alloc(), &mut session)
+}
+
+/// A datagram of one message leads to this, and leaves no entry.
+fn leads_to(
+    alloc: Global,
+    session: &mut Session,
+    text: &str,
+    (ignored, ended): (u32, bool),
+    told: Told,
+) -> Result<(), Fail> {
+    takes_text(alloc, session, &[text], (0, ignored, ended), text)?;
+    tells(session, told, text)?;
+    holds(session, &[], 0, text)
+}
+
+/// A fresh dump is ended by a datagram of so many bytes in this way.
+fn ends(alloc: Global, text: &str, received: u64, end: End, complete: bool) -> Result<(), Fail> {
+    let mut session = waiting(alloc, Kind::Link, Limits::standard())?;
+    let told = Told {
+        received,
+        complete,
+        ..in_state(State::Ended(LINKS, end))
+    };
+    leads_to(alloc, &mut session, text, (0, true), told)
+}
+
+#[test]
+fn ends_of_a_dump(rt: HostRuntime) -> Result<(), Fail> {
+    let alloc = rt.alloc();
+    let busy = "14000000 0300 0200 01000000 39300000 f0ffffff";
+    ends(alloc, busy, 20, End::Done(-16), false)?;
+    let error =
+        "24000000 0200 0000 01000000 39300000 ffffffff 20000000 1200 0103 01000000 00000000";
+    ends(alloc, error, 36, End::Error(-1), false)?;
+    let overrun = "10000000 0400 0000 01000000 39300000";
+    ends(alloc, overrun, 16, End::Overrun, false)?;
+    let bare = "10000000 0300 0200 01000000 39300000";
+    ends(alloc, bare, 16, End::Done(0), true)
+}
+
+#[test]
+fn an_acknowledgement_does_not_end_it(rt: HostRuntime) -> Result<(), Fail> {
+    let mut session = waiting(rt.alloc(), Kind::Link, Limits::standard())?;
+    let text = "24000000 0200 0000 01000000 39300000 00000000 20000000 1200 0103 01000000 00000000";
+    let told = Told {
+        received: 36,
+        ignored: 1,
+        ..in_state(State::Waiting(LINKS))
+    };
+    leads_to(rt.alloc(), &mut session, text, (1, false), told)
+}
+
+/// A session refuses an error without its head, and waits on.
+fn refuses_a_short_error(alloc: Global, session: &mut Session) -> Result<(), Fail> {
+    let fault = Fault {
+        place: 0,
+        reason: Reason::ShortBody,
+    };
+    let text = "10000000 0200 0000 01000000 39300000";
+    refuses_text(alloc, session, &[text], FeedError::Layout(fault))?;
+    let told = Told {
+        received: 16,
+        damaged: true,
+        ..in_state(State::Waiting(LINKS))
+    };
+    tells(session, told, "waiting")
+}
+
+#[test]
+fn an_error_without_its_head_does_not_end_it(rt: HostRuntime) -> Result<(), Fail> {
+    let mut session = waiting(rt.alloc(), Kind::Link, Limits::standard())?;
+    refuses_a_short_error(rt.alloc(), &mut session)
+}
+
+/// A link before a head that is cut is not kept.
+fn refuses_a_cut_head(alloc: Global, session: &mut Session) -> Result<(), Fail> {
+    let fault = Fault {
+        place: 48,
+        reason: Reason::Cut,
+    };
+    let texts = [LOOPBACK, "14000000 0300 0200 0100"];
+    refuses_text(alloc, session, &texts, FeedError::Layout(fault))?;
+    let told = Told {
+        received: 58,
+        visits: 16,
+        damaged: true,
+        ..in_state(State::Waiting(LINKS))
+    };
+    tells(session, told, "damaged")?;
+    holds(session, &[], 0, "no link")
+}
+
+/// The same link is kept when it comes again.
+fn takes_the_link(alloc: Global, session: &mut Session) -> Result<(), Fail> {
+    refuses_a_cut_head(alloc, session)?;
+    takes_text(alloc, session, &[LOOPBACK], (1, 0, false), "a link")?;
+    holds(session, &[(1, Some(65_536))], 0, "its link")?;
+    ensure(session.damaged() && session.received() == 106, "damaged")
+}
+
+#[test]
+fn nothing_of_a_refused_datagram_is_kept(rt: HostRuntime) -> Result<(), Fail> {
+    let mut session = waiting(rt.alloc(), Kind::Link, Limits::standard())?;
+    takes_the_link(rt.alloc(), &mut session)
+}
+
+fn ignores_what_comes_behind(alloc: Global, session: &mut Session) -> Result<(), Fail> {
+    takes_text(alloc, session, &[DONE, LOOPBACK], (0, 1, true), "the end")?;
+    let told = Told {
+        ignored: 1,
+        ..whole(68, 16)
+    };
+    tells(session, told, "complete")?;
+    holds(session, &[], 0, "no link")
+}
+
+#[test]
+fn what_comes_behind_the_end_is_ignored(rt: HostRuntime) -> Result<(), Fail> {
+    let mut session = waiting(rt.alloc(), Kind::Link, Limits::standard())?;
+    ignores_what_comes_behind(rt.alloc(), &mut session)
+}
+
+fn takes_the_other_order(alloc: Global, session: &mut Session) -> Result<(), Fail> {
+    takes_text(alloc, session, &[LOOPBACK_BIG], (1, 0, false), "a link")?;
+    takes_text(alloc, session, &[DONE_BIG], (0, 0, true), "the end")?;
+    tells(session, whole(68, 16), "complete")?;
+    holds(session, &[(1, Some(65_536))], 0, "its link")?;
+    let key = session.links().key_at(0) == Some([1, 0, 0, 0].as_slice());
+    ensure(key && session.links().order() == Order::Big, "its key")
+}
+
+#[test]
+fn a_dump_in_the_other_order(rt: HostRuntime) -> Result<(), Fail> {
+    let limits = Limits::standard().with_order(Order::Big);
+    let mut session = waiting(rt.alloc(), Kind::Link, limits)?;
+    takes_the_other_order(rt.alloc(), &mut session)
+}

@@ -1,0 +1,129 @@
+//! Sessions whose dumps wait, and what they tell once datagrams are fed to them.
+
+use crate::vectors::{ensure, joined};
+use nl_dump::{Dump, FeedError, Kind, Progress, Session, State};
+use nl_frame::Limits;
+use nl_route::Link;
+use nl_table::Table;
+use std::alloc::Global;
+use std::test::Fail;
+
+/// The dump of all links to whose answers most of the shared datagrams belong.
+pub const LINKS: Dump = Dump {
+    kind: Kind::Link,
+    family: 0,
+    seq: 1,
+    port: 12345,
+};
+
+/// A new session in which that dump waits, of this kind.
+pub(crate) fn waiting(alloc: Global, kind: Kind, limits: Limits) -> Result<Session, Fail> {
+    let mut session = Session::new(alloc, limits)?;
+    let _request = session.begin(kind, 0, 1, 12345)?;
+    Ok(session)
+}
+
+/// A datagram is taken, with so many items and so many messages ignored, and ends the dump or not.
+pub(crate) fn takes(
+    session: &mut Session,
+    bytes: &[u8],
+    (items, ignored, ended): (u32, u32, bool),
+    what: &str,
+) -> Result<(), Fail> {
+    let progress = Progress {
+        items,
+        ignored,
+        ended,
+    };
+    let fed = session.feed(bytes);
+    ensure(fed == Ok(progress), what)
+}
+
+/// A datagram of these texts, one after the other, is taken so.
+pub(crate) fn takes_text(
+    alloc: Global,
+    session: &mut Session,
+    texts: &[&str],
+    counts: (u32, u32, bool),
+    what: &str,
+) -> Result<(), Fail> {
+    let bytes = joined(alloc, texts)?;
+    takes(session, bytes.as_slice(), counts, what)
+}
+
+/// A datagram of these texts is refused so.
+pub(crate) fn refuses_text(
+    alloc: Global,
+    session: &mut Session,
+    texts: &[&str],
+    error: FeedError,
+) -> Result<(), Fail> {
+    let bytes = joined(alloc, texts)?;
+    let fed = session.feed(bytes.as_slice());
+    ensure(fed == Err(error), "a refusal")
+}
+
+/// All that a session tells beside its tables.
+#[derive(Clone, Copy, Debug, PartialEq, Eq)]
+pub(crate) struct Told {
+    pub(crate) state: State,
+    pub(crate) received: u64,
+    pub(crate) visits: u64,
+    pub(crate) ignored: u64,
+    pub(crate) damaged: bool,
+    pub(crate) interrupted: bool,
+    pub(crate) complete: bool,
+}
+
+/// What a session in this state tells to which nothing was fed.
+pub(crate) fn in_state(state: State) -> Told {
+    Told {
+        state,
+        received: 0,
+        visits: 0,
+        ignored: 0,
+        damaged: false,
+        interrupted: false,
+        complete: false,
+    }
+}
+
+/// A session tells this.
+pub(crate) fn tells(session: &Session, told: Told, what: &str) -> Result<(), Fail> {
+    let found = Told {
+        state: session.state(),
+        received: session.received(),
+        visits: session.visits(),
+        ignored: session.ignored(),
+        damaged: session.damaged(),
+        interrupted: session.interrupted(),
+        complete: session.complete(),
+    };
+    ensure(found == told, what)
+}
+
+/// A table holds these links alone, of these indices and MTUs.
+pub(crate) fn are_links(table: &Table<Link>, links: &[(i32, Option<u32>)]) -> bool {
+    for (place, (index, mtu)) in (0u32..).zip(links) {
+        match table.get(place) {
+            Some(link) => {
+                if link.head.index != *index || link.mtu_ordered(table.order()) != *mtu {
+                    return false;
+                }
+            }
+            None => return false,
+        }
+    }
+    table.len() as usize == links.len()
+}
+
+/// A session holds these links alone, and missed so many.
+pub(crate) fn holds(
+    session: &Session,
+    links: &[(i32, Option<u32>)],
+    missed: u64,
+    what: &str,
+) -> Result<(), Fail> {
+    let table = session.links();
+    ensure(table.missed() == missed && are_links(table, links), what)
+}
