@@ -1,10 +1,10 @@
 -- A run over the datagrams of an input: what is found of each, what is printed of it, and the verdict.
-use Rattle.std.specs.Prelude.{◌≡◌, ◌≢◌, ◌+◌, ◌⊎◌, ℕ, List, [], ◌∷◌, ◌++◌, Bool, true, false, Option, Result, Ok, Err, OnOk, OnErr}
+use Rattle.std.specs.Prelude.{◌≡◌, ◌≢◌, ◌+◌, ◌⊎◌, ℕ, List, [], ◌∷◌, ◌++◌, Bool, true, false, Option, Result, Ok, Err, OnOk, OnErr, IfErr}
 use Rattle.std.specs.Io.KnownBytes.{Appends, Consumes, IsAtEnd}
 use Rattle.rtnl.specs.Lines.{datagrams, longest_input}
 use Rattle.rtnl.specs.Streams.{AppendsPrefix, ConsumesMoreThan, HasFailed}
 use Rattle.rtnl.specs.declared.error.RunError.{RunError}
-use Rattle.rtnl.specs.declared.error.RunError.TheVariants.{BadLine, ReadFault, WriteFault}
+use Rattle.rtnl.specs.declared.error.RunError.TheVariants.{BadLine, ReadFault, WriteFault, Memory}
 use Rattle.rtnl.specs.declared.error.Verdict.{Verdict}
 use Rattle.rtnl.specs.declared.error.Verdict.TheVariants.{Clean, Blemished}
 
@@ -69,3 +69,19 @@ pub record Runs {S W : Type 0} (left : S → Option (List ℕ)) (is_ended : S �
   pub nothing : OnErr result (result ≢ Err WriteFault → to_new ≡ to_old)
   -- and then a front of the text
   pub part : result ≡ Err WriteFault → FrontOfInput Says (left from_old) (left from_new) (taken to_old) (taken to_new)
+
+-- how a run that reads nothing ends, by what its sink tells of itself, its whole text, and sink and answer
+pub record Writes {W : Type 0} (taken : W → Option (List ℕ)) (is_stalled : W → Type 0) (failed_writes : W → ℕ)
+    (text : List ℕ) (to_old to_new : W) (result : Result Verdict RunError) : Type 0 where
+  -- the text was written
+  pub written : OnOk result (Appends (taken to_old) (taken to_new) text)
+  -- no call failed
+  pub sound : OnOk result (failed_writes to_new ≡ failed_writes to_old)
+  -- it fails for the sink or for memory
+  pub errors : IfErr result (λ e. (e ≡ WriteFault) ⊎ (e ≡ Memory))
+  -- a write failed in this call, or took no byte
+  pub write_fault : result ≡ Err WriteFault → HasFailed (failed_writes to_old) (failed_writes to_new) ⊎ is_stalled to_new
+  -- nothing was written, but for a write fault
+  pub nothing : OnErr result (result ≢ Err WriteFault → to_new ≡ to_old)
+  -- and then a front of the text
+  pub part : result ≡ Err WriteFault → AppendsPrefix (taken to_old) (taken to_new) text

@@ -21,7 +21,7 @@ pub use check::run_check;
 pub use error::{RunError, Verdict};
 pub use nl_dump as dump;
 pub use nl_frame as frame;
-pub use request::run_request;
+pub use request::{run_request, run_request_ordered};
 pub use show::run_show;
 pub use sink::{Sink, VecSink, WriteSink};
 pub use source::{ReadSource, SliceSource, Source};

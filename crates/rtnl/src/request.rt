@@ -1,11 +1,10 @@
 //! Printing the request that begins a dump.
 
-ghost use Rattle.std.specs.Prelude.{◌≡◌, ◌≢◌, ◌++◌, ◌⊎◌, OnOk, OnErr, IfOk, IfErr, Err};
+ghost use Rattle.std.specs.Prelude.{◌≡◌, ◌++◌, OnOk, IfOk};
 ghost use Rattle.std.specs.String.{string_bytes};
-ghost use Rattle.std.specs.Io.KnownBytes.{Appends};
 ghost use Rattle.nl_dump.specs.Request.{dump_of};
 ghost use Rattle.rtnl.specs.Requested.{bytes_alone, requested};
-ghost use Rattle.rtnl.specs.Streams.{AppendsPrefix, HasFailed};
+ghost use Rattle.rtnl.specs.Runs.{Writes};
 
 use crate::begun::begun;
 use crate::error::{RunError, Verdict};
@@ -36,11 +35,29 @@ fn text_of(alloc: Global, dump: &Dump, order: Order) -> Result<String, AllocErro
     Ok(text)
 }
 
-/// Writes the request that begins a dump as one line of hexadecimal.
+/// Writes the request that begins a dump as one line of hexadecimal, its numbers with the lowest
+/// byte first, else as `run_request_ordered`.
+pub fn run_request<W: Sink>(
+    alloc: Global,
+    sink: &mut W,
+    kind: Kind,
+    family: u8,
+    seq: u32,
+) -> Result<Verdict, RunError>
+    ensures writes { Writes W.contents W.is_stalled W.failure_count
+        (requested Order.Little (dump_of kind family seq 0)) sink.old sink.new result }
+    ensures clean { IfOk result (λ verdict. verdict ≡ Verdict.Clean) }
+{
+    run_request_ordered(alloc, sink, kind, family, seq, Order::Little)
+}
+
+/// Writes the request that begins a dump as one line of hexadecimal, its numbers in this byte
+/// order: what `Session::begin` of `nl_dump` answers for this kind, address family and sequence
+/// number.
 ///
 /// The text is made, then it is written. After the end of memory nothing was written; after a write
 /// fault a prefix of the text was.
-pub fn run_request<W: Sink>(
+pub fn run_request_ordered<W: Sink>(
     alloc: Global,
     sink: &mut W,
     kind: Kind,
@@ -49,15 +66,9 @@ pub fn run_request<W: Sink>(
     order: Order,
 ) -> Result<Verdict, RunError>
     // What was written is the line of the request.
-    ensures requested { OnOk result (Appends (W.contents sink.old) (W.contents sink.new) (requested order (dump_of kind family seq 0))) }
+    ensures writes { Writes W.contents W.is_stalled W.failure_count
+        (requested order (dump_of kind family seq 0)) sink.old sink.new result }
     ensures clean { IfOk result (λ verdict. verdict ≡ Verdict.Clean) }
-    // No call failed.
-    ensures sound { OnOk result (W.failure_count sink.new ≡ W.failure_count sink.old) }
-    ensures errors { IfErr result (λ e. (e ≡ RunError.WriteFault) ⊎ (e ≡ RunError.Memory)) }
-    // A write failed in this call, or took no byte.
-    ensures write_fault { result ≡ Err RunError.WriteFault → HasFailed (W.failure_count sink.old) (W.failure_count sink.new) ⊎ W.is_stalled sink.new }
-    ensures nothing { OnErr result (result ≢ Err RunError.WriteFault → sink.new ≡ sink.old) }
-    ensures part { result ≡ Err RunError.WriteFault → AppendsPrefix (W.contents sink.old) (W.contents sink.new) (requested order (dump_of kind family seq 0)) }
 {
     let dump = Dump {
         kind,

@@ -9,7 +9,8 @@ use arguments::{Engine, Parsed, Task};
 use clap::Error;
 use rtnl::frame::Limits;
 use rtnl::{
-    ReadSource, RunError, Source, Verdict, WriteSink, run_check, run_request, run_show, run_table,
+    ReadSource, RunError, Source, Verdict, WriteSink, run_check, run_request_ordered, run_show,
+    run_table,
 };
 use std::fs::File;
 use std::io;
@@ -92,7 +93,7 @@ fn perform(rt: &HostRuntime, task: &Task) -> ExitCode {
             order,
         } => {
             let mut sink = WriteSink::new(io::writer(rt));
-            let answer = run_request(rt.alloc(), &mut sink, *kind, *family, *seq, *order);
+            let answer = run_request_ordered(rt.alloc(), &mut sink, *kind, *family, *seq, *order);
             outcome(rt, answer)
         }
     }

@@ -32,6 +32,8 @@ mod reading;
 #[cfg(test)]
 mod regions;
 #[cfg(test)]
+mod runs;
+#[cfg(test)]
 mod sessions;
 #[cfg(test)]
 mod shown;
