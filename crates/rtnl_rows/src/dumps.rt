@@ -1,6 +1,8 @@
 //! Dumps, from their first datagram to their end.
 
-use crate::feeding::{LINKS, Told, holds, in_state, refuses_text, takes_text, tells, waiting};
+use crate::feeding::{
+    LINKS, Told, holds, in_dump, in_state, refuses_text, takes_text, tells, waiting,
+};
 use crate::vectors::{DONE, DONE_BIG, ETHERNET, LOOPBACK, LOOPBACK_BIG, ensure};
 use nl_attr::{Fault, Order, Reason};
 use nl_dump::{End, FeedError, Kind, Session, State};
@@ -113,8 +115,12 @@ fn is_interrupted_by_an_item(alloc: Global, session: &mut Session) -> Result<(),
 
 #[test]
 fn an_item_that_says_so_interrupts(rt: HostRuntime) -> Result<(), Fail> {
-    let mut session = waiting(rt.alloc(), Kind::Link, Limits::standard())?;
-    is_interrupted_by_an_item(rt.alloc(), &mut session)
+    in_dump(
+        rt.alloc(),
+        Kind::Link,
+        Limits::standard(),
+        is_interrupted_by_an_item,
+    )
 }
 
 /// Of other messages, only the DONE that ends the dump interrupts it.
@@ -135,8 +141,12 @@ fn is_interrupted_by_its_end(alloc: Global, session: &mut Session) -> Result<(),
 
 #[test]
 fn an_end_that_says_so_interrupts(rt: HostRuntime) -> Result<(), Fail> {
-    let mut session = waiting(rt.alloc(), Kind::Link, Limits::standard())?;
-    is_interrupted_by_its_end(rt.alloc(), &mut session)
+    in_dump(
+        rt.alloc(),
+        Kind::Link,
+        Limits::standard(),
+        is_interrupted_by_its_end,
+    )
 }
 
 /// A datagram of one message leads to this, and leaves no entry.
@@ -207,8 +217,12 @@ fn refuses_a_short_error(alloc: Global, session: &mut Session) -> Result<(), Fai
 
 #[test]
 fn an_error_without_its_head_does_not_end_it(rt: HostRuntime) -> Result<(), Fail> {
-    let mut session = waiting(rt.alloc(), Kind::Link, Limits::standard())?;
-    refuses_a_short_error(rt.alloc(), &mut session)
+    in_dump(
+        rt.alloc(),
+        Kind::Link,
+        Limits::standard(),
+        refuses_a_short_error,
+    )
 }
 
 /// A link before a head that is cut is not kept.
@@ -239,8 +253,7 @@ fn takes_the_link(alloc: Global, session: &mut Session) -> Result<(), Fail> {
 
 #[test]
 fn nothing_of_a_refused_datagram_is_kept(rt: HostRuntime) -> Result<(), Fail> {
-    let mut session = waiting(rt.alloc(), Kind::Link, Limits::standard())?;
-    takes_the_link(rt.alloc(), &mut session)
+    in_dump(rt.alloc(), Kind::Link, Limits::standard(), takes_the_link)
 }
 
 fn ignores_what_comes_behind(alloc: Global, session: &mut Session) -> Result<(), Fail> {
@@ -255,8 +268,12 @@ fn ignores_what_comes_behind(alloc: Global, session: &mut Session) -> Result<(),
 
 #[test]
 fn what_comes_behind_the_end_is_ignored(rt: HostRuntime) -> Result<(), Fail> {
-    let mut session = waiting(rt.alloc(), Kind::Link, Limits::standard())?;
-    ignores_what_comes_behind(rt.alloc(), &mut session)
+    in_dump(
+        rt.alloc(),
+        Kind::Link,
+        Limits::standard(),
+        ignores_what_comes_behind,
+    )
 }
 
 fn takes_the_other_order(alloc: Global, session: &mut Session) -> Result<(), Fail> {
@@ -271,6 +288,5 @@ fn takes_the_other_order(alloc: Global, session: &mut Session) -> Result<(), Fai
 #[test]
 fn a_dump_in_the_other_order(rt: HostRuntime) -> Result<(), Fail> {
     let limits = Limits::standard().with_order(Order::Big);
-    let mut session = waiting(rt.alloc(), Kind::Link, limits)?;
-    takes_the_other_order(rt.alloc(), &mut session)
+    in_dump(rt.alloc(), Kind::Link, limits, takes_the_other_order)
 }

@@ -23,6 +23,19 @@ pub(crate) fn waiting(alloc: Global, kind: Kind, limits: Limits) -> Result<Sessi
     Ok(session)
 }
 
+/// These steps go well in a new session in which that dump waits.
+pub(crate) fn in_dump<F: FnOnce(Global, &mut Session) -> Result<(), Fail>>(
+    alloc: Global,
+    kind: Kind,
+    limits: Limits,
+    steps: F,
+) -> Result<(), Fail>
+    requires { F.IsAlwaysCallable steps }
+{
+    let mut session = waiting(alloc, kind, limits)?;
+    steps(alloc, &mut session)
+}
+
 /// A datagram is taken, with so many items and so many messages ignored, and ends the dump or not.
 pub(crate) fn takes(
     session: &mut Session,

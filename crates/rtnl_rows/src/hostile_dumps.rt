@@ -1,6 +1,6 @@
 //! Truncated datagrams, and datagrams of which one length was changed, fed to sessions.
 
-use crate::feeding::{LINKS, are_links, takes, waiting};
+use crate::feeding::{LINKS, are_links, in_dump, takes, waiting};
 use crate::vectors::{DONE, ETHERNET, LOOPBACK, changed, ensure, joined};
 use nl_attr::{Fault, Reason};
 use nl_dump::{Dump, FeedError, Kind, Progress, Session, State};
@@ -103,8 +103,7 @@ fn takes_all_prefixes(alloc: Global, session: &mut Session) -> Result<(), Fail> 
 #[test]
 fn all_prefixes_in_one_session(rt: HostRuntime) -> Result<(), Fail> {
     let limits = Limits::new(8, 65_536, 1_073_741_824, 4_096)?;
-    let mut session = waiting(rt.alloc(), Kind::Link, limits)?;
-    takes_all_prefixes(rt.alloc(), &mut session)
+    in_dump(rt.alloc(), Kind::Link, limits, takes_all_prefixes)
 }
 
 /// A fresh dump of this kind refuses a datagram at this fault, and keeps nothing of it.
@@ -148,6 +147,10 @@ fn takes_a_long_name(alloc: Global, session: &mut Session) -> Result<(), Fail> {
 
 #[test]
 fn a_long_name_in_a_fresh_dump(rt: HostRuntime) -> Result<(), Fail> {
-    let mut session = waiting(rt.alloc(), Kind::Link, Limits::standard())?;
-    takes_a_long_name(rt.alloc(), &mut session)
+    in_dump(
+        rt.alloc(),
+        Kind::Link,
+        Limits::standard(),
+        takes_a_long_name,
+    )
 }

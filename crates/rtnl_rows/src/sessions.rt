@@ -1,7 +1,7 @@
 //! Sessions: one dump after another, requests, refusals, and limits.
 
 use crate::feeding::{
-    LINKS, Told, holds, in_state, refuses_text, takes, takes_text, tells, waiting,
+    LINKS, Told, holds, in_dump, in_state, refuses_text, takes, takes_text, tells,
 };
 use crate::vectors::{
     DONE, ETHERNET, LOOPBACK, LOOPBACK_ADDRESS, NEIGHBOUR, TWO_HOPS_ROUTE, bytes_of, changed,
@@ -110,8 +110,7 @@ fn begins_no_other(alloc: Global, session: &mut Session) -> Result<(), Fail> {
 
 #[test]
 fn a_session_that_waits_begins_no_other_dump(rt: HostRuntime) -> Result<(), Fail> {
-    let mut session = waiting(rt.alloc(), Kind::Link, Limits::standard())?;
-    begins_no_other(rt.alloc(), &mut session)
+    in_dump(rt.alloc(), Kind::Link, Limits::standard(), begins_no_other)
 }
 
 /// It refuses all but a dump under a new sequence number.
@@ -157,8 +156,7 @@ fn asks_anew(alloc: Global, session: &mut Session) -> Result<(), Fail> {
 
 #[test]
 fn a_dump_that_ended_and_the_next(rt: HostRuntime) -> Result<(), Fail> {
-    let mut session = waiting(rt.alloc(), Kind::Link, Limits::standard())?;
-    asks_anew(rt.alloc(), &mut session)
+    in_dump(rt.alloc(), Kind::Link, Limits::standard(), asks_anew)
 }
 
 /// Its dump is abandoned, and its link stays.
@@ -178,8 +176,7 @@ fn abandons(alloc: Global, session: &mut Session) -> Result<(), Fail> {
 
 #[test]
 fn a_dump_that_is_abandoned_keeps_its_table(rt: HostRuntime) -> Result<(), Fail> {
-    let mut session = waiting(rt.alloc(), Kind::Link, Limits::standard())?;
-    abandons(rt.alloc(), &mut session)
+    in_dump(rt.alloc(), Kind::Link, Limits::standard(), abandons)
 }
 
 /// An acknowledgement is taken once, and then the total is too small.
@@ -198,8 +195,7 @@ fn takes_no_more(alloc: Global, session: &mut Session) -> Result<(), Fail> {
 #[test]
 fn more_bytes_than_the_total(rt: HostRuntime) -> Result<(), Fail> {
     let limits = Limits::new(8, 65_536, 40, 4_096)?;
-    let mut session = waiting(rt.alloc(), Kind::Link, limits)?;
-    takes_no_more(rt.alloc(), &mut session)
+    in_dump(rt.alloc(), Kind::Link, limits, takes_no_more)
 }
 
 /// The end is refused, since it is above the datagram limit.
@@ -216,8 +212,7 @@ fn refuses_the_end(alloc: Global, session: &mut Session) -> Result<(), Fail> {
 #[test]
 fn a_datagram_above_its_limit(rt: HostRuntime) -> Result<(), Fail> {
     let limits = Limits::new(8, 16, 1_073_741_824, 4_096)?;
-    let mut session = waiting(rt.alloc(), Kind::Link, limits)?;
-    refuses_the_end(rt.alloc(), &mut session)
+    in_dump(rt.alloc(), Kind::Link, limits, refuses_the_end)
 }
 
 /// Its dump is interrupted, damaged and abandoned.
@@ -246,8 +241,7 @@ fn starts_clean(alloc: Global, session: &mut Session) -> Result<(), Fail> {
 
 #[test]
 fn the_next_dump_starts_clean(rt: HostRuntime) -> Result<(), Fail> {
-    let mut session = waiting(rt.alloc(), Kind::Link, Limits::standard())?;
-    starts_clean(rt.alloc(), &mut session)
+    in_dump(rt.alloc(), Kind::Link, Limits::standard(), starts_clean)
 }
 
 /// How many entries the tables have.
@@ -315,6 +309,10 @@ fn takes_two_then_one(alloc: Global, session: &mut Session) -> Result<(), Fail> 
 
 #[test]
 fn a_second_dump_of_links_has_its_own_links(rt: HostRuntime) -> Result<(), Fail> {
-    let mut session = waiting(rt.alloc(), Kind::Link, Limits::standard())?;
-    takes_two_then_one(rt.alloc(), &mut session)
+    in_dump(
+        rt.alloc(),
+        Kind::Link,
+        Limits::standard(),
+        takes_two_then_one,
+    )
 }
