@@ -1,7 +1,8 @@
 #!/usr/bin/env bash
 # Runs the built program over a table of cases: its arguments, what it reads, its exit status and what it
-# writes. Expected values are worked by hand from docs/FORMAT.md. The last line is 'N passed, M failed', and
-# the status is 1 where a case failed.
+# writes. Expected values are worked by hand from docs/FORMAT.md, but where a recording's table is held against
+# what `show` prints of it, and an example in the help against what it says. The last line is 'N passed, M failed',
+# and the status is 1 where a case failed.
 set -u
 cd "$(dirname "${BASH_SOURCE[0]}")/.." || exit 1
 program=$PWD/crates/rtnl_cli/out/rtnl_cli
