@@ -1,7 +1,7 @@
 //! A run over a recording: its source to the end, its lines, what a command says of their
 //! datagrams, and the sink.
 
-ghost use Rattle.std.specs.Prelude.{map, IfOk};
+ghost use Rattle.std.specs.Prelude.{IfOk};
 ghost use Rattle.rtnl.specs.Runs.{OfInput, Runs};
 
 use crate::error::{RunError, Verdict};
