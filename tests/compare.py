@@ -19,20 +19,29 @@ ROOT = os.path.join(os.path.dirname(os.path.abspath(__file__)), "..")
 PROGRAM = f"{ROOT}/crates/rtnl_cli/out/rtnl_cli"
 ORDERS = {"little": "<", "big": ">"}
 SORTS = {2: "error", 3: "done", **dict.fromkeys(reference.GETS, "get"), **reference.FAMILIES}
-KINDS = (*SORTS, 0, 1, 4, 5, 15, 23, 27, 32, 40, 65535)
-CHANGES = (0, 1, 3, 4, 5, 8, 9, 16, 18, 64, 128, 255)
+KINDS = (*SORTS, 0, 1, 4, 5, 15, 23, 27, 31, 35, 40, 65535)
+CHANGES = (0, 1, 3, 4, 5, 8, 9, 16, 18, 32, 34, 64, 128, 255)
 DEPTHS, ENTRIES = (0, 1, 2, 8, 32), (0, 1, 2, 3, 4096)
 IDS = ((0, 0), (1, 4242), (7, 0), (0x01020304, 0x80000000), (2**32 - 1, 1))
 STANDARD = {"order": "little", "family": 0, "depth": reference.DEPTH, "entries": reference.ENTRIES}
 SEQUENCES = (0, 1, 258, 0x01020304, 2**32 - 1)
-# The fields of a head that keys are made of, by their places, and the attributes; the first value is the usual.
+# The fields of a head that keys are made of, by their places, and the attributes, some of them a number of a table;
+# the first value is the usual.
 FEW = {
     "link": {2: (1, 2, -1, 256)},
     "addr": {0: (2, 10), 1: (24, 64), 4: (1, 2)},
     "route": {0: (2, 10), 1: (24, 0), 2: (0, 64), 3: (0, 8), 4: (254, 255), 7: (1, 6)},
     "neigh": {0: (7, 2, 10), 1: (1, 2), 3: (0, 1, 2, 4, 8, 16, 32, 64, 128)},
+    "rule": {0: (2, 10), 1: (24, 0), 2: (0, 64), 3: (0, 8), 4: (254, 255), 5: (1, 2)},
 }
-KEYED = {"link": (), "addr": (1, 2), "route": (1, 2, 4, 5, 6, 15), "neigh": (1, 2, 5, 7)}
+KEYED = {
+    "link": (),
+    "addr": (1, 2),
+    "route": (1, 2, 4, 5, 6, 15),
+    "neigh": (1, 2, 5, 7),
+    "rule": (1, 2, 3, 4, 6, 10, 15, 16, 17),
+}
+TABLES = {("route", reference.RTA_TABLE), ("rule", reference.FRA_TABLE)}
 
 
 def recorded(order):
@@ -133,7 +142,8 @@ def mostly(choose, usual, *others, share=0.95):
 def otherwise(choose, number, order):
     """What may be there of an attribute: none, one, two, one with a flag, or one inside another."""
     usual, table = b"\1\2\3\4", struct.pack(order + "I", 254)
-    values = usual, table, table[::-1], bytes(4), b"\1\2\0\0", usual[:3], b"", usual + b"\5", bytes(range(16))
+    fours = usual, table, table[::-1], bytes(4), b"\1\2\0\0"
+    values = *fours, usual[:3], b"", usual + b"\0", usual + b"\5", bytes(range(16))
     one, two = ((number, "", "bytes", choose.choice(values)) for _ in range(2))
     net = number | reference.NET, "", "bytes", usual
     listed = number | reference.NESTED, "", "Plain", choose.choice(([], [(number, "", "bytes", usual)]))
@@ -146,7 +156,7 @@ def usual_fields(name, order):
     """The fields of a head and the attributes that a key is made of, by their places and their numbers."""
     fields = {("head", place): few[0] for place, few in FEW[name].items()}
     for number in KEYED[name]:
-        value = struct.pack(order + "I", 254) if (name, number) == ("route", reference.RTA_TABLE) else b"\1\2\3\4"
+        value = struct.pack(order + "I", 254) if (name, number) in TABLES else b"\1\2\3\4"
         fields["attributes", number] = [(number, "", "bytes", value)]
     return fields
 
@@ -282,7 +292,7 @@ def damaged(choose, datagrams):
 
 def recordings(order):
     """The recordings of examples/, written in this order, and what asks for the dump that each of them is."""
-    for file, name in (("links", "link"), ("addresses", "addr"), ("routes", "route")):
+    for file, name in (("links", "link"), ("addresses", "addr"), ("routes", "route"), ("rules", "rule")):
         with open(f"{ROOT}/examples/{file}.hex", encoding="ascii") as lines:
             messages = [reference.read(bytes.fromhex(line), "<") for line in lines]
         _, _, sequence, port = messages[0][0][0]

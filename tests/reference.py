@@ -14,22 +14,24 @@ SPECS = os.path.join(os.path.dirname(os.path.abspath(__file__)), "../crates/rtnl
 ROW = re.compile(r'\((\w+), codes "(\w+)", (\w+)\)|\(codes "(\w+)", (0x[0-9a-f]+)\)')
 
 
-def tables(name):
-    """The tables of a file: rows of a number, a name and a form, or of a name and a bit."""
+def tables(*names):
+    """The tables of some files: rows of a number, a name and a form, or of a name and a bit."""
     found, rows = {}, []
-    with open(f"{SPECS}/{name}.antt", encoding="utf-8") as lines:
-        for line in lines:
-            head, front = re.match(r"(\w+) =\s*$", line), re.match(r"\s+(\w+) \+\+", line)
-            if head:
-                rows = found.setdefault(head[1], [])
-            if front:
-                rows += found[front[1]]
-            for number, text, form, bit_name, bit in ROW.findall(line):
-                rows.append((int(number, 0), text, form) if number else (bit_name, int(bit, 16)))
+    for name in names:
+        with open(f"{SPECS}/{name}.antt", encoding="utf-8") as lines:
+            for line in lines:
+                head, front = re.match(r"(\w+) =\s*$", line), re.match(r"\s+(\w+) \+\+", line)
+                if head:
+                    rows = found.setdefault(head[1], [])
+                if front:
+                    rows += found[front[1]]
+                for number, text, form, bit_name, bit in ROW.findall(line):
+                    rows.append((int(number, 0), text, form) if number else (bit_name, int(bit, 16)))
     return found
 
 
-ROWS, BITS, TYPES = tables("Attributes"), tables("NamedBits"), tables("Types")["types"]
+ROWS = tables("Link", "Addr", "Route", "Neigh", "Rule")
+BITS, CONTROLS = tables("NamedBits"), tables("Types")["controls"]
 CONTEXTS = {
     "Link": "link_rows",
     "LinkInfo": "link_info_rows",
@@ -37,28 +39,37 @@ CONTEXTS = {
     "Route": "route_rows",
     "Metrics": "metrics_rows",
     "Neigh": "neigh_rows",
+    "Rule": "rule_rows",
 }
 ATTRIBUTES = {
     context: {number: (name, form) for number, name, form in ROWS[rows]} for context, rows in CONTEXTS.items()
 }
 ATTRIBUTES["Plain"] = {}
-FLAGS = {"Common": "message_flags", "Get": "get_flags", "New": "new_flags", "Error": "error_flags"}
-KINDS = {number: (name, BITS[FLAGS[flags]]) for number, name, flags in TYPES}
-HEADS = {"Link": "BxHiII", "Addr": "BBBBI", "Route": "BBBBBBBBI", "Neigh": "BxxxiHBB"}
+HEADS = {"Link": "BxHiII", "Addr": "BBBBI", "Route": "BBBBBBBBI", "Neigh": "BxxxiHBB", "Rule": "BBBBBxxBI"}
 FAMILIES = {
     **dict.fromkeys((16, 17, 19), "Link"),
     **dict.fromkeys((20, 21), "Addr"),
     **dict.fromkeys((24, 25), "Route"),
     **dict.fromkeys((28, 29), "Neigh"),
+    **dict.fromkeys((32, 33), "Rule"),
 }
-GETS = (18, 22, 26, 30)
-NEW = {"link": 16, "addr": 20, "route": 24, "neigh": 28}
+GETS = (18, 22, 26, 30, 34)
+NEW = {"link": 16, "addr": 20, "route": 24, "neigh": 28, "rule": 32}
+VERBS = ("new", "New"), ("del", "Common"), ("get", "Get"), ("set", "Common")
+FLAGS = {"Common": "message_flags", "Get": "get_flags", "New": "new_flags", "Error": "error_flags"}
+KINDS = {number: (name, BITS[FLAGS[flags]]) for number, name, flags in CONTROLS}
+for family, new in NEW.items():
+    for number, (verb, flags) in enumerate(VERBS, new):
+        if number in FAMILIES or number in GETS:
+            KINDS[number] = verb + family, BITS[FLAGS[flags]]
 NESTED, NET = 0x8000, 0x4000
 ERROR, DONE, OVERRUN = 2, 3, 4
 INTERRUPTED = 0x10
 IFA_ADDRESS, IFA_LOCAL = 1, 2
 RTA_DST, RTA_SRC, RTA_OIF, RTA_GATEWAY, RTA_PRIORITY, RTA_TABLE = 1, 2, 4, 5, 6, 15
 NDA_DST, NDA_LLADDR, NDA_VLAN, NDA_VNI = 1, 2, 5, 7
+FRA_DST, FRA_SRC, FRA_IIFNAME, FRA_GOTO, FRA_PRIORITY = 1, 2, 3, 4, 6
+FRA_FWMARK, FRA_TABLE, FRA_FWMASK, FRA_OIFNAME = 10, 15, 16, 17
 BRIDGE, KEY_FLAGS = 7, 2 | 4 | 8
 
 
@@ -236,6 +247,13 @@ def key(context, values, found, order):
         numbers = [first_number(found, number, "I", order) for number in (RTA_PRIORITY, RTA_OIF)]
         texts = [first(found, number) for number in (RTA_DST, RTA_SRC, RTA_GATEWAY)]
         return family, dst_len, src_len, tos, table, kind, *numbers, *texts
+    if context == "Rule":
+        *front, table, action, _ = values
+        table = first_number(found, FRA_TABLE, "I", order, table)
+        fours = FRA_PRIORITY, FRA_GOTO, FRA_FWMARK, FRA_FWMASK
+        numbers = [first_number(found, number, "I", order) for number in fours]
+        texts = [first(found, number) for number in (FRA_DST, FRA_SRC, FRA_IIFNAME, FRA_OIFNAME)]
+        return *front, table, action, *numbers, *texts
     family, index, _, flags, _ = values
     front = family, index, flags & KEY_FLAGS, first(found, NDA_DST)
     if family != BRIDGE:
@@ -349,6 +367,8 @@ def body_line(sort, values, rest):
     if sort == "Route":
         front = "route family %d dst_len %d src_len %d tos %d table %d"
         return f"{front} protocol %d scope %d type %d flags 0x%08x" % values
+    if sort == "Rule":
+        return "rule family %d dst_len %d src_len %d tos %d table %d action %d flags 0x%08x" % values
     if sort == "Neigh":
         family, index, state, flags, kind = values
         return (f"neigh family {family} index {index} state 0x{state:04x} {names(BITS['neigh_states'], state)}"

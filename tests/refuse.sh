@@ -89,8 +89,8 @@ check 'examples/routes.hex, its datagrams' [ "$(grep -c '^datagram ' "$folder/fo
 refuse_each 'examples/routes.hex, checked' 0 /dev/null check examples/routes.hex
 check 'examples/routes.hex, its check' [ "$(grep -c ' canonical$' "$folder/found.output")" = 3 ]
 
-# A link and DONE in both orders, an address, a neighbour and a route with two next hops, each with DONE, and
-# a link before a header that is cut.
+# A link and DONE in both orders, an address, a neighbour, a rule and a route with two next hops, each with
+# DONE, and a link before a header that is cut.
 finish_hex='14000000 0300 0200 01000000 39300000 00000000'
 link='30000000 1000 0200 01000000 39300000 00000403 01000000 49000100 00000000 07000300 6c6f0000 08000400 00000100'
 printf '%s\n' "$link" "$finish_hex" >"$folder/links"
@@ -102,6 +102,8 @@ echo '40000000 1800 0200 01000000 39300000 02000000 fe030001 00000000 24000900 1
   '10000001 03000000 08000500 c0000202' "$finish_hex" >"$folder/routes"
 echo '3c000000 1c00 0200 01000000 39300000 0a000000 02000000 02008001 14000100 fe800000 00000000 00000000 00000001' \
   '0a000200 02000000 00010000' "$finish_hex" >"$folder/neighbours"
+echo '34000000 2000 0200 01000000 39300000 02000000 fe000001 00000000 08000f00 e8030000 07000300 6c6f0000' \
+  '08000600 fe7f0000' "$finish_hex" >"$folder/rules"
 printf '%s\n' "$link 14000000 0300 0200 0100" "$link" "$finish_hex" >"$folder/cut"
 
 # table_each NAME STATUS FILE KIND [ARGUMENT..]: each growth of reading this file as a dump of this kind.
@@ -117,6 +119,7 @@ table_each 'a table of links, order big' 0 links_big link --order big
 table_each 'a table of addresses' 0 addresses addr
 table_each 'a table of routes' 0 routes route --depth 2
 table_each 'a table of neighbours' 0 neighbours neigh --entries 1
+table_each 'a table of rules' 0 rules rule
 table_each 'a table, a datagram refused' 1 cut link
 
 refuse_each 'a request' 0 /dev/null request --kind link --seq 1

@@ -3,6 +3,9 @@
 expect 'check: canonical, accepted, refused' 1 \
   $'datagram 1 canonical\ndatagram 2 accepted\ndatagram 3 refused bad length at 32' '' \
   check < <(printf '%s\n' "$finish" "$short_get" "$short_attribute")
+expect 'check: a rule whose head has bytes that are not kept' 0 $'datagram 1 canonical\ndatagram 2 accepted' '' \
+  check < <(printf '%s\n' '1c000000 2000 0200 01000000 39300000 02000000 fe000001 00000000' \
+    '1c000000 2000 0200 01000000 39300000 02000000 fe000101 00000000')
 expect 'check FILE' 0 'datagram 1 canonical' '' check "$folder/link" </dev/null
 expect 'check by order' 0 'datagram 1 canonical' '' check --order big <<<"$loopback_big"
 expect 'check in the other order' 1 'datagram 1 refused bad length at 0' '' check <<<"$loopback_big"

@@ -23,10 +23,16 @@ request 'routes of one family, order big' '0000001c 001a 0301 00000007 00000000 
   --kind route --family 2 --seq 7 --order big
 request 'neighbours, order big' '0000001c 001e 0301 00000102 00000000 07000000 00000000 00000000' \
   --kind neigh --seq 258 --family 7 --order big
+request 'rules of one family' '1c000000 2200 0103 07000000 00000000 02000000 00000000 00000000' \
+  --kind rule --family 2 --seq 7
+request 'rules of one family, order big' '0000001c 0022 0301 00000007 00000000 02000000 00000000 00000000' \
+  --kind rule --family 2 --seq 7 --order big
 # What the kernel was asked by when examples/ was recorded.
 request 'a recording of addresses' '18000000 1600 0103 ffffffff 00000000 00000000 00000000' --kind addr --seq 4294967295
 request 'a recording of routes' '1c000000 1a00 0103 f3030000 00000000 02000000 00000000 00000000' \
   --kind route --family 2 --seq 1011
+request 'a recording of rules' '1c000000 2200 0103 fd030000 00000000 00000000 00000000 00000000' \
+  --kind rule --seq 1021
 expect 'request, shown' 0 'datagram 1 bytes 32
 message 18 getlink flags 0x0301 REQUEST,ROOT,MATCH seq 1 port 0
   get family 0 tail 000000000000000000000000000000' '' show < <("$program" request --kind link --seq 1)

@@ -11,6 +11,19 @@ expect 'order little' 0 "$loopback_text" '' show --order little <<<"$loopback"
 expect 'order big' 0 "$loopback_text" '' show --order big <<<"$loopback_big"
 expect 'order big, FILE' 1 "$loopback_refused" '' show --order=big "$folder/link" </dev/null
 expect 'order little over big numbers' 1 "$loopback_refused" '' show --order little <<<"$loopback_big"
+expect 'a rule' 0 'datagram 1 bytes 28
+message 32 newrule flags 0x0002 MULTI seq 1 port 12345
+  rule family 2 dst_len 0 src_len 0 tos 0 table 254 action 1 flags 0x00000000' '' show \
+  <<<'1c000000 2000 0200 01000000 39300000 02000000 fe000001 00000000'
+expect 'a rule, order big' 0 'datagram 1 bytes 28
+message 32 newrule flags 0x0002 MULTI seq 1 port 12345
+  rule family 2 dst_len 0 src_len 0 tos 0 table 254 action 1 flags 0x00000000' '' show --order big \
+  <<<'0000001c 0020 0002 00000001 00003039 02000000 fe000001 00000000'
+expect 'a rule and a request of rules, cut' 1 'datagram 1 bytes 24
+refused short body at 0
+datagram 2 bytes 16
+refused short body at 0' '' show \
+  < <(printf '%s\n' '18000000 2000 0200 01000000 39300000 02000000 fe000001' '10000000 2200 0103 01000000 00000000')
 for file in examples/*.hex; do
   check "recording $file" is_shown "$file"
   check "recording $file, checked" is_canonical "$file"

@@ -230,6 +230,30 @@ entries 1 missed 0 ignored 0 unfed 0 damaged no interrupted no
 received 80 visits 32
 complete yes' '' table --kind neigh --seq 1 --port 12345 <<<"$neighbour $finish"
 
+rule='2c000000 2000 0200 01000000 39300000 02000000 fe000001 00000000 08000f00 e8030000 08000600 fe7f0000'
+expect 'table of rules' 0 'dump rule seq 1 port 12345
+entry 1
+  rule family 2 dst_len 0 src_len 0 tos 0 table 254 action 1 flags 0x00000000
+    attr 15 TABLE - u32 1000
+    attr 6 PRIORITY - u32 32766
+end done 0
+entries 1 missed 0 ignored 1 unfed 0 damaged no interrupted no
+received 112 visits 32
+complete yes' '' table --kind rule --seq 1 --port 12345 < <(printf '%s\n' "$loopback" "$rule" "$finish")
+expect 'rules that a mask alone tells apart' 0 'dump rule seq 1 port 12345
+entry 1
+  rule family 2 dst_len 0 src_len 0 tos 0 table 254 action 1 flags 0x00000000
+    attr 16 FWMASK - u32 255
+entry 2
+  rule family 2 dst_len 0 src_len 0 tos 0 table 254 action 1 flags 0x00000000
+    attr 16 FWMASK - u32 15
+end done 0
+entries 2 missed 0 ignored 0 unfed 0 damaged no interrupted no
+received 92 visits 16
+complete yes' '' table --kind rule --seq 1 --port 12345 < <(printf '%s\n' \
+  '24000000 2000 0200 01000000 39300000 02000000 fe000001 00000000 08001000 ff000000' \
+  '24000000 2000 0200 01000000 39300000 02000000 fe000001 00000000 08001000 0f000000' "$finish")
+
 address='30000000 1400 0200 01000000 39300000 020880fe 01000000 08000100 7f000001 08000200 7f000001 07000300 6c6f0000'
 addresses='dump addr seq 1 port 12345
 entry 1
@@ -301,6 +325,7 @@ is_tabled() {
 check 'table of a recording of links' is_tabled examples/links.hex link 1 19050 1
 check 'table of a recording of addresses' is_tabled examples/addresses.hex addr 4294967295 19247 23
 check 'table of a recording of routes' is_tabled examples/routes.hex route 1011 19261 37
+check 'table of a recording of rules' is_tabled examples/rules.hex rule 1021 6357 55
 
 expect 'table: a bad line behind the end' 1 '' 'rtnl: line 2: bad line' "${links[@]}" \
   < <(printf '%s\n' "$loopback $finish" zz)

@@ -29,6 +29,8 @@ pub enum Ctx {
     Metrics,
     /// `NDA_*` of a neighbour.
     Neigh,
+    /// `FRA_*` of a routing rule.
+    Rule,
     /// Any other list.
     Plain,
 }

@@ -8,10 +8,11 @@ use Rattle.nl_attr.proofs.Lemmas.Comparing.{behind, two, not_first, not_second, 
 use Rattle.nl_attr.proofs.Lemmas.Sized.{list_is_sized}
 use Rattle.nl_route.specs.Fields as fields
 use Rattle.nl_route.proofs.Fields.{length-written}
+use Rattle.nl_route.specs.Families.{context_of, group_of}
 use Rattle.nl_frame.specs.declared.form.Form.{Form}
 use Rattle.nl_frame.specs.Header.{header_fields}
-use Rattle.nl_frame.specs.Form.{form_of, context_of}
-use Rattle.nl_frame.specs.Message.{group_of, BodyVal, noop, error, done, overrun, family, get, other, MessageVal}
+use Rattle.nl_frame.specs.Form.{form_of}
+use Rattle.nl_frame.specs.Message.{BodyVal, noop, error, done, overrun, family, get, other, MessageVal}
 use Rattle.nl_frame.specs.Written.{header_for, body_written, message_item, written_len}
 use Rattle.nl_frame.specs.Proper.{IsMismatchedBody, IsMismatched, IsLongBody, HasLong, IsLong}
 use Rattle.nl_frame.specs.Compared.{AreSized}

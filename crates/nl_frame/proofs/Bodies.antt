@@ -14,26 +14,19 @@ use Rattle.nl_attr.proofs.Lemmas.Fitting.{ReadAs, items_fit}
 use Rattle.nl_attr.proofs.Lemmas.Sound.{items_sound, map_ok}
 use Rattle.nl_attr.proofs.Lemmas.Numbers.{bytes_drop, bytes_take}
 use Rattle.nl_route.specs.Fields.{signed, AreFields}
-use Rattle.nl_route.proofs.Known.{link_known, addr_known, route_known, neigh_known, fields_of_read, read_of_fields}
+use Rattle.nl_route.proofs.Known.{fields_of_read, read_of_fields}
+use Rattle.nl_route.proofs.Families.{any_only, any_fields}
+use Rattle.nl_route.specs.Families.{head_size, context_of, AnyHead, group_of, head_of}
 use Rattle.nl_frame.specs.declared.header.Header.{Header}
 use Rattle.nl_frame.specs.declared.form.Form.{Form}
 use Rattle.nl_frame.specs.declared.form.Form.TheVariants as form
-use Rattle.nl_frame.specs.declared.form.Group.{Group}
-use Rattle.nl_frame.specs.declared.form.Group.TheVariants as group
+use Rattle.nl_route.specs.declared.group.Group.{Group}
 use Rattle.nl_frame.specs.Header.{header_fields, header_of}
-use Rattle.nl_frame.specs.Form.{least_body, head_size, context_of}
-use Rattle.nl_frame.specs.Message.{link, addr, route, neigh, AnyHead, group_of, fields_of, head_of, BodyVal, noop, error, done, overrun, family, get, other}
+use Rattle.nl_frame.specs.Form.{least_body}
+use Rattle.nl_frame.specs.Message.{BodyVal, noop, error, done, overrun, family, get, other}
 use Rattle.nl_frame.specs.Layout.{BodyOf}
 use Rattle.nl_frame.specs.Reading.{signed_of, done_at, body_at}
 use Rattle.nl_frame.proofs.Headers.{Answer, answer_known, answer_fields, answer_of, answer_front, status_known, status_front}
-
--- ---- heads of any family
-
-any_only : (o : Order) (h : AnyHead) (bytes : List ℕ) → AreFields o (fields_of h) bytes → head_of o (group_of h) bytes ≡ h
-any_only o (link v) bytes f = ap link (sym (read_of_fields link_known o v bytes f))
-any_only o (addr v) bytes f = ap addr (sym (read_of_fields addr_known o v bytes f))
-any_only o (route v) bytes f = ap route (sym (read_of_fields route_known o v bytes f))
-any_only o (neigh v) bytes f = ap neigh (sym (read_of_fields neigh_known o v bytes f))
 
 -- ---- what is a body is read
 
@@ -101,10 +94,9 @@ get_body S [] le = absurd (omega arith)
 get_body S (x ∷ xs) le = (refl, refl)
 
 family_body : (S : Shape) (g : Group) (payload : List ℕ) (is : Items) → AreBytes payload → head_size g ≤ length payload → Fits S is (drop (head_size g) payload) (context_of g) 0 → BodyOf S (family (head_of S.order g (take (head_size g) payload)) is) (form.Family g) payload
-family_body S group.Link payload is fits le f = (refl, (le, fields_of_read link_known S.order (take 16 payload) (bytes_take 16 payload fits) (omega (arith, length-take 16 payload)), f))
-family_body S group.Addr payload is fits le f = (refl, (le, fields_of_read addr_known S.order (take 8 payload) (bytes_take 8 payload fits) (omega (arith, length-take 8 payload)), f))
-family_body S group.Route payload is fits le f = (refl, (le, fields_of_read route_known S.order (take 12 payload) (bytes_take 12 payload fits) (omega (arith, length-take 12 payload)), f))
-family_body S group.Neigh payload is fits le f = (refl, (le, fields_of_read neigh_known S.order (take 12 payload) (bytes_take 12 payload fits) (omega (arith, length-take 12 payload)), f))
+family_body S g payload is fits le f =
+    let n = head_size g in
+    (refl, (le, any_fields S.order g (take n payload) (bytes_take n payload fits) (omega (arith, length-take n payload, le)), f))
 
 pub body_sound : (S : Shape) (f : Form) (place : ℕ) (payload : List ℕ) (c : BodyVal) (v : ℕ) → AreBytes payload → least_body f ≤ length payload → body_at S f place payload ≡ (Ok c, v) → BodyOf S c f payload
 body_sound S form.Noop place payload c v fits le e = subst (λ (x : BodyVal). BodyOf S x form.Noop payload) (same_ok (noop payload) c 0 v e) (refl, refl)

@@ -11,10 +11,10 @@ use Rattle.nl_attr.specs.Reading.{Outcome}
 use Rattle.nl_attr.proofs.Lemmas.Scan.{Scan}
 use Rattle.nl_attr.proofs.Lemmas.First.{SameEnd, Agrees, map_agrees, then_agrees, items_scan}
 use Rattle.nl_attr.proofs.Lemmas.Visited.{UpTo, Rises-to, All-map}
+use Rattle.nl_route.specs.Families.{head_size, context_of}
 use Rattle.nl_frame.specs.declared.form.Form.{Form}
 use Rattle.nl_frame.specs.declared.form.Form.TheVariants as form
 use Rattle.nl_frame.specs.Header.{header_of}
-use Rattle.nl_frame.specs.Form.{head_size, context_of}
 use Rattle.nl_frame.specs.Message.{MessageVal}
 use Rattle.nl_frame.specs.Front.{form_at, span_at, payload_at, broken_message}
 use Rattle.nl_frame.specs.Layout.{Layout}

@@ -2,9 +2,10 @@
 use Rattle.std.proofs.Common.{ℕ, ◌≤◌, List, [], ◌∷◌, ◌++◌, length, drop, Some, None, ap, arith, length-append, length-drop}
 use Rattle.nl_attr.specs.Shape.{Shape}
 use Rattle.nl_attr.proofs.Lemmas.Kept.{items_kept}
+use Rattle.nl_route.specs.Families.{head_size, context_of, group_of}
 use Rattle.nl_frame.specs.declared.form.Form.{Form}
-use Rattle.nl_frame.specs.Form.{form_of, head_size, context_of}
-use Rattle.nl_frame.specs.Message.{group_of, BodyVal, noop, error, done, overrun, family, get, other, MessageVal}
+use Rattle.nl_frame.specs.Form.{form_of}
+use Rattle.nl_frame.specs.Message.{BodyVal, noop, error, done, overrun, family, get, other, MessageVal}
 use Rattle.nl_frame.specs.Layout.{BodyOf, Layout}
 use Rattle.nl_frame.specs.Kept.{body_kept, kept}
 

@@ -11,10 +11,12 @@ use Rattle.nl_attr.proofs.Lemmas.Fitted.{fitted_is_proper, fitted_len, fitted_is
 use Rattle.nl_attr.proofs.Lemmas.Numbers.{bytes_take, bytes_drop}
 use Rattle.nl_route.specs.Fields.{signed}
 use Rattle.nl_route.proofs.Fields.{fields_are_ranged}
+use Rattle.nl_route.proofs.Families.{is_family}
+use Rattle.nl_route.specs.Families.{head_size, context_of, AnyHead, group_of, fields_of}
 use Rattle.nl_frame.specs.declared.form.Form.{Form}
 use Rattle.nl_frame.specs.Header.{header_fields}
-use Rattle.nl_frame.specs.Form.{form_of, head_size, context_of}
-use Rattle.nl_frame.specs.Message.{link, addr, route, neigh, AnyHead, group_of, fields_of, BodyVal, noop, error, done, overrun, family, get, other, MessageVal}
+use Rattle.nl_frame.specs.Form.{form_of}
+use Rattle.nl_frame.specs.Message.{BodyVal, noop, error, done, overrun, family, get, other, MessageVal}
 use Rattle.nl_frame.specs.Layout.{BodyOf, Layout}
 use Rattle.nl_frame.specs.Written.{body_len, written_len}
 use Rattle.nl_frame.specs.Proper.{IsMismatchedBody, IsMismatched, IsDeepBody, IsDeep, IsLongBody, HasLong, IsLong, IsProper, IsRangedBody, IsRanged}
@@ -44,12 +46,6 @@ item_in o d it pad rest p = omega (arith, ap (length {A = ℕ}) p.parts, length-
 payload_in : (o : Order) (d it pad rest : List ℕ) → IsPiece o 16 4 d it pad rest → 16 + length (drop 16 it) ≡ length it
 payload_in o d it pad rest p = omega (arith, p.least, length-drop 16 it)
 
-head_whole : (h : AnyHead) → head_size (group_of h) % 4 ≡ 0
-head_whole (link h) = refl
-head_whole (addr h) = refl
-head_whole (route h) = refl
-head_whole (neigh h) = refl
-
 -- what is behind the front of a payload
 tail_len : (n : ℕ) (payload tail : List ℕ) → n ≤ length payload → drop n payload ≡ tail → n + length tail ≡ length payload
 tail_len n payload tail le e = omega (arith, ap (length {A = ℕ}) e, length-drop n payload, le)
@@ -67,7 +63,7 @@ module _ (S : Shape) where
   body_len_is (family h is) f payload b =
       let n = head_size (group_of h) in
       let region = drop n payload in
-      ap (λ k. aligned (16 + (n + k))) (fitted_len S (context_of (group_of h)) 0 region is b.1.2) ∙ again n (length region) (length payload) (head_whole h) (tail_len n payload region b.1.0 refl)
+      ap (λ k. aligned (16 + (n + k))) (fitted_len S (context_of (group_of h)) 0 region is b.1.2) ∙ again n (length region) (length payload) (is_family (group_of h)).whole (tail_len n payload region b.1.0 refl)
   body_len_is (get n tail) f payload b = let e : 1 + length tail ≡ length (n ∷ tail) = omega arith in ap (λ k. aligned (16 + k)) e ∙ ap (λ (x : List ℕ). aligned (16 + length x)) (sym b.1)
   body_len_is (other bs) f payload b = ap (λ (x : List ℕ). aligned (16 + length x)) (sym b.1)
 

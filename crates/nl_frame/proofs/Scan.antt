@@ -12,9 +12,10 @@ use Rattle.nl_attr.proofs.Lemmas.Reading.{or_else_none, sound_within, span_at_le
 use Rattle.nl_attr.proofs.Lemmas.Scan.{Scan, scan, join, span_within, head_lies, scan_finds, no_length, some_left, InsideFinds}
 use Rattle.nl_attr.specs.declared.tree.Ctx.{Ctx}
 use Rattle.nl_attr.proofs.Lemmas.Visited.{UpTo, Visited, scan_covers, Rises-append, Rises-from, Rises-to, Has-left, Has-right, All-append, All-map, EndsIn, ends_in}
+use Rattle.nl_route.specs.Families.{head_size, context_of}
 use Rattle.nl_frame.specs.declared.form.Form.{Form}
 use Rattle.nl_frame.specs.declared.form.Form.TheVariants as form
-use Rattle.nl_frame.specs.Form.{least_body, head_size, context_of}
+use Rattle.nl_frame.specs.Form.{least_body}
 use Rattle.nl_frame.specs.Front.{form_at, span_at, payload_at, broken_frame, broken_body, broken_message}
 use Rattle.nl_frame.specs.Heads.{Rest, behind, MessageAt, first, next, region_in, region_of, InnerAt, FaultAt, IsFirstFault}
 use Rattle.nl_frame.proofs.Steps.{message_within}

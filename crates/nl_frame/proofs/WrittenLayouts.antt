@@ -12,16 +12,19 @@ use Rattle.nl_attr.proofs.Lemmas.Writing.{written_fits}
 use Rattle.nl_route.specs.Fields.{Field, number, signed, AreFields, AreRanged}
 use Rattle.nl_route.specs.Fields as fields
 use Rattle.nl_route.proofs.Fields.{size_of, length-written, written_has_fields}
+use Rattle.nl_route.proofs.Families.{is_family, size_of_head}
+use Rattle.nl_route.specs.declared.group.Verb.TheVariants.{New}
+use Rattle.nl_route.specs.Types.{route_type}
+use Rattle.nl_route.specs.Families.{head_size, context_of, type_of, group_of, fields_of}
 use Rattle.nl_frame.specs.declared.form.Form.{Form}
 use Rattle.nl_frame.specs.declared.form.Form.TheVariants as form
-use Rattle.nl_frame.specs.declared.form.Group.TheVariants as group
 use Rattle.nl_frame.specs.Header.{header_fields}
-use Rattle.nl_frame.specs.Form.{form_of, head_size, context_of}
-use Rattle.nl_frame.specs.Message.{group_of, fields_of, BodyVal, noop, error, done, overrun, family, get, other, MessageVal}
+use Rattle.nl_frame.specs.Form.{form_for, form_of}
+use Rattle.nl_frame.specs.Message.{BodyVal, noop, error, done, overrun, family, get, other, MessageVal}
 use Rattle.nl_frame.specs.Layout.{BodyOf, Layout}
 use Rattle.nl_frame.specs.Written.{body_len, header_for, body_written, message_item, written, written_len}
 use Rattle.nl_frame.specs.Proper.{IsMismatchedBody, IsMismatched, IsDeepBody, IsDeep, IsLongBody, HasLong, IsProper, IsRangedBody, IsRanged}
-use Rattle.nl_frame.proofs.WrittenLengths.{size_of_head, length-message}
+use Rattle.nl_frame.proofs.WrittenLengths.{length-message}
 
 -- ---- forms that aren't different are the same
 
@@ -31,22 +34,17 @@ kind_for form.Noop = 1
 kind_for form.Error = 2
 kind_for form.Done = 3
 kind_for form.Overrun = 4
-kind_for (form.Family group.Link) = 16
-kind_for (form.Family group.Addr) = 20
-kind_for (form.Family group.Route) = 24
-kind_for (form.Family group.Neigh) = 28
+kind_for (form.Family g) = type_of g New
 kind_for form.Get = 18
 kind_for form.Other = 0
 
 form_of-kind_for : (f : Form) → form_of (kind_for f) ≡ f
+unfolding route_type
 form_of-kind_for form.Noop = refl
 form_of-kind_for form.Error = refl
 form_of-kind_for form.Done = refl
 form_of-kind_for form.Overrun = refl
-form_of-kind_for (form.Family group.Link) = refl
-form_of-kind_for (form.Family group.Addr) = refl
-form_of-kind_for (form.Family group.Route) = refl
-form_of-kind_for (form.Family group.Neigh) = refl
+form_of-kind_for (form.Family g) = ap (form_for (type_of g New)) (is_family g).new
 form_of-kind_for form.Get = refl
 form_of-kind_for form.Other = refl
 

@@ -8,17 +8,11 @@ use Rattle.nl_attr.proofs.Lemmas.Lengths.{length-padded, length-items}
 use Rattle.nl_route.specs.Fields.{Field, signed}
 use Rattle.nl_route.specs.Fields as fields
 use Rattle.nl_route.proofs.Fields.{size_of, length-written}
+use Rattle.nl_route.proofs.Families.{size_of_head}
+use Rattle.nl_route.specs.Families.{head_size, group_of, fields_of}
 use Rattle.nl_frame.specs.Header.{header_fields}
-use Rattle.nl_frame.specs.Form.{head_size}
-use Rattle.nl_frame.specs.Message.{link, addr, route, neigh, AnyHead, group_of, fields_of, BodyVal, noop, error, done, overrun, family, get, other, MessageVal}
+use Rattle.nl_frame.specs.Message.{BodyVal, noop, error, done, overrun, family, get, other, MessageVal}
 use Rattle.nl_frame.specs.Written.{body_len, header_for, body_written, message_item, written, written_len}
-
--- a family's head has the bytes of its fields
-pub size_of_head : (h : AnyHead) → size_of (fields_of h) ≡ head_size (group_of h)
-size_of_head (link h) = refl
-size_of_head (addr h) = refl
-size_of_head (route h) = refl
-size_of_head (neigh h) = refl
 
 module _ (o : Order) where
   -- fields and what is behind them

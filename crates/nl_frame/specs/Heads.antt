@@ -5,9 +5,9 @@ use Rattle.nl_attr.specs.Shape.{Shape}
 use Rattle.nl_attr.specs.Numbers.{aligned, len_of, span_of}
 use Rattle.nl_attr.specs.Heads.{Head, HeadAt, IsSound, broken, start_of}
 use Rattle.nl_attr.specs.Visits.{VisitsBy}
+use Rattle.nl_route.specs.Families.{head_size, context_of}
 use Rattle.nl_frame.specs.declared.form.Form.{Form}
 use Rattle.nl_frame.specs.declared.form.Form.TheVariants as form
-use Rattle.nl_frame.specs.Form.{head_size, context_of}
 use Rattle.nl_frame.specs.Front.{form_at, span_at, payload_at, broken_frame, broken_message}
 
 -- the bytes of a datagram from a place on

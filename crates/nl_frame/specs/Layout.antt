@@ -4,11 +4,12 @@ use Rattle.nl_attr.specs.Shape.{Shape}
 use Rattle.nl_attr.specs.Layout.{IsPiece}
 use Rattle.nl_route.specs.Fields.{signed, AreFields}
 use Rattle.nl_route.specs.Body.{IsFamilyBody}
+use Rattle.nl_route.specs.Families.{head_size, context_of, group_of, fields_of}
 use Rattle.nl_frame.specs.declared.form.Form.{Form}
 use Rattle.nl_frame.specs.declared.form.Form.TheVariants as form
 use Rattle.nl_frame.specs.Header.{header_fields}
-use Rattle.nl_frame.specs.Form.{form_of, head_size, context_of}
-use Rattle.nl_frame.specs.Message.{group_of, fields_of, BodyVal, noop, error, done, overrun, family, get, other, MessageVal}
+use Rattle.nl_frame.specs.Form.{form_of}
+use Rattle.nl_frame.specs.Message.{BodyVal, noop, error, done, overrun, family, get, other, MessageVal}
 
 module _ (S : Shape) where
   -- the payload of a message of this form is this body

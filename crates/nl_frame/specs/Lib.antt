@@ -22,6 +22,7 @@ pub use Rattle.nl_attr.specs.Codes
 pub use Rattle.nl_attr.specs.Layout as Regions
 pub use Rattle.nl_attr.specs.Heads as RegionHeads
 pub use Rattle.nl_route.specs.Fields
+pub use Rattle.nl_route.specs.Families
 pub use Rattle.nl_route.specs.Body
 pub use Rattle.nl_attr.specs.Written as RegionWritten
 pub use Rattle.nl_attr.specs.Proper as RegionProper

@@ -3,11 +3,12 @@ use Rattle.std.specs.Prelude.{◌≢◌, ◌<◌, ◌≤◌, ◌^◌, ◌⊎◌,
 use Rattle.std.specs.Int.{w32}
 use Rattle.nl_attr.specs.Proper as attrs
 use Rattle.nl_route.specs.Fields.{AreRanged}
+use Rattle.nl_route.specs.Families.{context_of, group_of, fields_of}
 use Rattle.nl_frame.specs.declared.form.Form.{Form}
 use Rattle.nl_frame.specs.declared.form.Form.TheVariants as form
 use Rattle.nl_frame.specs.Header.{header_fields}
-use Rattle.nl_frame.specs.Form.{form_of, context_of}
-use Rattle.nl_frame.specs.Message.{group_of, fields_of, BodyVal, noop, error, done, overrun, family, get, other, MessageVal}
+use Rattle.nl_frame.specs.Form.{form_of}
+use Rattle.nl_frame.specs.Message.{BodyVal, noop, error, done, overrun, family, get, other, MessageVal}
 use Rattle.nl_frame.specs.Written.{written_len}
 
 -- a body of another form, a DONE without status that has four bytes or more, or mismatched attributes

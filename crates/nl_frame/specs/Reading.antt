@@ -6,13 +6,13 @@ use Rattle.nl_attr.specs.declared.fault.Reason.{Reason}
 use Rattle.nl_attr.specs.Shape.{Shape}
 use Rattle.nl_attr.specs.Numbers.{number_of}
 use Rattle.nl_attr.specs.Reading.{Outcome, and_then, map_value, items_of_region}
+use Rattle.nl_route.specs.Families.{head_size, context_of, head_of}
 use Rattle.nl_frame.specs.declared.header.Header.{Header}
 use Rattle.nl_frame.specs.declared.form.Form.{Form}
 use Rattle.nl_frame.specs.declared.form.Form.TheVariants as form
-use Rattle.nl_frame.specs.declared.form.Group.{Group}
+use Rattle.nl_route.specs.declared.group.Group.{Group}
 use Rattle.nl_frame.specs.Header.{header_of}
-use Rattle.nl_frame.specs.Form.{head_size, context_of}
-use Rattle.nl_frame.specs.Message.{head_of, BodyVal, noop, error, done, overrun, family, get, other, MessageVal}
+use Rattle.nl_frame.specs.Message.{BodyVal, noop, error, done, overrun, family, get, other, MessageVal}
 use Rattle.nl_frame.specs.Front.{span_at, payload_at, form_at, broken_message}
 
 -- the signed number in the first four bytes

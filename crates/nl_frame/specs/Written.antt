@@ -6,10 +6,10 @@ use Rattle.nl_attr.specs.Written.{padded, items_len}
 use Rattle.nl_attr.specs.Written as attrs
 use Rattle.nl_route.specs.Fields.{signed}
 use Rattle.nl_route.specs.Fields as fields
+use Rattle.nl_route.specs.Families.{head_size, group_of, fields_of}
 use Rattle.nl_frame.specs.declared.header.Header.{Header}
 use Rattle.nl_frame.specs.Header.{header_fields}
-use Rattle.nl_frame.specs.Form.{head_size}
-use Rattle.nl_frame.specs.Message.{group_of, fields_of, BodyVal, noop, error, done, overrun, family, get, other, MessageVal}
+use Rattle.nl_frame.specs.Message.{BodyVal, noop, error, done, overrun, family, get, other, MessageVal}
 
 -- how many bytes a body is written as, in either order
 abbrev pub body_len : BodyVal → ℕ

@@ -15,6 +15,7 @@ ghost use Rattle.nl_frame.specs.Measured.{IsSizedBody, IsSized};
 use crate::body::{Body, Message};
 use crate::header::Header;
 use nl_attr::{Order, append_bytes};
+use nl_route::match_family;
 
 /// Appends a signed number.
 fn append_signed(out: &mut Vec<u8>, order: Order, number: i32)
@@ -78,7 +79,7 @@ fn append_body(body: &Body, order: Order, out: &mut Vec<u8>)
     ensures room { vec_capacity out.old ≤ vec_capacity out.new }
     ensures ranged { IsRangedBody (body_view body.now) }
 {
-    match body {
+    match_family!(body, Body, family => family.append_body(order, out), {
         Body::Noop(bytes) => append_bytes(out, bytes),
         Body::Error {
             code,
@@ -87,13 +88,9 @@ fn append_body(body: &Body, order: Order, out: &mut Vec<u8>)
         } => append_error(out, order, *code, *answered, tail),
         Body::Done { status, tail } => append_done(out, order, *status, tail),
         Body::Overrun(bytes) => append_bytes(out, bytes),
-        Body::Link(family) => family.append_body(order, out),
-        Body::Addr(family) => family.append_body(order, out),
-        Body::Route(family) => family.append_body(order, out),
-        Body::Neigh(family) => family.append_body(order, out),
         Body::Get { family, tail } => append_get(out, *family, tail),
         Body::Other(bytes) => append_bytes(out, bytes),
-    }
+    })
 }
 
 /// Writes the length of the message that begins at `start` into its first four bytes, and pads it

@@ -2,17 +2,18 @@
 
 ghost use Rattle.std.specs.Prelude.{◌≡◌, ◌≤◌, ◌+◌, ◌*◌, length, drop, slice_index, IfSome, MatchOption};
 ghost use Rattle.nl_attr.specs.Told.{Tells};
-ghost use Rattle.nl_frame.specs.Form.{least_body, head_size};
+ghost use Rattle.nl_route.specs.Families.{head_size};
+ghost use Rattle.nl_frame.specs.Form.{least_body};
 ghost use Rattle.nl_frame.specs.Header.{header_of};
 ghost use Rattle.nl_frame.specs.Message.{error, get};
 ghost use Rattle.nl_frame.specs.View.{body_view};
 ghost use Rattle.nl_frame.specs.Reading.{body_at, family_body_at, done_at, signed_of};
 
-use crate::form::{Form, Group};
+use crate::form::Form;
 use crate::header::Header;
 use crate::limits::Limits;
 use nl_attr::{ListError, Order, Tally};
-use nl_route::{Addr, Link, Neigh, Route};
+use nl_route::{Addr, Group, Link, Neigh, Route, Rule, read_family};
 use std::alloc::Global;
 
 /// What a message holds, by its type (netlink(7), rtnetlink(7)).
@@ -37,6 +38,7 @@ pub enum Body {
     Addr(Addr),
     Route(Route),
     Neigh(Neigh),
+    Rule(Rule),
     /// The family byte of a request, and the rest as it stands.
     Get {
         family: u8,
@@ -128,12 +130,7 @@ fn read_family(
 {
     let depth = limits.depth();
     let order = limits.order();
-    match group {
-        Group::Link => Link::read_body_ordered(alloc, bytes, base, depth, order).map(Body::Link),
-        Group::Addr => Addr::read_body_ordered(alloc, bytes, base, depth, order).map(Body::Addr),
-        Group::Route => Route::read_body_ordered(alloc, bytes, base, depth, order).map(Body::Route),
-        Group::Neigh => Neigh::read_body_ordered(alloc, bytes, base, depth, order).map(Body::Neigh),
-    }
+    read_family!(group, Body, (alloc, bytes, base, depth, order))
 }
 
 impl Body {

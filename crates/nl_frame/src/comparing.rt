@@ -15,6 +15,7 @@ ghost use Rattle.nl_frame.specs.Measured.{IsSizedBody};
 use crate::body::{Body, Message};
 use crate::header::Header;
 use nl_attr::{Order, begins_with_bytes, begins_with_zeros};
+use nl_route::match_family;
 
 /// A front, and the bytes behind it.
 fn begins_with_both(front: &[u8], tail: &[u8], bytes: &[u8]) -> Option<usize>
@@ -60,7 +61,7 @@ fn begins_with_body(body: &Body, order: Order, bytes: &[u8]) -> Option<usize>
     ensures begins { Begins (body_written order (body_view body.now)) bytes.now result }
     ensures within { IfSome result (λ n. n ≤ length bytes.now) }
 {
-    match body {
+    match_family!(body, Body, family => family.begins_with_body(order, bytes), {
         Body::Noop(payload) => begins_with_bytes(payload, bytes),
         Body::Error {
             code,
@@ -69,13 +70,9 @@ fn begins_with_body(body: &Body, order: Order, bytes: &[u8]) -> Option<usize>
         } => begins_with_error(*code, *answered, tail, order, bytes),
         Body::Done { status, tail } => begins_with_done(*status, tail, order, bytes),
         Body::Overrun(payload) => begins_with_bytes(payload, bytes),
-        Body::Link(link) => link.begins_with_body(order, bytes),
-        Body::Addr(addr) => addr.begins_with_body(order, bytes),
-        Body::Route(route) => route.begins_with_body(order, bytes),
-        Body::Neigh(neigh) => neigh.begins_with_body(order, bytes),
         Body::Get { family, tail } => begins_with_both(&[*family], tail, bytes),
         Body::Other(payload) => begins_with_bytes(payload, bytes),
-    }
+    })
 }
 
 /// A message with its padding. The length in its header is compared once its body has been.

@@ -3,14 +3,7 @@
 ghost use Rattle.std.specs.Prelude.{◌≡◌};
 ghost use Rattle.nl_frame.specs.Form.{form_of, least_body};
 
-/// The families whose bodies have heads.
-#[derive(Clone, Copy, Debug, PartialEq, Eq)]
-pub enum Group {
-    Link,
-    Addr,
-    Route,
-    Neigh,
-}
+use nl_route::{Group, RouteType, Verb};
 
 /// What a message's body is made of.
 #[derive(Clone, Copy, Debug, PartialEq, Eq)]
@@ -32,17 +25,18 @@ impl Form {
     pub fn of(kind: u16) -> Form
         ensures { result ≡ form_of kind }
     {
-        match kind {
-            1 => Form::Noop,
-            2 => Form::Error,
-            3 => Form::Done,
-            4 => Form::Overrun,
-            16 | 17 | 19 => Form::Family(Group::Link),
-            20 | 21 => Form::Family(Group::Addr),
-            24 | 25 => Form::Family(Group::Route),
-            28 | 29 => Form::Family(Group::Neigh),
-            18 | 22 | 26 | 30 => Form::Get,
-            _ => Form::Other,
+        match RouteType::of(kind) {
+            Some(kind) => match kind.verb {
+                Verb::Get => Form::Get,
+                Verb::New | Verb::Del | Verb::Set => Form::Family(kind.group),
+            },
+            None => match kind {
+                1 => Form::Noop,
+                2 => Form::Error,
+                3 => Form::Done,
+                4 => Form::Overrun,
+                _ => Form::Other,
+            },
         }
     }
 
@@ -52,9 +46,7 @@ impl Form {
     {
         match self {
             Form::Error => 20,
-            Form::Family(Group::Link) => 16,
-            Form::Family(Group::Addr) => 8,
-            Form::Family(Group::Route | Group::Neigh) => 12,
+            Form::Family(group) => group.row().head_size,
             Form::Get => 1,
             Form::Noop | Form::Done | Form::Overrun | Form::Other => 0,
         }

@@ -16,9 +16,10 @@ mod writing;
 
 pub use body::{Body, Message};
 pub use canonical::is_canonical;
-pub use form::{Form, Group};
+pub use form::Form;
 pub use header::Header;
 pub use limits::Limits;
 pub use nl_attr::{LimitFault, Order};
+pub use nl_route::Group;
 pub use reading::{ReadError, read_datagram};
 pub use writing::{WriteError, write_datagram};

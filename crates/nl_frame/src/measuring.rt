@@ -8,8 +8,9 @@ ghost use Rattle.nl_frame.specs.Proper.{IsMismatchedBody, IsMismatched, IsDeepBo
 ghost use Rattle.nl_frame.specs.Measured.{IsLenOf, IsBodyLen, IsMessageLen, IsLen};
 
 use crate::body::{Body, Message};
-use crate::form::{Form, Group};
+use crate::form::Form;
 use nl_attr::{Depth, Extent};
+use nl_route::match_family;
 
 /// The most bytes that a datagram may have.
 const LONGEST: usize = 1_048_576;
@@ -53,19 +54,21 @@ fn measure_body(body: &Body, form: Form, depth: Depth) -> Option<Extent>
     ensures deep { IfSome result (λ e. IsTrue e.deep ↔ IsDeepBody (body_view body.now) depth) }
     ensures len { IfSome result (λ e. IsBodyLen (body_view body.now) e.len) }
 {
-    match (body, form) {
-        (Body::Noop(bytes), Form::Noop) => Some(plain(0, bytes.len())),
-        (Body::Error { tail, .. }, Form::Error) => Some(plain(20, tail.len())),
-        (Body::Done { status, tail }, Form::Done) => measure_done(status, tail),
-        (Body::Overrun(bytes), Form::Overrun) => Some(plain(0, bytes.len())),
-        (Body::Link(family), Form::Family(Group::Link)) => family.measure(depth),
-        (Body::Addr(family), Form::Family(Group::Addr)) => family.measure(depth),
-        (Body::Route(family), Form::Family(Group::Route)) => family.measure(depth),
-        (Body::Neigh(family), Form::Family(Group::Neigh)) => family.measure(depth),
-        (Body::Get { tail, .. }, Form::Get) => Some(plain(1, tail.len())),
-        (Body::Other(bytes), Form::Other) => Some(plain(0, bytes.len())),
+    match_family!(body, Body, family => {
+        if form == Form::Family(family.group()) {
+            family.measure(depth)
+        } else {
+            None
+        }
+    }, {
+        Body::Noop(bytes) if form == Form::Noop => Some(plain(0, bytes.len())),
+        Body::Error { tail, .. } if form == Form::Error => Some(plain(20, tail.len())),
+        Body::Done { status, tail } if form == Form::Done => measure_done(status, tail),
+        Body::Overrun(bytes) if form == Form::Overrun => Some(plain(0, bytes.len())),
+        Body::Get { tail, .. } if form == Form::Get => Some(plain(1, tail.len())),
+        Body::Other(bytes) if form == Form::Other => Some(plain(0, bytes.len())),
         _ => None,
-    }
+    })
 }
 
 /// A message with its header and its padding.

@@ -1,10 +1,9 @@
 -- Heads that are known by their fields.
-use Rattle.std.proofs.Common.{◌≡◌, ℕ, ℤ, zero, suc, List, [], ◌∷◌, length, refl, sym, ap, subst, ◌∙◌, arith}
+use Rattle.std.proofs.Common.{◌≡◌, ℕ, ℤ, zero, suc, List, [], ◌∷◌, length, sym, ap, subst, ◌∙◌, arith}
 use Rattle.std.specs.Prelude.{pos}
 use Rattle.nl_attr.specs.declared.order.Order.{Order}
 use Rattle.nl_attr.specs.Numbers.{AreBytes}
 use Rattle.nl_route.specs.Fields.{Field, byte, number, signed, pad, AreFields, written}
-use Rattle.nl_route.specs.Heads.{link_fields, link_of, addr_fields, addr_of, route_fields, route_of, neigh_fields, neigh_of}
 use Rattle.nl_route.proofs.Fields.{size_of, read_at, read_sound, read_only, DoFit, read_written}
 
 -- what is read of bytes has the fields that are read of them, and a head is made of its fields, of so many bytes
@@ -54,39 +53,3 @@ abbrev pub signed_at : List Field → ℕ → ℤ
 signed_at [] i = pos 0
 signed_at (f ∷ fs) zero = signed_in f
 signed_at (f ∷ fs) (suc i) = signed_at fs i
-
-pub link_known : IsKnown 16 link_fields link_of
-link_known =
-    record {
-      is = λ o v bytes. refl;
-      made = λ fs. record { family = value_at fs 0; hardware = value_at fs 2; index = signed_at fs 3; flags = value_at fs 4; change = value_at fs 5 };
-      back = λ v. refl;
-      size_is = λ v. refl;
-    }
-
-pub addr_known : IsKnown 8 addr_fields addr_of
-addr_known =
-    record {
-      is = λ o v bytes. refl;
-      made = λ fs. record { family = value_at fs 0; prefixlen = value_at fs 1; flags = value_at fs 2; scope = value_at fs 3; index = value_at fs 4 };
-      back = λ v. refl;
-      size_is = λ v. refl;
-    }
-
-pub route_known : IsKnown 12 route_fields route_of
-route_known =
-    record {
-      is = λ o v bytes. refl;
-      made = λ fs. record { family = value_at fs 0; dst_len = value_at fs 1; src_len = value_at fs 2; tos = value_at fs 3; table = value_at fs 4; protocol = value_at fs 5; scope = value_at fs 6; sort = value_at fs 7; flags = value_at fs 8 };
-      back = λ v. refl;
-      size_is = λ v. refl;
-    }
-
-pub neigh_known : IsKnown 12 neigh_fields neigh_of
-neigh_known =
-    record {
-      is = λ o v bytes. refl;
-      made = λ fs. record { family = value_at fs 0; ifindex = signed_at fs 3; state = value_at fs 4; flags = value_at fs 5; sort = value_at fs 6 };
-      back = λ v. refl;
-      size_is = λ v. refl;
-    }

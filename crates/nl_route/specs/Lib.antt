@@ -1,5 +1,12 @@
 pub mod Fields
-pub mod Heads
+pub mod Link
+pub mod Addr
+pub mod Route
+pub mod Neigh
+pub mod Rule
+pub mod Types
+pub mod Families
+pub mod Parts
 pub mod Body
 pub mod Views
 pub use Rattle.nl_attr.specs.Numbers

@@ -9,6 +9,7 @@ ghost use Rattle.nl_attr.specs.Told.{Tells, IfLayout, VisitsUpTo};
 ghost use Rattle.nl_attr.specs.Kept.{kept};
 ghost use Rattle.nl_route.specs.Body.{IsFamilyBody, family_at, attrs_of};
 
+use crate::group::Group;
 use crate::head::Head;
 use nl_attr::{Attr, Depth, ListError, Order, Tally, read_list_ordered};
 use std::alloc::Global;
@@ -21,6 +22,13 @@ pub struct Family<H> {
 }
 
 impl<H: Head> Family<H> {
+    /// Its family.
+    pub fn group(&self) -> Group
+        ensures { result ≡ H.group }
+    {
+        H::group()
+    }
+
     /// The body in these bytes, the lowest byte of a number first, and how many bytes of attributes
     /// were visited.
     ///

@@ -4,8 +4,10 @@ ghost use Rattle.std.specs.Prelude.{◌≡◌, ◌≤◌, ◌+◌, ◌++◌, ℕ
 ghost use Rattle.nl_attr.specs.declared.order.Order.{Order};
 ghost use Rattle.nl_attr.specs.declared.tree.Ctx.{Ctx};
 ghost use Rattle.nl_attr.specs.Compared.{Begins};
+ghost use Rattle.nl_route.specs.declared.group.Group.{Group};
 ghost use Rattle.nl_route.specs.Fields.{Field, AreFields, AreRanged, written};
 
+use crate::group::Group;
 use nl_attr::{Ctx, Order};
 
 /// The head of a family's body: how many bytes it has, what they say, and the context of the
@@ -16,11 +18,17 @@ pub trait Head: Sized + Drop {
 
     ghost SIZE: { ℕ };
 
+    ghost group: { Group };
+
     ghost ctx: { Ctx };
 
     ghost fields: { Self → List Field };
 
     ghost of: { Order → List ℕ → Self };
+
+    /// Its family.
+    fn group() -> Group
+        ensures { result ≡ group };
 
     /// The context of the attributes behind it.
     fn context() -> Ctx

@@ -4,10 +4,11 @@ ghost use Rattle.std.specs.Prelude.{◌≡◌, unwrap_or};
 ghost use Rattle.std.specs.Option.{option_copied};
 ghost use Rattle.nl_attr.specs.View.{attrs_view};
 ghost use Rattle.nl_route.specs.Fields.{AreFields, AreRanged, written};
-ghost use Rattle.nl_route.specs.Heads.{addr_fields, addr_of};
+ghost use Rattle.nl_route.specs.Addr.{addr_fields, addr_of};
 ghost use Rattle.nl_route.specs.Views.{number_view, text_view, bytes_view};
 
 use crate::family::Family;
+use crate::group::Group;
 use crate::head::Head;
 use crate::views::{bytes_of, text_of, u32_view};
 use nl_attr::{Ctx, Order, append_bytes, begins_with_bytes};
@@ -119,12 +120,15 @@ impl AddrHead {
 
 impl Head for AddrHead {
     ghost use Rattle.std.proofs.Common.{lit≤};
+    ghost use Rattle.nl_route.specs.declared.group.Group.TheVariants as group;
     ghost use Rattle.nl_attr.specs.declared.tree.Ctx.TheVariants.{Addr};
-    ghost use Rattle.nl_route.specs.Heads.{addr_fields, addr_of};
+    ghost use Rattle.nl_route.specs.Addr.{addr_fields, addr_of};
 
     const SIZE: usize = 8;
 
     ghost SIZE = { 8 };
+
+    ghost group = { group.Addr };
 
     ghost ctx = { Addr };
 
@@ -133,6 +137,10 @@ impl Head for AddrHead {
     ghost of = { addr_of };
 
     ghost small = { lit≤ tt };
+
+    fn group() -> Group {
+        Group::Addr
+    }
 
     fn context() -> Ctx {
         Ctx::Addr

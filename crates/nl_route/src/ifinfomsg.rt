@@ -4,10 +4,11 @@ ghost use Rattle.std.specs.Prelude.{◌≡◌};
 ghost use Rattle.std.specs.Option.{option_copied};
 ghost use Rattle.nl_attr.specs.View.{attrs_view};
 ghost use Rattle.nl_route.specs.Fields.{AreFields, AreRanged, written};
-ghost use Rattle.nl_route.specs.Heads.{link_fields, link_of};
+ghost use Rattle.nl_route.specs.Link.{link_fields, link_of};
 ghost use Rattle.nl_route.specs.Views.{number_view, text_view, items_view};
 
 use crate::family::Family;
+use crate::group::Group;
 use crate::head::Head;
 use crate::views::{list_of, text_of, u8_view, u32_view};
 use nl_attr::{Ctx, Order, append_bytes, begins_with_bytes};
@@ -121,12 +122,15 @@ impl LinkHead {
 
 impl Head for LinkHead {
     ghost use Rattle.std.proofs.Common.{lit≤};
+    ghost use Rattle.nl_route.specs.declared.group.Group.TheVariants as group;
     ghost use Rattle.nl_attr.specs.declared.tree.Ctx.TheVariants.{Link};
-    ghost use Rattle.nl_route.specs.Heads.{link_fields, link_of};
+    ghost use Rattle.nl_route.specs.Link.{link_fields, link_of};
 
     const SIZE: usize = 16;
 
     ghost SIZE = { 16 };
+
+    ghost group = { group.Link };
 
     ghost ctx = { Link };
 
@@ -135,6 +139,10 @@ impl Head for LinkHead {
     ghost of = { link_of };
 
     ghost small = { lit≤ tt };
+
+    fn group() -> Group {
+        Group::Link
+    }
 
     fn context() -> Ctx {
         Ctx::Link

@@ -1,11 +1,15 @@
-//! Heads, bodies and views of the rtnetlink families link, address, route and neighbour.
+//! The families of rtnetlink: links, addresses, routes, neighbours and rules; their message types,
+//! heads, bodies and views.
 //!
 //! A body is a head of the family's own, a C struct of the kernel's headers, and then a region of
-//! attributes. One file for each family has its head, its body's name and its views.
+//! attributes. One file for each family has its head, its body's name and its views;
+//! `group` has the table of them all.
 #![tactic(auto)]
 
 mod comparing;
 mod family;
+mod fib_rule_hdr;
+mod group;
 mod head;
 mod ifaddrmsg;
 mod ifinfomsg;
@@ -15,6 +19,8 @@ mod views;
 mod writing;
 
 pub use family::Family;
+pub use fib_rule_hdr::{Rule, RuleHead};
+pub use group::{Group, RouteType, Row, Verb};
 pub use head::Head;
 pub use ifaddrmsg::{Addr, AddrHead};
 pub use ifinfomsg::{Link, LinkHead};

@@ -4,10 +4,11 @@ ghost use Rattle.std.specs.Prelude.{◌≡◌};
 ghost use Rattle.std.specs.Option.{option_copied};
 ghost use Rattle.nl_attr.specs.View.{attrs_view};
 ghost use Rattle.nl_route.specs.Fields.{AreFields, AreRanged, written};
-ghost use Rattle.nl_route.specs.Heads.{neigh_fields, neigh_of};
+ghost use Rattle.nl_route.specs.Neigh.{neigh_fields, neigh_of};
 ghost use Rattle.nl_route.specs.Views.{number_view, bytes_view};
 
 use crate::family::Family;
+use crate::group::Group;
 use crate::head::Head;
 use crate::views::{bytes_of, u16_view, u32_view};
 use nl_attr::{Ctx, Order, append_bytes, begins_with_bytes};
@@ -119,12 +120,15 @@ impl NeighHead {
 
 impl Head for NeighHead {
     ghost use Rattle.std.proofs.Common.{lit≤};
+    ghost use Rattle.nl_route.specs.declared.group.Group.TheVariants as group;
     ghost use Rattle.nl_attr.specs.declared.tree.Ctx.TheVariants.{Neigh};
-    ghost use Rattle.nl_route.specs.Heads.{neigh_fields, neigh_of};
+    ghost use Rattle.nl_route.specs.Neigh.{neigh_fields, neigh_of};
 
     const SIZE: usize = 12;
 
     ghost SIZE = { 12 };
+
+    ghost group = { group.Neigh };
 
     ghost ctx = { Neigh };
 
@@ -133,6 +137,10 @@ impl Head for NeighHead {
     ghost of = { neigh_of };
 
     ghost small = { lit≤ tt };
+
+    fn group() -> Group {
+        Group::Neigh
+    }
 
     fn context() -> Ctx {
         Ctx::Neigh

@@ -4,10 +4,11 @@ ghost use Rattle.std.specs.Prelude.{◌≡◌, unwrap_or};
 ghost use Rattle.std.specs.Option.{option_copied};
 ghost use Rattle.nl_attr.specs.View.{attrs_view, hops_view};
 ghost use Rattle.nl_route.specs.Fields.{AreFields, AreRanged, written};
-ghost use Rattle.nl_route.specs.Heads.{route_fields, route_of};
+ghost use Rattle.nl_route.specs.Route.{route_fields, route_of};
 ghost use Rattle.nl_route.specs.Views.{number_view, bytes_view, items_view, hop_items_view};
 
 use crate::family::Family;
+use crate::group::Group;
 use crate::head::Head;
 use crate::views::{bytes_of, hops_of, list_of, u32_view};
 use nl_attr::{Attr, Ctx, Hop, Order, append_bytes, begins_with_bytes};
@@ -149,12 +150,15 @@ impl RouteHead {
 
 impl Head for RouteHead {
     ghost use Rattle.std.proofs.Common.{lit≤};
+    ghost use Rattle.nl_route.specs.declared.group.Group.TheVariants as group;
     ghost use Rattle.nl_attr.specs.declared.tree.Ctx.TheVariants.{Route};
-    ghost use Rattle.nl_route.specs.Heads.{route_fields, route_of};
+    ghost use Rattle.nl_route.specs.Route.{route_fields, route_of};
 
     const SIZE: usize = 12;
 
     ghost SIZE = { 12 };
+
+    ghost group = { group.Route };
 
     ghost ctx = { Route };
 
@@ -163,6 +167,10 @@ impl Head for RouteHead {
     ghost of = { route_of };
 
     ghost small = { lit≤ tt };
+
+    fn group() -> Group {
+        Group::Route
+    }
 
     fn context() -> Ctx {
         Ctx::Route

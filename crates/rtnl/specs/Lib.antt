@@ -1,3 +1,8 @@
+pub mod Link
+pub mod Addr
+pub mod Route
+pub mod Neigh
+pub mod Rule
 pub mod Attributes
 pub mod Checked
 pub mod Codes

@@ -3,53 +3,32 @@ use Rattle.std.specs.Prelude.{ℕ, ℤ, pos, List, Option, Some, None, codes}
 use Rattle.std.specs.Fmt.{decimal, signed_decimal}
 use Rattle.std.specs.List.{flat_map}
 use Rattle.nl_attr.specs.declared.order.Order.{Order}
-use Rattle.nl_route.specs.declared.ifaddrmsg.AddrHead.{AddrHead}
-use Rattle.nl_route.specs.declared.ifinfomsg.LinkHead.{LinkHead}
-use Rattle.nl_route.specs.declared.ndmsg.NeighHead.{NeighHead}
-use Rattle.nl_route.specs.declared.rtmsg.RouteHead.{RouteHead}
+use Rattle.nl_route.specs.declared.group.Group.{Group}
+use Rattle.nl_route.specs.declared.group.Group.TheVariants as group
+use Rattle.nl_route.specs.Families.{row, AnyHead, group_of, context_of}
 use Rattle.nl_frame.specs.declared.header.Header.{Header}
-use Rattle.nl_frame.specs.Form.{context_of}
-use Rattle.nl_frame.specs.Message.{AnyHead, link, addr, route, neigh, group_of, BodyVal, noop, error, done, overrun, family, get, other, MessageVal}
-use Rattle.rtnl.specs.NamedBits.{link_flags, neigh_flags, neigh_states}
+use Rattle.nl_frame.specs.Message.{BodyVal, noop, error, done, overrun, family, get, other, MessageVal}
+use Rattle.rtnl.specs.Link.{link_line}
+use Rattle.rtnl.specs.Addr.{addr_line}
+use Rattle.rtnl.specs.Route.{route_line}
+use Rattle.rtnl.specs.Neigh.{neigh_line}
+use Rattle.rtnl.specs.Rule.{rule_line}
 use Rattle.rtnl.specs.Names.{names_text}
 use Rattle.rtnl.specs.Text.{◌⨟◌, hex_text, padded_hex}
 use Rattle.rtnl.specs.Trees.{items_text}
 use Rattle.rtnl.specs.Types.{flags_table, type_flags, type_name}
 
--- the line of a link's head
-unfoldable pub link_line : LinkHead → List ℕ
-link_line h =
-    codes "  link family " ⨟ decimal h.family ⨟ codes " type " ⨟ decimal h.hardware ⨟ codes " index " ⨟ signed_decimal h.index
-    ⨟ codes " flags 0x" ⨟ padded_hex 8 h.flags ⨟ codes " " ⨟ names_text link_flags h.flags
-    ⨟ codes " change 0x" ⨟ padded_hex 8 h.change ⨟ codes "\n"
-
--- the line of an address's head
-unfoldable pub addr_line : AddrHead → List ℕ
-addr_line h =
-    codes "  addr family " ⨟ decimal h.family ⨟ codes " prefix " ⨟ decimal h.prefixlen ⨟ codes " flags 0x" ⨟ padded_hex 2 h.flags
-    ⨟ codes " scope " ⨟ decimal h.scope ⨟ codes " index " ⨟ decimal h.index ⨟ codes "\n"
-
--- the line of a route's head
-unfoldable pub route_line : RouteHead → List ℕ
-route_line h =
-    codes "  route family " ⨟ decimal h.family ⨟ codes " dst_len " ⨟ decimal h.dst_len ⨟ codes " src_len " ⨟ decimal h.src_len
-    ⨟ codes " tos " ⨟ decimal h.tos ⨟ codes " table " ⨟ decimal h.table ⨟ codes " protocol " ⨟ decimal h.protocol
-    ⨟ codes " scope " ⨟ decimal h.scope ⨟ codes " type " ⨟ decimal h.sort ⨟ codes " flags 0x" ⨟ padded_hex 8 h.flags ⨟ codes "\n"
-
--- the line of a neighbour's head
-unfoldable pub neigh_line : NeighHead → List ℕ
-neigh_line h =
-    codes "  neigh family " ⨟ decimal h.family ⨟ codes " index " ⨟ signed_decimal h.ifindex
-    ⨟ codes " state 0x" ⨟ padded_hex 4 h.state ⨟ codes " " ⨟ names_text neigh_states h.state
-    ⨟ codes " flags 0x" ⨟ padded_hex 2 h.flags ⨟ codes " " ⨟ names_text neigh_flags h.flags
-    ⨟ codes " type " ⨟ decimal h.sort ⨟ codes "\n"
+-- the line of a family's head
+abbrev pub line_of : (g : Group) → (row g).Head → List ℕ
+line_of group.Link = link_line
+line_of group.Addr = addr_line
+line_of group.Route = route_line
+line_of group.Neigh = neigh_line
+line_of group.Rule = rule_line
 
 -- the line of a head
 abbrev pub head_line : AnyHead → List ℕ
-head_line (link h) = link_line h
-head_line (addr h) = addr_line h
-head_line (route h) = route_line h
-head_line (neigh h) = neigh_line h
+head_line h = line_of h.group h.head
 
 -- the line of an answer with a code
 unfoldable pub error_line : ℤ → Header → List ℕ → List ℕ

@@ -3,8 +3,8 @@ use Rattle.std.specs.Prelude.{◌≡◌, ℕ, ◌+◌, List, [], ◌∷◌, ◌+
 use Rattle.std.specs.Fmt.{decimal, signed_decimal}
 use Rattle.std.specs.Global.{Vec}
 use Rattle.nl_attr.specs.declared.order.Order.{Order}
-use Rattle.nl_frame.specs.declared.form.Group.{Group}
-use Rattle.nl_frame.specs.declared.form.Group.TheVariants.{Link, Addr, Route, Neigh}
+use Rattle.nl_route.specs.declared.group.Group.{Group}
+use Rattle.nl_route.specs.Families.{name_of}
 use Rattle.nl_frame.specs.Limits.{Bounds}
 use Rattle.nl_frame.specs.Message.{family}
 use Rattle.nl_dump.specs.declared.dump.Dump.{Dump}
@@ -26,16 +26,9 @@ use Rattle.rtnl.specs.Text.{◌⨟◌}
 use Rattle.rtnl.specs.declared.error.Verdict.{Verdict}
 use Rattle.rtnl.specs.declared.error.Verdict.TheVariants.{Clean, Blemished}
 
--- the name of a family on the command line
-unfoldable pub kind_text : Group → List ℕ
-kind_text Link = codes "link"
-kind_text Addr = codes "addr"
-kind_text Route = codes "route"
-kind_text Neigh = codes "neigh"
-
 -- the dump that is read
 unfoldable pub dump_line : Dump → List ℕ
-dump_line d = codes "dump " ⨟ kind_text d.kind ⨟ codes " seq " ⨟ decimal d.seq ⨟ codes " port " ⨟ decimal d.port ⨟ codes "\n"
+dump_line d = codes "dump " ⨟ name_of d.kind ⨟ codes " seq " ⨟ decimal d.seq ⨟ codes " port " ⨟ decimal d.port ⨟ codes "\n"
 
 -- a datagram was refused, since all datagrams would be too large
 unfoldable pub total_line : List ℕ

@@ -1,43 +1,57 @@
 -- The names of message types and of their flags.
-use Rattle.std.specs.Prelude.{ℕ, List, [], ◌∷◌, codes, Option, Some, None}
+use Rattle.std.specs.Prelude.{ℕ, List, [], ◌∷◌, ◌++◌, codes, Option, Some, None}
 use Rattle.bitflags.specs.Sets.{Row as BitRow}
+use Rattle.nl_route.specs.declared.group.RouteType.{RouteType}
+use Rattle.nl_route.specs.declared.group.Verb.{Verb}
+use Rattle.nl_route.specs.declared.group.Verb.TheVariants as verb
+use Rattle.nl_route.specs.Families.{name_of}
+use Rattle.nl_route.specs.Types.{route_type}
 use Rattle.rtnl.specs.declared.text.types.FlagNames.{FlagNames}
 use Rattle.rtnl.specs.declared.text.types.FlagNames.TheVariants.{Common, Get, New, Error}
 use Rattle.rtnl.specs.NamedBits.{error_flags, get_flags, message_flags, new_flags}
 use Rattle.rtnl.specs.Rows.{Row, find_row, name_in}
 
--- the message types of netlink(7) and rtnetlink(7)
-unfoldable pub types : List (Row FlagNames)
-types =
+-- the message types of netlink(7)
+unfoldable pub controls : List (Row FlagNames)
+controls =
     (1, codes "noop", Common)
     ∷ (2, codes "error", Error)
     ∷ (3, codes "done", Common)
-    ∷ (4, codes "overrun", Common)
-    ∷ (16, codes "newlink", New)
-    ∷ (17, codes "dellink", Common)
-    ∷ (18, codes "getlink", Get)
-    ∷ (19, codes "setlink", Common)
-    ∷ (20, codes "newaddr", New)
-    ∷ (21, codes "deladdr", Common)
-    ∷ (22, codes "getaddr", Get)
-    ∷ (24, codes "newroute", New)
-    ∷ (25, codes "delroute", Common)
-    ∷ (26, codes "getroute", Get)
-    ∷ (28, codes "newneigh", New)
-    ∷ (29, codes "delneigh", Common)
-    ∷ (30, codes "getneigh", Get) ∷ []
+    ∷ (4, codes "overrun", Common) ∷ []
+
+-- the first part of the name of a family's message type
+abbrev pub verb_name : Verb → List ℕ
+verb_name verb.New = codes "new"
+verb_name verb.Del = codes "del"
+verb_name verb.Get = codes "get"
+verb_name verb.Set = codes "set"
+
+abbrev pub verb_flags : Verb → FlagNames
+verb_flags verb.New = New
+verb_flags verb.Del = Common
+verb_flags verb.Get = Get
+verb_flags verb.Set = Common
+
+-- the name of a message type that says this of a family
+abbrev pub name_for : ℕ → Option RouteType → List ℕ
+name_for kind None = name_in (codes "other") (find_row kind controls)
+name_for kind (Some t) = verb_name t.verb ++ name_of t.group
 
 -- the name of a message type
 unfoldable pub type_name : ℕ → List ℕ
-type_name kind = name_in (codes "other") (find_row kind types)
+type_name kind = name_for kind (route_type kind)
 
 abbrev pub flags_in : Option (List ℕ × FlagNames) → FlagNames
 flags_in None = Common
 flags_in (Some row) = row.1
 
+abbrev pub flags_for : ℕ → Option RouteType → FlagNames
+flags_for kind None = flags_in (find_row kind controls)
+flags_for kind (Some t) = verb_flags t.verb
+
 -- which names the flags of a message type have
 unfoldable pub type_flags : ℕ → FlagNames
-type_flags kind = flags_in (find_row kind types)
+type_flags kind = flags_for kind (route_type kind)
 
 abbrev pub flags_table : FlagNames → List BitRow
 flags_table Common = message_flags

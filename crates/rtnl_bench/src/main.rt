@@ -6,6 +6,7 @@
 use anyhow::{Result, bail};
 use nl_attr::Attr;
 use nl_frame::{Body, Limits, Message, read_datagram, write_datagram};
+use nl_route::match_family;
 use rtnl::{SliceSource, VecSink, run_show};
 use std::alloc::Global;
 
@@ -23,13 +24,9 @@ fn datagrams(alloc: Global, recording: &str) -> Result<Vec<Vec<u8>>> {
 
 /// How many attributes a message has at its first level.
 fn attributes(message: &Message) -> usize {
-    let attrs: &[Attr] = match &message.body {
-        Body::Link(link) => link.attrs.as_slice(),
-        Body::Addr(addr) => addr.attrs.as_slice(),
-        Body::Route(route) => route.attrs.as_slice(),
-        Body::Neigh(neigh) => neigh.attrs.as_slice(),
+    let attrs: &[Attr] = match_family!(&message.body, Body, family => family.attrs.as_slice(), {
         _ => &[],
-    };
+    });
     attrs.len()
 }
 

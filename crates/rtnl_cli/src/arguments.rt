@@ -1,6 +1,6 @@
 //! What the arguments of the program ask for.
 
-use crate::commands::{KINDS, ORDERS, Values, rtnl};
+use crate::commands::{ORDERS, Values, rtnl};
 use clap::error::ErrorKind;
 use clap::{ArgMatches, Error};
 use nl_attr::Order;
@@ -55,7 +55,11 @@ fn named<T: Copy>(table: &[(&str, T)], name: &str) -> Option<T> {
 }
 
 fn kind_of(matches: &ArgMatches<'_>) -> Option<Kind> {
-    named(KINDS.as_slice(), matches.get_str("kind")?)
+    let name = matches.get_str("kind")?;
+    Kind::ALL
+        .iter()
+        .copied()
+        .find(|kind| kind.row().name == name)
 }
 
 fn order_of(matches: &ArgMatches<'_>) -> Option<Order> {
@@ -135,7 +139,7 @@ fn parse_with(alloc: Global, arguments: &[String], values: Values<'_>) -> Result
 
 /// What the arguments, the program's name first, ask for. It fails only for memory.
 pub(crate) fn parse(alloc: Global, arguments: &[String]) -> Result<Parsed, AllocError> {
-    let kinds = names(alloc, KINDS.as_slice())?;
+    let kinds: Vec<&str> = Kind::ALL.iter().map(|kind| kind.row().name).collect(alloc)?;
     let orders = names(alloc, ORDERS.as_slice())?;
     let standard = Limits::standard();
     let depth = standard.depth().get().to_string(alloc)?;

@@ -2,16 +2,7 @@
 
 use clap::{Arg, Command, value_parser};
 use nl_attr::Order;
-use rtnl::dump::Kind;
 use std::alloc::{AllocError, Global};
-
-/// The kinds of a dump by their names.
-pub(crate) const KINDS: [(&str, Kind); 4] = [
-    ("link", Kind::Link),
-    ("addr", Kind::Addr),
-    ("route", Kind::Route),
-    ("neigh", Kind::Neigh),
-];
 
 /// The byte orders by their names.
 pub(crate) const ORDERS: [(&str, Order); 2] = [("little", Order::Little), ("big", Order::Big)];

@@ -3,7 +3,7 @@
 use crate::reading::body_in;
 use crate::vectors::{bytes_of, ensure, two_hops};
 use nl_attr::{Depth, Fault, ListError, Order, Reason};
-use nl_route::{Addr, AddrHead, LinkHead, NeighHead, Route, RouteHead};
+use nl_route::{Addr, AddrHead, LinkHead, NeighHead, Route, RouteHead, RuleHead};
 use std::alloc::Global;
 use std::test::Fail;
 
@@ -107,6 +107,23 @@ fn a_neighbour(rt: HostRuntime) -> Result<(), Fail> {
         "0a000000 00000002 00028001 00140001 fe800000 00000000 00000000 00000001 000a0002 02000000 00010000";
     reads_neighbour(rt.alloc(), little, Order::Little)?;
     reads_neighbour(rt.alloc(), big, Order::Big)
+}
+
+fn reads_rule(alloc: Global, text: &str, order: Order) -> Result<(), Fail> {
+    let (rule, visits) = body_in::<RuleHead>(alloc, text, order)?;
+    let is_so = rule.head.table == 254
+        && rule.head.action == 1
+        && rule.table_id_ordered(order) == 1000
+        && rule.priority_ordered(order) == Some(32_766);
+    ensure(is_so && visits == 16, text)
+}
+
+#[test]
+fn a_rule(rt: HostRuntime) -> Result<(), Fail> {
+    let little = "02000000 fe000001 00000000 08000f00 e8030000 08000600 fe7f0000";
+    let big = "02000000 fe000001 00000000 0008000f 000003e8 00080006 00007ffe";
+    reads_rule(rt.alloc(), little, Order::Little)?;
+    reads_rule(rt.alloc(), big, Order::Big)
 }
 
 fn reads_first_name(alloc: Global, text: &str, order: Order) -> Result<(), Fail> {

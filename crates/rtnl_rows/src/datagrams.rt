@@ -1,12 +1,12 @@
 //! Whole datagrams, in both byte orders.
 
 use crate::vectors::{
-    DONE, DONE_BIG, LOOPBACK, LOOPBACK_BIG, TWO_HOPS_ROUTE, TWO_HOPS_ROUTE_BIG, bytes_of, ensure,
-    header_of, two_hops,
+    DONE, DONE_BIG, LOOPBACK, LOOPBACK_BIG, RULE, RULE_BIG, TABLE_RULE, TABLE_RULE_BIG,
+    TWO_HOPS_ROUTE, TWO_HOPS_ROUTE_BIG, bytes_of, ensure, header_of, leaf, two_hops,
 };
-use nl_attr::{Fault, Order, Reason};
+use nl_attr::{Attr, Fault, Order, Reason};
 use nl_frame::{Body, Limits, Message, ReadError, read_datagram};
-use nl_route::{Link, Route, RouteHead};
+use nl_route::{Link, Route, RouteHead, Rule, RuleHead};
 use std::alloc::Global;
 use std::test::Fail;
 
@@ -208,6 +208,43 @@ fn route_by_two_hops(rt: HostRuntime) -> Result<(), Fail> {
     refuses(alloc, TWO_HOPS_ROUTE_BIG, &shallow, deep, 36)
 }
 
+/// A rule for all packets with these attributes.
+fn rule_message(attrs: Vec<Attr>) -> Message {
+    let head = RuleHead {
+        family: 2,
+        dst_len: 0,
+        src_len: 0,
+        tos: 0,
+        table: 254,
+        action: 1,
+        flags: 0,
+    };
+    answer(32, 2, Body::Rule(Rule { head, attrs }))
+}
+
+/// The rule of table 1,000, whose number stands in these bytes, and priority 32,766, in those.
+fn table_rule(alloc: Global, table: [u8; 4], priority: [u8; 4]) -> Result<Message, Fail> {
+    let mut attrs = Vec::new(alloc);
+    attrs.push(leaf(alloc, 15, &table)?)?;
+    attrs.push(leaf(alloc, 6, &priority)?)?;
+    Ok(rule_message(attrs))
+}
+
+#[test]
+fn rules(rt: HostRuntime) -> Result<(), Fail> {
+    let alloc = rt.alloc();
+    let little = Limits::standard();
+    let big = little.with_order(Order::Big);
+    let bare = rule_message(Vec::new(alloc));
+    reads(alloc, RULE, &little, bare, 0)?;
+    let bare = rule_message(Vec::new(alloc));
+    reads(alloc, RULE_BIG, &big, bare, 0)?;
+    let rule = table_rule(alloc, [0xe8, 3, 0, 0], [0xfe, 0x7f, 0, 0])?;
+    reads(alloc, TABLE_RULE, &little, rule, 16)?;
+    let rule = table_rule(alloc, [0, 0, 3, 0xe8], [0, 0, 0x7f, 0xfe])?;
+    reads(alloc, TABLE_RULE_BIG, &big, rule, 16)
+}
+
 #[test]
 fn nothing_and_too_little(rt: HostRuntime) -> Result<(), Fail> {
     let alloc = rt.alloc();
@@ -278,9 +315,13 @@ fn ends_of_a_dump(rt: HostRuntime) -> Result<(), Fail> {
 #[test]
 fn other_types_keep_their_bytes(rt: HostRuntime) -> Result<(), Fail> {
     let alloc = rt.alloc();
-    let text = "1c000000 2000 0200 01000000 39300000 02000000 fe000001 00000000";
-    let payload = Vec::from_slice(alloc, &[2, 0, 0, 0, 0xfe, 0, 0, 1, 0, 0, 0, 0])?;
-    gives(alloc, text, answer(32, 2, Body::Other(payload)))
+    for (kind, digits) in [(31, "1f00"), (35, "2300"), (36, "2400")] {
+        let rest = "0200 01000000 39300000 02000000 fe000001 00000000";
+        let text = format!(in alloc; "1c000000 {digits} {rest}")?;
+        let payload = Vec::from_slice(alloc, &[2, 0, 0, 0, 0xfe, 0, 0, 1, 0, 0, 0, 0])?;
+        gives(alloc, text.as_str(), answer(kind, 2, Body::Other(payload)))?;
+    }
+    Ok(())
 }
 
 /// A number for each family, one for requests, and one for all else.
@@ -290,8 +331,9 @@ fn group_of(body: &Body) -> u8 {
         Body::Addr(_) => 1,
         Body::Route(_) => 2,
         Body::Neigh(_) => 3,
-        Body::Get { .. } => 4,
-        _ => 5,
+        Body::Rule(_) => 4,
+        Body::Get { .. } => 5,
+        _ => 6,
     }
 }
 
@@ -314,14 +356,18 @@ fn all_choose(alloc: Global, len: &str, kinds: &[&str], rest: &str, group: u8) -
 #[test]
 fn the_type_alone_chooses_the_body(rt: HostRuntime) -> Result<(), Fail> {
     let alloc = rt.alloc();
-    // Heads of 16, 8, 12 and 12 zero bytes, by the types of their families.
+    // Heads of 16, 8, and three times 12 zero bytes, by the types of their families.
     let links = ["1000", "1100", "1300"];
     all_choose(alloc, "20000000", &links, "00000000 00000000", 0)?;
     all_choose(alloc, "18000000", &["1400", "1500"], "", 1)?;
     all_choose(alloc, "1c000000", &["1800", "1900"], "00000000", 2)?;
     all_choose(alloc, "1c000000", &["1c00", "1d00"], "00000000", 3)?;
-    let requests = ["1200", "1600", "1a00", "1e00"];
-    all_choose(alloc, "18000000", &requests, "", 4)
+    all_choose(alloc, "1c000000", &["2000", "2100"], "00000000", 4)?;
+    let requests = ["1200", "1600", "1a00", "1e00", "2200"];
+    all_choose(alloc, "18000000", &requests, "", 5)?;
+    // The types between them, and the one behind.
+    let others = ["1700", "1b00", "1f00", "2300"];
+    all_choose(alloc, "1c000000", &others, "00000000", 6)
 }
 
 #[test]
@@ -334,7 +380,11 @@ fn a_body_shorter_than_its_head(rt: HostRuntime) -> Result<(), Fail> {
         "17000000 1400 0200 01000000 39300000 00000000 000000",
         "1b000000 1800 0200 01000000 39300000 00000000 00000000 000000",
         "1b000000 1c00 0200 01000000 39300000 00000000 00000000 000000",
+        "1b000000 2000 0200 01000000 39300000 02000000 fe000001 000000",
+        "18000000 2000 0200 01000000 39300000 02000000 fe000001",
+        "10000000 2100 0200 01000000 39300000",
         "10000000 1a00 0200 01000000 39300000",
+        "10000000 2200 0103 01000000 00000000",
         "23000000 0200 0000 01000000 39300000 00000000 20000000 1200 0103 01000000 000000",
     ] {
         refuses(alloc, text, &limits, short, 0)?;

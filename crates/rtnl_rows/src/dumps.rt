@@ -3,9 +3,9 @@
 use crate::feeding::{
     LINKS, Told, holds, in_dump, in_state, refuses_text, takes_text, tells, waiting,
 };
-use crate::vectors::{DONE, DONE_BIG, ETHERNET, LOOPBACK, LOOPBACK_BIG, ensure};
+use crate::vectors::{DONE, DONE_BIG, ETHERNET, LOOPBACK, LOOPBACK_BIG, RULE, RULE_BIG, ensure};
 use nl_attr::{Fault, Order, Reason};
-use nl_dump::{End, FeedError, Kind, Session, State};
+use nl_dump::{Dump, End, FeedError, Kind, Session, State};
 use nl_frame::Limits;
 use std::alloc::Global;
 use std::test::Fail;
@@ -289,4 +289,122 @@ fn takes_the_other_order(alloc: Global, session: &mut Session) -> Result<(), Fai
 fn a_dump_in_the_other_order(rt: HostRuntime) -> Result<(), Fail> {
     let limits = Limits::standard().with_order(Order::Big);
     in_dump(rt.alloc(), Kind::Link, limits, takes_the_other_order)
+}
+
+/// The dump of all rules to whose answers the shared ones belong.
+const RULES: Dump = Dump {
+    kind: Kind::Rule,
+    family: 0,
+    seq: 1,
+    port: 12345,
+};
+
+/// What a session tells whose dump of rules was ended by DONE with status 0 and lost nothing.
+fn whole_rules(received: u64, visits: u64, ignored: u64) -> Told {
+    Told {
+        received,
+        visits,
+        ignored,
+        complete: true,
+        ..in_state(State::Ended(RULES, End::Done(0)))
+    }
+}
+
+/// A session holds the rule for all packets alone.
+fn holds_the_rule(session: &Session) -> Result<(), Fail> {
+    let key = [
+        2, 0, 0, 0, 0, 0, 254, 0, 0, 0, 0, 0, 0, 0, 1, 0, 0, 0, 0, 0, 0, 0, 0, 0, 0, 0, 0, 0, 0,
+    ];
+    let rules = session.rules();
+    let is_so = rules.key_at(0) == Some(key.as_slice()) && rules.len() == 1 && rules.missed() == 0;
+    ensure(is_so && session.links().is_empty(), "its rule")
+}
+
+fn takes_the_rule(alloc: Global, session: &mut Session) -> Result<(), Fail> {
+    takes_text(alloc, session, &[RULE, DONE], (1, 0, true), "a rule")?;
+    tells(session, whole_rules(48, 0, 0), "complete")?;
+    holds_the_rule(session)
+}
+
+#[test]
+fn a_dump_of_rules(rt: HostRuntime) -> Result<(), Fail> {
+    in_dump(rt.alloc(), Kind::Rule, Limits::standard(), takes_the_rule)
+}
+
+fn ignores_a_link(alloc: Global, session: &mut Session) -> Result<(), Fail> {
+    let all = [LOOPBACK, RULE, DONE];
+    takes_text(alloc, session, &all, (1, 1, true), "a link and a rule")?;
+    tells(session, whole_rules(96, 16, 1), "complete")?;
+    holds_the_rule(session)
+}
+
+/// The same in three datagrams.
+fn ignores_a_link_alone(alloc: Global, session: &mut Session) -> Result<(), Fail> {
+    takes_text(alloc, session, &[LOOPBACK], (0, 1, false), "a link")?;
+    takes_text(alloc, session, &[RULE], (1, 0, false), "a rule")?;
+    takes_text(alloc, session, &[DONE], (0, 0, true), "the end")?;
+    tells(session, whole_rules(96, 16, 1), "complete")?;
+    holds_the_rule(session)
+}
+
+#[test]
+fn a_link_is_ignored_in_a_dump_of_rules(rt: HostRuntime) -> Result<(), Fail> {
+    let standard = Limits::standard();
+    in_dump(rt.alloc(), Kind::Rule, standard, ignores_a_link)?;
+    in_dump(rt.alloc(), Kind::Rule, standard, ignores_a_link_alone)
+}
+
+/// A rule that is removed, and a request for rules, are no items of a dump of rules.
+fn ignores_other_types_of_rules(alloc: Global, session: &mut Session) -> Result<(), Fail> {
+    let removed = "1c000000 2100 0200 01000000 39300000 02000000 fe000001 00000000";
+    takes_text(alloc, session, &[removed], (0, 1, false), removed)?;
+    let request = "1c000000 2200 0103 01000000 39300000 02000000 00000000 00000000";
+    takes_text(alloc, session, &[request], (0, 1, false), request)?;
+    ensure(session.rules().is_empty(), "no rule")?;
+    takes_text(alloc, session, &[RULE, DONE], (1, 0, true), "a rule")?;
+    tells(session, whole_rules(104, 0, 2), "complete")?;
+    holds_the_rule(session)
+}
+
+/// A rule is none of a dump of links.
+fn ignores_a_rule(alloc: Global, session: &mut Session) -> Result<(), Fail> {
+    takes_text(alloc, session, &[RULE], (0, 1, false), "a rule")?;
+    takes_text(alloc, session, &[LOOPBACK, DONE], (1, 0, true), "a link")?;
+    let told = Told {
+        ignored: 1,
+        ..whole(96, 16)
+    };
+    tells(session, told, "complete")?;
+    ensure(session.rules().is_empty(), "no rule")?;
+    holds(session, &[(1, Some(65_536))], 0, "its link")
+}
+
+#[test]
+fn new_rules_alone_are_items_of_their_dump(rt: HostRuntime) -> Result<(), Fail> {
+    let standard = Limits::standard();
+    in_dump(
+        rt.alloc(),
+        Kind::Rule,
+        standard,
+        ignores_other_types_of_rules,
+    )?;
+    in_dump(rt.alloc(), Kind::Link, standard, ignores_a_rule)
+}
+
+fn takes_the_rule_in_the_other_order(alloc: Global, session: &mut Session) -> Result<(), Fail> {
+    let all = [RULE_BIG, DONE_BIG];
+    takes_text(alloc, session, &all, (1, 0, true), "a rule")?;
+    tells(session, whole_rules(48, 0, 0), "complete")?;
+    holds_the_rule(session)
+}
+
+#[test]
+fn a_dump_of_rules_in_the_other_order(rt: HostRuntime) -> Result<(), Fail> {
+    let limits = Limits::standard().with_order(Order::Big);
+    in_dump(
+        rt.alloc(),
+        Kind::Rule,
+        limits,
+        takes_the_rule_in_the_other_order,
+    )
 }

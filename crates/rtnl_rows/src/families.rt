@@ -4,7 +4,9 @@ use crate::bodies::is_by_cubic;
 use crate::reading::{body_in, body_of};
 use crate::vectors::ensure;
 use nl_attr::{Depth, Fault, Hop, ListError, Order, Reason};
-use nl_route::{Addr, AddrHead, Link, LinkHead, Neigh, NeighHead, Route, RouteHead};
+use nl_route::{
+    Addr, AddrHead, Link, LinkHead, Neigh, NeighHead, Route, RouteHead, Rule, RuleHead,
+};
 use std::alloc::Global;
 use std::test::Fail;
 
@@ -343,6 +345,58 @@ fn views_of_a_neighbour(rt: HostRuntime) -> Result<(), Fail> {
     ensure(is_so && is_of_port(&big), "big")
 }
 
+/// DST and SRC of 192.0.2.0 and .1, IIFNAME `lo`, GOTO 100, PRIORITY 32766, FWMARK 0x0a0b0c0d,
+/// TABLE 1000, FWMASK 255, and OIFNAME `eth0` without a zero byte.
+pub(crate) const RULE: &str = "08000100 c0000200 08000200 c0000201 07000300 6c6f0000 \
+    08000400 64000000 08000600 fe7f0000 08000a00 0d0c0b0a 08000f00 e8030000 08001000 ff000000 \
+    08001100 65746830";
+
+pub(crate) const RULE_BIG: &str = "00080001 c0000200 00080002 c0000201 00070003 6c6f0000 \
+    00080004 00000064 00080006 00007ffe 0008000a 0a0b0c0d 0008000f 000003e8 00080010 000000ff \
+    00080011 65746830";
+
+/// The target of a rule, its priority, its mark and its mask.
+pub(crate) type Numbers = (Option<u32>, Option<u32>, Option<u32>, Option<u32>);
+
+pub(crate) fn numbers(rule: &Rule) -> Numbers {
+    (rule.target(), rule.priority(), rule.fwmark(), rule.fwmask())
+}
+
+/// The same, their bytes in this order.
+pub(crate) fn numbers_ordered(rule: &Rule, order: Order) -> Numbers {
+    (
+        rule.target_ordered(order),
+        rule.priority_ordered(order),
+        rule.fwmark_ordered(order),
+        rule.fwmask_ordered(order),
+    )
+}
+
+/// Its addresses and names are those of the attributes above.
+pub(crate) fn has_its_ends(rule: &Rule) -> bool {
+    rule.dst() == Some([192, 0, 2, 0].as_slice())
+        && rule.src() == Some([192, 0, 2, 1].as_slice())
+        && rule.iifname() == Some(b"lo".as_slice())
+        && rule.oifname() == Some(b"eth0".as_slice())
+}
+
+/// Their numbers.
+pub(crate) const NUMBERS: Numbers = (Some(100), Some(32_766), Some(0x0a0b_0c0d), Some(255));
+
+#[test]
+fn views_of_a_rule(rt: HostRuntime) -> Result<(), Fail> {
+    let alloc = rt.alloc();
+    let head = "02181810 fc000003 00000000";
+    let little = body_of::<RuleHead>(alloc, head, RULE)?;
+    ensure(has_its_ends(&little) && little.table_id() == 1000, RULE)?;
+    ensure(numbers(&little) == NUMBERS, RULE)?;
+    let text = format!(in alloc; "{head} {RULE_BIG}")?;
+    let (big, _) = body_in::<RuleHead>(alloc, text.as_str(), Order::Big)?;
+    let is_so = has_its_ends(&big) && big.table_id_ordered(Order::Big) == 1000;
+    ensure(is_so, RULE_BIG)?;
+    ensure(numbers_ordered(&big, Order::Big) == NUMBERS, RULE_BIG)
+}
+
 fn addr_heads_hold() -> bool {
     let addr = AddrHead::read(&[2, 8, 0x80, 0xfe, 1, 2, 3, 4]);
     let big = addr.write_ordered(Order::Big);
@@ -374,10 +428,29 @@ fn link_heads_hold() -> bool {
     link.hardware == 772 && LinkHead::read_ordered(&big, Order::Big) == link
 }
 
+/// The two bytes that are not kept are read as nothing, and written as zero.
+fn rule_heads_hold() -> bool {
+    let rule = RuleHead {
+        family: 10,
+        dst_len: 64,
+        src_len: 48,
+        tos: 16,
+        table: 252,
+        action: 6,
+        flags: 0x0403_0201,
+    };
+    let big = [10, 64, 48, 16, 252, 0xaa, 0xbb, 6, 4, 3, 2, 1];
+    RuleHead::read(&[10, 64, 48, 16, 252, 0xaa, 0xbb, 6, 1, 2, 3, 4]) == rule
+        && rule.write() == [10, 64, 48, 16, 252, 0, 0, 6, 1, 2, 3, 4]
+        && RuleHead::read_ordered(&big, Order::Big) == rule
+        && rule.write_ordered(Order::Big) == [10, 64, 48, 16, 252, 0, 0, 6, 4, 3, 2, 1]
+}
+
 #[test]
 fn heads_in_both_orders(rt: HostRuntime) {
     assert!(rt; addr_heads_hold());
     assert!(rt; route_heads_hold());
     assert!(rt; neigh_heads_hold());
     assert!(rt; link_heads_hold());
+    assert!(rt; rule_heads_hold());
 }

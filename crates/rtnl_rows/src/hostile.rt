@@ -1,7 +1,9 @@
 //! Truncated datagrams, and datagrams of which one length was changed.
 
 use crate::hostile_dumps::refuse_when_fresh;
-use crate::vectors::{DONE, ETHERNET, LOOPBACK, TWO_HOPS_ROUTE, changed, ensure, joined};
+use crate::vectors::{
+    DONE, ETHERNET, LOOPBACK, TABLE_RULE, TWO_HOPS_ROUTE, changed, ensure, joined,
+};
 use nl_attr::{Fault, Reason};
 use nl_frame::{Body, Limits, Message, ReadError, read_datagram};
 use std::alloc::Global;
@@ -114,6 +116,18 @@ fn each_length_of_a_link(rt: HostRuntime) -> Result<(), Fail> {
         check_field(rt.alloc(), LOOPBACK, field)?;
     }
     Ok(())
+}
+
+/// The length of its first attribute may reach over the one behind it.
+#[test]
+fn each_length_of_a_rule(rt: HostRuntime) -> Result<(), Fail> {
+    let alloc = rt.alloc();
+    for field in &[at(0, 4, (0, 0)), at(36, 2, (36, 8))] {
+        check_field(alloc, TABLE_RULE, field)?;
+    }
+    is_refused(alloc, TABLE_RULE, 28, &[0, 0], (28, 0))?;
+    is_refused(alloc, TABLE_RULE, 28, &[3, 0], (28, 0))?;
+    is_refused(alloc, TABLE_RULE, 28, &[17, 0], (28, 0))
 }
 
 fn has_a_long_name(message: &Message) -> bool {

@@ -121,11 +121,12 @@ fn refuses_when_fresh(
             && session.visits() == visits
             && session.damaged()
             && session.links().is_empty()
-            && session.routes().is_empty(),
+            && session.routes().is_empty()
+            && session.rules().is_empty(),
     )
 }
 
-/// Fresh dumps of links and of routes refuse a datagram so.
+/// Fresh dumps of links, of routes and of rules refuse a datagram so.
 pub(crate) fn refuse_when_fresh(
     alloc: Global,
     bytes: &[u8],
@@ -134,7 +135,8 @@ pub(crate) fn refuse_when_fresh(
 ) -> Result<bool, Fail> {
     let links = refuses_when_fresh(alloc, Kind::Link, bytes, fault, visits)?;
     let routes = refuses_when_fresh(alloc, Kind::Route, bytes, fault, visits)?;
-    Ok(links && routes)
+    let rules = refuses_when_fresh(alloc, Kind::Rule, bytes, fault, visits)?;
+    Ok(links && routes && rules)
 }
 
 /// A link whose name reaches over the attribute behind it is taken.

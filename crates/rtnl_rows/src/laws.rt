@@ -3,7 +3,7 @@
 use nl_attr::{Fault, Reason};
 use nl_dump::{BeginError, FeedError, NotWaiting};
 use nl_frame::ReadError;
-use nl_route::{Addr, Link, Neigh, Route};
+use nl_route::{Addr, Link, Neigh, Route, Rule};
 use std::alloc::AllocError;
 
 #[test]
@@ -12,6 +12,7 @@ fn laws_of_tables_and_sessions(_rt: HostRuntime) {
     nl_table::laws::runs_end_in_table::<Addr>();
     nl_table::laws::runs_end_in_table::<Route>();
     nl_table::laws::runs_end_in_table::<Neigh>();
+    nl_table::laws::runs_end_in_table::<Rule>();
     nl_table::laws::keys_tell_apart();
     nl_dump::laws::calls_end_in_session();
     nl_dump::laws::headline_of_calls();

@@ -130,6 +130,29 @@ message 29 delneigh flags 0x0002 MULTI seq 1 port 12345
     is_shown(rt.alloc(), input, text)
 }
 
+/// A message with each named attribute of rules once.
+#[test]
+fn names_of_rules(rt: HostRuntime) -> Result<(), Fail> {
+    let input = "64000000 2100 0200 01000000 39300000 00000000 00000000 00000000 \
+        08000100 c0000201 08000200 c0000202 07000300 6e330000 08000400 04000100 \
+        08000600 06000100 08000a00 0a000100 08000f00 0f000100 08001000 10000100 \
+        08001100 6e313700";
+    let text = "datagram 1 bytes 100
+message 33 delrule flags 0x0002 MULTI seq 1 port 12345
+  rule family 0 dst_len 0 src_len 0 tos 0 table 0 action 0 flags 0x00000000
+    attr 1 DST - ipv4 192.0.2.1
+    attr 2 SRC - ipv4 192.0.2.2
+    attr 3 IIFNAME - text n3
+    attr 4 GOTO - u32 65540
+    attr 6 PRIORITY - u32 65542
+    attr 10 FWMARK - u32 65546
+    attr 15 TABLE - u32 65551
+    attr 16 FWMASK - u32 65552
+    attr 17 OIFNAME - text n17
+";
+    is_shown(rt.alloc(), input, text)
+}
+
 /// A message of each named type, with every bit of its flags and its head set.
 #[test]
 fn every_named_bit(rt: HostRuntime) -> Result<(), Fail> {
@@ -212,6 +235,64 @@ message 2 error flags 0xffff REQUEST,MULTI,ACK,ECHO,DUMP_INTR,DUMP_FILTERED,CAPP
 datagram 17 bytes 16
 message 3 done flags 0xffff REQUEST,MULTI,ACK,ECHO,DUMP_INTR,DUMP_FILTERED seq 1 port 12345
   done status 0 tail -
+";
+    is_shown(rt.alloc(), input, text)
+}
+
+/// A message of each type of rules, and of the types before and behind them, with every bit of its
+/// flags set, and another value in each field of its head.
+#[test]
+fn every_named_bit_of_rules(rt: HostRuntime) -> Result<(), Fail> {
+    let input = "1c000000 2000 ffff 01000000 39300000 0a010203 04000007 05ab0000
+1c000000 2100 ffff 01000000 39300000 0a010203 04000007 05ab0000
+11000000 2200 ffff 01000000 39300000 02000000
+10000000 1f00 ffff 01000000 39300000
+10000000 2300 ffff 01000000 39300000
+";
+    let text = "datagram 1 bytes 28
+message 32 newrule flags 0xffff REQUEST,MULTI,ACK,ECHO,DUMP_INTR,DUMP_FILTERED,\
+REPLACE,EXCL,CREATE,APPEND seq 1 port 12345
+  rule family 10 dst_len 1 src_len 2 tos 3 table 4 action 7 flags 0x0000ab05
+datagram 2 bytes 28
+message 33 delrule flags 0xffff REQUEST,MULTI,ACK,ECHO,DUMP_INTR,DUMP_FILTERED seq 1 port 12345
+  rule family 10 dst_len 1 src_len 2 tos 3 table 4 action 7 flags 0x0000ab05
+datagram 3 bytes 20
+message 34 getrule flags 0xffff REQUEST,MULTI,ACK,ECHO,DUMP_INTR,DUMP_FILTERED,\
+ROOT,MATCH,ATOMIC seq 1 port 12345
+  get family 2 tail -
+datagram 4 bytes 16
+message 31 other flags 0xffff REQUEST,MULTI,ACK,ECHO,DUMP_INTR,DUMP_FILTERED seq 1 port 12345
+  bytes -
+datagram 5 bytes 16
+message 35 other flags 0xffff REQUEST,MULTI,ACK,ECHO,DUMP_INTR,DUMP_FILTERED seq 1 port 12345
+  bytes -
+";
+    is_shown(rt.alloc(), input, text)
+}
+
+/// Attributes of rules in other forms than theirs, ones without a name, and ones that are no bytes
+/// where they stand in a route or a link.
+#[test]
+fn forms_of_rules(rt: HostRuntime) -> Result<(), Fail> {
+    let input = "84000000 2000 0200 01000000 39300000 0a000000 00000001 00000000 \
+        14000100 00010203 04050607 08090a0b 0c0d0e0f 07000200 01020300 04000380 05000300 00000000 \
+        06000f00 e8030000 08000f40 e8030000 08000600 ffffffff 06000500 05ab0000 \
+        08000e00 10000000 05000800 01000000 05000900 01000000 05001200 01000000";
+    let text = "datagram 1 bytes 132
+message 32 newrule flags 0x0002 MULTI seq 1 port 12345
+  rule family 10 dst_len 0 src_len 0 tos 0 table 0 action 1 flags 0x00000000
+    attr 1 DST - ipv6 0001:0203:0405:0607:0809:0a0b:0c0d:0e0f
+    attr 2 SRC - hex 010203
+    attr 3 IIFNAME nested list 0
+    attr 3 IIFNAME - hex 00
+    attr 15 TABLE - hex e803
+    attr 15 TABLE net hex e8030000
+    attr 6 PRIORITY - u32 4294967295
+    attr 5 - - hex 05ab
+    attr 14 - - hex 10000000
+    attr 8 - - hex 01
+    attr 9 - - hex 01
+    attr 18 - - hex 01
 ";
     is_shown(rt.alloc(), input, text)
 }

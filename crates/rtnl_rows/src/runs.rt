@@ -1,9 +1,9 @@
 //! Whole runs of a table and of a request, over memory.
 
 use crate::feeding::LINKS;
-use crate::vectors::ensure;
+use crate::vectors::{DONE, LOOPBACK, RULE, ensure};
 use nl_attr::Order;
-use rtnl::dump::Kind;
+use rtnl::dump::{Dump, Kind};
 use rtnl::frame::Limits;
 use rtnl::{SliceSource, VecSink, Verdict, run_request, run_request_ordered, run_table};
 use std::alloc::Global;
@@ -29,18 +29,45 @@ received 112 visits 28
 complete yes
 ";
 
-/// The table of the links of a recording is printed so.
-fn tables(alloc: Global, recording: &str, text: &str, verdict: Verdict) -> Result<(), Fail> {
+/// The table of a dump in a recording is printed so.
+fn tables(
+    alloc: Global,
+    dump: Dump,
+    recording: &str,
+    text: &str,
+    verdict: Verdict,
+) -> Result<(), Fail> {
     let mut source = SliceSource::new(recording.as_bytes());
     let mut sink = VecSink::new(alloc);
-    let answer = run_table(alloc, &mut source, &mut sink, LINKS, &Limits::standard())?;
+    let answer = run_table(alloc, &mut source, &mut sink, dump, &Limits::standard())?;
     let is_so = answer == verdict && sink.bytes.as_slice() == text.as_bytes();
     ensure(is_so, "the text of a table")
 }
 
 #[test]
 fn a_table_of_two_links(rt: HostRuntime) -> Result<(), Fail> {
-    tables(rt.alloc(), TWO_LINKS, TWO_LINKS_TEXT, Verdict::Clean)
+    let clean = Verdict::Clean;
+    tables(rt.alloc(), LINKS, TWO_LINKS, TWO_LINKS_TEXT, clean)
+}
+
+/// A link comes before the rule for all packets.
+#[test]
+fn a_table_of_one_rule(rt: HostRuntime) -> Result<(), Fail> {
+    let alloc = rt.alloc();
+    let text = "dump rule seq 1 port 12345
+entry 1
+  rule family 2 dst_len 0 src_len 0 tos 0 table 254 action 1 flags 0x00000000
+end done 0
+entries 1 missed 0 ignored 1 unfed 0 damaged no interrupted no
+received 96 visits 16
+complete yes
+";
+    let dump = Dump {
+        kind: Kind::Rule,
+        ..LINKS
+    };
+    let recording = format!(in alloc; "{LOOPBACK}\n{RULE}\n{DONE}\n")?;
+    tables(alloc, dump, recording.as_str(), text, Verdict::Clean)
 }
 
 #[test]
@@ -51,20 +78,27 @@ entries 0 missed 0 ignored 0 unfed 0 damaged no interrupted no
 received 0 visits 0
 complete no
 ";
-    tables(rt.alloc(), "", text, Verdict::Blemished)
+    tables(rt.alloc(), LINKS, "", text, Verdict::Blemished)
 }
 
-/// The request for routes to IPv4 addresses under the sequence number 7.
+/// The request for a family's entries of IPv4 under the sequence number 7, in each order.
+fn requests(alloc: Global, kind: Kind, little: &str, big: &str) -> Result<(), Fail> {
+    let mut sink = VecSink::new(alloc);
+    let verdict = run_request(alloc, &mut sink, kind, 2, 7)?;
+    ensure(verdict == Verdict::Clean, "clean")?;
+    ensure(sink.bytes.as_slice() == little.as_bytes(), little)?;
+    let mut sink = VecSink::new(alloc);
+    run_request_ordered(alloc, &mut sink, kind, 2, 7, Order::Big)?;
+    ensure(sink.bytes.as_slice() == big.as_bytes(), big)
+}
+
 #[test]
 fn a_request_in_each_order(rt: HostRuntime) -> Result<(), Fail> {
     let alloc = rt.alloc();
-    let mut little = VecSink::new(alloc);
-    let verdict = run_request(alloc, &mut little, Kind::Route, 2, 7)?;
-    ensure(verdict == Verdict::Clean, "clean")?;
-    let text = "1c0000001a0001030700000000000000020000000000000000000000\n";
-    ensure(little.bytes.as_slice() == text.as_bytes(), "little")?;
-    let mut big = VecSink::new(alloc);
-    run_request_ordered(alloc, &mut big, Kind::Route, 2, 7, Order::Big)?;
-    let text = "0000001c001a03010000000700000000020000000000000000000000\n";
-    ensure(big.bytes.as_slice() == text.as_bytes(), "big")
+    let little = "1c0000001a0001030700000000000000020000000000000000000000\n";
+    let big = "0000001c001a03010000000700000000020000000000000000000000\n";
+    requests(alloc, Kind::Route, little, big)?;
+    let little = "1c000000220001030700000000000000020000000000000000000000\n";
+    let big = "0000001c002203010000000700000000020000000000000000000000\n";
+    requests(alloc, Kind::Rule, little, big)
 }

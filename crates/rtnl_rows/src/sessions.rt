@@ -4,12 +4,13 @@ use crate::feeding::{
     LINKS, Told, holds, in_dump, in_state, refuses_text, takes, takes_text, tells,
 };
 use crate::vectors::{
-    DONE, ETHERNET, LOOPBACK, LOOPBACK_ADDRESS, NEIGHBOUR, TWO_HOPS_ROUTE, bytes_of, changed,
-    ensure,
+    DONE, ETHERNET, LOOPBACK, LOOPBACK_ADDRESS, NEIGHBOUR, RULE, TABLE_RULE, TWO_HOPS_ROUTE,
+    bytes_of, changed, ensure,
 };
 use nl_attr::Order;
 use nl_dump::{BeginError, Dump, End, FeedError, Kind, NotWaiting, Session, State};
 use nl_frame::Limits;
+use nl_route::Rule;
 use std::alloc::Global;
 use std::test::Fail;
 
@@ -32,7 +33,7 @@ fn asks(alloc: Global, session: &mut Session, dump: Dump, request: &str) -> Resu
 fn asks_first(
     alloc: Global,
     kind: Kind,
-    (family, seq): (u8, u32),
+    (family, seq, port): (u8, u32, u32),
     order: Order,
     request: &str,
 ) -> Result<(), Fail> {
@@ -41,7 +42,7 @@ fn asks_first(
         kind,
         family,
         seq,
-        port: 12345,
+        port,
     };
     asks(alloc, &mut session, dump, request)
 }
@@ -51,18 +52,22 @@ fn requests_of_each_family(rt: HostRuntime) -> Result<(), Fail> {
     let alloc = rt.alloc();
     let little = Order::Little;
     let links = "20000000 1200 0103 01000000 00000000 00000000 00000000 00000000 00000000";
-    asks_first(alloc, Kind::Link, (0, 1), little, links)?;
+    asks_first(alloc, Kind::Link, (0, 1, 12345), little, links)?;
     let addrs = "18000000 1600 0103 05000000 00000000 0a000000 00000000";
-    asks_first(alloc, Kind::Addr, (10, 5), little, addrs)?;
-    asks_first(alloc, Kind::Route, (2, 7), little, ROUTES)?;
+    asks_first(alloc, Kind::Addr, (10, 5, 12345), little, addrs)?;
+    asks_first(alloc, Kind::Route, (2, 7, 12345), little, ROUTES)?;
     let neighs = "1c000000 1e00 0103 00000001 00000000 07000000 00000000 00000000";
-    asks_first(alloc, Kind::Neigh, (7, 0x0100_0000), little, neighs)
+    asks_first(alloc, Kind::Neigh, (7, 0x0100_0000, 12345), little, neighs)?;
+    let rules = "1c000000 2200 0103 07000000 00000000 02000000 00000000 00000000";
+    asks_first(alloc, Kind::Rule, (2, 7, 0), little, rules)
 }
 
 #[test]
 fn a_request_in_the_other_order(rt: HostRuntime) -> Result<(), Fail> {
     let routes = "0000001c 001a 0301 00000007 00000000 02000000 00000000 00000000";
-    asks_first(rt.alloc(), Kind::Route, (2, 7), Order::Big, routes)
+    asks_first(rt.alloc(), Kind::Route, (2, 7, 12345), Order::Big, routes)?;
+    let rules = "0000001c 0022 0301 00000007 00000000 02000000 00000000 00000000";
+    asks_first(rt.alloc(), Kind::Rule, (2, 7, 0), Order::Big, rules)
 }
 
 fn stays_idle(alloc: Global, session: &mut Session) -> Result<(), Fail> {
@@ -70,7 +75,7 @@ fn stays_idle(alloc: Global, session: &mut Session) -> Result<(), Fail> {
     refuses_text(alloc, session, &[LOOPBACK], FeedError::NotWaiting)?;
     ensure(session.abandon() == Err(NotWaiting), "nothing to abandon")?;
     tells(session, in_state(State::Idle), "idle still")?;
-    ensure(lens(session) == (0, 0, 0, 0), "no entries")
+    ensure(lens(session) == (0, 0, 0, 0, 0), "no entries")
 }
 
 #[test]
@@ -245,12 +250,15 @@ fn the_next_dump_starts_clean(rt: HostRuntime) -> Result<(), Fail> {
 }
 
 /// How many entries the tables have.
-fn lens(session: &Session) -> (u32, u32, u32, u32) {
+type Lens = (u32, u32, u32, u32, u32);
+
+fn lens(session: &Session) -> Lens {
     (
         session.links().len(),
         session.addrs().len(),
         session.routes().len(),
         session.neighs().len(),
+        session.rules().len(),
     )
 }
 
@@ -269,12 +277,7 @@ fn dumps(
 }
 
 /// The next dump of this kind begins, is abandoned, and leaves so many entries.
-fn empties(
-    session: &mut Session,
-    kind: Kind,
-    seq: u32,
-    left: (u32, u32, u32, u32),
-) -> Result<(), Fail> {
+fn empties(session: &mut Session, kind: Kind, seq: u32, left: Lens) -> Result<(), Fail> {
     let _request = session.begin(kind, 0, seq, 12345)?;
     ensure(lens(session) == left, "one table is empty")?;
     ensure(session.abandon() == Ok(()), "abandoned")
@@ -286,11 +289,13 @@ fn empties_one_by_one(alloc: Global, session: &mut Session) -> Result<(), Fail> 
     dumps(alloc, session, Kind::Addr, 2, LOOPBACK_ADDRESS)?;
     dumps(alloc, session, Kind::Route, 3, TWO_HOPS_ROUTE)?;
     dumps(alloc, session, Kind::Neigh, 4, NEIGHBOUR)?;
-    ensure(lens(session) == (1, 1, 1, 1), "one entry each")?;
-    empties(session, Kind::Route, 5, (1, 1, 0, 1))?;
-    empties(session, Kind::Link, 6, (0, 1, 0, 1))?;
-    empties(session, Kind::Neigh, 7, (0, 1, 0, 0))?;
-    empties(session, Kind::Addr, 8, (0, 0, 0, 0))
+    dumps(alloc, session, Kind::Rule, 5, RULE)?;
+    ensure(lens(session) == (1, 1, 1, 1, 1), "one entry each")?;
+    empties(session, Kind::Route, 6, (1, 1, 0, 1, 1))?;
+    empties(session, Kind::Link, 7, (0, 1, 0, 1, 1))?;
+    empties(session, Kind::Rule, 8, (0, 1, 0, 1, 0))?;
+    empties(session, Kind::Neigh, 9, (0, 1, 0, 0, 0))?;
+    empties(session, Kind::Addr, 10, (0, 0, 0, 0, 0))
 }
 
 #[test]
@@ -314,5 +319,42 @@ fn a_second_dump_of_links_has_its_own_links(rt: HostRuntime) -> Result<(), Fail>
         Kind::Link,
         Limits::standard(),
         takes_two_then_one,
+    )
+}
+
+/// A dump under the sequence number 2 takes the rule of table 1,000, and ends.
+fn takes_a_rule(alloc: Global, session: &mut Session) -> Result<(), Fail> {
+    let _request = session.begin(Kind::Rule, 0, 2, 12345)?;
+    let rule = changed(alloc, TABLE_RULE, 8, &[2, 0, 0, 0])?;
+    takes(session, rule.as_slice(), (1, 0, false), "a rule")?;
+    let end = changed(alloc, DONE, 8, &[2, 0, 0, 0])?;
+    takes(session, end.as_slice(), (0, 0, true), "its end")?;
+    ensure(session.complete(), "complete")
+}
+
+fn is_of_table_1000(rule: &Rule) -> bool {
+    rule.head.action == 1 && rule.table_id() == 1000 && rule.priority() == Some(32_766)
+}
+
+/// A link is kept behind a dump of links and one of rules, and a rule too.
+fn keeps_a_link_and_a_rule(alloc: Global, session: &mut Session) -> Result<(), Fail> {
+    takes_text(alloc, session, &[LOOPBACK, DONE], (1, 0, true), "a link")?;
+    takes_a_rule(alloc, session)?;
+    holds(session, &[(1, Some(65_536))], 0, "its link still")?;
+    ensure(lens(session) == (1, 0, 0, 0, 1), "one entry each")?;
+    let is_so = match session.rules().get(0) {
+        Some(rule) => is_of_table_1000(rule),
+        None => false,
+    };
+    ensure(is_so && session.rules().missed() == 0, "its rule")
+}
+
+#[test]
+fn a_dump_of_rules_keeps_the_links(rt: HostRuntime) -> Result<(), Fail> {
+    in_dump(
+        rt.alloc(),
+        Kind::Link,
+        Limits::standard(),
+        keeps_a_link_and_a_rule,
     )
 }

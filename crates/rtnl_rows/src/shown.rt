@@ -1,6 +1,8 @@
 //! What `run_show` prints of whole inputs.
 
-use crate::vectors::{DONE, DONE_BIG, LOOPBACK, LOOPBACK_BIG, TWO_HOPS_ROUTE, ensure};
+use crate::vectors::{
+    DONE, DONE_BIG, LOOPBACK, LOOPBACK_BIG, RULE, RULE_BIG, TWO_HOPS_ROUTE, ensure,
+};
 use nl_attr::Order;
 use rtnl::frame::Limits;
 use rtnl::{RunError, SliceSource, VecSink, Verdict, run_show};
@@ -47,6 +49,11 @@ message 24 newroute flags 0x0002 MULTI seq 1 port 12345
         attr 5 GATEWAY - ipv4 192.0.2.1
       hop flags 0x00 - hops 1 index 3
         attr 5 GATEWAY - ipv4 192.0.2.2
+";
+
+const RULE_TEXT: &str = "datagram 1 bytes 28
+message 32 newrule flags 0x0002 MULTI seq 1 port 12345
+  rule family 2 dst_len 0 src_len 0 tos 0 table 254 action 1 flags 0x00000000
 ";
 
 #[test]
@@ -96,10 +103,23 @@ message 24 newroute flags 0x0002 MULTI seq 1 port 12345
 }
 
 #[test]
+fn a_rule(rt: HostRuntime) -> Result<(), Fail> {
+    let input =
+        "2c000000 2000 0200 01000000 39300000 02000000 fe000001 00000000 08000f00 e8030000 08000600 fe7f0000";
+    let text = "datagram 1 bytes 44
+message 32 newrule flags 0x0002 MULTI seq 1 port 12345
+  rule family 2 dst_len 0 src_len 0 tos 0 table 254 action 1 flags 0x00000000
+    attr 15 TABLE - u32 1000
+    attr 6 PRIORITY - u32 32766
+";
+    is_shown(rt.alloc(), input, text)
+}
+
+#[test]
 fn another_type(rt: HostRuntime) -> Result<(), Fail> {
-    let input = "1c000000 2000 0200 01000000 39300000 02000000 fe000001 00000000";
+    let input = "1c000000 2400 0200 01000000 39300000 02000000 fe000001 00000000";
     let text = "datagram 1 bytes 28
-message 32 other flags 0x0002 MULTI seq 1 port 12345
+message 36 other flags 0x0002 MULTI seq 1 port 12345
   bytes 02000000fe00000100000000
 ";
     is_shown(rt.alloc(), input, text)
@@ -164,6 +184,9 @@ fn each_refusal_by_name(rt: HostRuntime) -> Result<(), Fail> {
     shows(alloc, Order::Little, input, text, Verdict::Blemished)?;
     let input = "10000000 1000 0200 01000000 39300000";
     let text = "datagram 1 bytes 16\nrefused short body at 0\n";
+    shows(alloc, Order::Little, input, text, Verdict::Blemished)?;
+    let input = "18000000 2000 0200 01000000 39300000 02000000 fe000001";
+    let text = "datagram 1 bytes 24\nrefused short body at 0\n";
     shows(alloc, Order::Little, input, text, Verdict::Blemished)
 }
 
@@ -189,12 +212,13 @@ refused bad length at 28
 fn both_orders(rt: HostRuntime) -> Result<(), Fail> {
     let alloc = rt.alloc();
     let refused = "datagram 1 bytes 20\nrefused bad length at 0\n";
-    for (order, mine, link, other) in [
-        (Order::Little, DONE, LOOPBACK, DONE_BIG),
-        (Order::Big, DONE_BIG, LOOPBACK_BIG, DONE),
+    for (order, mine, link, rule, other) in [
+        (Order::Little, DONE, LOOPBACK, RULE, DONE_BIG),
+        (Order::Big, DONE_BIG, LOOPBACK_BIG, RULE_BIG, DONE),
     ] {
         shows(alloc, order, mine, DONE_TEXT, Verdict::Clean)?;
         shows(alloc, order, link, LOOPBACK_TEXT, Verdict::Clean)?;
+        shows(alloc, order, rule, RULE_TEXT, Verdict::Clean)?;
         shows(alloc, order, other, refused, Verdict::Blemished)?;
     }
     Ok(())

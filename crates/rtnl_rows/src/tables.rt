@@ -2,10 +2,10 @@
 
 use crate::reading::body_in_datagram;
 use crate::vectors::{
-    ETHERNET, LOOPBACK, LOOPBACK_ADDRESS, LOOPBACK_BIG, NEIGHBOUR, TWO_HOPS_ROUTE, ensure,
+    ETHERNET, LOOPBACK, LOOPBACK_ADDRESS, LOOPBACK_BIG, NEIGHBOUR, RULE, TWO_HOPS_ROUTE, ensure,
 };
 use nl_frame::Body;
-use nl_route::{Addr, Link, LinkHead, Neigh, Route};
+use nl_route::{Addr, Link, LinkHead, Neigh, Route, Rule};
 use nl_table::{Entry, Order, Put, Table};
 use std::alloc::Global;
 use std::test::Fail;
@@ -187,6 +187,7 @@ fn keeps(alloc: Global, text: &str) -> Result<(), Fail> {
         Body::Addr(addr) => is_kept::<Addr>(alloc, addr, text),
         Body::Route(route) => is_kept::<Route>(alloc, route, text),
         Body::Neigh(neigh) => is_kept::<Neigh>(alloc, neigh, text),
+        Body::Rule(rule) => is_kept::<Rule>(alloc, rule, text),
         _ => Err(Fail::new(text)),
     }
 }
@@ -194,7 +195,7 @@ fn keeps(alloc: Global, text: &str) -> Result<(), Fail> {
 #[test]
 fn tables_of_each_family(rt: HostRuntime) -> Result<(), Fail> {
     let alloc = rt.alloc();
-    for text in [LOOPBACK, LOOPBACK_ADDRESS, TWO_HOPS_ROUTE, NEIGHBOUR] {
+    for text in [LOOPBACK, LOOPBACK_ADDRESS, TWO_HOPS_ROUTE, NEIGHBOUR, RULE] {
         keeps(alloc, text)?;
     }
     Ok(())

@@ -200,6 +200,10 @@ fn place_and_flags_say_what_an_attribute_holds(rt: HostRuntime) {
         (Ctx::Metrics, 9, PLAIN, Content::Bytes),
         (Ctx::Addr, 18, net, Content::Bytes),
         (Ctx::Neigh, 8, NESTED, Content::List(Ctx::Plain)),
+        (Ctx::Rule, 8, PLAIN, Content::Bytes),
+        (Ctx::Rule, 9, PLAIN, Content::Bytes),
+        (Ctx::Rule, 18, PLAIN, Content::Bytes),
+        (Ctx::Rule, 15, NESTED, Content::List(Ctx::Plain)),
         (Ctx::Plain, 0, PLAIN, Content::Bytes),
     ];
     for (ctx, number, flags, content) in cases {

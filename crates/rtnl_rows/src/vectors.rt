@@ -186,6 +186,18 @@ pub const LOOPBACK_ADDRESS: &str =
 pub const NEIGHBOUR: &str =
     "3c000000 1c00 0200 01000000 39300000 0a000000 02000000 02008001 14000100 fe800000 00000000 00000000 00000001 0a000200 02000000 00010000";
 
+/// The rule that sends all packets to the main table.
+pub const RULE: &str = "1c000000 2000 0200 01000000 39300000 02000000 fe000001 00000000";
+
+pub const RULE_BIG: &str = "0000001c 0020 0002 00000001 00003039 02000000 fe000001 00000000";
+
+/// The rule of priority 32,766 that sends all packets to table 1,000.
+pub const TABLE_RULE: &str = "2c000000 2000 0200 01000000 39300000 02000000 fe000001 00000000 \
+    08000f00 e8030000 08000600 fe7f0000";
+
+pub const TABLE_RULE_BIG: &str = "0000002c 0020 0002 00000001 00003039 02000000 fe000001 00000000 \
+    0008000f 000003e8 00080006 00007ffe";
+
 /// A header of these fields.
 pub(crate) fn header_of(len: u32, kind: u16, flags: u16, seq: u32, port: u32) -> Header {
     Header {

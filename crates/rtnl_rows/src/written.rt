@@ -1,14 +1,14 @@
 //! Bodies and datagrams written, canonical datagrams, and what a check says.
 
 use crate::vectors::{
-    DONE, DONE_BIG, LOOPBACK, LOOPBACK_BIG, NESTED, PLAIN, TWO_HOPS_ROUTE, TWO_HOPS_ROUTE_BIG,
-    bytes_of, ensure, leaf, list_of,
+    DONE, DONE_BIG, LOOPBACK, LOOPBACK_BIG, NESTED, PLAIN, RULE, RULE_BIG, TABLE_RULE,
+    TABLE_RULE_BIG, TWO_HOPS_ROUTE, TWO_HOPS_ROUTE_BIG, bytes_of, ensure, header_of, leaf, list_of,
 };
 use nl_attr::{Attr, Depth, Order, Payload, Value};
 use nl_frame::{
     Body, Limits, Message, ReadError, WriteError, is_canonical, read_datagram, write_datagram,
 };
-use nl_route::{Link, LinkHead, Route};
+use nl_route::{Link, LinkHead, Route, Rule, RuleHead};
 use rtnl::{SliceSource, VecSink, Verdict, run_check};
 use std::alloc::Global;
 use std::test::Fail;
@@ -39,10 +39,18 @@ fn datagrams_in_both_orders(rt: HostRuntime) -> Result<(), Fail> {
     let alloc = rt.alloc();
     let little = Limits::standard();
     let big = little.with_order(Order::Big);
-    for text in ["", DONE, LOOPBACK, TWO_HOPS_ROUTE] {
+    for text in ["", DONE, LOOPBACK, TWO_HOPS_ROUTE, RULE, TABLE_RULE] {
         writes(alloc, &little, text, text)?;
     }
-    for text in ["", DONE_BIG, LOOPBACK_BIG, TWO_HOPS_ROUTE_BIG] {
+    let bigs = [
+        "",
+        DONE_BIG,
+        LOOPBACK_BIG,
+        TWO_HOPS_ROUTE_BIG,
+        RULE_BIG,
+        TABLE_RULE_BIG,
+    ];
+    for text in bigs {
         writes(alloc, &big, text, text)?;
     }
     Ok(())
@@ -68,6 +76,30 @@ fn padding_is_whole_and_zero(rt: HostRuntime) -> Result<(), Fail> {
     let kept = "20000000 1000 0200 01000000 39300000 00000403 01000000 49000100 00000000";
     let pad = "20000000 1000 0200 01000000 39300000 00ff0403 01000000 49000100 00000000";
     writes(alloc, &limits, pad, kept)
+}
+
+/// Of a rule's head, the sixth byte and the seventh.
+#[test]
+fn two_bytes_of_a_rule_are_written_as_zero(rt: HostRuntime) -> Result<(), Fail> {
+    let alloc = rt.alloc();
+    let little = Limits::standard();
+    for text in [
+        "1c000000 2000 0200 01000000 39300000 02000000 fe010001 00000000",
+        "1c000000 2000 0200 01000000 39300000 02000000 fe000101 00000000",
+        "1c000000 2000 0200 01000000 39300000 02000000 feffff01 00000000",
+    ] {
+        writes(alloc, &little, text, RULE)?;
+    }
+    // Each other field has a value of its own.
+    let kept = "1c000000 2100 0200 01000000 39300000 0a403010 fc000006 01020304";
+    let read = "1c000000 2100 0200 01000000 39300000 0a403010 fcaabb06 01020304";
+    writes(alloc, &little, read, kept)?;
+    writes(alloc, &little, kept, kept)?;
+    let big = little.with_order(Order::Big);
+    let kept = "0000001c 0021 0002 00000001 00003039 0a403010 fc000006 01020304";
+    let read = "0000001c 0021 0002 00000001 00003039 0a403010 fcaabb06 01020304";
+    writes(alloc, &big, read, kept)?;
+    writes(alloc, &big, kept, kept)
 }
 
 #[test]
@@ -119,6 +151,65 @@ fn bodies_come_back_the_same(rt: HostRuntime) -> Result<(), Fail> {
     link_comes_back(alloc, bytes.as_slice())?;
     let datagram = bytes_of(alloc, TWO_HOPS_ROUTE)?;
     route_comes_back(alloc, datagram.as_slice().get(16..).ok_or("a body")?)
+}
+
+/// A rule in 88 bytes.
+fn rule_in(alloc: Global, bytes: &[u8]) -> Result<Rule, Fail> {
+    if bytes.len() != 88 {
+        return Err(Fail::new("not 88 bytes"));
+    }
+    Ok(Rule::read_body(alloc, bytes, 16, Depth::standard()).result?)
+}
+
+fn big_rule_in(alloc: Global, bytes: &[u8]) -> Result<Rule, Fail> {
+    if bytes.len() != 88 {
+        return Err(Fail::new("not 88 bytes"));
+    }
+    let depth = Depth::standard();
+    Ok(Rule::read_body_ordered(alloc, bytes, 16, depth, Order::Big).result?)
+}
+
+/// A rule is written in one order, and read in it as itself.
+fn rule_comes_back(alloc: Global, text: &str, written: &str) -> Result<(), Fail> {
+    let bytes = bytes_of(alloc, text)?;
+    let expected = bytes_of(alloc, written)?;
+    let rule = rule_in(alloc, bytes.as_slice())?;
+    let mut out = Vec::new(alloc);
+    rule.write_body(Depth::standard(), &mut out)?;
+    ensure(out == expected && rule.body_len() == Some(88), text)?;
+    let again = rule_in(alloc, out.as_slice())?;
+    ensure(again == rule, written)
+}
+
+fn big_rule_comes_back(alloc: Global, text: &str, written: &str) -> Result<(), Fail> {
+    let bytes = bytes_of(alloc, text)?;
+    let expected = bytes_of(alloc, written)?;
+    let rule = big_rule_in(alloc, bytes.as_slice())?;
+    let mut out = Vec::new(alloc);
+    rule.write_body_ordered(Depth::standard(), &mut out, Order::Big)?;
+    ensure(out == expected && rule.body_len() == Some(88), text)?;
+    let again = big_rule_in(alloc, out.as_slice())?;
+    ensure(again == rule, written)
+}
+
+/// A rule with every attribute, whose head has bytes that are not kept, and padding of ones.
+#[test]
+fn a_rule_comes_back_the_same(rt: HostRuntime) -> Result<(), Fail> {
+    let alloc = rt.alloc();
+    let read = "02182010 fcaabb03 01020304 \
+        08000100 c0000200 08000200 c0000201 07000300 6c6f00ff 08000400 64000000 08000600 fe7f0000 \
+        08000a00 0d0c0b0a 08000f00 e8030000 08001000 ff000000 09001100 65746830 00ffffff";
+    let written = "02182010 fc000003 01020304 \
+        08000100 c0000200 08000200 c0000201 07000300 6c6f0000 08000400 64000000 08000600 fe7f0000 \
+        08000a00 0d0c0b0a 08000f00 e8030000 08001000 ff000000 09001100 65746830 00000000";
+    rule_comes_back(alloc, read, written)?;
+    let read = "02182010 fcaabb03 04030201 \
+        00080001 c0000200 00080002 c0000201 00070003 6c6f00ff 00080004 00000064 00080006 00007ffe \
+        0008000a 0a0b0c0d 0008000f 000003e8 00080010 000000ff 00090011 65746830 00ffffff";
+    let written = "02182010 fc000003 04030201 \
+        00080001 c0000200 00080002 c0000201 00070003 6c6f0000 00080004 00000064 00080006 00007ffe \
+        0008000a 0a0b0c0d 0008000f 000003e8 00080010 000000ff 00090011 65746830 00000000";
+    big_rule_comes_back(alloc, read, written)
 }
 
 /// One message is refused so.
@@ -203,6 +294,80 @@ fn refuses_links(alloc: Global, standard: &Limits) -> Result<(), Fail> {
     let flat = Limits::new(0, 65_536, 0, 0)?;
     let nested = list_of(alloc, 1, NESTED, leaf(alloc, 2, &[])?)?;
     refuses_link(alloc, nested, &flat, WriteError::TooDeep)
+}
+
+/// A message with this body is written under each of these types, or is a mismatch under each.
+fn fits_all(alloc: Global, body: Body, kinds: &[u16], fits: bool, what: &str) -> Result<(), Fail> {
+    let mut messages = [Message {
+        kind: 0,
+        flags: 0,
+        seq: 0,
+        port: 0,
+        body,
+    }];
+    for kind in kinds {
+        messages[0].kind = *kind;
+        let written = write_datagram(alloc, &messages, &Limits::standard());
+        let is_so = match written {
+            Ok(_) => fits,
+            Err(error) => !fits && error == WriteError::Mismatch,
+        };
+        ensure(is_so, what)?;
+    }
+    Ok(())
+}
+
+/// The rule for all packets.
+fn rule(alloc: Global) -> Body {
+    let head = RuleHead {
+        family: 2,
+        dst_len: 0,
+        src_len: 0,
+        tos: 0,
+        table: 254,
+        action: 1,
+        flags: 0,
+    };
+    Body::Rule(Rule {
+        head,
+        attrs: Vec::new(alloc),
+    })
+}
+
+fn get(alloc: Global) -> Body {
+    Body::Get {
+        family: 2,
+        tail: Vec::new(alloc),
+    }
+}
+
+/// An error of no tail.
+fn error(alloc: Global) -> Body {
+    Body::Error {
+        code: 0,
+        answered: header_of(16, 32, 0, 0, 0),
+        tail: Vec::new(alloc),
+    }
+}
+
+#[test]
+fn bodies_of_the_types_of_rules(rt: HostRuntime) -> Result<(), Fail> {
+    let alloc = rt.alloc();
+    fits_all(alloc, rule(alloc), &[32, 33], true, "a rule")?;
+    fits_all(alloc, get(alloc), &[34], true, "a request")?;
+    let other = Body::Other(zeros(alloc, 12)?);
+    fits_all(alloc, other, &[31, 35], true, "other bytes")?;
+    // Under the types around theirs and those of other families too.
+    let not_a_rule = [2, 16, 24, 25, 28, 30, 31, 34, 35, 36];
+    fits_all(alloc, rule(alloc), &not_a_rule, false, "no rule")?;
+    let not_a_request = [31, 32, 33, 35];
+    fits_all(alloc, get(alloc), &not_a_request, false, "no request")?;
+    let rules = [32, 33, 34];
+    let other = Body::Other(zeros(alloc, 12)?);
+    fits_all(alloc, other, &rules, false, "not other bytes")?;
+    let attr = leaf(alloc, 3, b"lo")?;
+    fits_all(alloc, link(alloc, attr)?, &rules, false, "no link")?;
+    fits_all(alloc, error(alloc), &rules, false, "no error")
 }
 
 #[test]

@@ -2,7 +2,7 @@
 
 ghost use Rattle.std.specs.Prelude.{◌+◌, ◌*◌, ◌≤◌, ◌↔◌, List, IfOk, IsTrue, OnOk, OnErr, length};
 ghost use Rattle.nl_frame.specs.Message.{MessageVal};
-ghost use Rattle.nl_frame.specs.declared.form.Group.{Group};
+ghost use Rattle.nl_route.specs.declared.group.Group.{Group};
 ghost use Rattle.nl_dump.specs.Every.{IsTheList, SameAnswer};
 ghost use Rattle.nl_dump.specs.Steps.{IsWaiting};
 ghost use Rattle.nl_dump.specs.View.{table_at};

@@ -9,7 +9,7 @@ ghost use Rattle.nl_attr.specs.Told.{IfLayout};
 ghost use Rattle.nl_attr.specs.declared.order.Order.{Order};
 ghost use Rattle.nl_attr.specs.declared.tree.Ctx.{Ctx};
 ghost use Rattle.nl_route.specs.Body.{IsFamilyBody, attrs_of};
-ghost use Rattle.nl_route.specs.Heads.{link_fields};
+ghost use Rattle.nl_route.specs.Link.{link_fields};
 ghost use Rattle.nl_route.specs.Views.{number_view, text_view};
 ghost use Rattle.nl_route.specs.declared.ifinfomsg.LinkHead.{LinkHead};
 

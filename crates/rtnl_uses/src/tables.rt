@@ -2,7 +2,8 @@
 
 ghost use Rattle.std.specs.Prelude.{◌≡◌, ℕ, IfOk, OnErr};
 ghost use Rattle.nl_table.specs.Content.{Step};
-ghost use Rattle.nl_table.specs.Entries.{link_entry_key};
+ghost use Rattle.nl_route.specs.declared.group.Group.TheVariants as family;
+ghost use Rattle.nl_table.specs.Entries.{entry_key};
 
 use nl_route::Link;
 use nl_table::{Entry, Put, Table};
@@ -12,7 +13,8 @@ use std::alloc::{AllocError, Global};
 pub fn keep(alloc: Global, table: &mut Table<Link>, link: Link) -> Result<Put, AllocError>
     // It is one step of the table, in which some places are reserved first.
     ensures step { IfOk result (λ put. (spare : ℕ)
-        × Step (record table.old { spare = spare }) (link_entry_key link) link put table.new) }
+        × Step (record table.old { spare = spare }) (entry_key family.Link table.old.order link)
+        link put table.new) }
     // Where memory runs out, the table is unchanged.
     ensures err { OnErr result (table.new ≡ table.old) }
 {

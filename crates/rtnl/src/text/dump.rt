@@ -2,25 +2,13 @@
 
 ghost use Rattle.std.specs.Prelude.{◌≡◌, ◌≢◌, ◌++◌, OnOk, Err, length};
 ghost use Rattle.std.specs.String.{string_bytes};
-ghost use Rattle.rtnl.specs.Tabled.{complete_line, counts_line, dump_line, end_line, fed_text, kind_text, sums_line, total_line, yes_no};
+ghost use Rattle.rtnl.specs.Tabled.{complete_line, counts_line, dump_line, end_line, fed_text, sums_line, total_line, yes_no};
 
 use crate::text::datagram::{push_number, push_refusal};
-use nl_dump::{Dump, End, FeedError, Kind, State};
+use nl_dump::{Dump, End, FeedError, State};
 use nl_frame::ReadError;
 use std::alloc::AllocError;
 use std::fmt::Write;
-
-#[tactic(auto, unfolding(crate::specs::Tabled::kind_text))]
-fn kind_name(kind: Kind) -> &'static str
-    ensures { result.now ≡ kind_text kind }
-{
-    match kind {
-        Kind::Link => "link",
-        Kind::Addr => "addr",
-        Kind::Route => "route",
-        Kind::Neigh => "neigh",
-    }
-}
 
 #[tactic(auto, unfolding(crate::specs::Tabled::yes_no))]
 fn yes_or_no(word: bool) -> &'static str
@@ -34,7 +22,7 @@ fn yes_or_no(word: bool) -> &'static str
 pub(crate) fn push_dump_line(out: &mut String, dump: &Dump) -> Result<(), AllocError>
     ensures { OnOk result (string_bytes out.new ≡ string_bytes out.old ++ dump_line dump.now) }
 {
-    let kind = kind_name(dump.kind);
+    let kind = dump.kind.row().name;
     let (seq, port) = (dump.seq, dump.port);
     writeln!(out, "dump {kind} seq {seq} port {port}")
 }

@@ -24,9 +24,9 @@ fn push_message_line(
 ) -> Result<(), AllocError>
     ensures { OnOk result (string_bytes out.new ≡ string_bytes out.old ++ message_line kind flags seq port) }
 {
-    let (name, names) = message_type(kind);
+    let (verb, name, names) = message_type(kind);
     let bits = Hex4(flags);
-    write!(out, "message {kind} {name} flags 0x{bits} ")?;
+    write!(out, "message {kind} {verb}{name} flags 0x{bits} ")?;
     push_flag_names(out, names, flags)?;
     writeln!(out, " seq {seq} port {port}")
 }

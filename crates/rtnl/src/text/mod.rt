@@ -6,6 +6,7 @@ pub(crate) mod datagram;
 pub(crate) mod digits;
 pub(crate) mod dump;
 pub(crate) mod entries;
+pub(crate) mod families;
 pub(crate) mod flags;
 pub(crate) mod message;
 pub(crate) mod names;

@@ -4,11 +4,12 @@ ghost use Rattle.std.specs.Prelude.{◌≡◌, ◌++◌, OnOk, map};
 ghost use Rattle.std.specs.String.{string_bytes};
 ghost use Rattle.rtnl.specs.Names.{names_text};
 ghost use Rattle.rtnl.specs.Rows.{row_view};
-ghost use Rattle.rtnl.specs.Types.{flags_table, type_flags, type_name, types};
+ghost use Rattle.rtnl.specs.Types.{controls, flags_table, type_flags, type_name, verb_flags, verb_name};
 
 use crate::text::flags::{ErrorFlags, GetFlags, MessageFlags, NewFlags};
 use crate::text::names::push_names;
 use crate::text::rows::{Row, find_row};
+use nl_route::{RouteType, Verb};
 use std::alloc::AllocError;
 
 /// Which names the flags of a message have, beside those of all types.
@@ -20,43 +21,49 @@ pub(crate) enum FlagNames {
     Error,
 }
 
-/// The message types of netlink(7) and rtnetlink(7).
-const TYPES: &[Row<FlagNames>] = &[
+/// The message types of netlink(7).
+const CONTROLS: &[Row<FlagNames>] = &[
     (1, "noop", FlagNames::Common),
     (2, "error", FlagNames::Error),
     (3, "done", FlagNames::Common),
     (4, "overrun", FlagNames::Common),
-    (16, "newlink", FlagNames::New),
-    (17, "dellink", FlagNames::Common),
-    (18, "getlink", FlagNames::Get),
-    (19, "setlink", FlagNames::Common),
-    (20, "newaddr", FlagNames::New),
-    (21, "deladdr", FlagNames::Common),
-    (22, "getaddr", FlagNames::Get),
-    (24, "newroute", FlagNames::New),
-    (25, "delroute", FlagNames::Common),
-    (26, "getroute", FlagNames::Get),
-    (28, "newneigh", FlagNames::New),
-    (29, "delneigh", FlagNames::Common),
-    (30, "getneigh", FlagNames::Get),
 ];
 
-#[tactic(auto, unfolding(crate::specs::Types::types))]
+#[tactic(auto, unfolding(crate::specs::Types::controls))]
 fn rows() -> &'static [Row<FlagNames>]
-    ensures { map row_view result.now ≡ types }
+    ensures { map row_view result.now ≡ controls }
 {
-    TYPES
+    CONTROLS
 }
 
-/// The name of a message type, and which names its flags have.
-#[tactic(auto, unfolding(crate::specs::Types::type_name, crate::specs::Types::type_flags))]
-pub(crate) fn message_type(kind: u16) -> (&'static str, FlagNames)
-    ensures name { result.0.now ≡ type_name kind }
-    ensures flags { result.1 ≡ type_flags kind }
+/// The first part of the name of a family's message type, and which names its flags have.
+fn verb_type(verb: Verb) -> (&'static str, FlagNames)
+    ensures name { result.0.now ≡ verb_name verb }
+    ensures flags { result.1 ≡ verb_flags verb }
 {
-    match find_row(rows(), kind) {
-        Some(row) => row,
-        None => ("other", FlagNames::Common),
+    match verb {
+        Verb::New => ("new", FlagNames::New),
+        Verb::Del => ("del", FlagNames::Common),
+        Verb::Get => ("get", FlagNames::Get),
+        Verb::Set => ("set", FlagNames::Common),
+    }
+}
+
+/// The name of a message type in two parts, and which names its flags have.
+#[tactic(auto, unfolding(crate::specs::Types::type_name, crate::specs::Types::type_flags))]
+pub(crate) fn message_type(kind: u16) -> (&'static str, &'static str, FlagNames)
+    ensures name { type_name kind ≡ result.0.now ++ result.1.now }
+    ensures flags { result.2 ≡ type_flags kind }
+{
+    match RouteType::of(kind) {
+        Some(of) => {
+            let (verb, names) = verb_type(of.verb);
+            (verb, of.group.row().name, names)
+        }
+        None => match find_row(rows(), kind) {
+            Some((name, names)) => ("", name, names),
+            None => ("", "other", FlagNames::Common),
+        },
     }
 }
 

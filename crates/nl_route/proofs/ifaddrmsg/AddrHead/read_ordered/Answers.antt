@@ -1,8 +1,9 @@
 use Rattle.std.proofs.Common.{rules, sym, subst, ◌∙◌}
 use Rattle.nl_route.specs.declared.ifaddrmsg.AddrHead.{AddrHead}
 use Rattle.nl_route.specs.Fields.{AreFields}
-use Rattle.nl_route.specs.Heads.{addr_fields}
-use Rattle.nl_route.proofs.Known.{fields_of_read, read_of_fields, addr_known}
+use Rattle.nl_route.specs.Addr.{addr_fields}
+use Rattle.nl_route.proofs.Known.{fields_of_read, read_of_fields}
+use Rattle.nl_route.proofs.Addr.{addr_known}
 use Rattle.nl_route.proofs.ifaddrmsg.AddrHead.read_ordered.Goals as goal
 
 pub returns-clause-value : goal.returns-clause-value

@@ -1,7 +1,8 @@
 use Rattle.std.proofs.Common.{rules, ap, ◌∙◌}
-use Rattle.nl_route.specs.Heads.{addr_fields, addr_of}
+use Rattle.nl_route.specs.Addr.{addr_fields, addr_of}
 use Rattle.nl_route.proofs.Fields.{DoFit}
-use Rattle.nl_route.proofs.Known.{read_of_written, addr_known}
+use Rattle.nl_route.proofs.Known.{read_of_written}
+use Rattle.nl_route.proofs.Addr.{addr_known}
 use Rattle.nl_route.proofs.ifaddrmsg.AddrHead.write_ordered.Goals as goal
 
 pub returns-clause-bytes : goal.returns-clause-bytes

@@ -1,8 +1,9 @@
 use Rattle.std.proofs.Common.{rules, sym, subst, ◌∙◌}
 use Rattle.nl_route.specs.declared.ifinfomsg.LinkHead.{LinkHead}
 use Rattle.nl_route.specs.Fields.{AreFields}
-use Rattle.nl_route.specs.Heads.{link_fields}
-use Rattle.nl_route.proofs.Known.{fields_of_read, read_of_fields, link_known}
+use Rattle.nl_route.specs.Link.{link_fields}
+use Rattle.nl_route.proofs.Known.{fields_of_read, read_of_fields}
+use Rattle.nl_route.proofs.Link.{link_known}
 use Rattle.nl_route.proofs.ifinfomsg.LinkHead.read_ordered.Goals as goal
 
 pub returns-clause-value : goal.returns-clause-value

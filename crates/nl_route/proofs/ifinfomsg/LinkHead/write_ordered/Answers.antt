@@ -1,7 +1,8 @@
 use Rattle.std.proofs.Common.{rules, ap, ◌∙◌}
-use Rattle.nl_route.specs.Heads.{link_fields, link_of}
+use Rattle.nl_route.specs.Link.{link_fields, link_of}
 use Rattle.nl_route.proofs.Fields.{DoFit}
-use Rattle.nl_route.proofs.Known.{read_of_written, link_known}
+use Rattle.nl_route.proofs.Known.{read_of_written}
+use Rattle.nl_route.proofs.Link.{link_known}
 use Rattle.nl_route.proofs.ifinfomsg.LinkHead.write_ordered.Goals as goal
 
 pub returns-clause-bytes : goal.returns-clause-bytes

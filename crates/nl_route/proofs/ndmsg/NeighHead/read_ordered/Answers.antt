@@ -1,8 +1,9 @@
 use Rattle.std.proofs.Common.{rules, sym, subst, ◌∙◌}
 use Rattle.nl_route.specs.declared.ndmsg.NeighHead.{NeighHead}
 use Rattle.nl_route.specs.Fields.{AreFields}
-use Rattle.nl_route.specs.Heads.{neigh_fields}
-use Rattle.nl_route.proofs.Known.{fields_of_read, read_of_fields, neigh_known}
+use Rattle.nl_route.specs.Neigh.{neigh_fields}
+use Rattle.nl_route.proofs.Known.{fields_of_read, read_of_fields}
+use Rattle.nl_route.proofs.Neigh.{neigh_known}
 use Rattle.nl_route.proofs.ndmsg.NeighHead.read_ordered.Goals as goal
 
 pub returns-clause-value : goal.returns-clause-value

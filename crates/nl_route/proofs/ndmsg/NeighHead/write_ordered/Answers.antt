@@ -1,7 +1,8 @@
 use Rattle.std.proofs.Common.{rules, ap, ◌∙◌}
-use Rattle.nl_route.specs.Heads.{neigh_fields, neigh_of}
+use Rattle.nl_route.specs.Neigh.{neigh_fields, neigh_of}
 use Rattle.nl_route.proofs.Fields.{DoFit}
-use Rattle.nl_route.proofs.Known.{read_of_written, neigh_known}
+use Rattle.nl_route.proofs.Known.{read_of_written}
+use Rattle.nl_route.proofs.Neigh.{neigh_known}
 use Rattle.nl_route.proofs.ndmsg.NeighHead.write_ordered.Goals as goal
 
 pub returns-clause-bytes : goal.returns-clause-bytes

@@ -3,8 +3,9 @@ use Rattle.std.proofs.lemmas.Grind.{common_steps}
 use Rattle.nl_attr.specs.Numbers.{number_of}
 use Rattle.nl_route.specs.declared.rtmsg.RouteHead.{RouteHead}
 use Rattle.nl_route.specs.Fields.{AreFields}
-use Rattle.nl_route.specs.Heads.{route_fields}
-use Rattle.nl_route.proofs.Known.{fields_of_read, read_of_fields, route_known}
+use Rattle.nl_route.specs.Route.{route_fields}
+use Rattle.nl_route.proofs.Known.{fields_of_read, read_of_fields}
+use Rattle.nl_route.proofs.Route.{route_known}
 use Rattle.nl_route.proofs.rtmsg.RouteHead.read_ordered.Goals as goal
 
 pub returns-clause-value : goal.returns-clause-value

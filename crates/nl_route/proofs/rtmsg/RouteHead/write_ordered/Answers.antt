@@ -1,7 +1,8 @@
 use Rattle.std.proofs.Common.{rules, ap, ◌∙◌}
-use Rattle.nl_route.specs.Heads.{route_fields, route_of}
+use Rattle.nl_route.specs.Route.{route_fields, route_of}
 use Rattle.nl_route.proofs.Fields.{DoFit}
-use Rattle.nl_route.proofs.Known.{read_of_written, route_known}
+use Rattle.nl_route.proofs.Known.{read_of_written}
+use Rattle.nl_route.proofs.Route.{route_known}
 use Rattle.nl_route.proofs.rtmsg.RouteHead.write_ordered.Goals as goal
 
 pub returns-clause-bytes : goal.returns-clause-bytes

@@ -1,0 +1,17 @@
+use Rattle.std.proofs.Common.{◌≡◌, ℕ, ap, ◌∙◌}
+use Rattle.nl_attr.specs.declared.order.Order.{Order}
+use Rattle.nl_route.specs.declared.group.Group.TheVariants.{Link, Addr, Route, Neigh, Rule}
+use Rattle.nl_table.specs.Content.{Content, empty}
+use Rattle.nl_dump.specs.Items.{Item, seen}
+use Rattle.nl_dump.proofs.tables.Tables.new.Goals as goal
+
+-- an empty table is seen as one
+seen_empty : {T : Type 0} (f : T → Item) (c : Content T) (o p : Order) (l m : ℕ) → o ≡ p → l ≡ m → c ≡ empty o l c.spare → seen f c ≡ empty p m c.spare
+seen_empty f c o p l m order limit e = ap (seen f) e ∙ (λ i. empty (order i) (limit i) c.spare)
+
+pub returns : goal.returns
+returns c Link = seen_empty _ c.in_ok-new_ordered.field-0 _ _ _ _ c.order-order.ensures c.entries-entries.ensures.value c.in_ok-new_ordered.ensures
+returns c Addr = seen_empty _ c.in_ok-new_ordered-2.field-0 _ _ _ _ c.order-order.ensures c.entries-entries.ensures.value c.in_ok-new_ordered-2.ensures
+returns c Route = seen_empty _ c.in_ok-new_ordered-3.field-0 _ _ _ _ c.order-order.ensures c.entries-entries.ensures.value c.in_ok-new_ordered-3.ensures
+returns c Neigh = seen_empty _ c.in_ok-new_ordered-4.field-0 _ _ _ _ c.order-order.ensures c.entries-entries.ensures.value c.in_ok-new_ordered-4.ensures
+returns c Rule = seen_empty _ c.in_ok-new_ordered-5.field-0 _ _ _ _ c.order-order.ensures c.entries-entries.ensures.value c.in_ok-new_ordered-5.ensures

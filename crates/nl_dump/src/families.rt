@@ -1,0 +1,120 @@
+//! The entries of the families, as they come in messages.
+
+use nl_frame::Body;
+use nl_route::{Addr, Link, Neigh, Route, Rule};
+use nl_table::Entry;
+
+/// An entry that comes in messages.
+pub(crate) trait FromBody: Entry + Drop {
+    ghost use Rattle.std.specs.Prelude.{◌≡◌, option_map};
+    ghost use Rattle.nl_attr.specs.declared.order.Order.{Order};
+    ghost use Rattle.nl_route.specs.declared.group.Group.{Group};
+    ghost use Rattle.nl_frame.specs.View.{body_view};
+    ghost use Rattle.nl_dump.specs.Items.{Item, item_key, body_item};
+
+    ghost group: { Group };
+
+    ghost item: { Self → Item };
+
+    /// The entry that a body is.
+    fn from_body(body: Body) -> Option<Self>
+        ensures { option_map item result ≡ body_item group (body_view body) };
+
+    // Its key is that of what it stands for.
+    ghost keyed: { (o : Order) (x : Self) → Self.key_of o x ≡ item_key o (item x) };
+}
+
+impl FromBody for Link {
+    ghost use Rattle.std.specs.Prelude.{refl};
+    ghost use Rattle.nl_route.specs.declared.group.Group.TheVariants as family;
+    ghost use Rattle.nl_dump.specs.Items.{item_of};
+
+    ghost group = { family.Link };
+
+    ghost item = { item_of family.Link };
+
+    ghost keyed = { λ o x. refl };
+
+    fn from_body(body: Body) -> Option<Self> {
+        match body {
+            Body::Link(link) => Some(link),
+            _ => None,
+        }
+    }
+}
+
+impl FromBody for Addr {
+    ghost use Rattle.std.specs.Prelude.{refl};
+    ghost use Rattle.nl_route.specs.declared.group.Group.TheVariants as family;
+    ghost use Rattle.nl_dump.specs.Items.{item_of};
+
+    ghost group = { family.Addr };
+
+    ghost item = { item_of family.Addr };
+
+    ghost keyed = { λ o x. refl };
+
+    fn from_body(body: Body) -> Option<Self> {
+        match body {
+            Body::Addr(addr) => Some(addr),
+            _ => None,
+        }
+    }
+}
+
+impl FromBody for Route {
+    ghost use Rattle.std.specs.Prelude.{refl};
+    ghost use Rattle.nl_route.specs.declared.group.Group.TheVariants as family;
+    ghost use Rattle.nl_dump.specs.Items.{item_of};
+
+    ghost group = { family.Route };
+
+    ghost item = { item_of family.Route };
+
+    ghost keyed = { λ o x. refl };
+
+    fn from_body(body: Body) -> Option<Self> {
+        match body {
+            Body::Route(route) => Some(route),
+            _ => None,
+        }
+    }
+}
+
+impl FromBody for Neigh {
+    ghost use Rattle.std.specs.Prelude.{refl};
+    ghost use Rattle.nl_route.specs.declared.group.Group.TheVariants as family;
+    ghost use Rattle.nl_dump.specs.Items.{item_of};
+
+    ghost group = { family.Neigh };
+
+    ghost item = { item_of family.Neigh };
+
+    ghost keyed = { λ o x. refl };
+
+    fn from_body(body: Body) -> Option<Self> {
+        match body {
+            Body::Neigh(neigh) => Some(neigh),
+            _ => None,
+        }
+    }
+}
+
+impl FromBody for Rule {
+    ghost use Rattle.std.specs.Prelude.{refl};
+    ghost use Rattle.nl_route.specs.declared.group.Group.TheVariants as family;
+    ghost use Rattle.nl_dump.specs.Items.{item_of};
+
+    ghost group = { family.Rule };
+
+    ghost item = { item_of family.Rule };
+
+    ghost keyed = { λ o x. refl };
+
+    fn from_body(body: Body) -> Option<Self> {
+        match body {
+            Body::Rule(rule) => Some(rule),
+            _ => None,
+        }
+    }
+}

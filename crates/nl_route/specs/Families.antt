@@ -1,0 +1,86 @@
+-- The families: a row for each.
+use Rattle.std.specs.Prelude.{ℕ, ◌+◌, ◌==◌, List, Bool, true, is_some, codes}
+use Rattle.nl_attr.specs.declared.order.Order.{Order}
+use Rattle.nl_attr.specs.declared.tree.Ctx.{Ctx}
+use Rattle.nl_attr.specs.declared.tree.Ctx.TheVariants as ctx
+use Rattle.nl_route.specs.declared.group.Group.{Group}
+use Rattle.nl_route.specs.declared.group.Group.TheVariants.{Link, Addr, Route, Neigh, Rule}
+use Rattle.nl_route.specs.declared.group.Verb.{Verb}
+use Rattle.nl_route.specs.declared.group.Verb.TheVariants.{New, Del, Get, Set}
+use Rattle.nl_route.specs.declared.ifinfomsg.LinkHead.{LinkHead}
+use Rattle.nl_route.specs.declared.ifaddrmsg.AddrHead.{AddrHead}
+use Rattle.nl_route.specs.declared.rtmsg.RouteHead.{RouteHead}
+use Rattle.nl_route.specs.declared.ndmsg.NeighHead.{NeighHead}
+use Rattle.nl_route.specs.declared.fib_rule_hdr.RuleHead.{RuleHead}
+use Rattle.nl_route.specs.Fields.{Field}
+use Rattle.nl_route.specs.Link.{link_fields, link_of}
+use Rattle.nl_route.specs.Addr.{addr_fields, addr_of}
+use Rattle.nl_route.specs.Route.{route_fields, route_of}
+use Rattle.nl_route.specs.Neigh.{neigh_fields, neigh_of}
+use Rattle.nl_route.specs.Rule.{rule_fields, rule_of}
+use Rattle.nl_route.specs.Types.{route_type}
+
+-- a family's head and how many bytes it has, its fields, and what is read of bytes; the context of its attributes; its first message type, NEW; and its name
+pub record Row : Type 1 where
+  pub Head : Type 0
+  pub size : ℕ
+  pub fields : Head → List Field
+  pub of : Order → List ℕ → Head
+  pub context : Ctx
+  pub new : ℕ
+  pub name : List ℕ
+
+abbrev pub row : Group → Row
+row Link = record { Head = LinkHead; size = 16; fields = link_fields; of = link_of; context = ctx.Link; new = 16; name = codes "link" }
+row Addr = record { Head = AddrHead; size = 8; fields = addr_fields; of = addr_of; context = ctx.Addr; new = 20; name = codes "addr" }
+row Route = record { Head = RouteHead; size = 12; fields = route_fields; of = route_of; context = ctx.Route; new = 24; name = codes "route" }
+row Neigh = record { Head = NeighHead; size = 12; fields = neigh_fields; of = neigh_of; context = ctx.Neigh; new = 28; name = codes "neigh" }
+row Rule = record { Head = RuleHead; size = 12; fields = rule_fields; of = rule_of; context = ctx.Rule; new = 32; name = codes "rule" }
+
+abbrev pub head_size : Group → ℕ
+head_size g = (row g).size
+
+abbrev pub context_of : Group → Ctx
+context_of g = (row g).context
+
+abbrev pub name_of : Group → List ℕ
+name_of g = (row g).name
+
+-- two families are one where their types are
+abbrev pub same_group : Group → Group → Bool
+same_group g h = (row g).new == (row h).new
+
+-- the four types of a family stand one after another
+abbrev pub place_of : Verb → ℕ
+place_of New = 0
+place_of Del = 1
+place_of Get = 2
+place_of Set = 3
+
+abbrev pub type_of : Group → Verb → ℕ
+type_of g v = (row g).new + place_of v
+
+-- a family has all four but SET, which some don't
+abbrev pub has_verb : Group → Verb → Bool
+has_verb g New = true
+has_verb g Del = true
+has_verb g Get = true
+has_verb g Set = is_some (route_type (type_of g Set))
+
+-- a head of any family
+pub record AnyHead : Type 0 where
+  pub group : Group
+  pub head : (row group).Head
+
+abbrev pub any : (g : Group) → (row g).Head → AnyHead
+any g h = record { group = g; head = h }
+
+abbrev pub group_of : AnyHead → Group
+group_of h = h.group
+
+abbrev pub fields_of : AnyHead → List Field
+fields_of h = (row h.group).fields h.head
+
+-- the head that is read of bytes
+abbrev pub head_of : Order → Group → List ℕ → AnyHead
+head_of o g bytes = any g ((row g).of o bytes)

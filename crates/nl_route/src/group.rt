@@ -1,0 +1,208 @@
+//! The families, in one table.
+
+ghost use Rattle.std.specs.Prelude.{◌≡◌, Some, IsTrue};
+ghost use Rattle.nl_route.specs.Types.{route_type, says};
+ghost use Rattle.nl_route.specs.Families.{context_of, has_verb, head_size, name_of, place_of, row, type_of};
+ghost use Rattle.nl_route.specs.Parts.{group_at, verb_at};
+
+use crate::fib_rule_hdr::RuleHead;
+use crate::head::Head;
+use crate::ifaddrmsg::AddrHead;
+use crate::ifinfomsg::LinkHead;
+use crate::ndmsg::NeighHead;
+use crate::rtmsg::RouteHead;
+use nl_attr::Ctx;
+
+/// The families whose bodies have heads.
+#[derive(Clone, Copy, Debug, PartialEq, Eq)]
+pub enum Group {
+    Link,
+    Addr,
+    Route,
+    Neigh,
+    Rule,
+}
+
+/// What a message asks for, of its family's objects. The types of a family stand one after another
+/// in this order.
+#[derive(Clone, Copy, Debug, PartialEq, Eq)]
+pub enum Verb {
+    New,
+    Del,
+    Get,
+    Set,
+}
+
+/// What the message type of a family says.
+#[derive(Clone, Copy, Debug, PartialEq, Eq)]
+pub struct RouteType {
+    pub group: Group,
+    pub verb: Verb,
+}
+
+/// What holds of a family.
+#[derive(Clone, Copy, Debug)]
+pub struct Row {
+    /// How many bytes its head has.
+    pub head_size: usize,
+    /// The context of its attributes.
+    pub context: Ctx,
+    /// The message type of its NEW.
+    pub new_type: u16,
+    /// Whether it has a SET, whose type is the third after that of NEW.
+    pub has_set: bool,
+    /// Its name, as it is printed and stands on the command line.
+    pub name: &'static str,
+}
+
+impl Row {
+    fn of<H: Head>(new_type: u16, has_set: bool, name: &'static str) -> Row
+        ensures size { result.head_size ≡ H.SIZE }
+        ensures context { result.context ≡ H.ctx }
+        ensures new { result.new_type ≡ new_type }
+        ensures set { result.has_set ≡ has_set }
+        ensures name { result.name.now ≡ name.now }
+    {
+        Row {
+            head_size: H::SIZE,
+            context: H::context(),
+            new_type,
+            has_set,
+            name,
+        }
+    }
+}
+
+impl Verb {
+    /// What the first of four types asks for, and so on.
+    fn at(place: u16) -> Verb
+        ensures { result ≡ verb_at place }
+    {
+        match place {
+            0 => Verb::New,
+            1 => Verb::Del,
+            2 => Verb::Get,
+            _ => Verb::Set,
+        }
+    }
+
+    /// Its place among the four.
+    fn place(self) -> u16
+        ensures { result ≡ place_of self }
+    {
+        match self {
+            Verb::New => 0,
+            Verb::Del => 1,
+            Verb::Get => 2,
+            Verb::Set => 3,
+        }
+    }
+}
+
+impl Group {
+    /// All families.
+    pub const ALL: [Group; 5] = [
+        Group::Link,
+        Group::Addr,
+        Group::Route,
+        Group::Neigh,
+        Group::Rule,
+    ];
+
+    /// The family of the four types from four times this number on.
+    fn at(number: u16) -> Option<Group>
+        ensures { result ≡ group_at number }
+    {
+        match number {
+            4 => Some(Group::Link),
+            5 => Some(Group::Addr),
+            6 => Some(Group::Route),
+            7 => Some(Group::Neigh),
+            8 => Some(Group::Rule),
+            _ => None,
+        }
+    }
+
+    /// What holds of this family.
+    #[tactic(auto, unfolding(crate::specs::Types::route_type))]
+    pub fn row(self) -> Row
+        ensures size { result.head_size ≡ head_size self }
+        ensures context { result.context ≡ context_of self }
+        ensures new { result.new_type ≡ (row self).new }
+        ensures set { result.has_set ≡ has_verb self Verb.Set }
+        ensures name { result.name.now ≡ name_of self }
+    {
+        match self {
+            Group::Link => Row::of::<LinkHead>(16, true, "link"),
+            Group::Addr => Row::of::<AddrHead>(20, false, "addr"),
+            Group::Route => Row::of::<RouteHead>(24, false, "route"),
+            Group::Neigh => Row::of::<NeighHead>(28, false, "neigh"),
+            Group::Rule => Row::of::<RuleHead>(32, false, "rule"),
+        }
+    }
+
+    /// Whether this family has a message type that asks for this: all have but SET.
+    pub fn has(self, verb: Verb) -> bool
+        ensures { result ≡ has_verb self verb }
+    {
+        match verb {
+            Verb::New | Verb::Del | Verb::Get => true,
+            Verb::Set => self.row().has_set,
+        }
+    }
+
+    /// The message type of this family that asks for this, where it has one.
+    pub fn type_of(self, verb: Verb) -> u16
+        ensures number { result ≡ type_of self verb }
+        // It says so.
+        ensures says { IsTrue (has_verb self verb) → route_type result ≡ Some (says verb self) }
+    {
+        self.row().new_type + verb.place()
+    }
+}
+
+impl RouteType {
+    /// What this message type says; none where it is no family's.
+    pub fn of(kind: u16) -> Option<RouteType>
+        ensures { result ≡ route_type kind }
+    {
+        let group = Group::at(kind / 4)?;
+        let verb = Verb::at(kind % 4);
+        if group.has(verb) {
+            Some(RouteType { group, verb })
+        } else {
+            None
+        }
+    }
+}
+
+/// A match over a value whose type has a variant for each family, named as the family is, and
+/// others: one arm for whichever family's body it holds, and arms for the others.
+#[macro_export]
+macro_rules! match_family {
+    ($value:expr, $Type:ident, $family:ident => $then:expr, { $($others:tt)* }) => {
+        match $value {
+            $Type::Link($family) => $then,
+            $Type::Addr($family) => $then,
+            $Type::Route($family) => $then,
+            $Type::Neigh($family) => $then,
+            $Type::Rule($family) => $then,
+            $($others)*
+        }
+    };
+}
+
+/// The body of a group that is not known before, read by `read_body_ordered`, in the variant of its
+/// family.
+#[macro_export]
+macro_rules! read_family {
+    ($group:expr, $Type:ident, $arguments:tt) => {
+        match $group {
+            $crate::Group::Link => $crate::Link::read_body_ordered $arguments.map($Type::Link),
+            $crate::Group::Addr => $crate::Addr::read_body_ordered $arguments.map($Type::Addr),
+            $crate::Group::Route => $crate::Route::read_body_ordered $arguments.map($Type::Route),
+            $crate::Group::Neigh => $crate::Neigh::read_body_ordered $arguments.map($Type::Neigh),
+            $crate::Group::Rule => $crate::Rule::read_body_ordered $arguments.map($Type::Rule),
+        }
+    };
+}

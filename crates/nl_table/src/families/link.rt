@@ -1,0 +1,19 @@
+//! The key of a link. Its fields are those of linux/rtnetlink.h and linux/if_link.h.
+
+use crate::entry::Entry;
+use crate::key::{Part, interface, key_of_parts};
+use nl_attr::Order;
+use nl_route::Link;
+use std::alloc::{AllocError, Global};
+
+impl Entry for Link {
+    ghost use Rattle.nl_route.specs.declared.group.Group.TheVariants as group;
+    ghost use Rattle.nl_table.specs.Entries.{entry_key};
+
+    ghost key_of = { entry_key group.Link };
+
+    /// A link is kept under its index, `ifi_index`, in 4 bytes.
+    fn key_ordered(&self, alloc: Global, _order: Order) -> Result<Vec<u8>, AllocError> {
+        key_of_parts(alloc, &[interface(&self.head.index)])
+    }
+}

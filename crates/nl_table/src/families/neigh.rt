@@ -1,0 +1,47 @@
+//! The key of a neighbour. Its fields are those of linux/neighbour.h.
+
+use crate::entry::Entry;
+use crate::key::{Part, interface, key_of_parts};
+use nl_attr::Order;
+use nl_route::Neigh;
+use std::alloc::{AllocError, Global};
+
+/// The family of the entries of a bridge's forwarding table: `AF_BRIDGE` of linux/socket.h.
+const BRIDGE: u8 = 7;
+
+/// The flags that tell neighbours apart: `NTF_SELF`, `NTF_MASTER` and `NTF_PROXY`.
+const TELLING_FLAGS: u8 = 0x0e;
+
+impl Entry for Neigh {
+    ghost use Rattle.nl_route.specs.declared.group.Group.TheVariants as group;
+    ghost use Rattle.nl_table.specs.Entries.{entry_key};
+
+    ghost key_of = { entry_key group.Neigh };
+
+    /// A neighbour is kept under `ndm_family` in 1 byte, `ndm_ifindex` in 4, three of its flags
+    /// in 1 (`NTF_SELF`, `NTF_MASTER` and `NTF_PROXY`, the others 0), and `NDA_DST`.
+    ///
+    /// An entry of a bridge, whose family is `AF_BRIDGE`, is also kept under `NDA_LLADDR`,
+    /// `NDA_VLAN` in 2 bytes and `NDA_VNI` in 4, each number 0 where it is absent.
+    fn key_ordered(&self, alloc: Global, order: Order) -> Result<Vec<u8>, AllocError> {
+        let family = Part::Byte(self.head.family);
+        let interface = interface(&self.head.ifindex);
+        let flags = Part::Byte(self.head.flags & TELLING_FLAGS);
+        let address = Part::Bytes(self.dst());
+        if self.head.family != BRIDGE {
+            return key_of_parts(alloc, &[family, interface, flags, address]);
+        }
+        key_of_parts(
+            alloc,
+            &[
+                family,
+                interface,
+                flags,
+                address,
+                Part::Bytes(self.lladdr()),
+                Part::Two(self.vlan_ordered(order).unwrap_or(0)),
+                Part::Four(self.vni_ordered(order).unwrap_or(0)),
+            ],
+        )
+    }
+}

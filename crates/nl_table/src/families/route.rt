@@ -1,0 +1,39 @@
+//! The key of a route. Its fields are those of linux/rtnetlink.h.
+
+use crate::entry::Entry;
+use crate::key::{Part, key_of_parts};
+use nl_attr::Order;
+use nl_route::Route;
+use std::alloc::{AllocError, Global};
+
+impl Entry for Route {
+    ghost use Rattle.nl_route.specs.declared.group.Group.TheVariants as group;
+    ghost use Rattle.nl_table.specs.Entries.{entry_key};
+
+    ghost key_of = { entry_key group.Route };
+
+    /// A route is kept under `rtm_family` and `rtm_dst_len` in 1 byte each, `RTA_DST`,
+    /// `rtm_src_len` in 1, `RTA_SRC`, `rtm_tos` in 1, its table in 4, `RTA_PRIORITY` in 4,
+    /// `rtm_type` in 1, `RTA_OIF` in 4, and `RTA_GATEWAY`.
+    ///
+    /// The table is `RTA_TABLE`, or else `rtm_table`. A priority or an interface that is absent
+    /// is 0.
+    fn key_ordered(&self, alloc: Global, order: Order) -> Result<Vec<u8>, AllocError> {
+        key_of_parts(
+            alloc,
+            &[
+                Part::Byte(self.head.family),
+                Part::Byte(self.head.dst_len),
+                Part::Bytes(self.dst()),
+                Part::Byte(self.head.src_len),
+                Part::Bytes(self.src()),
+                Part::Byte(self.head.tos),
+                Part::Four(self.table_id_ordered(order)),
+                Part::Four(self.priority_ordered(order).unwrap_or(0)),
+                Part::Byte(self.head.sort),
+                Part::Four(self.oif_ordered(order).unwrap_or(0)),
+                Part::Bytes(self.gateway()),
+            ],
+        )
+    }
+}

@@ -1,0 +1,60 @@
+//! The key of a routing rule. Its fields are those of linux/fib_rules.h.
+
+ghost use Rattle.std.specs.Prelude.{◌≡◌};
+ghost use Rattle.std.specs.Option.{option_copied};
+ghost use Rattle.nl_attr.specs.View.{attrs_view};
+ghost use Rattle.nl_route.specs.Views.{bytes_view};
+
+use crate::entry::Entry;
+use crate::key::{Part, key_of_parts};
+use nl_attr::{Order, find};
+use nl_route::Rule;
+use std::alloc::{AllocError, Global};
+
+/// `FRA_IIFNAME`.
+const INPUT_INTERFACE: u16 = 3;
+
+/// `FRA_OIFNAME`.
+const OUTPUT_INTERFACE: u16 = 17;
+
+/// All bytes of the first attribute of a number.
+fn bytes_of(rule: &Rule, number: u16) -> Option<&[u8]>
+    ensures { option_copied result ≡ bytes_view number (attrs_view rule.now.attrs.items) }
+{
+    find(&rule.attrs, number)?.bytes()
+}
+
+impl Entry for Rule {
+    ghost use Rattle.nl_route.specs.declared.group.Group.TheVariants as group;
+    ghost use Rattle.nl_table.specs.Entries.{entry_key};
+
+    ghost key_of = { entry_key group.Rule };
+
+    /// A rule is kept under `family` and `dst_len` in 1 byte each, `FRA_DST`, `src_len` in 1,
+    /// `FRA_SRC`, `tos` in 1, its table and `FRA_PRIORITY` in 4 each, `action` in 1, `FRA_GOTO`,
+    /// `FRA_FWMARK` and `FRA_FWMASK` in 4 each, `FRA_IIFNAME`, and `FRA_OIFNAME`.
+    ///
+    /// The table is `FRA_TABLE`, or else `table`. A number that is absent is 0. The names stand
+    /// there as the attributes have them, with the zero byte at their end.
+    fn key_ordered(&self, alloc: Global, order: Order) -> Result<Vec<u8>, AllocError> {
+        key_of_parts(
+            alloc,
+            &[
+                Part::Byte(self.head.family),
+                Part::Byte(self.head.dst_len),
+                Part::Bytes(self.dst()),
+                Part::Byte(self.head.src_len),
+                Part::Bytes(self.src()),
+                Part::Byte(self.head.tos),
+                Part::Four(self.table_id_ordered(order)),
+                Part::Four(self.priority_ordered(order).unwrap_or(0)),
+                Part::Byte(self.head.action),
+                Part::Four(self.target_ordered(order).unwrap_or(0)),
+                Part::Four(self.fwmark_ordered(order).unwrap_or(0)),
+                Part::Four(self.fwmask_ordered(order).unwrap_or(0)),
+                Part::Bytes(bytes_of(self, INPUT_INTERFACE)),
+                Part::Bytes(bytes_of(self, OUTPUT_INTERFACE)),
+            ],
+        )
+    }
+}

@@ -1,0 +1,27 @@
+-- The printed text of an address: its attributes, and the line of its head.
+use Rattle.std.specs.Prelude.{ℕ, List, [], ◌∷◌, codes}
+use Rattle.std.specs.Fmt.{decimal}
+use Rattle.nl_route.specs.declared.ifaddrmsg.AddrHead.{AddrHead}
+use Rattle.rtnl.specs.Rows.{Row}
+use Rattle.rtnl.specs.Text.{◌⨟◌, padded_hex}
+use Rattle.rtnl.specs.declared.text.attributes.Form.{Form}
+use Rattle.rtnl.specs.declared.text.attributes.Form.TheVariants.{U32, Text, Address, Hex}
+
+-- IFA, of an address
+abbrev pub addr_rows : List (Row Form)
+addr_rows =
+    (1, codes "ADDRESS", Address)
+    ∷ (2, codes "LOCAL", Address)
+    ∷ (3, codes "LABEL", Text)
+    ∷ (4, codes "BROADCAST", Address)
+    ∷ (5, codes "ANYCAST", Address)
+    ∷ (6, codes "CACHEINFO", Hex)
+    ∷ (7, codes "MULTICAST", Address)
+    ∷ (8, codes "FLAGS", U32)
+    ∷ (9, codes "RT_PRIORITY", U32) ∷ []
+
+-- the line of an address's head
+unfoldable pub addr_line : AddrHead → List ℕ
+addr_line h =
+    codes "  addr family " ⨟ decimal h.family ⨟ codes " prefix " ⨟ decimal h.prefixlen ⨟ codes " flags 0x" ⨟ padded_hex 2 h.flags
+    ⨟ codes " scope " ⨟ decimal h.scope ⨟ codes " index " ⨟ decimal h.index ⨟ codes "\n"

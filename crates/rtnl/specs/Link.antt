@@ -1,0 +1,49 @@
+-- The printed text of a link: its attributes, and the line of its head.
+use Rattle.std.specs.Prelude.{ℕ, List, [], ◌∷◌, codes}
+use Rattle.std.specs.Fmt.{decimal, signed_decimal}
+use Rattle.nl_route.specs.declared.ifinfomsg.LinkHead.{LinkHead}
+use Rattle.rtnl.specs.NamedBits.{link_flags}
+use Rattle.rtnl.specs.Names.{names_text}
+use Rattle.rtnl.specs.Rows.{Row}
+use Rattle.rtnl.specs.Text.{◌⨟◌, padded_hex}
+use Rattle.rtnl.specs.declared.text.attributes.Form.{Form}
+use Rattle.rtnl.specs.declared.text.attributes.Form.TheVariants.{U8, U32, Text, Hex}
+
+-- IFLA, of a link
+abbrev pub link_rows : List (Row Form)
+link_rows =
+    (1, codes "ADDRESS", Hex)
+    ∷ (2, codes "BROADCAST", Hex)
+    ∷ (3, codes "IFNAME", Text)
+    ∷ (4, codes "MTU", U32)
+    ∷ (5, codes "LINK", U32)
+    ∷ (6, codes "QDISC", Text)
+    ∷ (10, codes "MASTER", U32)
+    ∷ (13, codes "TXQLEN", U32)
+    ∷ (16, codes "OPERSTATE", U8)
+    ∷ (17, codes "LINKMODE", U8)
+    ∷ (18, codes "LINKINFO", Hex)
+    ∷ (20, codes "IFALIAS", Text)
+    ∷ (27, codes "GROUP", U32)
+    ∷ (29, codes "EXT_MASK", U32)
+    ∷ (30, codes "PROMISCUITY", U32)
+    ∷ (31, codes "NUM_TX_QUEUES", U32)
+    ∷ (32, codes "NUM_RX_QUEUES", U32)
+    ∷ (33, codes "CARRIER", U8)
+    ∷ (35, codes "CARRIER_CHANGES", U32) ∷ []
+
+-- IFLA_INFO, inside a link's LINKINFO
+abbrev pub link_info_rows : List (Row Form)
+link_info_rows =
+    (1, codes "KIND", Text)
+    ∷ (2, codes "DATA", Hex)
+    ∷ (3, codes "XSTATS", Hex)
+    ∷ (4, codes "SLAVE_KIND", Text)
+    ∷ (5, codes "SLAVE_DATA", Hex) ∷ []
+
+-- the line of a link's head
+unfoldable pub link_line : LinkHead → List ℕ
+link_line h =
+    codes "  link family " ⨟ decimal h.family ⨟ codes " type " ⨟ decimal h.hardware ⨟ codes " index " ⨟ signed_decimal h.index
+    ⨟ codes " flags 0x" ⨟ padded_hex 8 h.flags ⨟ codes " " ⨟ names_text link_flags h.flags
+    ⨟ codes " change 0x" ⨟ padded_hex 8 h.change ⨟ codes "\n"

@@ -1,0 +1,31 @@
+-- The printed text of a neighbour: its attributes, and the line of its head.
+use Rattle.std.specs.Prelude.{ℕ, List, [], ◌∷◌, codes}
+use Rattle.std.specs.Fmt.{decimal, signed_decimal}
+use Rattle.nl_route.specs.declared.ndmsg.NeighHead.{NeighHead}
+use Rattle.rtnl.specs.NamedBits.{neigh_flags, neigh_states}
+use Rattle.rtnl.specs.Names.{names_text}
+use Rattle.rtnl.specs.Rows.{Row}
+use Rattle.rtnl.specs.Text.{◌⨟◌, padded_hex}
+use Rattle.rtnl.specs.declared.text.attributes.Form.{Form}
+use Rattle.rtnl.specs.declared.text.attributes.Form.TheVariants.{U16, U32, NetworkU16, Address, Hex}
+
+-- NDA, of a neighbour
+abbrev pub neigh_rows : List (Row Form)
+neigh_rows =
+    (1, codes "DST", Address)
+    ∷ (2, codes "LLADDR", Hex)
+    ∷ (3, codes "CACHEINFO", Hex)
+    ∷ (4, codes "PROBES", U32)
+    ∷ (5, codes "VLAN", U16)
+    ∷ (6, codes "PORT", NetworkU16)
+    ∷ (7, codes "VNI", U32)
+    ∷ (8, codes "IFINDEX", U32)
+    ∷ (9, codes "MASTER", U32) ∷ []
+
+-- the line of a neighbour's head
+unfoldable pub neigh_line : NeighHead → List ℕ
+neigh_line h =
+    codes "  neigh family " ⨟ decimal h.family ⨟ codes " index " ⨟ signed_decimal h.ifindex
+    ⨟ codes " state 0x" ⨟ padded_hex 4 h.state ⨟ codes " " ⨟ names_text neigh_states h.state
+    ⨟ codes " flags 0x" ⨟ padded_hex 2 h.flags ⨟ codes " " ⨟ names_text neigh_flags h.flags
+    ⨟ codes " type " ⨟ decimal h.sort ⨟ codes "\n"

@@ -1,0 +1,60 @@
+-- The printed text of a route: its attributes, and the line of its head.
+use Rattle.std.specs.Prelude.{ℕ, List, [], ◌∷◌, codes}
+use Rattle.std.specs.Fmt.{decimal}
+use Rattle.nl_route.specs.declared.rtmsg.RouteHead.{RouteHead}
+use Rattle.rtnl.specs.Rows.{Row}
+use Rattle.rtnl.specs.Text.{◌⨟◌, padded_hex}
+use Rattle.rtnl.specs.declared.text.attributes.Form.{Form}
+use Rattle.rtnl.specs.declared.text.attributes.Form.TheVariants.{U8, U16, U32, Text, Address, Hex}
+
+-- RTA, of a route
+abbrev pub route_rows : List (Row Form)
+route_rows =
+    (1, codes "DST", Address)
+    ∷ (2, codes "SRC", Address)
+    ∷ (3, codes "IIF", U32)
+    ∷ (4, codes "OIF", U32)
+    ∷ (5, codes "GATEWAY", Address)
+    ∷ (6, codes "PRIORITY", U32)
+    ∷ (7, codes "PREFSRC", Address)
+    ∷ (8, codes "METRICS", Hex)
+    ∷ (9, codes "MULTIPATH", Hex)
+    ∷ (11, codes "FLOW", U32)
+    ∷ (12, codes "CACHEINFO", Hex)
+    ∷ (15, codes "TABLE", U32)
+    ∷ (16, codes "MARK", U32)
+    ∷ (18, codes "VIA", Hex)
+    ∷ (19, codes "NEWDST", Hex)
+    ∷ (20, codes "PREF", U8)
+    ∷ (21, codes "ENCAP_TYPE", U16)
+    ∷ (22, codes "ENCAP", Hex)
+    ∷ (23, codes "EXPIRES", U32)
+    ∷ (25, codes "UID", U32)
+    ∷ (30, codes "NH_ID", U32) ∷ []
+
+-- RTAX, inside a route's METRICS
+abbrev pub metrics_rows : List (Row Form)
+metrics_rows =
+    (1, codes "LOCK", U32)
+    ∷ (2, codes "MTU", U32)
+    ∷ (3, codes "WINDOW", U32)
+    ∷ (4, codes "RTT", U32)
+    ∷ (5, codes "RTTVAR", U32)
+    ∷ (6, codes "SSTHRESH", U32)
+    ∷ (7, codes "CWND", U32)
+    ∷ (8, codes "ADVMSS", U32)
+    ∷ (9, codes "REORDERING", U32)
+    ∷ (10, codes "HOPLIMIT", U32)
+    ∷ (11, codes "INITCWND", U32)
+    ∷ (12, codes "FEATURES", U32)
+    ∷ (13, codes "RTO_MIN", U32)
+    ∷ (14, codes "INITRWND", U32)
+    ∷ (15, codes "QUICKACK", U32)
+    ∷ (16, codes "CC_ALGO", Text) ∷ []
+
+-- the line of a route's head
+unfoldable pub route_line : RouteHead → List ℕ
+route_line h =
+    codes "  route family " ⨟ decimal h.family ⨟ codes " dst_len " ⨟ decimal h.dst_len ⨟ codes " src_len " ⨟ decimal h.src_len
+    ⨟ codes " tos " ⨟ decimal h.tos ⨟ codes " table " ⨟ decimal h.table ⨟ codes " protocol " ⨟ decimal h.protocol
+    ⨟ codes " scope " ⨟ decimal h.scope ⨟ codes " type " ⨟ decimal h.sort ⨟ codes " flags 0x" ⨟ padded_hex 8 h.flags ⨟ codes "\n"

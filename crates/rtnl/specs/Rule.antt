@@ -1,0 +1,28 @@
+-- The printed text of a routing rule: its attributes, and the line of its head.
+use Rattle.std.specs.Prelude.{ℕ, List, [], ◌∷◌, codes}
+use Rattle.std.specs.Fmt.{decimal}
+use Rattle.nl_route.specs.declared.fib_rule_hdr.RuleHead.{RuleHead}
+use Rattle.rtnl.specs.Rows.{Row}
+use Rattle.rtnl.specs.Text.{◌⨟◌, padded_hex}
+use Rattle.rtnl.specs.declared.text.attributes.Form.{Form}
+use Rattle.rtnl.specs.declared.text.attributes.Form.TheVariants.{U32, Text, Address}
+
+-- FRA, of a routing rule
+abbrev pub rule_rows : List (Row Form)
+rule_rows =
+    (1, codes "DST", Address)
+    ∷ (2, codes "SRC", Address)
+    ∷ (3, codes "IIFNAME", Text)
+    ∷ (4, codes "GOTO", U32)
+    ∷ (6, codes "PRIORITY", U32)
+    ∷ (10, codes "FWMARK", U32)
+    ∷ (15, codes "TABLE", U32)
+    ∷ (16, codes "FWMASK", U32)
+    ∷ (17, codes "OIFNAME", Text) ∷ []
+
+-- the line of a rule's head
+unfoldable pub rule_line : RuleHead → List ℕ
+rule_line h =
+    codes "  rule family " ⨟ decimal h.family ⨟ codes " dst_len " ⨟ decimal h.dst_len ⨟ codes " src_len " ⨟ decimal h.src_len
+    ⨟ codes " tos " ⨟ decimal h.tos ⨟ codes " table " ⨟ decimal h.table ⨟ codes " action " ⨟ decimal h.action
+    ⨟ codes " flags 0x" ⨟ padded_hex 8 h.flags ⨟ codes "\n"

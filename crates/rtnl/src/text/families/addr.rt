@@ -1,0 +1,48 @@
+//! The printed text of an address: its attributes, and the line of its head.
+
+use crate::text::attributes::Form;
+use crate::text::digits::Hex2;
+use crate::text::families::HeadLine;
+use crate::text::rows::Row;
+use nl_route::AddrHead;
+use std::alloc::AllocError;
+use std::fmt::Write;
+
+/// The attributes `IFA` of an address.
+pub(crate) const ATTRIBUTES: &[Row<Form>] = &[
+    (1, "ADDRESS", Form::Address),
+    (2, "LOCAL", Form::Address),
+    (3, "LABEL", Form::Text),
+    (4, "BROADCAST", Form::Address),
+    (5, "ANYCAST", Form::Address),
+    (6, "CACHEINFO", Form::Hex),
+    (7, "MULTICAST", Form::Address),
+    (8, "FLAGS", Form::U32),
+    (9, "RT_PRIORITY", Form::U32),
+];
+
+impl HeadLine for AddrHead {
+    ghost use Rattle.std.specs.Prelude.{refl};
+    ghost use Rattle.nl_route.specs.declared.group.Group.TheVariants as group;
+    ghost use Rattle.nl_route.specs.Families.{any};
+
+    ghost as_any = { any group.Addr };
+
+    ghost same = { λ h. refl };
+
+    #[tactic(auto, unfolding(crate::specs::Addr::addr_line))]
+    fn push_line(&self, out: &mut String) -> Result<(), AllocError> {
+        let AddrHead {
+            family,
+            prefixlen,
+            flags,
+            scope,
+            index,
+        } = *self;
+        let flags = Hex2(flags);
+        writeln!(
+            out,
+            "  addr family {family} prefix {prefixlen} flags 0x{flags} scope {scope} index {index}"
+        )
+    }
+}

@@ -1,0 +1,71 @@
+//! The printed text of a link: its attributes, and the line of its head.
+
+use crate::text::attributes::Form;
+use crate::text::digits::Hex8;
+use crate::text::families::HeadLine;
+use crate::text::flags::LinkFlags;
+use crate::text::names::push_names;
+use crate::text::rows::Row;
+use nl_route::LinkHead;
+use std::alloc::AllocError;
+use std::fmt::Write;
+
+/// The attributes `IFLA` of a link.
+pub(crate) const ATTRIBUTES: &[Row<Form>] = &[
+    (1, "ADDRESS", Form::Hex),
+    (2, "BROADCAST", Form::Hex),
+    (3, "IFNAME", Form::Text),
+    (4, "MTU", Form::U32),
+    (5, "LINK", Form::U32),
+    (6, "QDISC", Form::Text),
+    (10, "MASTER", Form::U32),
+    (13, "TXQLEN", Form::U32),
+    (16, "OPERSTATE", Form::U8),
+    (17, "LINKMODE", Form::U8),
+    (18, "LINKINFO", Form::Hex),
+    (20, "IFALIAS", Form::Text),
+    (27, "GROUP", Form::U32),
+    (29, "EXT_MASK", Form::U32),
+    (30, "PROMISCUITY", Form::U32),
+    (31, "NUM_TX_QUEUES", Form::U32),
+    (32, "NUM_RX_QUEUES", Form::U32),
+    (33, "CARRIER", Form::U8),
+    (35, "CARRIER_CHANGES", Form::U32),
+];
+
+/// The attributes `IFLA_INFO` inside a link's LINKINFO.
+pub(crate) const LINK_INFO: &[Row<Form>] = &[
+    (1, "KIND", Form::Text),
+    (2, "DATA", Form::Hex),
+    (3, "XSTATS", Form::Hex),
+    (4, "SLAVE_KIND", Form::Text),
+    (5, "SLAVE_DATA", Form::Hex),
+];
+
+impl HeadLine for LinkHead {
+    ghost use Rattle.std.specs.Prelude.{refl};
+    ghost use Rattle.nl_route.specs.declared.group.Group.TheVariants as group;
+    ghost use Rattle.nl_route.specs.Families.{any};
+
+    ghost as_any = { any group.Link };
+
+    ghost same = { λ h. refl };
+
+    #[tactic(auto, unfolding(crate::specs::Link::link_line), using(std::proofs::Common::append_assoc))]
+    fn push_line(&self, out: &mut String) -> Result<(), AllocError> {
+        let LinkHead {
+            family,
+            hardware,
+            index,
+            flags,
+            change,
+        } = *self;
+        let (bits, change) = (Hex8(flags), Hex8(change));
+        write!(
+            out,
+            "  link family {family} type {hardware} index {index} flags 0x{bits} "
+        )?;
+        push_names(out, &LinkFlags(flags))?;
+        writeln!(out, " change 0x{change}")
+    }
+}

@@ -1,0 +1,59 @@
+//! The lines of the families' bodies, one file for each family.
+
+pub(crate) mod addr;
+pub(crate) mod link;
+pub(crate) mod neigh;
+pub(crate) mod route;
+pub(crate) mod rule;
+
+use crate::text::tree::push_attrs;
+use nl_attr::Order;
+use nl_route::{Family, Head};
+use std::alloc::{AllocError, Global};
+
+/// What stands before the attributes of a body.
+const INDENT: &str = "    ";
+
+/// The head of a family, as it is printed.
+pub(crate) trait HeadLine: Head {
+    ghost use Rattle.std.specs.Prelude.{◌≡◌, ◌++◌, OnOk};
+    ghost use Rattle.std.specs.String.{string_bytes};
+    ghost use Rattle.nl_route.specs.Families.{AnyHead, context_of, group_of};
+    ghost use Rattle.rtnl.specs.Messages.{head_line};
+
+    ghost as_any: { Self → AnyHead };
+
+    /// Writes the line of the head.
+    fn push_line(&self, out: &mut String) -> Result<(), AllocError>
+        ensures { OnOk result (string_bytes out.new
+            ≡ string_bytes out.old ++ head_line (as_any self.now)) };
+
+    // Its attributes are of its family's context.
+    ghost same: { (h : Self) → Self.Head.ctx ≡ context_of (group_of (as_any h)) };
+}
+
+/// A value that is printed in lines.
+pub(crate) trait Shown {
+    ghost use Rattle.std.specs.Prelude.{◌≡◌, ◌++◌, OnOk};
+    ghost use Rattle.std.specs.String.{string_bytes};
+    ghost use Rattle.nl_dump.specs.Items.{Item};
+    ghost use Rattle.rtnl.specs.Tabled.{item_text};
+
+    ghost item: { Self → Item };
+
+    /// Writes the line of the head, and the lines of the attributes.
+    fn push(&self, alloc: Global, out: &mut String, order: Order) -> Result<(), AllocError>
+        ensures { OnOk result (string_bytes out.new
+            ≡ string_bytes out.old ++ item_text order (item self.now)) };
+}
+
+impl<H: HeadLine> Shown for Family<H> {
+    ghost use Rattle.nl_attr.specs.View.{attrs_view};
+
+    ghost item = { λ b. (H.as_any b.head, attrs_view b.attrs.items) };
+
+    fn push(&self, alloc: Global, out: &mut String, order: Order) -> Result<(), AllocError> {
+        self.head.push_line(out)?;
+        push_attrs(alloc, out, order, INDENT, H::context(), &self.attrs)
+    }
+}

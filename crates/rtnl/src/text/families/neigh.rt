@@ -1,0 +1,54 @@
+//! The printed text of a neighbour: its attributes, and the line of its head.
+
+use crate::text::attributes::Form;
+use crate::text::digits::{Hex2, Hex4};
+use crate::text::families::HeadLine;
+use crate::text::flags::{NeighFlags, NeighState};
+use crate::text::names::push_names;
+use crate::text::rows::Row;
+use nl_route::NeighHead;
+use std::alloc::AllocError;
+use std::fmt::Write;
+
+/// The attributes `NDA` of a neighbour.
+pub(crate) const ATTRIBUTES: &[Row<Form>] = &[
+    (1, "DST", Form::Address),
+    (2, "LLADDR", Form::Hex),
+    (3, "CACHEINFO", Form::Hex),
+    (4, "PROBES", Form::U32),
+    (5, "VLAN", Form::U16),
+    (6, "PORT", Form::NetworkU16),
+    (7, "VNI", Form::U32),
+    (8, "IFINDEX", Form::U32),
+    (9, "MASTER", Form::U32),
+];
+
+impl HeadLine for NeighHead {
+    ghost use Rattle.std.specs.Prelude.{refl};
+    ghost use Rattle.nl_route.specs.declared.group.Group.TheVariants as group;
+    ghost use Rattle.nl_route.specs.Families.{any};
+
+    ghost as_any = { any group.Neigh };
+
+    ghost same = { λ h. refl };
+
+    #[tactic(auto, unfolding(crate::specs::Neigh::neigh_line), using(std::proofs::Common::append_assoc))]
+    fn push_line(&self, out: &mut String) -> Result<(), AllocError> {
+        let NeighHead {
+            family,
+            ifindex,
+            state,
+            flags,
+            sort,
+        } = *self;
+        let (state_bits, bits) = (Hex4(state), Hex2(flags));
+        write!(
+            out,
+            "  neigh family {family} index {ifindex} state 0x{state_bits} "
+        )?;
+        push_names(out, &NeighState(state))?;
+        write!(out, " flags 0x{bits} ")?;
+        push_names(out, &NeighFlags(flags))?;
+        writeln!(out, " type {sort}")
+    }
+}

@@ -1,0 +1,84 @@
+//! The printed text of a route: its attributes, and the line of its head.
+
+use crate::text::attributes::Form;
+use crate::text::digits::Hex8;
+use crate::text::families::HeadLine;
+use crate::text::rows::Row;
+use nl_route::RouteHead;
+use std::alloc::AllocError;
+use std::fmt::Write;
+
+/// The attributes `RTA` of a route.
+pub(crate) const ATTRIBUTES: &[Row<Form>] = &[
+    (1, "DST", Form::Address),
+    (2, "SRC", Form::Address),
+    (3, "IIF", Form::U32),
+    (4, "OIF", Form::U32),
+    (5, "GATEWAY", Form::Address),
+    (6, "PRIORITY", Form::U32),
+    (7, "PREFSRC", Form::Address),
+    (8, "METRICS", Form::Hex),
+    (9, "MULTIPATH", Form::Hex),
+    (11, "FLOW", Form::U32),
+    (12, "CACHEINFO", Form::Hex),
+    (15, "TABLE", Form::U32),
+    (16, "MARK", Form::U32),
+    (18, "VIA", Form::Hex),
+    (19, "NEWDST", Form::Hex),
+    (20, "PREF", Form::U8),
+    (21, "ENCAP_TYPE", Form::U16),
+    (22, "ENCAP", Form::Hex),
+    (23, "EXPIRES", Form::U32),
+    (25, "UID", Form::U32),
+    (30, "NH_ID", Form::U32),
+];
+
+/// The attributes `RTAX` inside a route's METRICS.
+pub(crate) const METRICS: &[Row<Form>] = &[
+    (1, "LOCK", Form::U32),
+    (2, "MTU", Form::U32),
+    (3, "WINDOW", Form::U32),
+    (4, "RTT", Form::U32),
+    (5, "RTTVAR", Form::U32),
+    (6, "SSTHRESH", Form::U32),
+    (7, "CWND", Form::U32),
+    (8, "ADVMSS", Form::U32),
+    (9, "REORDERING", Form::U32),
+    (10, "HOPLIMIT", Form::U32),
+    (11, "INITCWND", Form::U32),
+    (12, "FEATURES", Form::U32),
+    (13, "RTO_MIN", Form::U32),
+    (14, "INITRWND", Form::U32),
+    (15, "QUICKACK", Form::U32),
+    (16, "CC_ALGO", Form::Text),
+];
+
+impl HeadLine for RouteHead {
+    ghost use Rattle.std.specs.Prelude.{refl};
+    ghost use Rattle.nl_route.specs.declared.group.Group.TheVariants as group;
+    ghost use Rattle.nl_route.specs.Families.{any};
+
+    ghost as_any = { any group.Route };
+
+    ghost same = { λ h. refl };
+
+    #[tactic(auto, unfolding(crate::specs::Route::route_line))]
+    fn push_line(&self, out: &mut String) -> Result<(), AllocError> {
+        let RouteHead {
+            family,
+            dst_len,
+            src_len,
+            tos,
+            table,
+            protocol,
+            scope,
+            sort,
+            flags,
+        } = *self;
+        let flags = Hex8(flags);
+        writeln!(
+            out,
+            "  route family {family} dst_len {dst_len} src_len {src_len} tos {tos} table {table} protocol {protocol} scope {scope} type {sort} flags 0x{flags}"
+        )
+    }
+}

@@ -1,0 +1,50 @@
+//! The printed text of a routing rule: its attributes, and the line of its head.
+
+use crate::text::attributes::Form;
+use crate::text::digits::Hex8;
+use crate::text::families::HeadLine;
+use crate::text::rows::Row;
+use nl_route::RuleHead;
+use std::alloc::AllocError;
+use std::fmt::Write;
+
+/// The attributes `FRA` of a routing rule.
+pub(crate) const ATTRIBUTES: &[Row<Form>] = &[
+    (1, "DST", Form::Address),
+    (2, "SRC", Form::Address),
+    (3, "IIFNAME", Form::Text),
+    (4, "GOTO", Form::U32),
+    (6, "PRIORITY", Form::U32),
+    (10, "FWMARK", Form::U32),
+    (15, "TABLE", Form::U32),
+    (16, "FWMASK", Form::U32),
+    (17, "OIFNAME", Form::Text),
+];
+
+impl HeadLine for RuleHead {
+    ghost use Rattle.std.specs.Prelude.{refl};
+    ghost use Rattle.nl_route.specs.declared.group.Group.TheVariants as group;
+    ghost use Rattle.nl_route.specs.Families.{any};
+
+    ghost as_any = { any group.Rule };
+
+    ghost same = { λ h. refl };
+
+    #[tactic(auto, unfolding(crate::specs::Rule::rule_line))]
+    fn push_line(&self, out: &mut String) -> Result<(), AllocError> {
+        let RuleHead {
+            family,
+            dst_len,
+            src_len,
+            tos,
+            table,
+            action,
+            flags,
+        } = *self;
+        let flags = Hex8(flags);
+        writeln!(
+            out,
+            "  rule family {family} dst_len {dst_len} src_len {src_len} tos {tos} table {table} action {action} flags 0x{flags}"
+        )
+    }
+}
