@@ -91,8 +91,9 @@ fn leaves_within(
     missed: u64,
 ) -> Result<(), Fail> {
     let limits = Limits::new(8, 65_536, 1_073_741_824, entries)?;
-    let mut session = waiting(alloc, Kind::Link, limits)?;
-    leaves(alloc, &mut session, links, missed)
+    in_dump(alloc, Kind::Link, limits, |alloc, session| {
+        leaves(alloc, session, links, missed)
+    })
 }
 
 #[test]
@@ -164,13 +165,14 @@ fn leads_to(
 
 /// A fresh dump is ended by a datagram of so many bytes in this way.
 fn ends(alloc: Global, text: &str, received: u64, end: End, complete: bool) -> Result<(), Fail> {
-    let mut session = waiting(alloc, Kind::Link, Limits::standard())?;
     let told = Told {
         received,
         complete,
         ..in_state(State::Ended(LINKS, end))
     };
-    leads_to(alloc, &mut session, text, (0, true), told)
+    in_dump(alloc, Kind::Link, Limits::standard(), |alloc, session| {
+        leads_to(alloc, session, text, (0, true), told)
+    })
 }
 
 #[test]
@@ -189,14 +191,18 @@ fn ends_of_a_dump(rt: HostRuntime) -> Result<(), Fail> {
 
 #[test]
 fn an_acknowledgement_does_not_end_it(rt: HostRuntime) -> Result<(), Fail> {
-    let mut session = waiting(rt.alloc(), Kind::Link, Limits::standard())?;
     let text = "24000000 0200 0000 01000000 39300000 00000000 20000000 1200 0103 01000000 00000000";
     let told = Told {
         received: 36,
         ignored: 1,
         ..in_state(State::Waiting(LINKS))
     };
-    leads_to(rt.alloc(), &mut session, text, (1, false), told)
+    in_dump(
+        rt.alloc(),
+        Kind::Link,
+        Limits::standard(),
+        |alloc, session| { leads_to(alloc, session, text, (1, false), told) },
+    )
 }
 
 /// A session refuses an error without its head, and waits on.
