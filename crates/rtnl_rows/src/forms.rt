@@ -93,18 +93,16 @@ fn all_types_say_what_is_listed(rt: HostRuntime) {
     }
 }
 
-/// A type of each family and what it asks for, where there is one, and none else.
+/// All families have types for three verbs, and links alone have one for the fourth.
 #[test]
 fn families_have_the_listed_types(rt: HostRuntime) {
     for group in Group::ALL {
         for verb in [Verb::New, Verb::Del, Verb::Get, Verb::Set] {
-            let listed = listed_type(group.type_of(verb));
-            let said = if group.has(verb) {
-                says(group, verb)
-            } else {
-                None
-            };
-            assert!(rt; listed == said, "{}", group.type_of(verb));
+            let kind = group.type_of(verb);
+            let has = verb != Verb::Set || group == Group::Link;
+            let said = if has { says(group, verb) } else { None };
+            assert!(rt; group.has(verb) == has, "{kind}");
+            assert!(rt; RouteType::of(kind) == said, "{kind}");
         }
     }
 }
