@@ -23,6 +23,18 @@ pub(crate) fn waiting(alloc: Global, kind: Kind, limits: Limits) -> Result<Sessi
     Ok(session)
 }
 
+/// These steps go well in a new session.
+pub(crate) fn in_session<F: FnOnce(Global, &mut Session) -> Result<(), Fail>>(
+    alloc: Global,
+    limits: Limits,
+    steps: F,
+) -> Result<(), Fail>
+    requires { F.IsAlwaysCallable steps }
+{
+    let mut session = Session::new(alloc, limits)?;
+    steps(alloc, &mut session)
+}
+
 /// These steps go well in a new session in which that dump waits.
 pub(crate) fn in_dump<F: FnOnce(Global, &mut Session) -> Result<(), Fail>>(
     alloc: Global,

@@ -83,8 +83,7 @@ fn is_refused(
     let refusal = read.result.err();
     let is_so = refusal == Some(ReadError::Layout(fault)) && read.visits == visits;
     ensure(is_so, text)?;
-    let is_so = refuse_when_fresh(alloc, bytes.as_slice(), fault, visits)?;
-    ensure(is_so, "a dump that waits")
+    refuse_when_fresh(alloc, bytes.as_slice(), fault, visits)
 }
 
 fn check_field(alloc: Global, text: &str, field: &Field) -> Result<(), Fail> {

@@ -1,6 +1,6 @@
 //! Truncated datagrams, and datagrams of which one length was changed, fed to sessions.
 
-use crate::feeding::{LINKS, are_links, in_dump, takes, waiting};
+use crate::feeding::{LINKS, are_links, in_dump, takes};
 use crate::vectors::{DONE, ETHERNET, LOOPBACK, changed, ensure, joined};
 use nl_attr::{Fault, Reason};
 use nl_dump::{Dump, FeedError, Kind, Progress, Session, State};
@@ -45,21 +45,21 @@ fn keeps_what_it_took(session: &Session, left: bool, items: usize) -> bool {
 }
 
 /// A fresh dump of links answers a prefix of these bytes as it must.
-fn check_prefix(alloc: Global, prefix: &[u8], end: u32) -> Result<bool, Fail> {
+fn check_prefix(alloc: Global, prefix: &[u8], end: u32) -> Result<(), Fail> {
     let (start, visits, count) = match end {
         0..48 => (0, 0, 0),
         48..92 => (48, 16, 1),
         92..112 => (92, 28, 2),
         _ => (112, 28, 2),
     };
-    let mut session = waiting(alloc, Kind::Link, Limits::standard())?;
-    let fed = session.feed(prefix);
-    Ok(
-        is_prefix_answer(fed, end, start, count)
-            && keeps_what_it_took(&session, end != start, count as usize)
+    in_dump(alloc, Kind::Link, Limits::standard(), |_alloc, session| {
+        let fed = session.feed(prefix);
+        let is_so = is_prefix_answer(fed, end, start, count)
+            && keeps_what_it_took(session, end != start, count as usize)
             && session.visits() == visits
-            && session.received() == u64::from(end),
-    )
+            && session.received() == u64::from(end);
+        ensure(is_so, "a prefix")
+    })
 }
 
 #[test]
@@ -69,8 +69,7 @@ fn each_prefix_in_a_fresh_dump(rt: HostRuntime) -> Result<(), Fail> {
     ensure(bytes.len() == 112, "a dump of 112 bytes")?;
     for (size, end) in (0..=112).zip(0u32..) {
         let prefix = bytes.as_slice().get(..size).ok_or("a prefix")?;
-        let is_so = check_prefix(alloc, prefix, end)?;
-        assert!(rt; is_so, "{size} bytes");
+        check_prefix(alloc, prefix, end)?;
     }
     Ok(())
 }
@@ -113,17 +112,17 @@ fn refuses_when_fresh(
     bytes: &[u8],
     fault: Fault,
     visits: u64,
-) -> Result<bool, Fail> {
-    let mut session = waiting(alloc, kind, Limits::standard())?;
-    let fed = session.feed(bytes);
-    Ok(
-        fed == Err(FeedError::Layout(fault))
+) -> Result<(), Fail> {
+    in_dump(alloc, kind, Limits::standard(), |_alloc, session| {
+        let fed = session.feed(bytes);
+        let is_so = fed == Err(FeedError::Layout(fault))
             && session.visits() == visits
             && session.damaged()
             && session.links().is_empty()
             && session.routes().is_empty()
-            && session.rules().is_empty(),
-    )
+            && session.rules().is_empty();
+        ensure(is_so, "a refusal that keeps nothing")
+    })
 }
 
 /// Fresh dumps of links, of routes and of rules refuse a datagram so.
@@ -132,11 +131,10 @@ pub(crate) fn refuse_when_fresh(
     bytes: &[u8],
     fault: Fault,
     visits: u64,
-) -> Result<bool, Fail> {
-    let links = refuses_when_fresh(alloc, Kind::Link, bytes, fault, visits)?;
-    let routes = refuses_when_fresh(alloc, Kind::Route, bytes, fault, visits)?;
-    let rules = refuses_when_fresh(alloc, Kind::Rule, bytes, fault, visits)?;
-    Ok(links && routes && rules)
+) -> Result<(), Fail> {
+    refuses_when_fresh(alloc, Kind::Link, bytes, fault, visits)?;
+    refuses_when_fresh(alloc, Kind::Route, bytes, fault, visits)?;
+    refuses_when_fresh(alloc, Kind::Rule, bytes, fault, visits)
 }
 
 /// A link whose name reaches over the attribute behind it is taken.

@@ -1,7 +1,7 @@
 //! Sessions: one dump after another, requests, refusals, and limits.
 
 use crate::feeding::{
-    LINKS, Told, holds, in_dump, in_state, refuses_text, takes, takes_text, tells,
+    LINKS, Told, holds, in_dump, in_session, in_state, refuses_text, takes, takes_text, tells,
 };
 use crate::vectors::{
     DONE, ETHERNET, LOOPBACK, LOOPBACK_ADDRESS, NEIGHBOUR, RULE, TABLE_RULE, TWO_HOPS_ROUTE,
@@ -37,14 +37,17 @@ fn asks_first(
     order: Order,
     request: &str,
 ) -> Result<(), Fail> {
-    let mut session = Session::new(alloc, Limits::standard().with_order(order))?;
     let dump = Dump {
         kind,
         family,
         seq,
         port,
     };
-    asks(alloc, &mut session, dump, request)
+    in_session(
+        alloc,
+        Limits::standard().with_order(order),
+        |alloc, session| { asks(alloc, session, dump, request) },
+    )
 }
 
 #[test]
@@ -80,8 +83,7 @@ fn stays_idle(alloc: Global, session: &mut Session) -> Result<(), Fail> {
 
 #[test]
 fn a_new_session_is_idle(rt: HostRuntime) -> Result<(), Fail> {
-    let mut session = Session::new(rt.alloc(), Limits::standard())?;
-    stays_idle(rt.alloc(), &mut session)
+    in_session(rt.alloc(), Limits::standard(), stays_idle)
 }
 
 /// The loopback link with another sequence number, another port id, and none.
@@ -300,8 +302,7 @@ fn empties_one_by_one(alloc: Global, session: &mut Session) -> Result<(), Fail> 
 
 #[test]
 fn a_dump_empties_the_table_of_its_family_alone(rt: HostRuntime) -> Result<(), Fail> {
-    let mut session = Session::new(rt.alloc(), Limits::standard())?;
-    empties_one_by_one(rt.alloc(), &mut session)
+    in_session(rt.alloc(), Limits::standard(), empties_one_by_one)
 }
 
 /// Two links, and then a dump of one.
