@@ -1,132 +1,63 @@
-//! Truncated datagrams, and datagrams of which one length was changed.
+//! Datagrams that are cut, changed in one length or nested deep, read.
 
-use crate::hostile_dumps::refuse_when_fresh;
-use crate::vectors::{
-    DONE, ETHERNET, LOOPBACK, TABLE_RULE, TWO_HOPS_ROUTE, changed, ensure, joined,
-};
-use nl_attr::{Fault, Reason};
+use crate::trials::{AT_DEPTH_8, AT_DEPTH_32, Trial, push_lengths, push_nests, push_prefixes};
+use crate::vectors::{LOOPBACK, changed, ensure};
 use nl_frame::{Body, Limits, Message, ReadError, read_datagram};
 use std::alloc::Global;
 use std::test::Fail;
 
-/// What is read of so many bytes of the dump, where its last message that is whole in them ends at
-/// `start`: so many messages where nothing is left, or the refusal of the rest.
-fn is_prefix_answer(
-    answer: Result<Vec<Message>, ReadError>,
-    end: u32,
-    start: u32,
-    count: usize,
-) -> bool {
-    let left = end.saturating_sub(start);
-    let reason = if left <= 15 {
-        Reason::Cut
-    } else {
-        Reason::BadLength
+/// A datagram is read with this answer.
+fn is_read(alloc: Global, trial: &Trial, limits: &Limits) -> bool {
+    let read = read_datagram(alloc, trial.bytes.as_slice(), limits);
+    let is_answer = match (read.result, trial.answer) {
+        (Ok(list), Ok(messages)) => list.len() == messages,
+        (Err(error), Err(fault)) => error == ReadError::Layout(fault),
+        _ => false,
     };
-    match answer {
-        Ok(list) => left == 0 && list.len() == count,
-        Err(error) => left > 0
-            && error
-                == ReadError::Layout(Fault {
-                    place: start,
-                    reason,
-                }),
-    }
+    is_answer && read.visits == trial.visits
 }
 
-fn check_prefix(alloc: Global, prefix: &[u8], end: u32) -> bool {
-    let (start, visits, count) = match end {
-        0..48 => (0, 0, 0),
-        48..92 => (48, 16, 1),
-        92..112 => (92, 28, 2),
-        _ => (112, 28, 3),
-    };
-    let read = read_datagram(alloc, prefix, &Limits::standard());
-    is_prefix_answer(read.result, end, start, count) && read.visits == visits
+/// Each datagram is read with its answer.
+fn are_read(alloc: Global, trials: &[Trial], limits: &Limits) -> Result<(), Fail> {
+    for (number, trial) in trials.iter().enumerate() {
+        if !is_read(alloc, trial, limits) {
+            let text = format!(in alloc; "datagram {number} of these")?;
+            return Err(Fail::new(text.as_str()));
+        }
+    }
+    Ok(())
 }
 
 #[test]
 fn each_prefix_of_a_dump(rt: HostRuntime) -> Result<(), Fail> {
     let alloc = rt.alloc();
-    let bytes = joined(alloc, &[LOOPBACK, ETHERNET, DONE])?;
-    ensure(bytes.len() == 112, "a dump of 112 bytes")?;
-    for (size, end) in (0..=112).zip(0u32..) {
-        let prefix = bytes.as_slice().get(..size).ok_or("a prefix")?;
-        assert!(rt; check_prefix(alloc, prefix, end), "{size} bytes");
-    }
-    Ok(())
-}
-
-/// A length field: its place, how many bytes it has, and what reading answers where it is at most 3,
-/// 15, and the greatest: the place of the bad length, and the visits.
-#[derive(Drop)]
-struct Field {
-    place: usize,
-    width: usize,
-    least: (u32, u64),
-    middle: (u32, u64),
-    greatest: (u32, u64),
-}
-
-/// A datagram with these bytes at a place has a bad length, also where a dump waits for it.
-fn is_refused(
-    alloc: Global,
-    text: &str,
-    at: usize,
-    with: &[u8],
-    (place, visits): (u32, u64),
-) -> Result<(), Fail> {
-    let bytes = changed(alloc, text, at, with)?;
-    let reason = Reason::BadLength;
-    let fault = Fault { place, reason };
-    let read = read_datagram(alloc, bytes.as_slice(), &Limits::standard());
-    let refusal = read.result.err();
-    let is_so = refusal == Some(ReadError::Layout(fault)) && read.visits == visits;
-    ensure(is_so, text)?;
-    refuse_when_fresh(alloc, bytes.as_slice(), fault, visits)
-}
-
-fn check_field(alloc: Global, text: &str, field: &Field) -> Result<(), Fail> {
-    for (value, answer) in [
-        ([0, 0, 0, 0], field.least),
-        ([3, 0, 0, 0], field.least),
-        ([15, 0, 0, 0], field.middle),
-        ([255, 255, 255, 255], field.greatest),
-    ] {
-        let with = value.as_slice().get(..field.width).ok_or("a width")?;
-        is_refused(alloc, text, field.place, with, answer)?;
-    }
-    Ok(())
-}
-
-fn at(place: usize, width: usize, all: (u32, u64)) -> Field {
-    Field {
-        place,
-        width,
-        least: all,
-        middle: all,
-        greatest: all,
-    }
+    let mut trials = Vec::new(alloc);
+    push_prefixes(alloc, &mut trials, 0)?;
+    ensure(trials.len() == 113, "each prefix")?;
+    are_read(alloc, trials.as_slice(), &Limits::standard())
 }
 
 #[test]
-fn each_length_of_a_link(rt: HostRuntime) -> Result<(), Fail> {
-    for field in &[at(0, 4, (0, 0)), at(40, 2, (40, 8))] {
-        check_field(rt.alloc(), LOOPBACK, field)?;
-    }
-    Ok(())
-}
-
-/// The length of its first attribute may reach over the one behind it.
-#[test]
-fn each_length_of_a_rule(rt: HostRuntime) -> Result<(), Fail> {
+fn each_length(rt: HostRuntime) -> Result<(), Fail> {
     let alloc = rt.alloc();
-    for field in &[at(0, 4, (0, 0)), at(36, 2, (36, 8))] {
-        check_field(alloc, TABLE_RULE, field)?;
-    }
-    is_refused(alloc, TABLE_RULE, 28, &[0, 0], (28, 0))?;
-    is_refused(alloc, TABLE_RULE, 28, &[3, 0], (28, 0))?;
-    is_refused(alloc, TABLE_RULE, 28, &[17, 0], (28, 0))
+    let mut trials = Vec::new(alloc);
+    push_lengths(alloc, &mut trials)?;
+    ensure(trials.len() == 49, "each length")?;
+    are_read(alloc, trials.as_slice(), &Limits::standard())
+}
+
+/// A link of nested lists is read at this depth with its answer.
+fn reads_nests(alloc: Global, depth: u8, answers: &[(Option<u32>, u64); 2]) -> Result<(), Fail> {
+    let mut trials = Vec::new(alloc);
+    push_nests(alloc, &mut trials, answers)?;
+    let limits = Limits::new(depth, 65_536, 1_073_741_824, 4_096)?;
+    are_read(alloc, trials.as_slice(), &limits)
+}
+
+#[test]
+fn nested_lists_at_two_depths(rt: HostRuntime) -> Result<(), Fail> {
+    reads_nests(rt.alloc(), 8, &AT_DEPTH_8)?;
+    reads_nests(rt.alloc(), 32, &AT_DEPTH_32)
 }
 
 fn has_a_long_name(message: &Message) -> bool {
@@ -141,13 +72,9 @@ fn has_a_long_name(message: &Message) -> bool {
     }
 }
 
-/// The name of a link, whose length may reach over the attribute behind it.
 #[test]
-fn the_length_of_a_name(rt: HostRuntime) -> Result<(), Fail> {
+fn a_name_that_reaches_over_the_next_attribute(rt: HostRuntime) -> Result<(), Fail> {
     let alloc = rt.alloc();
-    is_refused(alloc, LOOPBACK, 32, &[0, 0], (32, 0))?;
-    is_refused(alloc, LOOPBACK, 32, &[3, 0], (32, 0))?;
-    is_refused(alloc, LOOPBACK, 32, &[255, 255], (32, 0))?;
     let bytes = changed(alloc, LOOPBACK, 32, &[15, 0])?;
     let read = read_datagram(alloc, bytes.as_slice(), &Limits::standard());
     let list = read.result?;
@@ -156,29 +83,4 @@ fn the_length_of_a_name(rt: HostRuntime) -> Result<(), Fail> {
         _ => false,
     };
     ensure(read.visits == 16 && is_so, "a long name")
-}
-
-#[test]
-fn each_length_of_a_route(rt: HostRuntime) -> Result<(), Fail> {
-    let fields = [
-        at(0, 4, (0, 0)),
-        Field {
-            middle: (32, 16),
-            ..at(28, 2, (28, 0))
-        },
-        Field {
-            middle: (40, 52),
-            ..at(32, 2, (32, 36))
-        },
-        at(40, 2, (40, 52)),
-        Field {
-            middle: (56, 76),
-            ..at(48, 2, (48, 60))
-        },
-        at(56, 2, (56, 76)),
-    ];
-    for field in &fields {
-        check_field(rt.alloc(), TWO_HOPS_ROUTE, field)?;
-    }
-    Ok(())
 }

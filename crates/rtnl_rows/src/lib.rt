@@ -44,6 +44,8 @@ mod tables;
 #[cfg(test)]
 mod trees;
 #[cfg(test)]
+mod trials;
+#[cfg(test)]
 mod vectors;
 #[cfg(test)]
 mod views;
