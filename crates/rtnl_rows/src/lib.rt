@@ -8,6 +8,8 @@ mod datagrams;
 #[cfg(test)]
 mod dumps;
 #[cfg(test)]
+mod engines;
+#[cfg(test)]
 mod fakes;
 #[cfg(test)]
 mod families;
@@ -19,6 +21,8 @@ mod forms;
 mod hostile;
 #[cfg(test)]
 mod hostile_dumps;
+#[cfg(test)]
+mod hostile_runs;
 #[cfg(test)]
 mod keys;
 #[cfg(test)]
