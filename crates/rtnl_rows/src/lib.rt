@@ -14,6 +14,8 @@ mod fakes;
 #[cfg(test)]
 mod families;
 #[cfg(test)]
+mod faults;
+#[cfg(test)]
 mod feeding;
 #[cfg(test)]
 mod forms;

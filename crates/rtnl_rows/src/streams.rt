@@ -1,12 +1,8 @@
-//! Reads and writes that fail, or move few bytes at a time.
+//! Sources and sinks over memory, readers and writers, and the numbers and texts of their faults.
 
-use crate::fakes::{BrokenSource, EndlessSource, ShortFile, TightSink};
-use crate::vectors::{DONE, ensure};
-use rtnl::frame::Limits;
-use rtnl::{
-    Broken, ReadSource, RunError, Sink, SliceSource, Source, VecSink, Verdict, WriteSink, run_show,
-};
-use std::alloc::Global;
+use crate::fakes::ShortFile;
+use crate::vectors::ensure;
+use rtnl::{Broken, ReadSource, RunError, Sink, SliceSource, Source, VecSink, WriteSink};
 use std::test::Fail;
 
 /// A source that holds `datagram`, in takes of up to five bytes.
@@ -72,111 +68,21 @@ fn counts_the_failures_of_a_writer(rt: HostRuntime) {
 }
 
 #[test]
-fn reads_a_reader_to_its_end(rt: HostRuntime) {
-    for (broken, answer) in [
-        (false, Ok(Verdict::Clean)),
-        (true, Err(RunError::ReadFault)),
-    ] {
-        let mut source = ReadSource::new(ShortFile {
-            left: 20_000,
-            broken,
-        });
-        let mut sink = VecSink::new(rt.alloc());
-        let shown = run_show(rt.alloc(), &mut source, &mut sink, &Limits::standard());
-        assert!(rt; shown == answer && sink.bytes.is_empty());
-    }
-}
-
-#[test]
-fn a_source_that_fails_has_not_ended(rt: HostRuntime) {
-    let mut source = BrokenSource {
-        left: DONE.as_bytes(),
-        failures: 0,
-    };
-    let mut sink = VecSink::new(rt.alloc());
-    let shown = run_show(rt.alloc(), &mut source, &mut sink, &Limits::standard());
-    let is_so = shown == Err(RunError::ReadFault) && source.failures == 1;
-    assert!(rt; is_so && sink.bytes.is_empty());
-}
-
-#[test]
-fn a_source_that_fails_at_once_and_one_without_end(rt: HostRuntime) {
-    let mut source = BrokenSource {
-        left: &[],
-        failures: 0,
-    };
-    let mut sink = VecSink::new(rt.alloc());
-    let shown = run_show(rt.alloc(), &mut source, &mut sink, &Limits::standard());
-    assert!(rt; shown == Err(RunError::ReadFault) && source.failures == 1);
-    let mut source = EndlessSource { given: 0 };
-    let shown = run_show(rt.alloc(), &mut source, &mut sink, &Limits::standard());
-    assert!(rt; shown == Err(RunError::ReadFault) && source.given == 16_777_217);
-    assert!(rt; sink.bytes.is_empty());
-}
-
-fn reads_to_the_end(alloc: Global, longest: &[u8]) -> bool {
-    let mut source = SliceSource::new(longest);
-    let mut sink = VecSink::new(alloc);
-    let shown = run_show(alloc, &mut source, &mut sink, &Limits::standard());
-    shown == Ok(Verdict::Clean)
-}
-
-/// The run ends after one byte more than the longest input, of which 83 are left.
-fn stops_behind_the_longest(alloc: Global, blanks: &[u8]) -> bool {
-    let mut source = BrokenSource {
-        left: blanks,
-        failures: 0,
-    };
-    let mut sink = VecSink::new(alloc);
-    let shown = run_show(alloc, &mut source, &mut sink, &Limits::standard());
-    shown == Err(RunError::ReadFault) && source.failures == 0 && source.left.len() == 83
-}
-
-#[test]
-fn reads_the_longest_input_and_one_byte_more(rt: HostRuntime) -> Result<(), Fail> {
-    let mut blanks: Vec<u8> = Vec::new(rt.alloc());
-    for _ in 0..16_777_300 {
-        blanks.push(b' ')?;
-    }
-    let blanks = blanks.as_slice();
-    let longest = blanks.get(..16_777_216).ok_or("blanks")?;
-    ensure(reads_to_the_end(rt.alloc(), longest), "the longest")?;
-    let is_so = stops_behind_the_longest(rt.alloc(), blanks);
-    ensure(is_so, "one byte more")
-}
-
-/// The end of a dump, shown to this sink, ends so, after it took these bytes.
-fn stops(
-    alloc: Global,
-    sink: TightSink,
-    answer: Result<Verdict, RunError>,
-    given: &str,
-    failures: u64,
-) -> bool {
-    let mut sink = sink;
-    let mut source = SliceSource::new(DONE.as_bytes());
-    let shown = run_show(alloc, &mut source, &mut sink, &Limits::standard());
-    shown == answer && sink.bytes.as_slice() == given.as_bytes() && sink.failures == failures
-}
-
-#[test]
-fn stops_where_a_sink_does(rt: HostRuntime) {
-    let alloc = rt.alloc();
-    let text =
-        "datagram 1 bytes 20\nmessage 3 done flags 0x0002 MULTI seq 1 port 12345\n  done status 0 tail -\n";
-    let fault = Err(RunError::WriteFault);
-    let sink = TightSink::new(alloc, 7, 2, true);
-    assert!(rt; stops(alloc, sink, fault, "datagram 1 byt", 1));
-    let sink = TightSink::new(alloc, 7, 0, true);
-    assert!(rt; stops(alloc, sink, fault, "", 1));
-    let sink = TightSink::new(alloc, 7, 0, false);
-    assert!(rt; stops(alloc, sink, fault, "", 0));
-    let sink = TightSink::new(alloc, 1, 200, true);
-    assert!(rt; stops(alloc, sink, Ok(Verdict::Clean), text, 0));
-}
-
-#[test]
 fn refusals_of_a_run_have_numbers(rt: HostRuntime) {
     assert!(rt; RunError::Memory.code() == 13 && RunError::BadLine(7).code() == 14);
     assert!(rt; RunError::ReadFault.code() == 15 && RunError::WriteFault.code() == 16);
+}
+
+#[test]
+fn refusals_of_a_run_have_texts(rt: HostRuntime) -> Result<(), Fail> {
+    for (error, text) in [
+        (RunError::BadLine(7), "line 7: bad line"),
+        (RunError::ReadFault, "read fault"),
+        (RunError::WriteFault, "write fault"),
+        (RunError::Memory, "out of memory"),
+    ] {
+        let found = format!(in rt.alloc(); "{error}")?;
+        ensure(found.as_str() == text, text)?;
+    }
+    Ok(())
 }
