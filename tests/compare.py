@@ -1,10 +1,11 @@
 #!/usr/bin/env python3
 """Compares the built program with reference.py, the second reading of docs/FORMAT.md, in both byte orders:
-what `show` and `check` print and answer of the datagrams of examples/, whole, cut and changed, and of
-generated ones; what `table` does of recordings and of generated dumps, each a run of its own, under many
-limits; and the requests of `request`. The last line is 'N passed, M failed', and the status is 1 where a
-case failed.
+what `show` and `check` print and answer of the datagrams of examples/ and of tests/recordings/, whole, cut and
+changed, of a thousand mutations of each recording, and of generated ones; what `table` does of recordings, of
+their mutations and of generated dumps, under many limits; and the requests of `request`. The last line is
+'N passed, M failed', and the status is 1 where a case failed.
 """
+import functools
 import glob
 import os
 import random
@@ -13,15 +14,31 @@ import subprocess
 import sys
 
 sys.dont_write_bytecode = True
+import mutations
 import reference
 
 ROOT = os.path.join(os.path.dirname(os.path.abspath(__file__)), "..")
 PROGRAM = f"{ROOT}/crates/rtnl_cli/out/rtnl_cli"
 ORDERS = {"little": "<", "big": ">"}
+RECORDINGS = {
+    "examples/links": "link",
+    "examples/addresses": "addr",
+    "examples/routes": "route",
+    "examples/neighbours": "neigh",
+    "examples/rules": "rule",
+    "tests/recordings/loopback_addresses": "addr",
+    "tests/recordings/loopback_routes": "route",
+    "tests/recordings/loopback_routes_ipv6": "route",
+    "tests/recordings/no_neighbours": "neigh",
+    "tests/recordings/default_rules": "rule",
+}
+MUTATIONS, FED = 1000, 10
 SORTS = {2: "error", 3: "done", **dict.fromkeys(reference.GETS, "get"), **reference.FAMILIES}
 KINDS = (*SORTS, 0, 1, 4, 5, 15, 23, 27, 31, 35, 40, 65535)
 CHANGES = (0, 1, 3, 4, 5, 8, 9, 16, 18, 32, 34, 64, 128, 255)
 DEPTHS, ENTRIES = (0, 1, 2, 8, 32), (0, 1, 2, 3, 4096)
+LIMITS = [(depth, entries) for depth in DEPTHS for entries in ENTRIES]
+USUAL = reference.DEPTH, reference.ENTRIES
 IDS = ((0, 0), (1, 4242), (7, 0), (0x01020304, 0x80000000), (2**32 - 1, 1))
 STANDARD = {"order": "little", "family": 0, "depth": reference.DEPTH, "entries": reference.ENTRIES}
 SEQUENCES = (0, 1, 258, 0x01020304, 2**32 - 1)
@@ -44,15 +61,29 @@ KEYED = {
 TABLES = {("route", reference.RTA_TABLE), ("rule", reference.FRA_TABLE)}
 
 
-def recorded(order):
-    """The datagrams of examples/, and each of their messages alone, written in this order."""
-    for file in sorted(glob.glob(f"{ROOT}/examples/*.hex")):
-        with open(file, encoding="ascii") as lines:
-            for line in lines:
-                messages = reference.read(bytes.fromhex(line), "<")
-                yield reference.written(messages, order)
-                for message in messages:
-                    yield reference.written([message], order)
+def recordings(order):
+    """The recordings, what asks for the dump that each of them is, and its datagrams and each of their messages
+    alone, written in this order."""
+    for path in sorted(glob.glob(f"{ROOT}/examples/*.hex") + glob.glob(f"{ROOT}/tests/recordings/*.hex")):
+        file = os.path.relpath(path, ROOT).removesuffix(".hex")
+        with open(path, encoding="ascii") as lines:
+            messages = [reference.read(bytes.fromhex(line), "<") for line in lines]
+        _, _, sequence, port = messages[0][0][0]
+        whole = [reference.written(found, order) for found in messages]
+        alone = [reference.written([message], order) for found in messages for message in found]
+        yield file, (RECORDINGS[file], sequence, port), whole, alone
+
+
+@functools.cache
+def mutated(order):
+    """Each recording and its mutations, the same in each run."""
+    choose = random.Random(f"mutations {order}")
+    found = list(recordings(order))
+    others = [text for *_, alone in found for text in alone]
+    return [
+        (file, ids, whole, list(mutations.mutations(choose, MUTATIONS, whole, alone, others, order)))
+        for file, ids, whole, alone in found
+    ]
 
 
 def payload(choose, form):
@@ -121,7 +152,7 @@ def cut(choose, datagram):
 def groups(order):
     """The datagrams of each case, the same in each run."""
     choose = random.Random(f"rtnetlink {order}")
-    whole = list(recorded(order))
+    whole = [text for _, _, *both in recordings(order) for texts in both for text in texts]
     new = [generated(choose, order) for _ in range(4000)]
     yield "recorded", whole
     yield "recorded and cut", [text[:place] for text in whole if len(text) <= 400 for place in range(1, len(text))]
@@ -129,6 +160,8 @@ def groups(order):
     yield "generated", new
     yield "generated and cut", [cut(choose, text) for text in new]
     yield "generated and changed", [changed(choose, text) for text in new for _ in range(2)]
+    for file, _, _, texts in mutated(order):
+        yield f"mutated {file}", texts
 
 
 # Runs of `table`: what is asked of the session, and the datagrams that it is fed.
@@ -290,17 +323,6 @@ def damaged(choose, datagrams):
     return [mostly(choose, text, cut(choose, text), changed(choose, text), share=0.6) for text in datagrams]
 
 
-def recordings(order):
-    """The recordings of examples/, written in this order, and what asks for the dump that each of them is."""
-    for file, name in (("links", "link"), ("addresses", "addr"), ("routes", "route"), ("rules", "rule")):
-        with open(f"{ROOT}/examples/{file}.hex", encoding="ascii") as lines:
-            messages = [reference.read(bytes.fromhex(line), "<") for line in lines]
-        _, _, sequence, port = messages[0][0][0]
-        whole = [reference.written(found, order) for found in messages]
-        alone = [reference.written([message], order) for found in messages for message in found]
-        yield name, sequence, port, whole, alone
-
-
 def large(order):
     """Dumps that reach the limits of a datagram and of a table."""
     ids = IDS[1]
@@ -315,23 +337,42 @@ def large(order):
         yield ("link", *ids, 8, 4096), [reference.written(found, order) for found in parts]
 
 
+def until_the_end(choose, ids, texts, whole, order):
+    """Runs that feed each of these datagrams: each up to one that ends its dump or so many, with the recording
+    behind them."""
+    fed = []
+    for text in texts:
+        if not fed:
+            limits = mostly(choose, USUAL, *LIMITS, share=0.5)
+            dump = reference.Dump(*ids, order, *limits)
+        fed.append(text)
+        try:
+            dump.feed(text)
+        except reference.Fault:
+            pass
+        if dump.end is not None or len(fed) == FED:
+            yield (*ids, *limits), fed + whole
+            fed = []
+    if fed:
+        yield (*ids, *limits), fed + whole
+
+
 def table_groups(order):
     """The runs of each case: what is asked, the datagrams, and others that must give the same text."""
     choose = random.Random(f"tables {order}")
-    found = list(recordings(order))
-    limits = [(depth, entries) for depth in DEPTHS for entries in ENTRIES]
+    found = [(*ids, whole, alone) for _, ids, whole, alone in recordings(order)]
     yield "recorded", [
         ((kind, sequence, port, *limit), texts)
         for name, sequence, port, whole, alone in found
         for kind in reference.NEW
         for texts in (whole, alone)
-        for limit in (limits if kind == name else limits[-1:])
+        for limit in (LIMITS if kind == name else LIMITS[-1:])
     ]
     yield "recorded, each message alone", [
         ((*ids, 8, entries), whole, alone) for *ids, whole, alone in found for entries in ENTRIES
     ]
     yield "recorded and changed", [
-        ((*ids, *choose.choice(limits)), damaged(choose, texts))
+        ((*ids, *choose.choice(LIMITS)), damaged(choose, texts))
         for *ids, whole, alone in found
         for texts in [whole, alone] * 20
     ]
@@ -339,6 +380,8 @@ def table_groups(order):
     yield "generated", new
     yield "generated and changed", [(asked, damaged(choose, texts)) for asked, texts in new[:400]]
     yield "large", large(order)
+    for file, ids, whole, texts in mutated(order):
+        yield f"mutated {file}", until_the_end(choose, ids, texts, whole, order)
 
 
 # What the program is held against.
