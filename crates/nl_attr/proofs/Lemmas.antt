@@ -1,3 +1,4 @@
+pub mod Apart
 pub mod Rows
 pub mod Signed
 pub mod Reading

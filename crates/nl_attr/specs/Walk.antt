@@ -103,3 +103,9 @@ abbrev pub EachLies : {P : Type 0} → (P → Type 0) → List (Result P Fault) 
 EachLies Lies [] = Unit {0}
 EachLies Lies (Ok p ∷ ps) = Lies p × EachLies Lies ps
 EachLies Lies (Err f ∷ ps) = EachLies Lies ps
+
+-- the bytes that one item occupies, if there is one
+abbrev pub span_given : {P : Type 0} → (P → ℕ) → Option (Result P Fault) → ℕ
+span_given span None = 0
+span_given span (Some (Ok p)) = span p
+span_given span (Some (Err f)) = 0

@@ -167,14 +167,23 @@ impl LimitFault {
 }
 
 /// What a call answers, and how many attribute bytes it visited: the spans of the attributes and
-/// next hops that walkers handed out, on a refusal too.
-#[derive(Debug, Drop)]
+/// next hops that walkers handed out, on a refusal too. It can't be let go: it is taken apart, or
+/// ended by `into_result`, so that no visits are lost without a word.
+#[derive(Debug, PartialEq, Eq)]
 pub struct Tally<T, E> {
     pub result: Result<T, E>,
     pub visits: u64,
 }
 
 impl<T, E> Tally<T, E> {
+    /// The answer alone, for callers that count no visits.
+    pub fn into_result(self) -> Result<T, E>
+        ensures { result ≡ self.result }
+    {
+        let Tally { result, visits: _ } = self;
+        result
+    }
+
     /// What was read, made into something else, with the same visits. A refusal stays as it is.
     pub fn map<U, F: FnOnce(T) -> U>(self, make: F) -> Tally<U, E>
         requires { ForOk self.result (F.pre make) }

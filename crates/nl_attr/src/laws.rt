@@ -9,7 +9,7 @@ ghost use Rattle.nl_attr.specs.Shape.{Shape};
 ghost use Rattle.nl_attr.specs.Numbers.{aligned, num, number_of, AreBytes};
 ghost use Rattle.nl_attr.specs.Tree.{Items};
 ghost use Rattle.nl_attr.specs.Layout.{Fits};
-ghost use Rattle.nl_attr.specs.Heads.{FaultAt, Head, start_of};
+ghost use Rattle.nl_attr.specs.Heads.{FaultAt, Head, IsFirstFault, start_of};
 ghost use Rattle.nl_attr.specs.Visits.{Visits};
 ghost use Rattle.nl_attr.specs.Written.{written, items_len};
 ghost use Rattle.nl_attr.specs.Proper.{IsProper, IsRanged};
@@ -35,6 +35,11 @@ pub fn one_list()
 /// A list fits a region exactly where no head in it has a fault.
 pub fn fits_or_fault()
     ensures { (s : Shape) (ctx : Ctx) (l place : ℕ) (bytes : List ℕ) → AreBytes bytes → ((is : Items) × Fits s is bytes ctx l) ↔ ((p : ℕ) (r : Reason) → FaultAt s (start_of ctx l place bytes) p r → ⊥) }
+{}
+
+/// At most one fault is the first of a region.
+pub fn one_first_fault()
+    ensures { (s : Shape) (start : Head) (p q : ℕ) (r t : Reason) → IsFirstFault s start p r → IsFirstFault s start q t → (p ≡ q) × (r ≡ t) }
 {}
 
 /// The visits of a region, up to any place, are no more than its length once for each level that is left.

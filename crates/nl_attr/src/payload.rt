@@ -1,11 +1,10 @@
 //! The bytes of an attribute that holds neither a list nor next hops.
 
-ghost use Rattle.std.specs.Prelude.{◌≡◌, ◌≤◌, ◌==◌, length, IsOk, IfOk};
-ghost use Rattle.std.specs.Prelude.{nat_eq};
+ghost use Rattle.std.specs.Prelude.{◌≡◌, ◌≤◌, ◌<◌, ◌==◌, ◌↔◌, nat_eq, length, IsTrue, IsOk, IfOk, IfErr};
 ghost use Rattle.std.specs.Cmp.Lexicographic.{pointwise, nat_list_eq_equiv};
 ghost use Rattle.std.specs.Cmp.{partial_equiv_from_equiv};
 
-use std::alloc::{AllocError, Global};
+use std::alloc::{AllocError, AllocFailed, Global};
 use std::fmt;
 use std::marker::Model;
 
@@ -64,8 +63,25 @@ impl Payload {
     pub fn from_vec(bytes: Vec<u8>) -> Payload
         ensures { result ≡ bytes.items }
     {
-        Payload {
-            store: Store::Heap(bytes),
+        let store = Store::Heap(bytes);
+        Payload { store }
+    }
+
+    /// The bytes as a vector: the one in which they lie, else a copy of at most 23, which takes memory.
+    /// Where there is none, the payload comes back.
+    pub fn into_vec(self, alloc: Global) -> Result<Vec<u8>, AllocFailed<Payload>>
+        ensures value { IfOk result (λ v. v.items ≡ self) }
+        ensures long { INLINE < length self → IsOk result }
+        ensures back { IfErr result (λ failed. failed.value ≡ self) }
+    {
+        match self {
+            Payload {
+                store: Store::Heap(bytes),
+            } => Ok(bytes),
+            short => match Vec::from_slice(alloc, short.as_slice()) {
+                Ok(bytes) => Ok(bytes),
+                Err(AllocError) => Err(AllocFailed { value: short }),
+            },
         }
     }
 
@@ -78,6 +94,14 @@ impl Payload {
             Store::Inline(len, buffer) => &buffer[..*len as usize],
             Store::Heap(bytes) => bytes.as_slice(),
         }
+    }
+
+    /// Whether it is these bytes.
+    #[inline]
+    pub fn is(&self, bytes: &[u8]) -> bool
+        ensures { IsTrue result ↔ self.now ≡ bytes.now }
+    {
+        self.as_slice() == bytes
     }
 
     /// How many bytes.
@@ -94,6 +118,14 @@ impl Payload {
         ensures { result ≡ (length self.now == 0) }
     {
         self.len() == 0
+    }
+}
+
+impl From<Vec<u8>> for Payload {
+    ghost from_gives = { λ v p. p ≡ v.items };
+
+    fn from(bytes: Vec<u8>) -> Payload {
+        Payload::from_vec(bytes)
     }
 }
 

@@ -12,9 +12,10 @@ ghost use Rattle.arrayvec.specs.ArrayVec.{array_vec_len};
 
 use crate::fault::{Fault, ListError, Reason};
 use crate::limits::Shape;
+use crate::order::Order;
 use crate::payload::Payload;
 use crate::tree::{Attr, AttrFlags, Content, Ctx, Hop, Value, holds};
-use crate::walk::{Attrs, HopParts};
+use crate::walk::{CountedAttrs, CountedHopParts};
 use arrayvec::ArrayVec;
 use std::alloc::{AllocError, Global};
 use std::default::MadeWith;
@@ -22,7 +23,7 @@ use std::default::MadeWith;
 /// A region of attributes: its walk, where it begins, and what was collected.
 #[derive(Drop)]
 struct ListRegion<'a> {
-    walk: Attrs<'a>,
+    walk: CountedAttrs<'a>,
     ctx: Ctx,
     base: u32,
     level: u8,
@@ -32,7 +33,7 @@ struct ListRegion<'a> {
 /// A region of next hops.
 #[derive(Drop)]
 struct HopsRegion<'a> {
-    walk: HopParts<'a>,
+    walk: CountedHopParts<'a>,
     base: u32,
     level: u8,
     list: Vec<Hop>,
@@ -74,7 +75,7 @@ impl<'a> MadeWith<Global> for Frame<'a> {
     fn made_with(alloc: Global) -> Self {
         Frame::Hops(HopsWaits {
             region: HopsRegion {
-                walk: HopParts::of(&[]),
+                walk: CountedHopParts::over(&[], Order::Little),
                 base: 0,
                 level: 0,
                 list: Vec::new(alloc),
@@ -145,7 +146,7 @@ fn list_of<'a>(
     ensures spot { IfOk result (λ r. list_spot r ≡ spot_of shape attr_head base level bytes.now) }
 {
     Ok(ListRegion {
-        walk: Attrs::of_ordered(bytes, shape.order()),
+        walk: CountedAttrs::over(bytes, shape.order()),
         ctx,
         base,
         level,
@@ -167,7 +168,7 @@ fn hops_of<'a>(
     ensures spot { IfOk result (λ r. hops_spot r ≡ spot_of shape hop_head base level bytes.now) }
 {
     Ok(HopsRegion {
-        walk: HopParts::of_ordered(bytes, shape.order()),
+        walk: CountedHopParts::over(bytes, shape.order()),
         base,
         level,
         list: Vec::with_capacity(alloc, (bytes.len() / 16).min(FIRST_ROOM))?,
@@ -326,12 +327,11 @@ fn read_attrs<'a>(alloc: Global, region: ListRegion<'a>, shape: Shape, visits: &
         mut list,
     } = region;
     'attrs: loop {
-        let part = match walk.next() {
+        let part = match walk.step(visits) {
             None => return Turn::Ends(Value::List(list)),
             Some(Err(fault)) => return Turn::Fails(layout(base, fault)),
             Some(Ok(part)) => part,
         };
-        *visits += part.span as u64;
         let content = holds(ctx, part.number, part.flags);
         if let Content::Bytes = content {
             match keep_bytes(alloc, &mut list, part.number, part.flags, part.payload) {
@@ -374,12 +374,11 @@ fn read_hops<'a>(alloc: Global, region: HopsRegion<'a>, shape: Shape, visits: &m
         mut list,
     } = region;
     'hops: loop {
-        let part = match walk.next() {
+        let part = match walk.step(visits) {
             None => return Turn::Ends(Value::Hops(list)),
             Some(Err(fault)) => return Turn::Fails(layout(base, fault)),
             Some(Ok(part)) => part,
         };
-        *visits += part.span as u64;
         let place = base + part.place + 8;
         let inner = match list_of(alloc, part.rest, place, Ctx::Route, level + 1, shape) {
             Ok(inner) => inner,

@@ -1,3 +1,4 @@
+pub mod Apart
 pub mod Appended
 pub mod Beginnings
 pub mod Bodies
@@ -9,6 +10,7 @@ pub mod Headers
 pub mod Kept
 pub mod Layouts
 pub mod Loop
+pub mod OneList
 pub mod ProperLayouts
 pub mod Scan
 pub mod Steps

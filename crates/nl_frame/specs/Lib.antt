@@ -11,6 +11,7 @@ pub mod Told
 pub mod Kept
 pub mod Written
 pub mod Proper
+pub mod OneList
 pub mod Measured
 pub mod Compared
 pub use Rattle.nl_attr.specs.Numbers

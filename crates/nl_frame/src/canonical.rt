@@ -27,7 +27,7 @@ pub fn is_canonical(alloc: Global, bytes: &[u8], limits: &Limits) -> Result<bool
     ensures none { IfErr result (λ e. IfFault e (λ _. (ms : List MessageVal) → Layout limits.now.shape ms bytes.now → ⊥)) }
 {
     let _limit = limits.datagram();
-    let messages = match read_datagram(alloc, bytes, limits).result {
+    let messages = match read_datagram(alloc, bytes, limits).into_result() {
         Ok(messages) => messages,
         Err(error) => return Err(error),
     };

@@ -7,7 +7,9 @@ ghost use Rattle.nl_attr.specs.Shape.{Shape};
 ghost use Rattle.nl_attr.specs.Numbers.{aligned, AreBytes};
 ghost use Rattle.nl_frame.specs.Message.{MessageVal};
 ghost use Rattle.nl_frame.specs.Layout.{Layout};
-ghost use Rattle.nl_frame.specs.Heads.{Rest, FaultAt, Visits, whole};
+ghost use Rattle.nl_frame.specs.Heads.{Rest, FaultAt, IsFirstFault, Visits, whole};
+ghost use Rattle.nl_frame.specs.Limits.{Bounds, AreLimits};
+ghost use Rattle.nl_frame.specs.OneList.{IsTheList};
 ghost use Rattle.nl_frame.specs.Written.{written, written_len};
 ghost use Rattle.nl_frame.specs.Proper.{IsProper, IsRanged};
 
@@ -19,6 +21,17 @@ pub fn one_layout()
 /// Some list of messages is the layout of a datagram exactly where no head has a fault.
 pub fn layout_or_fault()
     ensures { (s : Shape) (d : List ℕ) → AreBytes d → ((ms : List MessageVal) × Layout s ms d) ↔ ((p : ℕ) (r : Reason) → FaultAt s (whole d) p r → ⊥) }
+{}
+
+/// At most one fault is the first of a datagram.
+pub fn one_first_fault()
+    ensures { (s : Shape) (d : Rest) (p q : ℕ) (r t : Reason) → IsFirstFault s d p r → IsFirstFault s d q t → (p ≡ q) × (r ≡ t) }
+{}
+
+/// Within allowed limits, the layout of a datagram is its one list: it is written within the same
+/// limits, and the bytes written have it for their one layout again.
+pub fn written_back()
+    ensures { (b : Bounds) (d : List ℕ) (ms : List MessageVal) → AreLimits b → AreBytes d → length d ≤ b.datagram → Layout b.shape ms d → IsTheList b d ms }
 {}
 
 /// The visits of a datagram, up to any place, are no more than its length once for each level.

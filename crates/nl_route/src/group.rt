@@ -41,7 +41,7 @@ pub struct RouteType {
 }
 
 /// What holds of a family.
-#[derive(Clone, Copy, Debug)]
+#[derive(Clone, Copy, Debug, PartialEq, Eq)]
 pub struct Row {
     /// How many bytes its head has.
     pub head_size: usize,

@@ -39,7 +39,7 @@ impl Each for Show {
         bytes: &[u8],
     ) -> Result<bool, AllocError> {
         push_datagram_line(out, number, bytes.len())?;
-        match read_datagram(alloc, bytes, &self.limits).result {
+        match read_datagram(alloc, bytes, &self.limits).into_result() {
             Ok(messages) => {
                 push_messages(alloc, out, self.limits.order(), messages.as_slice())?;
                 Ok(true)

@@ -53,7 +53,7 @@ fn all_messages(
 ) -> Result<Vec<Vec<Message>>> {
     let mut all = Vec::new(alloc);
     for datagram in datagrams {
-        all.push(read_datagram(alloc, datagram.as_slice(), limits).result?)?;
+        all.push(read_datagram(alloc, datagram.as_slice(), limits).into_result()?)?;
     }
     Ok(all)
 }

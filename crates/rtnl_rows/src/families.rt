@@ -164,7 +164,7 @@ fn bridge_entry(rt: HostRuntime) -> Result<(), Fail> {
         7, 0, 0, 0, 2, 0, 0, 0, 0x80, 0, 2, 1, 0x0a, 0, 2, 0, 2, 0, 0, 0, 0, 1, 0, 0, 6, 0, 5, 0,
         0x64, 0, 0, 0,
     ];
-    let neigh = Neigh::read_body(rt.alloc(), &bytes, 0, Depth::standard()).result?;
+    let neigh = Neigh::read_body(rt.alloc(), &bytes, 0, Depth::standard()).into_result()?;
     let is_so = neigh.vlan() == Some(100) && neigh.dst().is_none();
     ensure(is_so, "a VLAN and no address")
 }
@@ -175,7 +175,7 @@ fn first_of_two_names(rt: HostRuntime) -> Result<(), Fail> {
         0, 0, 4, 3, 1, 0, 0, 0, 0x49, 0, 1, 0, 0, 0, 0, 0, 6, 0, 3, 0, 0x61, 0, 0, 0, 6, 0, 3, 0,
         0x62, 0, 0, 0, 6, 0, 4, 0, 0xdc, 5, 0, 0,
     ];
-    let link = Link::read_body(rt.alloc(), &bytes, 0, Depth::standard()).result?;
+    let link = Link::read_body(rt.alloc(), &bytes, 0, Depth::standard()).into_result()?;
     let is_so = link.name() == Some(b"a".as_slice()) && link.mtu().is_none();
     ensure(is_so, "a name and no MTU")
 }

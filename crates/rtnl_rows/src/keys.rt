@@ -186,7 +186,7 @@ fn key_with(alloc: Global, place: usize) -> Result<Vec<u8>, Fail> {
     if bytes.len() != 96 {
         return Err(Fail::new("not 96 bytes"));
     }
-    let rule = Rule::read_body(alloc, bytes.as_slice(), 0, Depth::standard()).result?;
+    let rule = Rule::read_body(alloc, bytes.as_slice(), 0, Depth::standard()).into_result()?;
     Ok(rule.key(alloc)?)
 }
 

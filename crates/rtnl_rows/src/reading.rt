@@ -23,7 +23,7 @@ pub(crate) fn body_of<H: Head>(alloc: Global, head: &str, attrs: &str) -> Result
     if bytes.len() < H::SIZE {
         return Err(Fail::new("no head"));
     }
-    Ok(Family::read_body(alloc, bytes.as_slice(), 0, Depth::standard()).result?)
+    Ok(Family::read_body(alloc, bytes.as_slice(), 0, Depth::standard()).into_result()?)
 }
 
 /// The body in this order, and the visits.
@@ -44,7 +44,7 @@ pub(crate) fn body_in<H: Head>(
 pub(crate) fn body_in_datagram(alloc: Global, text: &str, order: Order) -> Result<Body, Fail> {
     let bytes = bytes_of(alloc, text)?;
     let limits = Limits::standard().with_order(order);
-    let mut messages = read_datagram(alloc, bytes.as_slice(), &limits).result?;
+    let mut messages = read_datagram(alloc, bytes.as_slice(), &limits).into_result()?;
     let Message { body, .. } = messages.pop().ok_or("a message")?;
     Ok(body)
 }

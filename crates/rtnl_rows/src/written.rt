@@ -28,7 +28,7 @@ const BAD: &str =
 fn writes(alloc: Global, limits: &Limits, text: &str, written: &str) -> Result<(), Fail> {
     let bytes = bytes_of(alloc, text)?;
     let expected = bytes_of(alloc, written)?;
-    let messages = read_datagram(alloc, bytes.as_slice(), limits).result?;
+    let messages = read_datagram(alloc, bytes.as_slice(), limits).into_result()?;
     let found = write_datagram(alloc, messages.as_slice(), limits)?;
     let canonical = is_canonical(alloc, bytes.as_slice(), limits)?;
     ensure(found == expected && canonical == (text == written), text)
@@ -107,7 +107,7 @@ fn refusals_are_those_of_reading(rt: HostRuntime) -> Result<(), Fail> {
     let alloc = rt.alloc();
     let bytes = bytes_of(alloc, BAD)?;
     let limits = Limits::standard();
-    let read = read_datagram(alloc, bytes.as_slice(), &limits).result.err();
+    let read = read_datagram(alloc, bytes.as_slice(), &limits).into_result().err();
     let checked = is_canonical(alloc, bytes.as_slice(), &limits).err();
     let least = Limits::new(8, 16, 0, 0)?;
     let refused = is_canonical(alloc, bytes.as_slice(), &least).err();
@@ -120,7 +120,7 @@ fn link_comes_back(alloc: Global, bytes: &[u8]) -> Result<(), Fail> {
         return Err(Fail::new("not 32 bytes"));
     }
     let depth = Depth::standard();
-    let link = Link::read_body_ordered(alloc, bytes, 0, depth, Order::Big).result?;
+    let link = Link::read_body_ordered(alloc, bytes, 0, depth, Order::Big).into_result()?;
     let mut out = Vec::new(alloc);
     link.write_body_ordered(depth, &mut out, Order::Big)?;
     ensure(
@@ -134,7 +134,7 @@ fn route_comes_back(alloc: Global, bytes: &[u8]) -> Result<(), Fail> {
         return Err(Fail::new("not 48 bytes"));
     }
     let depth = Depth::standard();
-    let route = Route::read_body(alloc, bytes, 16, depth).result?;
+    let route = Route::read_body(alloc, bytes, 16, depth).into_result()?;
     let mut out = Vec::new(alloc);
     route.write_body(depth, &mut out)?;
     ensure(
@@ -158,7 +158,7 @@ fn rule_in(alloc: Global, bytes: &[u8]) -> Result<Rule, Fail> {
     if bytes.len() != 88 {
         return Err(Fail::new("not 88 bytes"));
     }
-    Ok(Rule::read_body(alloc, bytes, 16, Depth::standard()).result?)
+    Ok(Rule::read_body(alloc, bytes, 16, Depth::standard()).into_result()?)
 }
 
 fn big_rule_in(alloc: Global, bytes: &[u8]) -> Result<Rule, Fail> {
@@ -166,7 +166,7 @@ fn big_rule_in(alloc: Global, bytes: &[u8]) -> Result<Rule, Fail> {
         return Err(Fail::new("not 88 bytes"));
     }
     let depth = Depth::standard();
-    Ok(Rule::read_body_ordered(alloc, bytes, 16, depth, Order::Big).result?)
+    Ok(Rule::read_body_ordered(alloc, bytes, 16, depth, Order::Big).into_result()?)
 }
 
 /// A rule is written in one order, and read in it as itself.
@@ -389,7 +389,7 @@ fn the_largest_datagram(rt: HostRuntime) -> Result<(), Fail> {
 /// A route by next hops at depth 1.
 fn a_route_is_too_deep(alloc: Global) -> Result<(), Fail> {
     let bytes = bytes_of(alloc, TWO_HOPS_ROUTE)?;
-    let read = read_datagram(alloc, bytes.as_slice(), &Limits::standard()).result?;
+    let read = read_datagram(alloc, bytes.as_slice(), &Limits::standard()).into_result()?;
     let shallow = Limits::new(1, 65_536, 0, 0)?;
     let refused = write_datagram(alloc, read.as_slice(), &shallow).err();
     ensure(refused == Some(WriteError::TooDeep), "a route")

@@ -23,6 +23,6 @@ pub fn message_count(alloc: Global, datagram: &[u8], limits: &Limits) -> Result<
     ensures first { IfErr result (λ e. IfFault e (λ fault.
         IsFirstFault limits.now.shape (whole datagram.now) fault.place fault.reason)) }
 {
-    let messages = read_datagram(alloc, datagram, limits).result?;
+    let messages = read_datagram(alloc, datagram, limits).into_result()?;
     Ok(messages.len())
 }

@@ -3,7 +3,8 @@
 ghost use Rattle.std.specs.Prelude.{◌+◌, ◌*◌, ◌≤◌, ◌↔◌, List, IfOk, IsTrue, OnOk, OnErr, length};
 ghost use Rattle.nl_frame.specs.Message.{MessageVal};
 ghost use Rattle.nl_route.specs.declared.group.Group.{Group};
-ghost use Rattle.nl_dump.specs.Every.{IsTheList, SameAnswer};
+ghost use Rattle.nl_dump.specs.Every.{SameAnswer};
+ghost use Rattle.nl_frame.specs.OneList.{IsTheList};
 ghost use Rattle.nl_dump.specs.Steps.{IsWaiting};
 ghost use Rattle.nl_dump.specs.View.{table_at};
 
@@ -13,7 +14,7 @@ use nl_dump::{FeedError, Session, State};
 pub fn take_answer(session: &mut Session, datagram: &[u8]) -> Result<bool, FeedError>
     // A datagram that is taken is one list of messages, which is written and read again.
     ensures taken { OnOk result ((messages : List MessageVal)
-        × IsTheList session.old datagram.now messages) }
+        × IsTheList session.old.limits datagram.now messages) }
     // The dump waits until its end has come.
     ensures waits { IfOk result (λ waits. IsTrue waits ↔ IsWaiting session.new.state) }
     // One that is refused leaves the dump's answer and all tables as they were.

@@ -37,7 +37,7 @@ pub fn read_named(alloc: Global, body: &[u8], depth: Depth) -> Result<Named, Lis
     ensures first { IfErr result (λ e. IfLayout e (λ fault.
         IsFirstFault (shape_of Order.Little depth) (attrs_of 16 Ctx.Link 0 body.now) fault.place fault.reason)) }
 {
-    let link = Link::read_body(alloc, body, 0, depth).result?;
+    let link = Link::read_body(alloc, body, 0, depth).into_result()?;
     let name = match link.name() {
         Some(name) => Some(Vec::from_slice(alloc, name)?),
         None => None,

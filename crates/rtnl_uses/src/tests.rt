@@ -63,8 +63,8 @@ refused cut at 0
 fn a_link_is_kept_once(rt: HostRuntime) -> Result<(), Fail> {
     let body = b"\0\0\x04\x03\x01\0\0\0\0\0\0\0\0\0\0\0";
     let mut table = Table::new(rt.alloc(), 1)?;
-    let first = Link::read_body(rt.alloc(), body, 0, Depth::standard()).result?;
-    let second = Link::read_body(rt.alloc(), body, 0, Depth::standard()).result?;
+    let first = Link::read_body(rt.alloc(), body, 0, Depth::standard()).into_result()?;
+    let second = Link::read_body(rt.alloc(), body, 0, Depth::standard()).into_result()?;
     assert_eq!(rt; keep(rt.alloc(), &mut table, first)?, Put::Added);
     assert_eq!(rt; keep(rt.alloc(), &mut table, second)?, Put::Replaced);
     Ok(())

@@ -1,12 +1,11 @@
 -- The numbers of one turn of a walk.
-use Rattle.std.proofs.Common.{◌≡◌, ℕ, ◌+◌, ◌*◌, ◌/◌, ◌≤◌, min, List, length, Some, None, Ok, ap, ◌∙◌, arith, length-drop}
+use Rattle.std.proofs.Common.{◌≡◌, ℕ, ◌+◌, ◌*◌, ◌/◌, ◌≤◌, min, List, length, Some, None, Result, Ok, ap, subst, ◌∙◌, arith, length-drop}
 use Rattle.nl_attr.specs.declared.walk.attrs.Part.{Part}
 use Rattle.nl_attr.specs.declared.walk.hops.HopPart.{HopPart}
+use Rattle.nl_attr.specs.declared.fault.Fault.{Fault}
 use Rattle.nl_attr.specs.declared.order.Order.{Order}
 use Rattle.nl_attr.specs.Numbers.{len_of, span_of}
-use Rattle.nl_attr.specs.Walk.{Region}
-use Rattle.nl_attr.specs.Walk.{broken_length, IsPart, IsHopPart, GivesPart, GivesHop, after}
-use Rattle.nl_attr.specs.Walk.{payload_of}
+use Rattle.nl_attr.specs.Walk.{Region, broken_length, IsPart, IsHopPart, GivesPart, GivesHop, after, payload_of, span_given}
 use Rattle.nl_attr.proofs.Lemmas.Reading.{sound_within, payload_length, span_at_least}
 
 -- where a walk stands after an item
@@ -42,3 +41,7 @@ part_turns r s p g = (turns 4 r s p.payload.now g.1.0 g.3 g.2.payload, g.2)
 
 pub hop_turns : (r s : Region) (p : HopPart) → GivesHop r (Some (Ok p)) s → Turns 8 r s p.rest.now × IsHopPart p r
 hop_turns r s p g = (turns 8 r s p.rest.now g.1.0 g.3 g.2.rest, g.2)
+
+-- the count after a step that gave an item
+pub counted : {P : Type 0} (span : P → ℕ) (old new : ℕ) (x : Result P Fault) (p : P) → new ≡ old + span_given span (Some x) → x ≡ Ok p → new ≡ old + span p
+counted span old new x p count is = subst (λ y. new ≡ old + span_given span (Some y)) is count

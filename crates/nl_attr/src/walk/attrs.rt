@@ -9,7 +9,7 @@ use crate::walk::{align4, head_len};
 use std::marker::Model;
 
 /// An attribute as it lies in its region.
-#[derive(Clone, Copy, Debug)]
+#[derive(Clone, Copy, Debug, PartialEq, Eq)]
 pub struct Part<'a> {
     /// The type without its two flag bits: below 16,384.
     pub number: u16,

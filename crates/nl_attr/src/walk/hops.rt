@@ -18,7 +18,7 @@ fn index_at(order: Order, left: &[u8]) -> i32
 }
 
 /// A next hop as it lies in its region.
-#[derive(Clone, Copy, Debug)]
+#[derive(Clone, Copy, Debug, PartialEq, Eq)]
 pub struct HopPart<'a> {
     pub flags: u8,
     pub hops: u8,

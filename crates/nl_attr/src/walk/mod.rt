@@ -5,11 +5,13 @@ ghost use Rattle.nl_attr.specs.Numbers.{aligned};
 ghost use Rattle.nl_attr.specs.Walk.{HeadIs};
 
 mod attrs;
+mod counted;
 mod hops;
 
 use crate::fault::Reason;
 use crate::order::Order;
 pub use attrs::{Attrs, Part};
+pub(crate) use counted::{CountedAttrs, CountedHopParts};
 pub use hops::{HopPart, HopParts};
 
 /// The least multiple of 4 that is not below `n` (`NLMSG_ALIGN`, `RTA_ALIGN`).
