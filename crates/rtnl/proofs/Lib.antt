@@ -1,3 +1,4 @@
+mod Answers
 mod Digits
 mod Entries
 mod Feeding
@@ -7,5 +8,6 @@ mod Recordings
 mod Refusing
 mod Running
 mod Showing
+mod SomeAnswer
 mod Streams
 mod Trees

@@ -1,8 +1,8 @@
 -- A run over the datagrams of an input: what is found of each, what is printed of it, and the verdict.
 use Rattle.std.specs.Prelude.{◌≡◌, ◌≢◌, ◌+◌, ◌⊎◌, ℕ, List, [], ◌∷◌, ◌++◌, Bool, true, false, Option, Result, Ok, Err, OnOk, OnErr, IfErr}
-use Rattle.std.specs.Io.KnownBytes.{Appends, Consumes, IsAtEnd}
+use Rattle.std.specs.Io.KnownBytes.{Appends, Consumes}
 use Rattle.rtnl.specs.Lines.{datagrams, longest_input}
-use Rattle.rtnl.specs.Streams.{AppendsPrefix, ConsumesMoreThan, HasFailed}
+use Rattle.rtnl.specs.Streams.{AppendsPrefix, ConsumesMoreThan, IsRead, StopsOnce, one_more}
 use Rattle.rtnl.specs.declared.error.RunError.{RunError}
 use Rattle.rtnl.specs.declared.error.RunError.TheVariants.{BadLine, ReadFault, WriteFault, Memory}
 use Rattle.rtnl.specs.declared.error.Verdict.{Verdict}
@@ -52,35 +52,39 @@ FrontOfInput Of from_old from_new to_old to_new =
 abbrev pub HasBadLine : Option (List ℕ) → Option (List ℕ) → ℕ → Type 0
 HasBadLine from_old from_new number = (input : List ℕ) × Consumes from_old from_new input × (datagrams input ≡ Err number)
 
--- how a run over a recording ends, by what its source and its sink tell of themselves (the bytes left, the end, the failed calls; the bytes taken, a call that took none, the failed calls), by what is said of datagrams, and by source, sink and answer
-pub record Runs {S W : Type 0} (left : S → Option (List ℕ)) (is_ended : S → Type 0) (failed_reads : S → ℕ) (taken : W → Option (List ℕ)) (is_stalled : W → Type 0) (failed_writes : W → ℕ)
+-- how a run over a recording ends, by what its source and its sink tell of themselves (the bytes left, the end, the failed calls; the bytes taken, a call that took none, those calls, the failed calls), by what is said of datagrams, and by source, sink and answer
+pub record Runs {S W : Type 0} (left : S → Option (List ℕ)) (is_ended : S → Type 0) (failed_reads : S → ℕ)
+    (taken : W → Option (List ℕ)) (is_stalled : W → Type 0) (stalls : W → ℕ) (failed_writes : W → ℕ)
     (Says : List (List ℕ) → List ℕ → Verdict → Type 0) (from_old from_new : S) (to_old to_new : W) (result : Result Verdict RunError) : Type 0 where
-  -- the source came to its end
-  pub ended : OnOk result (is_ended from_new × IsAtEnd (left from_new))
-  -- no call failed
-  pub sound : OnOk result ((failed_reads from_new ≡ failed_reads from_old) × (failed_writes to_new ≡ failed_writes to_old))
-  -- the source came to its end, and this line of its input is the first that is bad
-  pub bad_line : (number : ℕ) → result ≡ Err (BadLine number) → is_ended from_new × HasBadLine (left from_old) (left from_new) number
-  -- a read failed in this call, or the input is too long
-  pub read_fault : result ≡ Err ReadFault → HasFailed (failed_reads from_old) (failed_reads from_new) ⊎ ConsumesMoreThan longest_input (left from_old) (left from_new)
-  -- a write failed in this call, or took no byte
-  pub write_fault : result ≡ Err WriteFault → HasFailed (failed_writes to_old) (failed_writes to_new) ⊎ is_stalled to_new
+  -- the source came to its end, and no read failed
+  pub ended : OnOk result (IsRead left is_ended failed_reads from_old from_new)
+  -- no write failed, or took no byte
+  pub sound : OnOk result ((failed_writes to_new ≡ failed_writes to_old) × (stalls to_new ≡ stalls to_old))
+  -- the source came to its end, no read failed, and this line of its input is the first that is bad
+  pub bad_line : (number : ℕ) → result ≡ Err (BadLine number) → IsRead left is_ended failed_reads from_old from_new × HasBadLine (left from_old) (left from_new) number
+  -- one read failed; or none did, and the input is too long
+  pub read_fault : result ≡ Err ReadFault → (failed_reads from_new ≡ one_more (failed_reads from_old))
+      ⊎ ((failed_reads from_new ≡ failed_reads from_old) × ConsumesMoreThan longest_input (left from_old) (left from_new))
+  -- the source came to its end, no read failed, and one write failed or took no byte
+  pub write_fault : result ≡ Err WriteFault → IsRead left is_ended failed_reads from_old from_new × StopsOnce is_stalled stalls failed_writes to_old to_new
+  -- no read failed
+  pub memory : result ≡ Err Memory → failed_reads from_new ≡ failed_reads from_old
   -- nothing was written, but for a write fault
   pub nothing : OnErr result (result ≢ Err WriteFault → to_new ≡ to_old)
   -- and then a front of the text
   pub part : result ≡ Err WriteFault → FrontOfInput Says (left from_old) (left from_new) (taken to_old) (taken to_new)
 
 -- how a run that reads nothing ends, by what its sink tells of itself, its whole text, and sink and answer
-pub record Writes {W : Type 0} (taken : W → Option (List ℕ)) (is_stalled : W → Type 0) (failed_writes : W → ℕ)
+pub record Writes {W : Type 0} (taken : W → Option (List ℕ)) (is_stalled : W → Type 0) (stalls : W → ℕ) (failed_writes : W → ℕ)
     (text : List ℕ) (to_old to_new : W) (result : Result Verdict RunError) : Type 0 where
   -- the text was written
   pub written : OnOk result (Appends (taken to_old) (taken to_new) text)
-  -- no call failed
-  pub sound : OnOk result (failed_writes to_new ≡ failed_writes to_old)
+  -- no write failed, or took no byte
+  pub sound : OnOk result ((failed_writes to_new ≡ failed_writes to_old) × (stalls to_new ≡ stalls to_old))
   -- it fails for the sink or for memory
   pub errors : IfErr result (λ e. (e ≡ WriteFault) ⊎ (e ≡ Memory))
-  -- a write failed in this call, or took no byte
-  pub write_fault : result ≡ Err WriteFault → HasFailed (failed_writes to_old) (failed_writes to_new) ⊎ is_stalled to_new
+  -- one write failed, or took no byte
+  pub write_fault : result ≡ Err WriteFault → StopsOnce is_stalled stalls failed_writes to_old to_new
   -- nothing was written, but for a write fault
   pub nothing : OnErr result (result ≢ Err WriteFault → to_new ≡ to_old)
   -- and then a front of the text

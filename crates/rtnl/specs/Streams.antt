@@ -1,14 +1,16 @@
--- What calls of a source or a sink do to its known bytes and to its count of failures.
-use Rattle.std.specs.Prelude.{◌≡◌, ℕ, ◌+◌, ◌-◌, ◌<◌, ◌≤◌, ◌^◌, ◌⊎◌, min, List, Option, length, take}
-use Rattle.std.specs.Io.KnownBytes.{Appends, Consumes}
+-- What calls of a source or a sink do to its known bytes and to its counts.
+use Rattle.std.specs.Prelude.{◌≡◌, ℕ, ◌+◌, ◌-◌, ◌<◌, ◌≤◌, ◌^◌, ◌⊎◌, min, List, Option, Result, Ok, Err, length, take}
+use Rattle.std.specs.Io.KnownBytes.{Appends, Consumes, IsAtEnd}
+use Rattle.rtnl.specs.declared.broken.Broken.{Broken}
 
 -- one more, up to the greatest count
-abbrev pub one_failure_more : ℕ → ℕ
-one_failure_more count = min (count + 1) (2 ^ 64 - 1)
+abbrev pub one_more : ℕ → ℕ
+one_more count = min (count + 1) (2 ^ 64 - 1)
 
--- a count of failures rose, or stands at its greatest value
-abbrev pub HasFailed : ℕ → ℕ → Type 0
-HasFailed old new = (old < new) ⊎ (new ≡ 2 ^ 64 - 1)
+-- a call over a slice of this size moved no byte of some
+abbrev pub MovesNone : Result ℕ Broken → ℕ → Type 0
+MovesNone (Ok count) size = (count ≡ 0) × (0 < size)
+MovesNone (Err e) size = ⊥
 
 -- known bytes lose at most n bytes of their front
 abbrev pub ConsumesAtMost : ℕ → Option (List ℕ) → Option (List ℕ) → Type 0
@@ -21,3 +23,13 @@ ConsumesMoreThan n old new = (bytes : List ℕ) × Consumes old new bytes × (n 
 -- known bytes grow by a prefix of a text
 abbrev pub AppendsPrefix : Option (List ℕ) → Option (List ℕ) → List ℕ → Type 0
 AppendsPrefix old new text = (count : ℕ) × Appends old new (take count text)
+
+-- a source was read to its end, and none of its calls failed
+abbrev pub IsRead : {S : Type 0} → (S → Option (List ℕ)) → (S → Type 0) → (S → ℕ) → S → S → Type 0
+IsRead left is_ended failures old new = is_ended new × IsAtEnd (left new) × (failures new ≡ failures old)
+
+-- one call failed, and none was without a byte; or one was without a byte, the last one, and none failed
+abbrev pub StopsOnce : {W : Type 0} → (W → Type 0) → (W → ℕ) → (W → ℕ) → W → W → Type 0
+StopsOnce is_stalled stalls failures old new =
+    ((failures new ≡ one_more (failures old)) × (stalls new ≡ stalls old))
+    ⊎ (is_stalled new × (stalls new ≡ one_more (stalls old)) × (failures new ≡ failures old))

@@ -1,4 +1,7 @@
-//! The failure of a read or a write.
+//! Reads and writes that move no byte.
+
+ghost use Rattle.std.specs.Prelude.{◌↔◌, IsTrue, Ok};
+ghost use Rattle.rtnl.specs.Streams.{MovesNone};
 
 use thiserror::Error;
 
@@ -6,3 +9,10 @@ use thiserror::Error;
 #[derive(Clone, Copy, Debug, PartialEq, Eq, Error)]
 #[error("a read or a write failed")]
 pub struct Broken;
+
+/// Whether a call over so many bytes that moved `count` of them moved none of some.
+pub(crate) fn moves_none(count: usize, size: usize) -> bool
+    ensures { IsTrue result ↔ MovesNone (Ok count) size }
+{
+    count == 0 && size > 0
+}

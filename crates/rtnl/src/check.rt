@@ -1,9 +1,11 @@
 //! Checking a recording.
 
-ghost use Rattle.std.specs.Prelude.{◌≡◌, ◌++◌, Ok, OnOk, IfOk};
+ghost use Rattle.std.specs.Prelude.{◌≡◌, ◌+◌, ◌++◌, Ok, OnOk, IfOk};
 ghost use Rattle.std.specs.String.{string_bytes};
 ghost use Rattle.rtnl.specs.Checked.{Checks, ChecksInput, finding_text};
+ghost use Rattle.rtnl.specs.Lines.{longest_input};
 ghost use Rattle.rtnl.specs.Runs.{Runs};
+ghost use Rattle.rtnl.specs.Streams.{ConsumesAtMost};
 
 use crate::each::{Each, text_of_each};
 use crate::error::{RunError, Verdict};
@@ -94,8 +96,11 @@ pub fn run_check<S: Source, W: Sink>(
     ensures checked { IfOk result (ChecksInput limits.now (S.remaining source.old) (S.remaining source.new)
         (W.contents sink.old) (W.contents sink.new)) }
     // It ends as every run over a recording does.
-    ensures runs { Runs S.remaining S.is_ended S.failure_count W.contents W.is_stalled W.failure_count
+    ensures runs { Runs S.remaining S.is_ended S.failure_count
+        W.contents W.is_stalled W.stall_count W.failure_count
         (Checks limits.now) source.old source.new sink.old sink.new result }
+    // It takes at most one byte more than the longest input.
+    ensures bounded { ConsumesAtMost (longest_input + 1) (S.remaining source.old) (S.remaining source.new) }
 {
     run(alloc, source, sink, &Check { limits: *limits })
 }

@@ -7,6 +7,7 @@ mod broken;
 mod check;
 mod each;
 mod error;
+pub mod laws;
 mod lines;
 mod request;
 mod run;

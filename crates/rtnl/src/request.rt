@@ -44,7 +44,7 @@ pub fn run_request<W: Sink>(
     family: u8,
     seq: u32,
 ) -> Result<Verdict, RunError>
-    ensures writes { Writes W.contents W.is_stalled W.failure_count
+    ensures writes { Writes W.contents W.is_stalled W.stall_count W.failure_count
         (requested Order.Little (dump_of kind family seq 0)) sink.old sink.new result }
     ensures clean { IfOk result (λ verdict. verdict ≡ Verdict.Clean) }
 {
@@ -66,7 +66,7 @@ pub fn run_request_ordered<W: Sink>(
     order: Order,
 ) -> Result<Verdict, RunError>
     // What was written is the line of the request.
-    ensures writes { Writes W.contents W.is_stalled W.failure_count
+    ensures writes { Writes W.contents W.is_stalled W.stall_count W.failure_count
         (requested order (dump_of kind family seq 0)) sink.old sink.new result }
     ensures clean { IfOk result (λ verdict. verdict ≡ Verdict.Clean) }
 {

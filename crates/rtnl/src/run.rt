@@ -1,7 +1,9 @@
 //! A run over a recording: its source to the end, its lines, what a command says of their
 //! datagrams, and the sink.
 
-ghost use Rattle.std.specs.Prelude.{IfOk};
+ghost use Rattle.std.specs.Prelude.{◌+◌, IfOk};
+ghost use Rattle.rtnl.specs.Lines.{longest_input};
+ghost use Rattle.rtnl.specs.Streams.{ConsumesAtMost};
 ghost use Rattle.rtnl.specs.Runs.{OfInput, Runs};
 
 use crate::error::{RunError, Verdict};
@@ -34,8 +36,10 @@ pub(crate) fn run<S: Source, W: Sink, C: Command>(
 ) -> Result<Verdict, RunError>
     ensures said { IfOk result (OfInput (C.says command.now) (S.remaining source.old) (S.remaining source.new)
         (W.contents sink.old) (W.contents sink.new)) }
-    ensures runs { Runs S.remaining S.is_ended S.failure_count W.contents W.is_stalled W.failure_count
+    ensures runs { Runs S.remaining S.is_ended S.failure_count
+        W.contents W.is_stalled W.stall_count W.failure_count
         (C.says command.now) source.old source.new sink.old sink.new result }
+    ensures bounded { ConsumesAtMost (longest_input + 1) (S.remaining source.old) (S.remaining source.new) }
 {
     let input = read_input(alloc, source)?;
     let datagrams = read_datagrams(alloc, input.as_slice())?;

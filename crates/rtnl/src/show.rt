@@ -1,6 +1,8 @@
 //! Showing a recording.
 
-ghost use Rattle.std.specs.Prelude.{IfOk};
+ghost use Rattle.std.specs.Prelude.{◌+◌, IfOk};
+ghost use Rattle.rtnl.specs.Lines.{longest_input};
+ghost use Rattle.rtnl.specs.Streams.{ConsumesAtMost};
 ghost use Rattle.rtnl.specs.Runs.{Runs};
 ghost use Rattle.rtnl.specs.Shown.{Shows, ShowsInput};
 
@@ -82,8 +84,11 @@ pub fn run_show<S: Source, W: Sink>(
     ensures shown { IfOk result (ShowsInput limits.now (S.remaining source.old) (S.remaining source.new)
         (W.contents sink.old) (W.contents sink.new)) }
     // It ends as every run over a recording does.
-    ensures runs { Runs S.remaining S.is_ended S.failure_count W.contents W.is_stalled W.failure_count
+    ensures runs { Runs S.remaining S.is_ended S.failure_count
+        W.contents W.is_stalled W.stall_count W.failure_count
         (Shows limits.now) source.old source.new sink.old sink.new result }
+    // It takes at most one byte more than the longest input.
+    ensures bounded { ConsumesAtMost (longest_input + 1) (S.remaining source.old) (S.remaining source.new) }
 {
     run(alloc, source, sink, &Show { limits: *limits })
 }

@@ -1,10 +1,10 @@
 //! Where bytes go.
 
-ghost use Rattle.std.specs.Prelude.{◌≡◌, ℕ, ◌<◌, ◌≤◌, ◌⊎◌, List, [], length, Option, Some, OnOk, OnErr, IfOk, IfErr, IsTrue};
+ghost use Rattle.std.specs.Prelude.{◌≡◌, ℕ, ◌≤◌, ◌↔◌, List, [], length, Option, Some, OnOk, OnErr, IfOk, IfErr, IsTrue};
 ghost use Rattle.std.specs.Io.KnownBytes.{Appends, WriteAppends};
-ghost use Rattle.rtnl.specs.Streams.{AppendsPrefix, HasFailed, one_failure_more};
+ghost use Rattle.rtnl.specs.Streams.{AppendsPrefix, MovesNone, StopsOnce, one_more};
 
-use crate::broken::Broken;
+use crate::broken::{Broken, moves_none};
 use crate::error::RunError;
 use std::alloc::Global;
 use std::io::Write;
@@ -17,6 +17,9 @@ pub trait Sink {
     /// Its last call took no byte of some.
     ghost is_stalled: { Self → Type 0 };
 
+    /// How many of its calls took no byte of some, up to the greatest `u64`.
+    ghost stall_count: { Self → ℕ };
+
     /// How many of its calls failed, up to the greatest `u64`.
     ghost failure_count: { Self → ℕ };
 
@@ -24,13 +27,19 @@ pub trait Sink {
     fn failures(&self) -> u64
         ensures { result ≡ failure_count self.now };
 
+    /// How many calls of `give` took no byte of some, counted as failures are.
+    fn stalls(&self) -> u64
+        ensures { result ≡ stall_count self.now };
+
     /// Takes bytes from the front of `bytes`, and answers how many. A call that fails takes none.
     fn give(&mut self, bytes: &[u8]) -> Result<usize, Broken>
         ensures fits { IfOk result (λ count. count ≤ length bytes.now) }
         ensures bytes { WriteAppends (contents self.old) (contents self.new) result bytes.now }
-        ensures stalled { 0 < length bytes.now → IfOk result (λ count. count ≡ 0 → is_stalled self.new) }
+        ensures stalled { is_stalled self.new ↔ MovesNone result (length bytes.now) }
+        ensures once { is_stalled self.new → stall_count self.new ≡ one_more (stall_count self.old) }
+        ensures others { (is_stalled self.new → ⊥) → stall_count self.new ≡ stall_count self.old }
         ensures sound { OnOk result (failure_count self.new ≡ failure_count self.old) }
-        ensures failed { OnErr result (failure_count self.new ≡ one_failure_more (failure_count self.old)) };
+        ensures failed { OnErr result (failure_count self.new ≡ one_more (failure_count self.old)) };
 }
 
 /// Keeps all bytes in a vector. A call fails where memory runs out.
@@ -45,7 +54,7 @@ impl VecSink {
     /// A sink with no byte.
     pub fn new(alloc: Global) -> Self
         ensures contents { ⟦<VecSink as Sink>⟧.contents result ≡ Some [] }
-        ensures sound { ⟦<VecSink as Sink>⟧.failure_count result ≡ 0 }
+        ensures sound { (⟦<VecSink as Sink>⟧.failure_count result ≡ 0) × (⟦<VecSink as Sink>⟧.stall_count result ≡ 0) }
     {
         VecSink {
             bytes: Vec::new(alloc),
@@ -59,10 +68,16 @@ impl Sink for VecSink {
 
     ghost is_stalled = { λ _. ⊥ };
 
+    ghost stall_count = { λ _. 0 };
+
     ghost failure_count = { λ s. s.failures };
 
     fn failures(&self) -> u64 {
         self.failures
+    }
+
+    fn stalls(&self) -> u64 {
+        0
     }
 
     fn give(&mut self, bytes: &[u8]) -> Result<usize, Broken> {
@@ -81,6 +96,7 @@ impl Sink for VecSink {
 pub struct WriteSink<W> {
     writer: W,
     stalled: bool,
+    stalls: u64,
     failures: u64,
 }
 
@@ -88,11 +104,12 @@ impl<W: Write> WriteSink<W> {
     /// Writes to this writer.
     pub fn new(writer: W) -> Self
         ensures contents { ⟦<WriteSink<W> as Sink>⟧.contents result ≡ W.contents writer }
-        ensures sound { ⟦<WriteSink<W> as Sink>⟧.failure_count result ≡ 0 }
+        ensures sound { (⟦<WriteSink<W> as Sink>⟧.failure_count result ≡ 0) × (⟦<WriteSink<W> as Sink>⟧.stall_count result ≡ 0) }
     {
         WriteSink {
             writer,
             stalled: false,
+            stalls: 0,
             failures: 0,
         }
     }
@@ -103,19 +120,29 @@ impl<W: Write> Sink for WriteSink<W> {
 
     ghost is_stalled = { λ s. IsTrue s.stalled };
 
+    ghost stall_count = { λ s. s.stalls };
+
     ghost failure_count = { λ s. s.failures };
 
     fn failures(&self) -> u64 {
         self.failures
     }
 
+    fn stalls(&self) -> u64 {
+        self.stalls
+    }
+
     fn give(&mut self, bytes: &[u8]) -> Result<usize, Broken> {
         match self.writer.write(bytes) {
             Ok(count) => {
-                self.stalled = count == 0 && !bytes.is_empty();
+                self.stalled = moves_none(count, bytes.len());
+                if self.stalled {
+                    self.stalls = self.stalls.saturating_add(1);
+                }
                 Ok(count)
             }
             Err(_) => {
+                self.stalled = false;
                 self.failures = self.failures.saturating_add(1);
                 Err(Broken)
             }
@@ -128,11 +155,10 @@ impl<W: Write> Sink for WriteSink<W> {
 #[tactic(auto, using(crate::proofs::Streams::appends_more, crate::proofs::Streams::appends_none, crate::proofs::Streams::prefix_of, crate::proofs::Streams::whole))]
 pub(crate) fn give_all<W: Sink>(sink: &mut W, text: &[u8]) -> Result<(), RunError>
     ensures all { OnOk result (Appends (W.contents sink.old) (W.contents sink.new) text.now) }
-    ensures sound { OnOk result (W.failure_count sink.new ≡ W.failure_count sink.old) }
+    ensures sound { OnOk result ((W.failure_count sink.new ≡ W.failure_count sink.old) × (W.stall_count sink.new ≡ W.stall_count sink.old)) }
 
     ensures part { OnErr result (AppendsPrefix (W.contents sink.old) (W.contents sink.new) text.now) }
-    ensures fault { OnErr result (HasFailed (W.failure_count sink.old) (W.failure_count sink.new)
-        ⊎ W.is_stalled sink.new) }
+    ensures once { OnErr result (StopsOnce W.is_stalled W.stall_count W.failure_count sink.old sink.new) }
     ensures error { IfErr result (λ e. e ≡ RunError.WriteFault) }
 {
     let mut done = 0;

@@ -1,11 +1,11 @@
 //! Where bytes come from.
 
-ghost use Rattle.std.specs.Prelude.{◌≡◌, ℕ, ◌+◌, ◌<◌, ◌≤◌, ◌⊎◌, List, [], length, Option, Some, OnOk, OnErr, IfOk, IfErr, IsTrue};
-ghost use Rattle.std.specs.Io.KnownBytes.{Consumes, IsAtEnd, ReadConsumes};
+ghost use Rattle.std.specs.Prelude.{◌≡◌, ℕ, ◌+◌, ◌≤◌, ◌↔◌, ◌⊎◌, List, length, Option, Some, OnOk, OnErr, IfOk, IfErr, IsTrue};
+ghost use Rattle.std.specs.Io.KnownBytes.{Consumes, ReadConsumes};
 ghost use Rattle.rtnl.specs.Lines.{longest_input};
-ghost use Rattle.rtnl.specs.Streams.{ConsumesAtMost, ConsumesMoreThan, HasFailed, one_failure_more};
+ghost use Rattle.rtnl.specs.Streams.{ConsumesAtMost, ConsumesMoreThan, IsRead, MovesNone, one_more};
 
-use crate::broken::Broken;
+use crate::broken::{Broken, moves_none};
 use crate::error::RunError;
 use std::alloc::Global;
 use std::io::Read;
@@ -15,7 +15,7 @@ pub trait Source {
     /// The bytes that it still has to give, where it tells them.
     ghost remaining: { Self → Option (List ℕ) };
 
-    /// Its input has come to the end.
+    /// Its last call came to the end: it moved no byte into a buffer that isn't empty.
     ghost is_ended: { Self → Type 0 };
 
     /// How many of its calls failed, up to the greatest `u64`.
@@ -30,15 +30,16 @@ pub trait Source {
     fn take(&mut self, buffer: &mut [u8]) -> Result<usize, Broken>
         ensures fits { IfOk result (λ count. count ≤ length buffer.old) }
         ensures bytes { ReadConsumes (remaining self.old) (remaining self.new) result buffer.new }
-        ensures end { 0 < length buffer.old → IfOk result (λ count. count ≡ 0 → is_ended self.new) }
+        ensures end { is_ended self.new ↔ MovesNone result (length buffer.old) }
         ensures sound { OnOk result (failure_count self.new ≡ failure_count self.old) }
-        ensures failed { OnErr result (failure_count self.new ≡ one_failure_more (failure_count self.old)) };
+        ensures failed { OnErr result (failure_count self.new ≡ one_more (failure_count self.old)) };
 }
 
 /// Gives the bytes of a slice, from the first on.
 #[derive(Debug, Drop)]
 pub struct SliceSource<'a> {
     bytes: &'a [u8],
+    ended: bool,
 }
 
 impl<'a> SliceSource<'a> {
@@ -47,14 +48,17 @@ impl<'a> SliceSource<'a> {
         ensures remaining { ⟦<SliceSource<'a> as Source>⟧.remaining result ≡ Some bytes.now }
         ensures sound { ⟦<SliceSource<'a> as Source>⟧.failure_count result ≡ 0 }
     {
-        SliceSource { bytes }
+        SliceSource {
+            bytes,
+            ended: false,
+        }
     }
 }
 
 impl Source for SliceSource<'_> {
     ghost remaining = { λ s. Some s.bytes.now };
 
-    ghost is_ended = { λ s. s.bytes.now ≡ [] };
+    ghost is_ended = { λ s. IsTrue s.ended };
 
     ghost failure_count = { λ _. 0 };
 
@@ -68,6 +72,7 @@ impl Source for SliceSource<'_> {
         let (room, _) = buffer.split_at_mut(count);
         room.copy_from_slice(next);
         self.bytes = rest;
+        self.ended = moves_none(count, buffer.len());
         Ok(count)
     }
 }
@@ -108,10 +113,11 @@ impl<R: Read> Source for ReadSource<R> {
     fn take(&mut self, buffer: &mut [u8]) -> Result<usize, Broken> {
         match self.reader.read(buffer) {
             Ok(count) => {
-                self.ended = count == 0 && !buffer.is_empty();
+                self.ended = moves_none(count, buffer.len());
                 Ok(count)
             }
             Err(_) => {
+                self.ended = false;
                 self.failures = self.failures.saturating_add(1);
                 Err(Broken)
             }
@@ -128,12 +134,13 @@ pub(crate) const LONGEST_INPUT: usize = 16_777_216;
 pub(crate) fn read_input<S: Source>(alloc: Global, source: &mut S) -> Result<Vec<u8>, RunError>
     ensures all { IfOk result (λ input. Consumes (S.remaining source.old) (S.remaining source.new) input.items) }
     ensures fits { IfOk result (λ input. length input.items ≤ longest_input) }
-    ensures ended { OnOk result (S.is_ended source.new × IsAtEnd (S.remaining source.new)) }
-    ensures sound { OnOk result (S.failure_count source.new ≡ S.failure_count source.old) }
+    ensures read { OnOk result (IsRead S.remaining S.is_ended S.failure_count source.old source.new) }
 
     ensures fault { result ≡ Err RunError.ReadFault →
-        HasFailed (S.failure_count source.old) (S.failure_count source.new)
-        ⊎ ConsumesMoreThan longest_input (S.remaining source.old) (S.remaining source.new) }
+        (S.failure_count source.new ≡ one_more (S.failure_count source.old))
+        ⊎ ((S.failure_count source.new ≡ S.failure_count source.old)
+        × ConsumesMoreThan longest_input (S.remaining source.old) (S.remaining source.new)) }
+    ensures memory { result ≡ Err RunError.Memory → S.failure_count source.new ≡ S.failure_count source.old }
     ensures errors { IfErr result (λ e. (e ≡ RunError.ReadFault) ⊎ (e ≡ RunError.Memory)) }
     ensures bounded { ConsumesAtMost (longest_input + 1) (S.remaining source.old) (S.remaining source.new) }
 {

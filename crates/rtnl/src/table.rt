@@ -1,12 +1,14 @@
 //! Reading a recording as the answers to a dump.
 
-ghost use Rattle.std.specs.Prelude.{◌≡◌, ◌≤◌, ◌++◌, ◌↔◌, IsTrue, List, map, length, drop, Result, OnOk, IfOk};
+ghost use Rattle.std.specs.Prelude.{◌≡◌, ◌≤◌, ◌+◌, ◌++◌, ◌↔◌, IsTrue, List, map, length, drop, Result, OnOk, IfOk};
 ghost use Rattle.std.specs.String.{string_bytes};
 ghost use Rattle.nl_dump.specs.Steps.{Fed, IsWaiting};
 ghost use Rattle.nl_dump.specs.View.{table_at};
 ghost use Rattle.nl_dump.specs.declared.dump.Progress.{Progress as AnyProgress};
 ghost use Rattle.nl_dump.specs.declared.errors.FeedError.{FeedError as AnyFeedError};
+ghost use Rattle.rtnl.specs.Lines.{longest_input};
 ghost use Rattle.rtnl.specs.Runs.{Runs};
+ghost use Rattle.rtnl.specs.Streams.{ConsumesAtMost};
 ghost use Rattle.rtnl.specs.Tabled.{Answered, FeedsSome, IsTold, Tables, TablesInput, ending_text, entries_text, fed_text, refusals_text, verdict_of};
 
 use crate::begun::begun;
@@ -157,8 +159,11 @@ pub fn run_table<S: Source, W: Sink>(
     ensures tabled { IfOk result (TablesInput limits.now dump (S.remaining source.old) (S.remaining source.new)
         (W.contents sink.old) (W.contents sink.new)) }
     // It ends as every run over a recording does.
-    ensures runs { Runs S.remaining S.is_ended S.failure_count W.contents W.is_stalled W.failure_count
+    ensures runs { Runs S.remaining S.is_ended S.failure_count
+        W.contents W.is_stalled W.stall_count W.failure_count
         (Tables limits.now dump) source.old source.new sink.old sink.new result }
+    // It takes at most one byte more than the longest input.
+    ensures bounded { ConsumesAtMost (longest_input + 1) (S.remaining source.old) (S.remaining source.new) }
 {
     run(
         alloc,

@@ -1,4 +1,4 @@
-use Rattle.std.proofs.Common.{map, length, Ok, Err, refl, rules}
+use Rattle.std.proofs.Common.{map, length, Ok, Err, refl, sym, ◌∙◌, rules}
 use Rattle.std.specs.String.{string_bytes}
 use Rattle.nl_frame.specs.View.{message_view}
 use Rattle.rtnl.specs.Datagrams.{datagram_line}
@@ -10,7 +10,7 @@ use Rattle.rtnl.proofs.show.ShowEach.push.Goals as goal
 pub returns-in_ok-push_messages-in-Ok : goal.returns-in_ok-push_messages-in-Ok
 returns-in_ok-push_messages-in-Ok c = (
   Ok (map message_view c.in-Ok.messages.items),
-  answers_messages c.args.self.now.limits c.args.bytes.now c.read_datagram.result.result c.read_datagram.ensures.large c.in-Ok.messages c.in-Ok.is c.read_datagram.ensures.fits,
+  answers_messages c.args.self.now.limits c.args.bytes.now c.read_datagram.result.result c.read_datagram.ensures.large c.in-Ok.messages (sym c.into_result.ensures ∙ c.in-Ok.is) c.read_datagram.ensures.fits,
   one_more (string_bytes c.args.out.now) (string_bytes c.push_datagram_line.new.out) (string_bytes c.push_messages.new.out) (datagram_line c.args.number (length c.args.bytes.now)) (messages_text c.args.self.now.limits.shape.order (map message_view c.in-Ok.messages.items)) c.in_ok-push_datagram_line.ensures (search (rules, c.in_ok-push_messages-in-Ok.ensures, c.order.ensures, c.as_slice.ensures.value)),
   refl,
 )
@@ -18,7 +18,7 @@ returns-in_ok-push_messages-in-Ok c = (
 pub returns-in_ok-push_refusal-in-Err : goal.returns-in_ok-push_refusal-in-Err
 returns-in_ok-push_refusal-in-Err c = (
   Err c.in-Err.error,
-  refuses c.args.self.now.limits c.args.bytes.now c.read_datagram.result.result c.read_datagram.ensures.large c.in-Err.error c.in-Err.is c.in_ok-push_refusal-in-Err.ensures.refusal c.read_datagram.ensures.first,
+  refuses c.args.self.now.limits c.args.bytes.now c.read_datagram.result.result c.read_datagram.ensures.large c.in-Err.error (sym c.into_result.ensures ∙ c.in-Err.is) c.in_ok-push_refusal-in-Err.ensures.refusal c.read_datagram.ensures.first,
   one_more _ _ _ _ _ c.in_ok-push_datagram_line.ensures c.in_ok-push_refusal-in-Err.ensures.text,
   refl,
 )
