@@ -105,6 +105,7 @@ impl<W: Write> WriteSink<W> {
     pub fn new(writer: W) -> Self
         ensures contents { ⟦<WriteSink<W> as Sink>⟧.contents result ≡ W.contents writer }
         ensures sound { (⟦<WriteSink<W> as Sink>⟧.failure_count result ≡ 0) × (⟦<WriteSink<W> as Sink>⟧.stall_count result ≡ 0) }
+        ensures fresh { ⟦<WriteSink<W> as Sink>⟧.is_stalled result → ⊥ }
     {
         WriteSink {
             writer,

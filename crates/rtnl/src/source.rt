@@ -47,6 +47,7 @@ impl<'a> SliceSource<'a> {
     pub fn new(bytes: &'a [u8]) -> Self
         ensures remaining { ⟦<SliceSource<'a> as Source>⟧.remaining result ≡ Some bytes.now }
         ensures sound { ⟦<SliceSource<'a> as Source>⟧.failure_count result ≡ 0 }
+        ensures fresh { ⟦<SliceSource<'a> as Source>⟧.is_ended result → ⊥ }
     {
         SliceSource {
             bytes,
@@ -90,6 +91,7 @@ impl<R: Read> ReadSource<R> {
     pub fn new(reader: R) -> Self
         ensures remaining { ⟦<ReadSource<R> as Source>⟧.remaining result ≡ R.remaining reader }
         ensures sound { ⟦<ReadSource<R> as Source>⟧.failure_count result ≡ 0 }
+        ensures fresh { ⟦<ReadSource<R> as Source>⟧.is_ended result → ⊥ }
     {
         ReadSource {
             reader,

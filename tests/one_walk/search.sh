@@ -1,0 +1,120 @@
+#!/usr/bin/env bash
+# search.sh FOLDER: looks through the sources of all crates in a folder, but for the tests and the examples of
+# callers, for a second walk over attribute bytes or one that isn't counted. It prints what it finds, and its
+# status is then 1.
+set -u
+cd "$1" || exit 1
+found=0
+
+# code FILE..: the lines of code, each behind its file's name.
+code() { grep -HvE '^[[:space:]]*//' "$@"; }
+
+sources() {
+  find crates -path '*/src/*.rt' -not -path '*/out/*' -not -path 'crates/rtnl_rows/*' -not -path 'crates/rtnl_uses/*' \
+    -not -path 'crates/rtnl_calls/*' | LC_ALL=C sort
+}
+
+# lines PATTERN [FILE..]: the lines of code with it, in these files or in all.
+lines() {
+  local pattern=$1
+  shift
+  [ $# -gt 0 ] || set -- $(sources)
+  code "$@" | grep -E -e "^[^:]*:.*($pattern)"
+}
+
+# counts PATTERN [FILE..]: each file that has such lines, and how many.
+counts() { lines "$@" | cut -d: -f1 | LC_ALL=C sort | uniq -c | sed -E 's/^ +([0-9]+) (.*)$/\2 \1/'; }
+
+# same WHAT FOUND WANTED
+same() {
+  [ "$2" = "$3" ] && return
+  found=1
+  printf '%s\n' "not so: $1" "$2"
+}
+
+stack=crates/nl_attr/src/stack.rt
+reading=crates/nl_attr/src/reading.rt
+
+same 'walkers are made in their own modules' "$(counts '\b(Attrs|HopParts)::of')" \
+  'crates/nl_attr/src/walk/attrs.rt 1
+crates/nl_attr/src/walk/counted.rt 2
+crates/nl_attr/src/walk/hops.rt 1'
+
+same 'counted walks are made where a region is opened, and for the blank of the stack' \
+  "$(counts 'Counted(Attrs|HopParts)::over')" "$stack 3"
+
+same 'regions are opened by those who then read them' "$(counts '\b(list_of|hops_of)\(' "$stack")" "$stack 4"
+
+same 'a counted walk is stepped with the count of its reading' "$(lines '\.step\(' | sed 's/^[^:]*: *//')" \
+  'let part = match walk.step(visits) {
+let part = match walk.step(visits) {'
+
+same 'only a counted walk steps a walker' "$(counts '\.next\(\)' $(sources | grep '^crates/nl_attr/'))" \
+  'crates/nl_attr/src/walk/counted.rt 2'
+
+same 'the count of a reading is handed on, never made' \
+  "$(lines '\b(let|if|for|while)\b.*\bvisits\b' "$stack" "$reading" | grep -v ' match walk\.step(visits) {$')" \
+  "$reading:    let mut visits: u64 = 0;
+$reading:    let result = read_region(alloc, bytes, base, ctx, level, shape, &mut visits);"
+
+same 'each call that reads a region is handed the count' \
+  "$(lines '\bread_(attrs|hops|open|nested|region)\(' "$stack" | grep -vE 'fn read_|[( ]visits\)')" ''
+
+same 'those who read regions look at none of their bytes' \
+  "$(lines '\b(bytes|payload|rest|left|region)(\[|\.(iter|get|first|last|split|chunks|windows|copied|to_))' \
+    "$stack" "$reading")" ''
+
+same 'lengths and types of attributes and next hops are read by the walkers alone' "$(counts 'read_u16\(')" \
+  'crates/nl_attr/src/order.rt 3
+crates/nl_attr/src/views.rt 1
+crates/nl_attr/src/walk/attrs.rt 1
+crates/nl_attr/src/walk/mod.rt 1
+crates/nl_frame/src/header.rt 2
+crates/nl_route/src/ifinfomsg.rt 1
+crates/nl_route/src/ndmsg.rt 1
+crates/rtnl/src/text/values.rt 1'
+
+same 'numbers are made of bytes by their order alone' \
+  "$(lines 'from_(le|be|ne)_bytes|(Little|Big|Native)Endian' | grep -v '^crates/nl_attr/src/order\.rt:')" \
+  'crates/nl_table/src/table.rt:        entry.head.index == i32::from_le_bytes(key)'
+
+same 'calls that answer a tally' "$(counts '-> Tally<')" \
+  'crates/nl_attr/src/fault.rt 1
+crates/nl_attr/src/reading.rt 2
+crates/nl_dump/src/reading.rt 1
+crates/nl_frame/src/body.rt 3
+crates/nl_frame/src/reading.rt 3
+crates/nl_route/src/family.rt 2'
+
+same 'a tally is ended without its visits by those who answer none' "$(counts '\.into_result\(')" \
+  'crates/nl_frame/src/canonical.rt 1
+crates/rtnl/src/show.rt 1
+crates/rtnl_bench/src/main.rt 1'
+
+same 'a tally is taken apart with its visits' "$(counts 'visits: *_')" 'crates/nl_attr/src/fault.rt 1'
+
+same 'each reading calls the one below it once' \
+  "$(counts '(\bread_(region|list|list_ordered|body|body_ordered|message|messages|datagram)\(|Body::read\()' |
+    grep -v rtnl_bench)" \
+  'crates/nl_attr/src/reading.rt 4
+crates/nl_attr/src/stack.rt 1
+crates/nl_dump/src/reading.rt 1
+crates/nl_frame/src/canonical.rt 1
+crates/nl_frame/src/reading.rt 6
+crates/nl_route/src/family.rt 4
+crates/rtnl/src/show.rt 1'
+
+same 'each family is read by one arm' "$(counts 'read_body_ordered \$')" 'crates/nl_route/src/group.rt 5'
+
+same 'a datagram is checked by a check alone' "$(counts '\bis_canonical\(')" \
+  'crates/nl_frame/src/canonical.rt 1
+crates/rtnl/src/check.rt 1'
+
+same 'a session adds the visits of each datagram that it takes, and nothing else' \
+  "$(lines 'self\.visits [-+*]?=|[^_a-z]take\($' crates/nl_dump/src/session.rt | sed 's/^[^:]*: *//')" \
+  'let Tally { result, visits } = take(
+self.visits += visits;'
+
+same 'the datagrams of a table are read by the session alone' "$(counts '\.feed\(')" 'crates/rtnl/src/table.rt 1'
+
+exit "$found"
