@@ -71,6 +71,8 @@ impl Attr {
     }
 
     /// The number in the first two bytes, the lowest first; none where it holds fewer, or no bytes.
+    ///
+    /// For what was read in the other order, call `u16_value_ordered`.
     pub fn u16_value(&self) -> Option<u16>
         ensures { result ≡ number_in Order.Little 2 (value_view self.now.value) }
     {
@@ -88,6 +90,8 @@ impl Attr {
     }
 
     /// The number in the first four bytes, the lowest first; none where it holds fewer, or no bytes.
+    ///
+    /// For what was read in the other order, call `u32_value_ordered`.
     pub fn u32_value(&self) -> Option<u32>
         ensures { result ≡ number_in Order.Little 4 (value_view self.now.value) }
     {

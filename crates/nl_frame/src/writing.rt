@@ -91,7 +91,9 @@ fn check(messages: &[Message], limits: &Limits) -> Result<usize, WriteError>
 }
 
 /// The datagram of these messages, each with its padding of zeros to a multiple of four bytes
-/// (`NLMSG_ALIGN` of netlink(7)), the last one too; numbers in the order of the limits.
+/// (`NLMSG_ALIGN` of netlink(7)), the last one too; the numbers of heads, lengths and types in the
+/// order of the limits. Payloads stay the bytes that they are: messages that were read in the other
+/// order are written with heads in this one and the numbers in their payloads in that one.
 ///
 /// It refuses, in this order: `Mismatch` for a body that isn't of its message's type, a DONE without
 /// status that has four bytes or more, and an attribute whose number is 16,384 or more or whose value

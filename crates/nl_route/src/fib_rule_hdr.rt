@@ -209,6 +209,8 @@ impl Rule {
     }
 
     /// The rule that is gone to, `FRA_GOTO`, its lowest byte first.
+    ///
+    /// For a body that was read in the other order, call `target_ordered`.
     pub fn target(&self) -> Option<u32>
         ensures { result ≡ number_view Order.Little 4 4 (attrs_view self.now.attrs.items) }
     {
@@ -223,6 +225,8 @@ impl Rule {
     }
 
     /// The place among rules, `FRA_PRIORITY`, its lowest byte first.
+    ///
+    /// For a body that was read in the other order, call `priority_ordered`.
     pub fn priority(&self) -> Option<u32>
         ensures { result ≡ number_view Order.Little 4 6 (attrs_view self.now.attrs.items) }
     {
@@ -237,6 +241,8 @@ impl Rule {
     }
 
     /// The mark of packets, `FRA_FWMARK`, its lowest byte first.
+    ///
+    /// For a body that was read in the other order, call `fwmark_ordered`.
     pub fn fwmark(&self) -> Option<u32>
         ensures { result ≡ number_view Order.Little 4 10 (attrs_view self.now.attrs.items) }
     {
@@ -251,6 +257,8 @@ impl Rule {
     }
 
     /// The bits of the mark that count, `FRA_FWMASK`, its lowest byte first.
+    ///
+    /// For a body that was read in the other order, call `fwmask_ordered`.
     pub fn fwmask(&self) -> Option<u32>
         ensures { result ≡ number_view Order.Little 4 16 (attrs_view self.now.attrs.items) }
     {
@@ -266,6 +274,8 @@ impl Rule {
 
     /// The routing table: `FRA_TABLE`, its lowest byte first, or the head's where there is no such
     /// number.
+    ///
+    /// For a body that was read in the other order, call `table_id_ordered`.
     pub fn table_id(&self) -> u32
         ensures { result ≡ unwrap_or (number_view Order.Little 4 15 (attrs_view self.now.attrs.items)) self.now.head.table }
     {

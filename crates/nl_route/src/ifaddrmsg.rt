@@ -191,6 +191,8 @@ impl Addr {
     }
 
     /// All flags: `IFA_FLAGS`, its lowest byte first, or the head's where there is no such number.
+    ///
+    /// For a body that was read in the other order, call `flags_full_ordered`.
     pub fn flags_full(&self) -> u32
         ensures { result ≡ unwrap_or (number_view Order.Little 4 8 (attrs_view self.now.attrs.items)) self.now.head.flags }
     {

@@ -172,6 +172,8 @@ impl Link {
     }
 
     /// The greatest packet in bytes, `IFLA_MTU`, its lowest byte first.
+    ///
+    /// For a body that was read in the other order, call `mtu_ordered`.
     pub fn mtu(&self) -> Option<u32>
         ensures { result ≡ number_view Order.Little 4 4 (attrs_view self.now.attrs.items) }
     {
@@ -186,6 +188,8 @@ impl Link {
     }
 
     /// The index of the interface that this one is a port of, `IFLA_MASTER`, its lowest byte first.
+    ///
+    /// For a body that was read in the other order, call `master_ordered`.
     pub fn master(&self) -> Option<u32>
         ensures { result ≡ number_view Order.Little 4 10 (attrs_view self.now.attrs.items) }
     {

@@ -177,6 +177,8 @@ impl Neigh {
     }
 
     /// The VLAN of a bridge's entry, `NDA_VLAN`, its lowest byte first.
+    ///
+    /// For a body that was read in the other order, call `vlan_ordered`.
     pub fn vlan(&self) -> Option<u16>
         ensures { result ≡ number_view Order.Little 2 5 (attrs_view self.now.attrs.items) }
     {
@@ -191,6 +193,8 @@ impl Neigh {
     }
 
     /// The VXLAN network identifier, `NDA_VNI`, its lowest byte first.
+    ///
+    /// For a body that was read in the other order, call `vni_ordered`.
     pub fn vni(&self) -> Option<u32>
         ensures { result ≡ number_view Order.Little 4 7 (attrs_view self.now.attrs.items) }
     {

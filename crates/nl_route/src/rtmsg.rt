@@ -221,6 +221,8 @@ impl Route {
     }
 
     /// The index of the output interface, `RTA_OIF`, its lowest byte first.
+    ///
+    /// For a body that was read in the other order, call `oif_ordered`.
     pub fn oif(&self) -> Option<u32>
         ensures { result ≡ number_view Order.Little 4 4 (attrs_view self.now.attrs.items) }
     {
@@ -235,6 +237,8 @@ impl Route {
     }
 
     /// The index of the input interface, `RTA_IIF`, its lowest byte first.
+    ///
+    /// For a body that was read in the other order, call `iif_ordered`.
     pub fn iif(&self) -> Option<u32>
         ensures { result ≡ number_view Order.Little 4 3 (attrs_view self.now.attrs.items) }
     {
@@ -249,6 +253,8 @@ impl Route {
     }
 
     /// The priority of the route, `RTA_PRIORITY`, its lowest byte first.
+    ///
+    /// For a body that was read in the other order, call `priority_ordered`.
     pub fn priority(&self) -> Option<u32>
         ensures { result ≡ number_view Order.Little 4 6 (attrs_view self.now.attrs.items) }
     {
@@ -264,6 +270,8 @@ impl Route {
 
     /// The routing table: `RTA_TABLE`, its lowest byte first, or the head's where there is no such
     /// number.
+    ///
+    /// For a body that was read in the other order, call `table_id_ordered`.
     pub fn table_id(&self) -> u32
         ensures { result ≡ unwrap_or (number_view Order.Little 4 15 (attrs_view self.now.attrs.items)) self.now.head.table }
     {

@@ -4,7 +4,7 @@
 #![tactic(auto)]
 
 use anyhow::{Result, bail};
-use nl_attr::Attr;
+use nl_attr::{Attr, Tally};
 use nl_frame::{Body, Limits, Message, read_datagram, write_datagram};
 use nl_route::match_family;
 use rtnl::{SliceSource, VecSink, run_show};
@@ -34,9 +34,9 @@ fn attributes(message: &Message) -> usize {
 fn read(alloc: Global, datagrams: &[Vec<u8>], limits: &Limits) -> Result<u64> {
     let mut count: u64 = 0;
     for datagram in datagrams {
-        let tally = read_datagram(alloc, datagram.as_slice(), limits);
-        count = count.wrapping_add(tally.visits);
-        for message in tally.result?.as_slice() {
+        let Tally { result, visits } = read_datagram(alloc, datagram.as_slice(), limits);
+        count = count.wrapping_add(visits);
+        for message in result?.as_slice() {
             count = count
                 .wrapping_add(1)
                 .wrapping_add(attributes(message) as u64);

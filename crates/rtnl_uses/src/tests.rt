@@ -1,12 +1,12 @@
 //! Each caller once, over bytes worked by hand.
 
 use crate::attributes::count_of;
-use crate::datagrams::message_count;
+use crate::datagrams::{message_count, mtu_of};
 use crate::dumps::take_answer;
 use crate::families::read_named;
 use crate::recordings::show_text;
 use crate::tables::keep;
-use nl_attr::{Depth, Fault, Reason};
+use nl_attr::{Depth, Fault, Order, Reason};
 use nl_dump::{FeedError, Kind, Session};
 use nl_frame::Limits;
 use nl_route::Link;
@@ -42,6 +42,18 @@ fn name_and_mtu(rt: HostRuntime) -> Result<(), Fail> {
 fn two_messages(rt: HostRuntime) {
     let noop = b"\x10\0\0\0\x01\0\0\0\0\0\0\0\0\0\0\0\x10\0\0\0\x01\0\0\0\0\0\0\0\0\0\0\0";
     assert_eq!(rt; message_count(rt.alloc(), noop, &Limits::standard()), Ok(2));
+}
+
+/// A link whose greatest packet is 65,536, all in big order: the plain view turns its bytes round.
+#[test]
+fn mtu_in_big_order(rt: HostRuntime) -> Result<(), Fail> {
+    let body = b"\0\0\x03\x04\0\0\0\x01\0\0\0\0\0\0\0\0\0\x08\0\x04\0\x01\0\0";
+    let limits = Limits::standard().with_order(Order::Big);
+    let depth = Depth::standard();
+    let link = Link::read_body_ordered(rt.alloc(), body, 0, depth, Order::Big).into_result()?;
+    assert_eq!(rt; mtu_of(&link, &limits), Some(65_536));
+    assert_eq!(rt; link.mtu(), Some(256));
+    Ok(())
 }
 
 #[test]
