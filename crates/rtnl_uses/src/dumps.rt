@@ -2,9 +2,9 @@
 
 ghost use Rattle.std.specs.Prelude.{◌+◌, ◌*◌, ◌≤◌, ◌↔◌, List, IfOk, IsTrue, OnOk, OnErr, length};
 ghost use Rattle.nl_frame.specs.Message.{MessageVal};
+ghost use Rattle.nl_frame.specs.OneList.{IsTheList};
 ghost use Rattle.nl_route.specs.declared.group.Group.{Group};
 ghost use Rattle.nl_dump.specs.Every.{SameAnswer};
-ghost use Rattle.nl_frame.specs.OneList.{IsTheList};
 ghost use Rattle.nl_dump.specs.Steps.{IsWaiting};
 ghost use Rattle.nl_dump.specs.View.{table_at};
 
