@@ -2,7 +2,7 @@
 
 use crate::reading::body_in;
 use crate::vectors::{bytes_of, ensure, two_hops};
-use nl_attr::{Depth, Fault, ListError, Order, Reason};
+use nl_attr::{Depth, Fault, ListError, Order, Reason, Tally};
 use nl_route::{Addr, AddrHead, LinkHead, NeighHead, Route, RouteHead, RuleHead};
 use std::alloc::Global;
 use std::test::Fail;
@@ -19,11 +19,17 @@ fn reads_two_hops(alloc: Global, text: &str, order: Order) -> Result<(), Fail> {
     if bytes.len() < 12 {
         return Err(Fail::new("no head"));
     }
-    let read = Route::read_body_ordered(alloc, bytes.as_slice(), 16, Depth::new(2)?, order);
-    let route = read.result?;
+    let Tally { result, visits } = Route::read_body_ordered(
+        alloc,
+        bytes.as_slice(),
+        16,
+        Depth::new(2)?,
+        order,
+    );
+    let route = result?;
     let attrs = two_hops(alloc)?;
     let is_so = route.head.table == 254 && route.attrs == attrs && route.hops().len() == 2;
-    ensure(is_so && read.visits == 84, text)
+    ensure(is_so && visits == 84, text)
 }
 
 fn two_hops_are_too_deep(alloc: Global, text: &str, order: Order) -> Result<(), Fail> {
@@ -31,14 +37,20 @@ fn two_hops_are_too_deep(alloc: Global, text: &str, order: Order) -> Result<(), 
     if bytes.len() < 12 {
         return Err(Fail::new("no head"));
     }
-    let read = Route::read_body_ordered(alloc, bytes.as_slice(), 16, Depth::new(1)?, order);
-    let refusal = read.result.err();
+    let Tally { result, visits } = Route::read_body_ordered(
+        alloc,
+        bytes.as_slice(),
+        16,
+        Depth::new(1)?,
+        order,
+    );
+    let refusal = result.err();
     let fault = Fault {
         place: 28,
         reason: Reason::TooDeep,
     };
     let is_so = refusal == Some(ListError::Layout(fault));
-    ensure(is_so && read.visits == 36, text)
+    ensure(is_so && visits == 36, text)
 }
 
 #[test]

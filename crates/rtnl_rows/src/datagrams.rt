@@ -4,7 +4,7 @@ use crate::vectors::{
     DONE, DONE_BIG, LOOPBACK, LOOPBACK_BIG, RULE, RULE_BIG, TABLE_RULE, TABLE_RULE_BIG,
     TWO_HOPS_ROUTE, TWO_HOPS_ROUTE_BIG, bytes_of, ensure, header_of, leaf, two_hops,
 };
-use nl_attr::{Attr, Fault, Order, Reason};
+use nl_attr::{Attr, Fault, Order, Reason, Tally};
 use nl_frame::{Body, Limits, Message, ReadError, read_datagram};
 use nl_route::{Link, Route, RouteHead, Rule, RuleHead};
 use std::alloc::Global;
@@ -13,8 +13,8 @@ use std::test::Fail;
 /// The messages of a datagram, and the visits.
 fn read(alloc: Global, text: &str, limits: &Limits) -> Result<(Vec<Message>, u64), Fail> {
     let bytes = bytes_of(alloc, text)?;
-    let read = read_datagram(alloc, bytes.as_slice(), limits);
-    Ok((read.result?, read.visits))
+    let Tally { result, visits } = read_datagram(alloc, bytes.as_slice(), limits);
+    Ok((result?, visits))
 }
 
 /// The one message of a datagram by the standard limits.
@@ -37,9 +37,9 @@ fn refuses(
     visits: u64,
 ) -> Result<(), Fail> {
     let bytes = bytes_of(alloc, text)?;
-    let read = read_datagram(alloc, bytes.as_slice(), limits);
-    let refusal = read.result.err();
-    ensure(read.visits == visits && refusal == Some(error), text)
+    let Tally { result, visits } = read_datagram(alloc, bytes.as_slice(), limits);
+    let refusal = result.err();
+    ensure(visits == visits && refusal == Some(error), text)
 }
 
 /// A datagram holds this message alone, with so many visits.
@@ -399,9 +399,9 @@ fn a_large_datagram_is_not_looked_at(rt: HostRuntime) -> Result<(), Fail> {
     for _ in 0..65_540 {
         zeros.push(0)?;
     }
-    let read = read_datagram(alloc, zeros.as_slice(), &Limits::standard());
-    let refusal = read.result.err();
-    let is_so = read.visits == 0 && refusal == Some(ReadError::TooLarge);
+    let Tally { result, visits } = read_datagram(alloc, zeros.as_slice(), &Limits::standard());
+    let refusal = result.err();
+    let is_so = visits == 0 && refusal == Some(ReadError::TooLarge);
     ensure(is_so, "65,540 bytes are too many")?;
     let least = Limits::new(8, 16, 0, 0)?;
     refuses(alloc, DONE, &least, ReadError::TooLarge, 0)

@@ -1,6 +1,7 @@
 //! Sources and sinks that fail, or move few bytes at a time.
 
-ghost use Rattle.std.specs.Prelude.{None, ◌≤◌, IfOk};
+ghost use Rattle.std.specs.Prelude.{None, ◌≡◌, ◌≤◌, IfOk, IfSome, IsTrue, false};
+ghost use Rattle.rtnl.specs.Streams.{one_more};
 
 use rtnl::{Broken, Sink, Source};
 use std::alloc::Global;
@@ -16,7 +17,7 @@ pub struct BrokenSource<'a> {
 impl Source for BrokenSource<'_> {
     ghost remaining = { λ _. None };
 
-    ghost is_ended = { λ _. Unit {0} };
+    ghost is_ended = { λ _. ⊥ };
 
     ghost failure_count = { λ s. s.failures };
 
@@ -69,6 +70,8 @@ pub struct TightSink {
     pub each: usize,
     pub calls: usize,
     pub fails: bool,
+    pub stalled: bool,
+    pub stalls: u64,
     pub failures: u64,
 }
 
@@ -79,15 +82,40 @@ impl TightSink {
             each,
             calls,
             fails,
+            stalled: false,
+            stalls: 0,
             failures: 0,
         }
+    }
+
+    /// How many of so many bytes the next call takes, unless it fails.
+    fn count(&mut self, wanted: usize) -> Option<usize>
+        ensures fits { IfSome result (λ count. count ≤ wanted) }
+        ensures counts { (self.new.failures ≡ self.old.failures) × (self.new.stalls ≡ self.old.stalls) }
+    {
+        if self.calls > 0 {
+            self.calls -= 1;
+            return Some(wanted.min(self.each));
+        }
+        if self.fails { None } else { Some(0) }
+    }
+
+    fn fail(&mut self) -> Broken
+        ensures failed { self.new.failures ≡ one_more self.old.failures }
+        ensures stalls { (self.new.stalled ≡ false) × (self.new.stalls ≡ self.old.stalls) }
+    {
+        self.stalled = false;
+        self.failures = self.failures.saturating_add(1);
+        Broken
     }
 }
 
 impl Sink for TightSink {
     ghost contents = { λ _. None };
 
-    ghost is_stalled = { λ _. Unit {0} };
+    ghost is_stalled = { λ s. IsTrue s.stalled };
+
+    ghost stall_count = { λ s. s.stalls };
 
     ghost failure_count = { λ s. s.failures };
 
@@ -95,24 +123,23 @@ impl Sink for TightSink {
         self.failures
     }
 
+    fn stalls(&self) -> u64 {
+        self.stalls
+    }
+
     fn give(&mut self, bytes: &[u8]) -> Result<usize, Broken> {
-        if self.calls == 0 {
-            if !self.fails {
-                return Ok(0);
-            }
-            self.failures = self.failures.saturating_add(1);
-            return Err(Broken);
-        }
-        self.calls -= 1;
-        let count = bytes.len().min(self.each);
+        let Some(count) = self.count(bytes.len()) else {
+            return Err(self.fail());
+        };
         let (front, _) = bytes.split_at(count);
-        match self.bytes.extend_from_slice(front) {
-            Ok(()) => Ok(count),
-            Err(_) => {
-                self.failures = self.failures.saturating_add(1);
-                Err(Broken)
-            }
+        if self.bytes.extend_from_slice(front).is_err() {
+            return Err(self.fail());
         }
+        self.stalled = count == 0 && !bytes.is_empty();
+        if self.stalled {
+            self.stalls = self.stalls.saturating_add(1);
+        }
+        Ok(count)
     }
 }
 

@@ -3,7 +3,7 @@
 use crate::bodies::is_by_cubic;
 use crate::reading::{body_in, body_of};
 use crate::vectors::ensure;
-use nl_attr::{Depth, Fault, Hop, ListError, Order, Reason};
+use nl_attr::{Depth, Fault, Hop, ListError, Order, Reason, Tally};
 use nl_route::{
     Addr, AddrHead, Link, LinkHead, Neigh, NeighHead, Route, RouteHead, Rule, RuleHead,
 };
@@ -48,24 +48,24 @@ fn are_two_hops(hops: &[Hop]) -> bool {
 
 #[test]
 fn route_to_two_hops(rt: HostRuntime) -> Result<(), Fail> {
-    let read = Route::read_body(rt.alloc(), &TWO_HOPS, 16, Depth::new(2)?);
-    let route = read.result?;
+    let Tally { result, visits } = Route::read_body(rt.alloc(), &TWO_HOPS, 16, Depth::new(2)?);
+    let route = result?;
     let is_so = is_by_hops_alone(&route) && are_two_hops(route.hops());
-    ensure(read.visits == 84 && is_so, "two hops")?;
+    ensure(visits == 84 && is_so, "two hops")?;
     let head = [2, 0, 0, 0, 0xfe, 3, 0, 1, 0, 0, 0, 0];
     ensure(ROUTE_HEAD.write() == head, "their head")
 }
 
 #[test]
 fn hops_open_two_levels(rt: HostRuntime) -> Result<(), Fail> {
-    let read = Route::read_body(rt.alloc(), &TWO_HOPS, 16, Depth::new(1)?);
-    let refusal = read.result.err();
+    let Tally { result, visits } = Route::read_body(rt.alloc(), &TWO_HOPS, 16, Depth::new(1)?);
+    let refusal = result.err();
     let fault = Fault {
         place: 28,
         reason: Reason::TooDeep,
     };
     let is_so = refusal == Some(ListError::Layout(fault));
-    ensure(read.visits == 36 && is_so, "too deep")
+    ensure(visits == 36 && is_so, "too deep")
 }
 
 /// A route whose metrics name the congestion control `cubic`, without padding inside them.
@@ -76,9 +76,9 @@ const CUBIC: [u8; 28] = [
 
 #[test]
 fn metrics_hold_the_congestion_control(rt: HostRuntime) -> Result<(), Fail> {
-    let read = Route::read_body(rt.alloc(), &CUBIC, 0, Depth::standard());
-    let route = read.result?;
-    ensure(read.visits == 25 && is_by_cubic(&route), "its metric")
+    let Tally { result, visits } = Route::read_body(rt.alloc(), &CUBIC, 0, Depth::standard());
+    let route = result?;
+    ensure(visits == 25 && is_by_cubic(&route), "its metric")
 }
 
 #[test]
@@ -117,10 +117,10 @@ fn loopback_address(rt: HostRuntime) -> Result<(), Fail> {
         2, 8, 0x80, 0xfe, 1, 0, 0, 0, 8, 0, 1, 0, 0x7f, 0, 0, 1, 8, 0, 2, 0, 0x7f, 0, 0, 1, 7, 0,
         3, 0, 0x6c, 0x6f, 0, 0,
     ];
-    let read = Addr::read_body(rt.alloc(), &bytes, 0, Depth::standard());
-    let addr = read.result?;
+    let Tally { result, visits } = Addr::read_body(rt.alloc(), &bytes, 0, Depth::standard());
+    let addr = result?;
     let is_so = is_loopback_address(&addr);
-    ensure(read.visits == 24 && is_so, "an address")?;
+    ensure(visits == 24 && is_so, "an address")?;
     let head = [2, 8, 0x80, 0xfe, 1, 0, 0, 0];
     ensure(ADDR_HEAD.write() == head, "its head")
 }
@@ -150,10 +150,10 @@ fn link_local_neighbour(rt: HostRuntime) -> Result<(), Fail> {
         0x0a, 0, 0, 0, 2, 0, 0, 0, 2, 0, 0x80, 1, 0x14, 0, 1, 0, 0xfe, 0x80, 0, 0, 0, 0, 0, 0, 0,
         0, 0, 0, 0, 0, 0, 1, 0x0a, 0, 2, 0, 2, 0, 0, 0, 0, 1, 0, 0,
     ];
-    let read = Neigh::read_body(rt.alloc(), &bytes, 0, Depth::standard());
-    let neigh = read.result?;
+    let Tally { result, visits } = Neigh::read_body(rt.alloc(), &bytes, 0, Depth::standard());
+    let neigh = result?;
     let is_so = is_link_local(&neigh);
-    ensure(read.visits == 32 && is_so, "a neighbour")?;
+    ensure(visits == 32 && is_so, "a neighbour")?;
     let head = [0x0a, 0, 0, 0, 2, 0, 0, 0, 2, 0, 0x80, 1];
     ensure(NEIGH_HEAD.write() == head, "its head")
 }
@@ -210,7 +210,7 @@ fn loopback_heads_hold() -> bool {
 
 fn is_refused_in_the_wrong_order(alloc: Global) -> Result<(), Fail> {
     let read = Link::read_body(alloc, &LOOPBACK_BIG, 0, Depth::standard());
-    let refusal = read.result.err();
+    let refusal = read.into_result().err();
     let fault = Fault {
         place: 16,
         reason: Reason::BadLength,
@@ -221,14 +221,20 @@ fn is_refused_in_the_wrong_order(alloc: Global) -> Result<(), Fail> {
 #[test]
 fn loopback_in_both_orders(rt: HostRuntime) -> Result<(), Fail> {
     let depth = Depth::standard();
-    let read = Link::read_body(rt.alloc(), &LOOPBACK, 0, depth);
-    let link = read.result?;
+    let Tally { result, visits } = Link::read_body(rt.alloc(), &LOOPBACK, 0, depth);
+    let link = result?;
     let is_so = is_loopback(&link) && link.mtu() == Some(65536);
-    ensure(read.visits == 16 && is_so, "little")?;
-    let read = Link::read_body_ordered(rt.alloc(), &LOOPBACK_BIG, 0, depth, Order::Big);
-    let link = read.result?;
+    ensure(visits == 16 && is_so, "little")?;
+    let Tally { result, visits } = Link::read_body_ordered(
+        rt.alloc(),
+        &LOOPBACK_BIG,
+        0,
+        depth,
+        Order::Big,
+    );
+    let link = result?;
     let is_so = is_loopback(&link) && link.mtu_ordered(Order::Big) == Some(65536);
-    ensure(read.visits == 16 && is_so, "big")?;
+    ensure(visits == 16 && is_so, "big")?;
     is_refused_in_the_wrong_order(rt.alloc())?;
     ensure(loopback_heads_hold(), "heads")
 }

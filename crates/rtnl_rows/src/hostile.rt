@@ -2,19 +2,20 @@
 
 use crate::trials::{AT_DEPTH_8, AT_DEPTH_32, Trial, push_lengths, push_nests, push_prefixes};
 use crate::vectors::{LOOPBACK, changed, ensure};
+use nl_attr::Tally;
 use nl_frame::{Body, Limits, Message, ReadError, read_datagram};
 use std::alloc::Global;
 use std::test::Fail;
 
 /// A datagram is read with this answer.
 fn is_read(alloc: Global, trial: &Trial, limits: &Limits) -> bool {
-    let read = read_datagram(alloc, trial.bytes.as_slice(), limits);
-    let is_answer = match (read.result, trial.answer) {
+    let Tally { result, visits } = read_datagram(alloc, trial.bytes.as_slice(), limits);
+    let is_answer = match (result, trial.answer) {
         (Ok(list), Ok(messages)) => list.len() == messages,
         (Err(error), Err(fault)) => error == ReadError::Layout(fault),
         _ => false,
     };
-    is_answer && read.visits == trial.visits
+    is_answer && visits == trial.visits
 }
 
 /// Each datagram is read with its answer.
@@ -76,11 +77,11 @@ fn has_a_long_name(message: &Message) -> bool {
 fn a_name_that_reaches_over_the_next_attribute(rt: HostRuntime) -> Result<(), Fail> {
     let alloc = rt.alloc();
     let bytes = changed(alloc, LOOPBACK, 32, &[15, 0])?;
-    let read = read_datagram(alloc, bytes.as_slice(), &Limits::standard());
-    let list = read.result?;
+    let Tally { result, visits } = read_datagram(alloc, bytes.as_slice(), &Limits::standard());
+    let list = result?;
     let is_so = match list.as_slice() {
         [message] => has_a_long_name(message),
         _ => false,
     };
-    ensure(read.visits == 16 && is_so, "a long name")
+    ensure(visits == 16 && is_so, "a long name")
 }

@@ -3,7 +3,7 @@
 ghost use Rattle.std.specs.Prelude.{◌≤◌, IfOk, vec_len};
 
 use crate::vectors::{LONGEST, bytes_of};
-use nl_attr::{Depth, Order};
+use nl_attr::{Depth, Order, Tally};
 use nl_frame::{Body, Limits, Message, read_datagram};
 use nl_route::{Family, Head};
 use std::alloc::Global;
@@ -36,8 +36,14 @@ pub(crate) fn body_in<H: Head>(
     if bytes.len() < H::SIZE {
         return Err(Fail::new("no head"));
     }
-    let read = Family::read_body_ordered(alloc, bytes.as_slice(), 0, Depth::standard(), order);
-    Ok((read.result?, read.visits))
+    let Tally { result, visits } = Family::read_body_ordered(
+        alloc,
+        bytes.as_slice(),
+        0,
+        Depth::standard(),
+        order,
+    );
+    Ok((result?, visits))
 }
 
 /// The body of the last message of a datagram, its numbers in this order.

@@ -1,7 +1,7 @@
 //! Regions of attributes: what is read, first faults and visits, in both byte orders.
 
 use crate::vectors::{TWO_HOPS, TWO_HOPS_BIG, bytes_and_zeros, ensure};
-use nl_attr::{Attr, Ctx, Depth, Fault, ListError, Order, Reason, read_list_ordered};
+use nl_attr::{Attr, Ctx, Depth, Fault, ListError, Order, Reason, Tally, read_list_ordered};
 use std::alloc::Global;
 use std::test::Fail;
 
@@ -34,9 +34,9 @@ fn check(alloc: Global, text: &str, order: Order, case: &Case) -> Result<(), Fai
         return Err(Fail::new("a base too far"));
     }
     let (bytes, base) = (bytes.as_slice(), case.base);
-    let read = read_list_ordered(alloc, bytes, base, case.ctx, 0, depth, order);
-    let is_so = is_answer(read.result, case.answer);
-    ensure(is_so && read.visits == case.visits, text)
+    let Tally { result, visits } = read_list_ordered(alloc, bytes, base, case.ctx, 0, depth, order);
+    let is_so = is_answer(result, case.answer);
+    ensure(is_so && visits == case.visits, text)
 }
 
 fn check_both(alloc: Global, cases: &[Case]) -> Result<(), Fail> {

@@ -11,9 +11,10 @@ use std::alloc::Global;
 use std::test::Fail;
 
 fn are_two_hops(alloc: Global, read: Tally<Vec<Attr>, ListError>) -> Result<(), Fail> {
-    let list = read.result?;
+    let Tally { result, visits } = read;
+    let list = result?;
     let expected = two_hops(alloc)?;
-    ensure(read.visits == 84 && list == expected, "two hops")
+    ensure(visits == 84 && list == expected, "two hops")
 }
 
 #[test]
@@ -41,7 +42,7 @@ fn reads_a_list(
     expected.push(list_of(alloc, number, flags, inner)?)?;
     let bytes = bytes_of(alloc, text)?;
     let read = read_list(alloc, bytes.as_slice(), 0, ctx, 0, Depth::standard());
-    let list = read.result?;
+    let list = read.into_result()?;
     ensure(list == expected, text)
 }
 
@@ -70,9 +71,17 @@ fn nests(
 ) -> Result<(), Fail> {
     let depth = Depth::new(32)?;
     let bytes = nested_lists(alloc, count, order)?;
-    let read = read_list_ordered(alloc, bytes.as_slice(), 0, Ctx::Plain, 0, depth, order);
-    let refused = read.result.err();
-    ensure(refused == refusal && read.visits == visits, "nested lists")
+    let Tally { result, visits } = read_list_ordered(
+        alloc,
+        bytes.as_slice(),
+        0,
+        Ctx::Plain,
+        0,
+        depth,
+        order,
+    );
+    let refused = result.err();
+    ensure(refused == refusal && visits == visits, "nested lists")
 }
 
 #[test]
@@ -111,7 +120,7 @@ fn finds_the_first_of_a_number(rt: HostRuntime) -> Result<(), Fail> {
     let text = "06000300 61000000 06000300 62000000 06000400 dc050000";
     let bytes = bytes_of(alloc, text)?;
     let read = read_list(alloc, bytes.as_slice(), 0, Ctx::Link, 0, Depth::standard());
-    let list = read.result?;
+    let list = read.into_result()?;
     let list = list.as_slice();
     let is_so = finds_a_name(list) && finds_a_short_mtu(list) && find(list, 5).is_none();
     ensure(list.len() == 3 && is_so, "two names and an MTU")

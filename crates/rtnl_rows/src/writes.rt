@@ -74,7 +74,7 @@ fn what_was_read_in_the_big_order_is_written_again(rt: HostRuntime) -> Result<()
     let bytes = bytes_of(alloc, big)?;
     let depth = Depth::standard();
     let read = read_list_ordered(alloc, bytes.as_slice(), 0, Ctx::Link, 0, depth, Order::Big);
-    let attrs = read.result?;
+    let attrs = read.into_result()?;
     writes_as(alloc, attrs.as_slice(), Order::Big, big)?;
     let little = "07000300 6c6f0000 08000400 00010000";
     writes_as(alloc, attrs.as_slice(), Order::Little, little)

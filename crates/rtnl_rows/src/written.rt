@@ -107,7 +107,9 @@ fn refusals_are_those_of_reading(rt: HostRuntime) -> Result<(), Fail> {
     let alloc = rt.alloc();
     let bytes = bytes_of(alloc, BAD)?;
     let limits = Limits::standard();
-    let read = read_datagram(alloc, bytes.as_slice(), &limits).into_result().err();
+    let read = read_datagram(alloc, bytes.as_slice(), &limits)
+        .into_result()
+        .err();
     let checked = is_canonical(alloc, bytes.as_slice(), &limits).err();
     let least = Limits::new(8, 16, 0, 0)?;
     let refused = is_canonical(alloc, bytes.as_slice(), &least).err();
