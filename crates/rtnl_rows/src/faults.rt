@@ -7,13 +7,15 @@ use rtnl::{ReadSource, RunError, Sink, SliceSource, Source, Verdict};
 use std::alloc::Global;
 use std::test::Fail;
 
-/// How a run ends: its answer, what was written, and the failed calls of its source and its sink.
+/// How a run ends: its answer, what was written, and the calls of its source and its sink that failed,
+/// and those of its sink that took no byte.
 #[derive(Clone, Copy, Debug)]
 struct Ending<'a> {
     answer: Result<Verdict, RunError>,
     written: &'a [u8],
     reads: u64,
     writes: u64,
+    stalls: u64,
 }
 
 /// A run over this source into this sink ends so.
@@ -30,6 +32,7 @@ fn ends<S: Source>(
         && sink.bytes.as_slice() == ending.written
         && source.failures() == ending.reads
         && sink.failures() == ending.writes
+        && sink.stalls() == ending.stalls
 }
 
 /// What is written of an input without datagrams, and the verdict on it.
@@ -56,6 +59,7 @@ fn reads_to_the_end<S: Source>(alloc: Global, engine: Engine, source: &mut S) ->
         written: text.as_bytes(),
         reads: 0,
         writes: 0,
+        stalls: 0,
     };
     let sink = TightSink::new(alloc, 200, 1, true);
     ends(alloc, engine, source, sink, ending)
@@ -68,6 +72,7 @@ fn stops_reading<S: Source>(alloc: Global, engine: Engine, source: &mut S, reads
         written: b"",
         reads,
         writes: 0,
+        stalls: 0,
     };
     let sink = TightSink::new(alloc, 200, 1, true);
     ends(alloc, engine, source, sink, ending)
@@ -161,13 +166,14 @@ complete yes
     }
 }
 
-/// A run over that end answers so, after so many bytes were written and so many writes failed.
+/// A run over that end answers so, after so many bytes were written and so many writes failed, or took
+/// no byte.
 fn writes(
     alloc: Global,
     engine: Engine,
     sink: TightSink,
     answer: Result<Verdict, RunError>,
-    (count, writes): (usize, u64),
+    (count, writes, stalls): (usize, u64, u64),
 ) -> bool {
     let mut source = SliceSource::new(DONE.as_bytes());
     match of_the_end(engine).as_bytes().get(..count) {
@@ -177,6 +183,7 @@ fn writes(
                 written,
                 reads: 0,
                 writes,
+                stalls,
             };
             ends(alloc, engine, &mut source, sink, ending)
         }
@@ -191,17 +198,17 @@ fn stops_where_a_sink_does(alloc: Global, engine: Engine) -> bool {
     let fails_later = TightSink::new(alloc, 7, 2, true);
     let takes_none = TightSink::new(alloc, 7, 0, false);
     let takes_none_later = TightSink::new(alloc, 7, 2, false);
-    writes(alloc, engine, fails, fault, (0, 1))
-        && writes(alloc, engine, fails_later, fault, (14, 1))
-        && writes(alloc, engine, takes_none, fault, (0, 0))
-        && writes(alloc, engine, takes_none_later, fault, (14, 0))
+    writes(alloc, engine, fails, fault, (0, 1, 0))
+        && writes(alloc, engine, fails_later, fault, (14, 1, 0))
+        && writes(alloc, engine, takes_none, fault, (0, 0, 1))
+        && writes(alloc, engine, takes_none_later, fault, (14, 0, 1))
 }
 
 /// A run writes its whole text into a sink that takes one byte in each call.
 fn writes_byte_by_byte(alloc: Global, engine: Engine) -> bool {
     let count = of_the_end(engine).len();
     let sink = TightSink::new(alloc, 1, 200, true);
-    writes(alloc, engine, sink, Ok(Verdict::Clean), (count, 0))
+    writes(alloc, engine, sink, Ok(Verdict::Clean), (count, 0, 0))
 }
 
 #[test]

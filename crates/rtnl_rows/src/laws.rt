@@ -1,10 +1,19 @@
-//! The laws of tables and sessions, and the numbers of a session's refusals.
+//! The laws of faults, tables and sessions, and the numbers of a session's refusals.
 
 use nl_attr::{Fault, Reason};
 use nl_dump::{BeginError, FeedError, NotWaiting};
 use nl_frame::ReadError;
 use nl_route::{Addr, Link, Neigh, Route, Rule};
 use std::alloc::AllocError;
+
+#[test]
+fn laws_of_one_answer(_rt: HostRuntime) {
+    nl_attr::laws::one_first_fault();
+    nl_frame::laws::one_first_fault();
+    nl_frame::laws::written_back();
+    rtnl::laws::one_answer();
+    rtnl::laws::one_text();
+}
 
 #[test]
 fn laws_of_tables_and_sessions(_rt: HostRuntime) {

@@ -20,6 +20,7 @@ fn gives_both_halves(sink: &mut VecSink) -> bool {
         && sink.give(b"gram") == Ok(4)
         && sink.bytes.as_slice() == b"datagram".as_slice()
         && sink.failures() == 0
+        && sink.stalls() == 0
 }
 
 #[test]
@@ -56,6 +57,7 @@ fn gives_four_and_fails(sink: &mut WriteSink<ShortFile>) -> bool {
         && sink.failures() == 0
         && sink.give(b"s") == Err(Broken)
         && sink.failures() == 1
+        && sink.stalls() == 0
 }
 
 #[test]
@@ -65,6 +67,25 @@ fn counts_the_failures_of_a_writer(rt: HostRuntime) {
         broken: true,
     });
     assert!(rt; gives_four_and_fails(&mut sink));
+}
+
+fn gives_four_and_stalls(sink: &mut WriteSink<ShortFile>) -> bool {
+    sink.give(b"text") == Ok(3)
+        && sink.give(b"t") == Ok(1)
+        && sink.give(b"s") == Ok(0)
+        && sink.give(b"s") == Ok(0)
+        && sink.give(b"") == Ok(0)
+        && sink.stalls() == 2
+        && sink.failures() == 0
+}
+
+#[test]
+fn counts_the_stalls_of_a_writer(rt: HostRuntime) {
+    let mut sink = WriteSink::new(ShortFile {
+        left: 4,
+        broken: false,
+    });
+    assert!(rt; gives_four_and_stalls(&mut sink));
 }
 
 #[test]

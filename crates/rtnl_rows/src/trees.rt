@@ -228,8 +228,12 @@ fn is_of(payload: &Payload, bytes: &[u8]) -> bool {
 
 fn keeps(alloc: Global, bytes: &[u8]) -> Result<(), Fail> {
     let payload = Payload::from_slice(alloc, bytes)?;
-    let copy = Payload::from_vec(Vec::from_slice(alloc, bytes)?);
-    ensure(is_of(&payload, bytes) && payload == copy, "a payload")
+    let copy = Payload::from(Vec::from_slice(alloc, bytes)?);
+    let is_so = is_of(&payload, bytes) && payload == copy && payload.is(bytes);
+    ensure(is_so && !payload.is(b"other"), "a payload")?;
+    let taken = payload.into_vec(alloc)?;
+    let kept = copy.into_vec(alloc)?;
+    ensure(taken.as_slice() == bytes && kept == taken, "its vector")
 }
 
 #[test]

@@ -186,3 +186,34 @@ fn next_hops_end_at_a_fault(rt: HostRuntime) -> Result<(), Fail> {
     let is_so = gives_a_hop_and_a_fault(HopParts::of(bytes.as_slice()));
     ensure(is_so, "a hop and a fault")
 }
+
+/// The same attribute at another place is another part.
+#[test]
+fn parts_are_equal_in_all_they_say(rt: HostRuntime) {
+    let part = Part {
+        number: 3,
+        flags: PLAIN,
+        place: 0,
+        span: 8,
+        payload: b"lo\0",
+    };
+    let copy = part;
+    assert!(rt; part == copy);
+    assert!(rt; part != Part { place: 8, ..part });
+    assert!(rt;
+        part != Part {
+            payload: b"eth",
+            ..part
+        }
+    );
+    let hop = HopPart {
+        flags: 0,
+        hops: 0,
+        ifindex: 2,
+        place: 0,
+        span: 8,
+        rest: b"",
+    };
+    let copy = hop;
+    assert!(rt; hop == copy && hop != HopPart { ifindex: 3, ..hop });
+}
