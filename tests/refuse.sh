@@ -1,8 +1,8 @@
 #!/usr/bin/env bash
-# Refuses the growths of the built program one by one: the first in one run, the second in the next, and so
-# on until a run asks for no more. A refused growth ends the program as out of memory, with nothing on
-# standard output, or it wasn't needed and changes nothing. The last line is 'N passed, M failed', and the
-# status is 1 where a case failed.
+# Refuses the growths of a program one by one: the first in one run, the second in the next, and so on until a
+# run asks for no more. Whole runs of the built program come first: a refused growth ends it as out of memory, with
+# nothing on standard output, or it wasn't needed and changes nothing. Then come the calls of the libraries one by
+# one. The last line is 'N passed, M failed', and the status is 1 where a case failed.
 set -u
 cd "$(dirname "${BASH_SOURCE[0]}")/.." || exit 1
 program=$PWD/crates/rtnl_cli/out/rtnl_cli
@@ -135,5 +135,9 @@ refuse_each 'a missing option' 2 /dev/null request --kind link
 refuse_each 'a missing file' 3 /dev/null show "$folder/missing"
 refuse_each 'help' 0 /dev/null --help
 refuse_each 'help of table' 0 /dev/null table --help
+
+# ---- each call of the libraries
+
+. tests/refuse/calls.sh
 
 finish

@@ -1,0 +1,145 @@
+//! Bodies of the families, and the keys of entries.
+
+ghost use Rattle.std.specs.Prelude.{◌≤◌, length};
+
+use crate::lists::{tell_unread, tell_written};
+use crate::rows::{ADDRESS, Bytes, LOOPBACK, NEIGHBOUR, NEXT_HOPS, RULE, Row};
+use crate::said::{Hex, Label, ORDERS};
+use crate::stop::Stop;
+use nl_attr::{Depth, ListError, Order, Tally};
+use nl_route::{AddrHead, Family, Head, LinkHead, NeighHead, RouteHead, RuleHead};
+use nl_table::Entry;
+use std::alloc::{AllocError, Global};
+
+/// Where the body of a datagram's only message begins.
+const BODY: usize = 16;
+
+/// More bytes than a body is written as.
+const ROOM: usize = 128;
+
+/// What the call for the order answers over the body in a datagram, none where there is no head.
+fn tally_of<H: Head>(
+    alloc: Global,
+    datagram: &[u8],
+    order: Order,
+) -> Option<Tally<Family<H>, ListError>>
+    requires { length datagram.now ≤ 112 }
+{
+    let body = datagram.get(BODY..)?;
+    if body.len() < H::SIZE {
+        return None;
+    }
+    let depth = Depth::standard();
+    Some(match order {
+        Order::Little => Family::read_body(alloc, body, 16, depth),
+        Order::Big => Family::read_body_ordered(alloc, body, 16, depth, order),
+    })
+}
+
+/// The body of a row, where what reads it is not what is tried.
+pub(crate) fn body_of<H: Head>(alloc: Global, row: Row, order: Order) -> Result<Family<H>, Stop> {
+    let bytes = Bytes::of(&[row], order)?;
+    match tally_of(alloc, bytes.as_slice(), order) {
+        Some(tally) => tally.result.map_err(|error| Stop::of(error.code())),
+        None => Err(Stop::Fault),
+    }
+}
+
+fn label<H: Head>(call: &'static str, order: Order) -> Label {
+    Label {
+        call,
+        order,
+        row: H::group().row().name,
+    }
+}
+
+/// Reads a body, and tells how much was visited, and what the body is written as.
+fn read<H: Head>(rt: &HostRuntime, row: Row, order: Order) -> Result<(), Stop> {
+    let label = label::<H>("read_body", order);
+    let depth = Depth::standard();
+    let bytes = Bytes::of(&[row], order)?;
+    let bytes = bytes.as_slice();
+    let mut room = Vec::with_capacity(rt.alloc(), ROOM)?;
+    let Some(Tally { result, visits }) = tally_of::<H>(rt.alloc(), bytes, order) else {
+        return Err(Stop::Fault);
+    };
+    match result {
+        Ok(body) => {
+            body.write_body_ordered(depth, &mut room, order)
+                .map_err(|error| Stop::of(error.code()))?;
+            println!(rt;
+                "{label}: visits {visits}, written {}",
+                Hex(room.as_slice())
+            )?;
+        }
+        Err(error) => tell_unread(rt, label, error, visits, depth, bytes.len())?,
+    }
+    Ok(())
+}
+
+/// Writes a body behind three bytes.
+fn write<H: Head>(rt: &HostRuntime, row: Row, order: Order) -> Result<(), Stop> {
+    let body: Family<H> = body_of(rt.alloc(), row, order)?;
+    let mut out = Vec::from_slice(rt.alloc(), &[1, 2, 3])?;
+    let depth = Depth::standard();
+    let answer = match order {
+        Order::Little => body.write_body(depth, &mut out),
+        Order::Big => body.write_body_ordered(depth, &mut out, order),
+    };
+    let label = label::<H>("write_body", order);
+    tell_written(rt, label, answer, out.as_slice())
+}
+
+/// Makes the key of an entry.
+fn key<H: Head>(rt: &HostRuntime, row: Row, order: Order) -> Result<(), Stop>
+where
+    Family<H>: Entry,
+{
+    let label = label::<H>("key", order);
+    let entry: Family<H> = body_of(rt.alloc(), row, order)?;
+    let answer = match order {
+        Order::Little => entry.key(rt.alloc()),
+        Order::Big => entry.key_ordered(rt.alloc(), order),
+    };
+    match answer {
+        Ok(key) => println!(rt; "{label}: {}", Hex(key.as_slice()))?,
+        Err(AllocError) => println!(rt; "{label}: memory")?,
+    }
+    Ok(())
+}
+
+/// The bodies of all families in both orders.
+pub(crate) fn read_bodies(rt: &HostRuntime) -> Result<(), Stop> {
+    for order in ORDERS {
+        read::<LinkHead>(rt, LOOPBACK, order)?;
+        read::<AddrHead>(rt, ADDRESS, order)?;
+        read::<RouteHead>(rt, NEXT_HOPS, order)?;
+        read::<NeighHead>(rt, NEIGHBOUR, order)?;
+        read::<RuleHead>(rt, RULE, order)?;
+    }
+    Ok(())
+}
+
+/// The same, written.
+pub(crate) fn write_bodies(rt: &HostRuntime) -> Result<(), Stop> {
+    for order in ORDERS {
+        write::<LinkHead>(rt, LOOPBACK, order)?;
+        write::<AddrHead>(rt, ADDRESS, order)?;
+        write::<RouteHead>(rt, NEXT_HOPS, order)?;
+        write::<NeighHead>(rt, NEIGHBOUR, order)?;
+        write::<RuleHead>(rt, RULE, order)?;
+    }
+    Ok(())
+}
+
+/// The keys of the same.
+pub(crate) fn make_keys(rt: &HostRuntime) -> Result<(), Stop> {
+    for order in ORDERS {
+        key::<LinkHead>(rt, LOOPBACK, order)?;
+        key::<AddrHead>(rt, ADDRESS, order)?;
+        key::<RouteHead>(rt, NEXT_HOPS, order)?;
+        key::<NeighHead>(rt, NEIGHBOUR, order)?;
+        key::<RuleHead>(rt, RULE, order)?;
+    }
+    Ok(())
+}

@@ -1,0 +1,58 @@
+//! The entries of tables, in bytes.
+
+use crate::stop::Stop;
+use nl_attr::Depth;
+use nl_dump::{Kind, Session, match_table};
+use nl_route::{Family, Head};
+use nl_table::{Entry, Table};
+use std::alloc::Global;
+
+/// More bytes than the tables of a row come to.
+const ROOM: usize = 1024;
+
+/// Appends the key and the body of each entry.
+fn push_entries<H: Head>(out: &mut Vec<u8>, table: &Table<Family<H>>) -> Result<(), Stop>
+where
+    Family<H>: Entry,
+{
+    for place in 0..table.len() {
+        let (Some(key), Some(entry)) = (table.key_at(place), table.get(place)) else {
+            return Err(Stop::Fault);
+        };
+        out.extend_from_slice(key)?;
+        entry
+            .write_body_ordered(Depth::standard(), out, table.order())
+            .map_err(|error| Stop::of(error.code()))?;
+    }
+    Ok(())
+}
+
+/// Appends all that a table tells.
+fn push_table<H: Head>(out: &mut Vec<u8>, table: &Table<Family<H>>) -> Result<(), Stop>
+where
+    Family<H>: Entry,
+{
+    out.extend_from_slice(&table.len().to_le_bytes())?;
+    out.extend_from_slice(&table.spare().to_le_bytes())?;
+    out.extend_from_slice(&table.missed().to_le_bytes())?;
+    push_entries(out, table)
+}
+
+/// The key and the body of each entry of a table.
+pub(crate) fn entries_of<H: Head>(alloc: Global, table: &Table<Family<H>>) -> Result<Vec<u8>, Stop>
+where
+    Family<H>: Entry,
+{
+    let mut entries = Vec::with_capacity(alloc, ROOM)?;
+    push_entries(&mut entries, table)?;
+    Ok(entries)
+}
+
+/// All that the tables of a session tell.
+pub(crate) fn tables_of(alloc: Global, session: &Session) -> Result<Vec<u8>, Stop> {
+    let mut tables = Vec::with_capacity(alloc, ROOM)?;
+    for kind in Kind::ALL {
+        match_table!(kind, session, table => push_table(&mut tables, table)?);
+    }
+    Ok(tables)
+}

@@ -1,0 +1,104 @@
+//! Calls each library call that takes memory over rows whose answers are known, for tests alone:
+//! `rtnl_calls CALL`, or `rtnl_calls all`. A line for each row tells what the call answered, and
+//! what stands after it. tests/refuse.sh runs it with each of its growths refused in turn.
+#![tactic(auto)]
+
+mod bodies;
+mod datagrams;
+mod dumps;
+mod entries;
+mod feeding;
+mod lists;
+mod regions;
+mod rows;
+mod runs;
+mod said;
+mod sessions;
+mod stop;
+mod tables;
+mod told;
+
+use std::io;
+use std::process::ExitCode;
+use stop::Stop;
+
+/// The calls of the libraries.
+const CALLS: [&str; 20] = [
+    "read_list",
+    "write_list",
+    "from_slice",
+    "read_body",
+    "write_body",
+    "read_datagram",
+    "write_datagram",
+    "is_canonical",
+    "key",
+    "new_table",
+    "reserve",
+    "put",
+    "new_session",
+    "begin",
+    "feed",
+    "run_show",
+    "run_check",
+    "run_table",
+    "run_request",
+    "give",
+];
+
+/// Tries the rows of the call of this name.
+fn try_call(rt: &HostRuntime, name: &str) -> Result<(), Stop> {
+    match name {
+        "read_list" => lists::read_lists(rt),
+        "write_list" => lists::write_lists(rt),
+        "from_slice" => lists::copy_bytes(rt),
+        "read_body" => bodies::read_bodies(rt),
+        "write_body" => bodies::write_bodies(rt),
+        "read_datagram" => datagrams::read_datagrams(rt),
+        "write_datagram" => datagrams::write_datagrams(rt),
+        "is_canonical" => datagrams::compare_datagrams(rt),
+        "key" => bodies::make_keys(rt),
+        "new_table" => tables::new_tables(rt),
+        "reserve" => tables::reserve_places(rt),
+        "put" => tables::put_links(rt),
+        "new_session" => sessions::new_sessions(rt),
+        "begin" => sessions::begin_dumps(rt),
+        "feed" => feeding::feed_dumps(rt),
+        "run_show" => runs::show_end(rt),
+        "run_check" => runs::check_end(rt),
+        "run_table" => runs::table_links(rt),
+        "run_request" => runs::request_routes(rt),
+        "give" => runs::give(rt),
+        _ => Err(Stop::Usage),
+    }
+}
+
+/// Tries the rows of all calls.
+fn try_all(rt: &HostRuntime) -> Result<(), Stop> {
+    for name in CALLS {
+        try_call(rt, name)?;
+    }
+    Ok(())
+}
+
+/// Does what the arguments ask for.
+fn run(rt: &HostRuntime) -> Result<(), Stop> {
+    let words: Vec<String> = std::env::args(rt)?.collect(rt.alloc())?;
+    match words.as_slice() {
+        [_, name] if name.as_str() == "all" => try_all(rt),
+        [_, name] => try_call(rt, name.as_str()),
+        _ => Err(Stop::Usage),
+    }
+}
+
+/// An exit status, after a message on standard error, be it printed or not.
+fn failed(_printed: io::Result<()>, status: u8) -> ExitCode {
+    ExitCode::from(status)
+}
+
+fn main(rt: HostRuntime) -> ExitCode {
+    match run(&rt) {
+        Ok(()) => ExitCode::SUCCESS,
+        Err(stop) => failed(eprintln!(rt; "rtnl_calls: {stop}"), stop.status()),
+    }
+}

@@ -1,0 +1,158 @@
+//! Whole runs over memory, and a sink in memory.
+
+use crate::datagrams::limits_in;
+use crate::rows::{END, ETHERNET, LOOPBACK};
+use crate::said::{Label, ORDERS, Text};
+use crate::stop::Stop;
+use nl_attr::Order;
+use nl_dump::{Dump, Kind};
+use rtnl::{
+    Broken, RunError, Sink, SliceSource, VecSink, Verdict, run_check, run_request,
+    run_request_ordered, run_show, run_table,
+};
+use std::alloc::Global;
+
+/// More bytes than a run writes.
+const ROOM: usize = 1024;
+
+/// A sink that takes no memory for what a run writes.
+fn sink_with_room(alloc: Global) -> Result<VecSink, Stop> {
+    let mut sink = VecSink::new(alloc);
+    sink.bytes.reserve(ROOM)?;
+    Ok(sink)
+}
+
+/// Tells how a run ended, and what it wrote.
+fn tell(
+    rt: &HostRuntime,
+    label: Label,
+    answer: Result<Verdict, RunError>,
+    sink: &VecSink,
+) -> Result<(), Stop> {
+    let text = Text(sink.bytes.as_slice());
+    let failures = sink.failures();
+    match answer {
+        Ok(Verdict::Clean) => println!(rt; "{label}: clean, failures {failures}, text {text}")?,
+        Ok(Verdict::Blemished) => println!(rt;
+            "{label}: blemished, failures {failures}, text {text}"
+        )?,
+        Err(RunError::Memory) => println!(rt; "{label}: memory, failures {failures}, text {text}")?,
+        Err(error) => println!(rt; "{label}: {error}, failures {failures}, text {text}")?,
+    }
+    Ok(())
+}
+
+/// Shows the end of a dump.
+fn show(rt: &HostRuntime, order: Order) -> Result<(), Stop> {
+    let mut source = SliceSource::new(END.text(order).as_bytes());
+    let mut sink = sink_with_room(rt.alloc())?;
+    let label = Label {
+        call: "run_show",
+        order,
+        row: END.name,
+    };
+    let answer = run_show(rt.alloc(), &mut source, &mut sink, &limits_in(order));
+    tell(rt, label, answer, &sink)
+}
+
+/// Checks the end of a dump.
+fn check(rt: &HostRuntime, order: Order) -> Result<(), Stop> {
+    let mut source = SliceSource::new(END.text(order).as_bytes());
+    let mut sink = sink_with_room(rt.alloc())?;
+    let label = Label {
+        call: "run_check",
+        order,
+        row: END.name,
+    };
+    let answer = run_check(rt.alloc(), &mut source, &mut sink, &limits_in(order));
+    tell(rt, label, answer, &sink)
+}
+
+/// Reads two lines as the answers to a dump of links.
+fn table(rt: &HostRuntime, order: Order) -> Result<(), Stop> {
+    let mut input = String::with_capacity(rt.alloc(), ROOM)?;
+    for text in [
+        LOOPBACK.text(order),
+        "\n",
+        ETHERNET.text(order),
+        END.text(order),
+    ] {
+        input.push_str(text)?;
+    }
+    let mut source = SliceSource::new(input.as_bytes());
+    let mut sink = sink_with_room(rt.alloc())?;
+    let label = Label {
+        call: "run_table",
+        order,
+        row: "two links",
+    };
+    let dump = Dump {
+        kind: Kind::Link,
+        family: 0,
+        seq: 1,
+        port: 12_345,
+    };
+    let answer = run_table(rt.alloc(), &mut source, &mut sink, dump, &limits_in(order));
+    tell(rt, label, answer, &sink)
+}
+
+/// Prints the request for the routes of IPv4.
+fn request(rt: &HostRuntime, order: Order) -> Result<(), Stop> {
+    let mut sink = sink_with_room(rt.alloc())?;
+    let label = Label {
+        call: "run_request",
+        order,
+        row: "routes",
+    };
+    let answer = match order {
+        Order::Little => run_request(rt.alloc(), &mut sink, Kind::Route, 2, 7),
+        Order::Big => run_request_ordered(rt.alloc(), &mut sink, Kind::Route, 2, 7, order),
+    };
+    tell(rt, label, answer, &sink)
+}
+
+/// Gives bytes to a sink that has no room for them.
+pub(crate) fn give(rt: &HostRuntime) -> Result<(), Stop> {
+    let mut sink = VecSink::new(rt.alloc());
+    sink.bytes.extend_from_slice(b"data")?;
+    let answer = sink.give(b"more bytes than there is room for");
+    let bytes = Text(sink.bytes.as_slice());
+    let failures = sink.failures();
+    match answer {
+        Ok(count) => println!(rt; "give: took {count}, failures {failures}, text {bytes}")?,
+        Err(Broken) => println!(rt; "give: broken, failures {failures}, text {bytes}")?,
+    }
+    Ok(())
+}
+
+/// The end of a dump, shown in both orders.
+pub(crate) fn show_end(rt: &HostRuntime) -> Result<(), Stop> {
+    for order in ORDERS {
+        show(rt, order)?;
+    }
+    Ok(())
+}
+
+/// The same, checked.
+pub(crate) fn check_end(rt: &HostRuntime) -> Result<(), Stop> {
+    for order in ORDERS {
+        check(rt, order)?;
+    }
+    Ok(())
+}
+
+/// The table of two links in both orders.
+pub(crate) fn table_links(rt: &HostRuntime) -> Result<(), Stop> {
+    for order in ORDERS {
+        table(rt, order)?;
+    }
+    Ok(())
+}
+
+/// The request for routes in both orders.
+pub(crate) fn request_routes(rt: &HostRuntime) -> Result<(), Stop> {
+    for order in ORDERS {
+        request(rt, order)?;
+    }
+    Ok(())
+}

@@ -1,0 +1,99 @@
+//! The words of the lines.
+
+use nl_attr::{Depth, Order};
+use std::fmt;
+
+/// Both byte orders.
+pub(crate) const ORDERS: [Order; 2] = [Order::Little, Order::Big];
+
+/// A call over a row, as its line begins.
+#[derive(Clone, Copy)]
+pub(crate) struct Label {
+    pub(crate) call: &'static str,
+    pub(crate) order: Order,
+    pub(crate) row: &'static str,
+}
+
+impl fmt::Display for Label {
+    fn fmt<W: fmt::Write>(&self, f: &mut fmt::Formatter<W>) -> fmt::Result {
+        let call = self.call;
+        let row = self.row;
+        match self.order {
+            Order::Little => write!(f, "{call} little, {row}"),
+            Order::Big => write!(f, "{call} big, {row}"),
+        }
+    }
+}
+
+/// More zeros than this at the end are counted and not printed.
+const MANY: usize = 32;
+
+/// Bytes in hexadecimal, or a dash where there are none.
+#[derive(Clone, Copy)]
+pub(crate) struct Hex<'a>(pub(crate) &'a [u8]);
+
+impl Hex<'_> {
+    /// How many zeros at the end, by fours, are counted.
+    fn counted(&self) -> usize {
+        let zeros = self.0.iter().rev().take_while(|byte| **byte == 0);
+        match zeros.count() / 4 * 4 {
+            zeros if zeros > MANY => zeros,
+            _ => 0,
+        }
+    }
+}
+
+impl fmt::Display for Hex<'_> {
+    fn fmt<W: fmt::Write>(&self, f: &mut fmt::Formatter<W>) -> fmt::Result {
+        if self.0.is_empty() {
+            return f.write_str("-");
+        }
+        let counted = self.counted();
+        let shown = self.0.len().saturating_sub(counted);
+        for byte in &self.0[..shown] {
+            write!(f, "{byte:02x}")?;
+        }
+        match counted {
+            0 => Ok(()),
+            _ => write!(f, " and {counted} zeros"),
+        }
+    }
+}
+
+/// Text with a bar for the end of a line, or a dash where there is none.
+#[derive(Clone, Copy)]
+pub(crate) struct Text<'a>(pub(crate) &'a [u8]);
+
+impl fmt::Display for Text<'_> {
+    fn fmt<W: fmt::Write>(&self, f: &mut fmt::Formatter<W>) -> fmt::Result {
+        if self.0.is_empty() {
+            return f.write_str("-");
+        }
+        for byte in self.0 {
+            f.write_char(match *byte {
+                b'\n' => '|',
+                byte => char::from(byte),
+            })?;
+        }
+        Ok(())
+    }
+}
+
+pub(crate) fn yes_or_no(holds: bool) -> &'static str {
+    if holds { "yes" } else { "no" }
+}
+
+/// Whether visits keep their bound, each byte of so many once a level.
+pub(crate) fn bounded(visits: u64, depth: Depth, len: u64) -> &'static str {
+    let levels = u64::from(depth.get()).saturating_add(1);
+    if visits <= levels.saturating_mul(len) {
+        "within their bound"
+    } else {
+        "above their bound"
+    }
+}
+
+/// What stands after a call that was refused.
+pub(crate) fn as_before(is_so: bool) -> &'static str {
+    if is_so { "as before" } else { "changed" }
+}

@@ -1,0 +1,92 @@
+# Each library call that takes memory, read in by ../refuse.sh: crates/rtnl_calls makes one call after another over
+# rows whose answers are known, and prints a line for each. The call whose growth is refused says so, and leaves
+# unchanged what it must; all others answer what their rows say.
+
+program=$PWD/crates/rtnl_calls/out/rtnl_calls
+
+# The program is there, and no source is newer.
+is_current() {
+  [ -x "$program" ] &&
+    [ -z "$(find crates/*/src crates/*/specs crates/*/proofs crates.txt -newer "$program" -print -quit 2>/dev/null)" ]
+}
+
+if ! is_current; then
+  (cd crates/rtnl_calls && rt run </dev/null >"$folder/build" 2>&1 -- read_list) || { cat "$folder/build"; exit 1; }
+  # A build that had nothing to do leaves the program's time alone.
+  touch "$program"
+fi
+check 'the functions that ask for memory, of the calls' asks_by_counted_functions
+
+# The rows of a call: what each answers; and what stands in the answer's place where a growth is refused in it,
+# nothing where none is asked for.
+answers=()
+refusals=()
+
+# row LABEL ANSWER [REFUSAL [AGAIN]]: a row, its answer, the refusal, and what the same call answers behind it, where
+# it is made again.
+row() {
+  answers+=("$1: $2")
+  refusals+=("${3:+$1: $3}${4:+$'\n'$1: $4}")
+}
+
+# lines TEXT..: each text on its line.
+lines() { [ "$#" = 0 ] || printf '%s\n' "$@"; }
+
+# said STATUS ERRORS LINE..: the run ended so, and printed these lines.
+said() {
+  local status=$1 errors=$2
+  shift 2
+  [ "$(<"$folder/found.status")" = "$status" ] && [ "$(<"$folder/found.errors")" = "$errors" ] &&
+    lines "$@" | cmp -s - "$folder/found.output"
+}
+
+# Sets `place` to that of the first row that did not answer, counted from 0.
+find_place() {
+  local line
+  place=0
+  while IFS= read -r line && [ "$line" = "${answers[place]-}" ]; do
+    place=$((place + 1))
+  done <"$folder/found.output"
+}
+
+# All rows answered.
+is_answered() { said 0 '' "${answers[@]}"; }
+
+# Memory ran out outside of the calls, before the row at this place was tried or its answer told.
+is_stopped() {
+  [ "$place" -lt "${#answers[@]}" ] && said 4 'rtnl_calls: out of memory' "${answers[@]:0:place}"
+}
+
+# The growth was refused in the row at this place, and all others answered.
+is_refused_there() {
+  [ -n "${refusals[place]-}" ] &&
+    said 0 '' "${answers[@]:0:place}" "${refusals[place]}" "${answers[@]:place+1}"
+}
+
+is_one_of_three() {
+  find_place
+  if is_refused_there; then
+    needed[place]=$((${needed[place]-0} + 1))
+  else
+    is_stopped || is_answered
+  fi
+}
+
+# refuse_rows CALL: each growth of the program over the rows of this call in turn, and a run without a refusal.
+refuse_rows() {
+  local call=$1 number=1 place needed=() sum=0
+  while is_refused "$number" /dev/null "$call"; do
+    check "$call, growth $number" is_one_of_three
+    number=$((number + 1))
+  done
+  check "$call, no growth refused" is_answered
+  for place in "${!refusals[@]}"; do
+    [ -z "${refusals[place]}" ] || check "some growth is needed: ${answers[place]%%: *}" [ "${needed[place]-0}" -gt 0 ]
+    sum=$((sum + ${needed[place]-0}))
+  done
+  echo "$call: $((number - 1)) growths, $sum of them needed by its ${#answers[@]} rows"
+  answers=()
+  refusals=()
+}
+
+. tests/refuse/rows.sh
