@@ -2,9 +2,9 @@
 
 ghost use Rattle.std.specs.Prelude.{◌≤◌, length};
 
-use crate::lists::{tell_unread, tell_written};
+use crate::lists::{say_read, say_unread, say_written};
 use crate::rows::{ADDRESS, Bytes, LOOPBACK, NEIGHBOUR, NEXT_HOPS, RULE, Row};
-use crate::said::{Hex, Label, ORDERS};
+use crate::said::{Hex, Label, ORDERS, say};
 use crate::stop::Stop;
 use nl_attr::{Depth, ListError, Order, Tally};
 use nl_route::{AddrHead, Family, Head, LinkHead, NeighHead, RouteHead, RuleHead};
@@ -64,17 +64,12 @@ fn read<H: Head>(rt: &HostRuntime, row: Row, order: Order) -> Result<(), Stop> {
         return Err(Stop::Fault);
     };
     match result {
-        Ok(body) => {
-            body.write_body_ordered(depth, &mut room, order)
-                .map_err(|error| Stop::of(error.code()))?;
-            println!(rt;
-                "{label}: visits {visits}, written {}",
-                Hex(room.as_slice())
-            )?;
-        }
-        Err(error) => tell_unread(rt, label, error, visits, depth, bytes.len())?,
+        Ok(body) => match body.write_body_ordered(depth, &mut room, order) {
+            Ok(()) => say_read(rt, label, visits, room.as_slice()),
+            Err(error) => Err(Stop::of(error.code())),
+        },
+        Err(error) => say_unread(rt, label, error, visits, depth, bytes.len()),
     }
-    Ok(())
 }
 
 /// Writes a body behind three bytes.
@@ -87,7 +82,7 @@ fn write<H: Head>(rt: &HostRuntime, row: Row, order: Order) -> Result<(), Stop> 
         Order::Big => body.write_body_ordered(depth, &mut out, order),
     };
     let label = label::<H>("write_body", order);
-    tell_written(rt, label, answer, out.as_slice())
+    say_written(rt, label, answer, out.as_slice())
 }
 
 /// Makes the key of an entry.
@@ -102,20 +97,26 @@ where
         Order::Big => entry.key_ordered(rt.alloc(), order),
     };
     match answer {
-        Ok(key) => println!(rt; "{label}: {}", Hex(key.as_slice()))?,
-        Err(AllocError) => println!(rt; "{label}: memory")?,
+        Ok(key) => say(rt, label, Hex(key.as_slice())),
+        Err(AllocError) => say(rt, label, "memory"),
     }
-    Ok(())
+}
+
+/// Tries the row of each family in this order.
+macro_rules! try_families {
+    ($try_row:ident, $rt:expr, $order:expr) => {
+        $try_row::<LinkHead>($rt, LOOPBACK, $order)?;
+        $try_row::<AddrHead>($rt, ADDRESS, $order)?;
+        $try_row::<RouteHead>($rt, NEXT_HOPS, $order)?;
+        $try_row::<NeighHead>($rt, NEIGHBOUR, $order)?;
+        $try_row::<RuleHead>($rt, RULE, $order)?;
+    };
 }
 
 /// The bodies of all families in both orders.
 pub(crate) fn read_bodies(rt: &HostRuntime) -> Result<(), Stop> {
     for order in ORDERS {
-        read::<LinkHead>(rt, LOOPBACK, order)?;
-        read::<AddrHead>(rt, ADDRESS, order)?;
-        read::<RouteHead>(rt, NEXT_HOPS, order)?;
-        read::<NeighHead>(rt, NEIGHBOUR, order)?;
-        read::<RuleHead>(rt, RULE, order)?;
+        try_families!(read, rt, order);
     }
     Ok(())
 }
@@ -123,11 +124,7 @@ pub(crate) fn read_bodies(rt: &HostRuntime) -> Result<(), Stop> {
 /// The same, written.
 pub(crate) fn write_bodies(rt: &HostRuntime) -> Result<(), Stop> {
     for order in ORDERS {
-        write::<LinkHead>(rt, LOOPBACK, order)?;
-        write::<AddrHead>(rt, ADDRESS, order)?;
-        write::<RouteHead>(rt, NEXT_HOPS, order)?;
-        write::<NeighHead>(rt, NEIGHBOUR, order)?;
-        write::<RuleHead>(rt, RULE, order)?;
+        try_families!(write, rt, order);
     }
     Ok(())
 }
@@ -135,11 +132,7 @@ pub(crate) fn write_bodies(rt: &HostRuntime) -> Result<(), Stop> {
 /// The keys of the same.
 pub(crate) fn make_keys(rt: &HostRuntime) -> Result<(), Stop> {
     for order in ORDERS {
-        key::<LinkHead>(rt, LOOPBACK, order)?;
-        key::<AddrHead>(rt, ADDRESS, order)?;
-        key::<RouteHead>(rt, NEXT_HOPS, order)?;
-        key::<NeighHead>(rt, NEIGHBOUR, order)?;
-        key::<RuleHead>(rt, RULE, order)?;
+        try_families!(key, rt, order);
     }
     Ok(())
 }

@@ -1,13 +1,13 @@
 //! Datagrams read, written and compared.
 
+use crate::lists::say_read;
 use crate::rows::{Bytes, END, LOOPBACK, METRIC, NEXT_HOPS, REQUEST, Row};
-use crate::said::{Hex, Label, bounded, yes_or_no};
+use crate::said::{Hex, Label, bounded, say, yes_or_no};
 use crate::stop::Stop;
-use nl_attr::{Order, Tally};
+use nl_attr::{Depth, Order, Tally};
 use nl_frame::{
     Limits, Message, ReadError, WriteError, is_canonical, read_datagram, write_datagram,
 };
-use std::alloc::Global;
 
 const DATAGRAMS: [Row; 5] = [END, LOOPBACK, REQUEST, NEXT_HOPS, METRIC];
 
@@ -16,73 +16,79 @@ pub(crate) fn limits_in(order: Order) -> Limits {
     Limits::standard().with_order(order)
 }
 
-/// The bytes of messages, where what writes them is not what is tried.
-fn written(alloc: Global, messages: &[Message], limits: &Limits) -> Result<Vec<u8>, Stop> {
-    write_datagram(alloc, messages, limits).map_err(|error| Stop::of(error.code()))
+fn label(call: &'static str, row: Row, order: Order) -> Label {
+    Label {
+        call,
+        order,
+        row: row.name,
+    }
 }
 
 /// Reads a datagram, and tells how much was visited, and what its messages are written as.
 fn read(rt: &HostRuntime, row: Row, order: Order) -> Result<(), Stop> {
-    let label = Label {
-        call: "read_datagram",
-        order,
-        row: row.name,
-    };
+    let label = label("read_datagram", row, order);
     let bytes = Bytes::of(&[row], order)?;
-    let bytes = bytes.as_slice();
     let limits = limits_in(order);
-    let Tally { result, visits } = read_datagram(rt.alloc(), bytes, &limits);
+    let Tally { result, visits } = read_datagram(rt.alloc(), bytes.as_slice(), &limits);
     match result {
-        Ok(messages) => {
-            let again = written(rt.alloc(), messages.as_slice(), &limits)?;
-            println!(rt;
-                "{label}: visits {visits}, written {}",
-                Hex(again.as_slice())
-            )?;
-        }
-        Err(ReadError::Memory) => {
-            let visits = bounded(visits, limits.depth(), bytes.len() as u64);
-            println!(rt; "{label}: memory, visits {visits}")?;
-        }
-        Err(error) => println!(rt; "{label}: {error}, visits {visits}")?,
+        Ok(messages) => match write_datagram(rt.alloc(), messages.as_slice(), &limits) {
+            Ok(again) => say_read(rt, label, visits, again.as_slice()),
+            Err(error) => Err(Stop::of(error.code())),
+        },
+        Err(error) => say_unread(rt, label, error, visits, bytes.as_slice().len()),
     }
-    Ok(())
+}
+
+/// Tells why so many bytes were not read.
+fn say_unread(
+    rt: &HostRuntime,
+    label: Label,
+    error: ReadError,
+    visits: u64,
+    len: usize,
+) -> Result<(), Stop> {
+    match error {
+        ReadError::Memory => {
+            let visits = bounded(visits, Depth::standard(), len as u64);
+            say(rt, label, format_args!("memory, visits {visits}"))
+        }
+        _ => say(rt, label, format_args!("{error}, visits {visits}")),
+    }
 }
 
 /// Writes the messages of a datagram.
 fn write(rt: &HostRuntime, row: Row, order: Order) -> Result<(), Stop> {
-    let label = Label {
-        call: "write_datagram",
-        order,
-        row: row.name,
-    };
+    let label = label("write_datagram", row, order);
     let bytes = Bytes::of(&[row], order)?;
     let limits = limits_in(order);
-    let messages = read_datagram(rt.alloc(), bytes.as_slice(), &limits)
-        .result
-        .map_err(|error| Stop::of(error.code()))?;
-    match write_datagram(rt.alloc(), messages.as_slice(), &limits) {
-        Ok(datagram) => println!(rt; "{label}: {}", Hex(datagram.as_slice()))?,
-        Err(WriteError::Memory) => println!(rt; "{label}: memory")?,
-        Err(error) => println!(rt; "{label}: {error}")?,
+    match read_datagram(rt.alloc(), bytes.as_slice(), &limits).result {
+        Ok(messages) => write_messages(rt, messages.as_slice(), &limits, label),
+        Err(error) => Err(Stop::of(error.code())),
     }
-    Ok(())
+}
+
+fn write_messages(
+    rt: &HostRuntime,
+    messages: &[Message],
+    limits: &Limits,
+    label: Label,
+) -> Result<(), Stop> {
+    match write_datagram(rt.alloc(), messages, limits) {
+        Ok(datagram) => say(rt, label, Hex(datagram.as_slice())),
+        Err(WriteError::Memory) => say(rt, label, "memory"),
+        Err(error) => say(rt, label, error),
+    }
 }
 
 /// Tells whether a datagram is canonical.
 fn compare(rt: &HostRuntime, row: Row, order: Order) -> Result<(), Stop> {
-    let label = Label {
-        call: "is_canonical",
-        order,
-        row: row.name,
-    };
+    let label = label("is_canonical", row, order);
     let bytes = Bytes::of(&[row], order)?;
     match is_canonical(rt.alloc(), bytes.as_slice(), &limits_in(order)) {
-        Ok(is_so) => println!(rt; "{label}: {}", yes_or_no(is_so))?,
-        Err(ReadError::Memory) => println!(rt; "{label}: memory")?,
-        Err(error) => println!(rt; "{label}: {error}")?,
+        Ok(is_so) => say(rt, label, yes_or_no(is_so)),
+        Err(ReadError::Memory) => say(rt, label, "memory"),
+        Err(error) => say(rt, label, error),
     }
-    Ok(())
 }
 
 /// Each datagram in both orders.

@@ -48,6 +48,11 @@ where
     Ok(entries)
 }
 
+/// The same of the table of this kind in a session.
+pub(crate) fn entries_in(alloc: Global, session: &Session, kind: Kind) -> Result<Vec<u8>, Stop> {
+    match_table!(kind, session, table => entries_of(alloc, table))
+}
+
 /// All that the tables of a session tell.
 pub(crate) fn tables_of(alloc: Global, session: &Session) -> Result<Vec<u8>, Stop> {
     let mut tables = Vec::with_capacity(alloc, ROOM)?;

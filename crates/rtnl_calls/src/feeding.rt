@@ -1,16 +1,16 @@
 //! Datagrams fed to sessions.
 
 use crate::dumps::{begun, fed, first_of, in_session, last_of};
-use crate::entries::entries_of;
+use crate::entries::entries_in;
 use crate::rows::{Bytes, Row};
-use crate::said::{Hex, Label, as_before, bounded, yes_or_no};
+use crate::said::{Hex, Label, as_before, bounded, say, yes_or_no};
 use crate::stop::Stop;
 use crate::told::{Told, word_of};
 use nl_attr::{Depth, Order};
-use nl_dump::{FeedError, Kind, Progress, Session, match_table};
+use nl_dump::{FeedError, Kind, Progress, Session};
 
 /// Tells what became of a datagram that was taken, and what the dump's table holds.
-fn tell_taken(
+fn say_taken(
     rt: &HostRuntime,
     session: &Session,
     kind: Kind,
@@ -21,49 +21,51 @@ fn tell_taken(
     let (items, ignored) = (progress.items, progress.ignored);
     let (ended, state) = (yes_or_no(progress.ended), word_of(session.state()));
     let (damaged, complete) = (yes_or_no(session.damaged()), yes_or_no(session.complete()));
-    let entries = match_table!(kind, session, table => entries_of(rt.alloc(), table)?);
+    let entries = entries_in(rt.alloc(), session, kind)?;
     let entries = Hex(entries.as_slice());
-    print!(rt; "{label}: items {items} ignored {ignored} ended {ended}, {state}, ")?;
-    print!(rt; "received {received} visits {visits}, ")?;
-    println!(rt; "damaged {damaged} complete {complete}, entries {entries}")?;
-    Ok(())
+    let told = format_args!(
+        "items {items} ignored {ignored} ended {ended}, {state}, received {received} \
+        visits {visits}, damaged {damaged} complete {complete}, entries {entries}"
+    );
+    say(rt, label, told)
 }
 
 /// Tells what stands after a datagram for which there was no memory.
-fn tell_refused(
+fn say_refused(
     rt: &HostRuntime,
     is_as_before: bool,
     damaged: bool,
     (received, visits): (u64, u64),
     label: Label,
 ) -> Result<(), Stop> {
-    let (answer, damaged) = (as_before(is_as_before), yes_or_no(damaged));
+    let (kept, damaged) = (as_before(is_as_before), yes_or_no(damaged));
     let visits = bounded(visits, Depth::standard(), received);
-    print!(rt; "{label}: memory, answer and tables {answer}, ")?;
-    println!(rt; "received {received} visits {visits}, damaged {damaged}")?;
-    Ok(())
+    let told = format_args!(
+        "memory, answer and tables {kept}, received {received} visits {visits}, \
+        damaged {damaged}"
+    );
+    say(rt, label, told)
 }
 
-/// Feeds a datagram, tells what became of it, and answers whether memory ran out.
+/// Feeds a datagram, and tells what became of it.
 fn feed(
     rt: &HostRuntime,
     session: &mut Session,
     kind: Kind,
     bytes: &[u8],
     label: Label,
-) -> Result<bool, Stop> {
+) -> Result<Result<Progress, FeedError>, Stop> {
     let before = Told::of(rt.alloc(), session)?;
     let answer = session.feed(bytes);
     let after = Told::of(rt.alloc(), session)?;
     let sums = after.since(&before);
+    let kept = after.answers_as(&before);
     match answer {
-        Ok(progress) => tell_taken(rt, session, kind, progress, sums, label)?,
-        Err(FeedError::Memory) => {
-            tell_refused(rt, after.answers_as(&before), after.damaged, sums, label)?;
-        }
-        Err(error) => println!(rt; "{label}: {error}")?,
+        Ok(progress) => say_taken(rt, session, kind, progress, sums, label)?,
+        Err(FeedError::Memory) => say_refused(rt, kept, after.damaged, sums, label)?,
+        Err(error) => say(rt, label, error)?,
     }
-    Ok(answer == Err(FeedError::Memory))
+    Ok(answer)
 }
 
 /// Feeds a datagram, and once more where memory ran out.
@@ -75,10 +77,13 @@ fn feed_until_taken(
     label: Label,
 ) -> Result<(), Stop> {
     let bytes = Bytes::of(rows, label.order)?;
-    if feed(rt, session, kind, bytes.as_slice(), label)? {
-        feed(rt, session, kind, bytes.as_slice(), label)?;
+    match feed(rt, session, kind, bytes.as_slice(), label)? {
+        Err(FeedError::Memory) => {
+            let _answer = feed(rt, session, kind, bytes.as_slice(), label)?;
+            Ok(())
+        }
+        _ => Ok(()),
     }
-    Ok(())
 }
 
 /// The first datagram of a dump.

@@ -1,7 +1,9 @@
 //! Lists of attributes, and the bytes of one.
 
+ghost use Rattle.std.specs.Prelude.{◌≤◌, length};
+
 use crate::regions::{REGIONS, Region};
-use crate::said::{Hex, Label, ORDERS, bounded};
+use crate::said::{Hex, Label, ORDERS, bounded, say};
 use crate::stop::Stop;
 use nl_attr::{
     Attr, AttrFlags, Ctx, Depth, ListError, Order, Payload, Tally, Value, WriteError, read_list,
@@ -9,38 +11,55 @@ use nl_attr::{
 };
 use std::alloc::{AllocError, Global};
 
+/// What the call for the order answers over a region.
+fn tally_of(alloc: Global, bytes: &[u8], depth: Depth, order: Order) -> Tally<Vec<Attr>, ListError>
+    requires { length bytes.now ≤ 1048576 }
+{
+    match order {
+        Order::Little => read_list(alloc, bytes, 0, Ctx::Plain, 0, depth),
+        Order::Big => read_list_ordered(alloc, bytes, 0, Ctx::Plain, 0, depth, order),
+    }
+}
+
 /// Reads a list, and tells how much was visited, and what the list is written as.
 fn read(rt: &HostRuntime, region: &Region, order: Order) -> Result<(), Stop> {
-    let alloc = rt.alloc();
-    let bytes = region.bytes(alloc, order)?;
-    let mut room = Vec::with_capacity(alloc, bytes.len().saturating_add(4))?;
-    let depth = Depth::new(region.depth).map_err(|fault| Stop::of(fault.code()))?;
-    let Tally { result, visits } = match order {
-        Order::Little => read_list(alloc, bytes.as_slice(), 0, Ctx::Plain, 0, depth),
-        Order::Big => read_list_ordered(alloc, bytes.as_slice(), 0, Ctx::Plain, 0, depth, order),
-    };
     let label = Label {
         call: "read_list",
         order,
         row: region.row.name,
     };
+    let bytes = region.bytes(rt.alloc(), order)?;
+    let mut room = Vec::with_capacity(rt.alloc(), bytes.len().saturating_add(4))?;
+    let depth = Depth::new(region.depth).map_err(|fault| Stop::of(fault.code()))?;
+    let Tally { result, visits } = tally_of(rt.alloc(), bytes.as_slice(), depth, order);
     match result {
         Ok(attrs) => {
-            write_list_ordered(attrs.as_slice(), Ctx::Plain, depth, &mut room, order).map_err(
-                |error| Stop::of(error.code()),
-            )?;
-            println!(rt;
-                "{label}: visits {visits}, written {}",
-                Hex(room.as_slice())
-            )?;
+            match write_list_ordered(attrs.as_slice(), Ctx::Plain, depth, &mut room, order) {
+                Ok(()) => say_read(rt, label, visits, room.as_slice()),
+                Err(error) => Err(Stop::of(error.code())),
+            }
         }
-        Err(error) => tell_unread(rt, label, error, visits, depth, bytes.len())?,
+        Err(error) => say_unread(rt, label, error, visits, depth, bytes.len()),
     }
-    Ok(())
+}
+
+/// Tells how much was visited of what was read, and what that is written as.
+pub(crate) fn say_read(
+    rt: &HostRuntime,
+    label: Label,
+    visits: u64,
+    written: &[u8],
+) -> Result<(), Stop> {
+    let written = Hex(written);
+    say(
+        rt,
+        label,
+        format_args!("visits {visits}, written {written}"),
+    )
 }
 
 /// Tells why so many bytes were not read.
-pub(crate) fn tell_unread(
+pub(crate) fn say_unread(
     rt: &HostRuntime,
     label: Label,
     error: ListError,
@@ -49,13 +68,12 @@ pub(crate) fn tell_unread(
     len: usize,
 ) -> Result<(), Stop> {
     match error {
-        ListError::Layout(fault) => println!(rt; "{label}: {fault}, visits {visits}")?,
+        ListError::Layout(fault) => say(rt, label, format_args!("{fault}, visits {visits}")),
         ListError::Memory => {
             let visits = bounded(visits, depth, len as u64);
-            println!(rt; "{label}: memory, visits {visits}")?;
+            say(rt, label, format_args!("memory, visits {visits}"))
         }
     }
-    Ok(())
 }
 
 /// Each region in both orders.
@@ -102,11 +120,11 @@ fn write(rt: &HostRuntime, order: Order) -> Result<(), Stop> {
         order,
         row: "a metric",
     };
-    tell_written(rt, label, answer, out.as_slice())
+    say_written(rt, label, answer, out.as_slice())
 }
 
 /// Tells whether a value was written, and all that the output holds.
-pub(crate) fn tell_written(
+pub(crate) fn say_written(
     rt: &HostRuntime,
     label: Label,
     answer: Result<(), WriteError>,
@@ -114,11 +132,10 @@ pub(crate) fn tell_written(
 ) -> Result<(), Stop> {
     let out = Hex(out);
     match answer {
-        Ok(()) => println!(rt; "{label}: written, output {out}")?,
-        Err(WriteError::Memory) => println!(rt; "{label}: memory, output {out}")?,
-        Err(error) => println!(rt; "{label}: {error}, output {out}")?,
+        Ok(()) => say(rt, label, format_args!("written, output {out}")),
+        Err(WriteError::Memory) => say(rt, label, format_args!("memory, output {out}")),
+        Err(error) => say(rt, label, format_args!("{error}, output {out}")),
     }
-    Ok(())
 }
 
 /// A list in both orders.
@@ -130,16 +147,15 @@ pub(crate) fn write_lists(rt: &HostRuntime) -> Result<(), Stop> {
 }
 
 /// Copies bytes into a payload.
-fn copy(rt: &HostRuntime, row: &'static str, bytes: &[u8]) -> Result<(), Stop> {
+fn copy(rt: &HostRuntime, label: &str, bytes: &[u8]) -> Result<(), Stop> {
     match Payload::from_slice(rt.alloc(), bytes) {
-        Ok(payload) => println!(rt; "from_slice, {row}: {}", Hex(payload.as_slice()))?,
-        Err(AllocError) => println!(rt; "from_slice, {row}: memory")?,
+        Ok(payload) => say(rt, label, Hex(payload.as_slice())),
+        Err(AllocError) => say(rt, label, "memory"),
     }
-    Ok(())
 }
 
 /// The most bytes that take no memory, and one more.
 pub(crate) fn copy_bytes(rt: &HostRuntime) -> Result<(), Stop> {
-    copy(rt, "23 bytes", b"abcdefghijklmnopqrstuvw")?;
-    copy(rt, "24 bytes", b"abcdefghijklmnopqrstuvwx")
+    copy(rt, "from_slice, 23 bytes", b"abcdefghijklmnopqrstuvw")?;
+    copy(rt, "from_slice, 24 bytes", b"abcdefghijklmnopqrstuvwx")
 }

@@ -2,7 +2,7 @@
 
 use crate::datagrams::limits_in;
 use crate::rows::{END, ETHERNET, LOOPBACK};
-use crate::said::{Label, ORDERS, Text};
+use crate::said::{Label, ORDERS, Text, say};
 use crate::stop::Stop;
 use nl_attr::Order;
 use nl_dump::{Dump, Kind};
@@ -23,23 +23,24 @@ fn sink_with_room(alloc: Global) -> Result<VecSink, Stop> {
 }
 
 /// Tells how a run ended, and what it wrote.
-fn tell(
+fn say_run(
     rt: &HostRuntime,
     label: Label,
     answer: Result<Verdict, RunError>,
     sink: &VecSink,
 ) -> Result<(), Stop> {
-    let text = Text(sink.bytes.as_slice());
-    let failures = sink.failures();
-    match answer {
-        Ok(Verdict::Clean) => println!(rt; "{label}: clean, failures {failures}, text {text}")?,
-        Ok(Verdict::Blemished) => println!(rt;
-            "{label}: blemished, failures {failures}, text {text}"
-        )?,
-        Err(RunError::Memory) => println!(rt; "{label}: memory, failures {failures}, text {text}")?,
-        Err(error) => println!(rt; "{label}: {error}, failures {failures}, text {text}")?,
-    }
-    Ok(())
+    let (failures, text) = (sink.failures(), Text(sink.bytes.as_slice()));
+    let answer = match answer {
+        Ok(Verdict::Clean) => "clean",
+        Ok(Verdict::Blemished) => "blemished",
+        Err(RunError::Memory) => "memory",
+        Err(_) => "refused",
+    };
+    say(
+        rt,
+        label,
+        format_args!("{answer}, failures {failures}, text {text}"),
+    )
 }
 
 /// Shows the end of a dump.
@@ -52,7 +53,7 @@ fn show(rt: &HostRuntime, order: Order) -> Result<(), Stop> {
         row: END.name,
     };
     let answer = run_show(rt.alloc(), &mut source, &mut sink, &limits_in(order));
-    tell(rt, label, answer, &sink)
+    say_run(rt, label, answer, &sink)
 }
 
 /// Checks the end of a dump.
@@ -65,7 +66,7 @@ fn check(rt: &HostRuntime, order: Order) -> Result<(), Stop> {
         row: END.name,
     };
     let answer = run_check(rt.alloc(), &mut source, &mut sink, &limits_in(order));
-    tell(rt, label, answer, &sink)
+    say_run(rt, label, answer, &sink)
 }
 
 /// Reads two lines as the answers to a dump of links.
@@ -93,7 +94,7 @@ fn table(rt: &HostRuntime, order: Order) -> Result<(), Stop> {
         port: 12_345,
     };
     let answer = run_table(rt.alloc(), &mut source, &mut sink, dump, &limits_in(order));
-    tell(rt, label, answer, &sink)
+    say_run(rt, label, answer, &sink)
 }
 
 /// Prints the request for the routes of IPv4.
@@ -108,7 +109,7 @@ fn request(rt: &HostRuntime, order: Order) -> Result<(), Stop> {
         Order::Little => run_request(rt.alloc(), &mut sink, Kind::Route, 2, 7),
         Order::Big => run_request_ordered(rt.alloc(), &mut sink, Kind::Route, 2, 7, order),
     };
-    tell(rt, label, answer, &sink)
+    say_run(rt, label, answer, &sink)
 }
 
 /// Gives bytes to a sink that has no room for them.
@@ -116,13 +117,19 @@ pub(crate) fn give(rt: &HostRuntime) -> Result<(), Stop> {
     let mut sink = VecSink::new(rt.alloc());
     sink.bytes.extend_from_slice(b"data")?;
     let answer = sink.give(b"more bytes than there is room for");
-    let bytes = Text(sink.bytes.as_slice());
-    let failures = sink.failures();
+    let (failures, text) = (sink.failures(), Text(sink.bytes.as_slice()));
     match answer {
-        Ok(count) => println!(rt; "give: took {count}, failures {failures}, text {bytes}")?,
-        Err(Broken) => println!(rt; "give: broken, failures {failures}, text {bytes}")?,
+        Ok(count) => say(
+            rt,
+            "give",
+            format_args!("took {count}, failures {failures}, text {text}"),
+        ),
+        Err(Broken) => say(
+            rt,
+            "give",
+            format_args!("broken, failures {failures}, text {text}"),
+        ),
     }
-    Ok(())
 }
 
 /// The end of a dump, shown in both orders.

@@ -1,5 +1,6 @@
-//! The words of the lines.
+//! The lines, and their words.
 
+use crate::stop::Stop;
 use nl_attr::{Depth, Order};
 use std::fmt;
 
@@ -25,6 +26,15 @@ impl fmt::Display for Label {
     }
 }
 
+/// Prints the line of a row: what a call answered, and what stands after it.
+pub(crate) fn say<L: fmt::Display + Drop, A: fmt::Display + Drop>(
+    rt: &HostRuntime,
+    label: L,
+    answer: A,
+) -> Result<(), Stop> {
+    Ok(println!(rt; "{label}: {answer}")?)
+}
+
 /// More zeros than this at the end are counted and not printed.
 const MANY: usize = 32;
 
@@ -35,11 +45,15 @@ pub(crate) struct Hex<'a>(pub(crate) &'a [u8]);
 impl Hex<'_> {
     /// How many zeros at the end, by fours, are counted.
     fn counted(&self) -> usize {
-        let zeros = self.0.iter().rev().take_while(|byte| **byte == 0);
-        match zeros.count() / 4 * 4 {
-            zeros if zeros > MANY => zeros,
-            _ => 0,
+        let mut zeros: usize = 0;
+        for byte in self.0 {
+            zeros = if *byte == 0 {
+                zeros.saturating_add(1)
+            } else {
+                0
+            };
         }
+        if zeros > MANY { zeros / 4 * 4 } else { 0 }
     }
 }
 
@@ -83,7 +97,7 @@ pub(crate) fn yes_or_no(holds: bool) -> &'static str {
     if holds { "yes" } else { "no" }
 }
 
-/// Whether visits keep their bound, each byte of so many once a level.
+/// Whether visits keep their bound, each of so many bytes once a level.
 pub(crate) fn bounded(visits: u64, depth: Depth, len: u64) -> &'static str {
     let levels = u64::from(depth.get()).saturating_add(1);
     if visits <= levels.saturating_mul(len) {

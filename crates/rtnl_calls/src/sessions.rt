@@ -1,33 +1,34 @@
 //! Sessions made, and dumps begun.
 
-use crate::datagrams::limits_in;
 use crate::dumps::{begun, fed, in_session, last_of};
-use crate::entries::entries_of;
-use crate::said::{Hex, Label, ORDERS, as_before};
+use crate::entries::entries_in;
+use crate::said::{Hex, Label, ORDERS, as_before, say};
 use crate::stop::Stop;
 use crate::told::{Told, word_of};
 use nl_attr::Order;
-use nl_dump::{BeginError, Kind, Session, match_table};
-use std::alloc::AllocError;
+use nl_dump::{BeginError, Kind, Session};
 
-/// Makes a session.
+/// Makes a session. What is told of it takes no memory.
 fn make(rt: &HostRuntime, order: Order) -> Result<(), Stop> {
     let label = Label {
         call: "new_session",
         order,
         row: "the standard limits",
     };
-    match Session::new(rt.alloc(), limits_in(order)) {
-        Ok(session) => {
-            let (state, received) = (word_of(session.state()), session.received());
-            println!(rt;
-                "{label}: {state}, received {received} visits {}",
-                session.visits()
-            )?;
-        }
-        Err(AllocError) => println!(rt; "{label}: memory")?,
+    match in_session(rt.alloc(), order, |session| say_new(rt, session, label)) {
+        Err(Stop::Memory) => say(rt, label, "memory"),
+        told => told,
     }
-    Ok(())
+}
+
+fn say_new(rt: &HostRuntime, session: &Session, label: Label) -> Result<(), Stop> {
+    let state = word_of(session.state());
+    let (received, visits) = (session.received(), session.visits());
+    say(
+        rt,
+        label,
+        format_args!("{state}, received {received} visits {visits}"),
+    )
 }
 
 /// Begins a dump, and tells its request and what its table holds.
@@ -41,24 +42,29 @@ fn begin(
     let before = Told::of(rt.alloc(), session)?;
     let answer = session.begin(kind, family, seq, port);
     let after = Told::of(rt.alloc(), session)?;
+    let kept = as_before(after.is_as(&before));
     match answer {
-        Ok(request) => {
-            let entries = match_table!(kind, session, table => entries_of(rt.alloc(), table)?);
-            let (request, entries) = (Hex(request.as_slice()), Hex(entries.as_slice()));
-            println!(rt;
-                "{label}: {request}, {}, entries {entries}",
-                word_of(after.state)
-            )?;
-        }
-        Err(BeginError::Memory) => {
-            println!(rt;
-                "{label}: memory, session {}",
-                as_before(after.is_as(&before))
-            )?;
-        }
-        Err(error) => println!(rt; "{label}: {error}")?,
+        Ok(request) => say_begun(rt, session, kind, request.as_slice(), label),
+        Err(BeginError::Memory) => say(rt, label, format_args!("memory, session {kept}")),
+        Err(error) => say(rt, label, error),
     }
-    Ok(())
+}
+
+fn say_begun(
+    rt: &HostRuntime,
+    session: &Session,
+    kind: Kind,
+    request: &[u8],
+    label: Label,
+) -> Result<(), Stop> {
+    let state = word_of(session.state());
+    let entries = entries_in(rt.alloc(), session, kind)?;
+    let (request, entries) = (Hex(request), Hex(entries.as_slice()));
+    say(
+        rt,
+        label,
+        format_args!("{request}, {state}, entries {entries}"),
+    )
 }
 
 /// The first dump of a session.

@@ -3,7 +3,7 @@
 use crate::bodies::body_of;
 use crate::entries::entries_of;
 use crate::rows::{ETHERNET, LOOPBACK, Row};
-use crate::said::{Hex, Label, ORDERS, as_before};
+use crate::said::{Hex, Label, ORDERS, as_before, say};
 use crate::stop::Stop;
 use nl_attr::Order;
 use nl_route::Link;
@@ -18,21 +18,39 @@ fn new_table(alloc: Global, limit: u32, order: Order) -> Result<Table<Link>, All
     }
 }
 
-/// Makes a table.
+/// These steps with an empty table.
+fn in_table<F: FnOnce(&mut Table<Link>) -> Result<(), Stop>>(
+    alloc: Global,
+    limit: u32,
+    order: Order,
+    steps: F,
+) -> Result<(), Stop>
+    requires { F.IsAlwaysCallable steps }
+{
+    let mut table = new_table(alloc, limit, order)?;
+    steps(&mut table)
+}
+
+fn label(call: &'static str, row: &'static str, order: Order) -> Label {
+    Label { call, order, row }
+}
+
+/// Makes a table. What is told of it takes no memory.
 fn make(rt: &HostRuntime, order: Order) -> Result<(), Stop> {
-    let label = Label {
-        call: "new_table",
-        order,
-        row: "one place",
-    };
-    match new_table(rt.alloc(), 1, order) {
-        Ok(table) => {
-            let (len, limit, missed) = (table.len(), table.limit(), table.missed());
-            println!(rt; "{label}: entries {len}, limit {limit}, missed {missed}")?;
-        }
-        Err(AllocError) => println!(rt; "{label}: memory")?,
+    let label = label("new_table", "one place", order);
+    match in_table(rt.alloc(), 1, order, |table| say_new(rt, table, label)) {
+        Err(Stop::Memory) => say(rt, label, "memory"),
+        told => told,
     }
-    Ok(())
+}
+
+fn say_new(rt: &HostRuntime, table: &Table<Link>, label: Label) -> Result<(), Stop> {
+    let (len, limit, missed) = (table.len(), table.limit(), table.missed());
+    say(
+        rt,
+        label,
+        format_args!("entries {len}, limit {limit}, missed {missed}"),
+    )
 }
 
 /// Reserves places, and tells how many there are, and what the table holds.
@@ -42,24 +60,23 @@ fn reserve(
     count: u32,
     row: &'static str,
 ) -> Result<(), Stop> {
-    let label = Label {
-        call: "reserve",
-        order: table.order(),
-        row,
-    };
+    let label = label("reserve", row, table.order());
     let before = table.spare();
     let answer = table.reserve(count);
     let (spare, missed) = (table.spare(), table.missed());
     let entries = entries_of(rt.alloc(), table)?;
     let entries = Hex(entries.as_slice());
     match answer {
-        Ok(()) => println!(rt; "{label}: spare {spare}, missed {missed}, entries {entries}")?,
+        Ok(()) => {
+            let told = format_args!("spare {spare}, missed {missed}, entries {entries}");
+            say(rt, label, told)
+        }
         Err(AllocError) => {
             let spare = as_before(spare == before);
-            println!(rt; "{label}: memory, spare {spare}, missed {missed}, entries {entries}")?;
+            let told = format_args!("memory, spare {spare}, missed {missed}, entries {entries}");
+            say(rt, label, told)
         }
     }
-    Ok(())
 }
 
 /// Puts a link where a place is reserved or none is needed.
@@ -74,11 +91,7 @@ fn put(alloc: Global, table: &mut Table<Link>, row: Row) -> Result<Put, Stop> {
 
 /// Puts a link, and tells what the table holds.
 fn put_one(rt: &HostRuntime, table: &mut Table<Link>, row: Row) -> Result<(), Stop> {
-    let label = Label {
-        call: "put",
-        order: table.order(),
-        row: row.name,
-    };
+    let label = label("put", row.name, table.order());
     let answer = match put(rt.alloc(), table, row)? {
         Put::Added => "added",
         Put::Replaced => "replaced",
@@ -86,11 +99,27 @@ fn put_one(rt: &HostRuntime, table: &mut Table<Link>, row: Row) -> Result<(), St
     };
     let missed = table.missed();
     let entries = entries_of(rt.alloc(), table)?;
-    println!(rt;
-        "{label}: {answer}, missed {missed}, entries {}",
-        Hex(entries.as_slice())
-    )?;
-    Ok(())
+    let entries = Hex(entries.as_slice());
+    say(
+        rt,
+        label,
+        format_args!("{answer}, missed {missed}, entries {entries}"),
+    )
+}
+
+/// Puts a link into a table, and reserves more places.
+fn reserve_more(rt: &HostRuntime, table: &mut Table<Link>) -> Result<(), Stop> {
+    table.reserve(1)?;
+    put(rt.alloc(), table, LOOPBACK)?;
+    reserve(rt, table, 4_096, "a table of a link")
+}
+
+/// Puts links into a table of one place.
+fn put_three(rt: &HostRuntime, table: &mut Table<Link>) -> Result<(), Stop> {
+    table.reserve(2)?;
+    put_one(rt, table, LOOPBACK)?;
+    put_one(rt, table, ETHERNET)?;
+    put_one(rt, table, LOOPBACK)
 }
 
 /// A table in both orders.
@@ -104,24 +133,21 @@ pub(crate) fn new_tables(rt: &HostRuntime) -> Result<(), Stop> {
 /// Places in an empty table and in one with a link, in both orders.
 pub(crate) fn reserve_places(rt: &HostRuntime) -> Result<(), Stop> {
     for order in ORDERS {
-        let mut table = new_table(rt.alloc(), 1, order)?;
-        reserve(rt, &mut table, 2, "an empty table")?;
-        let mut table = new_table(rt.alloc(), 4_096, order)?;
-        table.reserve(1)?;
-        put(rt.alloc(), &mut table, LOOPBACK)?;
-        reserve(rt, &mut table, 4_096, "a table of a link")?;
+        in_table(
+            rt.alloc(),
+            1,
+            order,
+            |table| reserve(rt, table, 2, "an empty table"),
+        )?;
+        in_table(rt.alloc(), 4_096, order, |table| reserve_more(rt, table))?;
     }
     Ok(())
 }
 
-/// Links into a table of one place, in both orders.
+/// Links in both orders.
 pub(crate) fn put_links(rt: &HostRuntime) -> Result<(), Stop> {
     for order in ORDERS {
-        let mut table = new_table(rt.alloc(), 1, order)?;
-        table.reserve(2)?;
-        put_one(rt, &mut table, LOOPBACK)?;
-        put_one(rt, &mut table, ETHERNET)?;
-        put_one(rt, &mut table, LOOPBACK)?;
+        in_table(rt.alloc(), 1, order, |table| put_three(rt, table))?;
     }
     Ok(())
 }
