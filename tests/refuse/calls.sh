@@ -1,6 +1,6 @@
-# Each library call that takes memory, read in by ../refuse.sh: crates/rtnl_calls makes one call after another over
-# rows whose answers are known, and prints a line for each. The call whose growth is refused says so, and leaves
-# unchanged what it must; all others answer what their rows say.
+# Each library call that takes memory, read in by ../refuse.sh: crates/rtnl_calls makes a call over rows whose answers
+# are known, and prints a line for each. The row whose growth is refused says so, and leaves unchanged what it must;
+# all others answer.
 
 program=$PWD/crates/rtnl_calls/out/rtnl_calls
 
@@ -11,19 +11,19 @@ is_current() {
 }
 
 if ! is_current; then
-  (cd crates/rtnl_calls && rt run </dev/null >"$folder/build" 2>&1 -- read_list) || { cat "$folder/build"; exit 1; }
+  (cd crates/rtnl_calls && rt run -- write_list </dev/null >"$folder/build" 2>&1) || { cat "$folder/build" && exit 1; }
   # A build that had nothing to do leaves the program's time alone.
   touch "$program"
 fi
 check 'the functions that ask for memory, of the calls' asks_by_counted_functions
 
-# The rows of a call: what each answers; and what stands in the answer's place where a growth is refused in it,
-# nothing where none is asked for.
+# The lines of a call's rows, and what stands in place of each where a growth is refused in it: nothing where none is
+# asked for.
 answers=()
 refusals=()
 
-# row LABEL ANSWER [REFUSAL [AGAIN]]: a row, its answer, the refusal, and what the same call answers behind it, where
-# it is made again.
+# row LABEL ANSWER [REFUSAL [AGAIN]]: a row, what it answers, what it says of a refused growth, and what it answers
+# then where it is tried again.
 row() {
   answers+=("$1: $2")
   refusals+=("${3:+$1: $3}${4:+$'\n'$1: $4}")
@@ -32,7 +32,7 @@ row() {
 # lines TEXT..: each text on its line.
 lines() { [ "$#" = 0 ] || printf '%s\n' "$@"; }
 
-# said STATUS ERRORS LINE..: the run ended so, and printed these lines.
+# said STATUS ERRORS TEXT..: the run ended so, and printed these texts.
 said() {
   local status=$1 errors=$2
   shift 2
@@ -52,39 +52,41 @@ find_place() {
 # All rows answered.
 is_answered() { said 0 '' "${answers[@]}"; }
 
-# Memory ran out outside of the calls, before the row at this place was tried or its answer told.
-is_stopped() {
-  [ "$place" -lt "${#answers[@]}" ] && said 4 'rtnl_calls: out of memory' "${answers[@]:0:place}"
-}
-
 # The growth was refused in the row at this place, and all others answered.
 is_refused_there() {
   [ -n "${refusals[place]-}" ] &&
     said 0 '' "${answers[@]:0:place}" "${refusals[place]}" "${answers[@]:place+1}"
 }
 
-is_one_of_three() {
+# The growth was refused before the call of this row, or while its answer was told, and those before it answered.
+is_stopped_there() {
+  [ "$place" -lt "${#answers[@]}" ] && said 4 'rtnl_calls: out of memory' "${answers[@]:0:place}"
+}
+
+# The run was one of the three, of which it counts the refusals of each row.
+is_right() {
   find_place
   if is_refused_there; then
-    needed[place]=$((${needed[place]-0} + 1))
+    refused[place]=$((${refused[place]-0} + 1))
   else
-    is_stopped || is_answered
+    is_stopped_there || is_answered
   fi
 }
 
 # refuse_rows CALL: each growth of the program over the rows of this call in turn, and a run without a refusal.
 refuse_rows() {
-  local call=$1 number=1 place needed=() sum=0
+  local call=$1 number=1 place refused=() sum=0
   while is_refused "$number" /dev/null "$call"; do
-    check "$call, growth $number" is_one_of_three
+    check "$call, growth $number" is_right
     number=$((number + 1))
   done
   check "$call, no growth refused" is_answered
   for place in "${!refusals[@]}"; do
-    [ -z "${refusals[place]}" ] || check "some growth is needed: ${answers[place]%%: *}" [ "${needed[place]-0}" -gt 0 ]
-    sum=$((sum + ${needed[place]-0}))
+    [ -z "${refusals[place]}" ] ||
+      check "${answers[place]%%: *}, some growth is needed" [ "${refused[place]-0}" -gt 0 ]
+    sum=$((sum + ${refused[place]-0}))
   done
-  echo "$call: $((number - 1)) growths, $sum of them needed by its ${#answers[@]} rows"
+  echo "$call: $((number - 1)) growths, $sum of them in its ${#answers[@]} rows"
   answers=()
   refusals=()
 }

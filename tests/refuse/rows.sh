@@ -41,6 +41,12 @@ row 'from_slice, 23 bytes' "$(bytes '6162636465666768 696a6b6c6d6e6f70 717273747
 row 'from_slice, 24 bytes' "$(bytes '6162636465666768 696a6b6c6d6e6f70 7172737475767778')" memory
 refuse_rows from_slice
 
+# They are copied where they are taken as a vector, and stay where there is no memory for the copy.
+row 'into_vec, 23 bytes' "$(bytes '6162636465666768 696a6b6c6d6e6f70 71727374757677')" \
+  "memory, kept $(bytes '6162636465666768 696a6b6c6d6e6f70 71727374757677')"
+row 'into_vec, 24 bytes' "$(bytes '6162636465666768 696a6b6c6d6e6f70 7172737475767778')"
+refuse_rows into_vec
+
 # ---- bodies, and the keys of entries
 
 declare -A bodies=(

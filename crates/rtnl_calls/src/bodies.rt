@@ -40,7 +40,7 @@ fn tally_of<H: Head>(
 pub(crate) fn body_of<H: Head>(alloc: Global, row: Row, order: Order) -> Result<Family<H>, Stop> {
     let bytes = Bytes::of(&[row], order)?;
     match tally_of(alloc, bytes.as_slice(), order) {
-        Some(tally) => tally.result.map_err(|error| Stop::of(error.code())),
+        Some(tally) => tally.into_result().map_err(|error| Stop::of(error.code())),
         None => Err(Stop::Fault),
     }
 }

@@ -61,7 +61,7 @@ fn write(rt: &HostRuntime, row: Row, order: Order) -> Result<(), Stop> {
     let label = label("write_datagram", row, order);
     let bytes = Bytes::of(&[row], order)?;
     let limits = limits_in(order);
-    match read_datagram(rt.alloc(), bytes.as_slice(), &limits).result {
+    match read_datagram(rt.alloc(), bytes.as_slice(), &limits).into_result() {
         Ok(messages) => write_messages(rt, messages.as_slice(), &limits, label),
         Err(error) => Err(Stop::of(error.code())),
     }

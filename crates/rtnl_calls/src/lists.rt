@@ -9,7 +9,7 @@ use nl_attr::{
     Attr, AttrFlags, Ctx, Depth, ListError, Order, Payload, Tally, Value, WriteError, read_list,
     read_list_ordered, write_list, write_list_ordered,
 };
-use std::alloc::{AllocError, Global};
+use std::alloc::{AllocError, AllocFailed, Global};
 
 /// What the call for the order answers over a region.
 fn tally_of(alloc: Global, bytes: &[u8], depth: Depth, order: Order) -> Tally<Vec<Attr>, ListError>
@@ -158,4 +158,25 @@ fn copy(rt: &HostRuntime, label: &str, bytes: &[u8]) -> Result<(), Stop> {
 pub(crate) fn copy_bytes(rt: &HostRuntime) -> Result<(), Stop> {
     copy(rt, "from_slice, 23 bytes", b"abcdefghijklmnopqrstuvw")?;
     copy(rt, "from_slice, 24 bytes", b"abcdefghijklmnopqrstuvwx")
+}
+
+/// Takes the bytes of a payload as a vector.
+fn take(rt: &HostRuntime, label: &str, bytes: &[u8]) -> Result<(), Stop> {
+    let payload = Payload::from_slice(rt.alloc(), bytes)?;
+    match payload.into_vec(rt.alloc()) {
+        Ok(taken) => say(rt, label, Hex(taken.as_slice())),
+        Err(AllocFailed { value }) => {
+            say(
+                rt,
+                label,
+                format_args!("memory, kept {}", Hex(value.as_slice())),
+            )
+        }
+    }
+}
+
+/// The most bytes that take memory to come back, and one more.
+pub(crate) fn take_bytes(rt: &HostRuntime) -> Result<(), Stop> {
+    take(rt, "into_vec, 23 bytes", b"abcdefghijklmnopqrstuvw")?;
+    take(rt, "into_vec, 24 bytes", b"abcdefghijklmnopqrstuvwx")
 }

@@ -23,10 +23,11 @@ use std::process::ExitCode;
 use stop::Stop;
 
 /// The calls of the libraries.
-const CALLS: [&str; 20] = [
+const CALLS: [&str; 21] = [
     "read_list",
     "write_list",
     "from_slice",
+    "into_vec",
     "read_body",
     "write_body",
     "read_datagram",
@@ -52,6 +53,7 @@ fn try_call(rt: &HostRuntime, name: &str) -> Result<(), Stop> {
         "read_list" => lists::read_lists(rt),
         "write_list" => lists::write_lists(rt),
         "from_slice" => lists::copy_bytes(rt),
+        "into_vec" => lists::take_bytes(rt),
         "read_body" => bodies::read_bodies(rt),
         "write_body" => bodies::write_bodies(rt),
         "read_datagram" => datagrams::read_datagrams(rt),
