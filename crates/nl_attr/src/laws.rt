@@ -39,7 +39,8 @@ pub fn fits_or_fault()
 
 /// At most one fault is the first of a region.
 pub fn one_first_fault()
-    ensures { (s : Shape) (start : Head) (p q : ℕ) (r t : Reason) → IsFirstFault s start p r → IsFirstFault s start q t → (p ≡ q) × (r ≡ t) }
+    ensures { (s : Shape) (start : Head) (p q : ℕ) (r t : Reason)
+        → IsFirstFault s start p r → IsFirstFault s start q t → (p ≡ q) × (r ≡ t) }
 {}
 
 /// The visits of a region, up to any place, are no more than its length once for each level that is left.

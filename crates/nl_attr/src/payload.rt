@@ -67,8 +67,8 @@ impl Payload {
         Payload { store }
     }
 
-    /// The bytes as a vector: the one in which they lie, else a copy of at most 23, which takes memory.
-    /// Where there is none, the payload comes back.
+    /// The bytes as a vector: the one in which they lie, else a copy of at most 23, which takes
+    /// memory. Where there is none, the payload comes back.
     pub fn into_vec(self, alloc: Global) -> Result<Vec<u8>, AllocFailed<Payload>>
         ensures value { IfOk result (λ v. v.items ≡ self) }
         ensures long { INLINE < length self → IsOk result }

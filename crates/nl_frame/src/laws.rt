@@ -25,13 +25,15 @@ pub fn layout_or_fault()
 
 /// At most one fault is the first of a datagram.
 pub fn one_first_fault()
-    ensures { (s : Shape) (d : Rest) (p q : ℕ) (r t : Reason) → IsFirstFault s d p r → IsFirstFault s d q t → (p ≡ q) × (r ≡ t) }
+    ensures { (s : Shape) (d : Rest) (p q : ℕ) (r t : Reason)
+        → IsFirstFault s d p r → IsFirstFault s d q t → (p ≡ q) × (r ≡ t) }
 {}
 
 /// Within allowed limits, the layout of a datagram is its one list: it is written within the same
 /// limits, and the bytes written have it for their one layout again.
 pub fn written_back()
-    ensures { (b : Bounds) (d : List ℕ) (ms : List MessageVal) → AreLimits b → AreBytes d → length d ≤ b.datagram → Layout b.shape ms d → IsTheList b d ms }
+    ensures { (b : Bounds) (d : List ℕ) (ms : List MessageVal) → AreLimits b → AreBytes d
+        → length d ≤ b.datagram → Layout b.shape ms d → IsTheList b d ms }
 {}
 
 /// The visits of a datagram, up to any place, are no more than its length once for each level.

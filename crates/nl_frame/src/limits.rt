@@ -79,9 +79,9 @@ impl Limits {
     }
 
     /// The same limits with numbers in this order: those of heads, lengths and types. A payload is
-    /// bytes and has no order of its own, so the numbers in what was read under these limits are told
-    /// by the views that are handed the order, as `link.mtu_ordered(limits.order())`; the plain views
-    /// take the lowest byte first.
+    /// bytes and has no order of its own, so the numbers in what was read under these limits are
+    /// told by the views that are handed the order, as `link.mtu_ordered(limits.order())`; the
+    /// plain views take the lowest byte first.
     pub fn with_order(self, order: Order) -> Limits
         ensures { result ≡ record self { shape = shape_of order self.shape.depth } }
     {

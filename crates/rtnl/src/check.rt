@@ -100,7 +100,8 @@ pub fn run_check<S: Source, W: Sink>(
         W.contents W.is_stalled W.stall_count W.failure_count
         (Checks limits.now) source.old source.new sink.old sink.new result }
     // It takes at most one byte more than the longest input.
-    ensures bounded { ConsumesAtMost (longest_input + 1) (S.remaining source.old) (S.remaining source.new) }
+    ensures bounded { ConsumesAtMost (longest_input + 1)
+        (S.remaining source.old) (S.remaining source.new) }
 {
     run(alloc, source, sink, &Check { limits: *limits })
 }

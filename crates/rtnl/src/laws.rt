@@ -10,12 +10,15 @@ ghost use Rattle.rtnl.specs.declared.error.Verdict.{Verdict};
 /// A datagram has one answer: its one layout, or its one refusal. A check finds one thing of it.
 pub fn one_answer()
     ensures some { (b : Bounds) (d : List ℕ) → AreBytes d → (a : Answer) × Answers b d a }
-    ensures only { (b : Bounds) (d : List ℕ) (x y : Answer) → Answers b d x → Answers b d y → x ≡ y }
+    ensures only { (b : Bounds) (d : List ℕ) (x y : Answer)
+        → Answers b d x → Answers b d y → x ≡ y }
     ensures checked { (b : Bounds) (d : List ℕ) (x y : Finding) → Finds b d x → Finds b d y → x ≡ y }
 {}
 
 /// Datagrams have one text and one verdict, shown or checked.
 pub fn one_text()
-    ensures shown { (b : Bounds) (ds : List (List ℕ)) (t u : List ℕ) (v w : Verdict) → Shows b ds t v → Shows b ds u w → (t ≡ u) × (v ≡ w) }
-    ensures checked { (b : Bounds) (ds : List (List ℕ)) (t u : List ℕ) (v w : Verdict) → Checks b ds t v → Checks b ds u w → (t ≡ u) × (v ≡ w) }
+    ensures shown { (b : Bounds) (ds : List (List ℕ)) (t u : List ℕ) (v w : Verdict)
+        → Shows b ds t v → Shows b ds u w → (t ≡ u) × (v ≡ w) }
+    ensures checked { (b : Bounds) (ds : List (List ℕ)) (t u : List ℕ) (v w : Verdict)
+        → Checks b ds t v → Checks b ds u w → (t ≡ u) × (v ≡ w) }
 {}

@@ -39,7 +39,8 @@ pub(crate) fn run<S: Source, W: Sink, C: Command>(
     ensures runs { Runs S.remaining S.is_ended S.failure_count
         W.contents W.is_stalled W.stall_count W.failure_count
         (C.says command.now) source.old source.new sink.old sink.new result }
-    ensures bounded { ConsumesAtMost (longest_input + 1) (S.remaining source.old) (S.remaining source.new) }
+    ensures bounded { ConsumesAtMost (longest_input + 1)
+        (S.remaining source.old) (S.remaining source.new) }
 {
     let input = read_input(alloc, source)?;
     let datagrams = read_datagrams(alloc, input.as_slice())?;

@@ -54,7 +54,8 @@ impl VecSink {
     /// A sink with no byte.
     pub fn new(alloc: Global) -> Self
         ensures contents { ⟦<VecSink as Sink>⟧.contents result ≡ Some [] }
-        ensures sound { (⟦<VecSink as Sink>⟧.failure_count result ≡ 0) × (⟦<VecSink as Sink>⟧.stall_count result ≡ 0) }
+        ensures sound { ⟦<VecSink as Sink>⟧.failure_count result ≡ 0 }
+        ensures steady { ⟦<VecSink as Sink>⟧.stall_count result ≡ 0 }
     {
         VecSink {
             bytes: Vec::new(alloc),
@@ -104,7 +105,8 @@ impl<W: Write> WriteSink<W> {
     /// Writes to this writer.
     pub fn new(writer: W) -> Self
         ensures contents { ⟦<WriteSink<W> as Sink>⟧.contents result ≡ W.contents writer }
-        ensures sound { (⟦<WriteSink<W> as Sink>⟧.failure_count result ≡ 0) × (⟦<WriteSink<W> as Sink>⟧.stall_count result ≡ 0) }
+        ensures sound { ⟦<WriteSink<W> as Sink>⟧.failure_count result ≡ 0 }
+        ensures steady { ⟦<WriteSink<W> as Sink>⟧.stall_count result ≡ 0 }
         ensures fresh { ⟦<WriteSink<W> as Sink>⟧.is_stalled result → ⊥ }
     {
         WriteSink {
@@ -156,7 +158,8 @@ impl<W: Write> Sink for WriteSink<W> {
 #[tactic(auto, using(crate::proofs::Streams::appends_more, crate::proofs::Streams::appends_none, crate::proofs::Streams::prefix_of, crate::proofs::Streams::whole))]
 pub(crate) fn give_all<W: Sink>(sink: &mut W, text: &[u8]) -> Result<(), RunError>
     ensures all { OnOk result (Appends (W.contents sink.old) (W.contents sink.new) text.now) }
-    ensures sound { OnOk result ((W.failure_count sink.new ≡ W.failure_count sink.old) × (W.stall_count sink.new ≡ W.stall_count sink.old)) }
+    ensures sound { OnOk result (W.failure_count sink.new ≡ W.failure_count sink.old) }
+    ensures steady { OnOk result (W.stall_count sink.new ≡ W.stall_count sink.old) }
 
     ensures part { OnErr result (AppendsPrefix (W.contents sink.old) (W.contents sink.new) text.now) }
     ensures once { OnErr result (StopsOnce W.is_stalled W.stall_count W.failure_count sink.old sink.new) }

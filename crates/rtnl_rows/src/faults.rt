@@ -7,8 +7,8 @@ use rtnl::{ReadSource, RunError, Sink, SliceSource, Source, Verdict};
 use std::alloc::Global;
 use std::test::Fail;
 
-/// How a run ends: its answer, what was written, and the calls of its source and its sink that failed,
-/// and those of its sink that took no byte.
+/// How a run ends: its answer, what was written, and the calls of its source and its sink that
+/// failed, and those of its sink that took no byte.
 #[derive(Clone, Copy, Debug)]
 struct Ending<'a> {
     answer: Result<Verdict, RunError>,
@@ -166,8 +166,8 @@ complete yes
     }
 }
 
-/// A run over that end answers so, after so many bytes were written and so many writes failed, or took
-/// no byte.
+/// A run over that end answers so, after so many bytes were written and so many writes failed, or
+/// took no byte.
 fn writes(
     alloc: Global,
     engine: Engine,
