@@ -11,7 +11,7 @@ is_current() {
 }
 
 if ! is_current; then
-  (cd crates/rtnl_calls && rt run -- write_list </dev/null >"$folder/build" 2>&1) || { cat "$folder/build" && exit 1; }
+  (cd crates/rtnl_calls && rt run -- write_list </dev/null >"$folder/build" 2>&1) || { cat "$folder/build"; exit 1; }
   # A build that had nothing to do leaves the program's time alone.
   touch "$program"
 fi

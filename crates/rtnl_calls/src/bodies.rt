@@ -45,12 +45,9 @@ pub(crate) fn body_of<H: Head>(alloc: Global, row: Row, order: Order) -> Result<
     }
 }
 
+/// The label of a call over the row of a family.
 fn label<H: Head>(call: &'static str, order: Order) -> Label {
-    Label {
-        call,
-        order,
-        row: H::group().row().name,
-    }
+    Label::of(call, order, H::group().row().name)
 }
 
 /// Reads a body, and tells how much was visited, and what the body is written as.

@@ -16,17 +16,9 @@ pub(crate) fn limits_in(order: Order) -> Limits {
     Limits::standard().with_order(order)
 }
 
-fn label(call: &'static str, row: Row, order: Order) -> Label {
-    Label {
-        call,
-        order,
-        row: row.name,
-    }
-}
-
 /// Reads a datagram, and tells how much was visited, and what its messages are written as.
 fn read(rt: &HostRuntime, row: Row, order: Order) -> Result<(), Stop> {
-    let label = label("read_datagram", row, order);
+    let label = Label::of("read_datagram", order, row.name);
     let bytes = Bytes::of(&[row], order)?;
     let limits = limits_in(order);
     let Tally { result, visits } = read_datagram(rt.alloc(), bytes.as_slice(), &limits);
@@ -58,7 +50,7 @@ fn say_unread(
 
 /// Writes the messages of a datagram.
 fn write(rt: &HostRuntime, row: Row, order: Order) -> Result<(), Stop> {
-    let label = label("write_datagram", row, order);
+    let label = Label::of("write_datagram", order, row.name);
     let bytes = Bytes::of(&[row], order)?;
     let limits = limits_in(order);
     match read_datagram(rt.alloc(), bytes.as_slice(), &limits).into_result() {
@@ -82,7 +74,7 @@ fn write_messages(
 
 /// Tells whether a datagram is canonical.
 fn compare(rt: &HostRuntime, row: Row, order: Order) -> Result<(), Stop> {
-    let label = label("is_canonical", row, order);
+    let label = Label::of("is_canonical", order, row.name);
     let bytes = Bytes::of(&[row], order)?;
     match is_canonical(rt.alloc(), bytes.as_slice(), &limits_in(order)) {
         Ok(is_so) => say(rt, label, yes_or_no(is_so)),

@@ -4,7 +4,7 @@ use crate::datagrams::limits_in;
 use crate::rows::{ADDRESS, Bytes, END, ETHERNET, LOOPBACK, NEIGHBOUR, NEXT_HOPS, RULE, Row};
 use crate::stop::Stop;
 use nl_attr::Order;
-use nl_dump::{BeginError, Kind, Session};
+use nl_dump::{Kind, Session};
 use std::alloc::Global;
 
 /// These steps in a new session.
@@ -45,8 +45,7 @@ pub(crate) fn last_of(kind: Kind) -> [Row; 2] {
 pub(crate) fn begun(session: &mut Session, kind: Kind) -> Result<(), Stop> {
     match session.begin(kind, 0, 1, 12_345) {
         Ok(_request) => Ok(()),
-        Err(BeginError::Memory) => Err(Stop::Memory),
-        Err(_) => Err(Stop::Fault),
+        Err(error) => Err(Stop::of(error.code())),
     }
 }
 

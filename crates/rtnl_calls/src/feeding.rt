@@ -2,7 +2,7 @@
 
 use crate::dumps::{begun, fed, first_of, in_session, last_of};
 use crate::entries::entries_in;
-use crate::rows::{Bytes, Row};
+use crate::rows::Bytes;
 use crate::said::{Hex, Label, as_before, bounded, say, yes_or_no};
 use crate::stop::Stop;
 use crate::told::{Told, word_of};
@@ -73,13 +73,12 @@ fn feed_until_taken(
     rt: &HostRuntime,
     session: &mut Session,
     kind: Kind,
-    rows: &[Row],
+    bytes: &[u8],
     label: Label,
 ) -> Result<(), Stop> {
-    let bytes = Bytes::of(rows, label.order)?;
-    match feed(rt, session, kind, bytes.as_slice(), label)? {
+    match feed(rt, session, kind, bytes, label)? {
         Err(FeedError::Memory) => {
-            let _answer = feed(rt, session, kind, bytes.as_slice(), label)?;
+            let _answer = feed(rt, session, kind, bytes, label)?;
             Ok(())
         }
         _ => Ok(()),
@@ -88,28 +87,22 @@ fn feed_until_taken(
 
 /// The first datagram of a dump.
 fn feed_first(rt: &HostRuntime, kind: Kind, order: Order) -> Result<(), Stop> {
-    let label = Label {
-        call: "first feed",
-        order,
-        row: kind.row().name,
-    };
+    let label = Label::of("first feed", order, kind.row().name);
     in_session(rt.alloc(), order, |session| {
         begun(session, kind)?;
-        feed_until_taken(rt, session, kind, &first_of(kind), label)
+        let bytes = Bytes::of(&first_of(kind), order)?;
+        feed_until_taken(rt, session, kind, bytes.as_slice(), label)
     })
 }
 
 /// The last datagram of a dump.
 fn feed_last(rt: &HostRuntime, kind: Kind, order: Order) -> Result<(), Stop> {
-    let label = Label {
-        call: "last feed",
-        order,
-        row: kind.row().name,
-    };
+    let label = Label::of("last feed", order, kind.row().name);
     in_session(rt.alloc(), order, |session| {
         begun(session, kind)?;
         fed(session, &first_of(kind), order)?;
-        feed_until_taken(rt, session, kind, &last_of(kind), label)
+        let bytes = Bytes::of(&last_of(kind), order)?;
+        feed_until_taken(rt, session, kind, bytes.as_slice(), label)
     })
 }
 

@@ -23,11 +23,7 @@ fn tally_of(alloc: Global, bytes: &[u8], depth: Depth, order: Order) -> Tally<Ve
 
 /// Reads a list, and tells how much was visited, and what the list is written as.
 fn read(rt: &HostRuntime, region: &Region, order: Order) -> Result<(), Stop> {
-    let label = Label {
-        call: "read_list",
-        order,
-        row: region.row.name,
-    };
+    let label = Label::of("read_list", order, region.row.name);
     let bytes = region.bytes(rt.alloc(), order)?;
     let mut room = Vec::with_capacity(rt.alloc(), bytes.len().saturating_add(4))?;
     let depth = Depth::new(region.depth).map_err(|fault| Stop::of(fault.code()))?;
@@ -115,11 +111,7 @@ fn write(rt: &HostRuntime, order: Order) -> Result<(), Stop> {
         Order::Little => write_list(&attrs, Ctx::Route, depth, &mut out),
         Order::Big => write_list_ordered(&attrs, Ctx::Route, depth, &mut out, order),
     };
-    let label = Label {
-        call: "write_list",
-        order,
-        row: "a metric",
-    };
+    let label = Label::of("write_list", order, "a metric");
     say_written(rt, label, answer, out.as_slice())
 }
 

@@ -1,6 +1,7 @@
 //! Calls each library call that takes memory over rows whose answers are known, for tests alone:
 //! `rtnl_calls CALL`, or `rtnl_calls all`. A line for each row tells what the call answered, and
-//! what stands after it. tests/refuse.sh runs it with each of its growths refused in turn.
+//! what stands after it. tests/refuse.sh runs it with each of its growths refused in turn; it ends
+//! with status 4 where memory runs out before a row is tried, or while its answer is told.
 #![tactic(auto)]
 
 mod bodies;

@@ -47,11 +47,7 @@ fn say_run(
 fn show(rt: &HostRuntime, order: Order) -> Result<(), Stop> {
     let mut source = SliceSource::new(END.text(order).as_bytes());
     let mut sink = sink_with_room(rt.alloc())?;
-    let label = Label {
-        call: "run_show",
-        order,
-        row: END.name,
-    };
+    let label = Label::of("run_show", order, END.name);
     let answer = run_show(rt.alloc(), &mut source, &mut sink, &limits_in(order));
     say_run(rt, label, answer, &sink)
 }
@@ -60,11 +56,7 @@ fn show(rt: &HostRuntime, order: Order) -> Result<(), Stop> {
 fn check(rt: &HostRuntime, order: Order) -> Result<(), Stop> {
     let mut source = SliceSource::new(END.text(order).as_bytes());
     let mut sink = sink_with_room(rt.alloc())?;
-    let label = Label {
-        call: "run_check",
-        order,
-        row: END.name,
-    };
+    let label = Label::of("run_check", order, END.name);
     let answer = run_check(rt.alloc(), &mut source, &mut sink, &limits_in(order));
     say_run(rt, label, answer, &sink)
 }
@@ -82,11 +74,7 @@ fn table(rt: &HostRuntime, order: Order) -> Result<(), Stop> {
     }
     let mut source = SliceSource::new(input.as_bytes());
     let mut sink = sink_with_room(rt.alloc())?;
-    let label = Label {
-        call: "run_table",
-        order,
-        row: "two links",
-    };
+    let label = Label::of("run_table", order, "two links");
     let dump = Dump {
         kind: Kind::Link,
         family: 0,
@@ -100,11 +88,7 @@ fn table(rt: &HostRuntime, order: Order) -> Result<(), Stop> {
 /// Prints the request for the routes of IPv4.
 fn request(rt: &HostRuntime, order: Order) -> Result<(), Stop> {
     let mut sink = sink_with_room(rt.alloc())?;
-    let label = Label {
-        call: "run_request",
-        order,
-        row: "routes",
-    };
+    let label = Label::of("run_request", order, "routes");
     let answer = match order {
         Order::Little => run_request(rt.alloc(), &mut sink, Kind::Route, 2, 7),
         Order::Big => run_request_ordered(rt.alloc(), &mut sink, Kind::Route, 2, 7, order),

@@ -7,12 +7,18 @@ use std::fmt;
 /// Both byte orders.
 pub(crate) const ORDERS: [Order; 2] = [Order::Little, Order::Big];
 
-/// A call over a row, as its line begins.
+/// A call over a row in a byte order, as its line begins.
 #[derive(Clone, Copy)]
 pub(crate) struct Label {
-    pub(crate) call: &'static str,
-    pub(crate) order: Order,
-    pub(crate) row: &'static str,
+    call: &'static str,
+    order: Order,
+    row: &'static str,
+}
+
+impl Label {
+    pub(crate) fn of(call: &'static str, order: Order, row: &'static str) -> Label {
+        Label { call, order, row }
+    }
 }
 
 impl fmt::Display for Label {

@@ -10,11 +10,7 @@ use nl_dump::{BeginError, Kind, Session};
 
 /// Makes a session. What is told of it takes no memory.
 fn make(rt: &HostRuntime, order: Order) -> Result<(), Stop> {
-    let label = Label {
-        call: "new_session",
-        order,
-        row: "the standard limits",
-    };
+    let label = Label::of("new_session", order, "the standard limits");
     match in_session(rt.alloc(), order, |session| say_new(rt, session, label)) {
         Err(Stop::Memory) => say(rt, label, "memory"),
         told => told,
@@ -69,11 +65,7 @@ fn say_begun(
 
 /// The first dump of a session.
 fn begin_first(rt: &HostRuntime, kind: Kind, order: Order) -> Result<(), Stop> {
-    let label = Label {
-        call: "first begin",
-        order,
-        row: kind.row().name,
-    };
+    let label = Label::of("first begin", order, kind.row().name);
     in_session(rt.alloc(), order, |session| {
         begin(rt, session, kind, (0, 1, 12_345), label)
     })
@@ -81,11 +73,7 @@ fn begin_first(rt: &HostRuntime, kind: Kind, order: Order) -> Result<(), Stop> {
 
 /// A dump behind one that has ended.
 fn begin_next(rt: &HostRuntime, kind: Kind, order: Order) -> Result<(), Stop> {
-    let label = Label {
-        call: "next begin",
-        order,
-        row: kind.row().name,
-    };
+    let label = Label::of("next begin", order, kind.row().name);
     in_session(rt.alloc(), order, |session| {
         begun(session, kind)?;
         fed(session, &last_of(kind), order)?;

@@ -31,13 +31,9 @@ fn in_table<F: FnOnce(&mut Table<Link>) -> Result<(), Stop>>(
     steps(&mut table)
 }
 
-fn label(call: &'static str, row: &'static str, order: Order) -> Label {
-    Label { call, order, row }
-}
-
 /// Makes a table. What is told of it takes no memory.
 fn make(rt: &HostRuntime, order: Order) -> Result<(), Stop> {
-    let label = label("new_table", "one place", order);
+    let label = Label::of("new_table", order, "one place");
     match in_table(rt.alloc(), 1, order, |table| say_new(rt, table, label)) {
         Err(Stop::Memory) => say(rt, label, "memory"),
         told => told,
@@ -60,7 +56,7 @@ fn reserve(
     count: u32,
     row: &'static str,
 ) -> Result<(), Stop> {
-    let label = label("reserve", row, table.order());
+    let label = Label::of("reserve", table.order(), row);
     let before = table.spare();
     let answer = table.reserve(count);
     let (spare, missed) = (table.spare(), table.missed());
@@ -91,7 +87,7 @@ fn put(alloc: Global, table: &mut Table<Link>, row: Row) -> Result<Put, Stop> {
 
 /// Puts a link, and tells what the table holds.
 fn put_one(rt: &HostRuntime, table: &mut Table<Link>, row: Row) -> Result<(), Stop> {
-    let label = label("put", row.name, table.order());
+    let label = Label::of("put", table.order(), row.name);
     let answer = match put(rt.alloc(), table, row)? {
         Put::Added => "added",
         Put::Replaced => "replaced",
