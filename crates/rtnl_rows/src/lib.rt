@@ -36,6 +36,8 @@ mod numbers;
 #[cfg(test)]
 mod reading;
 #[cfg(test)]
+mod refusals;
+#[cfg(test)]
 mod regions;
 #[cfg(test)]
 mod runs;
