@@ -37,9 +37,12 @@ fn refuses(
     visits: u64,
 ) -> Result<(), Fail> {
     let bytes = bytes_of(alloc, text)?;
-    let Tally { result, visits } = read_datagram(alloc, bytes.as_slice(), limits);
+    let Tally {
+        result,
+        visits: seen,
+    } = read_datagram(alloc, bytes.as_slice(), limits);
     let refusal = result.err();
-    ensure(visits == visits && refusal == Some(error), text)
+    ensure(seen == visits && refusal == Some(error), text)
 }
 
 /// A datagram holds this message alone, with so many visits.

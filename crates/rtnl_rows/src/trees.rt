@@ -71,17 +71,12 @@ fn nests(
 ) -> Result<(), Fail> {
     let depth = Depth::new(32)?;
     let bytes = nested_lists(alloc, count, order)?;
-    let Tally { result, visits } = read_list_ordered(
-        alloc,
-        bytes.as_slice(),
-        0,
-        Ctx::Plain,
-        0,
-        depth,
-        order,
-    );
+    let Tally {
+        result,
+        visits: seen,
+    } = read_list_ordered(alloc, bytes.as_slice(), 0, Ctx::Plain, 0, depth, order);
     let refused = result.err();
-    ensure(refused == refusal && visits == visits, "nested lists")
+    ensure(refused == refusal && seen == visits, "nested lists")
 }
 
 #[test]
