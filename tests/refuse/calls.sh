@@ -23,7 +23,8 @@ answers=()
 refusals=()
 
 # row LABEL ANSWER [REFUSAL [AGAIN]]: a row, what it answers, what it says of a refused growth, and what it answers
-# then where it is tried again.
+# then where it is tried again. In a refusal, SOME stands for visits that never fall from one refused growth of the row
+# to the next and are at most those of its answer; ALL for the same, of which the last are those of the answer.
 row() {
   answers+=("$1: $2")
   refusals+=("${3:+$1: $3}${4:+$'\n'$1: $4}")
@@ -52,10 +53,23 @@ find_place() {
 # All rows answered.
 is_answered() { said 0 '' "${answers[@]}"; }
 
+# visits_in LINE: the visits that it tells, 0 where it tells none.
+visits_in() { [[ $1 =~ visits\ ([0-9]+) ]] && echo "${BASH_REMATCH[1]}" || echo 0; }
+
 # The growth was refused in the row at this place, and all others answered.
 is_refused_there() {
-  [ -n "${refusals[place]-}" ] &&
-    said 0 '' "${answers[@]:0:place}" "${refusals[place]}" "${answers[@]:place+1}"
+  local refusal=${refusals[place]-} visits
+  [ -n "$refusal" ] || return 1
+  visits=$(visits_in "$(sed -n "$((place + 1))p" "$folder/found.output")")
+  refusal=${refusal/visits SOME/visits $visits}
+  refusal=${refusal/visits ALL/visits $visits}
+  said 0 '' "${answers[@]:0:place}" "$refusal" "${answers[@]:place+1}" || return 1
+  [ "$visits" -ge "${told[place]-0}" ] && [ "$visits" -le "$(visits_in "${answers[place]}")" ] && told[place]=$visits
+}
+
+# All that the row at this place visits was told when its last growth was refused, where it must be.
+tells_all() {
+  [[ ${refusals[place]} != *'visits ALL'* ]] || [ "${told[place]-0}" = "$(visits_in "${answers[place]}")" ]
 }
 
 # The growth was refused before the call of this row, or while its answer was told, and those before it answered.
@@ -75,7 +89,7 @@ is_right() {
 
 # refuse_rows CALL: each growth of the program over the rows of this call in turn, and a run without a refusal.
 refuse_rows() {
-  local call=$1 number=1 place refused=() sum=0
+  local call=$1 number=1 place refused=() told=() sum=0
   while is_refused "$number" /dev/null "$call"; do
     check "$call, growth $number" is_right
     number=$((number + 1))
@@ -84,6 +98,7 @@ refuse_rows() {
   for place in "${!refusals[@]}"; do
     [ -z "${refusals[place]}" ] ||
       check "${answers[place]%%: *}, some growth is needed" [ "${refused[place]-0}" -gt 0 ]
+    check "${answers[place]%%: *}, visits told with the last refusal" tells_all
     sum=$((sum + ${refused[place]-0}))
   done
   echo "$call: $((number - 1)) growths, $sum of them in its ${#answers[@]} rows"

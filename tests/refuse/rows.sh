@@ -3,13 +3,20 @@
 
 orders='little big'
 families='link addr route neigh rule'
-unread='memory, visits within their bound'
+unread='memory, visits SOME'
 
 # bytes TEXT: hexadecimal, in which white space is for reading.
 bytes() { echo "${1//[[:space:]]/}"; }
 
 # ---- lists, and the bytes of one attribute
 
+# Two empty lists, with room for one; the same in a list of a list. The second of them is read before it is kept.
+row 'read_list little, two empty lists' "visits 8, written $(bytes '04000180 04000180')" 'memory, visits ALL'
+row 'read_list big, two empty lists' "visits 8, written $(bytes '00048001 00048001')" 'memory, visits ALL'
+row 'read_list little, two empty lists in two' \
+  "visits 36, written $(bytes '10000180 0c000180 04000180 04000180')" 'memory, visits ALL'
+row 'read_list big, two empty lists in two' \
+  "visits 36, written $(bytes '00108001 000c8001 00048001 00048001')" 'memory, visits ALL'
 # Eight lists in one another, each of four bytes fewer than the one around it, and an attribute of 60 zeros: the
 # lists are 96, 92 and so on to 68 bytes long, 656 in all, and the attribute 64.
 lists=$(bytes '60000180 5c000180 58000180 54000180 50000180 4c000180 48000180 44000180 40000200')
@@ -22,7 +29,7 @@ done
 row 'read_list little, the longest list' 'visits 131060, written fcff0180f8ff0200 and 65524 zeros' "$unread"
 row 'read_list big, the longest list' 'visits 131060, written fffc8001fff80002 and 65524 zeros' "$unread"
 for order in $orders; do
-  row "read_list $order, a list too long" 'too long at 0, visits 65533' "$unread"
+  row "read_list $order, a list too long" 'too long at 0, visits 65533' 'memory, visits 0'
 done
 # It is written with its padding.
 row 'read_list little, the longest attribute' 'visits 65535, written ffff0100 and 65532 zeros' "$unread"
@@ -118,7 +125,8 @@ declare -A canonical=(['the end']=yes ['a link']=yes ['a request']=no ['next hop
 
 for name in "${names[@]}"; do
   for order in $orders; do
-    row "read_datagram $order, $name" "visits ${visits_of[$name]}, written ${written[$order $name]}" "$unread"
+    row "read_datagram $order, $name" "visits ${visits_of[$name]}, written ${written[$order $name]}" \
+      'memory, visits ALL'
   done
 done
 refuse_rows read_datagram
@@ -223,7 +231,7 @@ declare -A other_links=(
 fed() {
   local sums="received $3 visits $4"
   row "$1" "$2, $sums, damaged no complete $6, entries $5" \
-    "memory, answer and tables as before, received $3 visits within their bound, damaged yes" \
+    "memory, answer and tables as before, received $3 visits ALL, damaged yes" \
     "$2, $sums, damaged yes complete no, entries $5"
 }
 

@@ -65,7 +65,7 @@ fn read<H: Head>(rt: &HostRuntime, row: Row, order: Order) -> Result<(), Stop> {
             Ok(()) => say_read(rt, label, visits, room.as_slice()),
             Err(error) => Err(Stop::of(error.code())),
         },
-        Err(error) => say_unread(rt, label, error, visits, depth, bytes.len()),
+        Err(error) => say_unread(rt, label, error, visits),
     }
 }
 

@@ -2,9 +2,9 @@
 
 use crate::lists::say_read;
 use crate::rows::{Bytes, END, LOOPBACK, METRIC, NEXT_HOPS, REQUEST, Row};
-use crate::said::{Hex, Label, bounded, say, yes_or_no};
+use crate::said::{Hex, Label, say, yes_or_no};
 use crate::stop::Stop;
-use nl_attr::{Depth, Order, Tally};
+use nl_attr::{Order, Tally};
 use nl_frame::{
     Limits, Message, ReadError, WriteError, is_canonical, read_datagram, write_datagram,
 };
@@ -27,23 +27,14 @@ fn read(rt: &HostRuntime, row: Row, order: Order) -> Result<(), Stop> {
             Ok(again) => say_read(rt, label, visits, again.as_slice()),
             Err(error) => Err(Stop::of(error.code())),
         },
-        Err(error) => say_unread(rt, label, error, visits, bytes.as_slice().len()),
+        Err(error) => say_unread(rt, label, error, visits),
     }
 }
 
-/// Tells why so many bytes were not read.
-fn say_unread(
-    rt: &HostRuntime,
-    label: Label,
-    error: ReadError,
-    visits: u64,
-    len: usize,
-) -> Result<(), Stop> {
+/// Tells why nothing was read, and how much was visited.
+fn say_unread(rt: &HostRuntime, label: Label, error: ReadError, visits: u64) -> Result<(), Stop> {
     match error {
-        ReadError::Memory => {
-            let visits = bounded(visits, Depth::standard(), len as u64);
-            say(rt, label, format_args!("memory, visits {visits}"))
-        }
+        ReadError::Memory => say(rt, label, format_args!("memory, visits {visits}")),
         _ => say(rt, label, format_args!("{error}, visits {visits}")),
     }
 }

@@ -3,10 +3,10 @@
 use crate::dumps::{begun, fed, first_of, in_session, last_of};
 use crate::entries::entries_in;
 use crate::rows::Bytes;
-use crate::said::{Hex, Label, as_before, bounded, say, yes_or_no};
+use crate::said::{Hex, Label, as_before, say, yes_or_no};
 use crate::stop::Stop;
 use crate::told::{Told, word_of};
-use nl_attr::{Depth, Order};
+use nl_attr::Order;
 use nl_dump::{FeedError, Kind, Progress, Session};
 
 /// Tells what became of a datagram that was taken, and what the dump's table holds.
@@ -39,7 +39,6 @@ fn say_refused(
     label: Label,
 ) -> Result<(), Stop> {
     let (kept, damaged) = (as_before(is_as_before), yes_or_no(damaged));
-    let visits = bounded(visits, Depth::standard(), received);
     let told = format_args!(
         "memory, answer and tables {kept}, received {received} visits {visits}, \
         damaged {damaged}"

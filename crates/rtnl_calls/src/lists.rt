@@ -3,7 +3,7 @@
 ghost use Rattle.std.specs.Prelude.{◌≤◌, length};
 
 use crate::regions::{REGIONS, Region};
-use crate::said::{Hex, Label, ORDERS, bounded, say};
+use crate::said::{Hex, Label, ORDERS, say};
 use crate::stop::Stop;
 use nl_attr::{
     Attr, AttrFlags, Ctx, Depth, ListError, Order, Payload, Tally, Value, WriteError, read_list,
@@ -35,7 +35,7 @@ fn read(rt: &HostRuntime, region: &Region, order: Order) -> Result<(), Stop> {
                 Err(error) => Err(Stop::of(error.code())),
             }
         }
-        Err(error) => say_unread(rt, label, error, visits, depth, bytes.len()),
+        Err(error) => say_unread(rt, label, error, visits),
     }
 }
 
@@ -54,21 +54,16 @@ pub(crate) fn say_read(
     )
 }
 
-/// Tells why so many bytes were not read.
+/// Tells why nothing was read, and how much was visited.
 pub(crate) fn say_unread(
     rt: &HostRuntime,
     label: Label,
     error: ListError,
     visits: u64,
-    depth: Depth,
-    len: usize,
 ) -> Result<(), Stop> {
     match error {
         ListError::Layout(fault) => say(rt, label, format_args!("{fault}, visits {visits}")),
-        ListError::Memory => {
-            let visits = bounded(visits, depth, len as u64);
-            say(rt, label, format_args!("memory, visits {visits}"))
-        }
+        ListError::Memory => say(rt, label, format_args!("memory, visits {visits}")),
     }
 }
 

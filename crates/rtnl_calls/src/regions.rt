@@ -67,7 +67,31 @@ const LONG_ATTRIBUTE: Row = Row {
     big: "ffff0001",
 };
 
-pub(crate) const REGIONS: [Region; 5] = [
+/// Each list takes the room that was made for one of eight bytes, so the second needs more.
+const EMPTY_LISTS: Row = Row {
+    name: "two empty lists",
+    little: "0400018004000180",
+    big: "0004800100048001",
+};
+
+/// The same in a list of a list.
+const INNER_LISTS: Row = Row {
+    name: "two empty lists in two",
+    little: "100001800c0001800400018004000180",
+    big: "00108001000c80010004800100048001",
+};
+
+pub(crate) const REGIONS: [Region; 7] = [
+    Region {
+        row: EMPTY_LISTS,
+        zeros: 0,
+        depth: 8,
+    },
+    Region {
+        row: INNER_LISTS,
+        zeros: 0,
+        depth: 8,
+    },
     Region {
         row: LISTS,
         zeros: 60,

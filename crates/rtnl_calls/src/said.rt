@@ -1,7 +1,7 @@
 //! The lines, and their words.
 
 use crate::stop::Stop;
-use nl_attr::{Depth, Order};
+use nl_attr::Order;
 use std::fmt;
 
 /// Both byte orders.
@@ -101,16 +101,6 @@ impl fmt::Display for Text<'_> {
 
 pub(crate) fn yes_or_no(holds: bool) -> &'static str {
     if holds { "yes" } else { "no" }
-}
-
-/// Whether visits keep their bound, each of so many bytes once a level.
-pub(crate) fn bounded(visits: u64, depth: Depth, len: u64) -> &'static str {
-    let levels = u64::from(depth.get()).saturating_add(1);
-    if visits <= levels.saturating_mul(len) {
-        "within their bound"
-    } else {
-        "above their bound"
-    }
 }
 
 /// What stands after a call that was refused.
