@@ -25,7 +25,7 @@ ROOM = re.compile(r", (\d+), (?:0|MSG_[A-Z_|]+)(?:\)|, (?:NULL|\{|0x))")
 CUT_OFF = re.compile(r"msg_flags=(?:\w+\|)*MSG_TRUNC\b")
 BUFFER = r'("[^"]*"(?:\.\.\.)?|.)'
 IN_VECTOR = re.compile(rf"iov_base={BUFFER}")
-IN_ARGUMENT = re.compile(rf"\(\d+(?:<[^>]*>)?, {BUFFER}")
+IN_ARGUMENT = re.compile(rf"\(\d+(?:<[^>]*>)?, *{BUFFER}")
 IN_HEXADECIMAL = re.compile(r'"((?:\\x[0-9a-f]{2})*)"')
 DUMPED = re.compile(r" (?:\* \d+ bytes in buffer \d+$|\| ([0-9a-f]{5,})  (.{49}))")
 STATUSES = """Exit status: 0; 1 where a receive's bytes are not all there, or there is no receive, and nothing
