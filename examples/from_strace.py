@@ -16,7 +16,7 @@ NAMES = "recvmsg|recvfrom|recvmmsg|recv|socket"
 FRONT = r"(?:\[pid +(\d+)\] |(\d+) +)? *(?:[\d:.]+ +)?"
 CALL = re.compile(rf"{FRONT}(?:({NAMES})\(|<\.\.\. ({NAMES}) resumed> ?)")
 # What stands behind a call that another process interrupts.
-BROKEN_OFF = re.compile(r"(?:<unfinished \.\.\.>|strace: Process \d+ attached)?$")
+BROKEN_OFF = re.compile(r" *(?:<unfinished \.\.\.>|strace: Process \d+ attached)?$")
 RESULT = re.compile(r".*\) += (\S+)(?: .*)?$")
 SOCKET = re.compile(r"socket\((\w*)(?:, [^,]*, ([^)]*))?")
 DESCRIPTOR = re.compile(r"\w+\((\d+)(?:<NETLINK:\[(\w+))?")

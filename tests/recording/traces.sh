@@ -24,6 +24,14 @@ without() { sed "$2d" "$traces/$1.strace"; }
 gives rows "$(rows rows 9 17; rows rows 23 28)"
 gives rows_on_errors "$(rows rows_on_errors 10 18; rows rows_on_errors 24 29)"
 gives quoted "$(digits quoted 6; digits quoted 10)"
+# The same calls broken off as strace does it at other moments.
+check 'a socket that is opened in two lines' ends 0 "$(digits quoted 6; digits quoted 10)" '' from_strace < <(
+  sed -E '1s/\) += 3/ <unfinished ...>\n24565 <... socket resumed>) = 3/' "$traces/quoted.strace"
+)
+check 'another process begins in a call' ends 0 "$(rows rows_on_errors 10 18; rows rows_on_errors 24 29)" '' \
+  from_strace < <(
+    sed '3s/ <unf.*/strace: Process 24379 attached\n <unfinished ...>/' "$traces/rows_on_errors.strace"
+  )
 # Calls with their times, the first of which only peeks at a size.
 gives peeked "$(rows peeked 6 14)"
 gives two_buffers "$(rows two_buffers 4 5)$(rows two_buffers 7 13)"
