@@ -47,6 +47,17 @@ with_full_errors() { "$program" "$@" 2>/dev/full; }
 # usage ARGUMENT..: a case of the program with these arguments, which are a usage error.
 usage() { expect "usage error: $*" 2 '' "$any" "$@" <<<"$finish"; }
 
+# names_show LINE ARGUMENT..: these arguments are a usage error whose last line is this one, behind clap's text.
+names_show() {
+  local line=$1
+  shift
+  ends 2 '' "$any" "$program" "$@" <<<"$finish" && [ "$(wc -l <"$folder/errors")" -gt 1 ] &&
+    [ "$(tail -n 1 "$folder/errors")" = "$line" ]
+}
+
+# names_nothing ARGUMENT..: these arguments are a usage error, which is no command's name.
+names_nothing() { ends 2 '' "$any" "$program" "$@" <<<"$finish" && ! grep -q '^rtnl: ' "$folder/errors"; }
+
 # The pipe that nobody reads is opened for both first, since else its opening would wait for a reader.
 into_pipe_without_reader() {
   # shellcheck disable=SC2094

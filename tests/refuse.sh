@@ -133,7 +133,9 @@ refuse_each 'a usage error' 2 /dev/null show --order middle
 refuse_each 'a number out of its range' 2 /dev/null table --kind link --seq 1 --port 1 --depth 33
 refuse_each 'a missing option' 2 /dev/null request --kind link
 refuse_each 'a missing file' 3 /dev/null show "$folder/missing"
+refuse_each 'an unknown command' 2 /dev/null links.hex
 refuse_each 'help' 0 /dev/null --help
+refuse_each 'the version' 0 /dev/null --version
 refuse_each 'help of table' 0 /dev/null table --help
 
 # ---- each call of the libraries

@@ -7,6 +7,7 @@ expect 'check: a rule whose head has bytes that are not kept' 0 $'datagram 1 can
   check < <(printf '%s\n' '1c000000 2000 0200 01000000 39300000 02000000 fe000001 00000000' \
     '1c000000 2000 0200 01000000 39300000 02000000 fe000101 00000000')
 expect 'check FILE' 0 'datagram 1 canonical' '' check "$folder/link" </dev/null
+expect 'check -' 0 'datagram 1 canonical' '' check - <<<"$finish"
 expect 'check by order' 0 'datagram 1 canonical' '' check --order big <<<"$loopback_big"
 expect 'check in the other order' 1 'datagram 1 refused bad length at 0' '' check <<<"$loopback_big"
 expect 'check: padding whole, and of zeros' 0 $'datagram 1 canonical\ndatagram 2 accepted\ndatagram 3 canonical' '' \

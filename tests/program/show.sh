@@ -7,6 +7,8 @@ expect 'show, standard input' 0 "$finish_text" '' show <<<"$finish"
 echo "$loopback" >"$folder/link"
 expect 'show FILE' 0 "$loopback_text" '' show "$folder/link" <<<"$finish"
 expect 'show behind the end of options' 0 "$loopback_text" '' show -- "$folder/link" </dev/null
+expect 'show -, which is standard input' 0 "$finish_text" '' show - <<<"$finish"
+expect 'show ./-, which is a file' 3 '' "$read_fault" show ./- <<<"$finish"
 expect 'order little' 0 "$loopback_text" '' show --order little <<<"$loopback"
 expect 'order big' 0 "$loopback_text" '' show --order big <<<"$loopback_big"
 expect 'order big, FILE' 1 "$loopback_refused" '' show --order=big "$folder/link" </dev/null
@@ -33,6 +35,11 @@ expect 'help' 0 "$any" '' --help <<<"$finish"
 expect 'help of show' 0 "$any" '' show --help <<<"$finish"
 expect 'help of request, as a command' 0 "$any" '' help request <<<"$finish"
 check 'help, a full device' ends 3 '' "$write_fault" into_full_device --help </dev/null
+check 'help of table, standard output closed' ends 3 '' "$write_fault" into_closed_output table --help </dev/null
+expect 'version' 0 'rtnl 0.1.0' '' --version <<<"$finish"
+expect 'version, in short' 0 'rtnl 0.1.0' '' -V <<<"$finish"
+check 'version, a full device' ends 3 '' "$write_fault" into_full_device --version </dev/null
+check 'version, standard output closed' ends 3 '' "$write_fault" into_closed_output -V </dev/null
 ln -s "$program" "$folder/rtnl"
 for command in show check table request; do
   check "example in the help of $command" has_true_example "$command"
@@ -44,8 +51,22 @@ usage --depth 3
 usage show --depth 3
 usage --order big
 usage reveal
+usage show --version
 usage show "$folder/link" "$folder/link"
 usage show $'\xff'
+# A file in the place of a command, be it there or not.
+show_line='rtnl: to show a recording: rtnl show'
+check 'a file without a command' names_show "$show_line $folder/link" "$folder/link"
+check 'a missing file without a command' names_show "$show_line links.hex" links.hex
+check 'a name like that of a command' names_show "$show_line shwo" shwo
+check 'standard input without a command' names_show "$show_line -" -
+check 'a file without a command, an option behind it' names_show "$show_line links.hex" links.hex --order big
+check 'a file behind the end of options' names_show "$show_line -- -x.hex" -- -x.hex
+check 'a file with a blank in its name' names_show "$show_line \"my links.hex\"" 'my links.hex'
+check 'no name of a file' names_show "$show_line \"\"" ''
+check 'help of an unknown command' names_nothing help links.hex
+check 'an unknown option' names_nothing --links.hex
+check 'an unknown option of a command' names_nothing show --links.hex
 # Arguments are looked at before FILE is opened.
 usage show --order middle "$folder/missing"
 

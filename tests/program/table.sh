@@ -30,6 +30,7 @@ expect 'table: two datagrams' 0 "$two_links" '' "${links[@]}" < <(printf '%s\n' 
 expect 'table: one datagram' 0 "$two_links" '' "${links[@]}" <<<"$loopback $ethernet $finish"
 echo "$loopback $ethernet $finish" >"$folder/links"
 expect 'table FILE' 0 "$two_links" '' "${links[@]}" "$folder/links" <<<"$finish"
+expect 'table -' 0 "$two_links" '' "${links[@]}" - <"$folder/links"
 expect 'table: options behind FILE' 0 "$two_links" '' \
   table "$folder/links" --port=12345 --seq=1 --kind=link </dev/null
 expect 'table: limits that just do' 0 "$two_links" '' "${links[@]}" --depth 0 --entries 2 "$folder/links" </dev/null

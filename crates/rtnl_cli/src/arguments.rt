@@ -11,6 +11,9 @@ use std::alloc::{AllocError, Global};
 /// What a usage error says of a name that clap lets through and that is not known here.
 const UNKNOWN: &str = "a command or a value is not known";
 
+/// What names standard input in the place of a file.
+const STANDARD_INPUT: &str = "-";
+
 /// What is done with a recording.
 #[derive(Clone, Copy, Debug, PartialEq, Eq)]
 pub(crate) enum Engine {
@@ -25,7 +28,7 @@ pub(crate) enum Engine {
 /// What the program is to do.
 #[derive(Debug, Drop)]
 pub(crate) enum Task {
-    /// Read a file, or standard input where none is named.
+    /// Read a file, or standard input where none or `-` is named.
     Recording {
         engine: Engine,
         limits: Limits,
@@ -44,7 +47,7 @@ pub(crate) enum Task {
 #[derive(Drop)]
 pub(crate) enum Parsed {
     Task(Task),
-    /// Help, or a usage error.
+    /// Help, the version, or a usage error.
     Message(Error),
 }
 
@@ -118,8 +121,8 @@ fn task_of(alloc: Global, matches: &ArgMatches<'_>) -> Result<Option<Task>, Allo
         }));
     };
     let file = match inner.get_str("FILE") {
-        Some(path) => Some(String::from_str(alloc, path)?),
-        None => None,
+        Some(path) if path != STANDARD_INPUT => Some(String::from_str(alloc, path)?),
+        _ => None,
     };
     Ok(command_task(name, inner, file))
 }
@@ -128,7 +131,7 @@ fn names<T>(alloc: Global, table: &[(&'static str, T)]) -> Result<Vec<&'static s
     table.iter().map(|row| row.0).collect(alloc)
 }
 
-/// The task of these arguments, or help or a usage error.
+/// The task of these arguments, or help, the version or a usage error.
 fn parse_with(alloc: Global, arguments: &[String], values: Values<'_>) -> Result<Task, Error> {
     let matches = rtnl(alloc, values)?.try_get_matches_from(arguments)?;
     match task_of(alloc, &matches)? {
@@ -156,5 +159,20 @@ pub(crate) fn parse(alloc: Global, arguments: &[String]) -> Result<Parsed, Alloc
             ErrorKind::OutOfMemory => Err(AllocError),
             _ => Ok(Parsed::Message(error)),
         },
+    }
+}
+
+/// What stands where a command should and names none, with the `--` before it; it may be meant as a file.
+pub(crate) fn unknown_command<'a>(
+    error: &Error,
+    arguments: &'a [String],
+) -> Option<(&'static str, &'a str)> {
+    if error.kind() != ErrorKind::InvalidSubcommand {
+        return None;
+    }
+    match arguments.get(1)?.as_str() {
+        "help" => None,
+        "--" => Some(("-- ", arguments.get(2)?.as_str())),
+        name => Some(("", name)),
     }
 }

@@ -4,6 +4,9 @@ use clap::{Arg, Command, value_parser};
 use nl_attr::Order;
 use std::alloc::{AllocError, Global};
 
+/// The version of the program and its libraries.
+const VERSION: &str = "0.1.0";
+
 /// The byte orders by their names.
 pub(crate) const ORDERS: [(&str, Order); 2] = [("little", Order::Little), ("big", Order::Big)];
 
@@ -55,7 +58,7 @@ prints
 
 fn file_argument<'a>(alloc: Global) -> Arg<'a> {
     Arg::new(alloc, "FILE").help(
-        "Lines of hexadecimal, one datagram each [default: standard input]",
+        "Recording: lines of hexadecimal, one datagram each; `-` or none is standard input",
     )
 }
 
@@ -83,7 +86,7 @@ fn seq_option<'a>(alloc: Global) -> Arg<'a> {
         .value_name("N")
         .required(true)
         .value_parser(value_parser!(u32))
-        .help("Sequence number of the request and its answers")
+        .help("Sequence number (nlmsg_seq) of the request and its answers")
 }
 
 fn port_option<'a>(alloc: Global) -> Arg<'a> {
@@ -92,7 +95,7 @@ fn port_option<'a>(alloc: Global) -> Arg<'a> {
         .value_name("N")
         .required(true)
         .value_parser(value_parser!(u32))
-        .help("Port id of the answers")
+        .help("Port id (nlmsg_pid) of the answers")
 }
 
 fn family_option<'a>(alloc: Global) -> Arg<'a> {
@@ -101,7 +104,7 @@ fn family_option<'a>(alloc: Global) -> Arg<'a> {
         .value_name("N")
         .value_parser(value_parser!(u8))
         .default_value("0")
-        .help("Address family of the request, 0 to 255, where 0 is all")
+        .help("Address family of the request, 0 to 255; 0 is all (AF_UNSPEC)")
 }
 
 fn depth_option<'a>(alloc: Global, values: Values<'a>) -> Arg<'a> {
@@ -110,7 +113,7 @@ fn depth_option<'a>(alloc: Global, values: Values<'a>) -> Arg<'a> {
         .value_name("N")
         .value_parser(value_parser!(u8).range(0..=32))
         .default_value(values.depth)
-        .help("Most levels of attributes in one another, 0 to 32")
+        .help("Greatest depth of nested attributes, 0 to 32")
 }
 
 fn entries_option<'a>(alloc: Global, values: Values<'a>) -> Arg<'a> {
@@ -119,7 +122,7 @@ fn entries_option<'a>(alloc: Global, values: Values<'a>) -> Arg<'a> {
         .value_name("N")
         .value_parser(value_parser!(u32).range(0..=65536))
         .default_value(values.entries)
-        .help("Most entries of the table, 0 to 65536")
+        .help("Greatest number of entries in the table, 0 to 65536")
 }
 
 fn show_command<'a>(alloc: Global, values: Values<'a>) -> Result<Command<'a>, AllocError> {
@@ -133,7 +136,7 @@ fn show_command<'a>(alloc: Global, values: Values<'a>) -> Result<Command<'a>, Al
 fn check_command<'a>(alloc: Global, values: Values<'a>) -> Result<Command<'a>, AllocError> {
     Command::new(alloc, "check")
         .about(
-            "Prints of each datagram of a recording whether it is canonical, that is written as its messages are, accepted though not canonical, or why it is refused",
+            "Prints whether each datagram of a recording is canonical (the very bytes that its messages are written as), accepted though not canonical, or refused, and why",
         )
         .after_help(CHECK_EXAMPLE)
         .arg(order_option(alloc, values))?
@@ -143,7 +146,7 @@ fn check_command<'a>(alloc: Global, values: Values<'a>) -> Result<Command<'a>, A
 fn table_command<'a>(alloc: Global, values: Values<'a>) -> Result<Command<'a>, AllocError> {
     Command::new(alloc, "table")
         .about(
-            "Reads the datagrams of a recording as the answers to a dump, and prints the entries of its table and how it ended",
+            "Reads a recording as the answers to a dump, and prints the table of its entries and how the dump ended",
         )
         .after_help(TABLE_EXAMPLE)
         .arg(kind_option(alloc, values))?
@@ -170,7 +173,8 @@ fn request_command<'a>(alloc: Global, values: Values<'a>) -> Result<Command<'a>,
 pub(crate) fn rtnl<'a>(alloc: Global, values: Values<'a>) -> Result<Command<'a>, AllocError> {
     Command::new(alloc, "rtnl")
         .bin_name("rtnl")?
-        .about("Reads recordings of rtnetlink datagrams. Without a command it is `rtnl show`.")
+        .version(VERSION)
+        .about("Decodes recorded rtnetlink datagrams. Without a command it is `rtnl show`.")
         .after_help(STATUSES)
         .subcommand(show_command(alloc, values)?)?
         .subcommand(check_command(alloc, values)?)?

@@ -5,7 +5,7 @@
 mod arguments;
 mod commands;
 
-use arguments::{Engine, Parsed, Task};
+use arguments::{Engine, Parsed, Task, unknown_command};
 use clap::Error;
 use rtnl::frame::Limits;
 use rtnl::{
@@ -49,11 +49,23 @@ fn outcome(rt: &HostRuntime, answer: Result<Verdict, RunError>) -> ExitCode {
     }
 }
 
-/// Prints help on standard output, or a usage error on standard error.
-fn print_message(rt: &HostRuntime, message: &Error) -> ExitCode {
+/// Names the command that shows this file, on standard error.
+fn name_show(rt: &HostRuntime, dashes: &str, file: &str) -> io::Result<()> {
+    if file.is_empty() || file.contains(char::is_whitespace) {
+        eprintln!(rt; "rtnl: to show a recording: rtnl show {dashes}{file:?}")
+    } else {
+        eprintln!(rt; "rtnl: to show a recording: rtnl show {dashes}{file}")
+    }
+}
+
+/// Prints help or the version on standard output, or a usage error on standard error.
+fn print_message(rt: &HostRuntime, message: &Error, arguments: &[String]) -> ExitCode {
     let printed = message.print(rt);
     if message.use_stderr() {
-        return failed(printed, USAGE);
+        return match unknown_command(message, arguments) {
+            Some((dashes, file)) => failed(name_show(rt, dashes, file), USAGE),
+            None => failed(printed, USAGE),
+        };
     }
     match printed {
         Ok(()) => ExitCode::SUCCESS,
@@ -114,7 +126,7 @@ fn main(rt: HostRuntime) -> ExitCode {
     };
     match arguments::parse(alloc, arguments.as_slice()) {
         Ok(Parsed::Task(task)) => perform(&rt, &task),
-        Ok(Parsed::Message(message)) => print_message(&rt, &message),
+        Ok(Parsed::Message(message)) => print_message(&rt, &message, arguments.as_slice()),
         Err(_) => outcome(&rt, Err(RunError::Memory)),
     }
 }
