@@ -1,0 +1,42 @@
+# Completion of the command rtnl in bash.
+
+# _rtnl_options COMMAND: its options.
+_rtnl_options() {
+  case $1 in
+    show | check) echo --order --help ;;
+    table) echo --kind --seq --port --family --depth --entries --order --help ;;
+    request) echo --kind --seq --family --order --help ;;
+  esac
+}
+
+_rtnl() {
+  local commands='show check table request'
+  local word=${COMP_WORDS[COMP_CWORD]} before=${COMP_WORDS[COMP_CWORD - 1]} command=${COMP_WORDS[1]} words=
+  # Bash splits an option and its value at the sign between them.
+  [ "$before" = '=' ] && before=${COMP_WORDS[COMP_CWORD - 2]}
+  [ "$word" = '=' ] && word=
+  COMPREPLY=()
+  if [ "$COMP_CWORD" = 1 ]; then
+    words="$commands help"
+    [[ $word == -* ]] && words='--help --version'
+  elif [ "$command" = help ]; then
+    words=$commands
+  else
+    case $before in
+      --order) words='little big' ;;
+      --kind) words='link addr route neigh rule' ;;
+      --seq | --port | --family | --depth | --entries) ;;
+      *)
+        if [ "$command" = request ] || [[ $word == -* ]]; then
+          words=$(_rtnl_options "$command")
+        else
+          # The file's name, as bash completes it.
+          compopt -o default 2>/dev/null
+        fi
+        ;;
+    esac
+  fi
+  mapfile -t COMPREPLY < <(compgen -W "$words" -- "$word")
+}
+
+complete -F _rtnl rtnl

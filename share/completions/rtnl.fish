@@ -1,0 +1,27 @@
+# Completion of the command rtnl in fish.
+
+set -l commands show check table request
+set -l all "__fish_seen_subcommand_from $commands"
+set -l dumps '__fish_seen_subcommand_from table request'
+set -l table '__fish_seen_subcommand_from table'
+set -l first "not __fish_seen_subcommand_from $commands help"
+set -l helped "__fish_seen_subcommand_from help; and not $all"
+
+complete -c rtnl -f
+complete -c rtnl -n $first -a show -d 'Print each datagram of a recording'
+complete -c rtnl -n $first -a check -d 'Print whether each datagram is canonical, accepted or refused'
+complete -c rtnl -n $first -a table -d 'Read a recording as the answers to a dump'
+complete -c rtnl -n $first -a request -d 'Print the request that begins a dump'
+complete -c rtnl -n $first -a help -d 'Print the help of a command'
+complete -c rtnl -n $first -s V -l version -d 'Print version'
+complete -c rtnl -n $helped -a "$commands"
+complete -c rtnl -s h -l help -d 'Print help'
+
+complete -c rtnl -n '__fish_seen_subcommand_from show check table' -F
+complete -c rtnl -n $all -l order -x -a 'little big' -d 'Byte order of the numbers'
+complete -c rtnl -n $dumps -l kind -x -a 'link addr route neigh rule' -d 'What the dump asks for'
+complete -c rtnl -n $dumps -l seq -x -d 'Sequence number of the request and its answers'
+complete -c rtnl -n $dumps -l family -x -d 'Address family of the request'
+complete -c rtnl -n $table -l port -x -d 'Port id of the answers'
+complete -c rtnl -n $table -l depth -x -d 'Greatest depth of nested attributes'
+complete -c rtnl -n $table -l entries -x -d 'Greatest number of entries in the table'
