@@ -1,0 +1,59 @@
+#!/usr/bin/env bash
+# What a user meets first: each command that README.md and the manual page show with what it prints, recordings
+# of other programs, the installation with its page and completions, and the launcher, which is tried over a rt
+# that builds nothing. Expected texts are those of the pages or worked by hand. Packages that are missing are
+# installed where that can be, and what can't run says so and isn't counted. All runs in a network namespace
+# where the machine allows one. The last line is 'N passed, M failed', and the status is 1 where a case failed.
+set -u
+cd "$(dirname "${BASH_SOURCE[0]}")/.." || exit 1
+
+if [ "${1-}" != inside ]; then
+  tests/first_hour/packages.sh
+  # The first run builds the program where it isn't built.
+  ./rtnl --version >/dev/null || exit 1
+  for way in -n -rn; do
+    unshare "$way" ip link set lo up 2>/dev/null && exec unshare "$way" tests/first_hour.sh inside
+  done
+fi
+
+top=$PWD
+folder=$(mktemp -d) || exit 1
+trap 'rm -rf "$folder"' EXIT
+. tests/counting.sh
+
+# A folder of a user, with links to the launcher and to the installation.
+user=$folder/user
+mkdir "$user" && cp -r examples "$user" && ln -s "$top/rtnl" "$top/install" "$user" || exit 1
+
+# ends STATUS OUTPUT ERRORS COMMAND..: the command ends with this status and writes exactly these texts.
+ends() {
+  local status=$1 output=$2 errors=$3 found
+  shift 3
+  "$@" >"$folder/output" 2>"$folder/errors"
+  found=$?
+  [ "$found" = "$status" ] && [ "$(<"$folder/output")" = "$output" ] && [ "$(<"$folder/errors")" = "$errors" ]
+}
+
+# has COMMAND WHAT: the command is here, or it is told that this is skipped.
+has() { command -v "$1" >/dev/null || ! echo "skipped: $2, since $1 is not here"; }
+
+# has_namespace WHAT: this runs in a network namespace with the loopback link up, or it is told.
+has_namespace() {
+  [ "$inside" = yes ] || ! echo "skipped: $1, since no network namespace can be made here"
+}
+
+# can_trace WHAT: strace is here and may trace, or it is told.
+can_trace() {
+  strace -o /dev/null true 2>/dev/null || ! echo "skipped: $1, since strace is not here or may not trace"
+}
+inside=no
+[ "${1-}" = inside ] && ip link set lo up && inside=yes
+
+. tests/first_hour/blocks.sh
+. tests/first_hour/pages.sh
+. tests/first_hour/elsewhere.sh
+. tests/first_hour/installation.sh
+. tests/first_hour/completions.sh
+. tests/first_hour/launcher.sh
+
+finish

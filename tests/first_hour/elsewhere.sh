@@ -1,0 +1,96 @@
+# What README.md and the manual page say of files of rtmon and of traces, in the network namespace.
+
+# shown_of_rtmon: what its file shows, as one line of hexadecimal.
+shown_of_rtmon() { xxd -p -c0 "$folder/rtmon" | "$user/rtnl" show; }
+
+# types_of_rtmon: the types of the messages in its file.
+types_of_rtmon() { shown_of_rtmon | sed -n 's/^message \([0-9]* [a-z]*\) .*/\1/p' | tr '\n' ,; }
+
+# soon COMMAND..: it succeeds within ten seconds.
+soon() {
+  for _ in $(seq 100); do
+    "$@" && return
+    sleep 0.1
+  done
+  return 1
+}
+
+has_links() { [ -e "$folder/rtmon" ] && [[ $(types_of_rtmon) =~ ^'15 other,'('16 newlink,')+$ ]]; }
+has_links_and_change() { [[ $(types_of_rtmon) =~ ^'15 other,'('16 newlink,')+'15 other,16 newlink,'$ ]]; }
+is_long() { [ "$(stat -c %s "$folder/rtmon")" -gt 65536 ]; }
+
+# begins_rtmon: it runs, and has written its first links, behind a time, without an end.
+begins_rtmon() {
+  rm -f "$folder/rtmon"
+  rtmon file "$folder/rtmon" &
+  monitor=$!
+  soon has_links
+}
+
+# ends_rtmon: a signal ends it, and nothing else did.
+ends_rtmon() {
+  kill "$monitor"
+  wait "$monitor"
+  [ $? = 143 ]
+}
+
+# A change of a link comes behind a further time.
+is_rtmon_shown() {
+  begins_rtmon && ip link set lo mtu 1501 && soon has_links_and_change && ends_rtmon &&
+    shown_of_rtmon >"$folder/shown" && [ "$(grep -c '^datagram ' "$folder/shown")" = 1 ]
+}
+
+# number_of WORD: what stands behind it in the first link that is shown.
+number_of() { sed -n "/^message 16 /s/.* $1 \([0-9]*\).*/\1/p" "$folder/shown" | head -n 1; }
+
+# The links are those of the dump, which nothing ended; the times and the notification are not of it.
+is_rtmon_tabled() {
+  xxd -p -c0 "$folder/rtmon" |
+    "$user/rtnl" table --kind link --seq "$(number_of seq)" --port "$(number_of port)" >"$folder/table"
+  [ $? = 1 ] && grep -qx 'end none' "$folder/table" && grep -qx 'complete no' "$folder/table" &&
+    grep -q '^entries [1-9][0-9]* missed 0 ignored 3 ' "$folder/table"
+}
+
+# Lines of 30 bytes are refused, the first behind the time, which has 24 bytes.
+is_wrapped_refused() {
+  xxd -p "$folder/rtmon" | "$user/rtnl" show >"$folder/shown"
+  [ $? = 1 ] && ! grep -q '^message ' "$folder/shown" &&
+    [ "$(head -n 2 "$folder/shown")" = $'datagram 1 bytes 30\nrefused cut at 24' ] &&
+    [ "$(grep -c '^refused bad length at 0$' "$folder/shown")" -gt "$(($(grep -c ^refused "$folder/shown") / 2))" ]
+}
+
+# The same lines, with their ends taken out.
+is_joined() { xxd -p "$folder/rtmon" | tr -d '\n' | "$user/rtnl" show | diff - <(shown_of_rtmon); }
+
+is_long_rtmon_refused() {
+  local size
+  begins_rtmon && for size in $(seq 1502 1562); do ip link set lo mtu "$size"; done && soon is_long && ends_rtmon &&
+    ends 1 "datagram 1 bytes $(stat -c %s "$folder/rtmon")"$'\nrefused too large' '' shown_of_rtmon
+}
+
+# The bytes of a recording are no recording.
+is_no_text() { ends 1 '' 'rtnl: line 1: bad line' "$user/rtnl" show "$folder/rtmon"; }
+
+# A trace that strace writes into a pipe, of a program that asks for links.
+is_traced() {
+  strace -f -e trace=recvmsg,recvfrom -e read=all ip link 2>&1 >/dev/null | examples/from_strace.py |
+    "$user/rtnl" show >"$folder/shown" && grep -q '^message 16 newlink ' "$folder/shown" &&
+    grep -q '^message 3 done ' "$folder/shown"
+}
+
+if has_namespace 'recordings from elsewhere'; then
+  if has rtmon 'files of rtmon' && has xxd 'files of rtmon'; then
+    check 'a file of rtmon' is_rtmon_shown
+    check 'a file of rtmon as a table' is_rtmon_tabled
+    check 'a wrapped file of rtmon' is_wrapped_refused
+    check 'a file of rtmon, wrapped and joined' is_joined
+    check 'a file of rtmon as it is' is_no_text
+    check 'a long file of rtmon' is_long_rtmon_refused
+  fi
+  if can_trace 'a trace through a pipe'; then check 'a trace through a pipe' is_traced; fi
+fi
+for file in examples/*.hex; do
+  check "the other order of $file" ends 1 "$(awk '!/^#/ && NF {
+    printf "datagram %d bytes %d\nrefused bad length at 0\n", ++count, length($0) / 2 }' "$file")" '' \
+    "$user/rtnl" show --order big "$file"
+done

@@ -1,0 +1,75 @@
+# ./install under a prefix of its own, which is then left as it was.
+
+prefix=$folder/prefix
+things=(bin/rtnl share/man/man1/rtnl.1 share/bash-completion/completions/rtnl share/zsh/site-functions/_rtnl
+  share/fish/vendor_completions.d/rtnl.fish share/rtnl/installed)
+
+# listed FOLDER: everything in it, with its kind, its mode and the sum of a file.
+listed() { (cd "$1" && find . -printf '%p %y %m\n' -type f -exec sha256sum {} \; | sort); }
+
+# each WORD: a line for each file that is put or removed.
+each() { printf "$1 $prefix/%s\n" "${things[@]}"; }
+
+installs() { ends 0 "$(each installed)" '' "$user/install" "$prefix"; }
+removes() {
+  ends 0 "$(each removed)" '' "$user/install" --remove "$prefix" && listed "$prefix" | diff "$folder/before" -
+}
+
+# A prefix that isn't there is made, and removed again.
+takes_new_prefix() {
+  local made="$folder/new prefix"
+  "$user/install" "$made" >/dev/null && [ "$("$made/bin/rtnl" --version)" = "rtnl $version" ] &&
+    "$user/install" --remove "$made" >/dev/null && [ ! -e "$made" ]
+}
+
+# The default is ~/.local, and it is told where the shell will not find the program.
+takes_home() {
+  local HOME=$folder/home
+  export HOME
+  mkdir "$HOME" && ends 0 "$(each installed | sed "s|$prefix|$HOME/.local|")" \
+    "install: $HOME/.local/bin is not on the PATH" "$user/install" &&
+    ends 0 "$(each removed | sed "s|$prefix|$HOME/.local|")" '' "$user/install" --remove && rmdir "$HOME"
+}
+
+# is_left NAME: this file stands in the way, and nothing is put beside it.
+is_left() {
+  ends 1 '' "install: $prefix/$1 is there and was not installed by this script; nothing was installed" \
+    "$user/install" "$prefix" && listed "$prefix" | diff "$folder/blocked" -
+}
+
+# is_blocked NAME COMMAND..: what the command makes of this file stands in the way, and is left.
+is_blocked() {
+  local name=$1
+  shift
+  mkdir -p "$(dirname "$prefix/$name")" && "$@" "$prefix/$name" && listed "$prefix" >"$folder/blocked" &&
+    is_left "$name" && rm "$prefix/$name"
+}
+
+# A file that was changed since is left, and all else is removed.
+leaves_changed() {
+  "$user/install" "$prefix" >/dev/null && echo '# mine' >>"$prefix/share/zsh/site-functions/_rtnl" &&
+    ends 1 "$(each removed | grep -v /zsh/)" \
+      "install: $prefix/share/zsh/site-functions/_rtnl was changed since it was installed; it is left" \
+      "$user/install" --remove "$prefix" && [ "$(tail -n 1 "$prefix/share/zsh/site-functions/_rtnl")" = '# mine' ] &&
+    rm -r "$prefix/share/zsh" && listed "$prefix" | diff "$folder/before" -
+}
+
+# The page, as it is installed, has the program's version and no fault.
+is_page_right() {
+  mandoc -T lint -W warning "$prefix/share/man/man1/rtnl.1" && mandoc -T ascii "$prefix/share/man/man1/rtnl.1" \
+    2>/dev/null | tail -n 1 | grep -q "^rtnl $version .* rtnl $version\$"
+}
+
+# An own file, an empty folder and a link were there before.
+mkdir -p "$prefix/bin" "$prefix/share/man" && echo mine >"$prefix/bin/other" || exit 1
+ln -s other "$prefix/bin/link" || exit 1
+listed "$prefix" >"$folder/before"
+ln -s ../prefix/bin/rtnl "$user/installed"
+finish_line=1400000003000200010000003930000000000000
+finish_text=$'datagram 1 bytes 20\nmessage 3 done flags 0x0002 MULTI seq 1 port 12345\n  done status 0 tail -'
+
+check 'nothing is removed where nothing was installed' ends 1 '' "install: nothing is installed under $prefix" \
+  "$user/install" --remove "$prefix"
+check 'an installation' installs
+check 'the program that is installed, through a link' ends 0 "$finish_text" '' "$user/installed" <<<"$finish_line"
+if has mandoc 'the look of the page'; then check 'the page that is installed' is_page_right; fi
