@@ -46,6 +46,7 @@ if has fish 'completion in fish'; then
 fi
 if has zsh 'completion in zsh'; then
   check 'zsh: well formed' is_well_formed zsh zsh/site-functions/_rtnl
+  check 'zsh: of the command' [ "$(head -n 1 "$prefix/share/zsh/site-functions/_rtnl")" = '#compdef rtnl' ]
 fi
 
 check 'a second installation' installs

@@ -19,25 +19,23 @@ has_links() { [ -e "$folder/rtmon" ] && [[ $(types_of_rtmon) =~ ^'15 other,'('16
 has_links_and_change() { [[ $(types_of_rtmon) =~ ^'15 other,'('16 newlink,')+'15 other,16 newlink,'$ ]]; }
 is_long() { [ "$(stat -c %s "$folder/rtmon")" -gt 65536 ]; }
 
-# begins_rtmon: it runs, and has written its first links, behind a time, without an end.
-begins_rtmon() {
+# during_rtmon COMMAND..: rtmon writes its first links, behind a time and without an end; then the command succeeds;
+# and a signal ends rtmon, and nothing before.
+during_rtmon() {
+  local monitor is_met=no
   rm -f "$folder/rtmon"
   rtmon file "$folder/rtmon" &
   monitor=$!
-  soon has_links
-}
-
-# ends_rtmon: a signal ends it, and nothing else did.
-ends_rtmon() {
+  soon has_links && "$@" && is_met=yes
   kill "$monitor"
   wait "$monitor"
-  [ $? = 143 ]
+  [ $? = 143 ] && [ "$is_met" = yes ]
 }
 
 # A change of a link comes behind a further time.
+changes_link() { ip link set lo mtu 1501 && soon has_links_and_change; }
 is_rtmon_shown() {
-  begins_rtmon && ip link set lo mtu 1501 && soon has_links_and_change && ends_rtmon &&
-    shown_of_rtmon >"$folder/shown" && [ "$(grep -c '^datagram ' "$folder/shown")" = 1 ]
+  during_rtmon changes_link && shown_of_rtmon >"$folder/shown" && [ "$(grep -c '^datagram ' "$folder/shown")" = 1 ]
 }
 
 # number_of WORD: what stands behind it in the first link that is shown.
@@ -62,9 +60,14 @@ is_wrapped_refused() {
 # The same lines, with their ends taken out.
 is_joined() { xxd -p "$folder/rtmon" | tr -d '\n' | "$user/rtnl" show | diff - <(shown_of_rtmon); }
 
-is_long_rtmon_refused() {
+# So many changes of a link make the file longer than a datagram may be.
+changes_link_often() {
   local size
-  begins_rtmon && for size in $(seq 1502 1562); do ip link set lo mtu "$size"; done && soon is_long && ends_rtmon &&
+  for size in $(seq 1502 1562); do ip link set lo mtu "$size" || return; done
+  soon is_long
+}
+is_long_rtmon_refused() {
+  during_rtmon changes_link_often &&
     ends 1 "datagram 1 bytes $(stat -c %s "$folder/rtmon")"$'\nrefused too large' '' shown_of_rtmon
 }
 

@@ -22,7 +22,7 @@ if [ "$(id -u)" != 0 ] || ! command -v apt-get >/dev/null; then
 fi
 echo "installing: ${missing[*]}"
 export DEBIAN_FRONTEND=noninteractive
-install=(apt-get install -y --no-install-recommends "${missing[@]}")
-"${install[@]}" >/dev/null 2>&1 || { apt-get update && "${install[@]}"; } >/dev/null 2>&1 ||
+install=(timeout 300 apt-get install -y --no-install-recommends "${missing[@]}")
+{ "${install[@]}" || { timeout 300 apt-get update && "${install[@]}"; }; } </dev/null >/dev/null 2>&1 ||
   echo 'some of them could not be installed'
 exit 0
