@@ -60,6 +60,7 @@ check 'help of the installation' ends 0 "$(sed -n "/^  cat <<'TEXT'\$/,/^TEXT\$/
   "$user/install" --help
 check 'two prefixes' ends 2 '' 'install: more than one PREFIX; see --help' "$user/install" "$prefix" "$prefix"
 check 'an unknown option' ends 2 '' "install: unknown option '--unknown'; see --help" "$user/install" --unknown
+check 'no home folder' ends 2 '' 'install: HOME is not set; name a PREFIX' env -u HOME "$user/install"
 check 'an empty prefix' ends 2 '' 'install: PREFIX is empty; see --help' "$user/install" ''
 check 'a prefix that cannot be made' ends 3 '' "install: $prefix/bin/other/share/rtnl could not be made" \
   "$user/install" "$prefix/bin/other"
