@@ -31,3 +31,4 @@ pub mod Writing
 pub mod Fitted
 pub mod Comparing
 pub mod Sized
+pub mod Towards

@@ -17,3 +17,5 @@ pub mod Written
 pub mod Proper
 pub mod Measured
 pub mod Compared
+pub mod Broken
+pub mod Towards

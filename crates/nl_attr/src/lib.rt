@@ -3,6 +3,7 @@
 #![tactic(auto)]
 
 mod appending;
+mod broken;
 mod comparing;
 mod fault;
 pub mod laws;
@@ -18,6 +19,7 @@ mod walk;
 mod writing;
 
 pub use appending::{append_bytes, append_list};
+pub use broken::{BrokenHead, HeadKind, broken_head};
 pub use comparing::{begins_with, begins_with_bytes, begins_with_zeros};
 pub use fault::{Fault, LimitFault, ListError, Reason, Tally, WriteError};
 pub use limits::Depth;

@@ -99,7 +99,12 @@ enum Turn<'a> {
 }
 
 /// The rule that a container of so many bytes breaks.
-fn container_fault(content: Content, len: usize, level: u8, shape: Shape) -> Option<Reason>
+pub(crate) fn container_fault(
+    content: Content,
+    len: usize,
+    level: u8,
+    shape: Shape,
+) -> Option<Reason>
     requires { level ≤ 32 }
     ensures { result ≡ broken_container shape level content len }
 {

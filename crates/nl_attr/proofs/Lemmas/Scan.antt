@@ -164,12 +164,12 @@ module _ (S : Shape) where
   InsideFinds None f = f ≡ None
   InsideFinds (Some k) f = Finds k f
 
-  -- a head that is not broken leads to what follows it, and to what is inside it
-  pub follower_reached : (s h : Head) → s.left ≢ [] → broken S s ≡ None → HeadAt S (follower S s) h → HeadAt S s (follower S s)
+  -- a head whose length is within bounds leads to what follows it, and one that is not broken to what is inside it
+  pub follower_reached : (s h : Head) → s.left ≢ [] → IsSound S s → HeadAt S (follower S s) h → HeadAt S s (follower S s)
   follower_reached s h some e q =
       let in_rest = head_lies (follower S s) h q in
       let longer : span_of S.order 2 s.left < length s.left = omega (arith, in_rest.low, in_rest.high, in_rest.some, length-drop (span_of S.order 2 s.left) s.left) in
-      next s (first some) (sound_of s.sort s.ctx s.level s.left e) (whole (aligned (len_of S.order 2 s.left)) (length s.left) longer) where
+      next s (first some) e (whole (aligned (len_of S.order 2 s.left)) (length s.left) longer) where
         whole : (a n : ℕ) → min a n < n → a < n
         whole a n lt = omega arith
 
@@ -202,7 +202,7 @@ module _ (S : Shape) where
         in_none (Some j) k is w b p r f = w p r (subst (λ x. FaultAt S x p r) (same_head s j k is b) f)
   joined_found s o (vs, None) (ws, Some g) some e is within after_it =
       let f = after_it.0 in (
-        (f.0, head_then s (follower S s) f.0 (follower_reached s f.0 some e f.1) f.1, f.2, f.3),
+        (f.0, head_then s (follower S s) f.0 (follower_reached s f.0 some (sound_of s.sort s.ctx s.level s.left e) f.1) f.1, f.2, f.3),
         λ p r q.
             elim (head_begins s q.0 q.1) [
               | same x ↦ not_itself s q.0 r e x q.3

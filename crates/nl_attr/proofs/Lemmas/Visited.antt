@@ -138,7 +138,7 @@ joined_covers S s (vs, None) (ws, o) some e inside_is rest_is found =
       each = (
         ((s, first some, sound, refl, refl), own o (ends_in S (follower S s) o found)),
         All-append _ vs ws (All-within vs o inside_is.each (suc s.place) inside_is.rises (ends_in S (follower S s) o found))
-            (All-map _ _ (λ v h. (visited_then S s (follower S s) v (follower_reached S s h.0.0 some e h.0.1) h.0, h.1)) ws rest_is.each),
+            (All-map _ _ (λ v h. (visited_then S s (follower S s) v (follower_reached S s h.0.0 some sound h.0.1) h.0, h.1)) ws rest_is.each),
       );
       every = λ v k u. elim (head_begins S s k.0 k.1) [
         | same x ↦ inl (itself S s k.0 v x k.3 k.4)

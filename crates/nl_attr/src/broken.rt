@@ -1,0 +1,292 @@
+//! The head that a fault is about. The way to it goes from head to head, and into an item only
+//! where its place lies in it.
+
+ghost use Rattle.std.specs.Prelude.{◌≡◌, ◌≢◌, ◌≤◌, ◌<◌, ◌+◌, ◌↔◌, [], length};
+ghost use Rattle.std.specs.Prelude.{Some, IfSome, IsSome};
+ghost use Rattle.nl_attr.specs.Heads.{FaultAt, broken, inner_of, least, start_of};
+ghost use Rattle.nl_attr.specs.Shape.{shape_of};
+ghost use Rattle.nl_attr.specs.Broken.{IsBrokenHead, facts_of, head_kind};
+ghost use Rattle.nl_attr.specs.Towards.{GivesItem, IsItem, IsNear, Leads, Stands};
+ghost use Rattle.nl_attr.specs.Towards.{head_of, placed, sort_of};
+ghost use Rattle.nl_attr.specs.declared.broken.BrokenHead.{BrokenHead};
+
+use crate::fault::{Fault, Reason};
+use crate::limits::{Depth, Shape};
+use crate::order::Order;
+use crate::stack::container_fault;
+use crate::tree::{Content, Ctx, holds};
+use crate::walk::{Attrs, HopParts};
+
+/// What kind of head it is.
+#[derive(Clone, Copy, Debug, PartialEq, Eq)]
+pub enum HeadKind {
+    /// The header of a message, `nlmsghdr` of netlink(7): 16 bytes.
+    Message,
+    /// The head of an attribute, `rtattr` of rtnetlink(7): 4 bytes.
+    Attribute,
+    /// The head of a next hop, `rtnexthop`: 8 bytes.
+    NextHop,
+}
+
+/// A head that breaks a rule.
+#[derive(Clone, Copy, Debug, PartialEq, Eq)]
+pub struct BrokenHead {
+    pub kind: HeadKind,
+    /// How many levels of attributes it lies in: 0 for a message and for the attributes of its
+    /// body. A list in an attribute is a level, next hops are one, and their attributes the next.
+    pub level: u8,
+    /// The length that it says, in bytes; none where fewer bytes are left than it has.
+    pub len: Option<u32>,
+    /// How many bytes there are from its place to the end of its region: of the datagram for a
+    /// message.
+    pub left: u32,
+}
+
+/// What stands in a region.
+#[derive(Clone, Copy)]
+enum HeadSort {
+    Attr,
+    Hop,
+}
+
+impl HeadSort {
+    /// How many bytes such a head has.
+    fn least(self) -> usize
+        ensures { result ≡ least (sort_of self) }
+    {
+        match self {
+            HeadSort::Attr => 4,
+            HeadSort::Hop => 8,
+        }
+    }
+
+    fn kind(self) -> HeadKind
+        ensures { result ≡ head_kind (sort_of self) }
+    {
+        match self {
+            HeadSort::Attr => HeadKind::Attribute,
+            HeadSort::Hop => HeadKind::NextHop,
+        }
+    }
+}
+
+/// A head at a place, with the bytes from there to the end of its region.
+#[derive(Clone, Copy)]
+struct PlacedHead<'a> {
+    place: u32,
+    sort: HeadSort,
+    ctx: Ctx,
+    level: u8,
+    left: &'a [u8],
+}
+
+/// An item: what its payload is, how many bytes it occupies, and its payload.
+#[derive(Clone, Copy)]
+struct Item<'a> {
+    content: Content,
+    span: u32,
+    payload: &'a [u8],
+}
+
+impl<'a> PlacedHead<'a> {
+    /// The attribute at the front, or what is wrong with its length.
+    fn attr_item(self, order: Order) -> Result<Item<'a>, Reason>
+        requires sort { self.sort ≡ HeadSort.Attr }
+        requires some { self.left.now ≢ [] }
+        requires size { length self.left.now ≤ 1048576 }
+        ensures { GivesItem order (head_of self.entry) result }
+    {
+        match Attrs::of_ordered(self.left, order).next() {
+            None => unreachable!(),
+            Some(Err(fault)) => Err(fault.reason),
+            Some(Ok(part)) => Ok(Item {
+                content: holds(self.ctx, part.number, part.flags),
+                span: part.span,
+                payload: part.payload,
+            }),
+        }
+    }
+
+    /// The next hop at the front, or what is wrong with its length.
+    fn hop_item(self, order: Order) -> Result<Item<'a>, Reason>
+        requires sort { self.sort ≡ HeadSort.Hop }
+        requires some { self.left.now ≢ [] }
+        requires size { length self.left.now ≤ 1048576 }
+        ensures { GivesItem order (head_of self.entry) result }
+    {
+        match HopParts::of_ordered(self.left, order).next() {
+            None => unreachable!(),
+            Some(Err(fault)) => Err(fault.reason),
+            Some(Ok(part)) => Ok(Item {
+                content: Content::List(Ctx::Route),
+                span: part.span,
+                payload: part.rest,
+            }),
+        }
+    }
+
+    /// The item at the front, or what is wrong with its length.
+    fn item(self, order: Order) -> Result<Item<'a>, Reason>
+        requires some { self.left.now ≢ [] }
+        requires size { length self.left.now ≤ 1048576 }
+        ensures { GivesItem order (head_of self.entry) result }
+    {
+        match self.sort {
+            HeadSort::Attr => self.attr_item(order),
+            HeadSort::Hop => self.hop_item(order),
+        }
+    }
+
+    /// The rule of containers that its item breaks.
+    fn container_rule(self, item: Item, shape: Shape) -> Option<Reason>
+        requires level { self.level ≤ 32 }
+        requires item { IsItem shape.order (head_of self) item }
+        ensures { result ≡ broken shape (head_of self.entry) }
+    {
+        match self.sort {
+            HeadSort::Attr => {
+                container_fault(item.content, item.payload.len() + 4, self.level, shape)
+            }
+            HeadSort::Hop => None,
+        }
+    }
+
+    /// The first rule that it breaks.
+    fn broken(self, shape: Shape) -> Option<Reason>
+        requires some { self.left.now ≢ [] }
+        requires near { IsNear shape (head_of self) }
+        ensures { result ≡ broken shape (head_of self.entry) }
+    {
+        let _limit = shape.depth();
+        match self.item(shape.order()) {
+            Err(reason) => Some(reason),
+            Ok(item) => self.container_rule(item, shape),
+        }
+    }
+
+    /// The first head in its item, where that holds heads.
+    fn inner(self, item: Item<'a>, shape: Shape) -> Option<PlacedHead<'a>>
+        requires near { IsNear shape (head_of self) }
+        requires item { IsItem shape.order (head_of self) item }
+        requires sound { broken shape (head_of self) ≡ None }
+        ensures { placed result ≡ inner_of shape (head_of self.entry) }
+    {
+        let _limit = shape.depth();
+        let (sort, ctx) = match item.content {
+            Content::Bytes => return None,
+            Content::List(ctx) => (HeadSort::Attr, ctx),
+            Content::Hops => (HeadSort::Hop, Ctx::Route),
+        };
+        Some(PlacedHead {
+            place: self.place + self.sort.least() as u32,
+            sort,
+            ctx,
+            level: self.level + 1,
+            left: item.payload,
+        })
+    }
+
+    /// The next head on the way to a place behind this one: the first in its item where the place
+    /// lies in that, else the one behind it.
+    fn towards(self, place: u32, shape: Shape) -> Option<PlacedHead<'a>>
+        requires some { self.left.now ≢ [] }
+        requires near { IsNear shape (head_of self) }
+        requires ahead { self.place < place }
+        ensures leads { Leads shape place (head_of self.entry) result }
+        ensures near { IfSome result (λ j. IsNear shape (head_of j)) }
+        ensures less { IfSome result (λ j. length j.left.now < length self.entry.left.now) }
+    {
+        let _limit = shape.depth();
+        let Ok(item) = self.item(shape.order()) else {
+            return None;
+        };
+        if place - self.place >= item.span {
+            return Some(PlacedHead {
+                place: self.place + item.span,
+                left: &self.left[item.span as usize..],
+                ..self
+            });
+        }
+        match self.container_rule(item, shape) {
+            Some(_) => None,
+            None => self.inner(item, shape),
+        }
+    }
+
+    /// What is told of it.
+    fn facts(self, order: Order) -> BrokenHead
+        requires { length self.left.now ≤ 1048576 }
+        ensures { result ≡ facts_of order (head_of self.entry) }
+    {
+        let len = if self.left.len() < self.sort.least() {
+            None
+        } else {
+            Some(order.read_u16(self.left) as u32)
+        };
+        BrokenHead {
+            kind: self.sort.kind(),
+            level: self.level,
+            len,
+            left: self.left.len() as u32,
+        }
+    }
+}
+
+/// The head that stands at a place, from the head of a region on.
+fn head_at(start: PlacedHead<'_>, place: u32, shape: Shape) -> Option<PlacedHead<'_>>
+    requires { IsNear shape (head_of start) }
+    ensures stands { Stands shape place (head_of start.entry) result }
+    ensures near { IfSome result (λ h. IsNear shape (head_of h)) }
+    ensures some { IfSome result (λ h. h.left.now ≢ []) }
+{
+    let mut head = start;
+    'heads: loop {
+        if head.left.is_empty() || place < head.place {
+            return None;
+        }
+        if head.place == place {
+            return Some(head);
+        }
+        head = head.towards(place, shape)?;
+    }
+}
+
+/// The head of a region that stands at the place of a fault and breaks its rule; none where no
+/// head does. It takes no memory.
+///
+/// `base` is the place of the first byte, `level` that of the region, as for `read_list`. The way
+/// goes from head to head, also behind a fault, and into an item only where the place lies in it:
+/// it explains a refusal, and counts no visits.
+pub fn broken_head(
+    bytes: &[u8],
+    base: u32,
+    ctx: Ctx,
+    level: u8,
+    depth: Depth,
+    order: Order,
+    fault: Fault,
+) -> Option<BrokenHead>
+    requires level { level ≤ depth }
+    requires size { length bytes.now ≤ 1048576 }
+    requires place { base + length bytes.now ≤ 2097152 }
+    // It is what is told of that head, and nothing else is.
+    ensures told { (b : BrokenHead) → (result ≡ Some b)
+        ↔ IsBrokenHead (shape_of order depth) (start_of ctx level base bytes.now) fault b }
+    // There is one for each fault of the region, so also for its first.
+    ensures found { IsSome result ↔ FaultAt (shape_of order depth)
+        (start_of ctx level base bytes.now) fault.place fault.reason }
+{
+    let shape = Shape::of(depth, order);
+    let start = PlacedHead {
+        place: base,
+        sort: HeadSort::Attr,
+        ctx,
+        level,
+        left: bytes,
+    };
+    let head = head_at(start, fault.place, shape)?;
+    match head.broken(shape) {
+        Some(reason) if reason == fault.reason => Some(head.facts(order)),
+        _ => None,
+    }
+}
