@@ -16,6 +16,7 @@ pub mod Scan
 pub mod Steps
 pub mod Sums
 pub mod Told
+pub mod Towards
 pub mod Within
 pub mod Writable
 pub mod WrittenLayouts

@@ -74,12 +74,12 @@ pub message_then : (S : Shape) (s r t : Rest) → MessageAt S s r → MessageAt 
 message_then S s r t p (first e) = p
 message_then S s r t p (next g q f lt) = next g (message_then S s r g p q) f lt
 
--- what follows a message that is not broken is reached
-pub behind_reached : (S : Shape) (s r : Rest) → s.left ≢ [] → broken_message S.order s.left ≡ None → MessageAt S (behind S s) r → MessageAt S s (behind S s)
+-- what follows a message whose length is within bounds is reached
+pub behind_reached : (S : Shape) (s r : Rest) → s.left ≢ [] → broken_frame S.order s.left ≡ None → MessageAt S (behind S s) r → MessageAt S s (behind S s)
 behind_reached S s r some e q =
     let lies = message_lies S (behind S s) r q in
     let longer : span_at S.order s.left < length s.left = omega (arith, lies.low, lies.high, lies.some, length-drop (span_at S.order s.left) s.left) in
-    next s (first some) (or_else_none _ _ e).0 (whole (aligned (len_of S.order 4 s.left)) (length s.left) longer) where
+    next s (first some) e (whole (aligned (len_of S.order 4 s.left)) (length s.left) longer) where
       whole : (a n : ℕ) → min a n < n → a < n
       whole a n lt = omega arith
 
@@ -145,8 +145,8 @@ fault_begins S s p r e (inr f) =
     ]
 
 fault_behind : (S : Shape) (s : Rest) (p : ℕ) (r : Reason) → s.left ≢ [] → broken_message S.order s.left ≡ None → FaultAt S (behind S s) p r → FaultAt S s p r
-fault_behind S s p r some e (inl f) = inl (f.0, message_then S s (behind S s) f.0 (behind_reached S s f.0 some e f.1) f.1, f.2, f.3)
-fault_behind S s p r some e (inr f) = let i = f.1 in inr (f.0, (i.0, i.1, message_then S s (behind S s) i.0 (behind_reached S s i.0 some e i.2) i.2, i.3, i.4, i.5), f.2, f.3)
+fault_behind S s p r some e (inl f) = inl (f.0, message_then S s (behind S s) f.0 (behind_reached S s f.0 some (or_else_none _ _ e).0 f.1) f.1, f.2, f.3)
+fault_behind S s p r some e (inr f) = let i = f.1 in inr (f.0, (i.0, i.1, message_then S s (behind S s) i.0 (behind_reached S s i.0 some (or_else_none _ _ e).0 i.2) i.2, i.3, i.4, i.5), f.2, f.3)
 
 fault_inside : (S : Shape) (s : Rest) (h : Head) (p : ℕ) (r : Reason) → s.left ≢ [] → broken_message S.order s.left ≡ None → region_of S s ≡ Some h → attr.FaultAt S h p r → FaultAt S s p r
 fault_inside S s h p r some e is f = inr (f.0, (s, h, first some, e, is, f.1), f.2, f.3)
@@ -216,7 +216,7 @@ visit_begins S s v f =
     ]
 
 visit_behind : (S : Shape) (s : Rest) (v : ℕ × ℕ) → s.left ≢ [] → broken_message S.order s.left ≡ None → FrameVisited S (behind S s) v → FrameVisited S s v
-visit_behind S s v some e f = let i = f.1 in (f.0, (i.0, i.1, message_then S s (behind S s) i.0 (behind_reached S s i.0 some e i.2) i.2, i.3, i.4, i.5), f.2, f.3, f.4)
+visit_behind S s v some e f = let i = f.1 in (f.0, (i.0, i.1, message_then S s (behind S s) i.0 (behind_reached S s i.0 some (or_else_none _ _ e).0 i.2) i.2, i.3, i.4, i.5), f.2, f.3, f.4)
 
 visit_inside : (S : Shape) (s : Rest) (h : Head) (v : ℕ × ℕ) → s.left ≢ [] → broken_message S.order s.left ≡ None → region_of S s ≡ Some h → Visited S h v → FrameVisited S s v
 visit_inside S s h v some e is f = (f.0, (s, h, first some, e, is, f.1), f.2, f.3, f.4)

@@ -14,6 +14,8 @@ pub mod Proper
 pub mod OneList
 pub mod Measured
 pub mod Compared
+pub mod Broken
+pub mod Towards
 pub use Rattle.nl_attr.specs.Numbers
 pub use Rattle.nl_attr.specs.Shape
 pub use Rattle.nl_attr.specs.Walk
@@ -27,3 +29,4 @@ pub use Rattle.nl_route.specs.Families
 pub use Rattle.nl_route.specs.Body
 pub use Rattle.nl_attr.specs.Written as RegionWritten
 pub use Rattle.nl_attr.specs.Proper as RegionProper
+pub use Rattle.nl_attr.specs.Broken as RegionBroken

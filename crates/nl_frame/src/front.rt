@@ -1,6 +1,7 @@
 //! The message at the front of bytes.
 
-ghost use Rattle.std.specs.Prelude.{◌≡◌, ◌≤◌, length};
+ghost use Rattle.std.specs.Prelude.{◌≡◌, ◌≤◌, length, min};
+ghost use Rattle.nl_attr.specs.Numbers.{aligned};
 ghost use Rattle.nl_attr.specs.Walk.{HeadIs};
 ghost use Rattle.nl_frame.specs.Front.{GivesFrame};
 
@@ -19,7 +20,7 @@ pub(crate) struct Frame<'a> {
 }
 
 /// The length that the header at the front says, where it is within bounds.
-fn frame_len(left: &[u8], order: Order) -> Result<usize, Reason>
+pub(crate) fn frame_len(left: &[u8], order: Order) -> Result<usize, Reason>
     ensures { HeadIs order 16 4 left.now result }
 {
     if left.len() < 16 {
@@ -30,6 +31,15 @@ fn frame_len(left: &[u8], order: Order) -> Result<usize, Reason>
         return Err(Reason::BadLength);
     }
     Ok(len)
+}
+
+/// How many bytes a message of this length occupies: with its padding, as far as present.
+pub(crate) fn frame_span(left: &[u8], len: usize) -> u32
+    requires len { len ≤ length left.now }
+    requires size { length left.now ≤ 1048576 }
+    ensures { result ≡ min (aligned len) (length left.now) }
+{
+    align4(len as u32).min(left.len() as u32)
 }
 
 /// The message at the front, or the first rule that its head breaks.
@@ -44,7 +54,7 @@ pub(crate) fn front(left: &[u8], order: Order) -> Result<Frame<'_>, Reason>
     if payload.len() < form.least() {
         return Err(Reason::ShortBody);
     }
-    let span = align4(len as u32).min(left.len() as u32);
+    let span = frame_span(left, len);
     Ok(Frame {
         header,
         form,

@@ -3,6 +3,7 @@
 
 mod appending;
 mod body;
+mod broken;
 mod canonical;
 mod comparing;
 mod form;
@@ -15,11 +16,12 @@ mod reading;
 mod writing;
 
 pub use body::{Body, Message};
+pub use broken::broken_head;
 pub use canonical::is_canonical;
 pub use form::Form;
 pub use header::Header;
 pub use limits::Limits;
-pub use nl_attr::{LimitFault, Order};
+pub use nl_attr::{BrokenHead, HeadKind, LimitFault, Order};
 pub use nl_route::Group;
 pub use reading::{ReadError, read_datagram};
 pub use writing::{WriteError, write_datagram};
