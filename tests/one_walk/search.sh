@@ -2,6 +2,10 @@
 # search.sh FOLDER: looks through the sources of all crates in a folder, but for the tests and the examples of
 # callers, for a second walk over attribute bytes or one that isn't counted. It prints what it finds, and its
 # status is then 1.
+#
+# One walk isn't counted and is let be, by the names of its functions in src/broken.rt of nl_attr and of
+# nl_frame: the way to the head of a fault. It is no reading, and explains a refusal behind one: it goes from head
+# to head towards one place, into an item only where the place lies in it, and comes to no head twice.
 set -u
 cd "$1" || exit 1
 found=0
@@ -25,6 +29,13 @@ lines() {
 # counts PATTERN [FILE..]: each file that has such lines, and how many.
 counts() { lines "$@" | cut -d: -f1 | LC_ALL=C sort | uniq -c | sed -E 's/^ +([0-9]+) (.*)$/\2 \1/'; }
 
+# within PATTERN FILE: the function of each line of code with it.
+within() {
+  code "$2" | awk -v pattern="$1" '
+    match($0, /fn [a-z_]+/) { name = substr($0, RSTART + 3, RLENGTH - 3) }
+    $0 ~ pattern { print name }'
+}
+
 # same WHAT FOUND WANTED
 same() {
   [ "$2" = "$3" ] && return
@@ -34,9 +45,12 @@ same() {
 
 stack=crates/nl_attr/src/stack.rt
 reading=crates/nl_attr/src/reading.rt
+broken=crates/nl_attr/src/broken.rt
+broken_frame=crates/nl_frame/src/broken.rt
 
-same 'walkers are made in their own modules' "$(counts '\b(Attrs|HopParts)::of')" \
-  'crates/nl_attr/src/walk/attrs.rt 1
+same 'walkers are made in their own modules, and on the way to a fault' "$(counts '\b(Attrs|HopParts)::of')" \
+  'crates/nl_attr/src/broken.rt 2
+crates/nl_attr/src/walk/attrs.rt 1
 crates/nl_attr/src/walk/counted.rt 2
 crates/nl_attr/src/walk/hops.rt 1'
 
@@ -49,8 +63,26 @@ same 'a counted walk is stepped with the count of its reading' "$(lines '\.step\
   'let part = match walk.step(visits) {
 let part = match walk.step(visits) {'
 
-same 'only a counted walk steps a walker' "$(counts '\.next\(\)' $(sources | grep '^crates/nl_attr/'))" \
-  'crates/nl_attr/src/walk/counted.rt 2'
+same 'only a counted walk steps a walker, and the way to a fault' \
+  "$(counts '\.next\(\)' $(sources | grep '^crates/nl_attr/'))" \
+  'crates/nl_attr/src/broken.rt 2
+crates/nl_attr/src/walk/counted.rt 2'
+
+same 'on the way to a fault one item is taken of a walker, and one length is told' \
+  "$(within '(Attrs|HopParts)::|[.]next[(]|read_u16[(]' "$broken")" \
+  'attr_item
+hop_item
+facts'
+
+same 'the way to a fault is one loop over heads and one over messages' \
+  "$(lines '\b(loop|while|for)\b.*\{$' "$broken" "$broken_frame" | sed 's/^[^:]*: *//')" \
+  "'heads: loop {
+while !left.is_empty() {"
+
+same 'the way to a fault is taken where the head of a datagram is asked for, and in no reading' \
+  "$(counts '\b(broken_head|broken_in|head_at)\(')" \
+  'crates/nl_attr/src/broken.rt 3
+crates/nl_frame/src/broken.rt 4'
 
 same 'the count of a reading is handed on, never made' \
   "$(lines '\b(let|if|for|while)\b.*\bvisits\b' "$stack" "$reading" | grep -v ' match walk\.step(visits) {$')" \
@@ -64,8 +96,10 @@ same 'those who read regions look at none of their bytes' \
   "$(lines '\b(bytes|payload|rest|left|region)(\[|\.(iter|get|first|last|split|chunks|windows|copied|to_))' \
     "$stack" "$reading")" ''
 
-same 'lengths and types of attributes and next hops are read by the walkers alone' "$(counts 'read_u16\(')" \
-  'crates/nl_attr/src/order.rt 3
+same 'lengths and types of attributes and next hops are read by the walkers alone, but for a length that is told' \
+  "$(counts 'read_u16\(')" \
+  'crates/nl_attr/src/broken.rt 1
+crates/nl_attr/src/order.rt 3
 crates/nl_attr/src/views.rt 1
 crates/nl_attr/src/walk/attrs.rt 1
 crates/nl_attr/src/walk/mod.rt 1
