@@ -4,6 +4,8 @@
 #[cfg(test)]
 mod bodies;
 #[cfg(test)]
+mod broken_heads;
+#[cfg(test)]
 mod datagrams;
 #[cfg(test)]
 mod dumps;
