@@ -22,7 +22,7 @@ use Rattle.nl_frame.specs.declared.form.Form.{Form}
 use Rattle.nl_frame.specs.declared.form.Form.TheVariants as form
 use Rattle.nl_frame.specs.declared.front.Frame.{Frame}
 use Rattle.nl_frame.specs.Front.{span_at, broken_frame, broken_message, IsFrame}
-use Rattle.nl_frame.specs.Heads.{Rest, behind, MessageAt, first, region_in, region_of, FaultAt, whole}
+use Rattle.nl_frame.specs.Heads.{Rest, behind, first, region_in, region_of, FaultAt, whole}
 use Rattle.nl_frame.specs.Broken.{IsBrokenHead, message_facts}
 use Rattle.nl_frame.specs.Towards.{IsBrokenWithin}
 use Rattle.nl_frame.proofs.Loop.{not_empty}

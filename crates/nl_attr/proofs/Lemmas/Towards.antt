@@ -11,7 +11,7 @@ use Rattle.nl_attr.specs.Walk.{broken_length}
 use Rattle.nl_attr.specs.Heads.{Head, HeadAt, first, least, broken, span_at, IsSound, follower, inner_of}
 use Rattle.nl_attr.specs.Broken.{IsBrokenHead, facts_of}
 use Rattle.nl_attr.specs.Towards.{head_of, placed, Leads, Stands}
-use Rattle.nl_attr.proofs.Lemmas.Scan.{same, after, inside, head_begins, head_then, head_lies, inner_lies, follower_reached, inside_reached, sound_of, some_left, span_within}
+use Rattle.nl_attr.proofs.Lemmas.Scan.{same, after, inside, head_begins, head_then, head_lies, inner_lies, follower_reached, inside_reached, sound_of, some_left}
 use Rattle.nl_attr.proofs.Lemmas.Apart.{one_head}
 
 -- one outcome is not two

@@ -1,5 +1,4 @@
 use Rattle.std.proofs.Common.{◌≡◌, Some, refl, sym, ap, ◌∙◌, rules}
-use Rattle.nl_attr.specs.declared.fault.Reason.{Reason}
 use Rattle.nl_attr.specs.Shape.{Shape, shape_of}
 use Rattle.nl_attr.specs.Heads.{start_of, broken}
 use Rattle.nl_attr.specs.Towards.{head_of}

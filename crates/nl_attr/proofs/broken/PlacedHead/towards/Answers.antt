@@ -1,4 +1,4 @@
-use Rattle.std.proofs.Common.{sym, ◌∙◌, arith, rules}
+use Rattle.std.proofs.Common.{sym, ◌∙◌, arith}
 use Rattle.nl_attr.specs.Towards.{head_of}
 use Rattle.nl_attr.proofs.Lemmas.Towards.{cut_leads, follower_is, follower_leads, broken_leads, inner_leads}
 use Rattle.nl_attr.proofs.broken.PlacedHead.towards.Goals as goal
