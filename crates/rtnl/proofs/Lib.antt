@@ -2,6 +2,7 @@ mod Answers
 mod Digits
 mod Entries
 mod Feeding
+mod Json
 mod Listing
 mod Plain
 mod Recordings

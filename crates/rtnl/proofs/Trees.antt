@@ -3,12 +3,22 @@ use Rattle.std.proofs.Common.{◌≡◌, ◌++◌, Bool, List, [], ◌∷◌, le
 use Rattle.std.specs.Fmt.{decimal}
 use Rattle.nl_attr.specs.declared.order.Order.{Order}
 use Rattle.nl_attr.specs.declared.tree.Attr.{Attr}
-use Rattle.nl_attr.specs.declared.tree.Hop.{Hop}
+use Rattle.nl_attr.specs.declared.tree.Hop.{Hop, out-Hop}
+use Rattle.nl_attr.specs.declared.tree.Value.TheFolds.{fold_out-Attr}
 use Rattle.nl_attr.specs.declared.tree.Value.TheVariants as value
-use Rattle.nl_attr.specs.View.{HopFront, value_view, attrs_view, hops_view}
+use Rattle.nl_attr.specs.Tree.{Val, Items, item, HopItems, hop}
+use Rattle.nl_attr.specs.View.{Front, HopFront, value_step, attr_step, hop_step, value_view, attr_view, attrs_view, hop_view, hops_view}
 use Rattle.nl_attr.proofs.Lemmas.Opened.{attr_is, hop_is, value_list, value_hops}
 use Rattle.rtnl.specs.declared.text.attributes.Form.{Form}
 use Rattle.rtnl.specs.Trees.{hop_count, inline_text, item_count}
+
+-- an attribute before others
+pub attr_item : (attr : Attr) (more : Items) → attr_view attr more ≡ item attr.number attr.flags (value_view attr.value) more
+attr_item attr more = ap (λ (f : Front). f more) (fold_out-Attr Val Front HopFront value_step attr_step hop_step attr)
+
+-- a next hop before others
+pub hop_item : (one : Hop) (more : HopItems) → hop_view one more ≡ hop (out-Hop one).flags (out-Hop one).hops (out-Hop one).ifindex (attrs_view (out-Hop one).attrs.items) more
+hop_item one more = ap (λ (f : HopFront). f more) (hop_is one)
 
 item_count_lem : (attrs : List Attr) → item_count (attrs_view attrs) ≡ length attrs
 item_count_lem [] = refl

@@ -1,7 +1,8 @@
--- The printed text of an address: its attributes, and the line of its head.
+-- The text and the fields of an address: its attributes, and the line of its head.
 use Rattle.std.specs.Prelude.{ℕ, List, [], ◌∷◌, codes}
 use Rattle.std.specs.Fmt.{decimal}
 use Rattle.nl_route.specs.declared.ifaddrmsg.AddrHead.{AddrHead}
+use Rattle.rtnl.specs.Json.{Field, number}
 use Rattle.rtnl.specs.Rows.{Row}
 use Rattle.rtnl.specs.Text.{◌⨟◌, padded_hex}
 use Rattle.rtnl.specs.declared.text.attributes.Form.{Form}
@@ -25,3 +26,12 @@ unfoldable pub addr_line : AddrHead → List ℕ
 addr_line h =
     codes "  addr family " ⨟ decimal h.family ⨟ codes " prefix " ⨟ decimal h.prefixlen ⨟ codes " flags 0x" ⨟ padded_hex 2 h.flags
     ⨟ codes " scope " ⨟ decimal h.scope ⨟ codes " index " ⨟ decimal h.index ⨟ codes "\n"
+
+-- the fields of an address's head
+unfoldable pub addr_fields : AddrHead → List Field
+addr_fields h =
+    (codes "family", number h.family)
+    ∷ (codes "prefix", number h.prefixlen)
+    ∷ (codes "flags", number h.flags)
+    ∷ (codes "scope", number h.scope)
+    ∷ (codes "index", number h.index) ∷ []

@@ -7,10 +7,13 @@ pub mod Attributes
 pub mod Checked
 pub mod Codes
 pub mod Datagrams
+pub mod Json
 pub mod Lines
 pub mod Messages
 pub mod NamedBits
 pub mod Names
+pub mod Objects
+pub mod Readings
 pub mod Requested
 pub mod Rows
 pub mod Runs

@@ -1,9 +1,10 @@
--- The printed text of a link: its attributes, and the line of its head.
+-- The text and the fields of a link: its attributes, and the line of its head.
 use Rattle.std.specs.Prelude.{ℕ, List, [], ◌∷◌, codes}
 use Rattle.std.specs.Fmt.{decimal, signed_decimal}
 use Rattle.nl_route.specs.declared.ifinfomsg.LinkHead.{LinkHead}
+use Rattle.rtnl.specs.Json.{Field, number, signed, strings}
 use Rattle.rtnl.specs.NamedBits.{link_flags}
-use Rattle.rtnl.specs.Names.{names_text}
+use Rattle.rtnl.specs.Names.{names_set, names_text}
 use Rattle.rtnl.specs.Rows.{Row}
 use Rattle.rtnl.specs.Text.{◌⨟◌, padded_hex}
 use Rattle.rtnl.specs.declared.text.attributes.Form.{Form}
@@ -47,3 +48,13 @@ link_line h =
     codes "  link family " ⨟ decimal h.family ⨟ codes " type " ⨟ decimal h.hardware ⨟ codes " index " ⨟ signed_decimal h.index
     ⨟ codes " flags 0x" ⨟ padded_hex 8 h.flags ⨟ codes " " ⨟ names_text link_flags h.flags
     ⨟ codes " change 0x" ⨟ padded_hex 8 h.change ⨟ codes "\n"
+
+-- the fields of a link's head
+unfoldable pub link_fields : LinkHead → List Field
+link_fields h =
+    (codes "family", number h.family)
+    ∷ (codes "type", number h.hardware)
+    ∷ (codes "index", signed h.index)
+    ∷ (codes "flags", number h.flags)
+    ∷ (codes "flag_names", strings (names_set link_flags h.flags))
+    ∷ (codes "change", number h.change) ∷ []

@@ -1,9 +1,10 @@
--- The printed text of a neighbour: its attributes, and the line of its head.
+-- The text and the fields of a neighbour: its attributes, and the line of its head.
 use Rattle.std.specs.Prelude.{ℕ, List, [], ◌∷◌, codes}
 use Rattle.std.specs.Fmt.{decimal, signed_decimal}
 use Rattle.nl_route.specs.declared.ndmsg.NeighHead.{NeighHead}
+use Rattle.rtnl.specs.Json.{Field, number, signed, strings}
 use Rattle.rtnl.specs.NamedBits.{neigh_flags, neigh_states}
-use Rattle.rtnl.specs.Names.{names_text}
+use Rattle.rtnl.specs.Names.{names_set, names_text}
 use Rattle.rtnl.specs.Rows.{Row}
 use Rattle.rtnl.specs.Text.{◌⨟◌, padded_hex}
 use Rattle.rtnl.specs.declared.text.attributes.Form.{Form}
@@ -29,3 +30,14 @@ neigh_line h =
     ⨟ codes " state 0x" ⨟ padded_hex 4 h.state ⨟ codes " " ⨟ names_text neigh_states h.state
     ⨟ codes " flags 0x" ⨟ padded_hex 2 h.flags ⨟ codes " " ⨟ names_text neigh_flags h.flags
     ⨟ codes " type " ⨟ decimal h.sort ⨟ codes "\n"
+
+-- the fields of a neighbour's head
+unfoldable pub neigh_fields : NeighHead → List Field
+neigh_fields h =
+    (codes "family", number h.family)
+    ∷ (codes "index", signed h.ifindex)
+    ∷ (codes "state", number h.state)
+    ∷ (codes "state_names", strings (names_set neigh_states h.state))
+    ∷ (codes "flags", number h.flags)
+    ∷ (codes "flag_names", strings (names_set neigh_flags h.flags))
+    ∷ (codes "type", number h.sort) ∷ []

@@ -1,7 +1,8 @@
--- The printed text of a route: its attributes, and the line of its head.
+-- The text and the fields of a route: its attributes, and the line of its head.
 use Rattle.std.specs.Prelude.{ℕ, List, [], ◌∷◌, codes}
 use Rattle.std.specs.Fmt.{decimal}
 use Rattle.nl_route.specs.declared.rtmsg.RouteHead.{RouteHead}
+use Rattle.rtnl.specs.Json.{Field, number}
 use Rattle.rtnl.specs.Rows.{Row}
 use Rattle.rtnl.specs.Text.{◌⨟◌, padded_hex}
 use Rattle.rtnl.specs.declared.text.attributes.Form.{Form}
@@ -58,3 +59,16 @@ route_line h =
     codes "  route family " ⨟ decimal h.family ⨟ codes " dst_len " ⨟ decimal h.dst_len ⨟ codes " src_len " ⨟ decimal h.src_len
     ⨟ codes " tos " ⨟ decimal h.tos ⨟ codes " table " ⨟ decimal h.table ⨟ codes " protocol " ⨟ decimal h.protocol
     ⨟ codes " scope " ⨟ decimal h.scope ⨟ codes " type " ⨟ decimal h.sort ⨟ codes " flags 0x" ⨟ padded_hex 8 h.flags ⨟ codes "\n"
+
+-- the fields of a route's head
+unfoldable pub route_fields : RouteHead → List Field
+route_fields h =
+    (codes "family", number h.family)
+    ∷ (codes "dst_len", number h.dst_len)
+    ∷ (codes "src_len", number h.src_len)
+    ∷ (codes "tos", number h.tos)
+    ∷ (codes "table", number h.table)
+    ∷ (codes "protocol", number h.protocol)
+    ∷ (codes "scope", number h.scope)
+    ∷ (codes "type", number h.sort)
+    ∷ (codes "flags", number h.flags) ∷ []

@@ -1,7 +1,8 @@
--- The printed text of a routing rule: its attributes, and the line of its head.
+-- The text and the fields of a routing rule: its attributes, and the line of its head.
 use Rattle.std.specs.Prelude.{ℕ, List, [], ◌∷◌, codes}
 use Rattle.std.specs.Fmt.{decimal}
 use Rattle.nl_route.specs.declared.fib_rule_hdr.RuleHead.{RuleHead}
+use Rattle.rtnl.specs.Json.{Field, number}
 use Rattle.rtnl.specs.Rows.{Row}
 use Rattle.rtnl.specs.Text.{◌⨟◌, padded_hex}
 use Rattle.rtnl.specs.declared.text.attributes.Form.{Form}
@@ -26,3 +27,14 @@ rule_line h =
     codes "  rule family " ⨟ decimal h.family ⨟ codes " dst_len " ⨟ decimal h.dst_len ⨟ codes " src_len " ⨟ decimal h.src_len
     ⨟ codes " tos " ⨟ decimal h.tos ⨟ codes " table " ⨟ decimal h.table ⨟ codes " action " ⨟ decimal h.action
     ⨟ codes " flags 0x" ⨟ padded_hex 8 h.flags ⨟ codes "\n"
+
+-- the fields of a rule's head
+unfoldable pub rule_fields : RuleHead → List Field
+rule_fields h =
+    (codes "family", number h.family)
+    ∷ (codes "dst_len", number h.dst_len)
+    ∷ (codes "src_len", number h.src_len)
+    ∷ (codes "tos", number h.tos)
+    ∷ (codes "table", number h.table)
+    ∷ (codes "action", number h.action)
+    ∷ (codes "flags", number h.flags) ∷ []

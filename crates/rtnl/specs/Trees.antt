@@ -13,7 +13,7 @@ use Rattle.rtnl.specs.Attributes.{attribute_form, attribute_name}
 use Rattle.rtnl.specs.NamedBits.{hop_flags}
 use Rattle.rtnl.specs.Names.{names_text}
 use Rattle.rtnl.specs.Text.{◌⨟◌, padded_hex}
-use Rattle.rtnl.specs.Values.{value_text}
+use Rattle.rtnl.specs.Values.{reading_of, value_text}
 
 -- nested, and the network's order
 abbrev pub flag_words : Bool → Bool → List ℕ
@@ -48,7 +48,7 @@ hop_count (hop flags count index attrs more) = hop_count more + 1
 
 -- what an attribute's own line says of its value
 unfoldable pub inline_text : Order → Form → Bool → Val → List ℕ
-inline_text o form net (bytes payload) = value_text o form net payload
+inline_text o form net (bytes payload) = value_text (reading_of o form net payload)
 inline_text o form net (list items) = codes "list " ⨟ decimal (item_count items)
 inline_text o form net (hops items) = codes "hops " ⨟ decimal (hop_count items)
 

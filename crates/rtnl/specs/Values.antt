@@ -1,4 +1,4 @@
--- The printed forms of a payload.
+-- What a payload is read as, and how that is printed.
 use Rattle.std.specs.Prelude.{ℕ, ◌+◌, ◌*◌, ◌-◌, ◌==◌, ◌&&◌, not, nat_le, Bool, false, if◌then◌else◌, List, length, take, codes, slice_index}
 use Rattle.std.specs.List.{list_all}
 use Rattle.std.specs.Fmt.{decimal}
@@ -9,21 +9,27 @@ use Rattle.rtnl.specs.declared.text.attributes.Form.{Form}
 use Rattle.rtnl.specs.declared.text.attributes.Form.TheVariants.{U8, U16, U32, NetworkU16, Text, Address, Hex}
 use Rattle.rtnl.specs.Text.{◌⨟◌, hex_text, padded_hex}
 
--- bytes of no other form
-unfoldable pub hex_value : List ℕ → List ℕ
-hex_value bytes = codes "hex " ⨟ hex_text bytes
+-- a number of one, two or four bytes, a text, an address, or bytes of no other form
+pub data Reading : Type 0 where
+  u8 : ℕ → Reading
+  u16 : ℕ → Reading
+  u32 : ℕ → Reading
+  text : List ℕ → Reading
+  ipv4 : List ℕ → Reading
+  ipv6 : List ℕ → Reading
+  hex : List ℕ → Reading
 
 -- a number of one byte, unless the network's order is said
-unfoldable pub u8_value : Bool → List ℕ → List ℕ
-u8_value net bytes = if length bytes == 1 && not net then codes "u8 " ⨟ decimal (slice_index bytes 0) else hex_value bytes
+abbrev pub u8_reading : Bool → List ℕ → Reading
+u8_reading net bytes = if length bytes == 1 && not net then u8 (slice_index bytes 0) else hex bytes
 
 -- a number of two bytes, unless the network's order is said
-unfoldable pub u16_value : Order → Bool → List ℕ → List ℕ
-u16_value o net bytes = if length bytes == 2 && not net then codes "u16 " ⨟ decimal (number_of o 2 bytes) else hex_value bytes
+abbrev pub u16_reading : Order → Bool → List ℕ → Reading
+u16_reading o net bytes = if length bytes == 2 && not net then u16 (number_of o 2 bytes) else hex bytes
 
 -- a number of four bytes, unless the network's order is said
-unfoldable pub u32_value : Order → Bool → List ℕ → List ℕ
-u32_value o net bytes = if length bytes == 4 && not net then codes "u32 " ⨟ decimal (number_of o 4 bytes) else hex_value bytes
+abbrev pub u32_reading : Order → Bool → List ℕ → Reading
+u32_reading o net bytes = if length bytes == 4 && not net then u32 (number_of o 4 bytes) else hex bytes
 
 -- the bytes without one zero byte at their end, if it is there
 abbrev pub stem_of : List ℕ → List ℕ
@@ -38,13 +44,30 @@ abbrev pub is_plain : List ℕ → Bool
 is_plain bytes = not (length bytes == 0) && list_all is_plain_byte bytes
 
 -- a text that may end in a zero byte
-unfoldable pub text_value : List ℕ → List ℕ
-text_value bytes = if is_plain (stem_of bytes) then codes "text " ⨟ stem_of bytes else hex_value bytes
+abbrev pub text_reading : List ℕ → Reading
+text_reading bytes = if is_plain (stem_of bytes) then text (stem_of bytes) else hex bytes
+
+-- an address, by its length
+abbrev pub ip_reading : List ℕ → Reading
+ip_reading bytes =
+    if length bytes == 4 then ipv4 bytes
+    else if length bytes == 16 then ipv6 bytes
+    else hex bytes
+
+-- a payload of a form, in the order of the datagram, where net says that the attribute has the flag of the network's order
+unfoldable pub reading_of : Order → Form → Bool → List ℕ → Reading
+reading_of o U8 net bytes = u8_reading net bytes
+reading_of o U16 net bytes = u16_reading o net bytes
+reading_of o U32 net bytes = u32_reading o net bytes
+reading_of o NetworkU16 net bytes = u16_reading Big false bytes
+reading_of o Text net bytes = text_reading bytes
+reading_of o Address net bytes = ip_reading bytes
+reading_of o Hex net bytes = hex bytes
 
 -- four numbers
-unfoldable pub ipv4_value : List ℕ → List ℕ
-ipv4_value bytes =
-    codes "ipv4 " ⨟ decimal (slice_index bytes 0) ⨟ codes "." ⨟ decimal (slice_index bytes 1)
+unfoldable pub ipv4_text : List ℕ → List ℕ
+ipv4_text bytes =
+    decimal (slice_index bytes 0) ⨟ codes "." ⨟ decimal (slice_index bytes 1)
     ⨟ codes "." ⨟ decimal (slice_index bytes 2) ⨟ codes "." ⨟ decimal (slice_index bytes 3)
 
 -- the two bytes from place i on, the high one first
@@ -52,26 +75,33 @@ unfoldable pub group_at : ℕ → List ℕ → ℕ
 group_at i bytes = 256 * slice_index bytes i + slice_index bytes (i + 1)
 
 -- eight groups of four digits
-unfoldable pub ipv6_value : List ℕ → List ℕ
-ipv6_value bytes =
-    codes "ipv6 " ⨟ padded_hex 4 (group_at 0 bytes) ⨟ codes ":" ⨟ padded_hex 4 (group_at 2 bytes)
+unfoldable pub ipv6_text : List ℕ → List ℕ
+ipv6_text bytes =
+    padded_hex 4 (group_at 0 bytes) ⨟ codes ":" ⨟ padded_hex 4 (group_at 2 bytes)
     ⨟ codes ":" ⨟ padded_hex 4 (group_at 4 bytes) ⨟ codes ":" ⨟ padded_hex 4 (group_at 6 bytes)
     ⨟ codes ":" ⨟ padded_hex 4 (group_at 8 bytes) ⨟ codes ":" ⨟ padded_hex 4 (group_at 10 bytes)
     ⨟ codes ":" ⨟ padded_hex 4 (group_at 12 bytes) ⨟ codes ":" ⨟ padded_hex 4 (group_at 14 bytes)
 
--- an address, by its length
-unfoldable pub ip_value : List ℕ → List ℕ
-ip_value bytes =
-    if length bytes == 4 then ipv4_value bytes
-    else if length bytes == 16 then ipv6_value bytes
-    else hex_value bytes
+-- the word for what is read
+unfoldable pub reading_word : Reading → List ℕ
+reading_word (u8 n) = codes "u8"
+reading_word (u16 n) = codes "u16"
+reading_word (u32 n) = codes "u32"
+reading_word (text t) = codes "text"
+reading_word (ipv4 bytes) = codes "ipv4"
+reading_word (ipv6 bytes) = codes "ipv6"
+reading_word (hex bytes) = codes "hex"
 
--- a payload of a form, in the order of the datagram, where net says that the attribute has the flag of the network's order
-unfoldable pub value_text : Order → Form → Bool → List ℕ → List ℕ
-value_text o U8 net bytes = u8_value net bytes
-value_text o U16 net bytes = u16_value o net bytes
-value_text o U32 net bytes = u32_value o net bytes
-value_text o NetworkU16 net bytes = u16_value Big false bytes
-value_text o Text net bytes = text_value bytes
-value_text o Address net bytes = ip_value bytes
-value_text o Hex net bytes = hex_value bytes
+-- what is printed behind the word
+unfoldable pub reading_text : Reading → List ℕ
+reading_text (u8 n) = decimal n
+reading_text (u16 n) = decimal n
+reading_text (u32 n) = decimal n
+reading_text (text t) = t
+reading_text (ipv4 bytes) = ipv4_text bytes
+reading_text (ipv6 bytes) = ipv6_text bytes
+reading_text (hex bytes) = hex_text bytes
+
+-- the word and what stands behind it
+unfoldable pub value_text : Reading → List ℕ
+value_text r = reading_word r ⨟ codes " " ⨟ reading_text r

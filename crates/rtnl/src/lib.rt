@@ -9,6 +9,7 @@ mod each;
 mod error;
 pub mod laws;
 mod lines;
+mod objects;
 mod request;
 mod run;
 mod show;

@@ -1,11 +1,11 @@
 //! The names of attributes, and the forms in which their payloads are printed.
 
-ghost use Rattle.std.specs.Prelude.{◌≡◌, map};
+ghost use Rattle.std.specs.Prelude.{◌≡◌, map, option_map};
 ghost use Rattle.rtnl.specs.Attributes.{attribute_form, attribute_name, attribute_rows};
-ghost use Rattle.rtnl.specs.Rows.{row_view};
+ghost use Rattle.rtnl.specs.Rows.{find_row, row_view};
 
 use crate::text::families::{addr, link, neigh, route, rule};
-use crate::text::rows::{Row, find_row};
+use crate::text::rows::{self, Row};
 use nl_attr::Ctx;
 
 /// How a payload is printed.
@@ -30,7 +30,7 @@ pub(crate) enum Form {
 }
 
 /// The attributes of a context.
-fn rows(ctx: Ctx) -> &'static [Row<Form>]
+fn table(ctx: Ctx) -> &'static [Row<Form>]
     ensures { map row_view result.now ≡ attribute_rows ctx }
 {
     match ctx {
@@ -45,13 +45,20 @@ fn rows(ctx: Ctx) -> &'static [Row<Form>]
     }
 }
 
-/// The name of an attribute, and how its payload is printed.
+/// The row of an attribute, if it has one.
+pub(crate) fn find(ctx: Ctx, number: u16) -> Option<(&'static str, Form)>
+    ensures { option_map (λ row. (row.0.now, row.1)) result ≡ find_row number (attribute_rows ctx) }
+{
+    rows::find_row(table(ctx), number)
+}
+
+/// The name of an attribute, or a dash, and how its payload is printed.
 #[tactic(auto, unfolding(crate::specs::Attributes::attribute_name, crate::specs::Attributes::attribute_form))]
 pub(crate) fn attribute(ctx: Ctx, number: u16) -> (&'static str, Form)
     ensures name { result.0.now ≡ attribute_name ctx number }
     ensures form { result.1 ≡ attribute_form ctx number }
 {
-    match find_row(rows(ctx), number) {
+    match find(ctx, number) {
         Some(row) => row,
         None => ("-", Form::Hex),
     }

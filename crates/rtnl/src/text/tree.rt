@@ -10,7 +10,7 @@ use crate::text::attributes::{Form, attribute};
 use crate::text::digits::Hex2;
 use crate::text::flags::HopFlags;
 use crate::text::names::push_names;
-use crate::text::values::push_value;
+use crate::text::values::{push_value, read_payload};
 use nl_attr::{Attr, AttrFlags, Content, Ctx, Hop, Order, Value, holds};
 use std::alloc::{AllocError, Global};
 use std::fmt::Write;
@@ -35,7 +35,7 @@ fn deeper_indent(alloc: Global, indent: &str) -> Result<String, AllocError>
 }
 
 /// The context of the attributes inside one.
-fn inner(ctx: Ctx, number: u16, flags: AttrFlags) -> Ctx
+pub(crate) fn inner(ctx: Ctx, number: u16, flags: AttrFlags) -> Ctx
     ensures { result ≡ inner_context (holds_of ctx number flags) }
 {
     match holds(ctx, number, flags) {
@@ -55,7 +55,7 @@ fn push_inline(
     ensures { OnOk result (string_bytes out.new ≡ string_bytes out.old ++ inline_text order form net (value_view value.now)) }
 {
     match value {
-        Value::Bytes(payload) => push_value(out, order, form, net, payload.as_slice()),
+        Value::Bytes(payload) => push_value(out, read_payload(order, form, net, payload.as_slice())),
         Value::List(attrs) => {
             let count = attrs.len();
             write!(out, "list {count}")

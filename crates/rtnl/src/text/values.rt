@@ -1,9 +1,10 @@
-//! The printed forms of a payload.
+//! What a payload is read as, and how that is printed.
 
 ghost use Rattle.std.specs.Prelude.{◌≡◌, ◌+◌, ◌<◌, ◌++◌, length, OnOk};
 ghost use Rattle.std.specs.List.{list_all};
 ghost use Rattle.std.specs.String.{string_bytes};
-ghost use Rattle.rtnl.specs.Values.{group_at, hex_value, ip_value, ipv4_value, ipv6_value, is_plain, is_plain_byte, stem_of, text_value, u16_value, u32_value, u8_value, value_text};
+ghost use Rattle.rtnl.specs.Readings.{reading_view};
+ghost use Rattle.rtnl.specs.Values.{group_at, hex, ip_reading, ipv4_text, ipv6_text, is_plain, is_plain_byte, reading_of, reading_text, reading_word, stem_of, text_reading, u16_reading, u32_reading, u8_reading, value_text};
 
 use crate::text::attributes::Form;
 use crate::text::digits::{Hex4, HexBytes};
@@ -11,46 +12,43 @@ use nl_attr::Order;
 use std::alloc::AllocError;
 use std::fmt::Write;
 
-/// Writes a payload as bytes.
-#[tactic(auto, unfolding(crate::specs::Values::hex_value))]
-pub(crate) fn push_hex_value(out: &mut String, bytes: &[u8]) -> Result<(), AllocError>
-    ensures { OnOk result (string_bytes out.new ≡ string_bytes out.old ++ hex_value bytes.now) }
-{
-    let digits = HexBytes(bytes);
-    write!(out, "hex {digits}")
+/// What a payload is read as.
+#[derive(Clone, Copy)]
+pub(crate) enum Reading<'a> {
+    U8(u8),
+    U16(u16),
+    U32(u32),
+    Text(&'a str),
+    Ipv4([u8; 4]),
+    Ipv6([u8; 16]),
+    Hex(&'a [u8]),
 }
 
-#[tactic(auto, unfolding(crate::specs::Values::u8_value))]
-fn push_u8_value(out: &mut String, net: bool, bytes: &[u8]) -> Result<(), AllocError>
-    ensures { OnOk result (string_bytes out.new ≡ string_bytes out.old ++ u8_value net bytes.now) }
+fn u8_of(net: bool, bytes: &[u8]) -> Reading<'_>
+    ensures { reading_view result ≡ u8_reading net bytes.entry.now }
 {
     if bytes.len() != 1 || net {
-        return push_hex_value(out, bytes);
+        return Reading::Hex(bytes);
     }
-    let number = bytes[0];
-    write!(out, "u8 {number}")
+    Reading::U8(bytes[0])
 }
 
-#[tactic(auto, unfolding(crate::specs::Values::u16_value))]
-fn push_u16_value(out: &mut String, order: Order, net: bool, bytes: &[u8]) -> Result<(), AllocError>
-    ensures { OnOk result (string_bytes out.new ≡ string_bytes out.old ++ u16_value order net bytes.now) }
+fn u16_of(order: Order, net: bool, bytes: &[u8]) -> Reading<'_>
+    ensures { reading_view result ≡ u16_reading order net bytes.entry.now }
 {
     if bytes.len() != 2 || net {
-        return push_hex_value(out, bytes);
+        return Reading::Hex(bytes);
     }
-    let number = order.read_u16(bytes);
-    write!(out, "u16 {number}")
+    Reading::U16(order.read_u16(bytes))
 }
 
-#[tactic(auto, unfolding(crate::specs::Values::u32_value))]
-fn push_u32_value(out: &mut String, order: Order, net: bool, bytes: &[u8]) -> Result<(), AllocError>
-    ensures { OnOk result (string_bytes out.new ≡ string_bytes out.old ++ u32_value order net bytes.now) }
+fn u32_of(order: Order, net: bool, bytes: &[u8]) -> Reading<'_>
+    ensures { reading_view result ≡ u32_reading order net bytes.entry.now }
 {
     if bytes.len() != 4 || net {
-        return push_hex_value(out, bytes);
+        return Reading::Hex(bytes);
     }
-    let number = order.read_u32(bytes);
-    write!(out, "u32 {number}")
+    Reading::U32(order.read_u32(bytes))
 }
 
 /// The bytes without one zero byte at their end.
@@ -81,80 +79,121 @@ fn is_plain_text(bytes: &[u8]) -> bool
     !bytes.is_empty() && all_plain(bytes)
 }
 
-/// Writes a payload as a text, where it is one.
-#[tactic(auto, unfolding(crate::specs::Values::text_value), using(crate::proofs::Plain::plain_utf8))]
-pub(crate) fn push_text_value(out: &mut String, bytes: &[u8]) -> Result<(), AllocError>
-    ensures { OnOk result (string_bytes out.new ≡ string_bytes out.old ++ text_value bytes.now) }
+/// A payload as a text, where it is one.
+#[tactic(auto, using(crate::proofs::Plain::plain_utf8))]
+fn text_of(bytes: &[u8]) -> Reading<'_>
+    ensures { reading_view result ≡ text_reading bytes.entry.now }
 {
     let stem = stem(bytes);
     if !is_plain_text(stem) {
-        return push_hex_value(out, bytes);
+        return Reading::Hex(bytes);
     }
     match str::from_utf8(stem) {
-        Ok(text) => write!(out, "text {text}"),
+        Ok(text) => Reading::Text(text),
         Err(_) => unreachable!(),
     }
 }
 
-#[tactic(auto, unfolding(crate::specs::Values::ipv4_value))]
-fn push_ipv4(out: &mut String, bytes: &[u8]) -> Result<(), AllocError>
-    requires { length bytes.now ≡ 4 }
-    ensures { OnOk result (string_bytes out.new ≡ string_bytes out.old ++ ipv4_value bytes.now) }
+/// A payload as an address, where it has the length of one.
+fn ip_of(bytes: &[u8]) -> Reading<'_>
+    ensures { reading_view result ≡ ip_reading bytes.entry.now }
 {
-    let (a, b, c, d) = (bytes[0], bytes[1], bytes[2], bytes[3]);
-    write!(out, "ipv4 {a}.{b}.{c}.{d}")
+    if let Ok(address) = <[u8; 4]>::try_from(bytes) {
+        return Reading::Ipv4(address);
+    }
+    if let Ok(address) = <[u8; 16]>::try_from(bytes) {
+        return Reading::Ipv6(address);
+    }
+    Reading::Hex(bytes)
+}
+
+/// What a payload of this form is read as. `net` says that the attribute has the flag of the
+/// network's order.
+#[tactic(auto, unfolding(crate::specs::Values::reading_of))]
+pub(crate) fn read_payload(order: Order, form: Form, net: bool, bytes: &[u8]) -> Reading<'_>
+    ensures { reading_view result ≡ reading_of order form net bytes.entry.now }
+{
+    match form {
+        Form::U8 => u8_of(net, bytes),
+        Form::U16 => u16_of(order, net, bytes),
+        Form::U32 => u32_of(order, net, bytes),
+        Form::NetworkU16 => u16_of(Order::Big, false, bytes),
+        Form::Text => text_of(bytes),
+        Form::Address => ip_of(bytes),
+        Form::Hex => Reading::Hex(bytes),
+    }
+}
+
+/// The word for what is read.
+#[tactic(auto, unfolding(crate::specs::Values::reading_word))]
+pub(crate) fn word(reading: Reading<'_>) -> &'static str
+    ensures { result.now ≡ reading_word (reading_view reading.entry) }
+{
+    match reading {
+        Reading::U8(_) => "u8",
+        Reading::U16(_) => "u16",
+        Reading::U32(_) => "u32",
+        Reading::Text(_) => "text",
+        Reading::Ipv4(_) => "ipv4",
+        Reading::Ipv6(_) => "ipv6",
+        Reading::Hex(_) => "hex",
+    }
+}
+
+/// Writes an address of IPv4.
+#[tactic(auto, unfolding(crate::specs::Values::ipv4_text))]
+pub(crate) fn push_ipv4(out: &mut String, address: [u8; 4]) -> Result<(), AllocError>
+    ensures { OnOk result (string_bytes out.new ≡ string_bytes out.old ++ ipv4_text address) }
+{
+    let [a, b, c, d] = address;
+    write!(out, "{a}.{b}.{c}.{d}")
 }
 
 #[tactic(auto, unfolding(crate::specs::Values::group_at))]
-fn group(bytes: &[u8], i: usize) -> Hex4
-    requires { i + 1 < length bytes.now }
-    ensures { result.0 ≡ group_at i bytes.now }
+fn group(address: &[u8; 16], i: usize) -> Hex4
+    requires { i + 1 < 16 }
+    ensures { result.0 ≡ group_at i address.now }
 {
-    Hex4(256 * u16::from(bytes[i]) + u16::from(bytes[i + 1]))
+    Hex4(256 * u16::from(address[i]) + u16::from(address[i + 1]))
 }
 
-#[tactic(auto, unfolding(crate::specs::Values::ipv6_value))]
-fn push_ipv6(out: &mut String, bytes: &[u8]) -> Result<(), AllocError>
-    requires { length bytes.now ≡ 16 }
-    ensures { OnOk result (string_bytes out.new ≡ string_bytes out.old ++ ipv6_value bytes.now) }
+/// Writes an address of IPv6.
+#[tactic(auto, unfolding(crate::specs::Values::ipv6_text))]
+pub(crate) fn push_ipv6(out: &mut String, address: &[u8; 16]) -> Result<(), AllocError>
+    ensures { OnOk result (string_bytes out.new ≡ string_bytes out.old ++ ipv6_text address.now) }
 {
-    let (a, b) = (group(bytes, 0), group(bytes, 2));
-    let (c, d) = (group(bytes, 4), group(bytes, 6));
-    let (e, f) = (group(bytes, 8), group(bytes, 10));
-    let (g, h) = (group(bytes, 12), group(bytes, 14));
-    write!(out, "ipv6 {a}:{b}:{c}:{d}:{e}:{f}:{g}:{h}")
+    let (a, b) = (group(address, 0), group(address, 2));
+    let (c, d) = (group(address, 4), group(address, 6));
+    let (e, f) = (group(address, 8), group(address, 10));
+    let (g, h) = (group(address, 12), group(address, 14));
+    write!(out, "{a}:{b}:{c}:{d}:{e}:{f}:{g}:{h}")
 }
 
-/// Writes a payload as an address, where it has the length of one.
-#[tactic(auto, unfolding(crate::specs::Values::ip_value))]
-pub(crate) fn push_ip_value(out: &mut String, bytes: &[u8]) -> Result<(), AllocError>
-    ensures { OnOk result (string_bytes out.new ≡ string_bytes out.old ++ ip_value bytes.now) }
+/// Writes what is printed behind the word.
+#[tactic(auto, unfolding(crate::specs::Values::reading_text))]
+fn push_reading(out: &mut String, reading: Reading<'_>) -> Result<(), AllocError>
+    ensures { OnOk result (string_bytes out.new ≡ string_bytes out.old ++ reading_text (reading_view reading.entry)) }
 {
-    match bytes.len() {
-        4 => push_ipv4(out, bytes),
-        16 => push_ipv6(out, bytes),
-        _ => push_hex_value(out, bytes),
+    match reading {
+        Reading::U8(number) => write!(out, "{number}"),
+        Reading::U16(number) => write!(out, "{number}"),
+        Reading::U32(number) => write!(out, "{number}"),
+        Reading::Text(text) => out.push_str(text),
+        Reading::Ipv4(address) => push_ipv4(out, address),
+        Reading::Ipv6(address) => push_ipv6(out, &address),
+        Reading::Hex(bytes) => {
+            let digits = HexBytes(bytes);
+            write!(out, "{digits}")
+        }
     }
 }
 
-/// Writes a payload in a form. `net` says that the attribute has the flag of the network's order.
-#[tactic(auto, unfolding(crate::specs::Values::value_text))]
-pub(crate) fn push_value(
-    out: &mut String,
-    order: Order,
-    form: Form,
-    net: bool,
-    bytes: &[u8],
-) -> Result<(), AllocError>
-    ensures { OnOk result (string_bytes out.new ≡ string_bytes out.old ++ value_text order form net bytes.now) }
+/// Writes the word and what stands behind it.
+#[tactic(auto, unfolding(crate::specs::Values::value_text), using(std::proofs::Common::append_assoc))]
+pub(crate) fn push_value(out: &mut String, reading: Reading<'_>) -> Result<(), AllocError>
+    ensures { OnOk result (string_bytes out.new ≡ string_bytes out.old ++ value_text (reading_view reading.entry)) }
 {
-    match form {
-        Form::U8 => push_u8_value(out, net, bytes),
-        Form::U16 => push_u16_value(out, order, net, bytes),
-        Form::U32 => push_u32_value(out, order, net, bytes),
-        Form::NetworkU16 => push_u16_value(out, Order::Big, false, bytes),
-        Form::Text => push_text_value(out, bytes),
-        Form::Address => push_ip_value(out, bytes),
-        Form::Hex => push_hex_value(out, bytes),
-    }
+    let word = word(reading);
+    write!(out, "{word} ")?;
+    push_reading(out, reading)
 }

@@ -1,0 +1,78 @@
+-- Values of JSON (RFC 8259), and the line that each is written as.
+use Rattle.std.specs.Prelude.{ℕ, ℤ, List, [], ◌∷◌, ◌++◌, map, codes, Bool}
+use Rattle.std.specs.Fmt.{decimal, signed_decimal}
+use Rattle.std.specs.List.{flat_map}
+use Rattle.hex.specs.Hex.{encode_lower}
+use Rattle.json.specs.Json as json
+use Rattle.json.specs.Print.{print}
+use Rattle.json.specs.Token.{Token, key}
+use Rattle.json.specs.Tree.{json_tokens}
+
+-- a name, and the value that stands behind it
+abbrev pub Field : Type 0
+Field = List ℕ × json.Json
+
+abbrev pub members_of : List Field → json.Members
+members_of [] = json.no_members
+members_of (field ∷ fields) = json.member field.0 field.1 (members_of fields)
+
+-- the object of these fields, in their order
+unfoldable pub object : List Field → json.Json
+object fields = json.object (members_of fields)
+
+abbrev pub items_of : List json.Json → json.Items
+items_of [] = json.no_items
+items_of (value ∷ values) = json.item value (items_of values)
+
+-- the array of these values, in their order
+unfoldable pub array : List json.Json → json.Json
+array values = json.array (items_of values)
+
+abbrev pub number : ℕ → json.Json
+number n = json.number (decimal n)
+
+abbrev pub signed : ℤ → json.Json
+signed z = json.number (signed_decimal z)
+
+abbrev pub boolean : Bool → json.Json
+boolean b = json.boolean b
+
+abbrev pub string : List ℕ → json.Json
+string text = json.string text
+
+-- bytes as a string of lower-case hexadecimal digits
+abbrev pub digits : List ℕ → json.Json
+digits bytes = json.string (encode_lower bytes)
+
+-- strings
+abbrev pub strings : List (List ℕ) → json.Json
+strings texts = array (map string texts)
+
+-- the text of a value with no space in it, and the byte that ends a line
+unfoldable pub json_line : json.Json → List ℕ
+json_line value = print (json_tokens value) ++ codes "\n"
+
+-- ---- for private clauses: what is written of a line
+
+-- the lines before it, and the tokens of its value so far
+pub record Line : Type 0 where
+  pub before : List ℕ
+  pub tokens : List Token
+
+infixl 60 ◌⊕◌
+-- a line, and tokens more
+unfoldable pub ◌⊕◌ : Line → List Token → Line
+line ⊕ tokens = record { before = line.before; tokens = line.tokens ++ tokens }
+
+-- the tokens of fields
+unfoldable pub fields_tokens : List Field → List Token
+fields_tokens [] = []
+fields_tokens (field ∷ fields) = key field.0 ∷ (json_tokens field.1 ++ fields_tokens fields)
+
+-- the tokens of values
+abbrev pub values_tokens : List json.Json → List Token
+values_tokens values = flat_map json_tokens values
+
+-- all lines, where the tokens of the last one are those of a whole value
+unfoldable pub ended : Line → List ℕ
+ended line = line.before ++ (print line.tokens ++ codes "\n")

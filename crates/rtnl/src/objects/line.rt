@@ -1,0 +1,164 @@
+//! Lines of JSON.
+
+ghost use Rattle.std.specs.Prelude.{◌≡◌, ◌∷◌, [], OnOk, IfOk};
+ghost use Rattle.json.specs.Json.{null};
+ghost use Rattle.json.specs.Print.{IsPrintable};
+ghost use Rattle.json.specs.Reads.{token_of};
+ghost use Rattle.json.specs.Token.{begin_array, begin_object, end_array, end_object, key};
+ghost use Rattle.json.specs.Tree.{json_tokens};
+ghost use Rattle.rtnl.specs.Json.{◌⊕◌, boolean, digits, ended, fields_tokens, number, signed, string};
+
+use json::{Token, Writer};
+use std::alloc::{AllocError, Global};
+use std::marker::Model;
+
+/// A value of JSON that is being written on a line of its own, behind other lines.
+#[derive(Drop)]
+pub(crate) struct Line {
+    writer: Writer,
+}
+
+impl Model for Line {
+    ghost use Rattle.rtnl.specs.Json.{Line as Written};
+
+    ghost Value = { Written };
+
+    ghost view = { λ l. record { before = l.writer.before; tokens = l.writer.tokens } };
+}
+
+impl Line {
+    /// A line behind these.
+    pub(crate) fn behind(lines: Vec<u8>) -> Line
+        ensures { result ≡ record { before = lines.items; tokens = [] } }
+    {
+        Line {
+            writer: Writer::new(lines),
+        }
+    }
+
+    /// All lines, the last of which ends here.
+    #[tactic(auto, unfolding(crate::specs::Json::ended), using(std::proofs::Common::append_assoc))]
+    pub(crate) fn ended(self) -> Result<Vec<u8>, AllocError>
+        ensures { IfOk result (λ lines. lines.items ≡ ended self) }
+    {
+        let mut lines = self.writer.into_inner();
+        lines.push(b'\n')?;
+        Ok(lines)
+    }
+
+    #[tactic(auto, using(crate::proofs::Json::takes))]
+    fn token(&mut self, token: Token<'_>) -> Result<(), AllocError>
+        requires { IsPrintable (token_of token) }
+        ensures { OnOk result (self.new ≡ self.old ⊕ (token_of token.entry ∷ [])) }
+    {
+        self.writer.token(token)
+    }
+
+    pub(crate) fn begin_object(&mut self) -> Result<(), AllocError>
+        ensures { OnOk result (self.new ≡ self.old ⊕ (begin_object ∷ [])) }
+    {
+        self.token(Token::BeginObject)
+    }
+
+    pub(crate) fn end_object(&mut self) -> Result<(), AllocError>
+        ensures { OnOk result (self.new ≡ self.old ⊕ (end_object ∷ [])) }
+    {
+        self.token(Token::EndObject)
+    }
+
+    pub(crate) fn begin_array(&mut self) -> Result<(), AllocError>
+        ensures { OnOk result (self.new ≡ self.old ⊕ (begin_array ∷ [])) }
+    {
+        self.token(Token::BeginArray)
+    }
+
+    pub(crate) fn end_array(&mut self) -> Result<(), AllocError>
+        ensures { OnOk result (self.new ≡ self.old ⊕ (end_array ∷ [])) }
+    {
+        self.token(Token::EndArray)
+    }
+
+    /// The name of a field, whose value comes next.
+    pub(crate) fn key(&mut self, name: &str) -> Result<(), AllocError>
+        ensures { OnOk result (self.new ≡ self.old ⊕ (key name.now ∷ [])) }
+    {
+        self.token(Token::Key(name))
+    }
+
+    /// A string.
+    pub(crate) fn string(&mut self, text: &str) -> Result<(), AllocError>
+        ensures { OnOk result (self.new ≡ self.old ⊕ json_tokens (string text.now)) }
+    {
+        self.token(Token::String(text))
+    }
+
+    /// No value.
+    pub(crate) fn null(&mut self) -> Result<(), AllocError>
+        ensures { OnOk result (self.new ≡ self.old ⊕ json_tokens null) }
+    {
+        self.token(Token::Null)
+    }
+
+    #[tactic(auto, using(crate::proofs::Json::takes))]
+    fn unsigned(&mut self, n: u64) -> Result<(), AllocError>
+        ensures { OnOk result (self.new ≡ self.old ⊕ json_tokens (number n)) }
+    {
+        self.writer.u64(n)
+    }
+
+    #[tactic(auto, using(crate::proofs::Json::takes))]
+    fn integer(&mut self, z: i32) -> Result<(), AllocError>
+        ensures { OnOk result (self.new ≡ self.old ⊕ json_tokens (signed z)) }
+    {
+        self.writer.i64(z.into())
+    }
+
+    /// A field with a number.
+    #[tactic(auto, using(crate::proofs::Json::more, crate::proofs::Json::one_field))]
+    pub(crate) fn number(&mut self, name: &str, n: u64) -> Result<(), AllocError>
+        ensures { OnOk result (self.new ≡ self.old ⊕ fields_tokens ((name.now, number n) ∷ [])) }
+    {
+        self.key(name)?;
+        self.unsigned(n)
+    }
+
+    /// A field with a signed number.
+    #[tactic(auto, using(crate::proofs::Json::more, crate::proofs::Json::one_field))]
+    pub(crate) fn signed(&mut self, name: &str, z: i32) -> Result<(), AllocError>
+        ensures { OnOk result (self.new ≡ self.old ⊕ fields_tokens ((name.now, signed z) ∷ [])) }
+    {
+        self.key(name)?;
+        self.integer(z)
+    }
+
+    /// A field with a truth value.
+    #[tactic(auto, using(crate::proofs::Json::more, crate::proofs::Json::one_field))]
+    pub(crate) fn boolean(&mut self, name: &str, b: bool) -> Result<(), AllocError>
+        ensures { OnOk result (self.new ≡ self.old ⊕ fields_tokens ((name.now, boolean b) ∷ [])) }
+    {
+        self.key(name)?;
+        self.token(Token::Bool(b))
+    }
+
+    /// A field with a string.
+    #[tactic(auto, using(crate::proofs::Json::more, crate::proofs::Json::one_field))]
+    pub(crate) fn text(&mut self, name: &str, text: &str) -> Result<(), AllocError>
+        ensures { OnOk result (self.new ≡ self.old ⊕ fields_tokens ((name.now, string text.now) ∷ [])) }
+    {
+        self.key(name)?;
+        self.token(Token::String(text))
+    }
+
+    /// A field with bytes, in hexadecimal digits.
+    pub(crate) fn digits(
+        &mut self,
+        alloc: Global,
+        name: &str,
+        bytes: &[u8],
+    ) -> Result<(), AllocError>
+        ensures { OnOk result (self.new ≡ self.old ⊕ fields_tokens ((name.now, digits bytes.now) ∷ [])) }
+    {
+        let text = hex::encode(alloc, bytes)?;
+        self.text(name, text.as_str())
+    }
+}

@@ -1,0 +1,6 @@
+//! What is printed as lines of JSON.
+
+pub(crate) mod line;
+pub(crate) mod names;
+pub(crate) mod tree;
+pub(crate) mod values;
