@@ -1,6 +1,7 @@
 -- What is written of a line, a token after another.
-use Rattle.std.proofs.Common.{◌≡◌, ◌≤◌, ℕ, [], ◌∷◌, ◌++◌, List, Result, OnOk, drop, length, append_assoc, append-nil, ap, refl, sym, ◌∙◌}
+use Rattle.std.proofs.Common.{◌≡◌, ◌≤◌, ◌<◌, ◌+◌, ℕ, [], ◌∷◌, ◌++◌, List, Result, OnOk, drop, get_or, length, map, append_assoc, append-nil, ap, refl, sym, ◌∙◌}
 use Rattle.std.proofs.Math.ListN.{drop_of_length-le}
+use Rattle.std.proofs.lemmas.List.{drop_more}
 use Rattle.std.proofs.lemmas.Result.{IfOk-weaker}
 use Rattle.json.specs.Json.{Json}
 use Rattle.json.specs.Token.{Token, begin_array, begin_object, end_array, end_object, key}
@@ -74,8 +75,9 @@ pub an_object : (w a b c : Line) (fields : List Field) → a ≡ w ⊕ (begin_ob
 an_object w a b c fields begun written ended = rw (ended, written, begun) (simp (more, tokens_object))
 
 -- the name of a field, and then an object
-pub an_object_field : (w a b : Line) (name : List ℕ) (fields : List Field) → a ≡ w ⊕ (key name ∷ []) → b ≡ a ⊕ json_tokens (object fields) → b ≡ w ⊕ fields_tokens ((name, object fields) ∷ [])
-an_object_field w a b name fields named written = rw (written, named) (simp (more, one_field))
+pub object_field : (w a b c d : Line) (name : List ℕ) (fields : List Field) → a ≡ w ⊕ (key name ∷ []) → b ≡ a ⊕ (begin_object ∷ []) → c ≡ b ⊕ fields_tokens fields → d ≡ c ⊕ (end_object ∷ [])
+    → d ≡ w ⊕ fields_tokens ((name, object fields) ∷ [])
+object_field w a b c d name fields named begun written ended = rw (ended, written, begun, named) (simp (more, tokens_object, one_field))
 
 -- an object of fields that are written in two parts, before other values
 pub an_item : (w a b c d : Line) (first rest : List Field) (others : List Json) → a ≡ w ⊕ (begin_object ∷ []) → b ≡ a ⊕ fields_tokens first → c ≡ b ⊕ fields_tokens rest → d ≡ c ⊕ (end_object ∷ [])
@@ -92,3 +94,28 @@ all_written values xs i line all none far h =
 -- fields, and then others
 pub then_fields : (w a b : Line) (first rest : List Field) → a ≡ w ⊕ fields_tokens first → b ≡ a ⊕ fields_tokens rest → b ≡ w ⊕ fields_tokens (first ++ rest)
 then_fields w a b first rest e h = h ∙ ap (λ l. l ⊕ fields_tokens rest) e ∙ more_fields w first rest
+
+-- no field more
+pub no_field : (w : Line) → w ⊕ fields_tokens [] ≡ w
+unfolding fields_tokens
+no_field w = no_more w
+
+-- fields of which none is left to be written
+pub all_fields : {X : Type 0} (field : X → Field) (xs : List X) (i : ℕ) (line all : Line) → length xs ≤ i → line ⊕ fields_tokens (map field (drop i xs)) ≡ all → line ≡ all
+all_fields field xs i line all far h =
+    sym (no_field line) ∙ sym (ap (λ fs. line ⊕ fields_tokens fs) (ap (map field) (drop_of_length-le xs far))) ∙ h
+
+-- one field more
+pub next_field : {X : Type 0} (field : X → Field) (xs : List X) (i : ℕ) (d : X) (line new all : Line) → i < length xs → new ≡ line ⊕ fields_tokens (field (get_or xs i d) ∷ [])
+    → line ⊕ fields_tokens (map field (drop i xs)) ≡ all → new ⊕ fields_tokens (map field (drop (i + 1) xs)) ≡ all
+next_field field xs i d line new all low step h =
+    ap (λ l. l ⊕ fields_tokens (map field (drop (i + 1) xs))) step ∙ more_fields line (field (get_or xs i d) ∷ []) (map field (drop (i + 1) xs))
+    ∙ sym (ap (λ l. line ⊕ fields_tokens (map field l)) (drop_more xs i d low)) ∙ h
+
+-- one value more
+pub next_written : {X : Type 0} (values : List X → List Json) (xs : List X) (i : ℕ) (x : X) (value : Json) (line new all : Line) → drop i xs ≡ x ∷ drop (i + 1) xs
+    → values (x ∷ drop (i + 1) xs) ≡ value ∷ values (drop (i + 1) xs) → new ≡ line ⊕ json_tokens value
+    → line ⊕ values_tokens (values (drop i xs)) ≡ all → new ⊕ values_tokens (values (drop (i + 1) xs)) ≡ all
+next_written values xs i x value line new all here front step h =
+    ap (λ l. l ⊕ values_tokens (values (drop (i + 1) xs))) step ∙ more line (json_tokens value) (values_tokens (values (drop (i + 1) xs)))
+    ∙ sym (ap (λ vs. line ⊕ values_tokens vs) (ap values here ∙ front)) ∙ h

@@ -2,9 +2,9 @@
 use Rattle.std.specs.Prelude.{ℕ, List, [], ◌∷◌, codes}
 use Rattle.std.specs.Fmt.{decimal, signed_decimal}
 use Rattle.nl_route.specs.declared.ifinfomsg.LinkHead.{LinkHead}
-use Rattle.rtnl.specs.Json.{Field, number, signed, strings}
+use Rattle.rtnl.specs.Json.{Field, number, signed}
 use Rattle.rtnl.specs.NamedBits.{link_flags}
-use Rattle.rtnl.specs.Names.{names_set, names_text}
+use Rattle.rtnl.specs.Names.{names_json, names_text}
 use Rattle.rtnl.specs.Rows.{Row}
 use Rattle.rtnl.specs.Text.{◌⨟◌, padded_hex}
 use Rattle.rtnl.specs.declared.text.attributes.Form.{Form}
@@ -56,5 +56,5 @@ link_fields h =
     ∷ (codes "type", number h.hardware)
     ∷ (codes "index", signed h.index)
     ∷ (codes "flags", number h.flags)
-    ∷ (codes "flag_names", strings (names_set link_flags h.flags))
+    ∷ (codes "flag_names", names_json link_flags h.flags)
     ∷ (codes "change", number h.change) ∷ []

@@ -3,6 +3,8 @@ use Rattle.std.specs.Prelude.{ℕ, ◌==◌, Bool, true, false, List, [], ◌∷
 use Rattle.std.specs.Int.RustNames.{bit_and}
 use Rattle.std.specs.List.{join_with_byte}
 use Rattle.bitflags.specs.Sets.{Row}
+use Rattle.json.specs.Json.{Json}
+use Rattle.rtnl.specs.Json.{strings}
 
 -- the names, in the order of the table, of which the number has all bits
 abbrev pub names_set : List Row → ℕ → List (List ℕ)
@@ -16,6 +18,10 @@ listed (name ∷ names) = join_with_byte 44 (name ∷ names)
 -- the names of the bits that are set
 unfoldable pub names_text : List Row → ℕ → List ℕ
 names_text table bits = listed (names_set table bits)
+
+-- the same as an array
+unfoldable pub names_json : List Row → ℕ → Json
+names_json table bits = strings (names_set table bits)
 
 -- the text of the names that are left, after others or as the first
 abbrev pub rest_text : Bool → List (List ℕ) → List ℕ

@@ -2,9 +2,9 @@
 use Rattle.std.specs.Prelude.{ℕ, List, [], ◌∷◌, codes}
 use Rattle.std.specs.Fmt.{decimal, signed_decimal}
 use Rattle.nl_route.specs.declared.ndmsg.NeighHead.{NeighHead}
-use Rattle.rtnl.specs.Json.{Field, number, signed, strings}
+use Rattle.rtnl.specs.Json.{Field, number, signed}
 use Rattle.rtnl.specs.NamedBits.{neigh_flags, neigh_states}
-use Rattle.rtnl.specs.Names.{names_set, names_text}
+use Rattle.rtnl.specs.Names.{names_json, names_text}
 use Rattle.rtnl.specs.Rows.{Row}
 use Rattle.rtnl.specs.Text.{◌⨟◌, padded_hex}
 use Rattle.rtnl.specs.declared.text.attributes.Form.{Form}
@@ -37,7 +37,7 @@ neigh_fields h =
     (codes "family", number h.family)
     ∷ (codes "index", signed h.ifindex)
     ∷ (codes "state", number h.state)
-    ∷ (codes "state_names", strings (names_set neigh_states h.state))
+    ∷ (codes "state_names", names_json neigh_states h.state)
     ∷ (codes "flags", number h.flags)
-    ∷ (codes "flag_names", strings (names_set neigh_flags h.flags))
+    ∷ (codes "flag_names", names_json neigh_flags h.flags)
     ∷ (codes "type", number h.sort) ∷ []

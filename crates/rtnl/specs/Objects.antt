@@ -11,6 +11,7 @@ use Rattle.nl_route.specs.declared.group.Group.TheVariants as group
 use Rattle.nl_route.specs.Families.{row, AnyHead, group_of, context_of, name_of}
 use Rattle.nl_frame.specs.declared.header.Header.{Header}
 use Rattle.nl_frame.specs.Message.{BodyVal, noop, error, done, overrun, family, get, other, MessageVal}
+use Rattle.nl_dump.specs.Items.{Item}
 use Rattle.rtnl.specs.Attributes.{attribute_form, attribute_rows}
 use Rattle.rtnl.specs.Rows.{Row, find_row}
 use Rattle.rtnl.specs.declared.text.attributes.Form.{Form}
@@ -22,7 +23,7 @@ use Rattle.rtnl.specs.Neigh.{neigh_fields}
 use Rattle.rtnl.specs.Rule.{rule_fields}
 use Rattle.rtnl.specs.Messages.{status_of}
 use Rattle.rtnl.specs.NamedBits.{hop_flags}
-use Rattle.rtnl.specs.Names.{names_set}
+use Rattle.rtnl.specs.Names.{names_json}
 use Rattle.rtnl.specs.Trees.{inner_context}
 use Rattle.rtnl.specs.Types.{flags_table, type_flags, type_name}
 use Rattle.rtnl.specs.Values.{Reading, u8, u16, u32, text, ipv4, ipv6, hex, ipv4_text, ipv6_text, reading_of, reading_word}
@@ -74,7 +75,7 @@ items_fields form values = (codes "form", string form) ∷ (codes "items", array
 unfoldable pub hop_front : ℕ → ℕ → ℤ → List Field
 hop_front flags count index =
     (codes "flags", number flags)
-    ∷ (codes "flag_names", strings (names_set hop_flags flags))
+    ∷ (codes "flag_names", names_json hop_flags flags)
     ∷ (codes "hops", number count)
     ∷ (codes "index", signed index) ∷ []
 
@@ -113,6 +114,10 @@ head_fields h = fields_of h.group h.head
 unfoldable pub family_field : Order → AnyHead → Items → Field
 family_field o h items =
     (name_of (group_of h), object (head_fields h ++ (codes "attrs", array (attrs_json o (context_of (group_of h)) items)) ∷ []))
+
+-- an item of a table
+abbrev pub item_field : Order → Item → Field
+item_field o entry = family_field o entry.0 entry.1
 
 -- the header that an answer with a code tells of
 unfoldable pub answered_json : Header → json.Json
@@ -156,7 +161,7 @@ header_fields kind flags seq port =
     (codes "message", number kind)
     ∷ (codes "type", string (type_name kind))
     ∷ (codes "flags", number flags)
-    ∷ (codes "flag_names", strings (names_set (flags_table (type_flags kind)) flags))
+    ∷ (codes "flag_names", names_json (flags_table (type_flags kind)) flags)
     ∷ (codes "seq", number seq)
     ∷ (codes "port", number port) ∷ []
 

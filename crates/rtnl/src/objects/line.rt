@@ -1,6 +1,6 @@
 //! Lines of JSON.
 
-ghost use Rattle.std.specs.Prelude.{◌≡◌, ◌∷◌, [], OnOk, IfOk};
+ghost use Rattle.std.specs.Prelude.{◌≡◌, ◌∷◌, [], OnOk, IfOk, map};
 ghost use Rattle.json.specs.Json.{null};
 ghost use Rattle.json.specs.Print.{IsPrintable};
 ghost use Rattle.json.specs.Reads.{token_of};
@@ -120,6 +120,17 @@ impl Line {
     {
         self.key(name)?;
         self.unsigned(n)
+    }
+
+    /// Fields with numbers.
+    #[tactic(auto, using(crate::proofs::Json::more_fields, crate::proofs::Json::no_field))]
+    pub(crate) fn numbers(&mut self, fields: &[(&str, u64)]) -> Result<(), AllocError>
+        ensures { OnOk result (self.new ≡ self.old ⊕ fields_tokens (map (λ f. (f.0.now, number f.1)) fields.now)) }
+    {
+        for (name, n) in fields {
+            self.number(name, *n)?;
+        }
+        Ok(())
     }
 
     /// A field with a signed number.

@@ -1,6 +1,8 @@
 //! What is printed as lines of JSON.
 
+pub(crate) mod body;
 pub(crate) mod line;
+pub(crate) mod message;
 pub(crate) mod names;
 pub(crate) mod tree;
 pub(crate) mod values;

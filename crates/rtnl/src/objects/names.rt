@@ -2,8 +2,8 @@
 
 ghost use Rattle.std.specs.Prelude.{◌≡◌, ◌∷◌, [], List, OnOk, map};
 ghost use Rattle.bitflags.specs.Sets.{Row};
-ghost use Rattle.rtnl.specs.Json.{◌⊕◌, fields_tokens, string, strings, values_tokens};
-ghost use Rattle.rtnl.specs.Names.{names_set};
+ghost use Rattle.rtnl.specs.Json.{◌⊕◌, fields_tokens, string, values_tokens};
+ghost use Rattle.rtnl.specs.Names.{names_json, names_set};
 
 use crate::objects::line::Line;
 use bitflags::{Flag, Flags};
@@ -41,7 +41,7 @@ pub(crate) fn push_names<F: Flags>(
 ) -> Result<(), AllocError>
     requires { F.exact }
     ensures { OnOk result (line.new ≡ line.old
-        ⊕ fields_tokens ((name.now, strings (names_set F.table (F.set_of value.now))) ∷ [])) }
+        ⊕ fields_tokens ((name.now, names_json F.table (F.set_of value.now)) ∷ [])) }
 {
     line.key(name)?;
     line.begin_array()?;

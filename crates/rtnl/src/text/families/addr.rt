@@ -1,5 +1,6 @@
 //! The printed text of an address: its attributes, and the line of its head.
 
+use crate::objects::line::Line;
 use crate::text::attributes::Form;
 use crate::text::digits::Hex2;
 use crate::text::families::HeadLine;
@@ -28,6 +29,8 @@ impl HeadLine for AddrHead {
 
     ghost as_any = { any group.Addr };
 
+    ghost named = { λ h. refl };
+
     ghost same = { λ h. refl };
 
     #[tactic(auto, unfolding(crate::specs::Addr::addr_line))]
@@ -44,5 +47,16 @@ impl HeadLine for AddrHead {
             out,
             "  addr family {family} prefix {prefixlen} flags 0x{flags} scope {scope} index {index}"
         )
+    }
+
+    #[tactic(auto, unfolding(crate::specs::Addr::addr_fields), using(crate::proofs::Json::more_fields))]
+    fn push_fields(&self, line: &mut Line) -> Result<(), AllocError> {
+        line.numbers(&[
+            ("family", self.family.into()),
+            ("prefix", self.prefixlen.into()),
+            ("flags", self.flags.into()),
+            ("scope", self.scope.into()),
+            ("index", self.index.into()),
+        ])
     }
 }

@@ -1,5 +1,7 @@
 //! The printed text of a link: its attributes, and the line of its head.
 
+use crate::objects::line::Line;
+use crate::objects::names;
 use crate::text::attributes::Form;
 use crate::text::digits::Hex8;
 use crate::text::families::HeadLine;
@@ -49,6 +51,8 @@ impl HeadLine for LinkHead {
 
     ghost as_any = { any group.Link };
 
+    ghost named = { λ h. refl };
+
     ghost same = { λ h. refl };
 
     #[tactic(auto, unfolding(crate::specs::Link::link_line), using(std::proofs::Common::append_assoc))]
@@ -67,5 +71,17 @@ impl HeadLine for LinkHead {
         )?;
         push_names(out, &LinkFlags(flags))?;
         writeln!(out, " change 0x{change}")
+    }
+
+    #[tactic(auto, unfolding(crate::specs::Link::link_fields), using(crate::proofs::Json::more_fields))]
+    fn push_fields(&self, line: &mut Line) -> Result<(), AllocError> {
+        line.numbers(&[
+            ("family", self.family.into()),
+            ("type", self.hardware.into()),
+        ])?;
+        line.signed("index", self.index)?;
+        line.number("flags", self.flags.into())?;
+        names::push_names(line, "flag_names", &LinkFlags(self.flags))?;
+        line.number("change", self.change.into())
     }
 }

@@ -6,6 +6,8 @@ pub(crate) mod neigh;
 pub(crate) mod route;
 pub(crate) mod rule;
 
+use crate::objects::line::Line;
+use crate::objects::tree;
 use crate::text::tree::push_attrs;
 use nl_attr::Order;
 use nl_route::{Family, Head};
@@ -19,7 +21,9 @@ pub(crate) trait HeadLine: Head {
     ghost use Rattle.std.specs.Prelude.{◌≡◌, ◌++◌, OnOk};
     ghost use Rattle.std.specs.String.{string_bytes};
     ghost use Rattle.nl_route.specs.Families.{AnyHead, context_of, group_of};
+    ghost use Rattle.rtnl.specs.Json.{◌⊕◌, fields_tokens};
     ghost use Rattle.rtnl.specs.Messages.{head_line};
+    ghost use Rattle.rtnl.specs.Objects.{head_fields};
 
     ghost as_any: { Self → AnyHead };
 
@@ -28,15 +32,24 @@ pub(crate) trait HeadLine: Head {
         ensures { OnOk result (string_bytes out.new
             ≡ string_bytes out.old ++ head_line (as_any self.now)) };
 
+    /// Writes the fields of the head.
+    fn push_fields(&self, line: &mut Line) -> Result<(), AllocError>
+        ensures { OnOk result (line.new ≡ line.old ⊕ fields_tokens (head_fields (as_any self.now))) };
+
+    // It is of its family.
+    ghost named: { (h : Self) → group_of (as_any h) ≡ Self.Head.group };
+
     // Its attributes are of its family's context.
     ghost same: { (h : Self) → Self.Head.ctx ≡ context_of (group_of (as_any h)) };
 }
 
 /// A value that is printed in lines.
 pub(crate) trait Shown {
-    ghost use Rattle.std.specs.Prelude.{◌≡◌, ◌++◌, OnOk};
+    ghost use Rattle.std.specs.Prelude.{◌≡◌, ◌∷◌, [], ◌++◌, OnOk};
     ghost use Rattle.std.specs.String.{string_bytes};
     ghost use Rattle.nl_dump.specs.Items.{Item};
+    ghost use Rattle.rtnl.specs.Json.{◌⊕◌, fields_tokens};
+    ghost use Rattle.rtnl.specs.Objects.{item_field};
     ghost use Rattle.rtnl.specs.Tabled.{item_text};
 
     ghost item: { Self → Item };
@@ -45,6 +58,10 @@ pub(crate) trait Shown {
     fn push(&self, alloc: Global, out: &mut String, order: Order) -> Result<(), AllocError>
         ensures { OnOk result (string_bytes out.new
             ≡ string_bytes out.old ++ item_text order (item self.now)) };
+
+    /// Writes a field of the family's name, with the fields of the head and the attributes.
+    fn push_field(&self, alloc: Global, line: &mut Line, order: Order) -> Result<(), AllocError>
+        ensures { OnOk result (line.new ≡ line.old ⊕ fields_tokens (item_field order (item self.now) ∷ [])) };
 }
 
 impl<H: HeadLine> Shown for Family<H> {
@@ -55,5 +72,13 @@ impl<H: HeadLine> Shown for Family<H> {
     fn push(&self, alloc: Global, out: &mut String, order: Order) -> Result<(), AllocError> {
         self.head.push_line(out)?;
         push_attrs(alloc, out, order, INDENT, H::context(), &self.attrs)
+    }
+
+    fn push_field(&self, alloc: Global, line: &mut Line, order: Order) -> Result<(), AllocError> {
+        line.key(H::group().row().name)?;
+        line.begin_object()?;
+        self.head.push_fields(line)?;
+        tree::push_attrs(alloc, line, "attrs", order, H::context(), &self.attrs)?;
+        line.end_object()
     }
 }

@@ -1,5 +1,7 @@
 //! The printed text of a neighbour: its attributes, and the line of its head.
 
+use crate::objects::line::Line;
+use crate::objects::names;
 use crate::text::attributes::Form;
 use crate::text::digits::{Hex2, Hex4};
 use crate::text::families::HeadLine;
@@ -30,6 +32,8 @@ impl HeadLine for NeighHead {
 
     ghost as_any = { any group.Neigh };
 
+    ghost named = { λ h. refl };
+
     ghost same = { λ h. refl };
 
     #[tactic(auto, unfolding(crate::specs::Neigh::neigh_line), using(std::proofs::Common::append_assoc))]
@@ -50,5 +54,16 @@ impl HeadLine for NeighHead {
         write!(out, " flags 0x{bits} ")?;
         push_names(out, &NeighFlags(flags))?;
         writeln!(out, " type {sort}")
+    }
+
+    #[tactic(auto, unfolding(crate::specs::Neigh::neigh_fields), using(crate::proofs::Json::more_fields))]
+    fn push_fields(&self, line: &mut Line) -> Result<(), AllocError> {
+        line.number("family", self.family.into())?;
+        line.signed("index", self.ifindex)?;
+        line.number("state", self.state.into())?;
+        names::push_names(line, "state_names", &NeighState(self.state))?;
+        line.number("flags", self.flags.into())?;
+        names::push_names(line, "flag_names", &NeighFlags(self.flags))?;
+        line.number("type", self.sort.into())
     }
 }

@@ -1,5 +1,6 @@
 //! The printed text of a route: its attributes, and the line of its head.
 
+use crate::objects::line::Line;
 use crate::text::attributes::Form;
 use crate::text::digits::Hex8;
 use crate::text::families::HeadLine;
@@ -60,6 +61,8 @@ impl HeadLine for RouteHead {
 
     ghost as_any = { any group.Route };
 
+    ghost named = { λ h. refl };
+
     ghost same = { λ h. refl };
 
     #[tactic(auto, unfolding(crate::specs::Route::route_line))]
@@ -80,5 +83,20 @@ impl HeadLine for RouteHead {
             out,
             "  route family {family} dst_len {dst_len} src_len {src_len} tos {tos} table {table} protocol {protocol} scope {scope} type {sort} flags 0x{flags}"
         )
+    }
+
+    #[tactic(auto, unfolding(crate::specs::Route::route_fields), using(crate::proofs::Json::more_fields))]
+    fn push_fields(&self, line: &mut Line) -> Result<(), AllocError> {
+        line.numbers(&[
+            ("family", self.family.into()),
+            ("dst_len", self.dst_len.into()),
+            ("src_len", self.src_len.into()),
+            ("tos", self.tos.into()),
+            ("table", self.table.into()),
+            ("protocol", self.protocol.into()),
+            ("scope", self.scope.into()),
+            ("type", self.sort.into()),
+            ("flags", self.flags.into()),
+        ])
     }
 }

@@ -1,5 +1,6 @@
 //! The printed text of a routing rule: its attributes, and the line of its head.
 
+use crate::objects::line::Line;
 use crate::text::attributes::Form;
 use crate::text::digits::Hex8;
 use crate::text::families::HeadLine;
@@ -28,6 +29,8 @@ impl HeadLine for RuleHead {
 
     ghost as_any = { any group.Rule };
 
+    ghost named = { λ h. refl };
+
     ghost same = { λ h. refl };
 
     #[tactic(auto, unfolding(crate::specs::Rule::rule_line))]
@@ -46,5 +49,18 @@ impl HeadLine for RuleHead {
             out,
             "  rule family {family} dst_len {dst_len} src_len {src_len} tos {tos} table {table} action {action} flags 0x{flags}"
         )
+    }
+
+    #[tactic(auto, unfolding(crate::specs::Rule::rule_fields), using(crate::proofs::Json::more_fields))]
+    fn push_fields(&self, line: &mut Line) -> Result<(), AllocError> {
+        line.numbers(&[
+            ("family", self.family.into()),
+            ("dst_len", self.dst_len.into()),
+            ("src_len", self.src_len.into()),
+            ("tos", self.tos.into()),
+            ("table", self.table.into()),
+            ("action", self.action.into()),
+            ("flags", self.flags.into()),
+        ])
     }
 }

@@ -1,8 +1,8 @@
 use Rattle.std.proofs.Common.{◌≡◌, ◌∷◌, ◌∙◌, [], ap, codes, of_z, rules, to_z, w32}
 use Rattle.std.proofs.lemmas.Result.{IfOk-weaker}
-use Rattle.rtnl.specs.Json.{Field, ◌⊕◌, fields_tokens, number, signed, strings}
+use Rattle.rtnl.specs.Json.{Field, ◌⊕◌, fields_tokens, number, signed}
 use Rattle.rtnl.specs.NamedBits.{hop_flags}
-use Rattle.rtnl.specs.Names.{names_set}
+use Rattle.rtnl.specs.Names.{names_json}
 use Rattle.rtnl.specs.Objects.{hop_front}
 use Rattle.rtnl.proofs.Json.{then_fields}
 use Rattle.rtnl.proofs.objects.tree.push_hop_front.Goals as goal
@@ -13,7 +13,7 @@ returns c =
     let index : to_z w32 (of_z w32 c.args.index) ≡ c.args.index = search rules in
     let w = c.args.line.now in
     let flags : Field = (codes "flags", number c.args.flags) in
-    let names : Field = (codes "flag_names", strings (names_set hop_flags c.args.flags)) in
+    let names : Field = (codes "flag_names", names_json hop_flags c.args.flags) in
     IfOk-weaker c.signed.result _ _
     (λ _ last. then_fields w c.number-2.new.self c.signed.new.self (flags ∷ names ∷ (codes "hops", number c.args.hops) ∷ []) ((codes "index", signed c.args.index) ∷ [])
     (then_fields w c.push_names.new.line c.number-2.new.self (flags ∷ names ∷ []) ((codes "hops", number c.args.hops) ∷ [])

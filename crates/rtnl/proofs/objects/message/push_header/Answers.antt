@@ -1,0 +1,27 @@
+use Rattle.std.proofs.Common.{◌≡◌, ◌∷◌, ◌∙◌, [], List, ap, codes, rules, sym}
+use Rattle.std.specs.String.{string_bytes}
+use Rattle.std.proofs.lemmas.Result.{IfOk-weaker}
+use Rattle.rtnl.specs.Json.{Field, ◌⊕◌, fields_tokens, number, string}
+use Rattle.rtnl.specs.Names.{names_json}
+use Rattle.rtnl.specs.Objects.{header_fields}
+use Rattle.rtnl.specs.Types.{flags_table, type_flags, type_name}
+use Rattle.rtnl.proofs.Json.{then_fields}
+use Rattle.rtnl.proofs.objects.message.push_header.Goals as goal
+
+pub returns : goal.returns
+unfolding header_fields
+returns c =
+    let m = c.args.message.now in
+    let w = c.args.line.now in
+    let name : c.as_str.result.now ≡ type_name m.kind = search (rules, c.as_str.ensures.value, c.in_ok-type_name.ensures.ok, c.message_type-names.ensures.name) in
+    let kind : Field = (codes "message", number m.kind) in
+    let sort : Field = (codes "type", string (type_name m.kind)) in
+    let flags : Field = (codes "flags", number m.flags) in
+    let names : Field = (codes "flag_names", names_json (flags_table (type_flags m.kind)) m.flags) in
+    let last : List Field = (codes "seq", number m.seq) ∷ (codes "port", number m.port) ∷ [] in
+    let first : c.number.new.self ≡ w ⊕ fields_tokens (kind ∷ []) = search (rules, c.in_ok-number.ensures) in
+    let second = then_fields w c.number.new.self c.text.new.self _ (sort ∷ []) first (c.in_ok-text.ensures ∙ ap (λ n. c.number.new.self ⊕ fields_tokens ((codes "type", string n) ∷ [])) name) in
+    let third = then_fields w c.text.new.self c.number-2.new.self _ (flags ∷ []) second (search (rules, c.in_ok-number-2.ensures)) in
+    let fourth = then_fields w c.number-2.new.self c.push_flag_names.new.line _ (names ∷ []) third
+        (c.in_ok-push_flag_names.ensures ∙ ap (λ n. c.number-2.new.self ⊕ fields_tokens ((codes "flag_names", names_json (flags_table n) m.flags) ∷ [])) c.message_type-names.ensures.flags) in
+    IfOk-weaker c.numbers.result _ _ (λ _ end. then_fields w c.push_flag_names.new.line c.numbers.new.self _ last fourth (search (rules, end))) c.numbers.ensures

@@ -1,0 +1,95 @@
+//! The body of a message as a field.
+
+ghost use Rattle.std.specs.Prelude.{◌≡◌, ◌∷◌, [], OnOk, codes};
+ghost use Rattle.nl_frame.specs.View.{body_view};
+ghost use Rattle.rtnl.specs.Json.{◌⊕◌, fields_tokens};
+ghost use Rattle.rtnl.specs.Objects.{answered_json, body_field, bytes_field, done_field, error_field, get_field};
+
+use crate::objects::line::Line;
+use crate::text::families::Shown;
+use nl_attr::Order;
+use nl_frame::{Body, Header};
+use nl_route::match_family;
+use std::alloc::{AllocError, Global};
+
+/// Writes the header that an answer with a code tells of.
+fn push_answered(line: &mut Line, answered: &Header) -> Result<(), AllocError>
+    ensures { OnOk result (line.new ≡ line.old ⊕ fields_tokens ((codes "answers", answered_json answered.now) ∷ [])) }
+{
+    line.key("answers")?;
+    line.begin_object()?;
+    line.numbers(&[
+        ("len", answered.len.into()),
+        ("type", answered.kind.into()),
+        ("flags", answered.flags.into()),
+        ("seq", answered.seq.into()),
+        ("port", answered.port.into()),
+    ])?;
+    line.end_object()
+}
+
+fn push_error(
+    alloc: Global,
+    line: &mut Line,
+    code: i32,
+    answered: &Header,
+    tail: &[u8],
+) -> Result<(), AllocError>
+    ensures { OnOk result (line.new ≡ line.old ⊕ fields_tokens (error_field code answered.now tail.now ∷ [])) }
+{
+    line.key("error")?;
+    line.begin_object()?;
+    line.signed("code", code)?;
+    push_answered(line, answered)?;
+    line.digits(alloc, "tail", tail)?;
+    line.end_object()
+}
+
+fn push_done(
+    alloc: Global,
+    line: &mut Line,
+    status: i32,
+    tail: &[u8],
+) -> Result<(), AllocError>
+    ensures { OnOk result (line.new ≡ line.old ⊕ fields_tokens (done_field status tail.now ∷ [])) }
+{
+    line.key("done")?;
+    line.begin_object()?;
+    line.signed("status", status)?;
+    line.digits(alloc, "tail", tail)?;
+    line.end_object()
+}
+
+fn push_get(alloc: Global, line: &mut Line, family: u8, tail: &[u8]) -> Result<(), AllocError>
+    ensures { OnOk result (line.new ≡ line.old ⊕ fields_tokens (get_field family tail.now ∷ [])) }
+{
+    line.key("get")?;
+    line.begin_object()?;
+    line.number("family", family.into())?;
+    line.digits(alloc, "tail", tail)?;
+    line.end_object()
+}
+
+/// Writes a body, under its word.
+#[tactic(auto, unfolding(crate::specs::Objects::body_field, crate::specs::Objects::bytes_field))]
+pub(crate) fn push_body(
+    alloc: Global,
+    line: &mut Line,
+    order: Order,
+    body: &Body,
+) -> Result<(), AllocError>
+    ensures { OnOk result (line.new ≡ line.old ⊕ fields_tokens (body_field order (body_view body.now) ∷ [])) }
+{
+    match_family!(body, Body, family => family.push_field(alloc, line, order), {
+        Body::Noop(payload) | Body::Overrun(payload) | Body::Other(payload) => {
+            line.digits(alloc, "bytes", payload)
+        }
+        Body::Error {
+            code,
+            answered,
+            tail,
+        } => push_error(alloc, line, *code, answered, tail),
+        Body::Done { status, tail } => push_done(alloc, line, status.unwrap_or(0), tail),
+        Body::Get { family, tail } => push_get(alloc, line, *family, tail),
+    })
+}
