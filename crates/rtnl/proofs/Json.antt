@@ -1,14 +1,15 @@
 -- What is written of a line, a token after another.
-use Rattle.std.proofs.Common.{◌≡◌, ◌≤◌, ◌<◌, ◌+◌, ℕ, [], ◌∷◌, ◌++◌, List, Result, OnOk, drop, get_or, length, map, append_assoc, append-nil, ap, refl, sym, ◌∙◌}
+use Rattle.std.proofs.Common.{◌≡◌, ◌≤◌, ◌<◌, ◌+◌, ℕ, [], ◌∷◌, ◌++◌, List, Result, OnOk, drop, get_or, length, map, append_assoc, append-nil, ap, codes, refl, sym, ◌∙◌}
 use Rattle.std.proofs.Math.ListN.{drop_of_length-le}
 use Rattle.std.proofs.lemmas.List.{drop_more}
 use Rattle.std.proofs.lemmas.Result.{IfOk-weaker}
 use Rattle.json.specs.Json.{Json}
+use Rattle.json.specs.Print.{print}
 use Rattle.json.specs.Token.{Token, begin_array, begin_object, end_array, end_object, key}
 use Rattle.json.specs.Tree.{items_tokens, json_tokens, members_tokens}
 use Rattle.json.specs.Written as json
 use Rattle.json.specs.Written.{Writes}
-use Rattle.rtnl.specs.Json.{Field, Line, ◌⊕◌, array, fields_tokens, items_of, members_of, object, values_tokens}
+use Rattle.rtnl.specs.Json.{Field, Line, ◌⊕◌, array, behind, fields_tokens, items_of, json_line, members_of, object, object_behind, values_tokens}
 
 -- the line of a writer
 abbrev pub line_of : json.Written → Line
@@ -119,3 +120,11 @@ pub next_written : {X : Type 0} (values : List X → List Json) (xs : List X) (i
 next_written values xs i x value line new all here front step h =
     ap (λ l. l ⊕ values_tokens (values (drop (i + 1) xs))) step ∙ more line (json_tokens value) (values_tokens (values (drop (i + 1) xs)))
     ∙ sym (ap (λ vs. line ⊕ values_tokens vs) (ap values here ∙ front)) ∙ h
+
+-- an object that is ended, and the byte that ends its line
+pub whole_line : (before : List ℕ) (fields : List Field) (line last : Line) → line ≡ object_behind before ⊕ fields_tokens fields → last ≡ line ⊕ (end_object ∷ [])
+    → last.before ++ (print last.tokens ++ codes "\n") ≡ before ++ json_line (object fields)
+unfolding object_behind json_line ◌⊕◌
+whole_line before fields line last written ended =
+    let all : last ≡ behind before ⊕ json_tokens (object fields) = an_object (behind before) (object_behind before) line last fields refl written ended in
+    ap (λ l. l.before ++ (print l.tokens ++ codes "\n")) all

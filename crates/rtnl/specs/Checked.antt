@@ -1,5 +1,5 @@
 -- What a check finds of the datagrams of an input.
-use Rattle.std.specs.Prelude.{◌≡◌, ◌≤◌, ◌↔◌, ◌++◌, ℕ, List, length, codes, Bool, true, false, IsTrue, Option, Result, Ok, Err}
+use Rattle.std.specs.Prelude.{◌≡◌, ◌≤◌, ◌↔◌, ◌++◌, ℕ, List, [], ◌∷◌, length, codes, Bool, true, false, IsTrue, Option, Result, Ok, Err}
 use Rattle.std.specs.Fmt.{decimal}
 use Rattle.nl_frame.specs.declared.reading.ReadError.{ReadError}
 use Rattle.nl_frame.specs.Limits.{Bounds}
@@ -7,7 +7,8 @@ use Rattle.nl_frame.specs.Message.{MessageVal}
 use Rattle.nl_frame.specs.Layout.{Layout}
 use Rattle.nl_frame.specs.Written.{written}
 use Rattle.rtnl.specs.Text.{◌⨟◌}
-use Rattle.rtnl.specs.Shown.{Refuses, refusal_text}
+use Rattle.rtnl.specs.Json.{Field, boolean, json_line}
+use Rattle.rtnl.specs.Shown.{Refuses, datagram_object, refusal_fields, refusal_text}
 use Rattle.rtnl.specs.Runs.{Prints, OfInput}
 use Rattle.rtnl.specs.declared.error.Verdict.{Verdict}
 
@@ -42,5 +43,21 @@ is_accepted (Err _) = false
 abbrev pub Checks : Bounds → List (List ℕ) → List ℕ → Verdict → Type 0
 Checks b = Prints (Finds b) checked_line is_accepted
 
+-- whether it is canonical, or why it is refused
+abbrev pub finding_fields : Finding → List Field
+finding_fields (Ok canonical) = (codes "canonical", boolean canonical) ∷ []
+finding_fields (Err e) = refusal_fields e
+
+-- the datagram of this number, as a line of JSON
+abbrev pub finding_json : ℕ → List ℕ → Finding → List ℕ
+finding_json n d finding = json_line (datagram_object n (finding_fields finding))
+
+-- the same of datagrams as lines of JSON
+abbrev pub ChecksJson : Bounds → List (List ℕ) → List ℕ → Verdict → Type 0
+ChecksJson b = Prints (Finds b) finding_json is_accepted
+
 abbrev pub ChecksInput : Bounds → Option (List ℕ) → Option (List ℕ) → Option (List ℕ) → Option (List ℕ) → Verdict → Type 0
 ChecksInput b = OfInput (Checks b)
+
+abbrev pub ChecksInputJson : Bounds → Option (List ℕ) → Option (List ℕ) → Option (List ℕ) → Option (List ℕ) → Verdict → Type 0
+ChecksInputJson b = OfInput (ChecksJson b)

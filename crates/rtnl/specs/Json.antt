@@ -5,7 +5,7 @@ use Rattle.std.specs.List.{flat_map}
 use Rattle.hex.specs.Hex.{encode_lower}
 use Rattle.json.specs.Json as json
 use Rattle.json.specs.Print.{print}
-use Rattle.json.specs.Token.{Token, key}
+use Rattle.json.specs.Token.{Token, begin_object, key}
 use Rattle.json.specs.Tree.{json_tokens}
 
 -- a name, and the value that stands behind it
@@ -73,6 +73,10 @@ fields_tokens (field ∷ fields) = key field.0 ∷ (json_tokens field.1 ++ field
 abbrev pub values_tokens : List json.Json → List Token
 values_tokens values = flat_map json_tokens values
 
--- all lines, where the tokens of the last one are those of a whole value
-unfoldable pub ended : Line → List ℕ
-ended line = line.before ++ (print line.tokens ++ codes "\n")
+-- a line behind others
+abbrev pub behind : List ℕ → Line
+behind lines = record { before = lines; tokens = [] }
+
+-- the same, on which an object is begun
+unfoldable pub object_behind : List ℕ → Line
+object_behind lines = behind lines ⊕ (begin_object ∷ [])

@@ -1,5 +1,6 @@
 -- What is shown of the datagrams of an input.
-use Rattle.std.specs.Prelude.{◌<◌, ◌≤◌, ℕ, List, [], ◌++◌, length, Bool, true, false, Option, Result, Ok, Err}
+use Rattle.std.specs.Prelude.{◌<◌, ◌≤◌, ℕ, List, [], ◌∷◌, ◌++◌, length, codes, Bool, true, false, Option, Result, Ok, Err}
+use Rattle.json.specs.Json.{Json}
 use Rattle.nl_attr.specs.declared.order.Order.{Order}
 use Rattle.nl_frame.specs.declared.reading.ReadError.{ReadError}
 use Rattle.nl_frame.specs.declared.reading.ReadError.TheVariants.{TooLarge, Layout as Fails, Memory}
@@ -8,8 +9,10 @@ use Rattle.nl_frame.specs.Message.{MessageVal}
 use Rattle.nl_frame.specs.Layout.{Layout}
 use Rattle.nl_frame.specs.Heads.{IsFirstFault, whole}
 use Rattle.rtnl.specs.Runs.{Prints, OfInput}
-use Rattle.rtnl.specs.Datagrams.{datagram_line, refused_line, too_large_line}
+use Rattle.rtnl.specs.Datagrams.{datagram_line, reason_text, refused_line, too_large_line}
+use Rattle.rtnl.specs.Json.{Field, array, json_line, number, object, string}
 use Rattle.rtnl.specs.Messages.{messages_text}
+use Rattle.rtnl.specs.Objects.{messages_json}
 use Rattle.rtnl.specs.declared.error.Verdict.{Verdict}
 
 -- the messages of a datagram, or why it is refused
@@ -50,5 +53,31 @@ is_taken (Err _) = false
 abbrev pub Shows : Bounds → List (List ℕ) → List ℕ → Verdict → Type 0
 Shows b = Prints (Answers b) (datagram_text b.shape.order) is_taken
 
+-- why a datagram is refused
+unfoldable pub refusal_fields : ReadError → List Field
+refusal_fields TooLarge = (codes "refused", string (codes "too large")) ∷ []
+refusal_fields (Fails f) = (codes "refused", string (reason_text f.reason)) ∷ (codes "at", number f.place) ∷ []
+refusal_fields Memory = []
+
+-- the size of a datagram and its messages, or why it is refused
+abbrev pub answer_fields : Order → ℕ → Answer → List Field
+answer_fields o size (Ok ms) = (codes "bytes", number size) ∷ (codes "messages", array (messages_json o ms)) ∷ []
+answer_fields o size (Err e) = refusal_fields e
+
+-- the object of a datagram, of which these fields tell
+abbrev pub datagram_object : ℕ → List Field → Json
+datagram_object n fields = object ((codes "datagram", number n) ∷ fields)
+
+-- the datagram of this number, as a line of JSON
+abbrev pub datagram_json : Order → ℕ → List ℕ → Answer → List ℕ
+datagram_json o n d a = json_line (datagram_object n (answer_fields o (length d) a))
+
+-- the same of datagrams as lines of JSON
+abbrev pub ShowsJson : Bounds → List (List ℕ) → List ℕ → Verdict → Type 0
+ShowsJson b = Prints (Answers b) (datagram_json b.shape.order) is_taken
+
 abbrev pub ShowsInput : Bounds → Option (List ℕ) → Option (List ℕ) → Option (List ℕ) → Option (List ℕ) → Verdict → Type 0
 ShowsInput b = OfInput (Shows b)
+
+abbrev pub ShowsInputJson : Bounds → Option (List ℕ) → Option (List ℕ) → Option (List ℕ) → Option (List ℕ) → Verdict → Type 0
+ShowsInputJson b = OfInput (ShowsJson b)

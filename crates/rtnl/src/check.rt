@@ -40,6 +40,8 @@ impl Each for Check {
 
     ghost finds = { λ c. Finds c.limits };
 
+    type Out = String;
+
     ghost text = { λ _. checked_line };
 
     ghost takes = { is_accepted };
@@ -74,7 +76,7 @@ impl Command for Check {
         &self,
         alloc: Global,
         datagrams: &[Vec<u8>],
-    ) -> Result<(String, Verdict), AllocError> {
+    ) -> Result<(Vec<u8>, Verdict), AllocError> {
         text_of_each(alloc, self, datagrams)
     }
 }

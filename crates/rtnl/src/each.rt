@@ -1,16 +1,18 @@
 //! What is said of each datagram of a recording by itself.
 
 ghost use Rattle.std.specs.Prelude.{◌≡◌, ◌++◌, List, map, IfOk};
-ghost use Rattle.std.specs.String.{string_bytes};
 ghost use Rattle.rtnl.specs.Runs.{EachIs, Prints, texts_from, verdict_from};
 
 use crate::error::Verdict;
+use crate::output::Output;
 use std::alloc::{AllocError, Global};
 
 /// What is found of a datagram, and its text.
 pub(crate) trait Each {
     ghost use Rattle.std.specs.Prelude.{◌≡◌, ◌++◌, ℕ, List, Bool, IfOk};
-    ghost use Rattle.std.specs.String.{string_bytes};
+
+    /// What the texts are written to.
+    type Out: Output;
 
     // What may be found of a datagram.
     ghost Found: { Type 0 };
@@ -28,26 +30,26 @@ pub(crate) trait Each {
     fn push(
         &self,
         alloc: Global,
-        out: &mut String,
+        out: &mut Self::Out,
         number: usize,
         bytes: &[u8],
     ) -> Result<bool, AllocError>
         ensures { IfOk result (λ taken. (found : Found) × finds self.now bytes.now found
-            × (string_bytes out.new ≡ string_bytes out.old ++ text self.now number bytes.now found)
+            × (Self.Out.bytes out.new ≡ Self.Out.bytes out.old ++ text self.now number bytes.now found)
             × (taken ≡ takes found)) };
 }
 
 /// Writes the texts of all datagrams, and answers the verdict on them.
 fn push_each<E: Each>(
     alloc: Global,
-    out: &mut String,
+    out: &mut E::Out,
     each: &E,
     datagrams: &[Vec<u8>],
 ) -> Result<Verdict, AllocError>
     ensures { IfOk result (λ verdict. (found : List E.Found)
         × EachIs (E.finds each.now) (map (λ d. d.items) datagrams.now) found
-        × (string_bytes out.new
-        ≡ string_bytes out.old ++ texts_from (E.text each.now) 1 (map (λ d. d.items) datagrams.now) found)
+        × (E.Out.bytes out.new
+        ≡ E.Out.bytes out.old ++ texts_from (E.text each.now) 1 (map (λ d. d.items) datagrams.now) found)
         × (verdict ≡ verdict_from E.takes Verdict.Clean found)) }
 {
     let mut verdict = Verdict::Clean;
@@ -63,11 +65,11 @@ pub(crate) fn text_of_each<E: Each>(
     alloc: Global,
     each: &E,
     datagrams: &[Vec<u8>],
-) -> Result<(String, Verdict), AllocError>
+) -> Result<(Vec<u8>, Verdict), AllocError>
     ensures { IfOk result (λ p. Prints (E.finds each.now) (E.text each.now) E.takes
-        (map (λ d. d.items) datagrams.now) (string_bytes p.0) p.1) }
+        (map (λ d. d.items) datagrams.now) p.0.items p.1) }
 {
-    let mut text = String::new(alloc);
+    let mut text = E::Out::empty(alloc);
     let verdict = push_each(alloc, &mut text, each, datagrams)?;
-    Ok((text, verdict))
+    Ok((text.into_bytes(), verdict))
 }

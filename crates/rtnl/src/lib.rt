@@ -10,6 +10,7 @@ mod error;
 pub mod laws;
 mod lines;
 mod objects;
+mod output;
 mod request;
 mod run;
 mod show;

@@ -15,15 +15,14 @@ use std::alloc::{AllocError, Global};
 /// What is said of the datagrams of a recording.
 pub(crate) trait Command {
     ghost use Rattle.std.specs.Prelude.{ℕ, List, map, IfOk};
-    ghost use Rattle.std.specs.String.{string_bytes};
     ghost use Rattle.rtnl.specs.declared.error.Verdict.{Verdict};
 
     // The text of datagrams, and the verdict on them.
     ghost says: { Self → List (List ℕ) → List ℕ → Verdict → Type 0 };
 
     /// The text of all datagrams, in order, and the verdict on them.
-    fn text_of(&self, alloc: Global, datagrams: &[Vec<u8>]) -> Result<(String, Verdict), AllocError>
-        ensures { IfOk result (λ p. says self.now (map (λ d. d.items) datagrams.now) (string_bytes p.0) p.1) };
+    fn text_of(&self, alloc: Global, datagrams: &[Vec<u8>]) -> Result<(Vec<u8>, Verdict), AllocError>
+        ensures { IfOk result (λ p. says self.now (map (λ d. d.items) datagrams.now) p.0.items p.1) };
 }
 
 /// Runs a command over a recording. The input is read to its end and all lines are checked, then
@@ -45,7 +44,7 @@ pub(crate) fn run<S: Source, W: Sink, C: Command>(
     let input = read_input(alloc, source)?;
     let datagrams = read_datagrams(alloc, input.as_slice())?;
     let (text, verdict) = command.text_of(alloc, datagrams.as_slice())?;
-    match give_all(sink, text.as_str().as_bytes()) {
+    match give_all(sink, text.as_slice()) {
         Ok(()) => Ok(verdict),
         Err(_) => Err(RunError::WriteFault),
     }

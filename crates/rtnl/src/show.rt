@@ -4,10 +4,12 @@ ghost use Rattle.std.specs.Prelude.{◌+◌, IfOk};
 ghost use Rattle.rtnl.specs.Lines.{longest_input};
 ghost use Rattle.rtnl.specs.Streams.{ConsumesAtMost};
 ghost use Rattle.rtnl.specs.Runs.{Runs};
-ghost use Rattle.rtnl.specs.Shown.{Shows, ShowsInput};
+ghost use Rattle.rtnl.specs.Shown.{Shows, ShowsInput, ShowsInputJson, ShowsJson};
 
 use crate::each::{Each, text_of_each};
 use crate::error::{RunError, Verdict};
+use crate::objects::line::Line;
+use crate::objects;
 use crate::run::{Command, run};
 use crate::sink::Sink;
 use crate::source::Source;
@@ -28,6 +30,8 @@ impl Each for Show {
     ghost Found = { Answer };
 
     ghost finds = { λ s. Answers s.limits };
+
+    type Out = String;
 
     ghost text = { λ s. datagram_text s.limits.shape.order };
 
@@ -54,6 +58,50 @@ impl Each for Show {
     }
 }
 
+/// To show datagrams as lines of JSON.
+#[derive(Clone, Copy)]
+struct ShowJson {
+    limits: Limits,
+}
+
+impl Each for ShowJson {
+    ghost use Rattle.rtnl.specs.Shown.{Answer, Answers, datagram_json, is_taken};
+
+    ghost Found = { Answer };
+
+    ghost finds = { λ s. Answers s.limits };
+
+    type Out = Vec<u8>;
+
+    ghost text = { λ s. datagram_json s.limits.shape.order };
+
+    ghost takes = { is_taken };
+
+    fn push(
+        &self,
+        alloc: Global,
+        out: &mut Vec<u8>,
+        number: usize,
+        bytes: &[u8],
+    ) -> Result<bool, AllocError> {
+        let mut line = Line::begin(alloc, out)?;
+        line.number("datagram", number as u64)?;
+        match read_datagram(alloc, bytes, &self.limits).into_result() {
+            Ok(messages) => {
+                line.number("bytes", bytes.len() as u64)?;
+                objects::push_messages(alloc, &mut line, self.limits.order(), messages.as_slice())?;
+                line.end(out)?;
+                Ok(true)
+            }
+            Err(error) => {
+                objects::push_refusal(&mut line, error)?;
+                line.end(out)?;
+                Ok(false)
+            }
+        }
+    }
+}
+
 impl Command for Show {
     ghost use Rattle.rtnl.specs.Shown.{Shows};
 
@@ -63,7 +111,21 @@ impl Command for Show {
         &self,
         alloc: Global,
         datagrams: &[Vec<u8>],
-    ) -> Result<(String, Verdict), AllocError> {
+    ) -> Result<(Vec<u8>, Verdict), AllocError> {
+        text_of_each(alloc, self, datagrams)
+    }
+}
+
+impl Command for ShowJson {
+    ghost use Rattle.rtnl.specs.Shown.{ShowsJson};
+
+    ghost says = { λ s. ShowsJson s.limits };
+
+    fn text_of(
+        &self,
+        alloc: Global,
+        datagrams: &[Vec<u8>],
+    ) -> Result<(Vec<u8>, Verdict), AllocError> {
         text_of_each(alloc, self, datagrams)
     }
 }
@@ -92,4 +154,28 @@ pub fn run_show<S: Source, W: Sink>(
         (S.remaining source.old) (S.remaining source.new) }
 {
     run(alloc, source, sink, &Show { limits: *limits })
+}
+
+/// Shows each datagram as `run_show` does, as a line of JSON (RFC 8259) in place of text: an object
+/// of its number, its size and its messages, or of its number and why it is refused.
+///
+/// It reads, writes and ends as `run_show` does.
+pub fn run_show_json<S: Source, W: Sink>(
+    alloc: Global,
+    source: &mut S,
+    sink: &mut W,
+    limits: &Limits,
+) -> Result<Verdict, RunError>
+    // What was written is the objects of the datagrams of what was read, and the verdict is theirs.
+    ensures shown { IfOk result (ShowsInputJson limits.now (S.remaining source.old) (S.remaining source.new)
+        (W.contents sink.old) (W.contents sink.new)) }
+    // It ends as every run over a recording does.
+    ensures runs { Runs S.remaining S.is_ended S.failure_count
+        W.contents W.is_stalled W.stall_count W.failure_count
+        (ShowsJson limits.now) source.old source.new sink.old sink.new result }
+    // It takes at most one byte more than the longest input.
+    ensures bounded { ConsumesAtMost (longest_input + 1)
+        (S.remaining source.old) (S.remaining source.new) }
+{
+    run(alloc, source, sink, &ShowJson { limits: *limits })
 }

@@ -122,7 +122,7 @@ impl Command for Tabulate {
         &self,
         alloc: Global,
         datagrams: &[Vec<u8>],
-    ) -> Result<(String, Verdict), AllocError> {
+    ) -> Result<(Vec<u8>, Verdict), AllocError> {
         let (mut session, _request) = begun(alloc, &self.dump, &self.limits)?;
         let mut text = String::new(alloc);
         push_dump_line(&mut text, &self.dump)?;
@@ -136,7 +136,7 @@ impl Command for Tabulate {
             self.dump.kind,
             unfed,
         )?;
-        Ok((text, verdict(session.complete())))
+        Ok((text.into_bytes(), verdict(session.complete())))
     }
 }
 

@@ -1,16 +1,17 @@
 //! Lines of JSON.
 
-ghost use Rattle.std.specs.Prelude.{◌≡◌, ◌∷◌, [], OnOk, IfOk, map};
+ghost use Rattle.std.specs.Prelude.{◌≡◌, ℕ, List, ◌∷◌, [], ◌++◌, OnOk, IfOk, map};
 ghost use Rattle.json.specs.Json.{null};
 ghost use Rattle.json.specs.Print.{IsPrintable};
 ghost use Rattle.json.specs.Reads.{token_of};
 ghost use Rattle.json.specs.Token.{begin_array, begin_object, end_array, end_object, key};
 ghost use Rattle.json.specs.Tree.{json_tokens};
-ghost use Rattle.rtnl.specs.Json.{◌⊕◌, boolean, digits, ended, fields_tokens, number, signed, string};
+ghost use Rattle.rtnl.specs.Json.{Field, ◌⊕◌, boolean, digits, fields_tokens, json_line, number, object, object_behind, signed, string};
 
 use json::{Token, Writer};
 use std::alloc::{AllocError, Global};
 use std::marker::Model;
+use std::mem;
 
 /// A value of JSON that is being written on a line of its own, behind other lines.
 #[derive(Drop)]
@@ -27,23 +28,31 @@ impl Model for Line {
 }
 
 impl Line {
-    /// A line behind these.
-    pub(crate) fn behind(lines: Vec<u8>) -> Line
-        ensures { result ≡ record { before = lines.items; tokens = [] } }
+    /// A line behind these, on which an object is begun. The lines are then its.
+    #[tactic(auto, unfolding(crate::specs::Json::object_behind))]
+    pub(crate) fn begin(alloc: Global, lines: &mut Vec<u8>) -> Result<Line, AllocError>
+        ensures { IfOk result (λ line. line ≡ object_behind lines.old.items) }
     {
-        Line {
-            writer: Writer::new(lines),
-        }
+        let mut line = Line {
+            writer: Writer::new(mem::replace(lines, Vec::new(alloc))),
+        };
+        line.begin_object()?;
+        Ok(line)
     }
 
-    /// All lines, the last of which ends here.
-    #[tactic(auto, unfolding(crate::specs::Json::ended), using(std::proofs::Common::append_assoc))]
-    pub(crate) fn ended(self) -> Result<Vec<u8>, AllocError>
-        ensures { IfOk result (λ lines. lines.items ≡ ended self) }
+    /// Ends the object and its line, and gives all lines back.
+    #[tactic(auto, using(crate::proofs::Json::whole_line))]
+    pub(crate) fn end(self, lines: &mut Vec<u8>) -> Result<(), AllocError>
+        ensures { OnOk result ((before : List ℕ) (fields : List Field)
+            → self ≡ object_behind before ⊕ fields_tokens fields
+            → lines.new.items ≡ before ++ json_line (object fields)) }
     {
-        let mut lines = self.writer.into_inner();
-        lines.push(b'\n')?;
-        Ok(lines)
+        let mut line = self;
+        line.end_object()?;
+        let mut all = line.writer.into_inner();
+        all.push(b'\n')?;
+        *lines = all;
+        Ok(())
     }
 
     #[tactic(auto, using(crate::proofs::Json::takes))]

@@ -32,7 +32,7 @@ pub(crate) fn push_number(out: &mut String, number: usize) -> Result<(), AllocEr
 }
 
 #[tactic(auto, unfolding(crate::specs::Datagrams::reason_text))]
-fn reason_name(reason: Reason) -> &'static str
+pub(crate) fn reason_name(reason: Reason) -> &'static str
     ensures { result.now ≡ reason_text reason }
 {
     match reason {

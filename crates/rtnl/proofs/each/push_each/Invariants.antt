@@ -1,10 +1,9 @@
 use Rattle.std.proofs.Common.{◌+◌, drop, map}
-use Rattle.std.specs.String.{string_bytes}
 use Rattle.rtnl.proofs.Running.{Continues}
 use Rattle.rtnl.proofs.each.push_each.Given as goal
 
 -- whatever is found of the rest, with it all datagrams are printed
 abbrev pub invariant-loop-index : goal.invariant-loop-index
 invariant-loop-index g l =
-    Continues (g.E.Each.finds l.each) (g.E.Each.text l.each) g.E.Each.takes (map (λ d. d.items) l.datagrams) (string_bytes l.initial.out) (l.index + 1)
-    (map (λ d. d.items) (drop l.index l.datagrams)) (string_bytes l.out) l.verdict
+    Continues (g.E.Each.finds l.each) (g.E.Each.text l.each) g.E.Each.takes (map (λ d. d.items) l.datagrams) (g.E.Out.Output.bytes l.initial.out) (l.index + 1)
+    (map (λ d. d.items) (drop l.index l.datagrams)) (g.E.Out.Output.bytes l.out) l.verdict
