@@ -2,13 +2,15 @@
 
 ghost use Rattle.std.specs.Prelude.{◌≡◌, ◌+◌, ◌++◌, Ok, OnOk, IfOk};
 ghost use Rattle.std.specs.String.{string_bytes};
-ghost use Rattle.rtnl.specs.Checked.{Checks, ChecksInput, finding_text};
+ghost use Rattle.rtnl.specs.Checked.{Checks, ChecksInput, ChecksInputJson, ChecksJson, finding_text};
 ghost use Rattle.rtnl.specs.Lines.{longest_input};
 ghost use Rattle.rtnl.specs.Runs.{Runs};
 ghost use Rattle.rtnl.specs.Streams.{ConsumesAtMost};
 
 use crate::each::{Each, text_of_each};
 use crate::error::{RunError, Verdict};
+use crate::objects;
+use crate::objects::line::Line;
 use crate::run::{Command, run};
 use crate::sink::Sink;
 use crate::source::Source;
@@ -67,10 +69,67 @@ impl Each for Check {
     }
 }
 
+/// To check datagrams, and tell it as lines of JSON.
+#[derive(Clone, Copy)]
+struct CheckJson {
+    limits: Limits,
+}
+
+impl Each for CheckJson {
+    ghost use Rattle.rtnl.specs.Checked.{Finding, Finds, finding_json, is_accepted};
+
+    ghost Found = { Finding };
+
+    ghost finds = { λ c. Finds c.limits };
+
+    type Out = Vec<u8>;
+
+    ghost text = { λ _. finding_json };
+
+    ghost takes = { is_accepted };
+
+    fn push(
+        &self,
+        alloc: Global,
+        out: &mut Vec<u8>,
+        number: usize,
+        bytes: &[u8],
+    ) -> Result<bool, AllocError> {
+        let mut line = Line::begin(alloc, out)?;
+        line.number("datagram", number as u64)?;
+        match is_canonical(alloc, bytes, &self.limits) {
+            Ok(canonical) => {
+                line.boolean("canonical", canonical)?;
+                line.end(out)?;
+                Ok(true)
+            }
+            Err(error) => {
+                objects::push_refusal(&mut line, error)?;
+                line.end(out)?;
+                Ok(false)
+            }
+        }
+    }
+}
+
 impl Command for Check {
     ghost use Rattle.rtnl.specs.Checked.{Checks};
 
     ghost says = { λ c. Checks c.limits };
+
+    fn text_of(
+        &self,
+        alloc: Global,
+        datagrams: &[Vec<u8>],
+    ) -> Result<(Vec<u8>, Verdict), AllocError> {
+        text_of_each(alloc, self, datagrams)
+    }
+}
+
+impl Command for CheckJson {
+    ghost use Rattle.rtnl.specs.Checked.{ChecksJson};
+
+    ghost says = { λ c. ChecksJson c.limits };
 
     fn text_of(
         &self,
@@ -106,4 +165,29 @@ pub fn run_check<S: Source, W: Sink>(
         (S.remaining source.old) (S.remaining source.new) }
 {
     run(alloc, source, sink, &Check { limits: *limits })
+}
+
+/// Checks each datagram as `run_check` does, and says it as a line of JSON (RFC 8259) in place of
+/// text: an object of its number and whether it is canonical, or of its number and why it is
+/// refused.
+///
+/// It reads, writes and ends as `run_check` does.
+pub fn run_check_json<S: Source, W: Sink>(
+    alloc: Global,
+    source: &mut S,
+    sink: &mut W,
+    limits: &Limits,
+) -> Result<Verdict, RunError>
+    // What was written is the objects of the datagrams of what was read, and the verdict is theirs.
+    ensures checked { IfOk result (ChecksInputJson limits.now (S.remaining source.old) (S.remaining source.new)
+        (W.contents sink.old) (W.contents sink.new)) }
+    // It ends as every run over a recording does.
+    ensures runs { Runs S.remaining S.is_ended S.failure_count
+        W.contents W.is_stalled W.stall_count W.failure_count
+        (ChecksJson limits.now) source.old source.new sink.old sink.new result }
+    // It takes at most one byte more than the longest input.
+    ensures bounded { ConsumesAtMost (longest_input + 1)
+        (S.remaining source.old) (S.remaining source.new) }
+{
+    run(alloc, source, sink, &CheckJson { limits: *limits })
 }

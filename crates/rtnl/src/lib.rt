@@ -20,12 +20,12 @@ mod table;
 mod text;
 
 pub use broken::Broken;
-pub use check::run_check;
+pub use check::{run_check, run_check_json};
 pub use error::{RunError, Verdict};
 pub use nl_dump as dump;
 pub use nl_frame as frame;
 pub use request::{run_request, run_request_ordered};
-pub use show::run_show;
+pub use show::{run_show, run_show_json};
 pub use sink::{Sink, VecSink, WriteSink};
 pub use source::{ReadSource, SliceSource, Source};
 pub use table::run_table;
