@@ -12,16 +12,16 @@ use Rattle.nl_dump.specs.View.{View, table_at}
 use Rattle.nl_dump.specs.Steps.{IsWaiting, IsNew, Began, Fed}
 use Rattle.nl_dump.specs.Whole.{begins}
 use Rattle.nl_dump.proofs.Courses.{calls_end}
-use Rattle.rtnl.specs.Tabled.{dump_line, entries_text, ending_text, Answered, datagrams_of, IsTold, FeedsSome, fed_text, refusals_text, tabled_text, calls_of, IsRun}
+use Rattle.rtnl.specs.Tabled.{Telling, answer_text, entries_text, Answered, datagrams_of, IsTold, FeedsSome, refusals_text, tabled, calls_of, IsRun}
 
 -- nothing is fed yet
 pub feeds_none : (u : View) (ds : List (List ℕ)) → FeedsSome u ds [] ds u
 feeds_none u ds = record { order = refl; told = tt; calls = λ b before calls. calls }
 
 -- no line yet
-pub refused_none : (out : List ℕ) → out ≡ out ++ refusals_text []
+pub refused_none : (t : Telling) (out : List ℕ) → out ≡ out ++ refusals_text t []
 unfolding refusals_text
-refused_none out = sym (append-nil out)
+refused_none t out = sym (append-nil out)
 
 -- one datagram more
 pub feeds_more : (u v w : View) (ds rest : List (List ℕ)) (fed : List Answered) (d : List ℕ) (r : Result Progress FeedError) → FeedsSome u ds fed (d ∷ rest) v → Fed v d r w → IsTold r → FeedsSome u ds ((d, r) ∷ fed) rest w
@@ -33,10 +33,10 @@ feeds_more u v w ds rest fed d r h step told =
     }
 
 -- and its line
-pub refused_more : (old mid new : List ℕ) (fed : List Answered) (d : List ℕ) (r : Result Progress FeedError) (n : ℕ) → mid ≡ old ++ refusals_text fed → length fed ≡ n → new ≡ mid ++ fed_text (n + 1) r → new ≡ old ++ refusals_text ((d, r) ∷ fed)
+pub refused_more : (t : Telling) (old mid new : List ℕ) (fed : List Answered) (d : List ℕ) (r : Result Progress FeedError) (n : ℕ) → mid ≡ old ++ refusals_text t fed → length fed ≡ n → new ≡ mid ++ answer_text t (n + 1) r → new ≡ old ++ refusals_text t ((d, r) ∷ fed)
 unfolding refusals_text
-refused_more old mid new fed d r n h size line =
-    line ∙ ap (λ t. t ++ fed_text (n + 1) r) h ∙ append_assoc old (refusals_text fed) (fed_text (n + 1) r) ∙ ap (λ k. old ++ (refusals_text fed ++ fed_text (k + 1) r)) (sym size)
+refused_more t old mid new fed d r n h size line =
+    line ∙ ap (λ x. x ++ answer_text t (n + 1) r) h ∙ append_assoc old (refusals_text t fed) (answer_text t (n + 1) r) ∙ ap (λ k. old ++ (refusals_text t fed ++ answer_text t (k + 1) r)) (sym size)
 
 -- a whole run
 pub run_is : (b : Bounds) (d : Dump) (ds : List (List ℕ)) (request : Vec ℕ) (fed : List Answered) (unfed : List (List ℕ)) (new begun v : View) → IsNew b new → Began new d (Ok request) begun → FeedsSome begun ds fed unfed v → (IsWaiting v.state → unfed ≡ [])
@@ -52,15 +52,15 @@ none_left f xs n e = ap (map f) (drop_of_length-le xs (omega (arith, e)))
 pub left_length : {X : Type 0} (f : X → List ℕ) (xs : List X) (n : ℕ) → length (map f (drop n xs)) ≡ length xs - n
 left_length f xs n = length-map (drop n xs) f ∙ length-drop n xs
 
--- the text of a run
-pub run_text : (d : Dump) (fed : List Answered) (unfed : List (List ℕ)) (v : View) (b : Bounds) (o : Order) (n : ℕ) (first second third all : List ℕ) → first ≡ [] → second ≡ first ++ dump_line d → third ≡ second ++ refusals_text fed
-    → all ≡ (third ++ entries_text o 1 (table_at d.kind v.tables).entries) ++ ending_text d.kind n v → o ≡ b.shape.order → v.limits ≡ b → n ≡ length unfed → all ≡ tabled_text d fed (length unfed) v
-run_text d fed unfed v b o n first second third all none line refusals rest order limits left =
-    let front : second ≡ dump_line d = line ∙ ap (λ t. t ++ dump_line d) none in
-    let more : third ≡ dump_line d ++ refusals_text fed = refusals ∙ ap (λ t. t ++ refusals_text fed) front in
+-- what is told of a run
+pub run_text : (t : Telling) (d : Dump) (fed : List Answered) (unfed : List (List ℕ)) (v : View) (b : Bounds) (o : Order) (n : ℕ) (first second third all : List ℕ) → first ≡ [] → second ≡ first ++ t.front d → third ≡ second ++ refusals_text t fed
+    → all ≡ (third ++ entries_text t o 1 (table_at d.kind v.tables).entries) ++ t.ending d n v → o ≡ b.shape.order → v.limits ≡ b → n ≡ length unfed → all ≡ tabled t d fed (length unfed) v
+run_text t d fed unfed v b o n first second third all none line refusals rest order limits left =
+    let front : second ≡ t.front d = line ∙ ap (λ x. x ++ t.front d) none in
+    let more : third ≡ t.front d ++ refusals_text t fed = refusals ∙ ap (λ x. x ++ refusals_text t fed) front in
     let same : o ≡ v.limits.shape.order = order ∙ sym (ap (λ (x : Bounds). x.shape.order) limits) in
-    rest ∙ λ i. (more i ++ entries_text (same i) 1 (table_at d.kind v.tables).entries) ++ ending_text d.kind (left i) v
+    rest ∙ λ i. (more i ++ entries_text t (same i) 1 (table_at d.kind v.tables).entries) ++ t.ending d (left i) v
 
--- a table's entries, and the four lines behind them
-pub five_parts : (old es first second third fourth a b c d : List ℕ) → a ≡ old ++ es → b ≡ a ++ first → c ≡ b ++ second → d ≡ c ++ third → d ++ fourth ≡ (old ++ es) ++ (first ++ (second ++ (third ++ fourth)))
-five_parts old es first second third fourth a b c d e f g h = rw (h, g, f, e) (simp append_assoc)
+-- four lines behind others
+pub four_parts : (old first second third fourth a b c d : List ℕ) → a ≡ old ++ first → b ≡ a ++ second → c ≡ b ++ third → d ≡ c ++ fourth → d ≡ old ++ (first ++ (second ++ (third ++ fourth)))
+four_parts old first second third fourth a b c d e f g h = rw (h, g, f, e) (simp append_assoc)

@@ -3,7 +3,6 @@ use Rattle.std.specs.Prelude.{◌≡◌, ℕ, ◌+◌, List, [], ◌∷◌, ◌+
 use Rattle.std.specs.Fmt.{decimal, signed_decimal}
 use Rattle.std.specs.Global.{Vec}
 use Rattle.nl_attr.specs.declared.order.Order.{Order}
-use Rattle.nl_route.specs.declared.group.Group.{Group}
 use Rattle.nl_route.specs.Families.{name_of}
 use Rattle.nl_frame.specs.Limits.{Bounds}
 use Rattle.nl_frame.specs.Message.{family}
@@ -35,22 +34,33 @@ unfoldable pub total_line : List ℕ
 total_line = codes "refused total\n"
 
 -- the line of the datagram of this number, where it was refused
-unfoldable pub fed_text : ℕ → Result Progress FeedError → List ℕ
-fed_text number (Ok progress) = []
-fed_text number (Err feed.NotWaiting) = []
-fed_text number (Err feed.Total) = number_front number ++ total_line
-fed_text number (Err feed.TooLarge) = number_front number ++ too_large_line
-fed_text number (Err (feed.Layout f)) = number_front number ++ refused_line f.reason f.place
-fed_text number (Err feed.Memory) = []
+unfoldable pub refusal_line : ℕ → FeedError → List ℕ
+refusal_line number feed.NotWaiting = []
+refusal_line number feed.Total = number_front number ++ total_line
+refusal_line number feed.TooLarge = number_front number ++ too_large_line
+refusal_line number (feed.Layout f) = number_front number ++ refused_line f.reason f.place
+refusal_line number feed.Memory = []
 
 -- a datagram that was fed, and its answer
 abbrev pub Answered : Type 0
 Answered = List ℕ × Result Progress FeedError
 
--- the lines of the datagrams that were fed, the newest first; their numbers count from 1
-unfoldable pub refusals_text : List Answered → List ℕ
-refusals_text [] = []
-refusals_text (f ∷ fed) = refusals_text fed ++ fed_text (length fed + 1) f.1
+-- how a dump is told: as it begins, of each datagram that was refused, of each entry, and of how it ended with so many datagrams left
+pub record Telling : Type 0 where
+  pub front : Dump → List ℕ
+  pub refusal : ℕ → FeedError → List ℕ
+  pub entry : Order → ℕ → Item → List ℕ
+  pub ending : Dump → ℕ → View → List ℕ
+
+-- what is told of a datagram that was answered so
+abbrev pub answer_text : Telling → ℕ → Result Progress FeedError → List ℕ
+answer_text t number (Ok progress) = []
+answer_text t number (Err e) = t.refusal number e
+
+-- what is told of the datagrams that were fed, the newest first; their numbers count from 1
+unfoldable pub refusals_text : Telling → List Answered → List ℕ
+refusals_text t [] = []
+refusals_text t (f ∷ fed) = refusals_text t fed ++ answer_text t (length fed + 1) f.1
 
 -- the entry of this number
 unfoldable pub entry_line : ℕ → List ℕ
@@ -60,10 +70,14 @@ entry_line number = codes "entry " ⨟ decimal number ⨟ codes "\n"
 unfoldable pub item_text : Order → Item → List ℕ
 item_text o item = body_text o (family item.0 item.1)
 
+-- an entry: its line, and its body lines
+abbrev pub entry_text : Order → ℕ → Item → List ℕ
+entry_text o number item = entry_line number ++ item_text o item
+
 -- the entries of a table from this number on, each of which stands behind its key
-unfoldable pub entries_text : Order → ℕ → List (List ℕ × Item) → List ℕ
-entries_text o number [] = []
-entries_text o number (e ∷ es) = (entry_line number ++ item_text o e.1) ++ entries_text o (number + 1) es
+unfoldable pub entries_text : Telling → Order → ℕ → List (List ℕ × Item) → List ℕ
+entries_text t o number [] = []
+entries_text t o number (e ∷ es) = t.entry o number e.1 ++ entries_text t o (number + 1) es
 
 -- how the dump ended
 unfoldable pub end_line : State → List ℕ
@@ -91,19 +105,23 @@ sums_line received visits = codes "received " ⨟ decimal received ⨟ codes " v
 unfoldable pub complete_line : Bool → List ℕ
 complete_line complete = codes "complete " ⨟ yes_no complete ⨟ codes "\n"
 
--- how a session's dump of this family ended, with so many datagrams left
-unfoldable pub ending_text : Group → ℕ → View → List ℕ
-ending_text k unfed v =
-    let t = table_at k v.tables in
+-- how a session's dump ended, with so many datagrams left
+unfoldable pub ending_text : Dump → ℕ → View → List ℕ
+ending_text d unfed v =
+    let t = table_at d.kind v.tables in
     end_line v.state
     ⨟ counts_line (length t.entries) t.missed v.ignored unfed v.damaged v.interrupted
     ⨟ sums_line v.received v.visits
     ⨟ complete_line (complete_of v)
 
--- the text of a session's dump: the datagrams that were fed, and how many were not
-abbrev pub tabled_text : Dump → List Answered → ℕ → View → List ℕ
-tabled_text d fed unfed v =
-    ((dump_line d ++ refusals_text fed) ++ entries_text v.limits.shape.order 1 (table_at d.kind v.tables).entries) ++ ending_text d.kind unfed v
+-- a dump told in lines of text
+abbrev pub in_text : Telling
+in_text = record { front = dump_line; refusal = refusal_line; entry = entry_text; ending = ending_text }
+
+-- what is told of a session's dump: the datagrams that were fed, and how many were not
+abbrev pub tabled : Telling → Dump → List Answered → ℕ → View → List ℕ
+tabled t d fed unfed v =
+    ((t.front d ++ refusals_text t fed) ++ entries_text t v.limits.shape.order 1 (table_at d.kind v.tables).entries) ++ t.ending d unfed v
 
 -- datagrams in the order in which they were fed
 abbrev pub datagrams_of : List Answered → List (List ℕ)
@@ -154,15 +172,19 @@ abbrev pub verdict_of : Bool → Verdict
 verdict_of true = Clean
 verdict_of false = Blemished
 
--- the text of the session in which the run over these datagrams ends, and whether its dump is complete
-pub record Tables (b : Bounds) (d : Dump) (ds : List (List ℕ)) (text : List ℕ) (verdict : Verdict) : Type 0 where
+-- what is told of the session in which the run over these datagrams ends, and whether its dump is complete
+pub record TablesBy (t : Telling) (b : Bounds) (d : Dump) (ds : List (List ℕ)) (text : List ℕ) (verdict : Verdict) : Type 0 where
   pub request : Vec ℕ
   pub fed : List Answered
   pub unfed : List (List ℕ)
   pub session : View
   pub run : IsRun b d ds request fed unfed session
-  pub text_is : text ≡ tabled_text d fed (length unfed) session
+  pub text_is : text ≡ tabled t d fed (length unfed) session
   pub verdict_is : verdict ≡ verdict_of (complete_of session)
+
+-- the text of the session in which the run over these datagrams ends, and whether its dump is complete
+abbrev pub Tables : Bounds → Dump → List (List ℕ) → List ℕ → Verdict → Type 0
+Tables = TablesBy in_text
 
 abbrev pub TablesInput : Bounds → Dump → Option (List ℕ) → Option (List ℕ) → Option (List ℕ) → Option (List ℕ) → Verdict → Type 0
 TablesInput b d = OfInput (Tables b d)

@@ -5,6 +5,7 @@
 mod begun;
 mod broken;
 mod check;
+mod contents;
 mod each;
 mod error;
 pub mod laws;
@@ -17,6 +18,7 @@ mod show;
 mod sink;
 mod source;
 mod table;
+mod telling;
 mod text;
 
 pub use broken::Broken;

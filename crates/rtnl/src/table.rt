@@ -1,30 +1,27 @@
 //! Reading a recording as the answers to a dump.
 
 ghost use Rattle.std.specs.Prelude.{◌≡◌, ◌≤◌, ◌+◌, ◌++◌, ◌↔◌, IsTrue, List, map, length, drop, Result, OnOk, IfOk};
-ghost use Rattle.std.specs.String.{string_bytes};
 ghost use Rattle.nl_dump.specs.Steps.{Fed, IsWaiting};
-ghost use Rattle.nl_dump.specs.View.{table_at};
 ghost use Rattle.nl_dump.specs.declared.dump.Progress.{Progress as AnyProgress};
 ghost use Rattle.nl_dump.specs.declared.errors.FeedError.{FeedError as AnyFeedError};
 ghost use Rattle.rtnl.specs.Lines.{longest_input};
 ghost use Rattle.rtnl.specs.Runs.{Runs};
 ghost use Rattle.rtnl.specs.Streams.{ConsumesAtMost};
-ghost use Rattle.rtnl.specs.Tabled.{Answered, FeedsSome, IsTold, Tables, TablesInput, ending_text, entries_text, fed_text, refusals_text, verdict_of};
+ghost use Rattle.rtnl.specs.Tabled.{Answered, FeedsSome, IsTold, Tables, TablesInput, answer_text, refusals_text, verdict_of};
 
 use crate::begun::begun;
+use crate::contents::push_table;
 use crate::error::{RunError, Verdict};
+use crate::output::Output;
 use crate::run::{Command, run};
 use crate::sink::Sink;
 use crate::source::Source;
-use crate::text::dump::{
-    Counts, push_complete_line, push_counts_line, push_dump_line, push_end_line, push_feed_error,
-    push_sums_line,
-};
-use crate::text::entries::push_table;
-use nl_attr::Order;
-use nl_dump::{Dump, Kind, Session, State};
+use crate::telling::Telling;
+use crate::text::dump::InText;
+use nl_dump::{Dump, Session, State};
 use nl_frame::Limits;
 use std::alloc::{AllocError, Global};
+use std::marker::PhantomData;
 
 fn is_waiting(state: State) -> bool
     ensures { IsTrue result ↔ IsWaiting state }
@@ -32,68 +29,43 @@ fn is_waiting(state: State) -> bool
     matches!(state, State::Waiting(_))
 }
 
-/// Feeds a datagram to a dump that waits, and writes its line where it is refused.
-fn feed_one(
+/// Feeds a datagram to a dump that waits, and tells where it is refused.
+fn feed_one<F: Telling>(
+    alloc: Global,
     session: &mut Session,
-    out: &mut String,
+    out: &mut F::Out,
     number: usize,
     bytes: &[u8],
 ) -> Result<(), AllocError>
     requires { IsWaiting session.old.state }
     ensures { IfOk result (λ _. (r : Result AnyProgress AnyFeedError) × Fed session.old bytes.now r session.new × IsTold r
-        × (string_bytes out.new ≡ string_bytes out.old ++ fed_text number r)) }
+        × (F.Out.bytes out.new ≡ F.Out.bytes out.old ++ answer_text F.told number r)) }
 {
     match session.feed(bytes) {
         Ok(_) => Ok(()),
-        Err(error) => push_feed_error(out, number, error),
+        Err(error) => F::push_refusal(alloc, out, number, error),
     }
 }
 
-/// Feeds datagrams in order until the dump has ended, writes a line for each that is refused, and
-/// answers how many were fed.
-fn feed_all(
+/// Feeds datagrams in order until the dump has ended, tells of each that is refused, and answers
+/// how many were fed.
+fn feed_all<F: Telling>(
+    alloc: Global,
     session: &mut Session,
-    out: &mut String,
+    out: &mut F::Out,
     datagrams: &[Vec<u8>],
 ) -> Result<usize, AllocError>
     ensures { IfOk result (λ count. (count ≤ length datagrams.now) × (IsWaiting session.new.state → count ≡ length datagrams.now)
         × ((fed : List Answered) × FeedsSome session.old (map (λ d. d.items) datagrams.now) fed (map (λ d. d.items) (drop count datagrams.now)) session.new
-        × (string_bytes out.new ≡ string_bytes out.old ++ refusals_text fed))) }
+        × (F.Out.bytes out.new ≡ F.Out.bytes out.old ++ refusals_text F.told fed))) }
 {
     for (index, datagram) in datagrams.iter().enumerate() {
         if !is_waiting(session.state()) {
             return Ok(index);
         }
-        feed_one(session, out, index + 1, datagram.as_slice())?;
+        feed_one::<F>(alloc, session, out, index + 1, datagram.as_slice())?;
     }
     Ok(datagrams.len())
-}
-
-/// Writes the entries of a family's table, and how its dump ended with so many datagrams left.
-fn push_session(
-    alloc: Global,
-    out: &mut String,
-    order: Order,
-    session: &Session,
-    kind: Kind,
-    unfed: usize,
-) -> Result<(), AllocError>
-    ensures { OnOk result (string_bytes out.new ≡ (string_bytes out.old ++ entries_text order 1 (table_at kind session.now.tables).entries)
-        ++ ending_text kind unfed session.now) }
-{
-    let size = push_table(alloc, out, order, session, kind)?;
-    push_end_line(out, session.state())?;
-    let counts = Counts {
-        entries: size.entries,
-        missed: size.missed,
-        ignored: session.ignored(),
-        unfed,
-        damaged: session.damaged(),
-        interrupted: session.interrupted(),
-    };
-    push_counts_line(out, counts)?;
-    push_sums_line(out, session.received(), session.visits())?;
-    push_complete_line(out, session.complete())
 }
 
 fn verdict(complete: bool) -> Verdict
@@ -106,17 +78,18 @@ fn verdict(complete: bool) -> Verdict
     }
 }
 
-/// To read datagrams as the answers to a dump, under these limits.
+/// To read datagrams as the answers to a dump, under these limits, and tell of it so.
 #[derive(Clone, Copy)]
-struct Tabulate {
+struct Tabulate<F> {
     dump: Dump,
     limits: Limits,
+    form: PhantomData<F>,
 }
 
-impl Command for Tabulate {
-    ghost use Rattle.rtnl.specs.Tabled.{Tables};
+impl<F: Telling> Command for Tabulate<F> {
+    ghost use Rattle.rtnl.specs.Tabled.{TablesBy};
 
-    ghost says = { λ t. Tables t.limits t.dump };
+    ghost says = { λ t. TablesBy F.told t.limits t.dump };
 
     fn text_of(
         &self,
@@ -124,19 +97,19 @@ impl Command for Tabulate {
         datagrams: &[Vec<u8>],
     ) -> Result<(Vec<u8>, Verdict), AllocError> {
         let (mut session, _request) = begun(alloc, &self.dump, &self.limits)?;
-        let mut text = String::new(alloc);
-        push_dump_line(&mut text, &self.dump)?;
-        let fed = feed_all(&mut session, &mut text, datagrams)?;
+        let mut out = F::Out::empty(alloc);
+        F::push_front(alloc, &mut out, &self.dump)?;
+        let fed = feed_all::<F>(alloc, &mut session, &mut out, datagrams)?;
         let unfed = datagrams.len() - fed;
-        push_session(
+        let size = push_table::<F>(
             alloc,
-            &mut text,
+            &mut out,
             self.limits.order(),
             &session,
             self.dump.kind,
-            unfed,
         )?;
-        Ok((text.into_bytes(), verdict(session.complete())))
+        F::push_ending(alloc, &mut out, &self.dump, &session, size, unfed)?;
+        Ok((out.into_bytes(), verdict(session.complete())))
     }
 }
 
@@ -170,9 +143,10 @@ pub fn run_table<S: Source, W: Sink>(
         alloc,
         source,
         sink,
-        &Tabulate {
+        &Tabulate::<InText> {
             dump,
             limits: *limits,
+            form: PhantomData,
         },
     )
 }

@@ -1,13 +1,16 @@
-//! The lines that are printed of a dump beside its entries.
+//! The printed text of a dump.
 
-ghost use Rattle.std.specs.Prelude.{◌≡◌, ◌≢◌, ◌++◌, OnOk, Err, length};
+ghost use Rattle.std.specs.Prelude.{◌≡◌, ◌≢◌, ◌++◌, OnOk, length};
 ghost use Rattle.std.specs.String.{string_bytes};
-ghost use Rattle.rtnl.specs.Tabled.{complete_line, counts_line, dump_line, end_line, fed_text, sums_line, total_line, yes_no};
+ghost use Rattle.rtnl.specs.Tabled.{complete_line, counts_line, dump_line, end_line, entry_line, refusal_line, sums_line, total_line, yes_no};
 
 use crate::text::datagram::{push_number, push_refusal};
-use nl_dump::{Dump, End, FeedError, State};
+use crate::telling::{Size, Telling};
+use crate::text::families::Shown;
+use nl_attr::Order;
+use nl_dump::{Dump, End, FeedError, Session, State};
 use nl_frame::ReadError;
-use std::alloc::AllocError;
+use std::alloc::{AllocError, Global};
 use std::fmt::Write;
 
 #[tactic(auto, unfolding(crate::specs::Tabled::yes_no))]
@@ -19,7 +22,7 @@ fn yes_or_no(word: bool) -> &'static str
 
 /// Writes which dump is read.
 #[tactic(auto, unfolding(crate::specs::Tabled::dump_line))]
-pub(crate) fn push_dump_line(out: &mut String, dump: &Dump) -> Result<(), AllocError>
+fn push_dump_line(out: &mut String, dump: &Dump) -> Result<(), AllocError>
     ensures { OnOk result (string_bytes out.new ≡ string_bytes out.old ++ dump_line dump.now) }
 {
     let kind = dump.kind.row().name;
@@ -35,14 +38,14 @@ fn push_total_line(out: &mut String) -> Result<(), AllocError>
 }
 
 /// Writes why the datagram of this number was refused. It fails where that was for memory.
-#[tactic(auto, unfolding(crate::specs::Tabled::fed_text), using(std::proofs::Common::append_assoc))]
-pub(crate) fn push_feed_error(
+#[tactic(auto, unfolding(crate::specs::Tabled::refusal_line), using(std::proofs::Common::append_assoc))]
+fn push_feed_error(
     out: &mut String,
     number: usize,
     error: FeedError,
 ) -> Result<(), AllocError>
     ensures refusal { OnOk result (error ≢ FeedError.Memory) }
-    ensures text { OnOk result (string_bytes out.new ≡ string_bytes out.old ++ fed_text number (Err error)) }
+    ensures text { OnOk result (string_bytes out.new ≡ string_bytes out.old ++ refusal_line number error) }
 {
     match error {
         FeedError::NotWaiting => Ok(()),
@@ -64,7 +67,7 @@ pub(crate) fn push_feed_error(
 
 /// Writes how the dump ended.
 #[tactic(auto, unfolding(crate::specs::Tabled::end_line))]
-pub(crate) fn push_end_line(out: &mut String, state: State) -> Result<(), AllocError>
+fn push_end_line(out: &mut String, state: State) -> Result<(), AllocError>
     ensures { OnOk result (string_bytes out.new ≡ string_bytes out.old ++ end_line state) }
 {
     match state {
@@ -79,18 +82,18 @@ pub(crate) fn push_end_line(out: &mut String, state: State) -> Result<(), AllocE
 
 /// What was counted of a dump.
 #[derive(Clone, Copy)]
-pub(crate) struct Counts {
-    pub entries: u32,
-    pub missed: u64,
-    pub ignored: u64,
-    pub unfed: usize,
-    pub damaged: bool,
-    pub interrupted: bool,
+struct Counts {
+    entries: u32,
+    missed: u64,
+    ignored: u64,
+    unfed: usize,
+    damaged: bool,
+    interrupted: bool,
 }
 
 /// Writes what was counted of the dump.
 #[tactic(auto, unfolding(crate::specs::Tabled::counts_line))]
-pub(crate) fn push_counts_line(out: &mut String, counts: Counts) -> Result<(), AllocError>
+fn push_counts_line(out: &mut String, counts: Counts) -> Result<(), AllocError>
     ensures { OnOk result (string_bytes out.new ≡ string_bytes out.old
         ++ counts_line counts.entries counts.missed counts.ignored counts.unfed counts.damaged counts.interrupted) }
 {
@@ -111,7 +114,7 @@ pub(crate) fn push_counts_line(out: &mut String, counts: Counts) -> Result<(), A
 
 /// Writes what was counted of all datagrams.
 #[tactic(auto, unfolding(crate::specs::Tabled::sums_line))]
-pub(crate) fn push_sums_line(out: &mut String, received: u64, visits: u64) -> Result<(), AllocError>
+fn push_sums_line(out: &mut String, received: u64, visits: u64) -> Result<(), AllocError>
     ensures { OnOk result (string_bytes out.new ≡ string_bytes out.old ++ sums_line received visits) }
 {
     writeln!(out, "received {received} visits {visits}")
@@ -119,9 +122,75 @@ pub(crate) fn push_sums_line(out: &mut String, received: u64, visits: u64) -> Re
 
 /// Writes whether the dump is complete.
 #[tactic(auto, unfolding(crate::specs::Tabled::complete_line))]
-pub(crate) fn push_complete_line(out: &mut String, complete: bool) -> Result<(), AllocError>
+fn push_complete_line(out: &mut String, complete: bool) -> Result<(), AllocError>
     ensures { OnOk result (string_bytes out.new ≡ string_bytes out.old ++ complete_line complete) }
 {
     let complete = yes_or_no(complete);
     writeln!(out, "complete {complete}")
+}
+
+/// Writes the line of the entry of this number, counted from 1.
+#[tactic(auto, unfolding(crate::specs::Tabled::entry_line))]
+fn push_entry_line(out: &mut String, number: u32) -> Result<(), AllocError>
+    ensures { OnOk result (string_bytes out.new ≡ string_bytes out.old ++ entry_line number) }
+{
+    writeln!(out, "entry {number}")
+}
+
+/// A dump that is told in lines of text.
+pub(crate) struct InText;
+
+impl Telling for InText {
+    ghost use Rattle.rtnl.specs.Tabled.{in_text};
+
+    type Out = String;
+
+    ghost told = { in_text };
+
+    fn push_front(_alloc: Global, out: &mut String, dump: &Dump) -> Result<(), AllocError> {
+        push_dump_line(out, dump)
+    }
+
+    fn push_refusal(
+        _alloc: Global,
+        out: &mut String,
+        number: usize,
+        error: FeedError,
+    ) -> Result<(), AllocError> {
+        push_feed_error(out, number, error)
+    }
+
+    #[tactic(auto, using(std::proofs::Common::append_assoc))]
+    fn push_entry<T: Shown>(
+        alloc: Global,
+        out: &mut String,
+        order: Order,
+        number: u32,
+        entry: &T,
+    ) -> Result<(), AllocError> {
+        push_entry_line(out, number)?;
+        entry.push(alloc, out, order)
+    }
+
+    fn push_ending(
+        _alloc: Global,
+        out: &mut String,
+        _dump: &Dump,
+        session: &Session,
+        size: Size,
+        unfed: usize,
+    ) -> Result<(), AllocError> {
+        push_end_line(out, session.state())?;
+        let counts = Counts {
+            entries: size.entries,
+            missed: size.missed,
+            ignored: session.ignored(),
+            unfed,
+            damaged: session.damaged(),
+            interrupted: session.interrupted(),
+        };
+        push_counts_line(out, counts)?;
+        push_sums_line(out, session.received(), session.visits())?;
+        push_complete_line(out, session.complete())
+    }
 }

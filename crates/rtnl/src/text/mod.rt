@@ -5,7 +5,6 @@ pub(crate) mod body;
 pub(crate) mod datagram;
 pub(crate) mod digits;
 pub(crate) mod dump;
-pub(crate) mod entries;
 pub(crate) mod families;
 pub(crate) mod flags;
 pub(crate) mod message;

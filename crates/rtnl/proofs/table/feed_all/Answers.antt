@@ -1,17 +1,16 @@
 use Rattle.std.proofs.Common.{◌≡◌, [], ◌∷◌, ◌+◌, ◌∙◌, List, arith, drop, map, refl, rules, subst}
 use Rattle.std.proofs.lemmas.List.{drop_more}
 use Rattle.std.specs.Global.{Vec}
-use Rattle.std.specs.String.{string_bytes}
 use Rattle.nl_dump.specs.Steps.{Fed}
 use Rattle.rtnl.specs.Tabled.{FeedsSome}
 use Rattle.rtnl.proofs.Feeding.{feeds_none, refused_none, feeds_more, refused_more}
 use Rattle.rtnl.proofs.table.feed_all.Goals as goal
 
 pub loop-index-init : goal.loop-index-init
-loop-index-init c = ([], feeds_none c.args.session.now (map (λ d. d.items) c.args.datagrams.now), refl, refused_none (string_bytes c.args.out.now))
+loop-index-init g c = ([], feeds_none c.args.session.now (map (λ d. d.items) c.args.datagrams.now), refl, refused_none g.F.Telling.told (g.F.Out.Output.bytes c.args.out.now))
 
 pub loop-index-preserved : goal.loop-index-preserved
-loop-index-preserved c =
+loop-index-preserved g c =
     let ds = c.args.datagrams.now in
     let k = c.loop-index.index in
     let d = c.index-datagrams-index.result in
@@ -23,5 +22,5 @@ loop-index-preserved c =
       (d.items, told.0) ∷ i.0,
       feeds_more c.args.session.now c.loop-index.session c.feed_one.new.session (map (λ d. d.items) ds) (map (λ d. d.items) (drop (k + 1) ds)) i.0 d.items told.0 before fed told.2,
       omega (arith, i.2),
-      refused_more (string_bytes c.args.out.now) (string_bytes c.loop-index.out) (string_bytes c.feed_one.new.out) i.0 d.items told.0 k i.3 i.2 told.3,
+      refused_more g.F.Telling.told (g.F.Out.Output.bytes c.args.out.now) (g.F.Out.Output.bytes c.loop-index.out) (g.F.Out.Output.bytes c.feed_one.new.out) i.0 d.items told.0 k i.3 i.2 told.3,
     )

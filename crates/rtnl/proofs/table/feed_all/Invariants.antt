@@ -1,10 +1,9 @@
 use Rattle.std.proofs.Common.{◌≡◌, ◌++◌, List, drop, length, map}
-use Rattle.std.specs.String.{string_bytes}
 use Rattle.rtnl.specs.Tabled.{Answered, FeedsSome, refusals_text}
 use Rattle.rtnl.proofs.table.feed_all.Given as goal
 
 -- the first datagrams were fed, and the lines of the refused ones are written
 abbrev pub invariant-loop-index : goal.invariant-loop-index
-invariant-loop-index l =
+invariant-loop-index g l =
     (fed : List Answered) × FeedsSome l.initial.session (map (λ d. d.items) l.datagrams) fed (map (λ d. d.items) (drop l.index l.datagrams)) l.session
-    × (length fed ≡ l.index) × (string_bytes l.out ≡ string_bytes l.initial.out ++ refusals_text fed)
+    × (length fed ≡ l.index) × (g.F.Out.Output.bytes l.out ≡ g.F.Out.Output.bytes l.initial.out ++ refusals_text g.F.Telling.told fed)

@@ -1,14 +1,11 @@
 use Rattle.std.proofs.Common.{Ok, sym, append-nil, subst}
-use Rattle.std.specs.String.{string_bytes}
 use Rattle.nl_dump.specs.Steps.{Fed}
-use Rattle.rtnl.specs.Tabled.{fed_text}
 use Rattle.rtnl.proofs.table.feed_one.Goals as goal
 
 pub returns-in-Ok : goal.returns-in-Ok
-unfolding fed_text
-returns-in-Ok c = (
+returns-in-Ok g c = (
   Ok c.in-Ok.field-0,
   subst (λ r. Fed c.args.session.now c.args.bytes.now r c.feed.new.self) c.in-Ok.is c.feed.ensures.step,
   tt,
-  sym (append-nil (string_bytes c.args.out.now)),
+  sym (append-nil (g.F.Out.Output.bytes c.args.out.now)),
 )

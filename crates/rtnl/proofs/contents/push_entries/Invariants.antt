@@ -1,0 +1,10 @@
+use Rattle.std.proofs.Common.{◌≡◌, ◌+◌, ◌++◌, drop}
+use Rattle.nl_dump.specs.Items.{seen}
+use Rattle.rtnl.specs.Tabled.{entries_text}
+use Rattle.rtnl.proofs.contents.push_entries.Given as goal
+
+-- what is told and what is left give the whole
+abbrev pub invariant-loop-index : goal.invariant-loop-index
+invariant-loop-index g l =
+    g.F.Out.Output.bytes l.out ++ entries_text g.F.Telling.told l.order (l.index + 1) (drop l.index (seen g.T.Shown.item l.table).entries)
+    ≡ g.F.Out.Output.bytes l.initial.out ++ entries_text g.F.Telling.told l.order 1 (seen g.T.Shown.item l.table).entries

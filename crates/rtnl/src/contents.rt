@@ -1,0 +1,53 @@
+//! The entries of a table.
+
+ghost use Rattle.std.specs.Prelude.{◌≡◌, ◌++◌, OnOk, IfOk, length};
+ghost use Rattle.nl_dump.specs.Items.{seen};
+ghost use Rattle.nl_dump.specs.View.{table_at};
+ghost use Rattle.rtnl.specs.Tabled.{entries_text};
+
+use crate::telling::{Size, Telling};
+use crate::text::families::Shown;
+use nl_attr::Order;
+use nl_dump::{Kind, Session, match_table};
+use nl_table::{Entry, Table};
+use std::alloc::{AllocError, Global};
+
+/// Tells of the entries of a table, and answers its size.
+fn push_entries<F: Telling, T: Entry + Shown>(
+    alloc: Global,
+    out: &mut F::Out,
+    order: Order,
+    table: &Table<T>,
+) -> Result<Size, AllocError>
+    ensures text { OnOk result (F.Out.bytes out.new ≡ F.Out.bytes out.old
+        ++ entries_text F.told order 1 (seen T.item table.now).entries) }
+    ensures size { IfOk result (λ size. (size.entries ≡ length (seen T.item table.now).entries)
+        × (size.missed ≡ table.now.missed)) }
+{
+    for index in 0..table.len() {
+        let Some(entry) = table.get(index) else {
+            unreachable!()
+        };
+        F::push_entry(alloc, out, order, index + 1, entry)?;
+    }
+    Ok(Size {
+        entries: table.len(),
+        missed: table.missed(),
+    })
+}
+
+/// Tells of the entries of the table of a family, and answers its size.
+pub(crate) fn push_table<F: Telling>(
+    alloc: Global,
+    out: &mut F::Out,
+    order: Order,
+    session: &Session,
+    kind: Kind,
+) -> Result<Size, AllocError>
+    ensures text { OnOk result (F.Out.bytes out.new ≡ F.Out.bytes out.old
+        ++ entries_text F.told order 1 (table_at kind session.now.tables).entries) }
+    ensures size { IfOk result (λ size. (size.entries ≡ length (table_at kind session.now.tables).entries)
+        × (size.missed ≡ (table_at kind session.now.tables).missed)) }
+{
+    match_table!(kind, session, table => push_entries::<F, _>(alloc, out, order, table))
+}
