@@ -20,6 +20,7 @@ pub mod Runs
 pub mod Shown
 pub mod Streams
 pub mod Tabled
+pub mod TabledJson
 pub mod Text
 pub mod Trees
 pub mod Types

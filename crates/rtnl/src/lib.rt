@@ -30,4 +30,4 @@ pub use request::{run_request, run_request_ordered};
 pub use show::{run_show, run_show_json};
 pub use sink::{Sink, VecSink, WriteSink};
 pub use source::{ReadSource, SliceSource, Source};
-pub use table::run_table;
+pub use table::{run_table, run_table_json};

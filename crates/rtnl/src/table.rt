@@ -7,12 +7,14 @@ ghost use Rattle.nl_dump.specs.declared.errors.FeedError.{FeedError as AnyFeedEr
 ghost use Rattle.rtnl.specs.Lines.{longest_input};
 ghost use Rattle.rtnl.specs.Runs.{Runs};
 ghost use Rattle.rtnl.specs.Streams.{ConsumesAtMost};
+ghost use Rattle.rtnl.specs.TabledJson.{TablesInputJson, TablesJson};
 ghost use Rattle.rtnl.specs.Tabled.{Answered, FeedsSome, IsTold, Tables, TablesInput, answer_text, refusals_text, verdict_of};
 
 use crate::begun::begun;
 use crate::contents::push_table;
 use crate::error::{RunError, Verdict};
 use crate::output::Output;
+use crate::objects::dump::InJson;
 use crate::run::{Command, run};
 use crate::sink::Sink;
 use crate::source::Source;
@@ -144,6 +146,42 @@ pub fn run_table<S: Source, W: Sink>(
         source,
         sink,
         &Tabulate::<InText> {
+            dump,
+            limits: *limits,
+            form: PhantomData,
+        },
+    )
+}
+
+/// Reads the datagrams as `run_table` does, and tells of the dump as lines of JSON (RFC 8259) in
+/// place of text: an object of each datagram that was refused, of each entry, and of how the dump
+/// ended.
+///
+/// It reads, writes and ends as `run_table` does.
+pub fn run_table_json<S: Source, W: Sink>(
+    alloc: Global,
+    source: &mut S,
+    sink: &mut W,
+    dump: Dump,
+    limits: &Limits,
+) -> Result<Verdict, RunError>
+    // What was written is the objects of the session that the datagrams of what was read end in,
+    // and the verdict is its.
+    ensures tabled { IfOk result (TablesInputJson limits.now dump (S.remaining source.old) (S.remaining source.new)
+        (W.contents sink.old) (W.contents sink.new)) }
+    // It ends as every run over a recording does.
+    ensures runs { Runs S.remaining S.is_ended S.failure_count
+        W.contents W.is_stalled W.stall_count W.failure_count
+        (TablesJson limits.now dump) source.old source.new sink.old sink.new result }
+    // It takes at most one byte more than the longest input.
+    ensures bounded { ConsumesAtMost (longest_input + 1)
+        (S.remaining source.old) (S.remaining source.new) }
+{
+    run(
+        alloc,
+        source,
+        sink,
+        &Tabulate::<InJson> {
             dump,
             limits: *limits,
             form: PhantomData,

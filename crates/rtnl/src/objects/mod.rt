@@ -2,6 +2,7 @@
 
 pub(crate) mod body;
 pub(crate) mod datagram;
+pub(crate) mod dump;
 pub(crate) mod line;
 pub(crate) mod message;
 pub(crate) mod names;

@@ -1,0 +1,10 @@
+use Rattle.std.proofs.Common.{◌∷◌, ◌∙◌, [], codes, rules}
+use Rattle.std.proofs.lemmas.Result.{IfOk-weaker}
+use Rattle.rtnl.specs.Json.{◌⊕◌, fields_tokens, number}
+use Rattle.rtnl.specs.TabledJson.{count_fields}
+use Rattle.rtnl.proofs.objects.dump.push_counts.Goals as goal
+
+pub returns : goal.returns
+unfolding count_fields
+returns c =
+    IfOk-weaker c.numbers.result _ _ (λ _ counts. search (rules, counts, c.requires.entries, c.requires.missed, c.ignored.ensures)) c.numbers.ensures

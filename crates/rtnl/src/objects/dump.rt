@@ -1,0 +1,189 @@
+//! A dump told in lines of JSON.
+
+ghost use Rattle.std.specs.Prelude.{◌≡◌, ◌∷◌, ◌++◌, [], OnOk, codes, length};
+ghost use Rattle.nl_dump.specs.View.{table_at};
+ghost use Rattle.nl_frame.specs.declared.reading.ReadError.{ReadError as AnyReadError};
+ghost use Rattle.rtnl.specs.Json.{Field, ◌⊕◌, fields_tokens, json_line};
+ghost use Rattle.rtnl.specs.Shown.{datagram_object, refusal_fields};
+ghost use Rattle.rtnl.specs.TabledJson.{code_fields, count_fields, dump_fields, end_code, end_fields, end_word, loss_fields, sum_fields, total_fields};
+
+use crate::objects::datagram::push_refusal;
+use crate::objects::line::Line;
+use crate::telling::{Size, Telling};
+use crate::text::families::Shown;
+use nl_attr::Order;
+use nl_dump::{Dump, End, FeedError, Session, State};
+use nl_frame::ReadError;
+use std::alloc::{AllocError, Global};
+
+/// Writes the line of a datagram that was refused for its layout or its size. It fails where that
+/// was for memory.
+fn push_refused(
+    alloc: Global,
+    lines: &mut Vec<u8>,
+    number: usize,
+    error: ReadError,
+) -> Result<(), AllocError>
+    ensures { OnOk result (lines.new.items ≡ lines.old.items
+        ++ json_line (datagram_object number (refusal_fields error))) }
+{
+    let mut line = Line::begin(alloc, lines)?;
+    line.number("datagram", number as u64)?;
+    push_refusal(&mut line, error)?;
+    line.end(lines)
+}
+
+/// Writes the line of a datagram that was refused, since all datagrams would be too large.
+fn push_total(alloc: Global, lines: &mut Vec<u8>, number: usize) -> Result<(), AllocError>
+    ensures { OnOk result (lines.new.items ≡ lines.old.items
+        ++ json_line (datagram_object number total_fields)) }
+{
+    let mut line = Line::begin(alloc, lines)?;
+    line.number("datagram", number as u64)?;
+    line.text("refused", "total")?;
+    line.end(lines)
+}
+
+/// Writes which dump is read.
+fn push_dump(line: &mut Line, dump: &Dump) -> Result<(), AllocError>
+    ensures { OnOk result (line.new ≡ line.old ⊕ fields_tokens (dump_fields dump.now)) }
+{
+    line.text("dump", dump.kind.row().name)?;
+    line.numbers(&[("seq", dump.seq.into()), ("port", dump.port.into())])
+}
+
+/// The word for how the dump ended, and the status or the code that ended it.
+fn end_of(state: State) -> (&'static str, Option<i32>)
+    ensures word { result.0.now ≡ end_word state }
+    ensures code { result.1 ≡ end_code state }
+{
+    match state {
+        State::Ended(_, End::Done(status)) => ("done", Some(status)),
+        State::Ended(_, End::Error(code)) => ("error", Some(code)),
+        State::Ended(_, End::Overrun) => ("overrun", None),
+        State::Idle | State::Waiting(_) | State::Ended(_, End::Abandoned) => ("none", None),
+    }
+}
+
+/// Writes the field of a status or a code, if there is one.
+#[tactic(auto, using(crate::proofs::Json::no_field))]
+fn push_code(line: &mut Line, code: Option<i32>) -> Result<(), AllocError>
+    ensures { OnOk result (line.new ≡ line.old ⊕ fields_tokens (code_fields code)) }
+{
+    match code {
+        Some(code) => line.signed("code", code),
+        None => Ok(()),
+    }
+}
+
+/// Writes how the dump ended.
+fn push_end(line: &mut Line, state: State) -> Result<(), AllocError>
+    ensures { OnOk result (line.new ≡ line.old ⊕ fields_tokens (end_fields state)) }
+{
+    let (word, code) = end_of(state);
+    line.text("end", word)?;
+    push_code(line, code)
+}
+
+/// Writes what was counted of the dump.
+fn push_counts(
+    line: &mut Line,
+    dump: &Dump,
+    session: &Session,
+    size: Size,
+    unfed: usize,
+) -> Result<(), AllocError>
+    requires entries { size.entries ≡ length (table_at dump.now.kind session.now.tables).entries }
+    requires missed { size.missed ≡ (table_at dump.now.kind session.now.tables).missed }
+    ensures { OnOk result (line.new ≡ line.old ⊕ fields_tokens (count_fields dump.now unfed session.now)) }
+{
+    let _kind = dump.kind;
+    line.numbers(&[
+        ("entries", size.entries.into()),
+        ("missed", size.missed),
+        ("ignored", session.ignored()),
+        ("unfed", unfed as u64),
+    ])
+}
+
+/// Writes whether something of the dump was lost.
+#[tactic(auto, unfolding(crate::specs::TabledJson::loss_fields), using(crate::proofs::Json::more_fields))]
+fn push_losses(line: &mut Line, session: &Session) -> Result<(), AllocError>
+    ensures { OnOk result (line.new ≡ line.old ⊕ fields_tokens (loss_fields session.now)) }
+{
+    line.boolean("damaged", session.damaged())?;
+    line.boolean("interrupted", session.interrupted())
+}
+
+/// Writes what was counted of all datagrams.
+#[tactic(auto, unfolding(crate::specs::TabledJson::sum_fields))]
+fn push_sums(line: &mut Line, session: &Session) -> Result<(), AllocError>
+    ensures { OnOk result (line.new ≡ line.old ⊕ fields_tokens (sum_fields session.now)) }
+{
+    line.numbers(&[
+        ("received", session.received()),
+        ("visits", session.visits()),
+    ])
+}
+
+/// A dump that is told in lines of JSON.
+pub(crate) struct InJson;
+
+impl Telling for InJson {
+    ghost use Rattle.rtnl.specs.TabledJson.{in_json};
+
+    type Out = Vec<u8>;
+
+    ghost told = { in_json };
+
+    fn push_front(_alloc: Global, _out: &mut Vec<u8>, _dump: &Dump) -> Result<(), AllocError> {
+        Ok(())
+    }
+
+    #[tactic(auto, unfolding(crate::specs::TabledJson::refusal_json))]
+    fn push_refusal(
+        alloc: Global,
+        out: &mut Vec<u8>,
+        number: usize,
+        error: FeedError,
+    ) -> Result<(), AllocError> {
+        match error {
+            FeedError::NotWaiting => Ok(()),
+            FeedError::Total => push_total(alloc, out, number),
+            FeedError::TooLarge => push_refused(alloc, out, number, ReadError::TooLarge),
+            FeedError::Layout(fault) => push_refused(alloc, out, number, ReadError::Layout(fault)),
+            FeedError::Memory => Err(AllocError),
+        }
+    }
+
+    fn push_entry<T: Shown>(
+        alloc: Global,
+        out: &mut Vec<u8>,
+        order: Order,
+        number: u32,
+        entry: &T,
+    ) -> Result<(), AllocError> {
+        let mut line = Line::begin(alloc, out)?;
+        line.number("entry", number.into())?;
+        entry.push_field(alloc, &mut line, order)?;
+        line.end(out)
+    }
+
+    fn push_ending(
+        alloc: Global,
+        out: &mut Vec<u8>,
+        dump: &Dump,
+        session: &Session,
+        size: Size,
+        unfed: usize,
+    ) -> Result<(), AllocError> {
+        let mut line = Line::begin(alloc, out)?;
+        push_dump(&mut line, dump)?;
+        push_end(&mut line, session.state())?;
+        push_counts(&mut line, dump, session, size, unfed)?;
+        push_losses(&mut line, session)?;
+        push_sums(&mut line, session)?;
+        line.boolean("complete", session.complete())?;
+        line.end(out)
+    }
+}
