@@ -1,6 +1,6 @@
 //! What the arguments of the program ask for.
 
-use crate::commands::{ORDERS, Values, rtnl};
+use crate::commands::{FORMATS, ORDERS, Values, rtnl};
 use clap::error::ErrorKind;
 use clap::{ArgMatches, Error};
 use nl_attr::Order;
@@ -25,12 +25,22 @@ pub(crate) enum Engine {
     Table(Dump),
 }
 
+/// How what is found is printed.
+#[derive(Clone, Copy, Debug, PartialEq, Eq)]
+pub(crate) enum Format {
+    /// Lines of text.
+    Text,
+    /// Lines of JSON.
+    Json,
+}
+
 /// What the program is to do.
 #[derive(Debug, Drop)]
 pub(crate) enum Task {
     /// Read a file, or standard input where none or `-` is named.
     Recording {
         engine: Engine,
+        format: Format,
         limits: Limits,
         file: Option<String>,
     },
@@ -106,6 +116,7 @@ fn command_task(name: &str, matches: &ArgMatches<'_>, file: Option<String>) -> O
     };
     Some(Task::Recording {
         engine,
+        format: named(FORMATS.as_slice(), matches.get_str("format")?)?,
         limits: limits.with_order(order_of(matches)?),
         file,
     })
@@ -116,6 +127,7 @@ fn task_of(alloc: Global, matches: &ArgMatches<'_>) -> Result<Option<Task>, Allo
     let Some((name, inner)) = matches.subcommand() else {
         return Ok(Some(Task::Recording {
             engine: Engine::Show,
+            format: Format::Text,
             limits: Limits::standard(),
             file: None,
         }));
@@ -143,12 +155,14 @@ fn parse_with(alloc: Global, arguments: &[String], values: Values<'_>) -> Result
 /// What the arguments, the program's name first, ask for. It fails only for memory.
 pub(crate) fn parse(alloc: Global, arguments: &[String]) -> Result<Parsed, AllocError> {
     let kinds: Vec<&str> = Kind::ALL.iter().map(|kind| kind.row().name).collect(alloc)?;
+    let formats = names(alloc, FORMATS.as_slice())?;
     let orders = names(alloc, ORDERS.as_slice())?;
     let standard = Limits::standard();
     let depth = standard.depth().get().to_string(alloc)?;
     let entries = standard.entries().to_string(alloc)?;
     let values = Values {
         kinds: kinds.as_slice(),
+        formats: formats.as_slice(),
         orders: orders.as_slice(),
         depth: depth.as_str(),
         entries: entries.as_str(),

@@ -1,5 +1,6 @@
 //! The commands of the program, with their arguments, options and help.
 
+use crate::arguments::Format;
 use clap::{Arg, Command, value_parser};
 use nl_attr::Order;
 use std::alloc::{AllocError, Global};
@@ -10,10 +11,14 @@ const VERSION: &str = "0.1.0";
 /// The byte orders by their names.
 pub(crate) const ORDERS: [(&str, Order); 2] = [("little", Order::Little), ("big", Order::Big)];
 
+/// The formats by their names.
+pub(crate) const FORMATS: [(&str, Format); 2] = [("text", Format::Text), ("json", Format::Json)];
+
 /// The values that options list, and those that they have by default.
 #[derive(Clone, Copy)]
 pub(crate) struct Values<'a> {
     pub kinds: &'a [&'a str],
+    pub formats: &'a [&'a str],
     pub orders: &'a [&'a str],
     pub depth: &'a str,
     pub entries: &'a str,
@@ -69,6 +74,15 @@ fn order_option<'a>(alloc: Global, values: Values<'a>) -> Arg<'a> {
         .value_parser(values.orders)
         .default_value("little")
         .help("Byte order of the numbers")
+}
+
+fn format_option<'a>(alloc: Global, values: Values<'a>) -> Arg<'a> {
+    Arg::new(alloc, "format")
+        .long("format")
+        .value_name("FORMAT")
+        .value_parser(values.formats)
+        .default_value("text")
+        .help("Lines of text, or of JSON: one object for each datagram or entry")
 }
 
 fn kind_option<'a>(alloc: Global, values: Values<'a>) -> Arg<'a> {
@@ -130,6 +144,7 @@ fn show_command<'a>(alloc: Global, values: Values<'a>) -> Result<Command<'a>, Al
         .about("Prints each datagram of a recording: its messages and their attributes")
         .after_help(SHOW_EXAMPLE)
         .arg(order_option(alloc, values))?
+        .arg(format_option(alloc, values))?
         .arg(file_argument(alloc))
 }
 
@@ -140,6 +155,7 @@ fn check_command<'a>(alloc: Global, values: Values<'a>) -> Result<Command<'a>, A
         )
         .after_help(CHECK_EXAMPLE)
         .arg(order_option(alloc, values))?
+        .arg(format_option(alloc, values))?
         .arg(file_argument(alloc))
 }
 
@@ -156,6 +172,7 @@ fn table_command<'a>(alloc: Global, values: Values<'a>) -> Result<Command<'a>, A
         .arg(depth_option(alloc, values))?
         .arg(entries_option(alloc, values))?
         .arg(order_option(alloc, values))?
+        .arg(format_option(alloc, values))?
         .arg(file_argument(alloc))
 }
 

@@ -5,12 +5,12 @@
 mod arguments;
 mod commands;
 
-use arguments::{Engine, Parsed, Task, unknown_command};
+use arguments::{Engine, Format, Parsed, Task, unknown_command};
 use clap::Error;
 use rtnl::frame::Limits;
 use rtnl::{
-    ReadSource, RunError, Source, Verdict, WriteSink, run_check, run_request_ordered, run_show,
-    run_table,
+    ReadSource, RunError, Source, Verdict, WriteSink, run_check, run_check_json,
+    run_request_ordered, run_show, run_show_json, run_table, run_table_json,
 };
 use std::fs::File;
 use std::io;
@@ -74,12 +74,24 @@ fn print_message(rt: &HostRuntime, message: &Error, arguments: &[String]) -> Exi
 }
 
 /// Runs an engine over a source; its text goes to standard output.
-fn run<S: Source>(rt: &HostRuntime, source: &mut S, engine: Engine, limits: &Limits) -> ExitCode {
+fn run<S: Source>(
+    rt: &HostRuntime,
+    source: &mut S,
+    engine: Engine,
+    format: Format,
+    limits: &Limits,
+) -> ExitCode {
+    let alloc = rt.alloc();
     let mut sink = WriteSink::new(io::writer(rt));
-    let answer = match engine {
-        Engine::Show => run_show(rt.alloc(), source, &mut sink, limits),
-        Engine::Check => run_check(rt.alloc(), source, &mut sink, limits),
-        Engine::Table(dump) => run_table(rt.alloc(), source, &mut sink, dump, limits),
+    let answer = match (engine, format) {
+        (Engine::Show, Format::Text) => run_show(alloc, source, &mut sink, limits),
+        (Engine::Show, Format::Json) => run_show_json(alloc, source, &mut sink, limits),
+        (Engine::Check, Format::Text) => run_check(alloc, source, &mut sink, limits),
+        (Engine::Check, Format::Json) => run_check_json(alloc, source, &mut sink, limits),
+        (Engine::Table(dump), Format::Text) => run_table(alloc, source, &mut sink, dump, limits),
+        (Engine::Table(dump), Format::Json) => {
+            run_table_json(alloc, source, &mut sink, dump, limits)
+        }
     };
     outcome(rt, answer)
 }
@@ -89,12 +101,16 @@ fn perform(rt: &HostRuntime, task: &Task) -> ExitCode {
     match task {
         Task::Recording {
             engine,
+            format,
             limits,
             file,
         } => match file {
-            None => run(rt, &mut ReadSource::new(rt.reader()), *engine, limits),
+            None => {
+                let mut source = ReadSource::new(rt.reader());
+                run(rt, &mut source, *engine, *format, limits)
+            }
             Some(path) => match File::open(rt, path.as_str()) {
-                Ok(opened) => run(rt, &mut ReadSource::new(opened), *engine, limits),
+                Ok(opened) => run(rt, &mut ReadSource::new(opened), *engine, *format, limits),
                 Err(_) => outcome(rt, Err(RunError::ReadFault)),
             },
         },
