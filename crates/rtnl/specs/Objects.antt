@@ -13,7 +13,7 @@ use Rattle.nl_frame.specs.declared.header.Header.{Header}
 use Rattle.nl_frame.specs.Message.{BodyVal, noop, error, done, overrun, family, get, other, MessageVal}
 use Rattle.nl_dump.specs.Items.{Item}
 use Rattle.rtnl.specs.Attributes.{attribute_form, attribute_rows}
-use Rattle.rtnl.specs.Rows.{Row, find_row}
+use Rattle.rtnl.specs.Rows.{find_row}
 use Rattle.rtnl.specs.declared.text.attributes.Form.{Form}
 use Rattle.rtnl.specs.Json.{Field, object, array, number, signed, string, strings, digits}
 use Rattle.rtnl.specs.Link.{link_fields}

@@ -21,7 +21,11 @@ pub(crate) trait Command {
     ghost says: { Self → List (List ℕ) → List ℕ → Verdict → Type 0 };
 
     /// The text of all datagrams, in order, and the verdict on them.
-    fn text_of(&self, alloc: Global, datagrams: &[Vec<u8>]) -> Result<(Vec<u8>, Verdict), AllocError>
+    fn text_of(
+        &self,
+        alloc: Global,
+        datagrams: &[Vec<u8>],
+    ) -> Result<(Vec<u8>, Verdict), AllocError>
         ensures { IfOk result (λ p. says self.now (map (λ d. d.items) datagrams.now) p.0.items p.1) };
 }
 

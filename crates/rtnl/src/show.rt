@@ -8,8 +8,8 @@ ghost use Rattle.rtnl.specs.Shown.{Shows, ShowsInput, ShowsInputJson, ShowsJson}
 
 use crate::each::{Each, text_of_each};
 use crate::error::{RunError, Verdict};
-use crate::objects::line::Line;
 use crate::objects;
+use crate::objects::line::Line;
 use crate::run::{Command, run};
 use crate::sink::Sink;
 use crate::source::Source;

@@ -13,8 +13,8 @@ ghost use Rattle.rtnl.specs.Tabled.{Answered, FeedsSome, IsTold, Tables, TablesI
 use crate::begun::begun;
 use crate::contents::push_table;
 use crate::error::{RunError, Verdict};
-use crate::output::Output;
 use crate::objects::dump::InJson;
+use crate::output::Output;
 use crate::run::{Command, run};
 use crate::sink::Sink;
 use crate::source::Source;

@@ -45,12 +45,7 @@ fn push_error(
     line.end_object()
 }
 
-fn push_done(
-    alloc: Global,
-    line: &mut Line,
-    status: i32,
-    tail: &[u8],
-) -> Result<(), AllocError>
+fn push_done(alloc: Global, line: &mut Line, status: i32, tail: &[u8]) -> Result<(), AllocError>
     ensures { OnOk result (line.new ≡ line.old ⊕ fields_tokens (done_field status tail.now ∷ [])) }
 {
     line.key("done")?;

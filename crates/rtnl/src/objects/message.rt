@@ -41,10 +41,7 @@ fn push_header(alloc: Global, line: &mut Line, message: &Message) -> Result<(), 
     line.text("type", type_name.as_str())?;
     line.number("flags", message.flags.into())?;
     push_flag_names(line, names, message.flags)?;
-    line.numbers(&[
-        ("seq", message.seq.into()),
-        ("port", message.port.into()),
-    ])
+    line.numbers(&[("seq", message.seq.into()), ("port", message.port.into())])
 }
 
 /// Writes a message.

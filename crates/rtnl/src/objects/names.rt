@@ -34,11 +34,7 @@ fn push_flags<F: Flags>(line: &mut Line, table: &[Flag<F>], value: &F) -> Result
 }
 
 /// Writes a field with the names of the bits that are set, lowest first.
-pub(crate) fn push_names<F: Flags>(
-    line: &mut Line,
-    name: &str,
-    value: &F,
-) -> Result<(), AllocError>
+pub(crate) fn push_names<F: Flags>(line: &mut Line, name: &str, value: &F) -> Result<(), AllocError>
     requires { F.exact }
     ensures { OnOk result (line.new ≡ line.old
         ⊕ fields_tokens ((name.now, names_json F.table (F.set_of value.now)) ∷ [])) }

@@ -85,7 +85,11 @@ fn push_held(
 {
     match value {
         Value::Bytes(payload) => {
-            push_reading(alloc, line, read_payload(order, form, net, payload.as_slice()))
+            push_reading(
+                alloc,
+                line,
+                read_payload(order, form, net, payload.as_slice()),
+            )
         }
         Value::List(attrs) => {
             line.text("form", "list")?;
@@ -114,7 +118,15 @@ fn push_attr(
     let inside = inner(ctx, attr.number, attr.flags);
     line.begin_object()?;
     push_attr_front(line, ctx, attr.number, attr.flags)?;
-    push_held(alloc, line, order, form, attr.flags.net, inside, &attr.value)?;
+    push_held(
+        alloc,
+        line,
+        order,
+        form,
+        attr.flags.net,
+        inside,
+        &attr.value,
+    )?;
     line.end_object()
 }
 

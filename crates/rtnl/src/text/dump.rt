@@ -4,8 +4,8 @@ ghost use Rattle.std.specs.Prelude.{◌≡◌, ◌≢◌, ◌++◌, OnOk, length
 ghost use Rattle.std.specs.String.{string_bytes};
 ghost use Rattle.rtnl.specs.Tabled.{complete_line, counts_line, dump_line, end_line, entry_line, refusal_line, sums_line, total_line, yes_no};
 
-use crate::text::datagram::{push_number, push_refusal};
 use crate::telling::{Size, Telling};
+use crate::text::datagram::{push_number, push_refusal};
 use crate::text::families::Shown;
 use nl_attr::Order;
 use nl_dump::{Dump, End, FeedError, Session, State};
@@ -39,11 +39,7 @@ fn push_total_line(out: &mut String) -> Result<(), AllocError>
 
 /// Writes why the datagram of this number was refused. It fails where that was for memory.
 #[tactic(auto, unfolding(crate::specs::Tabled::refusal_line), using(std::proofs::Common::append_assoc))]
-fn push_feed_error(
-    out: &mut String,
-    number: usize,
-    error: FeedError,
-) -> Result<(), AllocError>
+fn push_feed_error(out: &mut String, number: usize, error: FeedError) -> Result<(), AllocError>
     ensures refusal { OnOk result (error ≢ FeedError.Memory) }
     ensures text { OnOk result (string_bytes out.new ≡ string_bytes out.old ++ refusal_line number error) }
 {

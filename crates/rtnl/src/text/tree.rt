@@ -55,7 +55,10 @@ fn push_inline(
     ensures { OnOk result (string_bytes out.new ≡ string_bytes out.old ++ inline_text order form net (value_view value.now)) }
 {
     match value {
-        Value::Bytes(payload) => push_value(out, read_payload(order, form, net, payload.as_slice())),
+        Value::Bytes(payload) => push_value(
+            out,
+            read_payload(order, form, net, payload.as_slice()),
+        ),
         Value::List(attrs) => {
             let count = attrs.len();
             write!(out, "list {count}")

@@ -1,6 +1,5 @@
-use Rattle.std.proofs.Common.{◌∷◌, ◌∙◌, [], codes, rules}
+use Rattle.std.proofs.Common.{rules}
 use Rattle.std.proofs.lemmas.Result.{IfOk-weaker}
-use Rattle.rtnl.specs.Json.{◌⊕◌, fields_tokens, number}
 use Rattle.rtnl.specs.TabledJson.{count_fields}
 use Rattle.rtnl.proofs.objects.dump.push_counts.Goals as goal
 

@@ -1,4 +1,4 @@
-use Rattle.std.proofs.Common.{◌≡◌, ◌∷◌, ◌∙◌, [], List, ap, codes, rules}
+use Rattle.std.proofs.Common.{◌∷◌, ◌∙◌, [], List, ap, codes, rules}
 use Rattle.std.proofs.lemmas.Result.{IfOk-weaker}
 use Rattle.nl_route.specs.Families.{name_of}
 use Rattle.rtnl.specs.Json.{Field, ◌⊕◌, fields_tokens, number, string}

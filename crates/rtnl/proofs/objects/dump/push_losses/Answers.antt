@@ -1,4 +1,4 @@
-use Rattle.std.proofs.Common.{◌≡◌, ◌∷◌, ◌∙◌, [], ap, codes}
+use Rattle.std.proofs.Common.{◌∷◌, ◌∙◌, [], ap, codes}
 use Rattle.std.proofs.lemmas.Result.{IfOk-weaker}
 use Rattle.rtnl.specs.Json.{Field, ◌⊕◌, boolean, fields_tokens}
 use Rattle.rtnl.specs.TabledJson.{loss_fields}

@@ -1,5 +1,4 @@
-use Rattle.std.proofs.Common.{◌≡◌, ◌∷◌, ◌∙◌, [], List, ap, codes, rules, sym}
-use Rattle.std.specs.String.{string_bytes}
+use Rattle.std.proofs.Common.{◌≡◌, ◌∷◌, ◌∙◌, [], List, ap, codes, rules}
 use Rattle.std.proofs.lemmas.Result.{IfOk-weaker}
 use Rattle.rtnl.specs.Json.{Field, ◌⊕◌, fields_tokens, number, string}
 use Rattle.rtnl.specs.Names.{names_json}
@@ -23,5 +22,5 @@ returns c =
     let second = then_fields w c.number.new.self c.text.new.self _ (sort ∷ []) first (c.in_ok-text.ensures ∙ ap (λ n. c.number.new.self ⊕ fields_tokens ((codes "type", string n) ∷ [])) name) in
     let third = then_fields w c.text.new.self c.number-2.new.self _ (flags ∷ []) second (search (rules, c.in_ok-number-2.ensures)) in
     let fourth = then_fields w c.number-2.new.self c.push_flag_names.new.line _ (names ∷ []) third
-        (c.in_ok-push_flag_names.ensures ∙ ap (λ n. c.number-2.new.self ⊕ fields_tokens ((codes "flag_names", names_json (flags_table n) m.flags) ∷ [])) c.message_type-names.ensures.flags) in
+    (c.in_ok-push_flag_names.ensures ∙ ap (λ n. c.number-2.new.self ⊕ fields_tokens ((codes "flag_names", names_json (flags_table n) m.flags) ∷ [])) c.message_type-names.ensures.flags) in
     IfOk-weaker c.numbers.result _ _ (λ _ end. then_fields w c.push_flag_names.new.line c.numbers.new.self _ last fourth (search (rules, end))) c.numbers.ensures

@@ -1,7 +1,6 @@
 use Rattle.std.proofs.Common.{◌≡◌, ◌∙◌, [], List, ap, drop, map, sym}
 use Rattle.std.proofs.Math.ListN.{drop_of_length-le}
 use Rattle.bitflags.specs.declared.traits.Flag.{Flag}
-use Rattle.bitflags.specs.Sets.{Row}
 use Rattle.rtnl.specs.Json.{◌⊕◌, string, values_tokens}
 use Rattle.rtnl.specs.Names.{names_set}
 use Rattle.rtnl.proofs.Json.{no_more}

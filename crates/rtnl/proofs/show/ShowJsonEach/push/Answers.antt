@@ -1,4 +1,4 @@
-use Rattle.std.proofs.Common.{◌∷◌, ◌++◌, ◌∙◌, [], ap, codes, map, length, List, Ok, Err, refl, rules, sym}
+use Rattle.std.proofs.Common.{◌∷◌, ◌∙◌, [], ap, codes, map, length, Ok, Err, refl, rules, sym}
 use Rattle.nl_frame.specs.View.{message_view}
 use Rattle.rtnl.specs.Json.{Field, ◌⊕◌, array, fields_tokens, number, object_behind}
 use Rattle.rtnl.specs.Objects.{messages_json}
@@ -19,7 +19,7 @@ returns-in_ok-end-in-Ok c =
     let first = c.in_ok-number.ensures ∙ ap (λ l. l ⊕ fields_tokens (datagram ∷ [])) c.in_ok-line.ensures in
     let second = then_fields w c.number.new.self c.number-in-Ok.new.self _ (bytes ∷ []) first (search (rules, c.in_ok-number-in-Ok.ensures)) in
     let third = then_fields w c.number-in-Ok.new.self c.push_messages.new.line _ (messages ∷ []) second
-        (c.in_ok-push_messages-in-Ok.ensures ∙ λ i. c.number-in-Ok.new.self ⊕ fields_tokens ((codes "messages", array (messages_json (c.order.ensures i) (map message_view (c.as_slice.ensures.value i)))) ∷ [])) in (
+    (c.in_ok-push_messages-in-Ok.ensures ∙ λ i. c.number-in-Ok.new.self ⊕ fields_tokens ((codes "messages", array (messages_json (c.order.ensures i) (map message_view (c.as_slice.ensures.value i)))) ∷ [])) in (
       Ok ms,
       answers_messages c.args.self.now.limits c.args.bytes.now c.read_datagram.result.result c.read_datagram.ensures.large c.in-Ok.messages (sym c.into_result.ensures ∙ c.in-Ok.is) c.read_datagram.ensures.fits,
       c.in_ok-end-in-Ok.ensures before (datagram ∷ bytes ∷ messages ∷ []) third,

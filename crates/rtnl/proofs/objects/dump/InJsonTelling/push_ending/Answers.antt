@@ -1,4 +1,4 @@
-use Rattle.std.proofs.Common.{◌≡◌, ◌∷◌, ◌++◌, ◌∙◌, [], List, ap, append_assoc, codes, sym}
+use Rattle.std.proofs.Common.{◌≡◌, ◌∷◌, ◌++◌, ◌∙◌, [], List, ap, append_assoc, codes}
 use Rattle.std.proofs.lemmas.Result.{IfOk-weaker}
 use Rattle.nl_dump.specs.View.{complete_of}
 use Rattle.rtnl.specs.Json.{Field, ◌⊕◌, boolean, fields_tokens, json_line, object, object_behind}
@@ -22,7 +22,7 @@ returns c =
     let fourth = then_fields w c.push_counts.new.line c.push_losses.new.line ((front ++ end) ++ counts) (loss_fields v) third c.in_ok-push_losses.ensures in
     let fifth = then_fields w c.push_losses.new.line c.push_sums.new.line (((front ++ end) ++ counts) ++ loss_fields v) (sum_fields v) fourth c.in_ok-push_sums.ensures in
     let sixth = then_fields w c.push_sums.new.line c.boolean.new.self ((((front ++ end) ++ counts) ++ loss_fields v) ++ sum_fields v) complete fifth
-        (c.in_ok-boolean.ensures ∙ ap (λ x. c.push_sums.new.line ⊕ fields_tokens ((codes "complete", boolean x) ∷ [])) c.complete.ensures) in
+    (c.in_ok-boolean.ensures ∙ ap (λ x. c.push_sums.new.line ⊕ fields_tokens ((codes "complete", boolean x) ∷ [])) c.complete.ensures) in
     let together : ((((front ++ end) ++ counts) ++ loss_fields v) ++ sum_fields v) ++ complete ≡ front ++ (end ++ (counts ++ (loss_fields v ++ (sum_fields v ++ complete)))) = simp append_assoc in
     IfOk-weaker c.end.result _ _
     (λ _ ended. ended before _ sixth ∙ ap (λ fields. before ++ json_line (object fields)) together) c.end.ensures
