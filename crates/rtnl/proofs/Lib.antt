@@ -1,4 +1,5 @@
 mod Answers
+mod BadLines
 mod Digits
 mod Entries
 mod Feeding

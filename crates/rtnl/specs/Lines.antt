@@ -1,8 +1,10 @@
 -- The lines of a recording, each of them a comment, blank, or a datagram in hexadecimal.
-use Rattle.std.specs.Prelude.{◌≡◌, ℕ, ◌+◌, ◌==◌, ◌||◌, not, if◌then◌else◌, Bool, false, List, [], ◌∷◌, filter, length, Option, Some, None, Result, Ok, Err}
-use Rattle.std.specs.List.{slice_split}
-use Rattle.hex.specs.Hex.{decode_of}
+use Rattle.std.specs.Prelude.{◌≡◌, ℕ, ◌+◌, ◌%◌, ◌==◌, ◌||◌, not, if◌then◌else◌, Bool, false, List, [], ◌∷◌, filter, length, slice_index, Option, Some, None, Result, Ok, Err}
+use Rattle.std.specs.List.{position, slice_split}
+use Rattle.hex.specs.Hex.{decode_of, is_hex_digit}
 use Rattle.hex.specs.declared.error.FromHexError.{FromHexError}
+use Rattle.rtnl.specs.declared.lines.LineFault.{LineFault}
+use Rattle.rtnl.specs.declared.lines.LineFault.TheVariants.{Character, Odd}
 use Rattle.rtnl.specs.declared.error.RunError.{RunError}
 use Rattle.rtnl.specs.declared.error.RunError.TheVariants.{BadLine, ReadFault, WriteFault, Memory}
 
@@ -39,6 +41,23 @@ digits_at number digits = if length digits == 0 then Ok None else decoded number
 -- the datagram of the line of this number, if it has one, or the number, if the line is bad
 abbrev pub line_at : ℕ → List ℕ → Result (Option (List ℕ)) ℕ
 line_at number line = if is_comment line then Ok None else digits_at number (compact line)
+
+-- the byte is neither a digit nor a blank
+abbrev pub is_stray : ℕ → Bool
+is_stray byte = not (is_hex_digit byte || is_blank byte)
+
+-- what is wrong with so many digits
+abbrev pub odd_of : ℕ → Option LineFault
+odd_of digits = if digits % 2 == 1 then Some (Odd digits) else None
+
+-- the byte at this place, in its column counted from 1; with no place, what is wrong with the number of digits
+abbrev pub fault_in : List ℕ → Option ℕ → Option LineFault
+fault_in line (Some place) = Some (Character (place + 1) (slice_index line place))
+fault_in line None = odd_of (length (compact line))
+
+-- what is wrong with a line: its first stray byte, else that its digits are odd; nothing with a comment
+abbrev pub line_fault_of : List ℕ → Option LineFault
+line_fault_of line = if is_comment line then None else fault_in line (position is_stray line)
 
 infixl 10 ◌>>=◌
 -- a step, and the next one if no line was bad so far

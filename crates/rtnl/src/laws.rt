@@ -1,9 +1,10 @@
 //! Laws over the definitions alone: each contract is a law, and each body is empty.
 
-ghost use Rattle.std.specs.Prelude.{◌≡◌, ℕ, List};
+ghost use Rattle.std.specs.Prelude.{◌≡◌, ◌↔◌, ℕ, List, IsSome, Err};
 ghost use Rattle.nl_attr.specs.Numbers.{AreBytes};
 ghost use Rattle.nl_frame.specs.Limits.{Bounds};
 ghost use Rattle.rtnl.specs.Checked.{Checks, Finding, Finds};
+ghost use Rattle.rtnl.specs.Lines.{line_at, line_fault_of};
 ghost use Rattle.rtnl.specs.Shown.{Answer, Answers, Shows};
 ghost use Rattle.rtnl.specs.declared.error.Verdict.{Verdict};
 
@@ -21,4 +22,10 @@ pub fn one_text()
         → Shows b ds t v → Shows b ds u w → (t ≡ u) × (v ≡ w) }
     ensures checked { (b : Bounds) (ds : List (List ℕ)) (t u : List ℕ) (v w : Verdict)
         → Checks b ds t v → Checks b ds u w → (t ≡ u) × (v ≡ w) }
+{}
+
+/// A line of a recording is bad exactly where it has a fault.
+pub fn bad_lines()
+    ensures { (number : ℕ) (line : List ℕ)
+        → (line_at number line ≡ Err number) ↔ IsSome (line_fault_of line) }
 {}

@@ -24,6 +24,7 @@ mod text;
 pub use broken::Broken;
 pub use check::{run_check, run_check_json};
 pub use error::{RunError, Verdict};
+pub use lines::{LineFault, datagrams, line_fault};
 pub use nl_dump as dump;
 pub use nl_frame as frame;
 pub use request::{run_request, run_request_ordered};

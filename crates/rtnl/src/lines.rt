@@ -1,10 +1,12 @@
 //! The lines of a recording.
 
-ghost use Rattle.std.specs.List.{list_any};
-ghost use Rattle.std.specs.Prelude.{◌≡◌, ◌≤◌, length, map, option_map, IfOk};
-ghost use Rattle.rtnl.specs.Lines.{Gives, compact, datagrams, digits_at, is_blank, is_comment, line_at, longest_input};
+ghost use Rattle.std.specs.List.{list_any, position};
+ghost use Rattle.std.specs.Prelude.{◌≡◌, ◌≤◌, ◌<◌, ◌↔◌, length, map, option_map, IfOk, Err};
+ghost use Rattle.rtnl.specs.Lines.{Gives, compact, datagrams, digits_at, is_blank, is_comment};
+ghost use Rattle.rtnl.specs.Lines.{is_stray, line_at, line_fault_of, longest_input};
 
 use crate::error::RunError;
+use crate::source::LONGEST_INPUT;
 use hex::FromHexError;
 use std::alloc::{AllocError, Global};
 
@@ -33,6 +35,57 @@ fn has_blank(line: &[u8]) -> bool
     ensures { result ≡ list_any is_blank line.now }
 {
     line.iter().any(|byte| is_blank_byte(*byte))
+}
+
+/// What is wrong with a line that is not hexadecimal.
+#[derive(Clone, Copy, Debug, PartialEq, Eq)]
+pub enum LineFault {
+    /// The first byte that is neither a digit nor a blank (a space, a tab, a carriage return), and
+    /// its column, counted from 1 over all bytes of the line.
+    Character { column: usize, byte: u8 },
+    /// All bytes are digits or blanks, and there are so many digits, an odd number.
+    Odd { digits: usize },
+}
+
+fn is_stray_byte(byte: u8) -> bool
+    ensures { result ≡ is_stray byte }
+{
+    !byte.is_ascii_hexdigit() && !is_blank_byte(byte)
+}
+
+/// The place of the first byte of a line that is neither a digit nor a blank.
+fn stray_place(line: &[u8]) -> Option<usize>
+    ensures { result ≡ position is_stray line.now }
+{
+    line.iter().position(|byte| is_stray_byte(*byte))
+}
+
+/// How many bytes of a line are no blanks.
+fn digit_count(line: &[u8]) -> usize
+    ensures { result ≡ length (compact line.now) }
+{
+    line.iter().filter(|byte| !is_blank_byte(**byte)).count()
+}
+
+/// What is wrong with a line of a recording, handed in without the newline that ends it; none where
+/// it is a comment, blank, or a datagram. It takes no memory.
+pub fn line_fault(line: &[u8]) -> Option<LineFault>
+    ensures { result ≡ line_fault_of line.now }
+{
+    if begins_comment(line) {
+        return None;
+    }
+    if let Some(place) = stray_place(line) {
+        return Some(LineFault::Character {
+            column: place + 1,
+            byte: line[place],
+        });
+    }
+    let digits = digit_count(line);
+    if digits % 2 == 1 {
+        return Some(LineFault::Odd { digits });
+    }
+    None
 }
 
 /// The datagram of the digits of a line, if there are any.
@@ -78,4 +131,18 @@ pub(crate) fn read_datagrams(alloc: Global, input: &[u8]) -> Result<Vec<Vec<u8>>
         }
     }
     Ok(datagrams)
+}
+
+/// The datagrams of a recording in memory, one for each line that has one, or the number of the
+/// first line that is bad; a read fault where the recording is longer than 16,777,216 bytes.
+pub fn datagrams(alloc: Global, recording: &[u8]) -> Result<Vec<Vec<u8>>, RunError>
+    ensures large { (result ≡ Err RunError.ReadFault) ↔ (longest_input < length recording.now) }
+    // Else they are those of its lines, or the first line that is bad, or memory ran out.
+    ensures told { length recording.now ≤ longest_input
+        → Gives (λ v. map (λ d. d.items) v.items) result (datagrams recording.now) }
+{
+    if recording.len() > LONGEST_INPUT {
+        return Err(RunError::ReadFault);
+    }
+    read_datagrams(alloc, recording)
 }
