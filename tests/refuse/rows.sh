@@ -249,7 +249,7 @@ for family in $families; do
 done
 refuse_rows feed
 
-# ---- whole runs, over a sink with room for what they write, and a sink without
+# ---- whole runs, over a sink with room for what they write, the datagrams of a recording, and a sink without room
 
 # ran CALL ROW TEXT: a run in both orders, and what it writes, a bar for the end of a line.
 ran() {
@@ -289,6 +289,9 @@ row 'run_request little, routes' "clean, failures 0, text ${next_requests[little
 row 'run_request big, routes' "clean, failures 0, text ${next_requests[big route]}|" \
   'memory, failures 0, text -'
 refuse_rows run_request
+
+row 'datagrams' '1400, 0a0b' 'memory'
+refuse_rows datagrams
 
 row 'give' 'took 33, failures 0, text datamore bytes than there is room for' 'broken, failures 1, text data'
 refuse_rows give

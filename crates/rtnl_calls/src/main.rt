@@ -24,7 +24,7 @@ use std::process::ExitCode;
 use stop::Stop;
 
 /// The calls of the libraries.
-const CALLS: [&str; 21] = [
+const CALLS: [&str; 22] = [
     "read_list",
     "write_list",
     "from_slice",
@@ -45,6 +45,7 @@ const CALLS: [&str; 21] = [
     "run_check",
     "run_table",
     "run_request",
+    "datagrams",
     "give",
 ];
 
@@ -71,6 +72,7 @@ fn try_call(rt: &HostRuntime, name: &str) -> Result<(), Stop> {
         "run_check" => runs::check_end(rt),
         "run_table" => runs::table_links(rt),
         "run_request" => runs::request_routes(rt),
+        "datagrams" => runs::take_datagrams(rt),
         "give" => runs::give(rt),
         _ => Err(Stop::Usage),
     }

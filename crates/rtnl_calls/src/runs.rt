@@ -1,13 +1,13 @@
-//! Whole runs over memory, and a sink in memory.
+//! Whole runs over memory, a sink in memory, and the datagrams of a recording.
 
 use crate::datagrams::limits_in;
 use crate::rows::{END, ETHERNET, LOOPBACK};
-use crate::said::{Label, ORDERS, Text, say};
+use crate::said::{Hex, Label, ORDERS, Text, say};
 use crate::stop::Stop;
 use nl_attr::Order;
 use nl_dump::{Dump, Kind};
 use rtnl::{
-    Broken, RunError, Sink, SliceSource, VecSink, Verdict, run_check, run_request,
+    Broken, RunError, Sink, SliceSource, VecSink, Verdict, datagrams, run_check, run_request,
     run_request_ordered, run_show, run_table,
 };
 use std::alloc::Global;
@@ -113,6 +113,22 @@ pub(crate) fn give(rt: &HostRuntime) -> Result<(), Stop> {
             "give",
             format_args!("broken, failures {failures}, text {text}"),
         ),
+    }
+}
+
+/// Takes the datagrams of a recording: those of a line with blanks and of one without.
+pub(crate) fn take_datagrams(rt: &HostRuntime) -> Result<(), Stop> {
+    let list = match datagrams(rt.alloc(), b"# two datagrams\n14 00\n0a0b\n") {
+        Ok(list) => list,
+        Err(RunError::Memory) => return say(rt, "datagrams", "memory"),
+        Err(_) => return say(rt, "datagrams", "refused"),
+    };
+    match list.as_slice() {
+        [first, second] => {
+            let (first, second) = (Hex(first.as_slice()), Hex(second.as_slice()));
+            say(rt, "datagrams", format_args!("{first}, {second}"))
+        }
+        _ => say(rt, "datagrams", "other lines"),
     }
 }
 
