@@ -82,7 +82,8 @@ while !left.is_empty() {"
 same 'the way to a fault is taken where the head of a datagram is asked for, and in no reading' \
   "$(counts '\b(broken_head|broken_in|head_at)\(')" \
   'crates/nl_attr/src/broken.rt 3
-crates/nl_frame/src/broken.rt 4'
+crates/nl_frame/src/broken.rt 4
+crates/rtnl_cli/src/explain.rt 1'
 
 same 'the count of a reading is handed on, never made' \
   "$(lines '\b(let|if|for|while)\b.*\bvisits\b' "$stack" "$reading" | grep -v ' match walk\.step(visits) {$')" \
@@ -122,12 +123,13 @@ crates/nl_route/src/family.rt 2'
 
 same 'a tally is ended without its visits by those who answer none' "$(counts '\.into_result\(')" \
   'crates/nl_frame/src/canonical.rt 1
-crates/rtnl/src/show.rt 1
-crates/rtnl_bench/src/main.rt 1'
+crates/rtnl/src/show.rt 2
+crates/rtnl_bench/src/main.rt 1
+crates/rtnl_cli/src/explain.rt 1'
 
 same 'a tally is taken apart with its visits' "$(counts 'visits: *_')" 'crates/nl_attr/src/fault.rt 1'
 
-same 'each reading calls the one below it once' \
+same 'each reading calls the one below it once, and what explains a refusal reads for itself' \
   "$(counts '(\bread_(region|list|list_ordered|body|body_ordered|message|messages|datagram)\(|Body::read\()' |
     grep -v rtnl_bench)" \
   'crates/nl_attr/src/reading.rt 4
@@ -136,19 +138,22 @@ crates/nl_dump/src/reading.rt 1
 crates/nl_frame/src/canonical.rt 1
 crates/nl_frame/src/reading.rt 6
 crates/nl_route/src/family.rt 4
-crates/rtnl/src/show.rt 1'
+crates/rtnl/src/show.rt 2
+crates/rtnl_cli/src/explain.rt 1'
 
 same 'each family is read by one arm' "$(counts 'read_body_ordered \$')" 'crates/nl_route/src/group.rt 5'
 
 same 'a datagram is checked by a check alone' "$(counts '\bis_canonical\(')" \
   'crates/nl_frame/src/canonical.rt 1
-crates/rtnl/src/check.rt 1'
+crates/rtnl/src/check.rt 2'
 
 same 'a session adds the visits of each datagram that it takes, and nothing else' \
   "$(lines 'self\.visits [-+*]?=|[^_a-z]take\($' crates/nl_dump/src/session.rt | sed 's/^[^:]*: *//')" \
   'let Tally { result, visits } = take(
 self.visits += visits;'
 
-same 'the datagrams of a table are read by the session alone' "$(counts '\.feed\(')" 'crates/rtnl/src/table.rt 1'
+same 'the datagrams of a table are read by the session alone' "$(counts '\.feed\(')" \
+  'crates/rtnl/src/table.rt 1
+crates/rtnl_cli/src/explain.rt 1'
 
 exit "$found"

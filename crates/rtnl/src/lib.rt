@@ -30,5 +30,5 @@ pub use nl_frame as frame;
 pub use request::{run_request, run_request_ordered};
 pub use show::{run_show, run_show_json};
 pub use sink::{Sink, VecSink, WriteSink};
-pub use source::{ReadSource, SliceSource, Source};
+pub use source::{LONGEST_INPUT, ReadSource, SliceSource, Source};
 pub use table::{run_table, run_table_json};

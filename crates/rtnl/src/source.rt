@@ -128,7 +128,7 @@ impl<R: Read> Source for ReadSource<R> {
 }
 
 /// The longest input that is read, in bytes.
-pub(crate) const LONGEST_INPUT: usize = 16_777_216;
+pub const LONGEST_INPUT: usize = 16_777_216;
 
 /// All that a source gives up to its end, of which at most `LONGEST_INPUT` bytes and one more are
 /// taken. It stops at the first call that fails.

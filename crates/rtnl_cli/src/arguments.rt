@@ -34,14 +34,21 @@ pub(crate) enum Format {
     Json,
 }
 
+/// What is done with a recording, how it is printed, and under which limits.
+#[derive(Clone, Copy, Debug)]
+pub(crate) struct Work {
+    pub engine: Engine,
+    pub format: Format,
+    pub limits: Limits,
+}
+
 /// What the program is to do.
 #[derive(Debug, Drop)]
 pub(crate) enum Task {
     /// Read a file, or standard input where none or `-` is named.
     Recording {
-        engine: Engine,
-        format: Format,
-        limits: Limits,
+        work: Work,
+        explain: bool,
         file: Option<String>,
     },
     /// Print the request that begins a dump.
@@ -114,10 +121,14 @@ fn command_task(name: &str, matches: &ArgMatches<'_>, file: Option<String>) -> O
         "request" => return request_of(matches),
         _ => return None,
     };
-    Some(Task::Recording {
+    let work = Work {
         engine,
         format: named(FORMATS.as_slice(), matches.get_str("format")?)?,
         limits: limits.with_order(order_of(matches)?),
+    };
+    Some(Task::Recording {
+        work,
+        explain: matches.get_flag("explain"),
         file,
     })
 }
@@ -125,10 +136,14 @@ fn command_task(name: &str, matches: &ArgMatches<'_>, file: Option<String>) -> O
 /// The task of the whole program, or none where a name or a value isn't known.
 fn task_of(alloc: Global, matches: &ArgMatches<'_>) -> Result<Option<Task>, AllocError> {
     let Some((name, inner)) = matches.subcommand() else {
-        return Ok(Some(Task::Recording {
+        let work = Work {
             engine: Engine::Show,
             format: Format::Text,
             limits: Limits::standard(),
+        };
+        return Ok(Some(Task::Recording {
+            work,
+            explain: false,
             file: None,
         }));
     };

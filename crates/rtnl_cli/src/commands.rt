@@ -1,7 +1,7 @@
 //! The commands of the program, with their arguments, options and help.
 
 use crate::arguments::Format;
-use clap::{Arg, Command, value_parser};
+use clap::{Arg, ArgAction, Command, value_parser};
 use nl_attr::Order;
 use std::alloc::{AllocError, Global};
 
@@ -85,6 +85,13 @@ fn format_option<'a>(alloc: Global, values: Values<'a>) -> Arg<'a> {
         .help("Lines of text, or of JSON: one object for each datagram or entry")
 }
 
+fn explain_option<'a>(alloc: Global) -> Arg<'a> {
+    Arg::new(alloc, "explain")
+        .long("explain")
+        .action(ArgAction::SetTrue)
+        .help("Say on standard error why something failed or was refused, and where")
+}
+
 fn kind_option<'a>(alloc: Global, values: Values<'a>) -> Arg<'a> {
     Arg::new(alloc, "kind")
         .long("kind")
@@ -145,6 +152,7 @@ fn show_command<'a>(alloc: Global, values: Values<'a>) -> Result<Command<'a>, Al
         .after_help(SHOW_EXAMPLE)
         .arg(order_option(alloc, values))?
         .arg(format_option(alloc, values))?
+        .arg(explain_option(alloc))?
         .arg(file_argument(alloc))
 }
 
@@ -156,6 +164,7 @@ fn check_command<'a>(alloc: Global, values: Values<'a>) -> Result<Command<'a>, A
         .after_help(CHECK_EXAMPLE)
         .arg(order_option(alloc, values))?
         .arg(format_option(alloc, values))?
+        .arg(explain_option(alloc))?
         .arg(file_argument(alloc))
 }
 
@@ -173,6 +182,7 @@ fn table_command<'a>(alloc: Global, values: Values<'a>) -> Result<Command<'a>, A
         .arg(entries_option(alloc, values))?
         .arg(order_option(alloc, values))?
         .arg(format_option(alloc, values))?
+        .arg(explain_option(alloc))?
         .arg(file_argument(alloc))
 }
 

@@ -4,16 +4,20 @@
 
 mod arguments;
 mod commands;
+mod explain;
+mod place;
 
-use arguments::{Engine, Format, Parsed, Task, unknown_command};
+use arguments::{Engine, Format, Parsed, Task, Work, unknown_command};
 use clap::Error;
-use rtnl::frame::Limits;
+use explain::{explain_failure, explain_refusals};
 use rtnl::{
-    ReadSource, RunError, Source, Verdict, WriteSink, run_check, run_check_json,
-    run_request_ordered, run_show, run_show_json, run_table, run_table_json,
+    LONGEST_INPUT, ReadSource, RunError, Sink, SliceSource, Source, VecSink, Verdict, WriteSink,
+    run_check, run_check_json, run_request_ordered, run_show, run_show_json, run_table,
+    run_table_json,
 };
+use std::alloc::Global;
 use std::fs::File;
-use std::io;
+use std::io::{self, Read, Write};
 use std::process::ExitCode;
 
 /// A datagram was refused, a dump is not complete, or a line is bad.
@@ -31,6 +35,19 @@ const MEMORY: u8 = 4;
 /// An exit status, after a message on standard error, be it printed or not.
 fn failed(_printed: io::Result<()>, status: u8) -> ExitCode {
     ExitCode::from(status)
+}
+
+/// This exit status, after one more line on standard error, be it printed or not.
+fn followed(_printed: io::Result<()>, status: ExitCode) -> ExitCode {
+    status
+}
+
+/// The exit status of a run that was explained, or could not be.
+fn after(rt: &HostRuntime, told: io::Result<()>, status: ExitCode) -> ExitCode {
+    match told {
+        Ok(()) => status,
+        Err(error) => followed(eprintln!(rt; "rtnl: not explained: {error}"), status),
+    }
 }
 
 /// The exit status of a run, with a line on standard error where it failed.
@@ -73,47 +90,109 @@ fn print_message(rt: &HostRuntime, message: &Error, arguments: &[String]) -> Exi
     }
 }
 
-/// Runs an engine over a source; its text goes to standard output.
-fn run<S: Source>(
-    rt: &HostRuntime,
+/// Runs an engine over a source; what it prints goes to a sink.
+fn run<S: Source, W: Sink>(
+    alloc: Global,
     source: &mut S,
-    engine: Engine,
-    format: Format,
-    limits: &Limits,
-) -> ExitCode {
-    let alloc = rt.alloc();
+    sink: &mut W,
+    work: &Work,
+) -> Result<Verdict, RunError> {
+    let limits = &work.limits;
+    match (work.engine, work.format) {
+        (Engine::Show, Format::Text) => run_show(alloc, source, sink, limits),
+        (Engine::Show, Format::Json) => run_show_json(alloc, source, sink, limits),
+        (Engine::Check, Format::Text) => run_check(alloc, source, sink, limits),
+        (Engine::Check, Format::Json) => run_check_json(alloc, source, sink, limits),
+        (Engine::Table(dump), Format::Text) => run_table(alloc, source, sink, dump, limits),
+        (Engine::Table(dump), Format::Json) => run_table_json(alloc, source, sink, dump, limits),
+    }
+}
+
+/// Runs over what a reader gives; what is printed goes to standard output.
+fn run_over<R: Read + Drop>(rt: &HostRuntime, reader: R, work: &Work) -> ExitCode {
     let mut sink = WriteSink::new(io::writer(rt));
-    let answer = match (engine, format) {
-        (Engine::Show, Format::Text) => run_show(alloc, source, &mut sink, limits),
-        (Engine::Show, Format::Json) => run_show_json(alloc, source, &mut sink, limits),
-        (Engine::Check, Format::Text) => run_check(alloc, source, &mut sink, limits),
-        (Engine::Check, Format::Json) => run_check_json(alloc, source, &mut sink, limits),
-        (Engine::Table(dump), Format::Text) => run_table(alloc, source, &mut sink, dump, limits),
-        (Engine::Table(dump), Format::Json) => {
-            run_table_json(alloc, source, &mut sink, dump, limits)
-        }
-    };
+    let answer = run(rt.alloc(), &mut ReadSource::new(reader), &mut sink, work);
     outcome(rt, answer)
+}
+
+/// All that a reader gives, up to the longest input and one byte more.
+fn read_all<R: Read + Drop>(alloc: Global, reader: R) -> io::Result<Vec<u8>> {
+    let mut reader = reader;
+    let mut input = Vec::new(alloc);
+    let mut buffer = [0u8; 8192];
+    for _ in 0..=LONGEST_INPUT {
+        let count = reader.read(&mut buffer)?;
+        input.extend_from_slice(&buffer[..count])?;
+        if count == 0 || input.len() > LONGEST_INPUT {
+            break;
+        }
+    }
+    Ok(input)
+}
+
+/// All of a file, or of standard input where none is named.
+fn read_file(rt: &HostRuntime, file: Option<&str>) -> io::Result<Vec<u8>> {
+    match file {
+        None => read_all(rt.alloc(), rt.reader()),
+        Some(path) => read_all(rt.alloc(), File::open(rt, path)?),
+    }
+}
+
+/// The exit status of a read or a write that failed, after the fixed line and the system's reason.
+fn faulty(rt: &HostRuntime, fault: RunError, name: &str, error: &io::Error) -> ExitCode {
+    if error.kind() == io::ErrorKind::OutOfMemory {
+        return outcome(rt, Err(RunError::Memory));
+    }
+    let status = outcome(rt, Err(fault));
+    followed(eprintln!(rt; "rtnl: {name}: {error}"), status)
+}
+
+/// Does as `run_over`, and explains on standard error what failed or was refused.
+fn run_explained(rt: &HostRuntime, file: Option<&str>, work: &Work) -> ExitCode {
+    let name = file.unwrap_or("standard input");
+    let input = match read_file(rt, file) {
+        Ok(input) => input,
+        Err(error) => return faulty(rt, RunError::ReadFault, name, &error),
+    };
+    let mut source = SliceSource::new(input.as_slice());
+    let mut sink = VecSink::new(rt.alloc());
+    let answer = run(rt.alloc(), &mut source, &mut sink, work);
+    if answer.is_ok() {
+        if let Err(error) = io::writer(rt).write_all(sink.bytes.as_slice()) {
+            return faulty(rt, RunError::WriteFault, "standard output", &error);
+        }
+    }
+    let status = outcome(rt, answer);
+    let told = match answer {
+        Ok(Verdict::Clean) => Ok(()),
+        Ok(Verdict::Blemished) => {
+            explain_refusals(rt, input.as_slice(), work.engine, &work.limits)
+        }
+        Err(error) => explain_failure(rt, name, input.as_slice(), error),
+    };
+    after(rt, told, status)
 }
 
 /// Does what the arguments ask for.
 fn perform(rt: &HostRuntime, task: &Task) -> ExitCode {
     match task {
         Task::Recording {
-            engine,
-            format,
-            limits,
+            work,
+            explain,
             file,
-        } => match file {
-            None => {
-                let mut source = ReadSource::new(rt.reader());
-                run(rt, &mut source, *engine, *format, limits)
+        } => {
+            let file = file.as_ref().map(String::as_str);
+            if *explain {
+                return run_explained(rt, file, work);
             }
-            Some(path) => match File::open(rt, path.as_str()) {
-                Ok(opened) => run(rt, &mut ReadSource::new(opened), *engine, *format, limits),
-                Err(_) => outcome(rt, Err(RunError::ReadFault)),
-            },
-        },
+            match file {
+                None => run_over(rt, rt.reader(), work),
+                Some(path) => match File::open(rt, path) {
+                    Ok(opened) => run_over(rt, opened, work),
+                    Err(_) => outcome(rt, Err(RunError::ReadFault)),
+                },
+            }
+        }
         Task::Request {
             kind,
             family,
