@@ -1,8 +1,8 @@
 #!/usr/bin/env python3
 """Compares the two forms in which the built program prints the same. Each run of `show`, `check`
 and `table` is made as text and as lines of JSON, and the text is written anew from the JSON alone,
-by docs/FORMAT.md. It must be the printed one to the byte, with the same status and the same errors,
-and each line of the JSON must be written in the one way that an object of its fields can be. The
+by docs/FORMAT.md. It must be the printed one to the byte, with the same status and errors, and
+each line of the JSON must be written in the one way that an object of its fields can be. The
 datagrams are those of compare.py, and hostile ones of its own. The last line is 'N passed, M
 failed', and the status is 1 where a case failed.
 """

@@ -139,5 +139,6 @@ bad_first_line='rtnl: line 1: bad line'
 . tests/program/check.sh
 . tests/program/table.sh
 . tests/program/request.sh
+. tests/program/json.sh
 
 finish
