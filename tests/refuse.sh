@@ -89,6 +89,20 @@ check 'examples/routes.hex, its datagrams' [ "$(grep -c '^datagram ' "$folder/fo
 refuse_each 'examples/routes.hex, checked' 0 /dev/null check examples/routes.hex
 check 'examples/routes.hex, its check' [ "$(grep -c ' canonical$' "$folder/found.output")" = 3 ]
 
+# The same as lines of JSON.
+cat >"$folder/done.json" <<'JSON'
+{"datagram":1,"bytes":20,"messages":[{"message":3,"type":"done","flags":2,"flag_names":["MULTI"],"seq":1,"port":12345,"done":{"status":0,"tail":""}}]}
+JSON
+refuse_each 'a DONE in JSON' 0 "$folder/done" show --format json
+check 'a DONE in JSON, its line' cmp -s "$folder/done.json" "$folder/found.output"
+
+refuse_each 'examples/routes.hex in JSON' 0 /dev/null show --format json examples/routes.hex
+check 'examples/routes.hex in JSON, its datagrams' [ "$(grep -c '^{"datagram":' "$folder/found.output")" = 3 ]
+
+refuse_each 'examples/routes.hex, checked, in JSON' 0 /dev/null check --format json examples/routes.hex
+check 'examples/routes.hex in JSON, its check' \
+  [ "$(grep -c '^{"datagram":[123],"canonical":true}$' "$folder/found.output")" = 3 ]
+
 # A link and DONE in both orders, an address, a neighbour, a rule and a route with two next hops, each with
 # DONE, and a link before a header that is cut.
 finish_hex='14000000 0300 0200 01000000 39300000 00000000'
@@ -111,7 +125,7 @@ table_each() {
   local name=$1 status=$2 file=$3 kind=$4
   shift 4
   refuse_each "$name" "$status" "$folder/$file" table --kind "$kind" --seq 1 --port 12345 "$@"
-  check "$name, its entry" [ "$(grep -c '^entry ' "$folder/found.output")" = 1 ]
+  check "$name, its entry" [ "$(grep -Ec '^(entry |\{"entry":)' "$folder/found.output")" = 1 ]
 }
 
 table_each 'a table of links' 0 links link
@@ -121,6 +135,13 @@ table_each 'a table of routes' 0 routes route --depth 2
 table_each 'a table of neighbours' 0 neighbours neigh --entries 1
 table_each 'a table of rules' 0 rules rule
 table_each 'a table, a datagram refused' 1 cut link
+table_each 'a table of links in JSON' 0 links link --format json
+table_each 'a table of links in JSON, order big' 0 links_big link --order big --format json
+table_each 'a table of addresses in JSON' 0 addresses addr --format json
+table_each 'a table of routes in JSON' 0 routes route --depth 2 --format json
+table_each 'a table of neighbours in JSON' 0 neighbours neigh --entries 1 --format json
+table_each 'a table of rules in JSON' 0 rules rule --format json
+table_each 'a table in JSON, a datagram refused' 1 cut link --format json
 
 refuse_each 'a request' 0 /dev/null request --kind link --seq 1
 refuse_each 'a request, order big' 0 /dev/null request --kind route --family 2 --seq 7 --order big
@@ -129,7 +150,9 @@ check 'a request, its bytes' grep -qx 0000001c001a030100000007000000000200000000
 echo zz >"$folder/bad"
 refuse_each 'a bad line' 1 "$folder/bad" show
 refuse_each 'a bad line of a table' 1 "$folder/bad" table --kind link --seq 1 --port 1
+refuse_each 'a bad line, in JSON' 1 "$folder/bad" show --format json
 refuse_each 'a usage error' 2 /dev/null show --order middle
+refuse_each 'a format that is none' 2 /dev/null show --format xml
 refuse_each 'a number out of its range' 2 /dev/null table --kind link --seq 1 --port 1 --depth 33
 refuse_each 'a missing option' 2 /dev/null request --kind link
 refuse_each 'a missing file' 3 /dev/null show "$folder/missing"

@@ -263,8 +263,17 @@ ran run_show 'the end' \
   'datagram 1 bytes 20|message 3 done flags 0x0002 MULTI seq 1 port 12345|  done status 0 tail -|'
 refuse_rows run_show
 
+ran run_show_json 'the end' "$(tr '\n' '|' <<'JSON'
+{"datagram":1,"bytes":20,"messages":[{"message":3,"type":"done","flags":2,"flag_names":["MULTI"],"seq":1,"port":12345,"done":{"status":0,"tail":""}}]}
+JSON
+)"
+refuse_rows run_show_json
+
 ran run_check 'the end' 'datagram 1 canonical|'
 refuse_rows run_check
+
+ran run_check_json 'the end' '{"datagram":1,"canonical":true}|'
+refuse_rows run_check_json
 
 table=$(tr '\n' '|' <<'TEXT'
 dump link seq 1 port 12345
@@ -283,6 +292,15 @@ TEXT
 )
 ran run_table 'two links' "$table"
 refuse_rows run_table
+
+table=$(tr '\n' '|' <<'JSON'
+{"entry":1,"link":{"family":0,"type":772,"index":1,"flags":65609,"flag_names":["UP","LOOPBACK","RUNNING","LOWER_UP"],"change":0,"attrs":[{"number":3,"name":"IFNAME","flags":[],"form":"text","value":"lo"},{"number":4,"name":"MTU","flags":[],"form":"u32","value":65536}]}}
+{"entry":2,"link":{"family":0,"type":1,"index":2,"flags":69699,"flag_names":["UP","BROADCAST","RUNNING","MULTICAST","LOWER_UP"],"change":0,"attrs":[{"number":3,"name":"IFNAME","flags":[],"form":"text","value":"eth0"}]}}
+{"dump":"link","seq":1,"port":12345,"end":"done","code":0,"entries":2,"missed":0,"ignored":0,"unfed":0,"damaged":false,"interrupted":false,"received":112,"visits":28,"complete":true}
+JSON
+)
+ran run_table_json 'two links' "$table"
+refuse_rows run_table_json
 
 row 'run_request little, routes' "clean, failures 0, text ${next_requests[little route]}|" \
   'memory, failures 0, text -'

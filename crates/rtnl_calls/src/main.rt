@@ -24,7 +24,7 @@ use std::process::ExitCode;
 use stop::Stop;
 
 /// The calls of the libraries.
-const CALLS: [&str; 22] = [
+const CALLS: [&str; 25] = [
     "read_list",
     "write_list",
     "from_slice",
@@ -42,8 +42,11 @@ const CALLS: [&str; 22] = [
     "begin",
     "feed",
     "run_show",
+    "run_show_json",
     "run_check",
+    "run_check_json",
     "run_table",
+    "run_table_json",
     "run_request",
     "datagrams",
     "give",
@@ -69,8 +72,11 @@ fn try_call(rt: &HostRuntime, name: &str) -> Result<(), Stop> {
         "begin" => sessions::begin_dumps(rt),
         "feed" => feeding::feed_dumps(rt),
         "run_show" => runs::show_end(rt),
+        "run_show_json" => runs::show_end_json(rt),
         "run_check" => runs::check_end(rt),
+        "run_check_json" => runs::check_end_json(rt),
         "run_table" => runs::table_links(rt),
+        "run_table_json" => runs::table_links_json(rt),
         "run_request" => runs::request_routes(rt),
         "datagrams" => runs::take_datagrams(rt),
         "give" => runs::give(rt),

@@ -7,8 +7,8 @@ use crate::stop::Stop;
 use nl_attr::Order;
 use nl_dump::{Dump, Kind};
 use rtnl::{
-    Broken, RunError, Sink, SliceSource, VecSink, Verdict, datagrams, run_check, run_request,
-    run_request_ordered, run_show, run_table,
+    Broken, RunError, Sink, SliceSource, VecSink, Verdict, datagrams, run_check, run_check_json,
+    run_request, run_request_ordered, run_show, run_show_json, run_table, run_table_json,
 };
 use std::alloc::Global;
 
@@ -52,6 +52,15 @@ fn show(rt: &HostRuntime, order: Order) -> Result<(), Stop> {
     say_run(rt, label, answer, &sink)
 }
 
+/// Shows the end of a dump as a line of JSON.
+fn show_json(rt: &HostRuntime, order: Order) -> Result<(), Stop> {
+    let mut source = SliceSource::new(END.text(order).as_bytes());
+    let mut sink = sink_with_room(rt.alloc())?;
+    let label = Label::of("run_show_json", order, END.name);
+    let answer = run_show_json(rt.alloc(), &mut source, &mut sink, &limits_in(order));
+    say_run(rt, label, answer, &sink)
+}
+
 /// Checks the end of a dump.
 fn check(rt: &HostRuntime, order: Order) -> Result<(), Stop> {
     let mut source = SliceSource::new(END.text(order).as_bytes());
@@ -61,9 +70,26 @@ fn check(rt: &HostRuntime, order: Order) -> Result<(), Stop> {
     say_run(rt, label, answer, &sink)
 }
 
-/// Reads two lines as the answers to a dump of links.
-fn table(rt: &HostRuntime, order: Order) -> Result<(), Stop> {
-    let mut input = String::with_capacity(rt.alloc(), ROOM)?;
+/// Checks the end of a dump as a line of JSON.
+fn check_json(rt: &HostRuntime, order: Order) -> Result<(), Stop> {
+    let mut source = SliceSource::new(END.text(order).as_bytes());
+    let mut sink = sink_with_room(rt.alloc())?;
+    let label = Label::of("run_check_json", order, END.name);
+    let answer = run_check_json(rt.alloc(), &mut source, &mut sink, &limits_in(order));
+    say_run(rt, label, answer, &sink)
+}
+
+/// The dump of links that the rows answer.
+const LINKS: Dump = Dump {
+    kind: Kind::Link,
+    family: 0,
+    seq: 1,
+    port: 12_345,
+};
+
+/// Two lines: a link, and another with the end of the dump.
+fn two_links(alloc: Global, order: Order) -> Result<String, Stop> {
+    let mut input = String::with_capacity(alloc, ROOM)?;
     for text in [
         LOOPBACK.text(order),
         "\n",
@@ -72,16 +98,28 @@ fn table(rt: &HostRuntime, order: Order) -> Result<(), Stop> {
     ] {
         input.push_str(text)?;
     }
+    Ok(input)
+}
+
+/// Reads two lines as the answers to a dump of links.
+fn table(rt: &HostRuntime, order: Order) -> Result<(), Stop> {
+    let input = two_links(rt.alloc(), order)?;
     let mut source = SliceSource::new(input.as_bytes());
     let mut sink = sink_with_room(rt.alloc())?;
     let label = Label::of("run_table", order, "two links");
-    let dump = Dump {
-        kind: Kind::Link,
-        family: 0,
-        seq: 1,
-        port: 12_345,
-    };
-    let answer = run_table(rt.alloc(), &mut source, &mut sink, dump, &limits_in(order));
+    let limits = limits_in(order);
+    let answer = run_table(rt.alloc(), &mut source, &mut sink, LINKS, &limits);
+    say_run(rt, label, answer, &sink)
+}
+
+/// Reads the same two lines, and tells of the dump as lines of JSON.
+fn table_json(rt: &HostRuntime, order: Order) -> Result<(), Stop> {
+    let input = two_links(rt.alloc(), order)?;
+    let mut source = SliceSource::new(input.as_bytes());
+    let mut sink = sink_with_room(rt.alloc())?;
+    let label = Label::of("run_table_json", order, "two links");
+    let limits = limits_in(order);
+    let answer = run_table_json(rt.alloc(), &mut source, &mut sink, LINKS, &limits);
     say_run(rt, label, answer, &sink)
 }
 
@@ -140,10 +178,26 @@ pub(crate) fn show_end(rt: &HostRuntime) -> Result<(), Stop> {
     Ok(())
 }
 
-/// The same, checked.
+/// The end of a dump, shown as lines of JSON in both orders.
+pub(crate) fn show_end_json(rt: &HostRuntime) -> Result<(), Stop> {
+    for order in ORDERS {
+        show_json(rt, order)?;
+    }
+    Ok(())
+}
+
+/// The end of a dump, checked in both orders.
 pub(crate) fn check_end(rt: &HostRuntime) -> Result<(), Stop> {
     for order in ORDERS {
         check(rt, order)?;
+    }
+    Ok(())
+}
+
+/// The end of a dump, checked and told as lines of JSON in both orders.
+pub(crate) fn check_end_json(rt: &HostRuntime) -> Result<(), Stop> {
+    for order in ORDERS {
+        check_json(rt, order)?;
     }
     Ok(())
 }
@@ -152,6 +206,14 @@ pub(crate) fn check_end(rt: &HostRuntime) -> Result<(), Stop> {
 pub(crate) fn table_links(rt: &HostRuntime) -> Result<(), Stop> {
     for order in ORDERS {
         table(rt, order)?;
+    }
+    Ok(())
+}
+
+/// The same table as lines of JSON in both orders.
+pub(crate) fn table_links_json(rt: &HostRuntime) -> Result<(), Stop> {
+    for order in ORDERS {
+        table_json(rt, order)?;
     }
     Ok(())
 }
