@@ -30,6 +30,8 @@ mod hostile_dumps;
 #[cfg(test)]
 mod hostile_runs;
 #[cfg(test)]
+mod json;
+#[cfg(test)]
 mod keys;
 #[cfg(test)]
 mod laws;
