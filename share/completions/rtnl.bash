@@ -3,8 +3,10 @@
 # _rtnl_options COMMAND: its options.
 _rtnl_options() {
   case $1 in
-    show | check) echo --order --help ;;
-    table) echo --kind --seq --port --family --depth --entries --order --help ;;
+    show | check) echo --order --format --explain --help ;;
+    table)
+      echo --kind --seq --port --family --depth --entries --order --format --explain --help
+      ;;
     request) echo --kind --seq --family --order --help ;;
   esac
 }
@@ -24,6 +26,7 @@ _rtnl() {
   else
     case $before in
       --order) words='little big' ;;
+      --format) words='text json' ;;
       --kind) words='link addr route neigh rule' ;;
       --seq | --port | --family | --depth | --entries) ;;
       *)

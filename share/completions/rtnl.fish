@@ -4,6 +4,7 @@ set -l commands show check table request
 set -l all "__fish_seen_subcommand_from $commands"
 set -l dumps '__fish_seen_subcommand_from table request'
 set -l table '__fish_seen_subcommand_from table'
+set -l read '__fish_seen_subcommand_from show check table'
 set -l first "not __fish_seen_subcommand_from $commands help"
 set -l helped "__fish_seen_subcommand_from help; and not $all"
 
@@ -17,8 +18,10 @@ complete -c rtnl -n $first -s V -l version -d 'Print version'
 complete -c rtnl -n $helped -a "$commands"
 complete -c rtnl -s h -l help -d 'Print help'
 
-complete -c rtnl -n '__fish_seen_subcommand_from show check table' -F
+complete -c rtnl -n $read -F
 complete -c rtnl -n $all -l order -x -a 'little big' -d 'Byte order of the numbers'
+complete -c rtnl -n $read -l format -x -a 'text json' -d 'Lines of text or of JSON'
+complete -c rtnl -n $read -l explain -d 'Say why something failed or was refused'
 complete -c rtnl -n $dumps -l kind -x -a 'link addr route neigh rule' -d 'What the dump asks for'
 complete -c rtnl -n $dumps -l seq -x -d 'Sequence number of the request and its answers'
 complete -c rtnl -n $dumps -l family -x -d 'Address family of the request'

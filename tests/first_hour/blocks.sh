@@ -24,8 +24,8 @@ shows() {
 # is_possible BLOCK: its commands can run here, or it is told that it is skipped.
 is_possible() {
   local tool
-  has_namespace "$1" || return
-  for tool in rtmon xxd; do
+  [ "$live" = no ] || has_namespace "$1" || return
+  for tool in rtmon xxd jq; do
     [[ ${commands[*]} != *"$tool "* ]] || has "$tool" "$1" || return
   done
   [[ ${commands[*]} != *"strace "* ]] || can_trace "$1"
@@ -36,7 +36,7 @@ run_block() {
   local page=$1 number command live=no shown='' came=''
   count=$((count + ${#commands[@]}))
   [[ ${commands[*]-} == *@(record.py|rtmon|strace)* ]] && live=yes
-  [ "$live" = no ] || is_possible "line ${lines[0]} of $page" || return 0
+  [ "${#commands[@]}" = 0 ] || is_possible "line ${lines[0]} of $page" || return 0
   for number in "${!commands[@]}"; do
     printf '%s' "${texts[number]}" | sed '${/^$/d}' >"$folder/expected"
     command=${commands[number]}

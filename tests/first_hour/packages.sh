@@ -9,6 +9,7 @@ need() { command -v "$1" >/dev/null || [ -e "$1" ] || missing+=("$2"); }
 
 need mandoc mandoc
 need xxd xxd
+need jq jq
 need strace strace
 need ip iproute2
 need /usr/share/bash-completion/bash_completion bash-completion
