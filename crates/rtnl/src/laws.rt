@@ -3,9 +3,9 @@
 ghost use Rattle.std.specs.Prelude.{◌≡◌, ◌↔◌, ℕ, List, IsSome, Err};
 ghost use Rattle.nl_attr.specs.Numbers.{AreBytes};
 ghost use Rattle.nl_frame.specs.Limits.{Bounds};
-ghost use Rattle.rtnl.specs.Checked.{Checks, Finding, Finds};
+ghost use Rattle.rtnl.specs.Checked.{Checks, ChecksJson, Finding, Finds};
 ghost use Rattle.rtnl.specs.Lines.{line_at, line_fault_of};
-ghost use Rattle.rtnl.specs.Shown.{Answer, Answers, Shows};
+ghost use Rattle.rtnl.specs.Shown.{Answer, Answers, Shows, ShowsJson};
 ghost use Rattle.rtnl.specs.declared.error.Verdict.{Verdict};
 
 /// A datagram has one answer: its one layout, or its one refusal. A check finds one thing of it.
@@ -16,12 +16,16 @@ pub fn one_answer()
     ensures checked { (b : Bounds) (d : List ℕ) (x y : Finding) → Finds b d x → Finds b d y → x ≡ y }
 {}
 
-/// Datagrams have one text and one verdict, shown or checked.
+/// Datagrams have one text and one verdict, shown or checked, and so they have in JSON.
 pub fn one_text()
     ensures shown { (b : Bounds) (ds : List (List ℕ)) (t u : List ℕ) (v w : Verdict)
         → Shows b ds t v → Shows b ds u w → (t ≡ u) × (v ≡ w) }
     ensures checked { (b : Bounds) (ds : List (List ℕ)) (t u : List ℕ) (v w : Verdict)
         → Checks b ds t v → Checks b ds u w → (t ≡ u) × (v ≡ w) }
+    ensures shown_json { (b : Bounds) (ds : List (List ℕ)) (t u : List ℕ) (v w : Verdict)
+        → ShowsJson b ds t v → ShowsJson b ds u w → (t ≡ u) × (v ≡ w) }
+    ensures checked_json { (b : Bounds) (ds : List (List ℕ)) (t u : List ℕ) (v w : Verdict)
+        → ChecksJson b ds t v → ChecksJson b ds u w → (t ≡ u) × (v ≡ w) }
 {}
 
 /// A line of a recording is bad exactly where it has a fault.
