@@ -140,5 +140,6 @@ bad_first_line='rtnl: line 1: bad line'
 . tests/program/table.sh
 . tests/program/request.sh
 . tests/program/json.sh
+. tests/program/explain.sh
 
 finish

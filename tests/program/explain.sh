@@ -1,0 +1,67 @@
+# What `--explain` adds on standard error.
+
+done_line=1400000003000200010000003930000000000000
+link_head='1000 0200 01000000 39300000 00000100 02000000 01000000 00000000'
+length_rule='a length counts its head, and is at most the bytes left'
+
+expect 'nothing to explain' 0 'datagram 1 canonical' '' check --explain <<<"$done_line"
+expect 'an explained order' 1 'datagram 1 bytes 20
+refused bad length at 0' "rtnl: datagram 1: bad length at 0: $length_rule: \
+message of length 335544320, 20 bytes left: [14]000000030002000100000039300000" \
+  show --order big --explain <<<"$done_line"
+expect 'an explained header, cut' 1 'datagram 1 refused cut at 16' "rtnl: datagram 1: cut at 16: a head is whole: \
+message, 2 bytes left: 0000030002000100000039300000[12]00" check --explain <<<'10000000030002000100000039300000 1200'
+expect 'an explained attribute' 1 'datagram 1 canonical
+datagram 2 refused bad length at 32' "rtnl: datagram 2: bad length at 32: $length_rule: \
+attribute at level 0 of length 3, 4 bytes left: 020000000100000000000000[03]000300" check --explain <<END
+$done_line
+24000000 $link_head 0300 0300
+END
+expect 'an explained attribute, nested, in big order' 1 'datagram 1 refused cut at 36' "rtnl: datagram 1: cut at 36: \
+a head is whole: attribute at level 1, 2 bytes left: 0002000000000000000000068012[00]00" \
+  check --order big --explain <<<'00000026 0010 0002 00000001 00003039 00000001 00000002 00000000 00000000 0006 8012 0000'
+expect 'an explained next hop' 1 'datagram 1 refused bad length at 32' "rtnl: datagram 1: bad length at 32: \
+$length_rule: next hop at level 1 of length 9, 8 bytes left: 000000000c000900[09]00000002000000" \
+  check --explain <<<'28000000 1800 0200 01000000 39300000 02000000 fe030001 00000000 0c00 0900 0900 0000 02000000'
+expect 'an explained body' 1 'datagram 1 refused short body at 0' "rtnl: datagram 1: short body at 0: \
+a body begins with the whole head of its type: message of length 20, 20 bytes left: [14]000000100002000100000039300000" \
+  check --explain <<<'14000000 1000 0200 01000000 39300000 00000000'
+expect 'an explained size' 1 'datagram 1 refused too large' \
+  'rtnl: datagram 1: too large: 65537 bytes, and the limit is 65536' check --explain < <(zeros 65537)
+expect 'an explained refusal in JSON' 1 '{"datagram":1,"refused":"cut","at":16}' "rtnl: datagram 1: cut at 16: \
+a head is whole: message, 2 bytes left: 0000030002000100000039300000[12]00" \
+  check --explain --format json <<<'10000000030002000100000039300000 1200'
+
+# A table explains what it was fed: the first datagram breaks a rule, the third is left.
+expect 'an explained table' 1 'dump link seq 1 port 12345
+datagram 1 refused too deep at 32
+end done 0
+entries 0 missed 0 ignored 0 unfed 1 damaged yes interrupted no
+received 56 visits 4
+complete no' 'rtnl: datagram 1: too deep at 32: attributes are nested at most as deep as the limit: '\
+'attribute at level 0 of length 4, 4 bytes left: 020000000100000000000000[04]001280' \
+  table --kind link --seq 1 --port 12345 --depth 0 --explain <<END
+24000000 $link_head 0400 1280
+$done_line
+00
+END
+
+expect 'an explained byte' 1 '' 'rtnl: line 2: bad line
+rtnl: standard input: line 2, column 5: byte 0x67 is no hexadecimal digit' show --explain < <(printf '# note\n14 0g')
+expect 'explained digits' 1 '' 'rtnl: line 1: bad line
+rtnl: standard input: line 1: 3 digits, an odd number' show --explain <<<140
+expect 'explained digits, wrapped' 1 '' 'rtnl: line 1: bad line
+rtnl: standard input: line 1: 5 digits, an odd number; the line looks wrapped' show --explain < <(printf '14000\n00003\n')
+expect 'an explained file of bytes' 1 '' 'rtnl: line 1: bad line
+rtnl: standard input: line 1, column 1: byte 0x7f is no hexadecimal digit; the file is binary' \
+  check --explain < <(printf '\177ELF')
+expect 'a missing file, explained' 3 '' "rtnl: read fault
+rtnl: $folder/missing: No such file or directory (os error 2)" check --explain "$folder/missing"
+expect 'a folder, explained' 3 '' "rtnl: read fault
+rtnl: $folder: Is a directory (os error 21)" show --explain "$folder"
+expect 'an input that is too long, explained' 3 '' 'rtnl: read fault
+rtnl: standard input: longer than 16777216 bytes' show --explain < <(comment 16777217)
+check 'a full device, explained' ends 3 '' 'rtnl: write fault
+rtnl: standard output: No space left on device (os error 28)' into_full_device check --explain <<<"$done_line"
+check 'errors that cannot be written, explained' ends 1 'datagram 1 refused cut at 0' '' \
+  with_full_errors check --explain <<<00
