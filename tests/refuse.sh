@@ -2,7 +2,7 @@
 # Refuses the growths of a program one by one: the first in one run, the second in the next, and so on until a
 # run asks for no more. Whole runs of the built program come first: a refused growth ends it as out of memory, with
 # nothing on standard output, or it wasn't needed and changes nothing. Then come the calls of the libraries one by
-# one. The last line is 'N passed, M failed', and the status is 1 where a case failed.
+# one. What is explained may also be left out, and then it says so. The last line is 'N passed, M failed', and the status is 1 where a case failed.
 set -u
 cd "$(dirname "${BASH_SOURCE[0]}")/.." || exit 1
 program=$PWD/crates/rtnl_cli/out/rtnl_cli
@@ -51,7 +51,14 @@ is_whole() {
   done
 }
 
-is_ended_or_whole() { is_ended || is_whole; }
+# The run answered so, but for lines that should explain, in whose place it says that memory ran out.
+is_unexplained() {
+  cmp -s "$folder/whole.status" "$folder/found.status" && cmp -s "$folder/whole.output" "$folder/found.output" &&
+    [ "$(tail -n 1 "$folder/found.errors")" = 'rtnl: not explained: out of memory' ] &&
+    head -n -1 "$folder/found.errors" | cmp -s - <(head -n "$(($(wc -l <"$folder/found.errors") - 1))" "$folder/whole.errors")
+}
+
+is_ended_or_whole() { is_ended || is_whole || is_unexplained; }
 
 # refuse_each NAME STATUS INPUT [ARGUMENT..]: each growth of these runs in turn, and a run without a refusal.
 refuse_each() {
@@ -160,6 +167,13 @@ refuse_each 'an unknown command' 2 /dev/null links.hex
 refuse_each 'help' 0 /dev/null --help
 refuse_each 'the version' 0 /dev/null --version
 refuse_each 'help of table' 0 /dev/null table --help
+
+refuse_each 'a refusal, explained' 1 "$folder/done" check --order big --explain
+check 'a refusal, explained, its line' grep -q '^rtnl: datagram 1: bad length at 0: ' "$folder/found.errors"
+refuse_each 'a refusal at a level, explained' 1 "$folder/cut" show --explain
+refuse_each 'a refusal of a table, explained' 1 "$folder/cut" table --kind link --seq 1 --port 12345 --explain
+check 'a refusal of a table, explained, its line' [ "$(wc -l <"$folder/found.errors")" = 1 ]
+refuse_each 'a bad line, explained' 1 "$folder/bad" check --explain
 
 # ---- each call of the libraries
 

@@ -143,7 +143,8 @@ fn explain_refusal(
                 "rtnl: datagram {number}: total: with its {size} bytes all are above the limit of {limit}"
             )
         }
-        FeedError::NotWaiting | FeedError::Memory => Ok(()),
+        FeedError::NotWaiting => Ok(()),
+        FeedError::Memory => Err(AllocError.into()),
     }
 }
 
@@ -161,7 +162,8 @@ fn explain_each(rt: &HostRuntime, found: &[Vec<u8>], limits: &Limits) -> io::Res
     Ok(())
 }
 
-/// Tells why datagrams were refused that answer a dump, up to its end.
+/// Tells why datagrams were refused that answer a dump, up to its end. A new session begins each
+/// dump, so only memory can be refused.
 fn explain_dump(
     rt: &HostRuntime,
     found: &[Vec<u8>],
@@ -173,7 +175,7 @@ fn explain_dump(
         .begin(dump.kind, dump.family, dump.seq, dump.port)
         .is_err()
     {
-        return Ok(());
+        return Err(AllocError.into());
     }
     for (index, datagram) in found.iter().enumerate() {
         match session.feed(datagram) {
@@ -185,7 +187,8 @@ fn explain_dump(
     Ok(())
 }
 
-/// Tells why datagrams of a recording were refused.
+/// Tells why datagrams of a recording were refused. The recording was read, so only memory can be
+/// refused.
 pub(crate) fn explain_refusals(
     rt: &HostRuntime,
     input: &[u8],
@@ -193,7 +196,7 @@ pub(crate) fn explain_refusals(
     limits: &Limits,
 ) -> io::Result<()> {
     let Ok(found) = datagrams(rt.alloc(), input) else {
-        return Ok(());
+        return Err(AllocError.into());
     };
     match engine {
         Engine::Show | Engine::Check => explain_each(rt, found.as_slice(), limits),

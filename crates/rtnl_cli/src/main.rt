@@ -156,7 +156,11 @@ fn run_explained(rt: &HostRuntime, file: Option<&str>, work: &Work) -> ExitCode 
     };
     let mut source = SliceSource::new(input.as_slice());
     let mut sink = VecSink::new(rt.alloc());
-    let answer = run(rt.alloc(), &mut source, &mut sink, work);
+    // A sink in memory fails for memory alone.
+    let answer = match run(rt.alloc(), &mut source, &mut sink, work) {
+        Err(RunError::WriteFault) => Err(RunError::Memory),
+        answer => answer,
+    };
     if answer.is_ok() {
         if let Err(error) = io::writer(rt).write_all(sink.bytes.as_slice()) {
             return faulty(rt, RunError::WriteFault, "standard output", &error);
