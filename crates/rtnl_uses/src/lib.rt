@@ -5,6 +5,7 @@ pub mod attributes;
 pub mod datagrams;
 pub mod dumps;
 pub mod families;
+pub mod links;
 pub mod recordings;
 pub mod tables;
 #[cfg(test)]

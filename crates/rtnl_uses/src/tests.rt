@@ -4,6 +4,7 @@ use crate::attributes::count_of;
 use crate::datagrams::{message_count, mtu_of};
 use crate::dumps::take_answer;
 use crate::families::read_named;
+use crate::links::{LinksError, links_of};
 use crate::recordings::show_text;
 use crate::tables::keep;
 use nl_attr::{Depth, Fault, Order, Reason};
@@ -11,7 +12,7 @@ use nl_dump::{FeedError, Kind, Session};
 use nl_frame::Limits;
 use nl_route::Link;
 use nl_table::{Put, Table};
-use rtnl::Verdict;
+use rtnl::{RunError, Verdict};
 use std::test::Fail;
 
 #[test]
@@ -68,6 +69,26 @@ refused cut at 0
 ";
     assert!(rt; text.as_slice() == wanted.as_slice());
     assert_eq!(rt; verdict, Verdict::Blemished);
+    Ok(())
+}
+
+/// Two datagrams of a link each, the second with no name and no MTU, and a line between them.
+#[test]
+fn links_of_a_recording(rt: HostRuntime) -> Result<(), Fail> {
+    let recording = b"30000000 10000200 01000000 39300000 00000403 01000000 00000000 00000000 \
+        07000300 6c6f0000 08000400 00000100
+# a comment
+20000000 10000200 01000000 39300000 00000100 02000000 00000000 00000000
+";
+    let limits = Limits::standard();
+    let links = links_of(rt.alloc(), recording, &limits)?;
+    assert_eq!(rt; links.len(), 2);
+    assert!(rt; links[0].0.as_slice() == b"lo".as_slice());
+    assert_eq!(rt; links[0].1, Some(65_536));
+    assert!(rt; links[1].0.as_slice() == b"?".as_slice());
+    assert_eq!(rt; links[1].1, None);
+    let bad = links_of(rt.alloc(), b"00000\n", &limits);
+    assert!(rt; matches!(bad, Err(LinksError::Recording(RunError::BadLine(1)))));
     Ok(())
 }
 
