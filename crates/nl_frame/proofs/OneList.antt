@@ -1,5 +1,5 @@
 -- A datagram's layout is its one list, and is written back.
-use Rattle.std.proofs.Common.{◌≡◌, ◌≤◌, ℕ, List, length}
+use Rattle.std.proofs.Common.{◌≤◌, ℕ, List, length}
 use Rattle.nl_attr.specs.Numbers.{AreBytes}
 use Rattle.nl_frame.specs.Limits.{Bounds, AreLimits}
 use Rattle.nl_frame.specs.Message.{MessageVal}
