@@ -1,10 +1,12 @@
 mod Answers
 mod BadLines
+mod Cuts
 mod Digits
 mod Entries
 mod Feeding
 mod Json
 mod Listing
+mod Pieces
 mod Plain
 mod Recordings
 mod Refusing

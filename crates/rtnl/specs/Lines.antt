@@ -1,5 +1,6 @@
 -- The lines of a recording, each of them a comment, blank, or a datagram in hexadecimal.
 use Rattle.std.specs.Prelude.{◌≡◌, ℕ, ◌+◌, ◌%◌, ◌==◌, ◌||◌, not, if◌then◌else◌, Bool, false, List, [], ◌∷◌, filter, length, slice_index, Option, Some, None, Result, Ok, Err}
+use Rattle.std.specs.Borrow.{Bor}
 use Rattle.std.specs.List.{position, slice_split}
 use Rattle.hex.specs.Hex.{decode_of, is_hex_digit}
 use Rattle.hex.specs.declared.error.FromHexError.{FromHexError}
@@ -81,6 +82,11 @@ datagrams_from number (line ∷ lines) = do
 -- the lines of an input, each ended by a newline or by the end of the input
 abbrev pub lines_of : List ℕ → List (List ℕ)
 lines_of input = slice_split is_newline input
+
+-- the lines of what is left of an input, if it has not come to its end
+abbrev pub lines_left : Option (Bor (List ℕ)) → List (List ℕ)
+lines_left None = []
+lines_left (Some rest) = lines_of rest.now
 
 -- the datagrams of an input, or the number of its first bad line, counted from 1 over all lines
 abbrev pub datagrams : List ℕ → Result (List (List ℕ)) ℕ

@@ -30,12 +30,16 @@ line_of group.Rule = rule_line
 abbrev pub head_line : AnyHead → List ℕ
 head_line h = line_of h.group h.head
 
+-- the bytes behind a fixed part, which end the line
+abbrev pub tail_end : List ℕ → List ℕ
+tail_end tail = codes " tail " ⨟ hex_text tail ⨟ codes "\n"
+
 -- the line of an answer with a code
 unfoldable pub error_line : ℤ → Header → List ℕ → List ℕ
 error_line code h tail =
     codes "  error code " ⨟ signed_decimal code ⨟ codes " answers len " ⨟ decimal h.len ⨟ codes " type " ⨟ decimal h.kind
     ⨟ codes " flags 0x" ⨟ padded_hex 4 h.flags ⨟ codes " seq " ⨟ decimal h.seq ⨟ codes " port " ⨟ decimal h.port
-    ⨟ codes " tail " ⨟ hex_text tail ⨟ codes "\n"
+    ⨟ tail_end tail
 
 -- a status, 0 where there is none
 abbrev pub status_of : Option ℤ → ℤ
@@ -44,11 +48,11 @@ status_of (Some status) = status
 
 -- the line of a dump's end
 unfoldable pub done_line : ℤ → List ℕ → List ℕ
-done_line status tail = codes "  done status " ⨟ signed_decimal status ⨟ codes " tail " ⨟ hex_text tail ⨟ codes "\n"
+done_line status tail = codes "  done status " ⨟ signed_decimal status ⨟ tail_end tail
 
 -- the line of a request
 unfoldable pub get_line : ℕ → List ℕ → List ℕ
-get_line n tail = codes "  get family " ⨟ decimal n ⨟ codes " tail " ⨟ hex_text tail ⨟ codes "\n"
+get_line n tail = codes "  get family " ⨟ decimal n ⨟ tail_end tail
 
 -- the line of a payload that is kept as it stands
 unfoldable pub bytes_line : List ℕ → List ℕ

@@ -74,13 +74,15 @@ ipv4_text bytes =
 unfoldable pub group_at : ℕ → List ℕ → ℕ
 group_at i bytes = 256 * slice_index bytes i + slice_index bytes (i + 1)
 
--- eight groups of four digits
+-- four groups of four digits, from place i on
+unfoldable pub groups_text : ℕ → List ℕ → List ℕ
+groups_text i bytes =
+    padded_hex 4 (group_at i bytes) ⨟ codes ":" ⨟ padded_hex 4 (group_at (i + 2) bytes)
+    ⨟ codes ":" ⨟ padded_hex 4 (group_at (i + 4) bytes) ⨟ codes ":" ⨟ padded_hex 4 (group_at (i + 6) bytes)
+
+-- eight groups
 unfoldable pub ipv6_text : List ℕ → List ℕ
-ipv6_text bytes =
-    padded_hex 4 (group_at 0 bytes) ⨟ codes ":" ⨟ padded_hex 4 (group_at 2 bytes)
-    ⨟ codes ":" ⨟ padded_hex 4 (group_at 4 bytes) ⨟ codes ":" ⨟ padded_hex 4 (group_at 6 bytes)
-    ⨟ codes ":" ⨟ padded_hex 4 (group_at 8 bytes) ⨟ codes ":" ⨟ padded_hex 4 (group_at 10 bytes)
-    ⨟ codes ":" ⨟ padded_hex 4 (group_at 12 bytes) ⨟ codes ":" ⨟ padded_hex 4 (group_at 14 bytes)
+ipv6_text bytes = groups_text 0 bytes ⨟ codes ":" ⨟ groups_text 8 bytes
 
 -- the word for what is read
 unfoldable pub reading_word : Reading → List ℕ

@@ -1,7 +1,6 @@
 //! Checking a recording.
 
 ghost use Rattle.std.specs.Prelude.{◌≡◌, ◌+◌, ◌++◌, Ok, OnOk, IfOk};
-ghost use Rattle.std.specs.String.{string_bytes};
 ghost use Rattle.rtnl.specs.Checked.{Checks, ChecksInput, ChecksInputJson, ChecksJson, finding_text};
 ghost use Rattle.rtnl.specs.Lines.{longest_input};
 ghost use Rattle.rtnl.specs.Runs.{Runs};
@@ -15,18 +14,22 @@ use crate::run::{Command, run};
 use crate::sink::Sink;
 use crate::source::Source;
 use crate::text::datagram::{push_number, push_refusal};
+use crate::text::pieces::push;
 use nl_frame::{Limits, is_canonical};
 use std::alloc::{AllocError, Global};
 
 #[tactic(auto, unfolding(crate::specs::Checked::finding_text))]
-fn push_accepted(out: &mut String, canonical: bool) -> Result<(), AllocError>
-    ensures { OnOk result (string_bytes out.new ≡ string_bytes out.old ++ finding_text (Ok canonical)) }
+fn push_accepted(out: &mut Vec<u8>, canonical: bool) -> Result<(), AllocError>
+    ensures { OnOk result (out.new.items ≡ out.old.items ++ finding_text (Ok canonical)) }
 {
-    out.push_str(if canonical {
-        "canonical\n"
-    } else {
-        "accepted\n"
-    })
+    push(
+        out,
+        if canonical {
+            "canonical\n"
+        } else {
+            "accepted\n"
+        },
+    )
 }
 
 /// To check datagrams under these limits.
@@ -42,8 +45,6 @@ impl Each for Check {
 
     ghost finds = { λ c. Finds c.limits };
 
-    type Out = String;
-
     ghost text = { λ _. checked_line };
 
     ghost takes = { is_accepted };
@@ -51,7 +52,7 @@ impl Each for Check {
     fn push(
         &self,
         alloc: Global,
-        out: &mut String,
+        out: &mut Vec<u8>,
         number: usize,
         bytes: &[u8],
     ) -> Result<bool, AllocError> {
@@ -81,8 +82,6 @@ impl Each for CheckJson {
     ghost Found = { Finding };
 
     ghost finds = { λ c. Finds c.limits };
-
-    type Out = Vec<u8>;
 
     ghost text = { λ _. finding_json };
 

@@ -15,11 +15,11 @@ use std::alloc::{AllocError, Global};
 /// Tells of the entries of a table, and answers its size.
 fn push_entries<F: Telling, T: Entry + Shown>(
     alloc: Global,
-    out: &mut F::Out,
+    out: &mut Vec<u8>,
     order: Order,
     table: &Table<T>,
 ) -> Result<Size, AllocError>
-    ensures text { OnOk result (F.Out.bytes out.new ≡ F.Out.bytes out.old
+    ensures text { OnOk result (out.new.items ≡ out.old.items
         ++ entries_text F.told order 1 (seen T.item table.now).entries) }
     ensures size { IfOk result (λ size. (size.entries ≡ length (seen T.item table.now).entries)
         × (size.missed ≡ table.now.missed)) }
@@ -39,12 +39,12 @@ fn push_entries<F: Telling, T: Entry + Shown>(
 /// Tells of the entries of the table of a family, and answers its size.
 pub(crate) fn push_table<F: Telling>(
     alloc: Global,
-    out: &mut F::Out,
+    out: &mut Vec<u8>,
     order: Order,
     session: &Session,
     kind: Kind,
 ) -> Result<Size, AllocError>
-    ensures text { OnOk result (F.Out.bytes out.new ≡ F.Out.bytes out.old
+    ensures text { OnOk result (out.new.items ≡ out.old.items
         ++ entries_text F.told order 1 (table_at kind session.now.tables).entries) }
     ensures size { IfOk result (λ size. (size.entries ≡ length (table_at kind session.now.tables).entries)
         × (size.missed ≡ (table_at kind session.now.tables).missed)) }

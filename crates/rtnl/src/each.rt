@@ -4,15 +4,11 @@ ghost use Rattle.std.specs.Prelude.{◌≡◌, ◌++◌, List, map, IfOk};
 ghost use Rattle.rtnl.specs.Runs.{EachIs, Prints, texts_from, verdict_from};
 
 use crate::error::Verdict;
-use crate::output::Output;
 use std::alloc::{AllocError, Global};
 
 /// What is found of a datagram, and its text.
 pub(crate) trait Each {
     ghost use Rattle.std.specs.Prelude.{◌≡◌, ◌++◌, ℕ, List, Bool, IfOk};
-
-    /// What the texts are written to.
-    type Out: Output;
 
     // What may be found of a datagram.
     ghost Found: { Type 0 };
@@ -30,26 +26,26 @@ pub(crate) trait Each {
     fn push(
         &self,
         alloc: Global,
-        out: &mut Self::Out,
+        out: &mut Vec<u8>,
         number: usize,
         bytes: &[u8],
     ) -> Result<bool, AllocError>
         ensures { IfOk result (λ taken. (found : Found) × finds self.now bytes.now found
-            × (Self.Out.bytes out.new ≡ Self.Out.bytes out.old ++ text self.now number bytes.now found)
+            × (out.new.items ≡ out.old.items ++ text self.now number bytes.now found)
             × (taken ≡ takes found)) };
 }
 
 /// Writes the texts of all datagrams, and answers the verdict on them.
 fn push_each<E: Each>(
     alloc: Global,
-    out: &mut E::Out,
+    out: &mut Vec<u8>,
     each: &E,
     datagrams: &[Vec<u8>],
 ) -> Result<Verdict, AllocError>
     ensures { IfOk result (λ verdict. (found : List E.Found)
         × EachIs (E.finds each.now) (map (λ d. d.items) datagrams.now) found
-        × (E.Out.bytes out.new
-        ≡ E.Out.bytes out.old ++ texts_from (E.text each.now) 1 (map (λ d. d.items) datagrams.now) found)
+        × (out.new.items
+        ≡ out.old.items ++ texts_from (E.text each.now) 1 (map (λ d. d.items) datagrams.now) found)
         × (verdict ≡ verdict_from E.takes Verdict.Clean found)) }
 {
     let mut verdict = Verdict::Clean;
@@ -69,7 +65,7 @@ pub(crate) fn text_of_each<E: Each>(
     ensures { IfOk result (λ p. Prints (E.finds each.now) (E.text each.now) E.takes
         (map (λ d. d.items) datagrams.now) p.0.items p.1) }
 {
-    let mut text = E::Out::empty(alloc);
+    let mut text = Vec::new(alloc);
     let verdict = push_each(alloc, &mut text, each, datagrams)?;
-    Ok((text.into_bytes(), verdict))
+    Ok((text, verdict))
 }

@@ -11,7 +11,6 @@ mod error;
 pub mod laws;
 mod lines;
 mod objects;
-mod output;
 mod request;
 mod run;
 mod show;

@@ -3,11 +3,13 @@
 ghost use Rattle.std.specs.List.{list_any, position};
 ghost use Rattle.std.specs.Prelude.{◌≡◌, ◌≤◌, ◌<◌, ◌↔◌, length, map, option_map, IfOk, Err};
 ghost use Rattle.rtnl.specs.Lines.{Gives, compact, datagrams, digits_at, is_blank, is_comment};
-ghost use Rattle.rtnl.specs.Lines.{is_stray, line_at, line_fault_of, longest_input};
+ghost use Rattle.rtnl.specs.Lines.{is_stray, line_at, line_fault_of, lines_left, longest_input};
+ghost use Rattle.std.specs.Iterator.{YieldsFirstRef, item_count};
 
 use crate::error::RunError;
 use crate::source::LONGEST_INPUT;
 use hex::FromHexError;
+use memchr::{memchr, memchr3};
 use std::alloc::{AllocError, Global};
 
 fn is_blank_byte(byte: u8) -> bool
@@ -34,7 +36,7 @@ fn without_blanks(alloc: Global, line: &[u8]) -> Result<Vec<u8>, AllocError>
 fn has_blank(line: &[u8]) -> bool
     ensures { result ≡ list_any is_blank line.now }
 {
-    line.iter().any(|byte| is_blank_byte(*byte))
+    memchr3(b' ', b'\t', b'\r', line).is_some()
 }
 
 /// What is wrong with a line that is not hexadecimal.
@@ -116,6 +118,33 @@ fn read_line(alloc: Global, number: u32, line: &[u8]) -> Result<Option<Vec<u8>>,
     decode(alloc, number, digits.as_slice())
 }
 
+/// The lines of what is left of an input, if it has not come to its end.
+#[derive(Drop)]
+struct Lines<'a>(Option<&'a [u8]>);
+
+impl<'a> Iterator for Lines<'a> {
+    type Item = &'a [u8];
+
+    ghost next_gives = { YieldsFirstRef (λ s. lines_left s.0) };
+
+    ghost remaining = { item_count (λ s. lines_left s.0) };
+
+    #[tactic(auto, using(crate::proofs::Cuts::line_found, crate::proofs::Cuts::last_line))]
+    fn next(&mut self) -> Option<&'a [u8]> {
+        let rest = self.0?;
+        match memchr(b'\n', rest) {
+            Some(end) => {
+                self.0 = Some(&rest[end + 1..]);
+                Some(&rest[..end])
+            }
+            None => {
+                self.0 = None;
+                Some(rest)
+            }
+        }
+    }
+}
+
 /// The datagrams of the lines of a recording, or the first line that is bad.
 pub(crate) fn read_datagrams(alloc: Global, input: &[u8]) -> Result<Vec<Vec<u8>>, RunError>
     requires { length input.now ≤ longest_input }
@@ -123,7 +152,7 @@ pub(crate) fn read_datagrams(alloc: Global, input: &[u8]) -> Result<Vec<Vec<u8>>
 {
     let mut datagrams = Vec::new(alloc);
     let mut number = 0;
-    for line in input.split(|byte| *byte == b'\n') {
+    for line in Lines(Some(input)) {
         number += 1;
         match read_line(alloc, number, line)? {
             Some(datagram) => datagrams.push(datagram)?,

@@ -1,7 +1,6 @@
 //! Printing the request that begins a dump.
 
 ghost use Rattle.std.specs.Prelude.{◌≡◌, ◌++◌, OnOk, IfOk};
-ghost use Rattle.std.specs.String.{string_bytes};
 ghost use Rattle.nl_dump.specs.Request.{dump_of};
 ghost use Rattle.rtnl.specs.Requested.{bytes_alone, requested};
 ghost use Rattle.rtnl.specs.Runs.{Writes};
@@ -9,28 +8,27 @@ ghost use Rattle.rtnl.specs.Runs.{Writes};
 use crate::begun::begun;
 use crate::error::{RunError, Verdict};
 use crate::sink::{Sink, give_all};
-use crate::text::digits::HexBytes;
+use crate::text::pieces::{push, push_hex};
 use nl_attr::Order;
 use nl_dump::{Dump, Kind};
 use nl_frame::Limits;
 use std::alloc::{AllocError, Global};
-use std::fmt::Write;
 
 #[tactic(auto, unfolding(crate::specs::Requested::bytes_alone))]
-fn push_bytes_alone(out: &mut String, bytes: &[u8]) -> Result<(), AllocError>
-    ensures { OnOk result (string_bytes out.new ≡ string_bytes out.old ++ bytes_alone bytes.now) }
+fn push_bytes_alone(out: &mut Vec<u8>, bytes: &[u8]) -> Result<(), AllocError>
+    ensures { OnOk result (out.new.items ≡ out.old.items ++ bytes_alone bytes.now) }
 {
-    let bytes = HexBytes(bytes);
-    writeln!(out, "{bytes}")
+    push_hex(out, bytes)?;
+    push(out, "\n")
 }
 
 /// The line of the request that begins a dump.
-fn text_of(alloc: Global, dump: &Dump, order: Order) -> Result<String, AllocError>
-    ensures { IfOk result (λ s. string_bytes s ≡ requested order dump.now) }
+fn text_of(alloc: Global, dump: &Dump, order: Order) -> Result<Vec<u8>, AllocError>
+    ensures { IfOk result (λ text. text.items ≡ requested order dump.now) }
 {
     let limits = Limits::standard().with_order(order);
     let (_session, request) = begun(alloc, dump, &limits)?;
-    let mut text = String::new(alloc);
+    let mut text = Vec::new(alloc);
     push_bytes_alone(&mut text, request.as_slice())?;
     Ok(text)
 }
@@ -77,7 +75,7 @@ pub fn run_request_ordered<W: Sink>(
         port: 0,
     };
     let text = text_of(alloc, &dump, order)?;
-    match give_all(sink, text.as_str().as_bytes()) {
+    match give_all(sink, text.as_slice()) {
         Ok(()) => Ok(Verdict::Clean),
         Err(_) => Err(RunError::WriteFault),
     }

@@ -47,6 +47,7 @@ pub(crate) fn run<S: Source, W: Sink, C: Command>(
 {
     let input = read_input(alloc, source)?;
     let datagrams = read_datagrams(alloc, input.as_slice())?;
+    drop(input);
     let (text, verdict) = command.text_of(alloc, datagrams.as_slice())?;
     match give_all(sink, text.as_slice()) {
         Ok(()) => Ok(verdict),

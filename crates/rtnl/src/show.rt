@@ -31,8 +31,6 @@ impl Each for Show {
 
     ghost finds = { λ s. Answers s.limits };
 
-    type Out = String;
-
     ghost text = { λ s. datagram_text s.limits.shape.order };
 
     ghost takes = { is_taken };
@@ -40,7 +38,7 @@ impl Each for Show {
     fn push(
         &self,
         alloc: Global,
-        out: &mut String,
+        out: &mut Vec<u8>,
         number: usize,
         bytes: &[u8],
     ) -> Result<bool, AllocError> {
@@ -70,8 +68,6 @@ impl Each for ShowJson {
     ghost Found = { Answer };
 
     ghost finds = { λ s. Answers s.limits };
-
-    type Out = Vec<u8>;
 
     ghost text = { λ s. datagram_json s.limits.shape.order };
 

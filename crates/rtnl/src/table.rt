@@ -14,7 +14,6 @@ use crate::begun::begun;
 use crate::contents::push_table;
 use crate::error::{RunError, Verdict};
 use crate::objects::dump::InJson;
-use crate::output::Output;
 use crate::run::{Command, run};
 use crate::sink::Sink;
 use crate::source::Source;
@@ -35,13 +34,13 @@ fn is_waiting(state: State) -> bool
 fn feed_one<F: Telling>(
     alloc: Global,
     session: &mut Session,
-    out: &mut F::Out,
+    out: &mut Vec<u8>,
     number: usize,
     bytes: &[u8],
 ) -> Result<(), AllocError>
     requires { IsWaiting session.old.state }
     ensures { IfOk result (λ _. (r : Result AnyProgress AnyFeedError) × Fed session.old bytes.now r session.new × IsTold r
-        × (F.Out.bytes out.new ≡ F.Out.bytes out.old ++ answer_text F.told number r)) }
+        × (out.new.items ≡ out.old.items ++ answer_text F.told number r)) }
 {
     match session.feed(bytes) {
         Ok(_) => Ok(()),
@@ -54,12 +53,12 @@ fn feed_one<F: Telling>(
 fn feed_all<F: Telling>(
     alloc: Global,
     session: &mut Session,
-    out: &mut F::Out,
+    out: &mut Vec<u8>,
     datagrams: &[Vec<u8>],
 ) -> Result<usize, AllocError>
     ensures { IfOk result (λ count. (count ≤ length datagrams.now) × (IsWaiting session.new.state → count ≡ length datagrams.now)
         × ((fed : List Answered) × FeedsSome session.old (map (λ d. d.items) datagrams.now) fed (map (λ d. d.items) (drop count datagrams.now)) session.new
-        × (F.Out.bytes out.new ≡ F.Out.bytes out.old ++ refusals_text F.told fed))) }
+        × (out.new.items ≡ out.old.items ++ refusals_text F.told fed))) }
 {
     for (index, datagram) in datagrams.iter().enumerate() {
         if !is_waiting(session.state()) {
@@ -99,7 +98,7 @@ impl<F: Telling> Command for Tabulate<F> {
         datagrams: &[Vec<u8>],
     ) -> Result<(Vec<u8>, Verdict), AllocError> {
         let (mut session, _request) = begun(alloc, &self.dump, &self.limits)?;
-        let mut out = F::Out::empty(alloc);
+        let mut out = Vec::new(alloc);
         F::push_front(alloc, &mut out, &self.dump)?;
         let fed = feed_all::<F>(alloc, &mut session, &mut out, datagrams)?;
         let unfed = datagrams.len() - fed;
@@ -111,7 +110,7 @@ impl<F: Telling> Command for Tabulate<F> {
             self.dump.kind,
         )?;
         F::push_ending(alloc, &mut out, &self.dump, &session, size, unfed)?;
-        Ok((out.into_bytes(), verdict(session.complete())))
+        Ok((out, verdict(session.complete())))
     }
 }
 

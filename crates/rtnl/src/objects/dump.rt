@@ -132,8 +132,6 @@ pub(crate) struct InJson;
 impl Telling for InJson {
     ghost use Rattle.rtnl.specs.TabledJson.{in_json};
 
-    type Out = Vec<u8>;
-
     ghost told = { in_json };
 
     fn push_front(_alloc: Global, _out: &mut Vec<u8>, _dump: &Dump) -> Result<(), AllocError> {

@@ -11,21 +11,27 @@ use crate::text::values::{Reading, push_ipv4, push_ipv6, word};
 use std::alloc::{AllocError, Global};
 
 /// Writes the field of an address of IPv4.
-fn push_ipv4_field(alloc: Global, line: &mut Line, address: [u8; 4]) -> Result<(), AllocError>
-    ensures { OnOk result (line.new ≡ line.old ⊕ fields_tokens ((codes "value", string (ipv4_text address)) ∷ [])) }
+fn push_ipv4_field(alloc: Global, line: &mut Line, address: &[u8; 4]) -> Result<(), AllocError>
+    ensures { OnOk result (line.new ≡ line.old ⊕ fields_tokens ((codes "value", string (ipv4_text address.now)) ∷ [])) }
 {
-    let mut text = String::new(alloc);
-    push_ipv4(&mut text, address)?;
-    line.text("value", text.as_str())
+    let mut text = Vec::new(alloc);
+    push_ipv4(&mut text, *address)?;
+    match str::from_utf8(text.as_slice()) {
+        Ok(text) => line.text("value", text),
+        Err(_) => unreachable!(),
+    }
 }
 
 /// Writes the field of an address of IPv6.
 fn push_ipv6_field(alloc: Global, line: &mut Line, address: &[u8; 16]) -> Result<(), AllocError>
     ensures { OnOk result (line.new ≡ line.old ⊕ fields_tokens ((codes "value", string (ipv6_text address.now)) ∷ [])) }
 {
-    let mut text = String::new(alloc);
+    let mut text = Vec::new(alloc);
     push_ipv6(&mut text, address)?;
-    line.text("value", text.as_str())
+    match str::from_utf8(text.as_slice()) {
+        Ok(text) => line.text("value", text),
+        Err(_) => unreachable!(),
+    }
 }
 
 /// Writes the field of what is read.
@@ -38,7 +44,7 @@ fn push_value(alloc: Global, line: &mut Line, reading: Reading<'_>) -> Result<()
         Reading::U16(number) => line.number("value", number.into()),
         Reading::U32(number) => line.number("value", number.into()),
         Reading::Text(text) => line.text("value", text),
-        Reading::Ipv4(address) => push_ipv4_field(alloc, line, address),
+        Reading::Ipv4(address) => push_ipv4_field(alloc, line, &address),
         Reading::Ipv6(address) => push_ipv6_field(alloc, line, &address),
         Reading::Hex(bytes) => line.digits(alloc, "value", bytes),
     }

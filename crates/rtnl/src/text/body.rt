@@ -1,21 +1,33 @@
 //! The printed text of a message's body.
 
 ghost use Rattle.std.specs.Prelude.{◌≡◌, ◌++◌, OnOk};
-ghost use Rattle.std.specs.String.{string_bytes};
 ghost use Rattle.nl_frame.specs.View.{body_view};
-ghost use Rattle.rtnl.specs.Messages.{body_text, bytes_line, done_line, error_line, get_line};
+ghost use Rattle.rtnl.specs.Messages.{body_text, bytes_line, done_line, error_line, get_line, tail_end};
 
-use crate::text::digits::{Hex4, HexBytes};
 use crate::text::families::Shown;
+use crate::text::pieces::{push, push_hex, push_hex4, push_numbers, push_signed};
 use nl_attr::Order;
 use nl_frame::{Body, Header};
 use nl_route::match_family;
 use std::alloc::{AllocError, Global};
-use std::fmt::Write;
+
+/// Writes the bytes behind a fixed part, which end the line.
+fn push_tail(out: &mut Vec<u8>, tail: &[u8]) -> Result<(), AllocError>
+    ensures { OnOk result (out.new.items ≡ out.old.items ++ tail_end tail.now) }
+{
+    push(out, " tail ")?;
+    push_hex(out, tail)?;
+    push(out, "\n")
+}
 
 #[tactic(auto, unfolding(crate::specs::Messages::error_line))]
-fn push_error(out: &mut String, code: i32, answered: &Header, tail: &[u8]) -> Result<(), AllocError>
-    ensures { OnOk result (string_bytes out.new ≡ string_bytes out.old ++ error_line code answered.now tail.now) }
+fn push_error(
+    out: &mut Vec<u8>,
+    code: i32,
+    answered: &Header,
+    tail: &[u8],
+) -> Result<(), AllocError>
+    ensures { OnOk result (out.new.items ≡ out.old.items ++ error_line code answered.now tail.now) }
 {
     let Header {
         len,
@@ -24,46 +36,53 @@ fn push_error(out: &mut String, code: i32, answered: &Header, tail: &[u8]) -> Re
         seq,
         port,
     } = *answered;
-    let (flags, tail) = (Hex4(flags), HexBytes(tail));
-    writeln!(
+    push(out, "  error code ")?;
+    push_signed(out, code)?;
+    push_numbers(
         out,
-        "  error code {code} answers len {len} type {kind} flags 0x{flags} seq {seq} port {port} tail {tail}"
-    )
+        &[(" answers len ", len as u64), (" type ", kind as u64)],
+    )?;
+    push(out, " flags 0x")?;
+    push_hex4(out, flags)?;
+    push_numbers(out, &[(" seq ", seq as u64), (" port ", port as u64)])?;
+    push_tail(out, tail)
 }
 
 #[tactic(auto, unfolding(crate::specs::Messages::done_line))]
-fn push_done(out: &mut String, status: i32, tail: &[u8]) -> Result<(), AllocError>
-    ensures { OnOk result (string_bytes out.new ≡ string_bytes out.old ++ done_line status tail.now) }
+fn push_done(out: &mut Vec<u8>, status: i32, tail: &[u8]) -> Result<(), AllocError>
+    ensures { OnOk result (out.new.items ≡ out.old.items ++ done_line status tail.now) }
 {
-    let tail = HexBytes(tail);
-    writeln!(out, "  done status {status} tail {tail}")
+    push(out, "  done status ")?;
+    push_signed(out, status)?;
+    push_tail(out, tail)
 }
 
 #[tactic(auto, unfolding(crate::specs::Messages::get_line))]
-fn push_get(out: &mut String, family: u8, tail: &[u8]) -> Result<(), AllocError>
-    ensures { OnOk result (string_bytes out.new ≡ string_bytes out.old ++ get_line family tail.now) }
+fn push_get(out: &mut Vec<u8>, family: u8, tail: &[u8]) -> Result<(), AllocError>
+    ensures { OnOk result (out.new.items ≡ out.old.items ++ get_line family tail.now) }
 {
-    let tail = HexBytes(tail);
-    writeln!(out, "  get family {family} tail {tail}")
+    push_numbers(out, &[("  get family ", family as u64)])?;
+    push_tail(out, tail)
 }
 
 #[tactic(auto, unfolding(crate::specs::Messages::bytes_line))]
-fn push_bytes(out: &mut String, payload: &[u8]) -> Result<(), AllocError>
-    ensures { OnOk result (string_bytes out.new ≡ string_bytes out.old ++ bytes_line payload.now) }
+fn push_bytes(out: &mut Vec<u8>, payload: &[u8]) -> Result<(), AllocError>
+    ensures { OnOk result (out.new.items ≡ out.old.items ++ bytes_line payload.now) }
 {
-    let payload = HexBytes(payload);
-    writeln!(out, "  bytes {payload}")
+    push(out, "  bytes ")?;
+    push_hex(out, payload)?;
+    push(out, "\n")
 }
 
 /// Writes the line of a body, and the lines of its attributes.
 #[tactic(auto, unfolding(crate::specs::Messages::body_text, crate::specs::Tabled::item_text), using(std::proofs::Common::append_assoc))]
 pub(crate) fn push_body(
     alloc: Global,
-    out: &mut String,
+    out: &mut Vec<u8>,
     order: Order,
     body: &Body,
 ) -> Result<(), AllocError>
-    ensures { OnOk result (string_bytes out.new ≡ string_bytes out.old ++ body_text order (body_view body.now)) }
+    ensures { OnOk result (out.new.items ≡ out.old.items ++ body_text order (body_view body.now)) }
 {
     match_family!(body, Body, family => family.push(alloc, out, order), {
         Body::Noop(payload) | Body::Overrun(payload) | Body::Other(payload) => {

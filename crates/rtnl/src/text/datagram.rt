@@ -1,34 +1,38 @@
 //! The lines that are printed of a datagram beside its messages.
 
 ghost use Rattle.std.specs.Prelude.{◌≡◌, ◌≢◌, ◌++◌, OnOk};
-ghost use Rattle.std.specs.String.{string_bytes};
 ghost use Rattle.rtnl.specs.Checked.{number_front};
 ghost use Rattle.rtnl.specs.Datagrams.{datagram_line, reason_text, refused_line, too_large_line};
 ghost use Rattle.rtnl.specs.Shown.{refusal_text};
 
+use crate::text::pieces::{push, push_numbers};
 use nl_attr::{Fault, Reason};
 use nl_frame::ReadError;
 use std::alloc::AllocError;
-use std::fmt::Write;
 
 /// Writes the line of a datagram of this number, counted from 1, with this many bytes.
 #[tactic(auto, unfolding(crate::specs::Datagrams::datagram_line))]
 pub(crate) fn push_datagram_line(
-    out: &mut String,
+    out: &mut Vec<u8>,
     number: usize,
     size: usize,
 ) -> Result<(), AllocError>
-    ensures { OnOk result (string_bytes out.new ≡ string_bytes out.old ++ datagram_line number size) }
+    ensures { OnOk result (out.new.items ≡ out.old.items ++ datagram_line number size) }
 {
-    writeln!(out, "datagram {number} bytes {size}")
+    push_numbers(
+        out,
+        &[("datagram ", number as u64), (" bytes ", size as u64)],
+    )?;
+    push(out, "\n")
 }
 
 /// Writes what stands before a word on the datagram of this number, counted from 1.
 #[tactic(auto, unfolding(crate::specs::Checked::number_front))]
-pub(crate) fn push_number(out: &mut String, number: usize) -> Result<(), AllocError>
-    ensures { OnOk result (string_bytes out.new ≡ string_bytes out.old ++ number_front number) }
+pub(crate) fn push_number(out: &mut Vec<u8>, number: usize) -> Result<(), AllocError>
+    ensures { OnOk result (out.new.items ≡ out.old.items ++ number_front number) }
 {
-    write!(out, "datagram {number} ")
+    push_numbers(out, &[("datagram ", number as u64)])?;
+    push(out, " ")
 }
 
 #[tactic(auto, unfolding(crate::specs::Datagrams::reason_text))]
@@ -46,26 +50,27 @@ pub(crate) fn reason_name(reason: Reason) -> &'static str
 
 /// Writes that a datagram was refused at its first fault.
 #[tactic(auto, unfolding(crate::specs::Datagrams::refused_line))]
-fn push_refused_line(out: &mut String, fault: Fault) -> Result<(), AllocError>
-    ensures { OnOk result (string_bytes out.new ≡ string_bytes out.old ++ refused_line fault.reason fault.place) }
+fn push_refused_line(out: &mut Vec<u8>, fault: Fault) -> Result<(), AllocError>
+    ensures { OnOk result (out.new.items ≡ out.old.items ++ refused_line fault.reason fault.place) }
 {
-    let reason = reason_name(fault.reason);
-    let place = fault.place;
-    writeln!(out, "refused {reason} at {place}")
+    push(out, "refused ")?;
+    push(out, reason_name(fault.reason))?;
+    push_numbers(out, &[(" at ", fault.place as u64)])?;
+    push(out, "\n")
 }
 
 /// Writes that a datagram was refused for its size.
 #[tactic(auto, unfolding(crate::specs::Datagrams::too_large_line))]
-fn push_too_large_line(out: &mut String) -> Result<(), AllocError>
-    ensures { OnOk result (string_bytes out.new ≡ string_bytes out.old ++ too_large_line) }
+fn push_too_large_line(out: &mut Vec<u8>) -> Result<(), AllocError>
+    ensures { OnOk result (out.new.items ≡ out.old.items ++ too_large_line) }
 {
-    out.push_str("refused too large\n")
+    push(out, "refused too large\n")
 }
 
 /// Writes the line of a refusal. It fails where that was for memory.
-pub(crate) fn push_refusal(out: &mut String, error: ReadError) -> Result<(), AllocError>
+pub(crate) fn push_refusal(out: &mut Vec<u8>, error: ReadError) -> Result<(), AllocError>
     ensures refusal { OnOk result (error ≢ ReadError.Memory) }
-    ensures text { OnOk result (string_bytes out.new ≡ string_bytes out.old ++ refusal_text error) }
+    ensures text { OnOk result (out.new.items ≡ out.old.items ++ refusal_text error) }
 {
     match error {
         ReadError::TooLarge => push_too_large_line(out),

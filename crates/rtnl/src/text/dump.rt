@@ -1,17 +1,17 @@
 //! The printed text of a dump.
 
-ghost use Rattle.std.specs.Prelude.{◌≡◌, ◌≢◌, ◌++◌, OnOk, length};
-ghost use Rattle.std.specs.String.{string_bytes};
+ghost use Rattle.std.specs.Prelude.{◌≡◌, ◌≢◌, ◌++◌, OnOk, codes, length};
+ghost use Rattle.std.specs.Fmt.{signed_decimal};
 ghost use Rattle.rtnl.specs.Tabled.{complete_line, counts_line, dump_line, end_line, entry_line, refusal_line, sums_line, total_line, yes_no};
 
 use crate::telling::{Size, Telling};
 use crate::text::datagram::{push_number, push_refusal};
 use crate::text::families::Shown;
+use crate::text::pieces::{push, push_numbers, push_signed};
 use nl_attr::Order;
 use nl_dump::{Dump, End, FeedError, Session, State};
 use nl_frame::ReadError;
 use std::alloc::{AllocError, Global};
-use std::fmt::Write;
 
 #[tactic(auto, unfolding(crate::specs::Tabled::yes_no))]
 fn yes_or_no(word: bool) -> &'static str
@@ -22,26 +22,29 @@ fn yes_or_no(word: bool) -> &'static str
 
 /// Writes which dump is read.
 #[tactic(auto, unfolding(crate::specs::Tabled::dump_line))]
-fn push_dump_line(out: &mut String, dump: &Dump) -> Result<(), AllocError>
-    ensures { OnOk result (string_bytes out.new ≡ string_bytes out.old ++ dump_line dump.now) }
+fn push_dump_line(out: &mut Vec<u8>, dump: &Dump) -> Result<(), AllocError>
+    ensures { OnOk result (out.new.items ≡ out.old.items ++ dump_line dump.now) }
 {
     let kind = dump.kind.row().name;
     let (seq, port) = (dump.seq, dump.port);
-    writeln!(out, "dump {kind} seq {seq} port {port}")
+    push(out, "dump ")?;
+    push(out, kind)?;
+    push_numbers(out, &[(" seq ", seq as u64), (" port ", port as u64)])?;
+    push(out, "\n")
 }
 
 #[tactic(auto, unfolding(crate::specs::Tabled::total_line))]
-fn push_total_line(out: &mut String) -> Result<(), AllocError>
-    ensures { OnOk result (string_bytes out.new ≡ string_bytes out.old ++ total_line) }
+fn push_total_line(out: &mut Vec<u8>) -> Result<(), AllocError>
+    ensures { OnOk result (out.new.items ≡ out.old.items ++ total_line) }
 {
-    out.push_str("refused total\n")
+    push(out, "refused total\n")
 }
 
 /// Writes why the datagram of this number was refused. It fails where that was for memory.
 #[tactic(auto, unfolding(crate::specs::Tabled::refusal_line), using(std::proofs::Common::append_assoc))]
-fn push_feed_error(out: &mut String, number: usize, error: FeedError) -> Result<(), AllocError>
+fn push_feed_error(out: &mut Vec<u8>, number: usize, error: FeedError) -> Result<(), AllocError>
     ensures refusal { OnOk result (error ≢ FeedError.Memory) }
-    ensures text { OnOk result (string_bytes out.new ≡ string_bytes out.old ++ refusal_line number error) }
+    ensures text { OnOk result (out.new.items ≡ out.old.items ++ refusal_line number error) }
 {
     match error {
         FeedError::NotWaiting => Ok(()),
@@ -61,17 +64,26 @@ fn push_feed_error(out: &mut String, number: usize, error: FeedError) -> Result<
     }
 }
 
+/// Writes a line of words and a code.
+fn push_coded(out: &mut Vec<u8>, words: &str, code: i32) -> Result<(), AllocError>
+    ensures { OnOk result (out.new.items ≡ out.old.items ++ words.now ++ signed_decimal code ++ codes "\n") }
+{
+    push(out, words)?;
+    push_signed(out, code)?;
+    push(out, "\n")
+}
+
 /// Writes how the dump ended.
 #[tactic(auto, unfolding(crate::specs::Tabled::end_line))]
-fn push_end_line(out: &mut String, state: State) -> Result<(), AllocError>
-    ensures { OnOk result (string_bytes out.new ≡ string_bytes out.old ++ end_line state) }
+fn push_end_line(out: &mut Vec<u8>, state: State) -> Result<(), AllocError>
+    ensures { OnOk result (out.new.items ≡ out.old.items ++ end_line state) }
 {
     match state {
-        State::Ended(_, End::Done(status)) => writeln!(out, "end done {status}"),
-        State::Ended(_, End::Error(code)) => writeln!(out, "end error {code}"),
-        State::Ended(_, End::Overrun) => out.push_str("end overrun\n"),
+        State::Ended(_, End::Done(status)) => push_coded(out, "end done ", status),
+        State::Ended(_, End::Error(code)) => push_coded(out, "end error ", code),
+        State::Ended(_, End::Overrun) => push(out, "end overrun\n"),
         State::Idle | State::Waiting(_) | State::Ended(_, End::Abandoned) => {
-            out.push_str("end none\n")
+            push(out, "end none\n")
         }
     }
 }
@@ -89,8 +101,8 @@ struct Counts {
 
 /// Writes what was counted of the dump.
 #[tactic(auto, unfolding(crate::specs::Tabled::counts_line))]
-fn push_counts_line(out: &mut String, counts: Counts) -> Result<(), AllocError>
-    ensures { OnOk result (string_bytes out.new ≡ string_bytes out.old
+fn push_counts_line(out: &mut Vec<u8>, counts: Counts) -> Result<(), AllocError>
+    ensures { OnOk result (out.new.items ≡ out.old.items
         ++ counts_line counts.entries counts.missed counts.ignored counts.unfed counts.damaged counts.interrupted) }
 {
     let Counts {
@@ -101,36 +113,48 @@ fn push_counts_line(out: &mut String, counts: Counts) -> Result<(), AllocError>
         damaged,
         interrupted,
     } = counts;
-    let (damaged, interrupted) = (yes_or_no(damaged), yes_or_no(interrupted));
-    writeln!(
+    push_numbers(
         out,
-        "entries {entries} missed {missed} ignored {ignored} unfed {unfed} damaged {damaged} interrupted {interrupted}"
-    )
+        &[
+            ("entries ", entries as u64),
+            (" missed ", missed),
+            (" ignored ", ignored),
+            (" unfed ", unfed as u64),
+        ],
+    )?;
+    push(out, " damaged ")?;
+    push(out, yes_or_no(damaged))?;
+    push(out, " interrupted ")?;
+    push(out, yes_or_no(interrupted))?;
+    push(out, "\n")
 }
 
 /// Writes what was counted of all datagrams.
 #[tactic(auto, unfolding(crate::specs::Tabled::sums_line))]
-fn push_sums_line(out: &mut String, received: u64, visits: u64) -> Result<(), AllocError>
-    ensures { OnOk result (string_bytes out.new ≡ string_bytes out.old ++ sums_line received visits) }
+fn push_sums_line(out: &mut Vec<u8>, received: u64, visits: u64) -> Result<(), AllocError>
+    ensures { OnOk result (out.new.items ≡ out.old.items ++ sums_line received visits) }
 {
-    writeln!(out, "received {received} visits {visits}")
+    push_numbers(out, &[("received ", received), (" visits ", visits)])?;
+    push(out, "\n")
 }
 
 /// Writes whether the dump is complete.
 #[tactic(auto, unfolding(crate::specs::Tabled::complete_line))]
-fn push_complete_line(out: &mut String, complete: bool) -> Result<(), AllocError>
-    ensures { OnOk result (string_bytes out.new ≡ string_bytes out.old ++ complete_line complete) }
+fn push_complete_line(out: &mut Vec<u8>, complete: bool) -> Result<(), AllocError>
+    ensures { OnOk result (out.new.items ≡ out.old.items ++ complete_line complete) }
 {
-    let complete = yes_or_no(complete);
-    writeln!(out, "complete {complete}")
+    push(out, "complete ")?;
+    push(out, yes_or_no(complete))?;
+    push(out, "\n")
 }
 
 /// Writes the line of the entry of this number, counted from 1.
 #[tactic(auto, unfolding(crate::specs::Tabled::entry_line))]
-fn push_entry_line(out: &mut String, number: u32) -> Result<(), AllocError>
-    ensures { OnOk result (string_bytes out.new ≡ string_bytes out.old ++ entry_line number) }
+fn push_entry_line(out: &mut Vec<u8>, number: u32) -> Result<(), AllocError>
+    ensures { OnOk result (out.new.items ≡ out.old.items ++ entry_line number) }
 {
-    writeln!(out, "entry {number}")
+    push_numbers(out, &[("entry ", number as u64)])?;
+    push(out, "\n")
 }
 
 /// A dump that is told in lines of text.
@@ -139,17 +163,15 @@ pub(crate) struct InText;
 impl Telling for InText {
     ghost use Rattle.rtnl.specs.Tabled.{in_text};
 
-    type Out = String;
-
     ghost told = { in_text };
 
-    fn push_front(_alloc: Global, out: &mut String, dump: &Dump) -> Result<(), AllocError> {
+    fn push_front(_alloc: Global, out: &mut Vec<u8>, dump: &Dump) -> Result<(), AllocError> {
         push_dump_line(out, dump)
     }
 
     fn push_refusal(
         _alloc: Global,
-        out: &mut String,
+        out: &mut Vec<u8>,
         number: usize,
         error: FeedError,
     ) -> Result<(), AllocError> {
@@ -159,7 +181,7 @@ impl Telling for InText {
     #[tactic(auto, using(std::proofs::Common::append_assoc))]
     fn push_entry<T: Shown>(
         alloc: Global,
-        out: &mut String,
+        out: &mut Vec<u8>,
         order: Order,
         number: u32,
         entry: &T,
@@ -170,7 +192,7 @@ impl Telling for InText {
 
     fn push_ending(
         _alloc: Global,
-        out: &mut String,
+        out: &mut Vec<u8>,
         _dump: &Dump,
         session: &Session,
         size: Size,

@@ -1,45 +1,49 @@
 //! The printed text of messages.
 
 ghost use Rattle.std.specs.Prelude.{◌≡◌, ◌++◌, OnOk, map};
-ghost use Rattle.std.specs.String.{string_bytes};
 ghost use Rattle.nl_frame.specs.View.{message_view};
 ghost use Rattle.rtnl.specs.Messages.{message_line, message_text, messages_text};
 
 use crate::text::body::push_body;
-use crate::text::digits::Hex4;
+use crate::text::pieces::{push, push_hex4, push_numbers};
 use crate::text::types::{message_type, push_flag_names};
 use nl_attr::Order;
 use nl_frame::Message;
 use std::alloc::{AllocError, Global};
-use std::fmt::Write;
 
 /// Writes the line of a message's header.
 #[tactic(auto, unfolding(crate::specs::Messages::message_line), using(std::proofs::Common::append_assoc))]
 fn push_message_line(
-    out: &mut String,
+    out: &mut Vec<u8>,
     kind: u16,
     flags: u16,
     seq: u32,
     port: u32,
 ) -> Result<(), AllocError>
-    ensures { OnOk result (string_bytes out.new ≡ string_bytes out.old ++ message_line kind flags seq port) }
+    ensures { OnOk result (out.new.items ≡ out.old.items ++ message_line kind flags seq port) }
 {
     let (verb, name, names) = message_type(kind);
-    let bits = Hex4(flags);
-    write!(out, "message {kind} {verb}{name} flags 0x{bits} ")?;
+    push_numbers(out, &[("message ", kind as u64)])?;
+    push(out, " ")?;
+    push(out, verb)?;
+    push(out, name)?;
+    push(out, " flags 0x")?;
+    push_hex4(out, flags)?;
+    push(out, " ")?;
     push_flag_names(out, names, flags)?;
-    writeln!(out, " seq {seq} port {port}")
+    push_numbers(out, &[(" seq ", seq as u64), (" port ", port as u64)])?;
+    push(out, "\n")
 }
 
 /// Writes a message: the line of its header, and its body.
 #[tactic(auto, unfolding(crate::specs::Messages::message_text), using(std::proofs::Common::append_assoc))]
 pub(crate) fn push_message(
     alloc: Global,
-    out: &mut String,
+    out: &mut Vec<u8>,
     order: Order,
     message: &Message,
 ) -> Result<(), AllocError>
-    ensures { OnOk result (string_bytes out.new ≡ string_bytes out.old ++ message_text order (message_view message.now)) }
+    ensures { OnOk result (out.new.items ≡ out.old.items ++ message_text order (message_view message.now)) }
 {
     push_message_line(out, message.kind, message.flags, message.seq, message.port)?;
     push_body(alloc, out, order, &message.body)
@@ -48,11 +52,11 @@ pub(crate) fn push_message(
 /// Writes messages, one after another.
 pub(crate) fn push_messages(
     alloc: Global,
-    out: &mut String,
+    out: &mut Vec<u8>,
     order: Order,
     messages: &[Message],
 ) -> Result<(), AllocError>
-    ensures { OnOk result (string_bytes out.new ≡ string_bytes out.old ++ messages_text order (map message_view messages.now)) }
+    ensures { OnOk result (out.new.items ≡ out.old.items ++ messages_text order (map message_view messages.now)) }
 {
     for message in messages {
         push_message(alloc, out, order, message)?;

@@ -1,7 +1,6 @@
 //! The names of message types and of their flags.
 
 ghost use Rattle.std.specs.Prelude.{◌≡◌, ◌++◌, OnOk, map};
-ghost use Rattle.std.specs.String.{string_bytes};
 ghost use Rattle.rtnl.specs.Names.{names_text};
 ghost use Rattle.rtnl.specs.Rows.{row_view};
 ghost use Rattle.rtnl.specs.Types.{controls, flags_table, type_flags, type_name, verb_flags, verb_name};
@@ -69,11 +68,11 @@ pub(crate) fn message_type(kind: u16) -> (&'static str, &'static str, FlagNames)
 
 /// Writes the names of a message's flags.
 pub(crate) fn push_flag_names(
-    out: &mut String,
+    out: &mut Vec<u8>,
     names: FlagNames,
     flags: u16,
 ) -> Result<(), AllocError>
-    ensures { OnOk result (string_bytes out.new ≡ string_bytes out.old ++ names_text (flags_table names) flags) }
+    ensures { OnOk result (out.new.items ≡ out.old.items ++ names_text (flags_table names) flags) }
 {
     match names {
         FlagNames::Common => push_names(out, &MessageFlags(flags)),

@@ -2,15 +2,14 @@
 
 ghost use Rattle.std.specs.Prelude.{◌≡◌, ◌+◌, ◌<◌, ◌++◌, length, OnOk};
 ghost use Rattle.std.specs.List.{list_all};
-ghost use Rattle.std.specs.String.{string_bytes};
 ghost use Rattle.rtnl.specs.Readings.{reading_view};
-ghost use Rattle.rtnl.specs.Values.{group_at, hex, ip_reading, ipv4_text, ipv6_text, is_plain, is_plain_byte, reading_of, reading_text, reading_word, stem_of, text_reading, u16_reading, u32_reading, u8_reading, value_text};
+ghost use Rattle.rtnl.specs.Text.{padded_hex};
+ghost use Rattle.rtnl.specs.Values.{group_at, groups_text, hex, ip_reading, ipv4_text, ipv6_text, is_plain, is_plain_byte, reading_of, reading_text, reading_word, stem_of, text_reading, u16_reading, u32_reading, u8_reading, value_text};
 
 use crate::text::attributes::Form;
-use crate::text::digits::{Hex4, HexBytes};
+use crate::text::pieces::{push, push_decimal, push_hex, push_hex4, push_numbers};
 use nl_attr::Order;
 use std::alloc::AllocError;
-use std::fmt::Write;
 
 /// What a payload is read as.
 #[derive(Clone, Copy)]
@@ -142,58 +141,76 @@ pub(crate) fn word(reading: Reading<'_>) -> &'static str
 
 /// Writes an address of IPv4.
 #[tactic(auto, unfolding(crate::specs::Values::ipv4_text))]
-pub(crate) fn push_ipv4(out: &mut String, address: [u8; 4]) -> Result<(), AllocError>
-    ensures { OnOk result (string_bytes out.new ≡ string_bytes out.old ++ ipv4_text address) }
+pub(crate) fn push_ipv4(out: &mut Vec<u8>, address: [u8; 4]) -> Result<(), AllocError>
+    ensures { OnOk result (out.new.items ≡ out.old.items ++ ipv4_text address) }
 {
     let [a, b, c, d] = address;
-    write!(out, "{a}.{b}.{c}.{d}")
+    push_numbers(
+        out,
+        &[
+            ("", a as u64),
+            (".", b as u64),
+            (".", c as u64),
+            (".", d as u64),
+        ],
+    )
 }
 
 #[tactic(auto, unfolding(crate::specs::Values::group_at))]
-fn group(address: &[u8; 16], i: usize) -> Hex4
+fn push_group(out: &mut Vec<u8>, address: &[u8; 16], i: usize) -> Result<(), AllocError>
     requires { i + 1 < 16 }
-    ensures { result.0 ≡ group_at i address.now }
+    ensures { OnOk result (out.new.items ≡ out.old.items ++ padded_hex 4 (group_at i address.now)) }
 {
-    Hex4(256 * u16::from(address[i]) + u16::from(address[i + 1]))
+    push_hex4(out, 256 * u16::from(address[i]) + u16::from(address[i + 1]))
+}
+
+/// Writes four groups, from place i on.
+#[tactic(auto, unfolding(crate::specs::Values::groups_text))]
+fn push_groups(out: &mut Vec<u8>, address: &[u8; 16], i: usize) -> Result<(), AllocError>
+    requires { i + 7 < 16 }
+    ensures { OnOk result (out.new.items ≡ out.old.items ++ groups_text i address.now) }
+{
+    push_group(out, address, i)?;
+    push(out, ":")?;
+    push_group(out, address, i + 2)?;
+    push(out, ":")?;
+    push_group(out, address, i + 4)?;
+    push(out, ":")?;
+    push_group(out, address, i + 6)
 }
 
 /// Writes an address of IPv6.
 #[tactic(auto, unfolding(crate::specs::Values::ipv6_text))]
-pub(crate) fn push_ipv6(out: &mut String, address: &[u8; 16]) -> Result<(), AllocError>
-    ensures { OnOk result (string_bytes out.new ≡ string_bytes out.old ++ ipv6_text address.now) }
+pub(crate) fn push_ipv6(out: &mut Vec<u8>, address: &[u8; 16]) -> Result<(), AllocError>
+    ensures { OnOk result (out.new.items ≡ out.old.items ++ ipv6_text address.now) }
 {
-    let (a, b) = (group(address, 0), group(address, 2));
-    let (c, d) = (group(address, 4), group(address, 6));
-    let (e, f) = (group(address, 8), group(address, 10));
-    let (g, h) = (group(address, 12), group(address, 14));
-    write!(out, "{a}:{b}:{c}:{d}:{e}:{f}:{g}:{h}")
+    push_groups(out, address, 0)?;
+    push(out, ":")?;
+    push_groups(out, address, 8)
 }
 
 /// Writes what is printed behind the word.
 #[tactic(auto, unfolding(crate::specs::Values::reading_text))]
-fn push_reading(out: &mut String, reading: Reading<'_>) -> Result<(), AllocError>
-    ensures { OnOk result (string_bytes out.new ≡ string_bytes out.old ++ reading_text (reading_view reading.entry)) }
+fn push_reading(out: &mut Vec<u8>, reading: Reading<'_>) -> Result<(), AllocError>
+    ensures { OnOk result (out.new.items ≡ out.old.items ++ reading_text (reading_view reading.entry)) }
 {
     match reading {
-        Reading::U8(number) => write!(out, "{number}"),
-        Reading::U16(number) => write!(out, "{number}"),
-        Reading::U32(number) => write!(out, "{number}"),
-        Reading::Text(text) => out.push_str(text),
+        Reading::U8(number) => push_decimal(out, number as u64),
+        Reading::U16(number) => push_decimal(out, number as u64),
+        Reading::U32(number) => push_decimal(out, number as u64),
+        Reading::Text(text) => push(out, text),
         Reading::Ipv4(address) => push_ipv4(out, address),
         Reading::Ipv6(address) => push_ipv6(out, &address),
-        Reading::Hex(bytes) => {
-            let digits = HexBytes(bytes);
-            write!(out, "{digits}")
-        }
+        Reading::Hex(bytes) => push_hex(out, bytes),
     }
 }
 
 /// Writes the word and what stands behind it.
 #[tactic(auto, unfolding(crate::specs::Values::value_text), using(std::proofs::Common::append_assoc))]
-pub(crate) fn push_value(out: &mut String, reading: Reading<'_>) -> Result<(), AllocError>
-    ensures { OnOk result (string_bytes out.new ≡ string_bytes out.old ++ value_text (reading_view reading.entry)) }
+pub(crate) fn push_value(out: &mut Vec<u8>, reading: Reading<'_>) -> Result<(), AllocError>
+    ensures { OnOk result (out.new.items ≡ out.old.items ++ value_text (reading_view reading.entry)) }
 {
-    let word = word(reading);
-    write!(out, "{word} ")?;
+    push(out, word(reading))?;
+    push(out, " ")?;
     push_reading(out, reading)
 }

@@ -7,7 +7,7 @@ use Rattle.rtnl.proofs.Feeding.{feeds_none, refused_none, feeds_more, refused_mo
 use Rattle.rtnl.proofs.table.feed_all.Goals as goal
 
 pub loop-index-init : goal.loop-index-init
-loop-index-init g c = ([], feeds_none c.args.session.now (map (λ d. d.items) c.args.datagrams.now), refl, refused_none g.F.Telling.told (g.F.Out.Output.bytes c.args.out.now))
+loop-index-init g c = ([], feeds_none c.args.session.now (map (λ d. d.items) c.args.datagrams.now), refl, refused_none g.F.Telling.told (c.args.out.now.items))
 
 pub loop-index-preserved : goal.loop-index-preserved
 loop-index-preserved g c =
@@ -22,5 +22,5 @@ loop-index-preserved g c =
       (d.items, told.0) ∷ i.0,
       feeds_more c.args.session.now c.loop-index.session c.feed_one.new.session (map (λ d. d.items) ds) (map (λ d. d.items) (drop (k + 1) ds)) i.0 d.items told.0 before fed told.2,
       omega (arith, i.2),
-      refused_more g.F.Telling.told (g.F.Out.Output.bytes c.args.out.now) (g.F.Out.Output.bytes c.loop-index.out) (g.F.Out.Output.bytes c.feed_one.new.out) i.0 d.items told.0 k i.3 i.2 told.3,
+      refused_more g.F.Telling.told (c.args.out.now.items) (c.loop-index.out.items) (c.feed_one.new.out.items) i.0 d.items told.0 k i.3 i.2 told.3,
     )

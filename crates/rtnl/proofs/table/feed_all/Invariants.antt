@@ -6,4 +6,4 @@ use Rattle.rtnl.proofs.table.feed_all.Given as goal
 abbrev pub invariant-loop-index : goal.invariant-loop-index
 invariant-loop-index g l =
     (fed : List Answered) × FeedsSome l.initial.session (map (λ d. d.items) l.datagrams) fed (map (λ d. d.items) (drop l.index l.datagrams)) l.session
-    × (length fed ≡ l.index) × (g.F.Out.Output.bytes l.out ≡ g.F.Out.Output.bytes l.initial.out ++ refusals_text g.F.Telling.told fed)
+    × (length fed ≡ l.index) × (l.out.items ≡ l.initial.out.items ++ refusals_text g.F.Telling.told fed)

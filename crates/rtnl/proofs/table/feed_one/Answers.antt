@@ -7,5 +7,5 @@ returns-in-Ok g c = (
   Ok c.in-Ok.field-0,
   subst (λ r. Fed c.args.session.now c.args.bytes.now r c.feed.new.self) c.in-Ok.is c.feed.ensures.step,
   tt,
-  sym (append-nil (g.F.Out.Output.bytes c.args.out.now)),
+  sym (append-nil (c.args.out.now.items)),
 )

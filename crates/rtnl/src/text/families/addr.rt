@@ -2,12 +2,11 @@
 
 use crate::objects::line::Line;
 use crate::text::attributes::Form;
-use crate::text::digits::Hex2;
 use crate::text::families::HeadLine;
+use crate::text::pieces::{push, push_hex2, push_numbers};
 use crate::text::rows::Row;
 use nl_route::AddrHead;
 use std::alloc::AllocError;
-use std::fmt::Write;
 
 /// The attributes `IFA` of an address.
 pub(crate) const ATTRIBUTES: &[Row<Form>] = &[
@@ -34,7 +33,7 @@ impl HeadLine for AddrHead {
     ghost same = { λ h. refl };
 
     #[tactic(auto, unfolding(crate::specs::Addr::addr_line))]
-    fn push_line(&self, out: &mut String) -> Result<(), AllocError> {
+    fn push_line(&self, out: &mut Vec<u8>) -> Result<(), AllocError> {
         let AddrHead {
             family,
             prefixlen,
@@ -42,11 +41,17 @@ impl HeadLine for AddrHead {
             scope,
             index,
         } = *self;
-        let flags = Hex2(flags);
-        writeln!(
+        push_numbers(
             out,
-            "  addr family {family} prefix {prefixlen} flags 0x{flags} scope {scope} index {index}"
-        )
+            &[
+                ("  addr family ", family as u64),
+                (" prefix ", prefixlen as u64),
+            ],
+        )?;
+        push(out, " flags 0x")?;
+        push_hex2(out, flags)?;
+        push_numbers(out, &[(" scope ", scope as u64), (" index ", index as u64)])?;
+        push(out, "\n")
     }
 
     #[tactic(auto, unfolding(crate::specs::Addr::addr_fields), using(crate::proofs::Json::more_fields))]

@@ -3,14 +3,13 @@
 use crate::objects::line::Line;
 use crate::objects::names;
 use crate::text::attributes::Form;
-use crate::text::digits::Hex8;
 use crate::text::families::HeadLine;
 use crate::text::flags::LinkFlags;
 use crate::text::names::push_names;
+use crate::text::pieces::{push, push_hex8, push_numbers, push_signed};
 use crate::text::rows::Row;
 use nl_route::LinkHead;
 use std::alloc::AllocError;
-use std::fmt::Write;
 
 /// The attributes `IFLA` of a link.
 pub(crate) const ATTRIBUTES: &[Row<Form>] = &[
@@ -56,7 +55,7 @@ impl HeadLine for LinkHead {
     ghost same = { λ h. refl };
 
     #[tactic(auto, unfolding(crate::specs::Link::link_line), using(std::proofs::Common::append_assoc))]
-    fn push_line(&self, out: &mut String) -> Result<(), AllocError> {
+    fn push_line(&self, out: &mut Vec<u8>) -> Result<(), AllocError> {
         let LinkHead {
             family,
             hardware,
@@ -64,13 +63,22 @@ impl HeadLine for LinkHead {
             flags,
             change,
         } = *self;
-        let (bits, change) = (Hex8(flags), Hex8(change));
-        write!(
+        push_numbers(
             out,
-            "  link family {family} type {hardware} index {index} flags 0x{bits} "
+            &[
+                ("  link family ", family as u64),
+                (" type ", hardware as u64),
+            ],
         )?;
+        push(out, " index ")?;
+        push_signed(out, index)?;
+        push(out, " flags 0x")?;
+        push_hex8(out, flags)?;
+        push(out, " ")?;
         push_names(out, &LinkFlags(flags))?;
-        writeln!(out, " change 0x{change}")
+        push(out, " change 0x")?;
+        push_hex8(out, change)?;
+        push(out, "\n")
     }
 
     #[tactic(auto, unfolding(crate::specs::Link::link_fields), using(crate::proofs::Json::more_fields))]

@@ -19,7 +19,6 @@ const INDENT: &str = "    ";
 /// The head of a family, as it is printed.
 pub(crate) trait HeadLine: Head {
     ghost use Rattle.std.specs.Prelude.{◌≡◌, ◌++◌, OnOk};
-    ghost use Rattle.std.specs.String.{string_bytes};
     ghost use Rattle.nl_route.specs.Families.{AnyHead, context_of, group_of};
     ghost use Rattle.rtnl.specs.Json.{◌⊕◌, fields_tokens};
     ghost use Rattle.rtnl.specs.Messages.{head_line};
@@ -28,9 +27,9 @@ pub(crate) trait HeadLine: Head {
     ghost as_any: { Self → AnyHead };
 
     /// Writes the line of the head.
-    fn push_line(&self, out: &mut String) -> Result<(), AllocError>
-        ensures { OnOk result (string_bytes out.new
-            ≡ string_bytes out.old ++ head_line (as_any self.now)) };
+    fn push_line(&self, out: &mut Vec<u8>) -> Result<(), AllocError>
+        ensures { OnOk result (out.new.items
+            ≡ out.old.items ++ head_line (as_any self.now)) };
 
     /// Writes the fields of the head.
     fn push_fields(&self, line: &mut Line) -> Result<(), AllocError>
@@ -46,7 +45,6 @@ pub(crate) trait HeadLine: Head {
 /// A value that is printed in lines.
 pub(crate) trait Shown {
     ghost use Rattle.std.specs.Prelude.{◌≡◌, ◌∷◌, [], ◌++◌, OnOk};
-    ghost use Rattle.std.specs.String.{string_bytes};
     ghost use Rattle.nl_dump.specs.Items.{Item};
     ghost use Rattle.rtnl.specs.Json.{◌⊕◌, fields_tokens};
     ghost use Rattle.rtnl.specs.Objects.{item_field};
@@ -55,9 +53,9 @@ pub(crate) trait Shown {
     ghost item: { Self → Item };
 
     /// Writes the line of the head, and the lines of the attributes.
-    fn push(&self, alloc: Global, out: &mut String, order: Order) -> Result<(), AllocError>
-        ensures { OnOk result (string_bytes out.new
-            ≡ string_bytes out.old ++ item_text order (item self.now)) };
+    fn push(&self, alloc: Global, out: &mut Vec<u8>, order: Order) -> Result<(), AllocError>
+        ensures { OnOk result (out.new.items
+            ≡ out.old.items ++ item_text order (item self.now)) };
 
     /// Writes a field of the family's name, with the fields of the head and the attributes.
     fn push_field(&self, alloc: Global, line: &mut Line, order: Order) -> Result<(), AllocError>
@@ -69,7 +67,7 @@ impl<H: HeadLine> Shown for Family<H> {
 
     ghost item = { λ b. (H.as_any b.head, attrs_view b.attrs.items) };
 
-    fn push(&self, alloc: Global, out: &mut String, order: Order) -> Result<(), AllocError> {
+    fn push(&self, alloc: Global, out: &mut Vec<u8>, order: Order) -> Result<(), AllocError> {
         self.head.push_line(out)?;
         push_attrs(alloc, out, order, INDENT, H::context(), &self.attrs)
     }

@@ -3,14 +3,13 @@
 use crate::objects::line::Line;
 use crate::objects::names;
 use crate::text::attributes::Form;
-use crate::text::digits::{Hex2, Hex4};
 use crate::text::families::HeadLine;
 use crate::text::flags::{NeighFlags, NeighState};
 use crate::text::names::push_names;
+use crate::text::pieces::{push, push_hex2, push_hex4, push_numbers, push_signed};
 use crate::text::rows::Row;
 use nl_route::NeighHead;
 use std::alloc::AllocError;
-use std::fmt::Write;
 
 /// The attributes `NDA` of a neighbour.
 pub(crate) const ATTRIBUTES: &[Row<Form>] = &[
@@ -37,7 +36,7 @@ impl HeadLine for NeighHead {
     ghost same = { λ h. refl };
 
     #[tactic(auto, unfolding(crate::specs::Neigh::neigh_line), using(std::proofs::Common::append_assoc))]
-    fn push_line(&self, out: &mut String) -> Result<(), AllocError> {
+    fn push_line(&self, out: &mut Vec<u8>) -> Result<(), AllocError> {
         let NeighHead {
             family,
             ifindex,
@@ -45,15 +44,19 @@ impl HeadLine for NeighHead {
             flags,
             sort,
         } = *self;
-        let (state_bits, bits) = (Hex4(state), Hex2(flags));
-        write!(
-            out,
-            "  neigh family {family} index {ifindex} state 0x{state_bits} "
-        )?;
+        push_numbers(out, &[("  neigh family ", family as u64)])?;
+        push(out, " index ")?;
+        push_signed(out, ifindex)?;
+        push(out, " state 0x")?;
+        push_hex4(out, state)?;
+        push(out, " ")?;
         push_names(out, &NeighState(state))?;
-        write!(out, " flags 0x{bits} ")?;
+        push(out, " flags 0x")?;
+        push_hex2(out, flags)?;
+        push(out, " ")?;
         push_names(out, &NeighFlags(flags))?;
-        writeln!(out, " type {sort}")
+        push_numbers(out, &[(" type ", sort as u64)])?;
+        push(out, "\n")
     }
 
     #[tactic(auto, unfolding(crate::specs::Neigh::neigh_fields), using(crate::proofs::Json::more_fields))]

@@ -2,12 +2,11 @@
 
 use crate::objects::line::Line;
 use crate::text::attributes::Form;
-use crate::text::digits::Hex8;
 use crate::text::families::HeadLine;
+use crate::text::pieces::{push, push_hex8, push_numbers};
 use crate::text::rows::Row;
 use nl_route::RouteHead;
 use std::alloc::AllocError;
-use std::fmt::Write;
 
 /// The attributes `RTA` of a route.
 pub(crate) const ATTRIBUTES: &[Row<Form>] = &[
@@ -66,7 +65,7 @@ impl HeadLine for RouteHead {
     ghost same = { λ h. refl };
 
     #[tactic(auto, unfolding(crate::specs::Route::route_line))]
-    fn push_line(&self, out: &mut String) -> Result<(), AllocError> {
+    fn push_line(&self, out: &mut Vec<u8>) -> Result<(), AllocError> {
         let RouteHead {
             family,
             dst_len,
@@ -78,11 +77,22 @@ impl HeadLine for RouteHead {
             sort,
             flags,
         } = *self;
-        let flags = Hex8(flags);
-        writeln!(
+        push_numbers(
             out,
-            "  route family {family} dst_len {dst_len} src_len {src_len} tos {tos} table {table} protocol {protocol} scope {scope} type {sort} flags 0x{flags}"
-        )
+            &[
+                ("  route family ", family as u64),
+                (" dst_len ", dst_len as u64),
+                (" src_len ", src_len as u64),
+                (" tos ", tos as u64),
+                (" table ", table as u64),
+                (" protocol ", protocol as u64),
+                (" scope ", scope as u64),
+                (" type ", sort as u64),
+            ],
+        )?;
+        push(out, " flags 0x")?;
+        push_hex8(out, flags)?;
+        push(out, "\n")
     }
 
     #[tactic(auto, unfolding(crate::specs::Route::route_fields), using(crate::proofs::Json::more_fields))]

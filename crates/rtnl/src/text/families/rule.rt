@@ -2,12 +2,11 @@
 
 use crate::objects::line::Line;
 use crate::text::attributes::Form;
-use crate::text::digits::Hex8;
 use crate::text::families::HeadLine;
+use crate::text::pieces::{push, push_hex8, push_numbers};
 use crate::text::rows::Row;
 use nl_route::RuleHead;
 use std::alloc::AllocError;
-use std::fmt::Write;
 
 /// The attributes `FRA` of a routing rule.
 pub(crate) const ATTRIBUTES: &[Row<Form>] = &[
@@ -34,7 +33,7 @@ impl HeadLine for RuleHead {
     ghost same = { λ h. refl };
 
     #[tactic(auto, unfolding(crate::specs::Rule::rule_line))]
-    fn push_line(&self, out: &mut String) -> Result<(), AllocError> {
+    fn push_line(&self, out: &mut Vec<u8>) -> Result<(), AllocError> {
         let RuleHead {
             family,
             dst_len,
@@ -44,11 +43,20 @@ impl HeadLine for RuleHead {
             action,
             flags,
         } = *self;
-        let flags = Hex8(flags);
-        writeln!(
+        push_numbers(
             out,
-            "  rule family {family} dst_len {dst_len} src_len {src_len} tos {tos} table {table} action {action} flags 0x{flags}"
-        )
+            &[
+                ("  rule family ", family as u64),
+                (" dst_len ", dst_len as u64),
+                (" src_len ", src_len as u64),
+                (" tos ", tos as u64),
+                (" table ", table as u64),
+                (" action ", action as u64),
+            ],
+        )?;
+        push(out, " flags 0x")?;
+        push_hex8(out, flags)?;
+        push(out, "\n")
     }
 
     #[tactic(auto, unfolding(crate::specs::Rule::rule_fields), using(crate::proofs::Json::more_fields))]

@@ -1,5 +1,4 @@
 use Rattle.std.proofs.Common.{map, length, Ok, Err, refl, sym, ◌∙◌, rules}
-use Rattle.std.specs.String.{string_bytes}
 use Rattle.nl_frame.specs.View.{message_view}
 use Rattle.rtnl.specs.Datagrams.{datagram_line}
 use Rattle.rtnl.specs.Messages.{messages_text}
@@ -11,7 +10,7 @@ pub returns-in_ok-push_messages-in-Ok : goal.returns-in_ok-push_messages-in-Ok
 returns-in_ok-push_messages-in-Ok c = (
   Ok (map message_view c.in-Ok.messages.items),
   answers_messages c.args.self.now.limits c.args.bytes.now c.read_datagram.result.result c.read_datagram.ensures.large c.in-Ok.messages (sym c.into_result.ensures ∙ c.in-Ok.is) c.read_datagram.ensures.fits,
-  one_more (string_bytes c.args.out.now) (string_bytes c.push_datagram_line.new.out) (string_bytes c.push_messages.new.out) (datagram_line c.args.number (length c.args.bytes.now)) (messages_text c.args.self.now.limits.shape.order (map message_view c.in-Ok.messages.items)) c.in_ok-push_datagram_line.ensures (search (rules, c.in_ok-push_messages-in-Ok.ensures, c.order.ensures, c.as_slice.ensures.value)),
+  one_more (c.args.out.now.items) (c.push_datagram_line.new.out.items) (c.push_messages.new.out.items) (datagram_line c.args.number (length c.args.bytes.now)) (messages_text c.args.self.now.limits.shape.order (map message_view c.in-Ok.messages.items)) c.in_ok-push_datagram_line.ensures (search (rules, c.in_ok-push_messages-in-Ok.ensures, c.order.ensures, c.as_slice.ensures.value)),
   refl,
 )
 

@@ -21,7 +21,7 @@ returns g c =
       unfed = unfed;
       session = v;
       run = run;
-      text_is = c.into_bytes.ensures ∙ run_text t d told.2.0 unfed v b c.order.result (length ds - count) (g.F.Out.Output.bytes c.empty-out.result) (g.F.Out.Output.bytes c.push_front.new.out) (g.F.Out.Output.bytes c.feed_all.new.out) (g.F.Out.Output.bytes c.push_ending.new.out) c.empty-out.ensures c.in_ok-push_front.ensures told.2.2
+      text_is = run_text t d told.2.0 unfed v b c.order.result (length ds - count) c.new-out.result.items c.push_front.new.out.items c.feed_all.new.out.items c.push_ending.new.out.items c.new-out.ensures.items c.in_ok-push_front.ensures told.2.2
           (c.in_ok-push_ending.ensures ∙ ap (λ x. x ++ t.ending d (length ds - count) v) c.in_ok-size.ensures.text) c.order.ensures run.session.limits (sym (left_length (λ d. d.items) ds count));
       verdict_is = c.verdict.ensures ∙ ap verdict_of c.complete.ensures;
     }

@@ -1,5 +1,4 @@
 use Rattle.std.proofs.Common.{◌≡◌, ◌++◌, drop, map}
-use Rattle.std.specs.String.{string_bytes}
 use Rattle.nl_frame.specs.View.{message_view}
 use Rattle.rtnl.specs.Messages.{messages_text}
 use Rattle.rtnl.proofs.text.message.push_messages.Given as goal
@@ -7,5 +6,5 @@ use Rattle.rtnl.proofs.text.message.push_messages.Given as goal
 -- what is written and what is left give the whole
 abbrev pub invariant-loop-message : goal.invariant-loop-message
 invariant-loop-message l =
-    string_bytes l.out ++ messages_text l.order (map message_view (drop l.message-index l.messages))
-    ≡ string_bytes l.initial.out ++ messages_text l.order (map message_view l.messages)
+    l.out.items ++ messages_text l.order (map message_view (drop l.message-index l.messages))
+    ≡ l.initial.out.items ++ messages_text l.order (map message_view l.messages)

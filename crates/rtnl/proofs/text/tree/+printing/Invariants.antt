@@ -1,5 +1,4 @@
 use Rattle.std.proofs.Common.{◌≡◌, ◌++◌, drop}
-use Rattle.std.specs.String.{string_bytes}
 use Rattle.nl_attr.specs.View.{attrs_view, hops_view}
 use Rattle.rtnl.specs.Trees.{items_text, hops_text}
 use Rattle.rtnl.proofs.text.tree.+printing.Given as goal
@@ -7,11 +6,11 @@ use Rattle.rtnl.proofs.text.tree.+printing.Given as goal
 -- what is written and what is left give the whole
 abbrev pub invariant-push_attrs-loop-attr : goal.invariant-push_attrs-loop-attr
 invariant-push_attrs-loop-attr l =
-    string_bytes l.out ++ items_text l.order l.indent l.ctx (attrs_view (drop l.attr-index l.attrs))
-    ≡ string_bytes l.initial.out ++ items_text l.order l.indent l.ctx (attrs_view l.attrs)
+    l.out.items ++ items_text l.order l.indent l.ctx (attrs_view (drop l.attr-index l.attrs))
+    ≡ l.initial.out.items ++ items_text l.order l.indent l.ctx (attrs_view l.attrs)
 
 -- the same of next hops
 abbrev pub invariant-push_hops-loop-hop : goal.invariant-push_hops-loop-hop
 invariant-push_hops-loop-hop l =
-    string_bytes l.out ++ hops_text l.order l.indent (hops_view (drop l.hop-index l.hops))
-    ≡ string_bytes l.initial.out ++ hops_text l.order l.indent (hops_view l.hops)
+    l.out.items ++ hops_text l.order l.indent (hops_view (drop l.hop-index l.hops))
+    ≡ l.initial.out.items ++ hops_text l.order l.indent (hops_view l.hops)

@@ -1,6 +1,5 @@
 use Rattle.std.proofs.Common.{◌≡◌, ◌++◌, ◌∙◌, length}
 use Rattle.std.proofs.lemmas.Result.{IfOk-weaker}
-use Rattle.std.specs.String.{string_bytes}
 use Rattle.nl_dump.specs.View.{table_at, complete_of}
 use Rattle.rtnl.specs.Tabled.{complete_line, counts_line, end_line, ending_text, sums_line}
 use Rattle.rtnl.proofs.Feeding.{four_parts}
@@ -11,13 +10,13 @@ unfolding ending_text
 returns c =
     let v = c.args.session.now in
     let t = table_at c.args._dump.now.kind v.tables in
-    let old = string_bytes c.args.out.now in
-    let end : string_bytes c.push_end_line.new.out ≡ old ++ end_line v.state = c.in_ok-push_end_line.ensures ∙ λ i. old ++ end_line (c.state.ensures i) in
-    let counts : string_bytes c.push_counts_line.new.out ≡ string_bytes c.push_end_line.new.out ++ counts_line (length t.entries) t.missed v.ignored c.args.unfed v.damaged v.interrupted =
-    c.in_ok-push_counts_line.ensures ∙ λ i. string_bytes c.push_end_line.new.out ++ counts_line (c.requires.entries i) (c.requires.missed i) (c.ignored.ensures i) c.args.unfed (c.damaged.ensures i) (c.interrupted.ensures i) in
-    let sums : string_bytes c.push_sums_line.new.out ≡ string_bytes c.push_counts_line.new.out ++ sums_line v.received v.visits =
-    c.in_ok-push_sums_line.ensures ∙ λ i. string_bytes c.push_counts_line.new.out ++ sums_line (c.received.ensures i) (c.visits.ensures i) in
+    let old = c.args.out.now.items in
+    let end : c.push_end_line.new.out.items ≡ old ++ end_line v.state = c.in_ok-push_end_line.ensures ∙ λ i. old ++ end_line (c.state.ensures i) in
+    let counts : c.push_counts_line.new.out.items ≡ c.push_end_line.new.out.items ++ counts_line (length t.entries) t.missed v.ignored c.args.unfed v.damaged v.interrupted =
+    c.in_ok-push_counts_line.ensures ∙ λ i. c.push_end_line.new.out.items ++ counts_line (c.requires.entries i) (c.requires.missed i) (c.ignored.ensures i) c.args.unfed (c.damaged.ensures i) (c.interrupted.ensures i) in
+    let sums : c.push_sums_line.new.out.items ≡ c.push_counts_line.new.out.items ++ sums_line v.received v.visits =
+    c.in_ok-push_sums_line.ensures ∙ λ i. c.push_counts_line.new.out.items ++ sums_line (c.received.ensures i) (c.visits.ensures i) in
     IfOk-weaker c.push_complete_line.result _ _
     (λ _ complete. four_parts old (end_line v.state) (counts_line (length t.entries) t.missed v.ignored c.args.unfed v.damaged v.interrupted) (sums_line v.received v.visits) (complete_line (complete_of v))
-    (string_bytes c.push_end_line.new.out) (string_bytes c.push_counts_line.new.out) (string_bytes c.push_sums_line.new.out) (string_bytes c.push_complete_line.new.out) end counts sums
-    (complete ∙ λ i. string_bytes c.push_sums_line.new.out ++ complete_line (c.complete.ensures i))) c.push_complete_line.ensures
+    (c.push_end_line.new.out.items) (c.push_counts_line.new.out.items) (c.push_sums_line.new.out.items) (c.push_complete_line.new.out.items) end counts sums
+    (complete ∙ λ i. c.push_sums_line.new.out.items ++ complete_line (c.complete.ensures i))) c.push_complete_line.ensures
