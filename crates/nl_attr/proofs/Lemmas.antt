@@ -7,7 +7,9 @@ pub mod Loop
 pub mod Turns
 pub mod Steps
 pub mod Going
+pub mod Opens
 pub mod Nested
+pub mod Outcomes
 pub mod Hops
 pub mod Kept
 pub mod Numbers

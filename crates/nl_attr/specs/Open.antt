@@ -1,23 +1,34 @@
 -- Open regions: what is left to read of them, and how they lie in one another.
-use Rattle.std.specs.Prelude.{◌≡◌, ◌+◌, ◌<◌, ◌≤◌, ℕ, suc, List, [], ◌∷◌, ◌++◌, length, map, Ok, Err}
+use Rattle.std.specs.Prelude.{◌≡◌, ◌+◌, ◌<◌, ◌≤◌, ℕ, suc, List, [], ◌∷◌, ◌++◌, length, map, Option, Some, None, Result, Ok, Err}
 use Rattle.nl_attr.specs.declared.fault.ListError.{ListError}
 use Rattle.nl_attr.specs.declared.fault.ListError.TheVariants.{Layout, Memory}
-use Rattle.nl_attr.specs.declared.stack.ListRegion.{ListRegion}
-use Rattle.nl_attr.specs.declared.stack.HopsRegion.{HopsRegion}
-use Rattle.nl_attr.specs.declared.stack.ListWaits.{ListWaits}
-use Rattle.nl_attr.specs.declared.stack.HopsWaits.{HopsWaits}
-use Rattle.nl_attr.specs.declared.stack.Open.{Open}
-use Rattle.nl_attr.specs.declared.stack.Open.TheVariants as opened
-use Rattle.nl_attr.specs.declared.stack.Frame.{Frame}
-use Rattle.nl_attr.specs.declared.stack.Frame.TheVariants as frame
-use Rattle.nl_attr.specs.declared.stack.Turn.{Turn}
-use Rattle.nl_attr.specs.declared.stack.Turn.TheVariants as turn
+use Rattle.nl_attr.specs.declared.tree.AttrFlags.{AttrFlags}
+use Rattle.nl_attr.specs.declared.tree.Content.{Content}
+use Rattle.nl_attr.specs.declared.tree.Content.TheVariants as content
+use Rattle.nl_attr.specs.declared.walk.attrs.Part.{Part}
+use Rattle.nl_attr.specs.declared.stack.regions.ListRegion.{ListRegion}
+use Rattle.nl_attr.specs.declared.stack.regions.HopsRegion.{HopsRegion}
+use Rattle.nl_attr.specs.declared.stack.regions.HopHead.{HopHead}
+use Rattle.nl_attr.specs.declared.stack.attributes.Inner.{Inner}
+use Rattle.nl_attr.specs.declared.stack.attributes.Inner.TheVariants as inner
+use Rattle.nl_attr.specs.declared.stack.attributes.Opening.{Opening}
+use Rattle.nl_attr.specs.declared.stack.attributes.Turn.{Turn}
+use Rattle.nl_attr.specs.declared.stack.attributes.Turn.TheVariants as turn
+use Rattle.nl_attr.specs.declared.stack.next_hops.HopTurn.{HopTurn}
+use Rattle.nl_attr.specs.declared.stack.next_hops.HopTurn.TheVariants as hop_turn
+use Rattle.nl_attr.specs.declared.stack.next_hops.HopsTurn.{HopsTurn}
+use Rattle.nl_attr.specs.declared.stack.next_hops.HopsTurn.TheVariants as hops_turn
+use Rattle.nl_attr.specs.declared.stack.nested.ListWaits.{ListWaits}
+use Rattle.nl_attr.specs.declared.stack.nested.Frame.{Frame}
+use Rattle.nl_attr.specs.declared.stack.nested.Frame.TheVariants as frame
+use Rattle.nl_attr.specs.declared.stack.nested.Next.{Next}
+use Rattle.nl_attr.specs.declared.stack.nested.Next.TheVariants as next
 use Rattle.nl_attr.specs.Shape.{Shape}
 use Rattle.nl_attr.specs.Walk.{Region}
-use Rattle.nl_attr.specs.Tree.{Val, bytes, list, hops, Items, item, HopItems, hop}
-use Rattle.nl_attr.specs.View.{attr_view, hop_view, value_view}
-use Rattle.nl_attr.specs.Heads.{Sort, attr_head, hop_head}
-use Rattle.nl_attr.specs.Reading.{Outcome, and_then, map_value, more_visits, items_of_region, hops_of_region}
+use Rattle.nl_attr.specs.Tree.{Val, list, hops, Items, item, HopItems, hop}
+use Rattle.nl_attr.specs.View.{attr_view, hop_view, attrs_view, hops_view}
+use Rattle.nl_attr.specs.Heads.{Sort, attr_head, hop_head, broken_container}
+use Rattle.nl_attr.specs.Reading.{Outcome, and_then, map_value, more_visits, items_of_region, hops_of_region, value_at}
 
 -- ---- what is left to read
 
@@ -25,6 +36,21 @@ use Rattle.nl_attr.specs.Reading.{Outcome, and_then, map_value, more_visits, ite
 abbrev pub before : {A : Type 0} → List (A → A) → A → A
 before [] is = is
 before (f ∷ fs) is = f (before fs is)
+
+abbrev pub content_in : Inner → Content
+content_in (inner.List c) = content.List c
+content_in inner.Hops = content.Hops
+
+abbrev pub HasInner : Content → Option Inner → Type 0
+HasInner c None = c ≡ content.Bytes
+HasInner c (Some i) = c ≡ content_in i
+
+-- an attribute that holds a region: it opens, or breaks a rule of containers
+abbrev pub TurnsAt : Shape → ℕ → ℕ → Part → Inner → Turn → Type 0
+TurnsAt S level base p i turn.Ends = ⊥
+TurnsAt S level base p i (turn.Opens o) = (o ≡ record { number = p.number; flags = p.flags; place = base + p.place + 4; payload = p.payload; inner = i }) × (broken_container S level (content_in i) (length p.payload.now + 4) ≡ None)
+TurnsAt S level base p i (turn.Fails (Layout f)) = (f.place ≡ base + p.place) × (broken_container S level (content_in i) (length p.payload.now + 4) ≡ Some f.reason)
+TurnsAt S level base p i (turn.Fails Memory) = ⊥
 
 module _ (S : Shape) where
   abbrev pub items_left : ListRegion → Outcome Items
@@ -34,55 +60,63 @@ module _ (S : Shape) where
   hops_left r = hops_of_region S r.level (r.base + r.walk.place) r.walk.left
 
   -- an open region is read to its end, behind what it has collected
-  abbrev pub list_rest : ListRegion → Outcome Val
-  list_rest r = map_value (λ is. list (before (map attr_view r.list.items) is)) (items_left r)
+  abbrev pub list_rest : ListRegion → Outcome Items
+  list_rest r = map_value (before (map attr_view r.list.items)) (items_left r)
 
-  abbrev pub hops_rest : HopsRegion → Outcome Val
-  hops_rest r = map_value (λ hs. hops (before (map hop_view r.list.items) hs)) (hops_left r)
-
-  abbrev pub open_rest : Open → Outcome Val
-  open_rest (opened.List r) = list_rest r
-  open_rest (opened.Hops r) = hops_rest r
+  abbrev pub hops_rest : HopsRegion → Outcome HopItems
+  hops_rest r = map_value (before (map hop_view r.list.items)) (hops_left r)
 
   -- a region that waits goes on with the value of the item that it waits for
-  abbrev pub list_goes_on : ListWaits → Val → Outcome Val
-  list_goes_on w v = map_value (λ is. list (before (map attr_view w.region.list.items) (item w.number w.flags v is))) (items_left w.region)
+  abbrev pub list_goes_on : ListRegion → ℕ → AttrFlags → Val → Outcome Items
+  list_goes_on r number flags v = map_value (λ is. before (map attr_view r.list.items) (item number flags v is)) (items_left r)
 
-  abbrev pub hops_go_on : HopsWaits → Items → Outcome Val
-  hops_go_on w is = map_value (λ hs. hops (before (map hop_view w.region.list.items) (hop w.flags w.hops w.ifindex is hs))) (hops_left w.region)
+  abbrev pub hops_go_on : HopsRegion → HopHead → Items → Outcome HopItems
+  hops_go_on r h is = map_value (λ hs. before (map hop_view r.list.items) (hop h.flags h.hops h.ifindex is hs)) (hops_left r)
 
-  abbrev pub hops_go_on_at : HopsWaits → Val → Outcome Val
-  hops_go_on_at w (bytes bs) = (Ok (bytes bs), 0)
-  hops_go_on_at w (list is) = hops_go_on w is
-  hops_go_on_at w (hops hs) = (Ok (hops hs), 0)
+  -- what opens in a region is read to its end, and then the region
+  abbrev pub opening_rest : ListRegion → Opening → Outcome Items
+  opening_rest r p = and_then (value_at S (content_in p.inner) r.level p.place p.payload.now) (list_goes_on r p.number p.flags)
 
-  abbrev pub goes_on : Frame → Val → Outcome Val
-  goes_on (frame.List w) v = list_goes_on w v
-  goes_on (frame.Hops w) v = hops_go_on_at w v
+  abbrev pub waiting_goes_on : ListWaits → Val → Outcome Items
+  waiting_goes_on w v = list_goes_on w.region w.number w.flags v
 
-  -- all that wait go on, the last of the list first
-  abbrev pub resume : List Frame → Outcome Val → Outcome Val
-  resume [] o = o
-  resume (f ∷ fs) o = and_then (resume fs o) (goes_on f)
+  -- next hops are read to their end, and then the region that waits for them
+  abbrev pub hops_then : ListWaits → Outcome HopItems → Outcome Items
+  hops_then w o = and_then o (λ hs. waiting_goes_on w (hops hs))
 
--- what opened is read to its end, and then those that wait for it
-abbrev pub opened_rest : Shape → Turn → Outcome Val
-opened_rest S (turn.Opens f t) = and_then (open_rest S t) (goes_on S f)
-opened_rest S (turn.OpensTwo f g t) = and_then (and_then (open_rest S t) (goes_on S g)) (goes_on S f)
-opened_rest S (turn.Ends v) = (Ok (value_view v), 0)
-opened_rest S (turn.Fails e) = (Ok (bytes []), 0)
+  -- those that wait go on with the attributes that they wait for
+  abbrev pub goes_on : Frame → Items → Outcome Items
+  goes_on (frame.List w) is = waiting_goes_on w (list is)
+  goes_on (frame.Hops w h) is = hops_then w (hops_go_on h.region h.head is)
+
+  abbrev pub next_rest : Next → Outcome Items
+  next_rest (next.Opens f r) = and_then (list_rest r) (goes_on f)
+  next_rest (next.Goes r) = list_rest r
 
 -- a refusal after m visits, where n were made before and o was left
-abbrev pub FailsAs : ℕ → Outcome Val → ℕ → ListError → Type 0
+abbrev pub FailsAs : {A : Type 0} → ℕ → Outcome A → ℕ → ListError → Type 0
 FailsAs n o m (Layout f) = more_visits n o ≡ (Err f, m)
 FailsAs n o m Memory = m ≤ n + o.1
 
--- a turn keeps the outcome
-abbrev pub Goes : Shape → ℕ → Outcome Val → ℕ → Turn → Type 0
-Goes S n o m (turn.Opens f t) = more_visits n o ≡ more_visits m (opened_rest S (turn.Opens f t))
-Goes S n o m (turn.OpensTwo f g t) = more_visits n o ≡ more_visits m (opened_rest S (turn.OpensTwo f g t))
-Goes S n o m (turn.Ends v) = more_visits n o ≡ (Ok (value_view v), m)
-Goes S n o m (turn.Fails e) = FailsAs n o m e
+-- a turn keeps the outcome: n visits were made before it and o was left, and m were made after it
+abbrev pub Goes : Shape → ℕ → Outcome Items → ℕ → ListRegion → Turn → Type 0
+Goes S n o m r turn.Ends = more_visits n o ≡ (Ok (attrs_view r.list.items), m)
+Goes S n o m r (turn.Opens p) = more_visits n o ≡ more_visits m (opening_rest S r p)
+Goes S n o m r (turn.Fails e) = FailsAs n o m e
+
+abbrev pub HopGoes : Shape → ℕ → Outcome HopItems → ℕ → HopsRegion → HopTurn → Type 0
+HopGoes S n o m r hop_turn.Ends = more_visits n o ≡ (Ok (hops_view r.list.items), m)
+HopGoes S n o m r (hop_turn.Opens h a) = more_visits n o ≡ more_visits m (and_then (list_rest S a) (hops_go_on S r h))
+HopGoes S n o m r (hop_turn.Fails e) = FailsAs n o m e
+
+abbrev pub HopsGo : Shape → ℕ → Outcome HopItems → ℕ → HopsRegion → HopsTurn → Type 0
+HopsGo S n o m r hops_turn.Ends = more_visits n o ≡ (Ok (hops_view r.list.items), m)
+HopsGo S n o m r (hops_turn.Opens h a p) = more_visits n o ≡ more_visits m (and_then (opening_rest S a p) (hops_go_on S r h))
+HopsGo S n o m r (hops_turn.Fails e) = FailsAs n o m e
+
+abbrev pub NextGoes : Shape → ℕ → Outcome Items → ℕ → Result Next ListError → Type 0
+NextGoes S n o m (Ok x) = more_visits n o ≡ more_visits m (next_rest S x)
+NextGoes S n o m (Err e) = FailsAs n o m e
 
 -- ---- where regions lie
 
@@ -99,17 +133,16 @@ list_spot r = record { sort = attr_head; base = r.base; level = r.level; region 
 abbrev pub hops_spot : HopsRegion → Spot
 hops_spot r = record { sort = hop_head; base = r.base; level = r.level; region = r.walk }
 
-abbrev pub open_spot : Open → Spot
-open_spot (opened.List r) = list_spot r
-open_spot (opened.Hops r) = hops_spot r
-
-abbrev pub frame_spot : Frame → Spot
-frame_spot (frame.List w) = list_spot w.region
-frame_spot (frame.Hops w) = hops_spot w.region
-
 -- a region of which nothing is read
 abbrev pub spot_of : Shape → Sort → ℕ → ℕ → List ℕ → Spot
 spot_of S sort base level left = record { sort = sort; base = base; level = level; region = record { order = S.order; place = 0; left = left } }
+
+abbrev pub sort_in : Inner → Sort
+sort_in (inner.List c) = attr_head
+sort_in inner.Hops = hop_head
+
+abbrev pub opening_spot : Shape → ListRegion → Opening → Spot
+opening_spot S r p = spot_of S (sort_in p.inner) p.place (r.level + 1) p.payload.now
 
 abbrev pub spot_end : Spot → ℕ
 spot_end s = s.region.place + length s.region.left
@@ -126,44 +159,43 @@ pub record IsWithinLimits (S : Shape) (s : Spot) : Type 0 where
   pub size : spot_end s ≤ 1048576
   pub place : s.base + spot_end s ≤ 2097152
 
--- what may lie in a region of this sort
-abbrev pub Takes : Sort → Sort → Type 0
-Takes attr_head s = Unit {0}
-Takes hop_head attr_head = Unit {0}
-Takes hop_head hop_head = ⊥
-
--- where a region may be opened
+-- where a region may be opened: at this level, up to this place
 pub record Room : Type 0 where
-  pub sort : Sort
   pub level : ℕ
   pub to : ℕ
 
 pub record IsIn (S : Shape) (r : Room) (s : Spot) : Type 0 where
-  pub sort : Takes r.sort s.sort
   pub level : s.level ≡ r.level
   pub inside : s.base + spot_end s ≤ r.to
   pub limits : IsWithinLimits S s
 
 -- in the item before the place where a region stands
 abbrev pub room_in : Spot → Room
-room_in s = record { sort = s.sort; level = s.level + 1; to = s.base + s.region.place }
+room_in s = record { level = s.level + 1; to = s.base + s.region.place }
 
--- where nothing but a region of attributes at this level, up to this place, may be opened
-abbrev pub list_room : ℕ → ℕ → Room
-list_room level to = record { sort = hop_head; level = level; to = to }
+-- the region of attributes that waits in a frame
+abbrev pub frame_spot : Frame → Spot
+frame_spot (frame.List w) = list_spot w.region
+frame_spot (frame.Hops w h) = list_spot w.region
 
--- each region lies in the one below it, one level higher
-abbrev pub Nests : Shape → Room → List Spot → Type 0
-Nests S r [] = Unit {0}
-Nests S r (s ∷ ss) = IsIn S r s × Nests S (room_in s) ss
+-- next hops that wait lie in the region that waits for them
+abbrev pub Holds : Shape → Frame → Type 0
+Holds S (frame.List w) = Unit {0}
+Holds S (frame.Hops w h) = IsIn S (room_in (list_spot w.region)) (hops_spot h.region)
 
--- the bytes that are left in all of them, with one for each
-abbrev pub work : List Spot → ℕ
-work [] = 0
-work (s ∷ ss) = suc (length s.region.left) + work ss
+-- where the region lies for which a frame waits
+abbrev pub frame_room : Frame → Room
+frame_room (frame.List w) = room_in (list_spot w.region)
+frame_room (frame.Hops w h) = room_in (hops_spot h.region)
 
-abbrev pub spots : List Frame → Open → List Spot
-spots fs t = map frame_spot fs ++ open_spot t ∷ []
+-- the bytes that are left in those that wait, with one for each
+abbrev pub frame_work : Frame → ℕ
+frame_work (frame.List w) = suc (length w.region.walk.left)
+frame_work (frame.Hops w h) = suc (length w.region.walk.left) + suc (length h.region.walk.left)
+
+abbrev pub next_work : Next → ℕ
+next_work (next.Opens f r) = frame_work f + suc (length r.walk.left)
+next_work (next.Goes r) = suc (length r.walk.left)
 
 -- the same region, read further
 pub record Advances (s t : Spot) : Type 0 where
@@ -173,51 +205,38 @@ pub record Advances (s t : Spot) : Type 0 where
   pub order : t.region.order ≡ s.region.order
   pub end : spot_end t ≡ spot_end s
 
--- what a region of this sort is read as
-abbrev pub Closes : Sort → Val → Type 0
-Closes attr_head (bytes bs) = ⊥
-Closes attr_head (list is) = Unit {0}
-Closes attr_head (hops hs) = ⊥
-Closes hop_head v = Unit {0}
+-- what opens lies in the region, and less is left
+abbrev pub Moves : Shape → Spot → ListRegion → Turn → Type 0
+Moves S s r turn.Ends = Unit {0}
+Moves S s r (turn.Opens p) = Advances s (list_spot r) × IsIn S (room_in (list_spot r)) (opening_spot S r p) × (length r.walk.left + suc (length p.payload.now) < length s.region.left)
+Moves S s r (turn.Fails e) = Unit {0}
 
--- what an item in a region of this sort may hold
-abbrev pub Fills : Sort → Val → Type 0
-Fills attr_head v = Unit {0}
-Fills hop_head v = Closes attr_head v
+abbrev pub HopMoves : Shape → Spot → HopsRegion → HopTurn → Type 0
+HopMoves S s r hop_turn.Ends = Unit {0}
+HopMoves S s r (hop_turn.Opens h a) = Advances s (hops_spot r) × IsIn S (room_in (hops_spot r)) (list_spot a) × (length r.walk.left + suc (length a.walk.left) < length s.region.left)
+HopMoves S s r (hop_turn.Fails e) = Unit {0}
 
--- what opened lies in this room, each in the one that waits for it
-abbrev pub OpensIn : Shape → Room → Turn → Type 0
-OpensIn S r (turn.Opens f t) = IsIn S r (frame_spot f) × IsIn S (room_in (frame_spot f)) (open_spot t)
-OpensIn S r (turn.OpensTwo f g t) = IsIn S r (frame_spot f) × IsIn S (room_in (frame_spot f)) (frame_spot g) × IsIn S (room_in (frame_spot g)) (open_spot t)
-OpensIn S r (turn.Ends v) = ⊥
-OpensIn S r (turn.Fails e) = ⊥
+abbrev pub HopsMove : Shape → Spot → HopsRegion → HopsTurn → Type 0
+HopsMove S s r hops_turn.Ends = Unit {0}
+HopsMove S s r (hops_turn.Opens h a p) = Advances s (hops_spot r) × IsIn S (room_in (hops_spot r)) (list_spot a) × IsIn S (room_in (list_spot a)) (opening_spot S a p)
+HopsMove S s r (hops_turn.Fails e) = Unit {0}
 
-abbrev pub Opens : Turn → Type 0
-Opens (turn.Opens f t) = Unit {0}
-Opens (turn.OpensTwo f g t) = Unit {0}
-Opens (turn.Ends v) = ⊥
-Opens (turn.Fails e) = ⊥
+-- what comes next stands where this region does, or lies in it, and no more than so much is left
+abbrev pub NextMoves : Shape → Spot → ℕ → Result Next ListError → Type 0
+NextMoves S s most (Ok (next.Opens f r)) = (frame_spot f ≡ s) × Holds S f × IsIn S (frame_room f) (list_spot r) × (next_work (next.Opens f r) ≤ most)
+NextMoves S s most (Ok (next.Goes r)) = (list_spot r ≡ s) × (next_work (next.Goes r) ≤ most)
+NextMoves S s most (Err e) = Unit {0}
 
--- how many regions wait then
-abbrev pub frames_in : Turn → ℕ
-frames_in (turn.Opens f t) = 1
-frames_in (turn.OpensTwo f g t) = 2
-frames_in (turn.Ends v) = 0
-frames_in (turn.Fails e) = 0
+-- a region of attributes lies in those that wait for it
+pub record LiesUnder (S : Shape) (f : Frame) (r : ListRegion) : Type 0 where
+  pub limits : IsWithinLimits S (frame_spot f)
+  pub holds : Holds S f
+  pub inside : IsIn S (frame_room f) (list_spot r)
 
--- they stand behind the others, and the region that opened is the one that is read
-abbrev pub PutsOn : List Frame → Turn → List Frame → Open → Type 0
-PutsOn fs (turn.Opens f t) gs top = (gs ≡ fs ++ f ∷ []) × (top ≡ t)
-PutsOn fs (turn.OpensTwo f g t) gs top = (gs ≡ (fs ++ f ∷ []) ++ g ∷ []) × (top ≡ t)
-PutsOn fs (turn.Ends v) gs top = ⊥
-PutsOn fs (turn.Fails e) gs top = ⊥
-
--- a turn keeps the regions in one another, and less is left
-abbrev pub Moves : Shape → Spot → Turn → Type 0
-Moves S s (turn.Opens f t) = Advances s (frame_spot f) × IsIn S (room_in (frame_spot f)) (open_spot t) × (length (frame_spot f).region.left + suc (length (open_spot t).region.left) < length s.region.left)
-Moves S s (turn.OpensTwo f g t) = (s.sort ≡ hop_head) × Advances s (frame_spot f) × IsIn S (room_in (frame_spot f)) (frame_spot g) × IsIn S (room_in (frame_spot g)) (open_spot t) × (length (frame_spot f).region.left + suc (length (frame_spot g).region.left) + suc (length (open_spot t).region.left) < length s.region.left)
-Moves S s (turn.Ends v) = Closes s.sort (value_view v)
-Moves S s (turn.Fails e) = Unit {0}
+-- the frame is on the stack where there is one, and this region is read next
+abbrev pub PutsOn : List Frame → Next → List Frame → ListRegion → Type 0
+PutsOn fs (next.Opens f r) gs top = (gs ≡ fs ++ f ∷ []) × (top ≡ r)
+PutsOn fs (next.Goes r) gs top = (gs ≡ fs) × (top ≡ r)
 
 -- behind an item with this payload at this place
 pub record Passes (s t : Spot) (place : ℕ) (payload : List ℕ) : Type 0 where

@@ -9,7 +9,7 @@ use std::fmt;
 use std::marker::Model;
 
 /// How many bytes lie in the value itself.
-const INLINE: usize = 23;
+pub(crate) const INLINE: usize = 23;
 
 /// Bytes, of which up to 23 lie in the value itself, so that numbers, addresses and short names take
 /// no memory.
@@ -43,20 +43,30 @@ impl Payload {
         ensures value { IfOk result (λ p. p ≡ bytes.now) }
         ensures inline { length bytes.now ≤ INLINE → IsOk result }
     {
-        let len = bytes.len();
-        let store = if len <= INLINE {
-            let mut buffer = [0; INLINE];
-            if len == 4 {
-                // Most payloads are numbers or addresses of four bytes: one store.
-                buffer[..4].copy_from_slice(bytes);
-            } else {
-                buffer[..len].copy_from_slice(bytes);
-            }
-            Store::Inline(len as u8, buffer)
+        if bytes.len() <= INLINE {
+            Ok(Payload::short(bytes))
         } else {
-            Store::Heap(Vec::from_slice(alloc, bytes)?)
-        };
-        Ok(Payload { store })
+            let store = Store::Heap(Vec::from_slice(alloc, bytes)?);
+            Ok(Payload { store })
+        }
+    }
+
+    /// A copy of at most 23 bytes, which takes no memory.
+    #[inline(always)]
+    pub(crate) fn short(bytes: &[u8]) -> Payload
+        requires { length bytes.now ≤ INLINE }
+        ensures { result ≡ bytes.now }
+    {
+        let len = bytes.len();
+        let mut buffer = [0; INLINE];
+        if len == 4 {
+            // Most payloads are numbers or addresses of four bytes: one store.
+            buffer[..4].copy_from_slice(bytes);
+        } else {
+            buffer[..len].copy_from_slice(bytes);
+        }
+        let store = Store::Inline(len as u8, buffer);
+        Payload { store }
     }
 
     /// The bytes of a vector, where they stay. It takes no memory.

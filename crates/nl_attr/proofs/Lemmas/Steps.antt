@@ -1,5 +1,5 @@
 -- What one turn of an open region does to the outcome.
-use Rattle.std.proofs.Common.{◌≡◌, ◌≢◌, ℕ, suc, ◌+◌, ◌<◌, ◌≤◌, List, [], ◌∷◌, ◌++◌, length, Option, Some, None, Result, Ok, Err, refl, sym, ap, subst, ◌∙◌, arith, add_assoc, ℤ}
+use Rattle.std.proofs.Common.{◌≡◌, ◌≢◌, ℕ, suc, ◌+◌, ◌<◌, ◌≤◌, List, [], ◌∷◌, ◌++◌, length, Option, Some, None, Result, Ok, Err, refl, sym, ap, subst, ◌∙◌, arith, add_assoc}
 use Rattle.nl_attr.specs.declared.fault.Reason.{Reason}
 use Rattle.nl_attr.specs.declared.fault.Fault.{Fault}
 use Rattle.nl_attr.specs.declared.walk.attrs.Part.{Part}
@@ -11,7 +11,7 @@ use Rattle.nl_attr.specs.Numbers.{span_of}
 use Rattle.nl_attr.specs.Walk.{Region, broken_length, IsPart, IsHopPart, after}
 use Rattle.nl_attr.specs.Heads.{Sort, attr_head, hop_head, broken_container}
 use Rattle.nl_attr.specs.Reading.{Outcome, and_then, map_value, more_visits, counted, checked, items_at, items_of_region, hops_of_region, value_at}
-use Rattle.nl_attr.specs.Tree.{Val, list, hops, Items, item, HopItems, hop, holds_of}
+use Rattle.nl_attr.specs.Tree.{Val, Items, item, HopItems, hop, holds_of}
 use Rattle.nl_attr.specs.View.{Front, HopFront, items_of, hops_of}
 use Rattle.nl_attr.specs.Open.{before, Spot, Passes, IsIn, IsWithinLimits, spot_of, room_in, levels_in}
 use Rattle.nl_attr.proofs.Lemmas.Reading.{map_then, and_then_both, items_cut, hops_cut, container_counts}
@@ -19,27 +19,27 @@ use Rattle.nl_attr.proofs.Lemmas.Loop.{before_push, items_before, hops_before, r
 use Rattle.nl_attr.proofs.Lemmas.Turns.{Turns}
 
 -- an item was collected
-pub collected : {A : Type 0} (make : A → Val) (xs ys : List (A → A)) (f : A → A) (o : Outcome A) → ys ≡ xs ++ f ∷ [] → map_value (λ is. make (before ys is)) o ≡ map_value (λ is. make (before xs (f is))) o
-collected make xs ys f (Ok x, v) e = ap (λ y. (Ok (make y), v)) (ap (λ zs. before zs x) e ∙ before_push xs f x)
-collected make xs ys f (Err d, v) e = refl
+pub collected : {A : Type 0} (xs ys : List (A → A)) (f : A → A) (o : Outcome A) → ys ≡ xs ++ f ∷ [] → map_value (before ys) o ≡ map_value (λ is. before xs (f is)) o
+collected xs ys f (Ok x, v) e = ap (λ y. (Ok y, v)) (ap (λ zs. before zs x) e ∙ before_push xs f x)
+collected xs ys f (Err d, v) e = refl
 
 plus_zero : {A : Type 0} (x : Result A Fault) (n k : ℕ) → k ≡ 0 → ◌≡◌ {A = Outcome A} (x, n + k) (x, n)
 plus_zero x n k e = ap (λ (m : ℕ). (x, m)) (omega arith)
 
 -- nothing is left
-pub list_done : (S : Shape) (ctx : Ctx) (l place : ℕ) (left : List ℕ) (fs : List Front) (n : ℕ) → left ≡ [] → more_visits n (map_value (λ is. list (before fs is)) (items_of_region S ctx l place left)) ≡ (Ok (list (items_of fs)), n)
+pub list_done : (S : Shape) (ctx : Ctx) (l place : ℕ) (left : List ℕ) (fs : List Front) (n : ℕ) → left ≡ [] → more_visits n (map_value (before fs) (items_of_region S ctx l place left)) ≡ (Ok (items_of fs), n)
 unfolding items_at
-list_done S ctx l place left fs n empty = rw empty (ap (λ (is : Items). (Ok (list is), n + 0)) (items_before fs) ∙ plus_zero (Ok (list (items_of fs))) n 0 refl)
+list_done S ctx l place left fs n empty = rw empty (ap (λ (is : Items). (Ok is, n + 0)) (items_before fs) ∙ plus_zero (Ok (items_of fs)) n 0 refl)
 
-pub hops_done : (S : Shape) (l place : ℕ) (left : List ℕ) (fs : List HopFront) (n : ℕ) → left ≡ [] → more_visits n (map_value (λ hs. hops (before fs hs)) (hops_of_region S l place left)) ≡ (Ok (hops (hops_of fs)), n)
+pub hops_done : (S : Shape) (l place : ℕ) (left : List ℕ) (fs : List HopFront) (n : ℕ) → left ≡ [] → more_visits n (map_value (before fs) (hops_of_region S l place left)) ≡ (Ok (hops_of fs), n)
 unfolding items_at
-hops_done S l place left fs n empty = rw empty (ap (λ (hs : HopItems). (Ok (hops hs), n + 0)) (hops_before fs) ∙ plus_zero (Ok (hops (hops_of fs))) n 0 refl)
+hops_done S l place left fs n empty = rw empty (ap (λ (hs : HopItems). (Ok hs, n + 0)) (hops_before fs) ∙ plus_zero (Ok (hops_of fs)) n 0 refl)
 
 -- a head whose length is wrong
-pub list_cut : (S : Shape) (ctx : Ctx) (l place : ℕ) (left : List ℕ) (make : Items → Val) (t : Reason) (n : ℕ) → left ≢ [] → broken_length S.order 4 2 left ≡ Some t → more_visits n (map_value make (items_of_region S ctx l place left)) ≡ (Err (record { place = place; reason = t }), n)
+pub list_cut : (S : Shape) (ctx : Ctx) (l place : ℕ) (left : List ℕ) (make : Items → Items) (t : Reason) (n : ℕ) → left ≢ [] → broken_length S.order 4 2 left ≡ Some t → more_visits n (map_value make (items_of_region S ctx l place left)) ≡ (Err (record { place = place; reason = t }), n)
 list_cut S ctx l place left make t n full e = ap (λ o. more_visits n (map_value make o)) (items_cut S ctx l place left t full e) ∙ plus_zero (Err (record { place = place; reason = t })) n 0 refl
 
-pub hops_are_cut : (S : Shape) (l place : ℕ) (left : List ℕ) (make : HopItems → Val) (t : Reason) (n : ℕ) → left ≢ [] → broken_length S.order 8 2 left ≡ Some t → more_visits n (map_value make (hops_of_region S l place left)) ≡ (Err (record { place = place; reason = t }), n)
+pub hops_are_cut : (S : Shape) (l place : ℕ) (left : List ℕ) (make : HopItems → HopItems) (t : Reason) (n : ℕ) → left ≢ [] → broken_length S.order 8 2 left ≡ Some t → more_visits n (map_value make (hops_of_region S l place left)) ≡ (Err (record { place = place; reason = t }), n)
 hops_are_cut S l place left make t n full e = ap (λ o. more_visits n (map_value make o)) (hops_cut S l place left t full e) ∙ plus_zero (Err (record { place = place; reason = t })) n 0 refl
 
 map_after : {A B C : Type 0} (f : B → C) (o : Outcome A) (g : A → Outcome B) → map_value f (and_then o g) ≡ and_then o (λ x. map_value f (g x))
@@ -57,7 +57,7 @@ pub zero_more : {A : Type 0} (o : Outcome A) → more_visits 0 o ≡ o
 zero_more o = ap (λ (n : ℕ). (o.0, n)) (omega arith)
 
 -- a container that breaks a rule
-pub list_breaks : (S : Shape) (ctx : Ctx) (l base : ℕ) (p : Part) (r : Region) (make : Items → Val) (t : Reason) (n : ℕ) → r.order ≡ S.order → broken_length r.order 4 2 r.left ≡ None → IsPart p r → broken_container S l (holds_of ctx p.number p.flags) (length p.payload.now + 4) ≡ Some t
+pub list_breaks : (S : Shape) (ctx : Ctx) (l base : ℕ) (p : Part) (r : Region) (make : Items → Items) (t : Reason) (n : ℕ) → r.order ≡ S.order → broken_length r.order 4 2 r.left ≡ None → IsPart p r → broken_container S l (holds_of ctx p.number p.flags) (length p.payload.now + 4) ≡ Some t
     → more_visits n (map_value make (rest_of S ctx l base r)) ≡ (Err (record { place = base + p.place; reason = t }), n + span_of r.order 2 r.left)
 list_breaks S ctx l base p r make t n o e is bad =
     let rest = rest_of S ctx l base (after r) in
@@ -71,13 +71,13 @@ list_breaks S ctx l base p r make t n o e is bad =
 
 -- an attribute whose container is sound: its payload is read next, and then the region goes on
 pub list_opens : (S : Shape) (ctx : Ctx) (l base : ℕ) (p : Part) (r s : Region) (front : List Front) (n : ℕ) → r.order ≡ S.order → broken_length r.order 4 2 r.left ≡ None → IsPart p r → s ≡ after r → broken_container S l (holds_of ctx p.number p.flags) (length p.payload.now + 4) ≡ None
-    → more_visits n (map_value (λ is. list (before front is)) (rest_of S ctx l base r))
-    ≡ more_visits (n + span_of r.order 2 r.left) (and_then (value_at S (holds_of ctx p.number p.flags) l (base + p.place + 4) p.payload.now) (λ v. map_value (λ is. list (before front (item p.number p.flags v is))) (rest_of S ctx l base s)))
+    → more_visits n (map_value (before front) (rest_of S ctx l base r))
+    ≡ more_visits (n + span_of r.order 2 r.left) (and_then (value_at S (holds_of ctx p.number p.flags) l (base + p.place + 4) p.payload.now) (λ v. map_value (λ is. before front (item p.number p.flags v is)) (rest_of S ctx l base s)))
 list_opens S ctx l base p r s front n o e is next sound =
     let V = value_at S (holds_of ctx p.number p.flags) l (base + p.place + 4) p.payload.now in
     let rest = rest_of S ctx l base (after r) in
     let mk : Val → Items → Items = λ v more. item p.number p.flags v more in
-    let make : Items → Val = λ is. list (before front is) in
+    let make : Items → Items = before front in
     ap (λ x. more_visits n (map_value make x)) (part_step S ctx l base p r o e is)
     ∙ ap (more_visits n) (map_more make (span_of r.order 2 r.left) _)
     ∙ more_more n (span_of r.order 2 r.left) _
@@ -90,26 +90,21 @@ list_opens S ctx l base p r s front n o e is next sound =
     ∙ ap (λ (x : Region). more_visits (n + span_of r.order 2 r.left) (and_then V (λ v. map_value (λ is. make (mk v is)) (rest_of S ctx l base x)))) (sym next)
 
 -- the attributes of a next hop are read next, and then the region goes on
-pub hops_open : (S : Shape) (l base : ℕ) (p : HopPart) (r s : Region) (front : List HopFront) (index : ℤ) (n : ℕ) (inner : Outcome Val) (goes : Val → Outcome Val) → r.order ≡ S.order → broken_length r.order 8 2 r.left ≡ None → IsHopPart p r → s ≡ after r → index ≡ p.ifindex
-    → inner ≡ map_value list (items_of_region S Route (l + 1) (base + p.place + 8) p.rest.now)
-    → ((is : Items) → goes (list is) ≡ map_value (λ hs. hops (before front (hop p.flags p.hops index is hs))) (hops_rest S l base s))
-    → more_visits n (map_value (λ hs. hops (before front hs)) (hops_rest S l base r)) ≡ more_visits (n + span_of r.order 2 r.left) (and_then inner goes)
-hops_open S l base p r s front index n inner goes o e is next same gave plugs =
+pub hops_open : (S : Shape) (l base : ℕ) (p : HopPart) (r s : Region) (front : List HopFront) (n : ℕ) → r.order ≡ S.order → broken_length r.order 8 2 r.left ≡ None → IsHopPart p r → s ≡ after r
+    → more_visits n (map_value (before front) (hops_rest S l base r))
+    ≡ more_visits (n + span_of r.order 2 r.left) (and_then (items_of_region S Route (l + 1) (base + p.place + 8) p.rest.now) (λ is. map_value (λ hs. before front (hop p.flags p.hops p.ifindex is hs)) (hops_rest S l base s)))
+hops_open S l base p r s front n o e is next =
     let I = items_of_region S Route (l + 1) (base + p.place + 8) p.rest.now in
     let rest = hops_rest S l base (after r) in
     let mk : Items → HopItems → HopItems = λ is hs. hop p.flags p.hops p.ifindex is hs in
-    let make : HopItems → Val = λ hs. hops (before front hs) in
+    let make : HopItems → HopItems = before front in
     ap (λ x. more_visits n (map_value make x)) (hop_step S l base p r o e is)
     ∙ ap (more_visits n) (map_more make (span_of r.order 2 r.left) _)
     ∙ more_more n (span_of r.order 2 r.left) _
     ∙ ap (more_visits (n + span_of r.order 2 r.left)) (
     map_after make I (λ is. map_value (mk is) rest)
-    ∙ and_then_both I I _ (λ is. goes (list is)) refl (λ is. map_both make (mk is) rest
-    ∙ ap (λ (x : Region). map_value (λ hs. make (mk is hs)) (hops_rest S l base x)) (sym next)
-    ∙ ap (λ (i : ℤ). map_value (λ hs. make (hop p.flags p.hops i is hs)) (hops_rest S l base s)) (sym same)
-    ∙ sym (plugs is))
-    ∙ sym (map_then list I goes)
-    ∙ ap (λ o. and_then o goes) (sym gave))
+    ∙ and_then_both I I _ _ refl (λ is. map_both make (mk is) rest))
+    ∙ ap (λ (x : Region). more_visits (n + span_of r.order 2 r.left) (and_then I (λ is. map_value (λ hs. make (mk is hs)) (hops_rest S l base x)))) (sym next)
 
 -- where the region stands then
 pub passes : (sort : Sort) (h base level : ℕ) (r s : Region) (payload : List ℕ) (place : ℕ) → Turns h r s payload → 2 ≤ h → place ≡ base + r.place + h
@@ -121,16 +116,15 @@ passes sort h base level r s payload place t two is = record {
 }
 
 -- the region of a next hop lies in it
-pub hop_inner : (S : Shape) (s t i : Spot) (place : ℕ) (payload : List ℕ) → s.sort ≡ hop_head → t.sort ≡ hop_head → IsWithinLimits S s → Passes s t place payload → i ≡ spot_of S attr_head place (s.level + 1) payload
+pub hop_inner : (S : Shape) (s t i : Spot) (place : ℕ) (payload : List ℕ) → s.sort ≡ hop_head → IsWithinLimits S s → Passes s t place payload → i ≡ spot_of S attr_head place (s.level + 1) payload
     → IsIn S (room_in t) i × (length t.region.left + suc (length i.region.left) < length s.region.left)
-hop_inner S s t i place payload kind-s kind w p is = rw is (
+hop_inner S s t i place payload kind w p is = rw is (
   record {
-    sort = rw kind tt;
     level = ap (λ (n : ℕ). n + 1) (sym p.goes.level);
     inside = omega (arith, p.inside);
     limits = record {
       order = refl;
-      level = let l : s.level + 1 ≤ S.depth = subst (λ (k : Sort). s.level + levels_in k ≤ S.depth) kind-s w.level in omega arith;
+      level = let l : s.level + 1 ≤ S.depth = subst (λ (k : Sort). s.level + levels_in k ≤ S.depth) kind w.level in omega arith;
       size = omega (arith, w.size, p.goes.end, p.inside, p.less);
       place = omega (arith, w.place, p.goes.end, p.goes.base, p.inside);
     };

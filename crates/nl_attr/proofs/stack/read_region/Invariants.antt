@@ -1,13 +1,13 @@
-use Rattle.std.proofs.Common.{◌+◌, [], length}
-use Rattle.nl_attr.specs.Tree.{list}
-use Rattle.nl_attr.specs.Reading.{map_value, items_of_region}
-use Rattle.nl_attr.specs.Open.{open_spot, list_room}
-use Rattle.nl_attr.proofs.Lemmas.Nested.{IsReading}
+use Rattle.std.proofs.Common.{length}
+use Rattle.nl_attr.specs.Reading.{items_of_region}
+use Rattle.nl_attr.specs.Open.{list_rest, list_spot, spot_of}
+use Rattle.nl_attr.specs.Heads.{attr_head}
+use Rattle.nl_attr.proofs.Lemmas.Going.{IsGoing}
 use Rattle.nl_attr.proofs.stack.read_region.Given as goal
 
--- what is left to do gives the whole, and no other region is open
+-- what was collected and what is left give the region
 abbrev pub invariant-items : goal.invariant-items
-invariant-items l = IsReading l.shape (list_room l.level (l.base + length l.bytes)) (map_value list (items_of_region l.shape l.fn.ctx l.level l.base l.bytes)) l.visits [] l.top
+invariant-items l = IsGoing l.shape 0 (items_of_region l.shape l.fn.ctx l.level l.base l.bytes) (spot_of l.shape attr_head l.base l.level l.bytes) l.visits (list_rest l.shape l.region) (list_spot l.region)
 
 abbrev pub decreases-items : goal.decreases-items
-decreases-items l = length (open_spot l.top).region.left
+decreases-items l = length l.region.walk.left

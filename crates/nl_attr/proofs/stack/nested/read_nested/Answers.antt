@@ -1,0 +1,103 @@
+use Rattle.std.proofs.Common.{◌≡◌, ◌+◌, suc, List, [], ◌∷◌, ◌++◌, length, arith, rules, ap, subst, length-append}
+use Rattle.std.specs.Option.{option_to_list}
+use Rattle.std.specs.Global.{Vec}
+use Rattle.nl_attr.specs.declared.tree.Attr.{Attr}
+use Rattle.nl_attr.specs.declared.stack.nested.Frame.{Frame}
+use Rattle.nl_attr.specs.View.{attrs_view}
+use Rattle.nl_attr.specs.Open.{opening_rest, list_spot, PutsOn}
+use Rattle.nl_attr.proofs.Lemmas.Nested.{within, has_room, is_low, puts, between_room, fails_told, fails_visits, opens, ends, ends_all, still, nested_begins, next_moves_work, work_closes, work_opens}
+use Rattle.nl_attr.proofs.stack.nested.read_nested.Goals as goal
+
+pub regions-init : goal.regions-init
+regions-init c =
+    let S = c.args.shape in
+    let one : c.push.new.self.items ≡ c.args.outermost ∷ [] = search rules in
+    let p = subst (λ (hs : List Frame). PutsOn hs c.in-Ok.next c.put_on-top.new.stack.items c.put_on-top.result) one c.put_on-top.ensures in
+    puts c.open.new.visits (suc (length c.args.region.walk.left) + suc (length c.args.opening.payload.now)) c.in-Ok.next c.put_on-top.new.stack.items c.put_on-top.result
+    (nested_begins S c.args.visits.now c.args.outermost c.args.region (opening_rest S c.args.region c.args.opening) c.requires.lies) c.in-Ok.ensures.goes c.in-Ok.ensures.moves p
+
+pub read_attrs-requires-clause-limits : goal.read_attrs-requires-clause-limits
+read_attrs-requires-clause-limits c = within c.regions.invariant
+
+pub read_attrs-requires-clause-room : goal.read_attrs-requires-clause-room
+read_attrs-requires-clause-room c = omega (arith, has_room c.regions.invariant, c.requires.room)
+
+pub returns-in-None-clause-told : goal.returns-in-None-clause-told
+returns-in-None-clause-told c =
+    let none : c.regions.stack.items ≡ [] = search rules in
+    ends_all c.read_attrs.new.visits (attrs_view c.read_attrs.new.region.list.items) c.regions.invariant none c.in-Ends.ensures.goes
+
+pub returns-in-None-clause-bound : goal.returns-in-None-clause-bound
+returns-in-None-clause-bound c = omega (arith, has_room c.regions.invariant, ap (λ o. o.1) c.in-Ends.ensures.goes)
+
+pub close-requires-clause-holds : goal.close-requires-clause-holds
+close-requires-clause-holds c =
+    (ends c.read_attrs.new.visits (attrs_view c.read_attrs.new.region.list.items) c.pop.new.self.items c.in-Some.frame c.regions.invariant (subst (λ x. c.regions.stack.items ≡ c.pop.new.self.items ++ option_to_list x) c.in-Some.is c.pop.ensures.items) c.in-Ends.ensures.goes).1
+
+pub close-requires-clause-room : goal.close-requires-clause-room
+close-requires-clause-room c =
+    let b = ends c.read_attrs.new.visits (attrs_view c.read_attrs.new.region.list.items) c.pop.new.self.items c.in-Some.frame c.regions.invariant (subst (λ x. c.regions.stack.items ≡ c.pop.new.self.items ++ option_to_list x) c.in-Some.is c.pop.ensures.items) c.in-Ends.ensures.goes in
+    omega (arith, between_room b.0, c.requires.room)
+
+pub put_on-top-requires-in-Ok-close : goal.put_on-top-requires-in-Ok-close
+put_on-top-requires-in-Ok-close c =
+    let low = is_low c.regions.invariant c.requires.limit in
+    let fewer = ap length (subst (λ x. c.regions.stack.items ≡ c.pop.new.self.items ++ option_to_list x) c.in-Some.is c.pop.ensures.items) in
+    omega (arith, low, fewer, length-append c.pop.new.self.items (c.in-Some.frame ∷ []))
+
+pub regions-smaller-in-Ok-close : goal.regions-smaller-in-Ok-close
+regions-smaller-in-Ok-close c =
+    work_closes c.regions.stack.items c.pop.new.self.items c.regions.top c.in-Some.frame c.in-Ok-close.next c.put_on-top-in-Ok-close.new.stack.items c.put_on-top-in-Ok-close.result (subst (λ x. c.regions.stack.items ≡ c.pop.new.self.items ++ option_to_list x) c.in-Some.is c.pop.ensures.items) c.put_on-top-in-Ok-close.ensures (next_moves_work _ _ _ c.in-Ok-close.next c.in-Ok-close.ensures.moves)
+
+pub regions-preserved-in-Ok-close : goal.regions-preserved-in-Ok-close
+regions-preserved-in-Ok-close c =
+    let b = ends c.read_attrs.new.visits (attrs_view c.read_attrs.new.region.list.items) c.pop.new.self.items c.in-Some.frame c.regions.invariant (subst (λ x. c.regions.stack.items ≡ c.pop.new.self.items ++ option_to_list x) c.in-Some.is c.pop.ensures.items) c.in-Ends.ensures.goes in
+    puts c.close.new.visits _ c.in-Ok-close.next c.put_on-top-in-Ok-close.new.stack.items c.put_on-top-in-Ok-close.result b.0 c.in-Ok-close.ensures.goes c.in-Ok-close.ensures.moves c.put_on-top-in-Ok-close.ensures
+
+pub returns-in-Err-close-clause-told : goal.returns-in-Err-close-clause-told
+returns-in-Err-close-clause-told c =
+    let b = ends c.read_attrs.new.visits (attrs_view c.read_attrs.new.region.list.items) c.pop.new.self.items c.in-Some.frame c.regions.invariant (subst (λ x. c.regions.stack.items ≡ c.pop.new.self.items ++ option_to_list x) c.in-Some.is c.pop.ensures.items) c.in-Ends.ensures.goes in
+    fails_told (λ (v : Vec Attr). attrs_view v.items) c.close.new.visits c.in-Err-close.error b.0 c.in-Err-close.ensures.goes
+
+pub returns-in-Err-close-clause-bound : goal.returns-in-Err-close-clause-bound
+returns-in-Err-close-clause-bound c =
+    let b = ends c.read_attrs.new.visits (attrs_view c.read_attrs.new.region.list.items) c.pop.new.self.items c.in-Some.frame c.regions.invariant (subst (λ x. c.regions.stack.items ≡ c.pop.new.self.items ++ option_to_list x) c.in-Some.is c.pop.ensures.items) c.in-Ends.ensures.goes in
+    fails_visits c.close.new.visits c.in-Err-close.error b.0 c.in-Err-close.ensures.goes
+
+pub open-requires-in-Opens-clause-room : goal.open-requires-in-Opens-clause-room
+open-requires-in-Opens-clause-room c =
+    let r = c.read_attrs.new.region in
+    let b = opens c.read_attrs.new.visits (opening_rest c.args.shape r c.in-Opens.opening) (list_spot r) c.regions.invariant c.in-Opens.ensures.goes c.in-Opens.ensures.moves.0 in
+    omega (arith, between_room b, c.requires.room)
+
+pub put_on-top-requires-in-Ok-open : goal.put_on-top-requires-in-Ok-open
+put_on-top-requires-in-Ok-open c = is_low c.regions.invariant c.requires.limit
+
+pub regions-smaller : goal.regions-smaller
+regions-smaller c =
+    work_opens c.regions.stack.items c.regions.top (length c.read_attrs.new.region.walk.left) (length c.in-Opens.opening.payload.now) c.in-Ok-open.next c.put_on-top-in-Ok-open.new.stack.items c.put_on-top-in-Ok-open.result c.in-Opens.ensures.moves.2 c.put_on-top-in-Ok-open.ensures (next_moves_work _ _ _ c.in-Ok-open.next c.in-Ok-open.ensures.moves)
+
+pub regions-preserved : goal.regions-preserved
+regions-preserved c =
+    let r = c.read_attrs.new.region in
+    let b = opens c.read_attrs.new.visits (opening_rest c.args.shape r c.in-Opens.opening) (list_spot r) c.regions.invariant c.in-Opens.ensures.goes c.in-Opens.ensures.moves.0 in
+    puts c.open-in-Opens.new.visits _ c.in-Ok-open.next c.put_on-top-in-Ok-open.new.stack.items c.put_on-top-in-Ok-open.result b c.in-Ok-open.ensures.goes c.in-Ok-open.ensures.moves c.put_on-top-in-Ok-open.ensures
+
+pub returns-in-Err-open-clause-told : goal.returns-in-Err-open-clause-told
+returns-in-Err-open-clause-told c =
+    let r = c.read_attrs.new.region in
+    let b = opens c.read_attrs.new.visits (opening_rest c.args.shape r c.in-Opens.opening) (list_spot r) c.regions.invariant c.in-Opens.ensures.goes c.in-Opens.ensures.moves.0 in
+    fails_told (λ (v : Vec Attr). attrs_view v.items) c.open-in-Opens.new.visits c.in-Err-open.error b c.in-Err-open.ensures.goes
+
+pub returns-in-Err-open-clause-bound : goal.returns-in-Err-open-clause-bound
+returns-in-Err-open-clause-bound c =
+    let r = c.read_attrs.new.region in
+    let b = opens c.read_attrs.new.visits (opening_rest c.args.shape r c.in-Opens.opening) (list_spot r) c.regions.invariant c.in-Opens.ensures.goes c.in-Opens.ensures.moves.0 in
+    fails_visits c.open-in-Opens.new.visits c.in-Err-open.error b c.in-Err-open.ensures.goes
+
+pub returns-in-Fails-clause-told : goal.returns-in-Fails-clause-told
+returns-in-Fails-clause-told c =
+    fails_told (λ (v : Vec Attr). attrs_view v.items) c.read_attrs.new.visits c.in-Fails.error (still c.regions.invariant) c.in-Fails.ensures.goes
+
+pub returns-in-Fails-clause-bound : goal.returns-in-Fails-clause-bound
+returns-in-Fails-clause-bound c = fails_visits c.read_attrs.new.visits c.in-Fails.error (still c.regions.invariant) c.in-Fails.ensures.goes

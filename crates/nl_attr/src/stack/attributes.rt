@@ -1,0 +1,119 @@
+//! Reading a region of attributes where it stands.
+
+ghost use Rattle.std.specs.Prelude.{◌≡◌, ◌≤◌, ◌<◌, ◌+◌, length};
+ghost use Rattle.nl_attr.specs.Tree.{holds_of};
+ghost use Rattle.nl_attr.specs.Open.{content_in, HasInner, TurnsAt, list_rest, list_spot, Goes, Moves, IsWithinLimits};
+
+use crate::fault::{Fault, ListError};
+use crate::limits::Shape;
+use crate::stack::regions::{ListRegion, container_fault, keep_bytes, layout};
+use crate::tree::{AttrFlags, Content, Ctx, holds};
+use crate::walk::Part;
+use std::alloc::{AllocError, Global};
+
+/// What the payload of an attribute is, where it is a region.
+#[derive(Clone, Copy)]
+pub(super) enum Inner {
+    /// Attributes of this context.
+    List(Ctx),
+    /// Next hops.
+    Hops,
+}
+
+/// An attribute whose payload is a region, of which nothing is read.
+#[derive(Clone, Copy)]
+pub(super) struct Opening<'a> {
+    pub(super) number: u16,
+    pub(super) flags: AttrFlags,
+    /// The place of the payload.
+    pub(super) place: u32,
+    pub(super) payload: &'a [u8],
+    pub(super) inner: Inner,
+}
+
+/// Where reading a region of attributes leads.
+#[derive(Drop)]
+pub(super) enum Turn<'a> {
+    /// All of them are collected.
+    Ends,
+    /// A region opens in it.
+    Opens(Opening<'a>),
+    Fails(ListError),
+}
+
+impl Inner {
+    /// What it is among all that attributes hold.
+    fn content(self) -> Content
+        ensures { result ≡ content_in self }
+    {
+        match self {
+            Inner::List(ctx) => Content::List(ctx),
+            Inner::Hops => Content::Hops,
+        }
+    }
+}
+
+/// The region that an attribute holds, where it holds one.
+#[inline(always)]
+fn inner_of(ctx: Ctx, number: u16, flags: AttrFlags) -> Option<Inner>
+    ensures { HasInner (holds_of ctx number flags) result }
+{
+    match holds(ctx, number, flags) {
+        Content::Bytes => None,
+        Content::List(ctx) => Some(Inner::List(ctx)),
+        Content::Hops => Some(Inner::Hops),
+    }
+}
+
+/// The turn at an attribute that holds a region: it opens, or breaks a rule.
+fn turn_at<'a>(part: Part<'a>, inner: Inner, base: u32, level: u8, shape: Shape) -> Turn<'a>
+    requires level { level ≤ 32 }
+    requires place { base + part.place + 4 < 4294967296 }
+    requires size { length part.payload.now ≤ 1048576 }
+    ensures { TurnsAt shape level base part.entry inner result }
+{
+    let (place, payload) = (part.place, part.payload);
+    if let Some(reason) = container_fault(inner.content(), payload.len() + 4, level, shape) {
+        return Turn::Fails(layout(base, Fault { place, reason }));
+    }
+    Turn::Opens(Opening {
+        number: part.number,
+        flags: part.flags,
+        place: base + place + 4,
+        payload,
+        inner,
+    })
+}
+
+/// Reads a region of attributes up to the first that opens another region.
+#[inline(always)]
+pub(super) fn read_attrs<'a>(
+    alloc: Global,
+    region: &mut ListRegion<'a>,
+    shape: Shape,
+    visits: &mut u64,
+) -> Turn<'a>
+    requires limit { shape.depth ≤ 32 }
+    requires limits { IsWithinLimits shape (list_spot region.old) }
+    requires room { visits.old + (list_rest shape region.old).1 ≤ 34603008 }
+    ensures goes { Goes shape visits.old (list_rest shape region.old) visits.new region.new result }
+    ensures moves { Moves shape (list_spot region.old) region.new result }
+{
+    'attrs: loop {
+        let part = match region.walk.step(visits) {
+            None => return Turn::Ends,
+            Some(Err(fault)) => return Turn::Fails(layout(region.base, fault)),
+            Some(Ok(part)) => part,
+        };
+        match inner_of(region.ctx, part.number, part.flags) {
+            None => {
+                let list = &mut region.list;
+                match keep_bytes(alloc, list, part.number, part.flags, part.payload) {
+                    Ok(()) => continue 'attrs,
+                    Err(AllocError) => return Turn::Fails(ListError::Memory),
+                }
+            }
+            Some(inner) => return turn_at(part, inner, region.base, region.level, shape),
+        }
+    }
+}

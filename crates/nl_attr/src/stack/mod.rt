@@ -1,0 +1,90 @@
+//! Reading by one loop over a stack of open regions, so that nesting takes no call stack.
+
+ghost use Rattle.std.specs.Prelude.{◌≡◌, ◌≤◌, ◌+◌, ◌-◌, ◌*◌, length};
+ghost use Rattle.nl_attr.specs.Reading.{items_of_region};
+ghost use Rattle.nl_attr.specs.View.{attrs_view};
+ghost use Rattle.nl_attr.specs.Told.{Says};
+
+mod attributes;
+mod nested;
+mod next_hops;
+mod regions;
+
+use crate::fault::ListError;
+use crate::limits::Shape;
+use crate::stack::attributes::{Inner, Turn, read_attrs};
+use crate::stack::nested::{Frame, HopsWaits, ListWaits, read_nested};
+use crate::stack::next_hops::{HopsTurn, read_hops};
+pub(crate) use crate::stack::regions::container_fault;
+use crate::stack::regions::{hops_of, keep_attr, list_of};
+use crate::tree::{Attr, Ctx, Value};
+use std::alloc::Global;
+
+/// The attributes of a region. A region that opens in it is read at once, and so are the attributes of
+/// next hops; the stack is made where another opens in those: most need none.
+pub(crate) fn read_region(
+    alloc: Global,
+    bytes: &[u8],
+    base: u32,
+    ctx: Ctx,
+    level: u8,
+    shape: Shape,
+    visits: &mut u64,
+) -> Result<Vec<Attr>, ListError>
+    requires level { level ≤ shape.depth }
+    requires limit { shape.depth ≤ 32 }
+    requires none { visits.old ≡ 0 }
+    requires size { length bytes.now ≤ 1048576 }
+    requires place { base + length bytes.now ≤ 2097152 }
+    ensures told { Says (λ v. attrs_view v.items) result visits.new (items_of_region shape ctx level base bytes.now) }
+    ensures bound { visits.new ≤ (shape.depth - level + 1) * length bytes.now }
+{
+    let mut region = list_of(alloc, bytes, base, ctx, level, shape)?;
+    'items: loop {
+        let opening = match read_attrs(alloc, &mut region, shape, visits) {
+            Turn::Ends => return Ok(region.list),
+            Turn::Opens(opening) => opening,
+            Turn::Fails(error) => return Err(error),
+        };
+        let (number, flags) = (opening.number, opening.flags);
+        let (payload, place) = (opening.payload, opening.place);
+        match opening.inner {
+            Inner::List(ctx) => {
+                let mut inner = list_of(alloc, payload, place, ctx, region.level + 1, shape)?;
+                match read_attrs(alloc, &mut inner, shape, visits) {
+                    Turn::Ends => {
+                        keep_attr(&mut region.list, number, flags, Value::List(inner.list))?;
+                    }
+                    Turn::Opens(second) => {
+                        let waits = ListWaits {
+                            region,
+                            number,
+                            flags,
+                        };
+                        let frame = Frame::List(waits);
+                        return read_nested(alloc, frame, inner, second, shape, visits);
+                    }
+                    Turn::Fails(error) => return Err(error),
+                }
+            }
+            Inner::Hops => {
+                let mut hops = hops_of(alloc, payload, place, region.level + 1, shape)?;
+                match read_hops(alloc, &mut hops, shape, visits) {
+                    HopsTurn::Ends => {
+                        keep_attr(&mut region.list, number, flags, Value::Hops(hops.list))?;
+                    }
+                    HopsTurn::Opens(head, inner, second) => {
+                        let waits = ListWaits {
+                            region,
+                            number,
+                            flags,
+                        };
+                        let frame = Frame::Hops(waits, HopsWaits { region: hops, head });
+                        return read_nested(alloc, frame, inner, second, shape, visits);
+                    }
+                    HopsTurn::Fails(error) => return Err(error),
+                }
+            }
+        }
+    }
+}

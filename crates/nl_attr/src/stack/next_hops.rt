@@ -1,0 +1,95 @@
+//! Reading a region of next hops.
+
+ghost use Rattle.std.specs.Prelude.{◌≤◌, ◌+◌};
+ghost use Rattle.nl_attr.specs.Open.{hops_rest, hops_spot, HopGoes, HopMoves, HopsGo, HopsMove, IsWithinLimits};
+
+use crate::fault::ListError;
+use crate::limits::Shape;
+use crate::stack::attributes::{Opening, Turn, read_attrs};
+use crate::stack::regions::{HopHead, HopsRegion, ListRegion, keep_hop, layout, list_of};
+use crate::tree::Ctx;
+use std::alloc::{AllocError, Global};
+
+/// Where a step in a region of next hops leads.
+#[derive(Drop)]
+pub(super) enum HopTurn<'a> {
+    /// All of them are collected.
+    Ends,
+    /// The attributes of a next hop are read next.
+    Opens(HopHead, ListRegion<'a>),
+    Fails(ListError),
+}
+
+/// Takes the next hop at the front, and opens the region of its attributes.
+#[inline(always)]
+pub(super) fn next_hop<'a>(
+    alloc: Global,
+    region: &mut HopsRegion<'a>,
+    shape: Shape,
+    visits: &mut u64,
+) -> HopTurn<'a>
+    requires limit { shape.depth ≤ 32 }
+    requires limits { IsWithinLimits shape (hops_spot region.old) }
+    requires room { visits.old + (hops_rest shape region.old).1 ≤ 34603008 }
+    ensures goes { HopGoes shape visits.old (hops_rest shape region.old) visits.new region.new result }
+    ensures moves { HopMoves shape (hops_spot region.old) region.new result }
+{
+    let part = match region.walk.step(visits) {
+        None => return HopTurn::Ends,
+        Some(Err(fault)) => return HopTurn::Fails(layout(region.base, fault)),
+        Some(Ok(part)) => part,
+    };
+    let place = region.base + part.place + 8;
+    match list_of(alloc, part.rest, place, Ctx::Route, region.level + 1, shape) {
+        Ok(inner) => {
+            let head = HopHead {
+                flags: part.flags,
+                hops: part.hops,
+                ifindex: part.ifindex,
+            };
+            HopTurn::Opens(head, inner)
+        }
+        Err(AllocError) => HopTurn::Fails(ListError::Memory),
+    }
+}
+
+/// Where reading a region of next hops leads.
+#[derive(Drop)]
+pub(super) enum HopsTurn<'a> {
+    /// All of them are collected.
+    Ends,
+    /// A region opens in the attributes of a next hop.
+    Opens(HopHead, ListRegion<'a>, Opening<'a>),
+    Fails(ListError),
+}
+
+/// Reads a region of next hops up to the first in whose attributes a region opens.
+#[inline(always)]
+pub(super) fn read_hops<'a>(
+    alloc: Global,
+    region: &mut HopsRegion<'a>,
+    shape: Shape,
+    visits: &mut u64,
+) -> HopsTurn<'a>
+    requires limit { shape.depth ≤ 32 }
+    requires limits { IsWithinLimits shape (hops_spot region.old) }
+    requires room { visits.old + (hops_rest shape region.old).1 ≤ 34603008 }
+    ensures goes { HopsGo shape visits.old (hops_rest shape region.old) visits.new region.new result }
+    ensures moves { HopsMove shape (hops_spot region.old) region.new result }
+{
+    'hops: loop {
+        let (head, mut inner) = match next_hop(alloc, region, shape, visits) {
+            HopTurn::Ends => return HopsTurn::Ends,
+            HopTurn::Opens(head, inner) => (head, inner),
+            HopTurn::Fails(error) => return HopsTurn::Fails(error),
+        };
+        match read_attrs(alloc, &mut inner, shape, visits) {
+            Turn::Ends => match keep_hop(&mut region.list, head, inner.list) {
+                Ok(()) => continue 'hops,
+                Err(AllocError) => return HopsTurn::Fails(ListError::Memory),
+            },
+            Turn::Opens(opening) => return HopsTurn::Opens(head, inner, opening),
+            Turn::Fails(error) => return HopsTurn::Fails(error),
+        }
+    }
+}

@@ -1,0 +1,181 @@
+//! Open regions, and what is collected in them.
+
+ghost use Rattle.std.specs.Prelude.{◌≡◌, ◌≤◌, ◌<◌, ◌+◌, [], ◌∷◌, ◌++◌, length, map, IfOk};
+ghost use Rattle.nl_attr.specs.Heads.{broken_container, attr_head, hop_head};
+ghost use Rattle.nl_attr.specs.Reading.{items_of_region, hops_of_region};
+ghost use Rattle.nl_attr.specs.Tree.{bytes as held, item, hop};
+ghost use Rattle.nl_attr.specs.View.{attr_view, hop_view, value_view, attrs_view};
+ghost use Rattle.nl_attr.specs.Open.{list_rest, hops_rest, spot_of, list_spot, hops_spot};
+
+use crate::fault::{Fault, ListError, Reason};
+use crate::limits::Shape;
+use crate::payload::{INLINE, Payload};
+use crate::tree::{Attr, AttrFlags, Content, Ctx, Hop, Value};
+use crate::walk::{CountedAttrs, CountedHopParts};
+use std::alloc::{AllocError, Global};
+
+/// A region of attributes: its walk, where it begins, and what was collected.
+#[derive(Drop)]
+pub(super) struct ListRegion<'a> {
+    pub(super) walk: CountedAttrs<'a>,
+    pub(super) ctx: Ctx,
+    pub(super) base: u32,
+    pub(super) level: u8,
+    pub(super) list: Vec<Attr>,
+}
+
+/// A region of next hops.
+#[derive(Drop)]
+pub(super) struct HopsRegion<'a> {
+    pub(super) walk: CountedHopParts<'a>,
+    pub(super) base: u32,
+    pub(super) level: u8,
+    pub(super) list: Vec<Hop>,
+}
+
+/// A next hop without its attributes.
+#[derive(Clone, Copy)]
+pub(super) struct HopHead {
+    pub(super) flags: u8,
+    pub(super) hops: u8,
+    pub(super) ifindex: i32,
+}
+
+/// The rule that a container of so many bytes breaks.
+pub(crate) fn container_fault(
+    content: Content,
+    len: usize,
+    level: u8,
+    shape: Shape,
+) -> Option<Reason>
+    requires { level ≤ 32 }
+    ensures { result ≡ broken_container shape level content len }
+{
+    let opens = match content {
+        Content::Bytes => return None,
+        Content::List(_) => 1,
+        Content::Hops => 2,
+    };
+    if len > 65532 {
+        Some(Reason::TooLong)
+    } else if level + opens > shape.depth() {
+        Some(Reason::TooDeep)
+    } else {
+        None
+    }
+}
+
+/// A fault whose place counts from the base.
+pub(super) fn layout(base: u32, fault: Fault) -> ListError
+    requires { base + fault.place < 4294967296 }
+    ensures { result ≡ ListError.Layout (record { place = base + fault.place; reason = fault.reason }) }
+{
+    ListError::Layout(Fault {
+        place: base + fault.place,
+        reason: fault.reason,
+    })
+}
+
+/// The most items for which room is made before the first is read.
+const FIRST_ROOM: usize = 32;
+
+/// A region of attributes, of which nothing is read; with room for as many as it has where each has
+/// eight bytes.
+pub(super) fn list_of<'a>(
+    alloc: Global,
+    bytes: &'a [u8],
+    base: u32,
+    ctx: Ctx,
+    level: u8,
+    shape: Shape,
+) -> Result<ListRegion<'a>, AllocError>
+    requires { length bytes.now ≤ 1048576 }
+    ensures rest { IfOk result (λ r. list_rest shape r ≡ items_of_region shape ctx level base bytes.now) }
+    ensures spot { IfOk result (λ r. list_spot r ≡ spot_of shape attr_head base level bytes.now) }
+{
+    Ok(ListRegion {
+        walk: CountedAttrs::over(bytes, shape.order()),
+        ctx,
+        base,
+        level,
+        list: Vec::with_capacity(alloc, (bytes.len() / 8).min(FIRST_ROOM))?,
+    })
+}
+
+/// A region of next hops, of which nothing is read; with room for as many as it has where each has
+/// sixteen bytes.
+pub(super) fn hops_of<'a>(
+    alloc: Global,
+    bytes: &'a [u8],
+    base: u32,
+    level: u8,
+    shape: Shape,
+) -> Result<HopsRegion<'a>, AllocError>
+    requires { length bytes.now ≤ 1048576 }
+    ensures rest { IfOk result (λ r. hops_rest shape r ≡ hops_of_region shape level base bytes.now) }
+    ensures spot { IfOk result (λ r. hops_spot r ≡ spot_of shape hop_head base level bytes.now) }
+{
+    Ok(HopsRegion {
+        walk: CountedHopParts::over(bytes, shape.order()),
+        base,
+        level,
+        list: Vec::with_capacity(alloc, (bytes.len() / 16).min(FIRST_ROOM))?,
+    })
+}
+
+/// Adds an attribute to those that were collected.
+#[inline(always)]
+pub(super) fn keep_attr(
+    list: &mut Vec<Attr>,
+    number: u16,
+    flags: AttrFlags,
+    value: Value,
+) -> Result<(), AllocError>
+    ensures { IfOk result (λ _. map attr_view list.new.items ≡ map attr_view list.old.items ++ item number flags (value_view value) ∷ []) }
+{
+    let attr = Attr {
+        number,
+        flags,
+        value,
+    };
+    list.push(attr)?;
+    Ok(())
+}
+
+/// Adds an attribute of these bytes.
+#[inline(always)]
+pub(super) fn keep_bytes(
+    alloc: Global,
+    list: &mut Vec<Attr>,
+    number: u16,
+    flags: AttrFlags,
+    payload: &[u8],
+) -> Result<(), AllocError>
+    ensures { IfOk result (λ _. map attr_view list.new.items ≡ map attr_view list.old.items ++ item number flags (held payload.now) ∷ []) }
+{
+    if payload.len() <= INLINE {
+        keep_attr(list, number, flags, Value::Bytes(Payload::short(payload)))
+    } else {
+        let payload = Payload::from_slice(alloc, payload)?;
+        keep_attr(list, number, flags, Value::Bytes(payload))
+    }
+}
+
+/// Adds a next hop to those that were collected.
+#[inline(always)]
+pub(super) fn keep_hop(
+    list: &mut Vec<Hop>,
+    head: HopHead,
+    attrs: Vec<Attr>,
+) -> Result<(), AllocError>
+    ensures { IfOk result (λ _. map hop_view list.new.items ≡ map hop_view list.old.items ++ hop head.flags head.hops head.ifindex (attrs_view attrs.items) ∷ []) }
+{
+    let hop = Hop {
+        flags: head.flags,
+        hops: head.hops,
+        ifindex: head.ifindex,
+        attrs,
+    };
+    list.push(hop)?;
+    Ok(())
+}
