@@ -43,7 +43,8 @@ same() {
   printf '%s\n' "not so: $1" "$2"
 }
 
-stack=crates/nl_attr/src/stack.rt
+folder=crates/nl_attr/src/stack
+stack=($folder/*.rt)
 reading=crates/nl_attr/src/reading.rt
 broken=crates/nl_attr/src/broken.rt
 broken_frame=crates/nl_frame/src/broken.rt
@@ -55,13 +56,17 @@ crates/nl_attr/src/walk/counted.rt 2
 crates/nl_attr/src/walk/hops.rt 1'
 
 same 'counted walks are made where a region is opened, and for the blank of the stack' \
-  "$(counts 'Counted(Attrs|HopParts)::over')" "$stack 3"
+  "$(counts 'Counted(Attrs|HopParts)::over')" "$folder/nested.rt 1
+$folder/regions.rt 2"
 
-same 'regions are opened by those who then read them' "$(counts '\b(list_of|hops_of)\(' "$stack")" "$stack 4"
+same 'regions are opened by those who then read them' "$(counts '\b(list_of|hops_of)\(' "${stack[@]}")" \
+  "$folder/mod.rt 3
+$folder/nested.rt 2
+$folder/next_hops.rt 1"
 
 same 'a counted walk is stepped with the count of its reading' "$(lines '\.step\(' | sed 's/^[^:]*: *//')" \
-  'let part = match walk.step(visits) {
-let part = match walk.step(visits) {'
+  'let part = match region.walk.step(visits) {
+let part = match region.walk.step(visits) {'
 
 same 'only a counted walk steps a walker, and the way to a fault' \
   "$(counts '\.next\(\)' $(sources | grep '^crates/nl_attr/'))" \
@@ -86,16 +91,18 @@ crates/nl_frame/src/broken.rt 4
 crates/rtnl_cli/src/explain.rt 1'
 
 same 'the count of a reading is handed on, never made' \
-  "$(lines '\b(let|if|for|while)\b.*\bvisits\b' "$stack" "$reading" | grep -v ' match walk\.step(visits) {$')" \
+  "$(lines '\b(let|if|for|while)\b.*\bvisits\b' "${stack[@]}" "$reading" |
+    grep -vE ' match (region\.walk\.step\(|[a-z_]+\([^()]*, )visits\) \{$')" \
   "$reading:    let mut visits: u64 = 0;
 $reading:    let result = read_region(alloc, bytes, base, ctx, level, shape, &mut visits);"
 
 same 'each call that reads a region is handed the count' \
-  "$(lines '\bread_(attrs|hops|open|nested|region)\(' "$stack" | grep -vE 'fn read_|[( ]visits\)')" ''
+  "$(lines '\b(read_(attrs|hops|nested|region)|next_hop|go_on_hops|open|close)\(' "${stack[@]}" |
+    grep -vE '\bfn |[( ]visits\)')" ''
 
 same 'those who read regions look at none of their bytes' \
   "$(lines '\b(bytes|payload|rest|left|region)(\[|\.(iter|get|first|last|split|chunks|windows|copied|to_))' \
-    "$stack" "$reading")" ''
+    "${stack[@]}" "$reading")" ''
 
 same 'lengths and types of attributes and next hops are read by the walkers alone, but for a length that is told' \
   "$(counts 'read_u16\(')" \
@@ -133,7 +140,7 @@ same 'each reading calls the one below it once, and what explains a refusal read
   "$(counts '(\bread_(region|list|list_ordered|body|body_ordered|message|messages|datagram)\(|Body::read\()' |
     grep -v rtnl_bench)" \
   'crates/nl_attr/src/reading.rt 4
-crates/nl_attr/src/stack.rt 1
+crates/nl_attr/src/stack/mod.rt 1
 crates/nl_dump/src/reading.rt 1
 crates/nl_frame/src/canonical.rt 1
 crates/nl_frame/src/reading.rt 6
