@@ -59,13 +59,20 @@ impl Payload {
     {
         let len = bytes.len();
         let mut buffer = [0; INLINE];
-        if len == 4 {
-            // Most payloads are numbers or addresses of four bytes: one store.
-            buffer[..4].copy_from_slice(bytes);
-        } else {
-            buffer[..len].copy_from_slice(bytes);
-        }
+        buffer[..len].copy_from_slice(bytes);
         let store = Store::Inline(len as u8, buffer);
+        Payload { store }
+    }
+
+    /// A copy of four bytes: one store.
+    #[inline(always)]
+    pub(crate) fn four(bytes: &[u8]) -> Payload
+        requires { length bytes.now ≡ 4 }
+        ensures { result ≡ bytes.now }
+    {
+        let mut buffer = [0; INLINE];
+        buffer[..4].copy_from_slice(bytes);
+        let store = Store::Inline(4, buffer);
         Payload { store }
     }
 

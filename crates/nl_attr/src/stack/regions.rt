@@ -18,19 +18,19 @@ use std::alloc::{AllocError, Global};
 #[derive(Drop)]
 pub(super) struct ListRegion<'a> {
     pub(super) walk: CountedAttrs<'a>,
-    pub(super) ctx: Ctx,
+    pub(super) list: Vec<Attr>,
     pub(super) base: u32,
     pub(super) level: u8,
-    pub(super) list: Vec<Attr>,
+    pub(super) ctx: Ctx,
 }
 
 /// A region of next hops.
 #[derive(Drop)]
 pub(super) struct HopsRegion<'a> {
     pub(super) walk: CountedHopParts<'a>,
+    pub(super) list: Vec<Hop>,
     pub(super) base: u32,
     pub(super) level: u8,
-    pub(super) list: Vec<Hop>,
 }
 
 /// A next hop without its attributes.
@@ -142,7 +142,7 @@ pub(super) fn keep_attr(
     Ok(())
 }
 
-/// Adds an attribute of these bytes.
+/// Adds an attribute of these bytes: most are numbers or addresses of four.
 #[inline(always)]
 pub(super) fn keep_bytes(
     alloc: Global,
@@ -153,7 +153,9 @@ pub(super) fn keep_bytes(
 ) -> Result<(), AllocError>
     ensures { IfOk result (λ _. map attr_view list.new.items ≡ map attr_view list.old.items ++ item number flags (held payload.now) ∷ []) }
 {
-    if payload.len() <= INLINE {
+    if payload.len() == 4 {
+        keep_attr(list, number, flags, Value::Bytes(Payload::four(payload)))
+    } else if payload.len() <= INLINE {
         keep_attr(list, number, flags, Value::Bytes(Payload::short(payload)))
     } else {
         let payload = Payload::from_slice(alloc, payload)?;

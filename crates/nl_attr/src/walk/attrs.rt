@@ -25,9 +25,9 @@ pub struct Part<'a> {
 /// None; where no whole attribute stands at the front of what is left, the fault, and then None.
 #[derive(Debug, Drop)]
 pub struct Attrs<'a> {
-    order: Order,
     left: &'a [u8],
     place: u32,
+    order: Order,
 }
 
 impl<'a> Model for Attrs<'a> {

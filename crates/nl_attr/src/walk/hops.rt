@@ -51,9 +51,9 @@ fn hop_part(order: Order, left: &[u8], len: usize, place: u32, span: u32) -> Hop
 /// Goes over the next hops of a region, in the order of their places, and ends as `Attrs` does.
 #[derive(Debug, Drop)]
 pub struct HopParts<'a> {
-    order: Order,
     left: &'a [u8],
     place: u32,
+    order: Order,
 }
 
 impl<'a> Model for HopParts<'a> {
