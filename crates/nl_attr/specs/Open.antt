@@ -237,9 +237,3 @@ pub record LiesUnder (S : Shape) (f : Frame) (r : ListRegion) : Type 0 where
 abbrev pub PutsOn : List Frame → Next → List Frame → ListRegion → Type 0
 PutsOn fs (next.Opens f r) gs top = (gs ≡ fs ++ f ∷ []) × (top ≡ r)
 PutsOn fs (next.Goes r) gs top = (gs ≡ fs) × (top ≡ r)
-
--- behind an item with this payload at this place
-pub record Passes (s t : Spot) (place : ℕ) (payload : List ℕ) : Type 0 where
-  pub goes : Advances s t
-  pub inside : place + length payload ≤ t.base + t.region.place
-  pub less : length t.region.left + suc (length payload) < length s.region.left

@@ -20,9 +20,9 @@ use Rattle.nl_attr.specs.Heads.{broken_container}
 use Rattle.nl_attr.specs.Reading.{Outcome, and_then, map_value, more_visits, value_at}
 use Rattle.nl_attr.specs.Tree.{Val, bytes, Items, item, HopItems, holds_of}
 use Rattle.nl_attr.specs.View.{Front}
-use Rattle.nl_attr.specs.Open.{before, Goes, HopsGo, FailsAs, Spot, list_spot, hops_spot, levels_in, IsWithinLimits, Advances, Moves, HopsMove, Passes}
+use Rattle.nl_attr.specs.Open.{before, Goes, HopsGo, FailsAs, Spot, list_spot, hops_spot, levels_in, IsWithinLimits, Advances, Moves, HopsMove}
 use Rattle.nl_attr.proofs.Lemmas.Loop.{rest_of, part_step, hops_rest, hop_step}
-use Rattle.nl_attr.proofs.Lemmas.Steps.{collected, list_opens, zero_more}
+use Rattle.nl_attr.proofs.Lemmas.Steps.{Passes, collected, list_opens, zero_more}
 
 -- n visits were made before a region was read, and m since, up to this spot
 pub record IsGoing {A : Type 0} (S : Shape) (n : ℕ) (whole : Outcome A) (start : Spot) (m : ℕ) (rest : Outcome A) (spot : Spot) : Type 0 where

@@ -13,7 +13,7 @@ use Rattle.nl_attr.specs.Heads.{Sort, attr_head, hop_head, broken_container}
 use Rattle.nl_attr.specs.Reading.{Outcome, and_then, map_value, more_visits, counted, checked, items_at, items_of_region, hops_of_region, value_at}
 use Rattle.nl_attr.specs.Tree.{Val, Items, item, HopItems, hop, holds_of}
 use Rattle.nl_attr.specs.View.{Front, HopFront, items_of, hops_of}
-use Rattle.nl_attr.specs.Open.{before, Spot, Passes, IsIn, IsWithinLimits, spot_of, room_in, levels_in}
+use Rattle.nl_attr.specs.Open.{before, Spot, IsIn, IsWithinLimits, spot_of, room_in, levels_in, Advances}
 use Rattle.nl_attr.proofs.Lemmas.Reading.{map_then, and_then_both, items_cut, hops_cut, container_counts}
 use Rattle.nl_attr.proofs.Lemmas.Loop.{before_push, items_before, hops_before, rest_of, part_step, hops_rest, hop_step, map_more}
 use Rattle.nl_attr.proofs.Lemmas.Turns.{Turns}
@@ -105,6 +105,12 @@ hops_open S l base p r s front n o e is next =
     map_after make I (λ is. map_value (mk is) rest)
     ∙ and_then_both I I _ _ refl (λ is. map_both make (mk is) rest))
     ∙ ap (λ (x : Region). more_visits (n + span_of r.order 2 r.left) (and_then I (λ is. map_value (λ hs. make (mk is hs)) (hops_rest S l base x)))) (sym next)
+
+-- behind an item with this payload at this place
+pub record Passes (s t : Spot) (place : ℕ) (payload : List ℕ) : Type 0 where
+  pub goes : Advances s t
+  pub inside : place + length payload ≤ t.base + t.region.place
+  pub less : length t.region.left + suc (length payload) < length s.region.left
 
 -- where the region stands then
 pub passes : (sort : Sort) (h base level : ℕ) (r s : Region) (payload : List ℕ) (place : ℕ) → Turns h r s payload → 2 ≤ h → place ≡ base + r.place + h

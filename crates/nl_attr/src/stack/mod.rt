@@ -13,7 +13,7 @@ mod regions;
 use crate::fault::ListError;
 use crate::limits::Shape;
 use crate::stack::attributes::{Inner, Turn, read_attrs};
-use crate::stack::nested::{Frame, HopsWaits, ListWaits, read_nested};
+use crate::stack::nested::{Frame, HopsWaits, read_nested, waits_for};
 use crate::stack::next_hops::{HopsTurn, read_hops};
 pub(crate) use crate::stack::regions::container_fault;
 use crate::stack::regions::{hops_of, keep_attr, list_of};
@@ -56,12 +56,7 @@ pub(crate) fn read_region(
                         keep_attr(&mut region.list, number, flags, Value::List(inner.list))?;
                     }
                     Turn::Opens(second) => {
-                        let waits = ListWaits {
-                            region,
-                            number,
-                            flags,
-                        };
-                        let frame = Frame::List(waits);
+                        let frame = Frame::List(waits_for(region, opening));
                         return read_nested(alloc, frame, inner, second, shape, visits);
                     }
                     Turn::Fails(error) => return Err(error),
@@ -74,11 +69,7 @@ pub(crate) fn read_region(
                         keep_attr(&mut region.list, number, flags, Value::Hops(hops.list))?;
                     }
                     HopsTurn::Opens(head, inner, second) => {
-                        let waits = ListWaits {
-                            region,
-                            number,
-                            flags,
-                        };
+                        let waits = waits_for(region, opening);
                         let frame = Frame::Hops(waits, HopsWaits { region: hops, head });
                         return read_nested(alloc, frame, inner, second, shape, visits);
                     }

@@ -73,6 +73,17 @@ pub(super) enum Next<'a> {
     Goes(ListRegion<'a>),
 }
 
+/// A region, which waits for what opens in it.
+pub(super) fn waits_for<'a>(region: ListRegion<'a>, opening: Opening<'a>) -> ListWaits<'a>
+    ensures { result ≡ record { region = region.entry; number = opening.entry.number; flags = opening.entry.flags } }
+{
+    ListWaits {
+        region,
+        number: opening.number,
+        flags: opening.flags,
+    }
+}
+
 /// Collects the attribute that a region waits for.
 fn take_value<'a>(waits: ListWaits<'a>, value: Value) -> Result<ListRegion<'a>, AllocError>
     ensures rest { IfOk result (λ r. (S : ShapeOf) → list_rest S r ≡ waiting_goes_on S waits.entry (value_view value)) }
@@ -126,11 +137,7 @@ fn open<'a>(
     ensures moves { NextMoves shape (list_spot region.entry) (suc (length region.entry.walk.left) + suc (length opening.entry.payload.now)) result }
 {
     let level = region.level + 1;
-    let waits = ListWaits {
-        region,
-        number: opening.number,
-        flags: opening.flags,
-    };
+    let waits = waits_for(region, opening);
     match opening.inner {
         Inner::List(ctx) => {
             let inner = list_of(alloc, opening.payload, opening.place, ctx, level, shape)?;

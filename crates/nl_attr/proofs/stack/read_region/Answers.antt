@@ -99,7 +99,7 @@ read_nested-requires-clause-room c =
     let first = first_visits c.items.visits c.read_attrs.new.visits (list_rest S c.items.region) (list_rest S a) goes opened in
     let second = opening_rest S c.read_attrs-in-List.new.region c.in-Opens-read_attrs.second in
     let deeper = same_visits c.items.visits c.read_attrs-in-List.new.visits (list_rest S c.items.region) (and_then second goes) (opened ∙ then_same c.read_attrs.new.visits c.read_attrs-in-List.new.visits (list_rest S a) second goes c.in-Opens-read_attrs.ensures.goes) in
-    omega (arith, so_far, deeper, fits)
+    rw c.waits_for.ensures (omega (arith, so_far, deeper, fits))
 
 pub returns-in-Opens-read_attrs-clause-bound : goal.returns-in-Opens-read_attrs-clause-bound
 returns-in-Opens-read_attrs-clause-bound c =
@@ -114,7 +114,7 @@ returns-in-Opens-read_attrs-clause-bound c =
     let first = first_visits c.items.visits c.read_attrs.new.visits (list_rest S c.items.region) (list_rest S a) goes opened in
     let second = opening_rest S c.read_attrs-in-List.new.region c.in-Opens-read_attrs.second in
     let deeper = same_visits c.items.visits c.read_attrs-in-List.new.visits (list_rest S c.items.region) (and_then second goes) (opened ∙ then_same c.read_attrs.new.visits c.read_attrs-in-List.new.visits (list_rest S a) second goes c.in-Opens-read_attrs.ensures.goes) in
-    omega (arith, so_far, deeper, c.read_nested.ensures.bound, bound)
+    omega (arith, so_far, deeper, rw c.waits_for.ensures at c.read_nested.ensures.bound, bound)
 
 pub returns-in-Fails-read_attrs-clause-bound : goal.returns-in-Fails-read_attrs-clause-bound
 returns-in-Fails-read_attrs-clause-bound c =
@@ -197,7 +197,7 @@ read_nested-requires-in-Opens-read_hops-clause-room c =
     let second = opening_rest S c.in-Opens-read_hops.inner c.in-Opens-read_hops.second in
     let waits = hops_go_on S c.read_hops.new.region c.in-Opens-read_hops.head in
     let deeper = same_visits c.items.visits c.read_hops.new.visits (list_rest S c.items.region) (and_then second (λ is. and_then (waits is) goes)) (opened ∙ then_same c.read_attrs.new.visits c.read_hops.new.visits (hops_rest S a) (and_then second waits) goes c.in-Opens-read_hops.ensures.goes ∙ ap (more_visits c.read_hops.new.visits) (then_then second waits goes)) in
-    omega (arith, so_far, deeper, fits)
+    rw c.waits_for-waits.ensures (omega (arith, so_far, deeper, fits))
 
 pub returns-in-Opens-read_hops-clause-bound : goal.returns-in-Opens-read_hops-clause-bound
 returns-in-Opens-read_hops-clause-bound c =
@@ -213,7 +213,7 @@ returns-in-Opens-read_hops-clause-bound c =
     let second = opening_rest S c.in-Opens-read_hops.inner c.in-Opens-read_hops.second in
     let waits = hops_go_on S c.read_hops.new.region c.in-Opens-read_hops.head in
     let deeper = same_visits c.items.visits c.read_hops.new.visits (list_rest S c.items.region) (and_then second (λ is. and_then (waits is) goes)) (opened ∙ then_same c.read_attrs.new.visits c.read_hops.new.visits (hops_rest S a) (and_then second waits) goes c.in-Opens-read_hops.ensures.goes ∙ ap (more_visits c.read_hops.new.visits) (then_then second waits goes)) in
-    omega (arith, so_far, deeper, c.read_nested-in-Opens-read_hops.ensures.bound, bound)
+    omega (arith, so_far, deeper, rw c.waits_for-waits.ensures at c.read_nested-in-Opens-read_hops.ensures.bound, bound)
 
 pub returns-in-Fails-read_hops-clause-bound : goal.returns-in-Fails-read_hops-clause-bound
 returns-in-Fails-read_hops-clause-bound c =
