@@ -20,8 +20,8 @@ use crate::stack::regions::{hops_of, keep_attr, list_of};
 use crate::tree::{Attr, Ctx, Value};
 use std::alloc::Global;
 
-/// The attributes of a region. A region that opens in it is read at once, and so are the attributes of
-/// next hops; the stack is made where another opens in those: most need none.
+/// The attributes of a region. A region that opens in it is read at once, and so are the attributes
+/// of next hops; the stack is made where another opens in those: most need none.
 pub(crate) fn read_region(
     alloc: Global,
     bytes: &[u8],

@@ -188,8 +188,8 @@ fn put_on<'a>(stack: &mut ArrayVec<Frame<'a>, 33, Global>, next: Next<'a>) -> Li
     }
 }
 
-/// The attributes of the outermost region, by one loop over all that are open. It waits for a region
-/// in which another opens.
+/// The attributes of the outermost region, by one loop over all that are open. It waits for a
+/// region in which another opens.
 pub(super) fn read_nested<'a>(
     alloc: Global,
     outermost: Frame<'a>,
