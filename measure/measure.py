@@ -1,0 +1,217 @@
+#!/usr/bin/env python3
+"""Measures what docs/PERFORMANCE.md tells, and prints it as its tables.
+
+usage: measure/measure.py [FOLDER]
+
+FOLDER holds recordings of dumps, NAME.hex, one kind of message each; with none, examples/. It needs the programs
+that the gate builds (crates/rtnl_cli/out/rtnl_cli, crates/rtnl_bench/out/rtnl_bench), and valgrind. Beside ours it
+runs `ip`, and small programs over libmnl and libnl where cc, pkg-config and those libraries are installed, and GNU time for
+memory; what is missing has a dash.
+
+Instructions are those that callgrind counts: of three passes less one pass, halved, over the bytes of the datagrams;
+of a whole program for N datagrams and for twice as many, one less the other. Larger recordings are made by repeating.
+"""
+import os
+import re
+import shutil
+import struct
+import subprocess
+import sys
+import tempfile
+
+TOP = os.path.join(os.path.dirname(os.path.abspath(__file__)), "..")
+PROGRAM = os.path.join(TOP, "crates/rtnl_cli/out/rtnl_cli")
+BENCH = os.path.join(TOP, "crates/rtnl_bench/out/rtnl_bench")
+
+# The bytes of datagrams of a larger recording, and the hexadecimal digits of one for memory.
+LARGE = 400_000
+LONG = 10_000_000
+
+# The dumps that `ip` shows from a file, by their message type: what it calls them, and what stands before them.
+DUMPS = {20: ("address", 0x47361222), 24: ("route", 0x45311224)}
+
+
+def datagrams_of(path):
+    """The datagrams of a recording's lines."""
+    lines = open(path, encoding="ascii").read().splitlines()
+    return [bytes.fromhex(line) for line in lines if line.strip() and not line.startswith("#")]
+
+
+def as_lines(datagrams):
+    """The recording of these datagrams."""
+    return "".join(datagram.hex() + "\n" for datagram in datagrams).encode()
+
+
+def sized(datagrams):
+    """The datagrams as the C programs take them: each behind its size, and padded to four bytes."""
+    return b"".join(struct.pack("<I", len(d)) + d + bytes(-len(d) % 4) for d in datagrams)
+
+
+def repeated(datagrams, size):
+    """The datagrams again and again, until there are so many bytes."""
+    times = max(1, size // sum(map(len, datagrams)))
+    return datagrams * times
+
+
+def instructions(command, given=b""):
+    """How many instructions the command takes; none where it fails."""
+    run = subprocess.run(
+        ["valgrind", "--tool=callgrind", "--callgrind-out-file=/dev/null", *command],
+        input=given, stdout=subprocess.DEVNULL, stderr=subprocess.PIPE, check=False)
+    found = re.search(rb"Collected : (\d+)", run.stderr)
+    return int(found.group(1)) if found and run.returncode in (0, 1) else None
+
+
+def passes(command, given):
+    """The instructions of one pass of a program that takes the number of passes."""
+    one, three = (instructions([*command, count], given) for count in ("1", "3"))
+    return None if one is None or three is None else (three - one) / 2
+
+
+def whole(command, files):
+    """The instructions of a program over the second file, less those over the first."""
+    first, second = (instructions([*command, file]) for file in files)
+    return None if first is None or second is None else second - first
+
+
+def peak(command):
+    """The greatest memory of a command, in megabytes."""
+    if not os.path.exists("/usr/bin/time"):
+        return None
+    run = subprocess.run(
+        ["/usr/bin/time", "-f", "%M", *command], stdout=subprocess.DEVNULL, stderr=subprocess.PIPE, check=False)
+    return int(run.stderr.split()[-1]) * 1024 / 1_000_000
+
+
+def compiled(folder, name, package):
+    """The program over a C library, or none where it can't be made."""
+    if not all(map(shutil.which, ("cc", "pkg-config"))):
+        return None
+    flags = subprocess.run(["pkg-config", "--cflags", "--libs", package], capture_output=True, text=True, check=False)
+    source, program = os.path.join(TOP, "measure", name + ".c"), os.path.join(folder, name)
+    if flags.returncode:
+        return None
+    # libnl-route is used by what it adds to libnl as it is loaded, and by no call.
+    command = ["cc", "-O2", "-o", program, source, "-Wl,--no-as-needed", *flags.stdout.split()]
+    return None if subprocess.run(command, check=False).returncode else program
+
+
+def kept(folder, name, contents):
+    """A file with these contents."""
+    path = os.path.join(folder, name)
+    with open(path, "wb") as file:
+        file.write(contents)
+    return path
+
+
+def shown(number, size=1, form="{:.1f}"):
+    """A number over a size, or a dash."""
+    return "-" if number is None else form.format(number / size)
+
+
+def table(*rows):
+    """Prints rows, the first of them the heads."""
+    for index, row in enumerate(rows):
+        print("| " + " | ".join(row) + " |")
+        if index == 0:
+            print("|---" * len(row) + "|")
+    print()
+
+
+def by_ip(folder, datagrams):
+    """The instructions of `ip` for showing a dump, where it shows dumps of this kind."""
+    kind, magic = DUMPS.get(struct.unpack_from("<H", datagrams[0], 4)[0], ("", 0))
+    if not kind or not shutil.which("ip"):
+        return None
+    counts = []
+    for many in (datagrams, datagrams * 2):
+        file = kept(folder, "dump", struct.pack("<I", magic) + b"".join(many))
+        with open(file, "rb") as dump:
+            counts.append(instructions(["ip", kind, "showdump"], dump.read()))
+    return None if None in counts else counts[1] - counts[0]
+
+
+def small(folder, recordings):
+    """Reading, writing and showing each recording as it is."""
+    mnl, nl = compiled(folder, "libmnl", "libmnl"), compiled(folder, "libnl", "libnl-route-3.0")
+    rows = [("recording", "bytes", "read", "libmnl, which keeps nothing", "libnl", "write")]
+    for name, datagrams in recordings:
+        size, lines, binary = sum(map(len, datagrams)), as_lines(datagrams), sized(datagrams)
+        rows.append((
+            name, f"{size:,}", shown(passes([BENCH, "read"], lines), size),
+            shown(mnl and passes([mnl], binary), size), shown(nl and passes([nl], binary), size),
+            shown(passes([BENCH, "write"], lines), size)))
+    table(*rows)
+
+
+def large(folder, recordings):
+    """Showing, checking and tabulating larger recordings by the whole program."""
+    rows = [("recording, repeated", "bytes of datagrams", "show", "check", "show by `ip`")]
+    for name, datagrams in recordings:
+        many = repeated(datagrams, LARGE)
+        size = sum(map(len, many))
+        files = kept(folder, "one", as_lines(many)), kept(folder, "two", as_lines(many * 2))
+        rows.append((
+            name, f"{size:,}", shown(whole([PROGRAM, "show"], files), size),
+            shown(whole([PROGRAM, "check"], files), size), shown(by_ip(folder, many), size)))
+    table(*rows)
+
+
+def memory(folder, recordings):
+    """The greatest memory over long inputs."""
+    rows = [("input", "megabytes", "show", "check")]
+    inputs = [(f"{name}, repeated", as_lines(repeated(datagrams, LONG // 2))) for name, datagrams in recordings]
+    inputs.append(("lines of one byte", b"00\n" * (16_777_216 // 3)))
+    for name, lines in inputs:
+        file = kept(folder, "long", lines)
+        rows.append((
+            name, shown(len(lines), 1_000_000), shown(peak([PROGRAM, "show", file])),
+            shown(peak([PROGRAM, "check", file]))))
+    table(*rows)
+
+
+def attribute(number, payload):
+    """An attribute with its padding."""
+    return struct.pack("<HH", 4 + len(payload), number) + payload + bytes(-len(payload) % 4)
+
+
+def link(attributes):
+    """A datagram of one link with these attributes."""
+    body = bytes(16) + attributes
+    return struct.pack("<IHHII", 16 + len(body), 16, 0, 1, 1) + body
+
+
+def hostile(folder):
+    """Shapes that no kernel sends."""
+    chain = b""
+    for _ in range(8):
+        chain = attribute(0x8001, chain)
+    shapes = (
+        ("lists in one another, eight levels deep", link(chain * 1_500)),
+        ("attributes without a payload", link(attribute(1, b"") * 12_000)),
+    )
+    rows = [("shape", "bytes", "read", "show", "check")]
+    for name, datagram in shapes:
+        size = len(datagram)
+        files = kept(folder, "one", as_lines([datagram])), kept(folder, "two", as_lines([datagram] * 2))
+        rows.append((
+            name, f"{size:,}", shown(passes([BENCH, "read"], as_lines([datagram])), size),
+            shown(whole([PROGRAM, "show"], files), size), shown(whole([PROGRAM, "check"], files), size)))
+    table(*rows)
+
+
+def main():
+    folder = sys.argv[1] if len(sys.argv) > 1 else os.path.join(TOP, "examples")
+    names = sorted(name for name in os.listdir(folder) if name.endswith(".hex"))
+    recordings = [(name[:-4], datagrams_of(os.path.join(folder, name))) for name in names]
+    with tempfile.TemporaryDirectory() as made:
+        print("Instructions a byte of datagrams:\n")
+        small(made, recordings)
+        large(made, recordings)
+        hostile(made)
+        print("Greatest memory, in megabytes:\n")
+        memory(made, recordings)
+
+
+if __name__ == "__main__":
+    main()
