@@ -200,6 +200,34 @@ def hostile(folder):
     table(*rows)
 
 
+def dump_of(routes):
+    """The datagrams of a dump of so many routes, as a kernel sends them, with the sequence number 1 and the port 2."""
+    messages = []
+    for number in range(routes):
+        attributes = (
+            attribute(15, struct.pack("<I", 254)) + attribute(1, struct.pack(">I", 0x0A000000 + number))
+            + attribute(6, struct.pack("<I", 100)) + attribute(4, struct.pack("<I", 5)))
+        body = struct.pack("<BBBBBBBBI", 2, 32, 0, 0, 254, 3, 0, 1, 0) + attributes
+        messages.append(struct.pack("<IHHII", 16 + len(body), 24, 2, 1, 2) + body)
+    datagrams = [b"".join(messages[at:at + 64]) for at in range(0, routes, 64)]
+    return datagrams + [struct.pack("<IHHIIi", 20, 3, 2, 1, 2, 0)]
+
+
+def tables(folder):
+    """Reading dumps of routes into tables, and showing them."""
+    command = [PROGRAM, "table", "--kind", "route", "--seq", "1", "--port", "2", "--entries", "65536"]
+    rows = [("routes", "bytes of datagrams", "table", "show", "table, megabytes", "show, megabytes")]
+    for routes in (1_000, 5_000, 40_000):
+        datagrams = dump_of(routes)
+        size = sum(map(len, datagrams))
+        file = kept(folder, "dump", as_lines(datagrams))
+        rows.append((
+            f"{routes:,}", f"{size:,}", shown(instructions([*command, file]), size),
+            shown(instructions([PROGRAM, "show", file]), size), shown(peak([*command, file])),
+            shown(peak([PROGRAM, "show", file]))))
+    table(*rows)
+
+
 def main():
     folder = sys.argv[1] if len(sys.argv) > 1 else os.path.join(TOP, "examples")
     names = sorted(name for name in os.listdir(folder) if name.endswith(".hex"))
@@ -209,6 +237,7 @@ def main():
         small(made, recordings)
         large(made, recordings)
         hostile(made)
+        tables(made)
         print("Greatest memory, in megabytes:\n")
         memory(made, recordings)
 
