@@ -3,6 +3,7 @@ use Rattle.std.proofs.Common.{◌≡◌, ◌<◌, ◌≤◌, ◌+◌, ◌/◌, �
 use Rattle.std.proofs.lemmas.List.{drop_more}
 use Rattle.hex.specs.Hex.{encode_lower, encode_with, lower_digits}
 use Rattle.rtnl.specs.Text.{numbers_text}
+use Rattle.rtnl.proofs.Showing.{one_more}
 
 encode_with-append : (t xs ys : List ℕ) → encode_with t (xs ++ ys) ≡ encode_with t xs ++ encode_with t ys
 unfolding encode_with
@@ -28,10 +29,6 @@ next_number view xs i d before words new all low first second h =
 pub no_number : {X : Type 0} (view : X → List ℕ × ℕ) (xs : List X) (i : ℕ) (before all : List ℕ) → length xs ≤ i → before ++ numbers_text (map view (drop i xs)) ≡ all → before ≡ all
 no_number view xs i before all far h =
     sym (append-nil before) ∙ sym (ap (λ l. before ++ numbers_text (map view l)) (drop_of_length-le xs far)) ∙ h
-
--- two pieces are one
-pub both : {middle after : List ℕ} (before first rest : List ℕ) → middle ≡ before ++ first → after ≡ middle ++ rest → after ≡ before ++ (first ++ rest)
-both before first rest e h = h ∙ ap (λ l. l ++ rest) e ∙ append_assoc before first rest
 
 -- words, or numbers, each behind its words
 pub data Piece : Type 0 where
@@ -67,6 +64,6 @@ numbers_are (number ∷ more) rest =
 -- so the whole is written
 pub whole : (before : List ℕ) (pieces : List Piece) (last after : List ℕ) → Written before pieces last after → after ≡ before ++ onto pieces last
 whole before [] last after h = h
-whole before (words text ∷ more) last after (middle, e, h) = both before text (onto more last) e (whole middle more last after h)
+whole before (words text ∷ more) last after (middle, e, h) = one_more before middle after text (onto more last) e (whole middle more last after h)
 whole before (numbers all ∷ more) last after (middle, e, h) =
-    both before (numbers_text all) (onto more last) e (whole middle more last after h) ∙ ap (λ l. before ++ l) (numbers_are all (onto more last))
+    one_more before middle after (numbers_text all) (onto more last) e (whole middle more last after h) ∙ ap (λ l. before ++ l) (numbers_are all (onto more last))

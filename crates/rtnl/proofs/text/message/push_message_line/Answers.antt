@@ -4,7 +4,8 @@ use Rattle.rtnl.specs.Messages.{message_line}
 use Rattle.rtnl.specs.Names.{names_text}
 use Rattle.rtnl.specs.Text.{padded_hex}
 use Rattle.rtnl.specs.Types.{flags_table, type_flags, type_name}
-use Rattle.rtnl.proofs.Pieces.{both, numbers, whole, words}
+use Rattle.rtnl.proofs.Pieces.{numbers, whole, words}
+use Rattle.rtnl.proofs.Showing.{one_more}
 use Rattle.rtnl.proofs.text.message.push_message_line.Goals as goal
 
 pub returns : goal.returns
@@ -13,7 +14,7 @@ returns c =
     let a = c.args in
     let before = c.push.new.out.items in
     let name : c.push-3.new.out.items ≡ before ++ type_name a.kind =
-    both before c.message_type-names.result.0.now c.message_type-names.result.1.now c.in_ok-push-2.ensures c.in_ok-push-3.ensures
+    one_more before _ _ c.message_type-names.result.0.now c.message_type-names.result.1.now c.in_ok-push-2.ensures c.in_ok-push-3.ensures
     ∙ ap (λ l. before ++ l) (sym c.message_type-names.ensures.name) in
     let names : c.push_flag_names.new.out.items ≡ c.push-5.new.out.items ++ names_text (flags_table (type_flags a.kind)) a.flags =
     c.in_ok-push_flag_names.ensures ∙ ap (λ n. c.push-5.new.out.items ++ names_text (flags_table n) a.flags) c.message_type-names.ensures.flags in
