@@ -168,3 +168,12 @@ eight_digits n fits =
     padded 7 56 n refl (omega arith)
     ∙ (λ i. digit (a i) ∷ digit (b i) ∷ digit (c i) ∷ digit (d i) ∷ digit (e i) ∷ digit (f i) ∷ digit (g i) ∷ digit (h i) ∷ [])
     ∙ λ i. sym (padded 3 60 (n / 65536) refl (omega arith)) i ++ sym (padded 3 60 (n % 65536) refl (omega arith)) i
+
+encode_with-append : (t xs ys : List ℕ) → encode_with t (xs ++ ys) ≡ encode_with t xs ++ encode_with t ys
+unfolding encode_with
+encode_with-append t [] ys = refl
+encode_with-append t (x ∷ xs) ys = ap (λ rest. slice_index t (x / 16) ∷ slice_index t (x % 16) ∷ rest) (encode_with-append t xs ys)
+
+-- bytes one after another in digits
+pub digits_append : (xs ys : List ℕ) → encode_lower (xs ++ ys) ≡ encode_lower xs ++ encode_lower ys
+digits_append xs ys = encode_with-append lower_digits xs ys

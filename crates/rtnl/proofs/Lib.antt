@@ -6,11 +6,11 @@ mod Entries
 mod Feeding
 mod Json
 mod Listing
-mod Pieces
 mod Plain
 mod Recordings
 mod Refusing
 mod Running
+mod Short
 mod Showing
 mod SomeAnswer
 mod Streams

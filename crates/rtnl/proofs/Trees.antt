@@ -1,8 +1,10 @@
 -- Attributes and next hops by how many they are.
-use Rattle.std.proofs.Common.{◌≡◌, ◌++◌, Bool, List, [], ◌∷◌, length, refl, ap, ◌∙◌, arith, codes, Vec, Global}
+use Rattle.std.proofs.Common.{◌≡◌, ◌++◌, ℕ, Bool, List, [], ◌∷◌, length, refl, sym, ap, ◌∙◌, append_assoc, arith, codes, Vec, Global}
 use Rattle.std.specs.Fmt.{decimal}
 use Rattle.nl_attr.specs.declared.order.Order.{Order}
 use Rattle.nl_attr.specs.declared.tree.Attr.{Attr}
+use Rattle.nl_attr.specs.declared.tree.Ctx.{Ctx}
+use Rattle.nl_attr.specs.declared.tree.Ctx.TheVariants.{Route}
 use Rattle.nl_attr.specs.declared.tree.Hop.{Hop, out-Hop}
 use Rattle.nl_attr.specs.declared.tree.Value.TheFolds.{fold_out-Attr}
 use Rattle.nl_attr.specs.declared.tree.Value.TheVariants as value
@@ -10,7 +12,7 @@ use Rattle.nl_attr.specs.Tree.{Val, Items, item, HopItems, hop}
 use Rattle.nl_attr.specs.View.{Front, HopFront, value_step, attr_step, hop_step, value_view, attr_view, attrs_view, hop_view, hops_view}
 use Rattle.nl_attr.proofs.Lemmas.Opened.{attr_is, hop_is, value_list, value_hops}
 use Rattle.rtnl.specs.declared.text.attributes.Form.{Form}
-use Rattle.rtnl.specs.Trees.{hop_count, inline_text, item_count}
+use Rattle.rtnl.specs.Trees.{deeper, held_text, hop_count, hop_line, hops_text, indented, inline_text, item_count, items_text}
 
 -- an attribute before others
 pub attr_item : (attr : Attr) (more : Items) → attr_view attr more ≡ item attr.number attr.flags (value_view attr.value) more
@@ -41,3 +43,30 @@ pub inline_hops : (o : Order) (form : Form) (net : Bool) (items : Vec Hop Global
 unfolding inline_text
 inline_hops o form net items =
     ap (inline_text o form net) (value_hops items) ∙ ap (λ n. codes "hops " ++ decimal n) (hop_count_lem items.items)
+
+-- what a list holds is indented by two blanks more
+pub held_list : (o : Order) (indent more : List ℕ) (ctx : Ctx) (attrs : Vec Attr Global) → more ≡ indent ++ codes "  " →
+    items_text o (indented more) ctx (attrs_view attrs.items) ≡ held_text o (deeper (indented indent)) ctx (value_view (value.List attrs))
+unfolding deeper
+held_list o indent more ctx attrs is =
+    ap (λ l. items_text o (indented l) ctx (attrs_view attrs.items)) is ∙ ap (held_text o (deeper (indented indent)) ctx) (sym (value_list attrs))
+
+-- so are next hops
+pub held_hops : (o : Order) (indent more : List ℕ) (ctx : Ctx) (items : Vec Hop Global) → more ≡ indent ++ codes "  " →
+    hops_text o (indented more) (hops_view items.items) ≡ held_text o (deeper (indented indent)) ctx (value_view (value.Hops items))
+unfolding deeper
+held_hops o indent more ctx items is =
+    ap (λ l. hops_text o (indented l) (hops_view items.items)) is ∙ ap (held_text o (deeper (indented indent)) ctx) (sym (value_hops items))
+
+-- the line of a next hop, and then its attributes
+pub hop_written : (o : Order) (indent : List ℕ) (one : Hop) (more : HopItems) (old mid new : List ℕ) →
+    mid ≡ old ++ hop_line indent (out-Hop one).flags (out-Hop one).hops (out-Hop one).ifindex →
+    new ≡ mid ++ items_text o (deeper indent) Route (attrs_view (out-Hop one).attrs.items) →
+    new ++ hops_text o indent more ≡ old ++ hops_text o indent (hop_view one more)
+hop_written o indent one more old mid new first next =
+    let line = hop_line indent (out-Hop one).flags (out-Hop one).hops (out-Hop one).ifindex in
+    let inside = items_text o (deeper indent) Route (attrs_view (out-Hop one).attrs.items) in
+    ap (λ t. t ++ hops_text o indent more) (next ∙ ap (λ t. t ++ inside) first)
+    ∙ append_assoc (old ++ line) inside (hops_text o indent more)
+    ∙ append_assoc old line (inside ++ hops_text o indent more)
+    ∙ sym (ap (λ h. old ++ hops_text o indent h) (hop_item one more))

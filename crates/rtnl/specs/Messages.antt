@@ -1,5 +1,5 @@
 -- The printed text of messages and their bodies.
-use Rattle.std.specs.Prelude.{ℕ, ℤ, pos, List, Option, Some, None, codes}
+use Rattle.std.specs.Prelude.{ℕ, ℤ, pos, List, [], Option, Some, None, codes}
 use Rattle.std.specs.Fmt.{decimal, signed_decimal}
 use Rattle.std.specs.List.{flat_map}
 use Rattle.nl_attr.specs.declared.order.Order.{Order}
@@ -15,7 +15,7 @@ use Rattle.rtnl.specs.Neigh.{neigh_line}
 use Rattle.rtnl.specs.Rule.{rule_line}
 use Rattle.rtnl.specs.Names.{names_text}
 use Rattle.rtnl.specs.Text.{◌⨟◌, hex_text, padded_hex}
-use Rattle.rtnl.specs.Trees.{items_text}
+use Rattle.rtnl.specs.Trees.{indented, items_text}
 use Rattle.rtnl.specs.Types.{flags_table, type_flags, type_name}
 
 -- the line of a family's head
@@ -64,7 +64,7 @@ body_text o (noop payload) = bytes_line payload
 body_text o (error code h tail) = error_line code h tail
 body_text o (done status tail) = done_line (status_of status) tail
 body_text o (overrun payload) = bytes_line payload
-body_text o (family h items) = head_line h ⨟ items_text o (codes "    ") (context_of (group_of h)) items
+body_text o (family h items) = head_line h ⨟ items_text o (indented []) (context_of (group_of h)) items
 body_text o (get n tail) = get_line n tail
 body_text o (other payload) = bytes_line payload
 

@@ -16,8 +16,3 @@ padded_hex width n = replicate (width - length (digits 16 false n)) 48 ++ digits
 unfoldable pub hex_text : List ℕ → List ℕ
 hex_text [] = codes "-"
 hex_text (byte ∷ bytes) = encode_lower (byte ∷ bytes)
-
--- numbers in decimal, each behind its words
-abbrev pub numbers_text : List (List ℕ × ℕ) → List ℕ
-numbers_text [] = []
-numbers_text (number ∷ numbers) = number.0 ⨟ decimal number.1 ⨟ numbers_text numbers

@@ -26,6 +26,10 @@ flag_words true true = codes "nested,net"
 unfoldable pub flags_text : AttrFlags → List ℕ
 flags_text flags = flag_words flags.nested flags.net
 
+-- what stands before the words of a line inside a body, and more where it lies deeper
+abbrev pub indented : List ℕ → List ℕ
+indented more = codes "    " ++ more
+
 -- the indentation of what an item holds
 unfoldable pub deeper : List ℕ → List ℕ
 deeper indent = indent ++ codes "  "

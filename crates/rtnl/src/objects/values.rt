@@ -7,28 +7,24 @@ ghost use Rattle.rtnl.specs.Readings.{reading_view};
 ghost use Rattle.rtnl.specs.Values.{ipv4_text, ipv6_text};
 
 use crate::objects::line::Line;
-use crate::text::values::{Reading, push_ipv4, push_ipv6, word};
+use crate::text::values::{Reading, ipv4, ipv6, word};
 use std::alloc::{AllocError, Global};
 
 /// Writes the field of an address of IPv4.
-fn push_ipv4_field(alloc: Global, line: &mut Line, address: &[u8; 4]) -> Result<(), AllocError>
+fn push_ipv4_field(line: &mut Line, address: &[u8; 4]) -> Result<(), AllocError>
     ensures { OnOk result (line.new ≡ line.old ⊕ fields_tokens ((codes "value", string (ipv4_text address.now)) ∷ [])) }
 {
-    let mut text = Vec::new(alloc);
-    push_ipv4(&mut text, *address)?;
-    match str::from_utf8(text.as_slice()) {
+    match str::from_utf8(ipv4(*address).as_bytes()) {
         Ok(text) => line.text("value", text),
         Err(_) => unreachable!(),
     }
 }
 
 /// Writes the field of an address of IPv6.
-fn push_ipv6_field(alloc: Global, line: &mut Line, address: &[u8; 16]) -> Result<(), AllocError>
+fn push_ipv6_field(line: &mut Line, address: &[u8; 16]) -> Result<(), AllocError>
     ensures { OnOk result (line.new ≡ line.old ⊕ fields_tokens ((codes "value", string (ipv6_text address.now)) ∷ [])) }
 {
-    let mut text = Vec::new(alloc);
-    push_ipv6(&mut text, address)?;
-    match str::from_utf8(text.as_slice()) {
+    match str::from_utf8(ipv6(address).as_bytes()) {
         Ok(text) => line.text("value", text),
         Err(_) => unreachable!(),
     }
@@ -44,8 +40,8 @@ fn push_value(alloc: Global, line: &mut Line, reading: Reading<'_>) -> Result<()
         Reading::U16(number) => line.number("value", number.into()),
         Reading::U32(number) => line.number("value", number.into()),
         Reading::Text(text) => line.text("value", text),
-        Reading::Ipv4(address) => push_ipv4_field(alloc, line, &address),
-        Reading::Ipv6(address) => push_ipv6_field(alloc, line, &address),
+        Reading::Ipv4(address) => push_ipv4_field(line, &address),
+        Reading::Ipv6(address) => push_ipv6_field(line, &address),
         Reading::Hex(bytes) => line.digits(alloc, "value", bytes),
     }
 }

@@ -1,6 +1,6 @@
 //! The names of attributes, and the forms in which their payloads are printed.
 
-ghost use Rattle.std.specs.Prelude.{◌≡◌, map, option_map};
+ghost use Rattle.std.specs.Prelude.{◌≡◌, ◌≤◌, length, map, option_map};
 ghost use Rattle.rtnl.specs.Attributes.{attribute_form, attribute_name, attribute_rows};
 ghost use Rattle.rtnl.specs.Rows.{find_row, row_view};
 
@@ -53,10 +53,11 @@ pub(crate) fn find(ctx: Ctx, number: u16) -> Option<(&'static str, Form)>
 }
 
 /// The name of an attribute, or a dash, and how its payload is printed.
-#[tactic(auto, unfolding(crate::specs::Attributes::attribute_name, crate::specs::Attributes::attribute_form))]
+#[tactic(auto, unfolding(crate::specs::Attributes::attribute_name, crate::specs::Attributes::attribute_form), using(crate::proofs::Short::short_name))]
 pub(crate) fn attribute(ctx: Ctx, number: u16) -> (&'static str, Form)
     ensures name { result.0.now ≡ attribute_name ctx number }
     ensures form { result.1 ≡ attribute_form ctx number }
+    ensures short { length result.0.now ≤ 16 }
 {
     match find(ctx, number) {
         Some(row) => row,

@@ -5,7 +5,8 @@ ghost use Rattle.nl_frame.specs.View.{body_view};
 ghost use Rattle.rtnl.specs.Messages.{body_text, bytes_line, done_line, error_line, get_line, tail_end};
 
 use crate::text::families::Shown;
-use crate::text::pieces::{push, push_hex, push_hex4, push_numbers, push_signed};
+use crate::text::pieces::{push, push_hex};
+use crate::text::segment::Segment;
 use nl_attr::Order;
 use nl_frame::{Body, Header};
 use nl_route::match_family;
@@ -36,15 +37,16 @@ fn push_error(
         seq,
         port,
     } = *answered;
-    push(out, "  error code ")?;
-    push_signed(out, code)?;
-    push_numbers(
-        out,
-        &[(" answers len ", len as u64), (" type ", kind as u64)],
-    )?;
-    push(out, " flags 0x")?;
-    push_hex4(out, flags)?;
-    push_numbers(out, &[(" seq ", seq as u64), (" port ", port as u64)])?;
+    let mut front = Segment::new();
+    front.put_field(" port ", port as u64);
+    front.put_field(" seq ", seq as u64);
+    front.put_hex4(flags);
+    front.put(" flags 0x");
+    front.put_field(" type ", kind as u64);
+    front.put_field(" answers len ", len as u64);
+    front.put_signed(code);
+    front.put("  error code ");
+    front.push_to(out)?;
     push_tail(out, tail)
 }
 
@@ -52,8 +54,10 @@ fn push_error(
 fn push_done(out: &mut Vec<u8>, status: i32, tail: &[u8]) -> Result<(), AllocError>
     ensures { OnOk result (out.new.items ≡ out.old.items ++ done_line status tail.now) }
 {
-    push(out, "  done status ")?;
-    push_signed(out, status)?;
+    let mut front = Segment::new();
+    front.put_signed(status);
+    front.put("  done status ");
+    front.push_to(out)?;
     push_tail(out, tail)
 }
 
@@ -61,7 +65,9 @@ fn push_done(out: &mut Vec<u8>, status: i32, tail: &[u8]) -> Result<(), AllocErr
 fn push_get(out: &mut Vec<u8>, family: u8, tail: &[u8]) -> Result<(), AllocError>
     ensures { OnOk result (out.new.items ≡ out.old.items ++ get_line family tail.now) }
 {
-    push_numbers(out, &[("  get family ", family as u64)])?;
+    let mut front = Segment::new();
+    front.put_field("  get family ", family as u64);
+    front.push_to(out)?;
     push_tail(out, tail)
 }
 

@@ -5,7 +5,8 @@ ghost use Rattle.rtnl.specs.Checked.{number_front};
 ghost use Rattle.rtnl.specs.Datagrams.{datagram_line, reason_text, refused_line, too_large_line};
 ghost use Rattle.rtnl.specs.Shown.{refusal_text};
 
-use crate::text::pieces::{push, push_numbers};
+use crate::text::pieces::{push, push_decimal};
+use crate::text::segment::Segment;
 use nl_attr::{Fault, Reason};
 use nl_frame::ReadError;
 use std::alloc::AllocError;
@@ -19,11 +20,11 @@ pub(crate) fn push_datagram_line(
 ) -> Result<(), AllocError>
     ensures { OnOk result (out.new.items ≡ out.old.items ++ datagram_line number size) }
 {
-    push_numbers(
-        out,
-        &[("datagram ", number as u64), (" bytes ", size as u64)],
-    )?;
-    push(out, "\n")
+    let mut line = Segment::new();
+    line.put("\n");
+    line.put_field(" bytes ", size as u64);
+    line.put_field("datagram ", number as u64);
+    line.push_to(out)
 }
 
 /// Writes what stands before a word on the datagram of this number, counted from 1.
@@ -31,8 +32,10 @@ pub(crate) fn push_datagram_line(
 pub(crate) fn push_number(out: &mut Vec<u8>, number: usize) -> Result<(), AllocError>
     ensures { OnOk result (out.new.items ≡ out.old.items ++ number_front number) }
 {
-    push_numbers(out, &[("datagram ", number as u64)])?;
-    push(out, " ")
+    let mut front = Segment::new();
+    front.put(" ");
+    front.put_field("datagram ", number as u64);
+    front.push_to(out)
 }
 
 #[tactic(auto, unfolding(crate::specs::Datagrams::reason_text))]
@@ -55,7 +58,8 @@ fn push_refused_line(out: &mut Vec<u8>, fault: Fault) -> Result<(), AllocError>
 {
     push(out, "refused ")?;
     push(out, reason_name(fault.reason))?;
-    push_numbers(out, &[(" at ", fault.place as u64)])?;
+    push(out, " at ")?;
+    push_decimal(out, fault.place as u64)?;
     push(out, "\n")
 }
 

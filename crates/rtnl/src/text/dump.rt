@@ -1,13 +1,14 @@
 //! The printed text of a dump.
 
-ghost use Rattle.std.specs.Prelude.{◌≡◌, ◌≢◌, ◌++◌, OnOk, codes, length};
+ghost use Rattle.std.specs.Prelude.{◌≡◌, ◌≢◌, ◌≤◌, ◌++◌, OnOk, codes, length};
 ghost use Rattle.std.specs.Fmt.{signed_decimal};
 ghost use Rattle.rtnl.specs.Tabled.{complete_line, counts_line, dump_line, end_line, entry_line, refusal_line, sums_line, total_line, yes_no};
 
 use crate::telling::{Size, Telling};
 use crate::text::datagram::{push_number, push_refusal};
 use crate::text::families::Shown;
-use crate::text::pieces::{push, push_numbers, push_signed};
+use crate::text::pieces::push;
+use crate::text::segment::Segment;
 use nl_attr::Order;
 use nl_dump::{Dump, End, FeedError, Session, State};
 use nl_frame::ReadError;
@@ -15,7 +16,8 @@ use std::alloc::{AllocError, Global};
 
 #[tactic(auto, unfolding(crate::specs::Tabled::yes_no))]
 fn yes_or_no(word: bool) -> &'static str
-    ensures { result.now ≡ yes_no word }
+    ensures word { result.now ≡ yes_no word }
+    ensures short { length result.now ≤ 3 }
 {
     if word { "yes" } else { "no" }
 }
@@ -29,8 +31,11 @@ fn push_dump_line(out: &mut Vec<u8>, dump: &Dump) -> Result<(), AllocError>
     let (seq, port) = (dump.seq, dump.port);
     push(out, "dump ")?;
     push(out, kind)?;
-    push_numbers(out, &[(" seq ", seq as u64), (" port ", port as u64)])?;
-    push(out, "\n")
+    let mut end = Segment::new();
+    end.put("\n");
+    end.put_field(" port ", port as u64);
+    end.put_field(" seq ", seq as u64);
+    end.push_to(out)
 }
 
 #[tactic(auto, unfolding(crate::specs::Tabled::total_line))]
@@ -68,9 +73,11 @@ fn push_feed_error(out: &mut Vec<u8>, number: usize, error: FeedError) -> Result
 fn push_coded(out: &mut Vec<u8>, words: &str, code: i32) -> Result<(), AllocError>
     ensures { OnOk result (out.new.items ≡ out.old.items ++ words.now ++ signed_decimal code ++ codes "\n") }
 {
+    let mut end = Segment::new();
+    end.put("\n");
+    end.put_signed(code);
     push(out, words)?;
-    push_signed(out, code)?;
-    push(out, "\n")
+    end.push_to(out)
 }
 
 /// Writes how the dump ended.
@@ -113,20 +120,17 @@ fn push_counts_line(out: &mut Vec<u8>, counts: Counts) -> Result<(), AllocError>
         damaged,
         interrupted,
     } = counts;
-    push_numbers(
-        out,
-        &[
-            ("entries ", entries as u64),
-            (" missed ", missed),
-            (" ignored ", ignored),
-            (" unfed ", unfed as u64),
-        ],
-    )?;
-    push(out, " damaged ")?;
-    push(out, yes_or_no(damaged))?;
-    push(out, " interrupted ")?;
-    push(out, yes_or_no(interrupted))?;
-    push(out, "\n")
+    let mut line = Segment::new();
+    line.put("\n");
+    line.put(yes_or_no(interrupted));
+    line.put(" interrupted ");
+    line.put(yes_or_no(damaged));
+    line.put(" damaged ");
+    line.put_field(" unfed ", unfed as u64);
+    line.put_field(" ignored ", ignored);
+    line.put_field(" missed ", missed);
+    line.put_field("entries ", entries as u64);
+    line.push_to(out)
 }
 
 /// Writes what was counted of all datagrams.
@@ -134,8 +138,11 @@ fn push_counts_line(out: &mut Vec<u8>, counts: Counts) -> Result<(), AllocError>
 fn push_sums_line(out: &mut Vec<u8>, received: u64, visits: u64) -> Result<(), AllocError>
     ensures { OnOk result (out.new.items ≡ out.old.items ++ sums_line received visits) }
 {
-    push_numbers(out, &[("received ", received), (" visits ", visits)])?;
-    push(out, "\n")
+    let mut line = Segment::new();
+    line.put("\n");
+    line.put_field(" visits ", visits);
+    line.put_field("received ", received);
+    line.push_to(out)
 }
 
 /// Writes whether the dump is complete.
@@ -153,8 +160,10 @@ fn push_complete_line(out: &mut Vec<u8>, complete: bool) -> Result<(), AllocErro
 fn push_entry_line(out: &mut Vec<u8>, number: u32) -> Result<(), AllocError>
     ensures { OnOk result (out.new.items ≡ out.old.items ++ entry_line number) }
 {
-    push_numbers(out, &[("entry ", number as u64)])?;
-    push(out, "\n")
+    let mut line = Segment::new();
+    line.put("\n");
+    line.put_field("entry ", number as u64);
+    line.push_to(out)
 }
 
 /// A dump that is told in lines of text.

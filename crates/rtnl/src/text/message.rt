@@ -5,7 +5,8 @@ ghost use Rattle.nl_frame.specs.View.{message_view};
 ghost use Rattle.rtnl.specs.Messages.{message_line, message_text, messages_text};
 
 use crate::text::body::push_body;
-use crate::text::pieces::{push, push_hex4, push_numbers};
+use crate::text::pieces::push;
+use crate::text::segment::Segment;
 use crate::text::types::{message_type, push_flag_names};
 use nl_attr::Order;
 use nl_frame::Message;
@@ -23,16 +24,23 @@ fn push_message_line(
     ensures { OnOk result (out.new.items ≡ out.old.items ++ message_line kind flags seq port) }
 {
     let (verb, name, names) = message_type(kind);
-    push_numbers(out, &[("message ", kind as u64)])?;
-    push(out, " ")?;
+    let mut front = Segment::new();
+    front.put(" ");
+    front.put_field("message ", kind as u64);
+    front.push_to(out)?;
     push(out, verb)?;
     push(out, name)?;
-    push(out, " flags 0x")?;
-    push_hex4(out, flags)?;
-    push(out, " ")?;
+    let mut middle = Segment::new();
+    middle.put(" ");
+    middle.put_hex4(flags);
+    middle.put(" flags 0x");
+    middle.push_to(out)?;
     push_flag_names(out, names, flags)?;
-    push_numbers(out, &[(" seq ", seq as u64), (" port ", port as u64)])?;
-    push(out, "\n")
+    let mut end = Segment::new();
+    end.put("\n");
+    end.put_field(" port ", port as u64);
+    end.put_field(" seq ", seq as u64);
+    end.push_to(out)
 }
 
 /// Writes a message: the line of its header, and its body.

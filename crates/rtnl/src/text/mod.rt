@@ -10,6 +10,7 @@ pub(crate) mod message;
 pub(crate) mod names;
 pub(crate) mod pieces;
 pub(crate) mod rows;
+pub(crate) mod segment;
 pub(crate) mod tree;
 pub(crate) mod types;
 pub(crate) mod values;

@@ -1,9 +1,8 @@
 //! The pieces that text is put together from.
 
-ghost use Rattle.std.specs.Prelude.{◌≡◌, ◌≤◌, ◌++◌, OnOk, decimal, length, map};
-ghost use Rattle.std.specs.Fmt.{signed_decimal};
+ghost use Rattle.std.specs.Prelude.{◌≡◌, ◌≤◌, ◌++◌, OnOk, decimal, length};
 ghost use Rattle.hex.specs.Hex.{encode_lower};
-ghost use Rattle.rtnl.specs.Text.{hex_text, numbers_text, padded_hex};
+ghost use Rattle.rtnl.specs.Text.{hex_text};
 
 use itoa::Buffer;
 use std::alloc::AllocError;
@@ -23,28 +22,6 @@ pub(crate) fn push_decimal(out: &mut Vec<u8>, number: u64) -> Result<(), AllocEr
 {
     let mut buffer = Buffer::new();
     push(out, buffer.format(number))
-}
-
-/// Appends a signed number in decimal.
-#[inline(always)]
-pub(crate) fn push_signed(out: &mut Vec<u8>, number: i32) -> Result<(), AllocError>
-    ensures { OnOk result (out.new.items ≡ out.old.items ++ signed_decimal number) }
-{
-    let mut buffer = Buffer::new();
-    push(out, buffer.format(number))
-}
-
-/// Appends numbers in decimal, each behind its words.
-#[inline(always)]
-pub(crate) fn push_numbers(out: &mut Vec<u8>, numbers: &[(&str, u64)]) -> Result<(), AllocError>
-    ensures { OnOk result (out.new.items
-        ≡ out.old.items ++ numbers_text (map (λ f. (f.0.now, f.1)) numbers.now)) }
-{
-    for (words, number) in numbers {
-        push(out, words)?;
-        push_decimal(out, *number)?;
-    }
-    Ok(())
 }
 
 /// How many bytes are written in digits at a time.
@@ -86,29 +63,4 @@ pub(crate) fn push_hex(out: &mut Vec<u8>, bytes: &[u8]) -> Result<(), AllocError
         return push(out, "-");
     }
     push_digits(out, bytes)
-}
-
-/// Appends a number in two hexadecimal digits.
-#[tactic(auto, using(crate::proofs::Digits::two_digits))]
-pub(crate) fn push_hex2(out: &mut Vec<u8>, number: u8) -> Result<(), AllocError>
-    ensures { OnOk result (out.new.items ≡ out.old.items ++ padded_hex 2 number) }
-{
-    push_chunk(out, &[number])
-}
-
-/// Appends a number in four hexadecimal digits.
-#[tactic(auto, using(crate::proofs::Digits::four_digits))]
-pub(crate) fn push_hex4(out: &mut Vec<u8>, number: u16) -> Result<(), AllocError>
-    ensures { OnOk result (out.new.items ≡ out.old.items ++ padded_hex 4 number) }
-{
-    push_chunk(out, &[(number / 256) as u8, (number % 256) as u8])
-}
-
-/// Appends a number in eight hexadecimal digits.
-#[tactic(auto, using(crate::proofs::Digits::eight_digits, std::proofs::Common::append_assoc))]
-pub(crate) fn push_hex8(out: &mut Vec<u8>, number: u32) -> Result<(), AllocError>
-    ensures { OnOk result (out.new.items ≡ out.old.items ++ padded_hex 8 number) }
-{
-    push_hex4(out, (number / 65536) as u16)?;
-    push_hex4(out, (number % 65536) as u16)
 }

@@ -1,36 +1,43 @@
 //! The printed text of attributes and next hops.
 
-ghost use Rattle.std.specs.Prelude.{◌≡◌, ◌++◌, OnOk, IfOk};
-ghost use Rattle.std.specs.String.{string_bytes};
+ghost use Rattle.std.specs.Prelude.{◌≡◌, ◌≤◌, ◌+◌, ◌++◌, OnOk, codes, length};
 ghost use Rattle.nl_attr.specs.Tree.{HopItems, Items, holds_of};
 ghost use Rattle.nl_attr.specs.View.{attr_view, attrs_view, hop_view, hops_view, value_view};
-ghost use Rattle.rtnl.specs.Trees.{attr_line, deeper, flags_text, held_text, hop_line, hops_text, inline_text, inner_context, items_text};
+ghost use Rattle.rtnl.specs.Trees.{attr_line, deeper, flags_text, held_text, hop_line, hops_text};
+ghost use Rattle.rtnl.specs.Trees.{indented, inline_text, inner_context, items_text};
 
 use crate::text::attributes::{Form, attribute};
 use crate::text::flags::HopFlags;
 use crate::text::names::push_names;
-use crate::text::pieces::{push, push_decimal, push_hex2, push_numbers, push_signed};
+use crate::text::pieces::{push, push_decimal};
+use crate::text::segment::Segment;
 use crate::text::values::{push_value, read_payload};
 use nl_attr::{Attr, AttrFlags, Content, Ctx, Hop, Order, Value, holds};
-use std::alloc::{AllocError, Global};
+use std::alloc::AllocError;
 
+/// Puts the words of an attribute's flags in front.
+#[inline(always)]
 #[tactic(auto, unfolding(crate::specs::Trees::flags_text))]
-fn flag_words(flags: AttrFlags) -> &'static str
-    ensures { result.now ≡ flags_text flags }
+fn put_flags(text: &mut Segment, flags: AttrFlags)
+    requires { 10 + length text.old ≤ 256 }
+    ensures text { text.new ≡ flags_text flags ++ text.old }
+    ensures len { length text.new ≤ 10 + length text.old }
 {
     match (flags.nested, flags.net) {
-        (false, false) => "-",
-        (false, true) => "net",
-        (true, false) => "nested",
-        (true, true) => "nested,net",
+        (false, false) => text.put("-"),
+        (false, true) => text.put("net"),
+        (true, false) => text.put("nested"),
+        (true, true) => text.put("nested,net"),
     }
 }
 
-#[tactic(auto, unfolding(crate::specs::Trees::deeper))]
-fn deeper_indent(alloc: Global, indent: &str) -> Result<String, AllocError>
-    ensures { IfOk result (λ s. string_bytes s ≡ deeper indent.now) }
+/// Writes what stands before the words of a line inside a body.
+#[inline(always)]
+fn push_indent(out: &mut Vec<u8>, indent: &[u8]) -> Result<(), AllocError>
+    ensures { OnOk result (out.new.items ≡ out.old.items ++ indented indent.now) }
 {
-    format!(in alloc; "{indent}  ")
+    push(out, "    ")?;
+    out.extend_from_slice(indent)
 }
 
 /// The context of the attributes inside one.
@@ -70,26 +77,27 @@ fn push_inline(
 }
 
 /// Writes an attribute's own line.
-#[tactic(auto, unfolding(crate::specs::Trees::attr_line))]
+#[tactic(auto, unfolding(crate::specs::Trees::attr_line), using(std::proofs::Common::append_assoc))]
 fn push_attr_line(
     out: &mut Vec<u8>,
     order: Order,
-    indent: &str,
+    indent: &[u8],
     ctx: Ctx,
     attr: &Attr,
 ) -> Result<(), AllocError>
     ensures { OnOk result (out.new.items ≡ out.old.items
-        ++ attr_line order indent.now ctx attr.now.number attr.now.flags (value_view attr.now.value)) }
+        ++ attr_line order (indented indent.now) ctx attr.now.number attr.now.flags (value_view attr.now.value)) }
 {
-    let number = attr.number;
-    let (name, form) = attribute(ctx, number);
-    push(out, indent)?;
-    push_numbers(out, &[("attr ", number as u64)])?;
-    push(out, " ")?;
-    push(out, name)?;
-    push(out, " ")?;
-    push(out, flag_words(attr.flags))?;
-    push(out, " ")?;
+    let (name, form) = attribute(ctx, attr.number);
+    let mut front = Segment::new();
+    front.put(" ");
+    put_flags(&mut front, attr.flags);
+    front.put(" ");
+    front.put(name);
+    front.put(" ");
+    front.put_field("attr ", attr.number as u64);
+    push_indent(out, indent)?;
+    front.push_to(out)?;
     push_inline(out, order, form, attr.flags.net, &attr.value)?;
     push(out, "\n")
 }
@@ -98,82 +106,95 @@ fn push_attr_line(
 #[tactic(auto, unfolding(crate::specs::Trees::hop_line), using(std::proofs::Common::append_assoc))]
 fn push_hop_line(
     out: &mut Vec<u8>,
-    indent: &str,
+    indent: &[u8],
     flags: u8,
     hops: u8,
     index: i32,
 ) -> Result<(), AllocError>
-    ensures { OnOk result (out.new.items ≡ out.old.items ++ hop_line indent.now flags hops index) }
+    ensures { OnOk result (out.new.items ≡ out.old.items ++ hop_line (indented indent.now) flags hops index) }
 {
-    push(out, indent)?;
-    push(out, "hop flags 0x")?;
-    push_hex2(out, flags)?;
-    push(out, " ")?;
+    let mut front = Segment::new();
+    front.put(" ");
+    front.put_hex2(flags);
+    front.put("hop flags 0x");
+    push_indent(out, indent)?;
+    front.push_to(out)?;
     push_names(out, &HopFlags(flags))?;
-    push_numbers(out, &[(" hops ", hops as u64)])?;
-    push(out, " index ")?;
-    push_signed(out, index)?;
-    push(out, "\n")
+    let mut end = Segment::new();
+    end.put("\n");
+    end.put_signed(index);
+    end.put(" index ");
+    end.put_field(" hops ", hops as u64);
+    end.push_to(out)
 }
 
 /// Writes an attribute, and what it holds.
 #[cycle(printing)]
 fn push_attr(
-    alloc: Global,
     out: &mut Vec<u8>,
+    indent: &mut Vec<u8>,
     order: Order,
-    indent: &str,
     ctx: Ctx,
     attr: &Attr,
 ) -> Result<(), AllocError>
-    ensures { OnOk result ((more : Items) → out.new.items ++ items_text order indent.now ctx more
-        ≡ out.old.items ++ items_text order indent.now ctx (attr_view attr.now more)) }
+    ensures text { OnOk result ((more : Items) →
+        out.new.items ++ items_text order (indented indent.old.items) ctx more
+        ≡ out.old.items ++ items_text order (indented indent.old.items) ctx (attr_view attr.now more)) }
+    ensures same { OnOk result (indent.new.items ≡ indent.old.items) }
 {
-    push_attr_line(out, order, indent, ctx, attr)?;
+    push_attr_line(out, order, indent.as_slice(), ctx, attr)?;
     let inner = inner(ctx, attr.number, attr.flags);
-    push_held(alloc, out, order, indent, inner, &attr.value)
+    push_held(out, indent, order, inner, &attr.value)
 }
 
 /// Writes what an attribute holds, in the context of the attributes inside.
 #[cycle(printing)]
 fn push_held(
-    alloc: Global,
     out: &mut Vec<u8>,
+    indent: &mut Vec<u8>,
     order: Order,
-    indent: &str,
     ctx: Ctx,
     value: &Value,
 ) -> Result<(), AllocError>
-    ensures { OnOk result (out.new.items ≡ out.old.items
-        ++ held_text order (deeper indent.now) ctx (value_view value.now)) }
+    ensures text { OnOk result (out.new.items ≡ out.old.items
+        ++ held_text order (deeper (indented indent.old.items)) ctx (value_view value.now)) }
+    ensures same { OnOk result (indent.new.items ≡ indent.old.items) }
 {
     match value {
         Value::Bytes(_) => Ok(()),
         Value::List(attrs) => {
-            let indent = deeper_indent(alloc, indent)?;
-            push_attrs(alloc, out, order, indent.as_str(), ctx, attrs)
+            let depth = indent.len();
+            push(indent, "  ")?;
+            push_attrs(out, indent, order, ctx, attrs)?;
+            indent.truncate(depth);
+            Ok(())
         }
         Value::Hops(hops) => {
-            let indent = deeper_indent(alloc, indent)?;
-            push_hops(alloc, out, order, indent.as_str(), hops)
+            let depth = indent.len();
+            push(indent, "  ")?;
+            push_hops(out, indent, order, hops)?;
+            indent.truncate(depth);
+            Ok(())
         }
     }
 }
 
-/// Writes attributes in a context, each followed by what it holds, a line each behind `indent`.
+/// Writes attributes in a context, each followed by what it holds, a line each, indented as the
+/// attributes of a body and by `indent` besides. That is as it was where all are written.
 #[cycle(printing)]
 pub(crate) fn push_attrs(
-    alloc: Global,
     out: &mut Vec<u8>,
+    indent: &mut Vec<u8>,
     order: Order,
-    indent: &str,
     ctx: Ctx,
     attrs: &[Attr],
 ) -> Result<(), AllocError>
-    ensures { OnOk result (out.new.items ≡ out.old.items ++ items_text order indent.now ctx (attrs_view attrs.now)) }
+    ensures text { OnOk result (out.new.items ≡ out.old.items
+        ++ items_text order (indented indent.old.items) ctx (attrs_view attrs.now)) }
+    ensures same { OnOk result (indent.new.items ≡ indent.old.items) }
 {
     for attr in attrs {
-        push_attr(alloc, out, order, indent, ctx, attr)?;
+        push_attr(out, indent, order, ctx, attr)?;
     }
     Ok(())
 }
@@ -181,32 +202,37 @@ pub(crate) fn push_attrs(
 /// Writes a next hop, and its attributes.
 #[cycle(printing)]
 fn push_hop(
-    alloc: Global,
     out: &mut Vec<u8>,
+    indent: &mut Vec<u8>,
     order: Order,
-    indent: &str,
     hop: &Hop,
 ) -> Result<(), AllocError>
-    ensures { OnOk result ((more : HopItems) → out.new.items ++ hops_text order indent.now more
-        ≡ out.old.items ++ hops_text order indent.now (hop_view hop.now more)) }
+    ensures text { OnOk result ((more : HopItems) →
+        out.new.items ++ hops_text order (indented indent.old.items) more
+        ≡ out.old.items ++ hops_text order (indented indent.old.items) (hop_view hop.now more)) }
+    ensures same { OnOk result (indent.new.items ≡ indent.old.items) }
 {
-    push_hop_line(out, indent, hop.flags, hop.hops, hop.ifindex)?;
-    let indent = deeper_indent(alloc, indent)?;
-    push_attrs(alloc, out, order, indent.as_str(), Ctx::Route, &hop.attrs)
+    push_hop_line(out, indent.as_slice(), hop.flags, hop.hops, hop.ifindex)?;
+    let depth = indent.len();
+    push(indent, "  ")?;
+    push_attrs(out, indent, order, Ctx::Route, &hop.attrs)?;
+    indent.truncate(depth);
+    Ok(())
 }
 
 #[cycle(printing)]
 fn push_hops(
-    alloc: Global,
     out: &mut Vec<u8>,
+    indent: &mut Vec<u8>,
     order: Order,
-    indent: &str,
     hops: &[Hop],
 ) -> Result<(), AllocError>
-    ensures { OnOk result (out.new.items ≡ out.old.items ++ hops_text order indent.now (hops_view hops.now)) }
+    ensures text { OnOk result (out.new.items ≡ out.old.items
+        ++ hops_text order (indented indent.old.items) (hops_view hops.now)) }
+    ensures same { OnOk result (indent.new.items ≡ indent.old.items) }
 {
     for hop in hops {
-        push_hop(alloc, out, order, indent, hop)?;
+        push_hop(out, indent, order, hop)?;
     }
     Ok(())
 }

@@ -1,13 +1,14 @@
 //! What a payload is read as, and how that is printed.
 
-ghost use Rattle.std.specs.Prelude.{◌≡◌, ◌+◌, ◌<◌, ◌++◌, length, OnOk};
+ghost use Rattle.std.specs.Prelude.{◌≡◌, ◌+◌, ◌<◌, ◌≤◌, ◌++◌, length, OnOk};
 ghost use Rattle.std.specs.List.{list_all};
 ghost use Rattle.rtnl.specs.Readings.{reading_view};
 ghost use Rattle.rtnl.specs.Text.{padded_hex};
 ghost use Rattle.rtnl.specs.Values.{group_at, groups_text, hex, ip_reading, ipv4_text, ipv6_text, is_plain, is_plain_byte, reading_of, reading_text, reading_word, stem_of, text_reading, u16_reading, u32_reading, u8_reading, value_text};
 
 use crate::text::attributes::Form;
-use crate::text::pieces::{push, push_decimal, push_hex, push_hex4, push_numbers};
+use crate::text::pieces::{push, push_decimal, push_hex};
+use crate::text::segment::Segment;
 use nl_attr::Order;
 use std::alloc::AllocError;
 
@@ -139,54 +140,63 @@ pub(crate) fn word(reading: Reading<'_>) -> &'static str
     }
 }
 
-/// Writes an address of IPv4.
+/// An address of IPv4.
+#[inline(always)]
 #[tactic(auto, unfolding(crate::specs::Values::ipv4_text))]
-pub(crate) fn push_ipv4(out: &mut Vec<u8>, address: [u8; 4]) -> Result<(), AllocError>
-    ensures { OnOk result (out.new.items ≡ out.old.items ++ ipv4_text address) }
+pub(crate) fn ipv4(address: [u8; 4]) -> Segment
+    ensures { result ≡ ipv4_text address }
 {
     let [a, b, c, d] = address;
-    push_numbers(
-        out,
-        &[
-            ("", a as u64),
-            (".", b as u64),
-            (".", c as u64),
-            (".", d as u64),
-        ],
-    )
+    let mut text = Segment::new();
+    text.put_number(d as u64);
+    text.put(".");
+    text.put_number(c as u64);
+    text.put(".");
+    text.put_number(b as u64);
+    text.put(".");
+    text.put_number(a as u64);
+    text
 }
 
+#[inline(always)]
 #[tactic(auto, unfolding(crate::specs::Values::group_at))]
-fn push_group(out: &mut Vec<u8>, address: &[u8; 16], i: usize) -> Result<(), AllocError>
-    requires { i + 1 < 16 }
-    ensures { OnOk result (out.new.items ≡ out.old.items ++ padded_hex 4 (group_at i address.now)) }
+fn put_group(text: &mut Segment, address: &[u8; 16], i: usize)
+    requires room { 4 + length text.old ≤ 256 }
+    requires within { i + 1 < 16 }
+    ensures text { text.new ≡ padded_hex 4 (group_at i address.now) ++ text.old }
+    ensures len { length text.new ≡ 4 + length text.old }
 {
-    push_hex4(out, 256 * u16::from(address[i]) + u16::from(address[i + 1]))
+    text.put_hex4(256 * u16::from(address[i]) + u16::from(address[i + 1]));
 }
 
-/// Writes four groups, from place i on.
-#[tactic(auto, unfolding(crate::specs::Values::groups_text))]
-fn push_groups(out: &mut Vec<u8>, address: &[u8; 16], i: usize) -> Result<(), AllocError>
-    requires { i + 7 < 16 }
-    ensures { OnOk result (out.new.items ≡ out.old.items ++ groups_text i address.now) }
+/// Puts four groups in front, from place i on.
+#[inline(always)]
+#[tactic(auto, unfolding(crate::specs::Values::groups_text), using(std::proofs::Common::append_assoc))]
+fn put_groups(text: &mut Segment, address: &[u8; 16], i: usize)
+    requires room { 19 + length text.old ≤ 256 }
+    requires within { i + 7 < 16 }
+    ensures text { text.new ≡ groups_text i address.now ++ text.old }
+    ensures len { length text.new ≡ 19 + length text.old }
 {
-    push_group(out, address, i)?;
-    push(out, ":")?;
-    push_group(out, address, i + 2)?;
-    push(out, ":")?;
-    push_group(out, address, i + 4)?;
-    push(out, ":")?;
-    push_group(out, address, i + 6)
+    put_group(text, address, i + 6);
+    text.put(":");
+    put_group(text, address, i + 4);
+    text.put(":");
+    put_group(text, address, i + 2);
+    text.put(":");
+    put_group(text, address, i);
 }
 
-/// Writes an address of IPv6.
+/// An address of IPv6.
 #[tactic(auto, unfolding(crate::specs::Values::ipv6_text))]
-pub(crate) fn push_ipv6(out: &mut Vec<u8>, address: &[u8; 16]) -> Result<(), AllocError>
-    ensures { OnOk result (out.new.items ≡ out.old.items ++ ipv6_text address.now) }
+pub(crate) fn ipv6(address: &[u8; 16]) -> Segment
+    ensures { result ≡ ipv6_text address.now }
 {
-    push_groups(out, address, 0)?;
-    push(out, ":")?;
-    push_groups(out, address, 8)
+    let mut text = Segment::new();
+    put_groups(&mut text, address, 8);
+    text.put(":");
+    put_groups(&mut text, address, 0);
+    text
 }
 
 /// Writes what is printed behind the word.
@@ -199,8 +209,8 @@ fn push_reading(out: &mut Vec<u8>, reading: Reading<'_>) -> Result<(), AllocErro
         Reading::U16(number) => push_decimal(out, number as u64),
         Reading::U32(number) => push_decimal(out, number as u64),
         Reading::Text(text) => push(out, text),
-        Reading::Ipv4(address) => push_ipv4(out, address),
-        Reading::Ipv6(address) => push_ipv6(out, &address),
+        Reading::Ipv4(address) => ipv4(address).push_to(out),
+        Reading::Ipv6(address) => ipv6(&address).push_to(out),
         Reading::Hex(bytes) => push_hex(out, bytes),
     }
 }

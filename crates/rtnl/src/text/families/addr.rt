@@ -3,8 +3,8 @@
 use crate::objects::line::Line;
 use crate::text::attributes::Form;
 use crate::text::families::HeadLine;
-use crate::text::pieces::{push, push_hex2, push_numbers};
 use crate::text::rows::Row;
+use crate::text::segment::Segment;
 use nl_route::AddrHead;
 use std::alloc::AllocError;
 
@@ -41,17 +41,15 @@ impl HeadLine for AddrHead {
             scope,
             index,
         } = *self;
-        push_numbers(
-            out,
-            &[
-                ("  addr family ", family as u64),
-                (" prefix ", prefixlen as u64),
-            ],
-        )?;
-        push(out, " flags 0x")?;
-        push_hex2(out, flags)?;
-        push_numbers(out, &[(" scope ", scope as u64), (" index ", index as u64)])?;
-        push(out, "\n")
+        let mut line = Segment::new();
+        line.put("\n");
+        line.put_field(" index ", index as u64);
+        line.put_field(" scope ", scope as u64);
+        line.put_hex2(flags);
+        line.put(" flags 0x");
+        line.put_field(" prefix ", prefixlen as u64);
+        line.put_field("  addr family ", family as u64);
+        line.push_to(out)
     }
 
     #[tactic(auto, unfolding(crate::specs::Addr::addr_fields), using(crate::proofs::Json::more_fields))]

@@ -6,8 +6,8 @@ use crate::text::attributes::Form;
 use crate::text::families::HeadLine;
 use crate::text::flags::LinkFlags;
 use crate::text::names::push_names;
-use crate::text::pieces::{push, push_hex8, push_numbers, push_signed};
 use crate::text::rows::Row;
+use crate::text::segment::Segment;
 use nl_route::LinkHead;
 use std::alloc::AllocError;
 
@@ -63,22 +63,21 @@ impl HeadLine for LinkHead {
             flags,
             change,
         } = *self;
-        push_numbers(
-            out,
-            &[
-                ("  link family ", family as u64),
-                (" type ", hardware as u64),
-            ],
-        )?;
-        push(out, " index ")?;
-        push_signed(out, index)?;
-        push(out, " flags 0x")?;
-        push_hex8(out, flags)?;
-        push(out, " ")?;
+        let mut front = Segment::new();
+        front.put(" ");
+        front.put_hex8(flags);
+        front.put(" flags 0x");
+        front.put_signed(index);
+        front.put(" index ");
+        front.put_field(" type ", hardware as u64);
+        front.put_field("  link family ", family as u64);
+        front.push_to(out)?;
         push_names(out, &LinkFlags(flags))?;
-        push(out, " change 0x")?;
-        push_hex8(out, change)?;
-        push(out, "\n")
+        let mut end = Segment::new();
+        end.put("\n");
+        end.put_hex8(change);
+        end.put(" change 0x");
+        end.push_to(out)
     }
 
     #[tactic(auto, unfolding(crate::specs::Link::link_fields), using(crate::proofs::Json::more_fields))]

@@ -13,9 +13,6 @@ use nl_attr::Order;
 use nl_route::{Family, Head};
 use std::alloc::{AllocError, Global};
 
-/// What stands before the attributes of a body.
-const INDENT: &str = "    ";
-
 /// The head of a family, as it is printed.
 pub(crate) trait HeadLine: Head {
     ghost use Rattle.std.specs.Prelude.{◌≡◌, ◌++◌, OnOk};
@@ -69,7 +66,7 @@ impl<H: HeadLine> Shown for Family<H> {
 
     fn push(&self, alloc: Global, out: &mut Vec<u8>, order: Order) -> Result<(), AllocError> {
         self.head.push_line(out)?;
-        push_attrs(alloc, out, order, INDENT, H::context(), &self.attrs)
+        push_attrs(out, &mut Vec::new(alloc), order, H::context(), &self.attrs)
     }
 
     fn push_field(&self, alloc: Global, line: &mut Line, order: Order) -> Result<(), AllocError> {

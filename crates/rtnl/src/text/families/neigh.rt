@@ -6,8 +6,8 @@ use crate::text::attributes::Form;
 use crate::text::families::HeadLine;
 use crate::text::flags::{NeighFlags, NeighState};
 use crate::text::names::push_names;
-use crate::text::pieces::{push, push_hex2, push_hex4, push_numbers, push_signed};
 use crate::text::rows::Row;
+use crate::text::segment::Segment;
 use nl_route::NeighHead;
 use std::alloc::AllocError;
 
@@ -44,19 +44,25 @@ impl HeadLine for NeighHead {
             flags,
             sort,
         } = *self;
-        push_numbers(out, &[("  neigh family ", family as u64)])?;
-        push(out, " index ")?;
-        push_signed(out, ifindex)?;
-        push(out, " state 0x")?;
-        push_hex4(out, state)?;
-        push(out, " ")?;
+        let mut front = Segment::new();
+        front.put(" ");
+        front.put_hex4(state);
+        front.put(" state 0x");
+        front.put_signed(ifindex);
+        front.put(" index ");
+        front.put_field("  neigh family ", family as u64);
+        front.push_to(out)?;
         push_names(out, &NeighState(state))?;
-        push(out, " flags 0x")?;
-        push_hex2(out, flags)?;
-        push(out, " ")?;
+        let mut middle = Segment::new();
+        middle.put(" ");
+        middle.put_hex2(flags);
+        middle.put(" flags 0x");
+        middle.push_to(out)?;
         push_names(out, &NeighFlags(flags))?;
-        push_numbers(out, &[(" type ", sort as u64)])?;
-        push(out, "\n")
+        let mut end = Segment::new();
+        end.put("\n");
+        end.put_field(" type ", sort as u64);
+        end.push_to(out)
     }
 
     #[tactic(auto, unfolding(crate::specs::Neigh::neigh_fields), using(crate::proofs::Json::more_fields))]

@@ -3,8 +3,8 @@
 use crate::objects::line::Line;
 use crate::text::attributes::Form;
 use crate::text::families::HeadLine;
-use crate::text::pieces::{push, push_hex8, push_numbers};
 use crate::text::rows::Row;
+use crate::text::segment::Segment;
 use nl_route::RuleHead;
 use std::alloc::AllocError;
 
@@ -43,20 +43,17 @@ impl HeadLine for RuleHead {
             action,
             flags,
         } = *self;
-        push_numbers(
-            out,
-            &[
-                ("  rule family ", family as u64),
-                (" dst_len ", dst_len as u64),
-                (" src_len ", src_len as u64),
-                (" tos ", tos as u64),
-                (" table ", table as u64),
-                (" action ", action as u64),
-            ],
-        )?;
-        push(out, " flags 0x")?;
-        push_hex8(out, flags)?;
-        push(out, "\n")
+        let mut line = Segment::new();
+        line.put("\n");
+        line.put_hex8(flags);
+        line.put(" flags 0x");
+        line.put_field(" action ", action as u64);
+        line.put_field(" table ", table as u64);
+        line.put_field(" tos ", tos as u64);
+        line.put_field(" src_len ", src_len as u64);
+        line.put_field(" dst_len ", dst_len as u64);
+        line.put_field("  rule family ", family as u64);
+        line.push_to(out)
     }
 
     #[tactic(auto, unfolding(crate::specs::Rule::rule_fields), using(crate::proofs::Json::more_fields))]

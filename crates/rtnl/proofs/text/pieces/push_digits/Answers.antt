@@ -1,7 +1,7 @@
 use Rattle.std.proofs.Common.{◌≡◌, ◌++◌, ◌∙◌, ap, sym, append_assoc}
 use Rattle.std.proofs.lemmas.List.{take-append-drop}
 use Rattle.hex.specs.Hex.{encode_lower}
-use Rattle.rtnl.proofs.Pieces.{digits_append}
+use Rattle.rtnl.proofs.Digits.{digits_append}
 use Rattle.rtnl.proofs.text.pieces.push_digits.Goals as goal
 
 pub loop-rest-preserved : goal.loop-rest-preserved

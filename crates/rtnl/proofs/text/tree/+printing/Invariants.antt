@@ -1,16 +1,18 @@
 use Rattle.std.proofs.Common.{◌≡◌, ◌++◌, drop}
 use Rattle.nl_attr.specs.View.{attrs_view, hops_view}
-use Rattle.rtnl.specs.Trees.{items_text, hops_text}
+use Rattle.rtnl.specs.Trees.{indented, items_text, hops_text}
 use Rattle.rtnl.proofs.text.tree.+printing.Given as goal
 
--- what is written and what is left give the whole
+-- what is written and what is left give the whole, and the indentation is as it was
 abbrev pub invariant-push_attrs-loop-attr : goal.invariant-push_attrs-loop-attr
 invariant-push_attrs-loop-attr l =
-    l.out.items ++ items_text l.order l.indent l.ctx (attrs_view (drop l.attr-index l.attrs))
-    ≡ l.initial.out.items ++ items_text l.order l.indent l.ctx (attrs_view l.attrs)
+    (l.out.items ++ items_text l.order (indented l.initial.indent.items) l.ctx (attrs_view (drop l.attr-index l.attrs))
+    ≡ l.initial.out.items ++ items_text l.order (indented l.initial.indent.items) l.ctx (attrs_view l.attrs))
+    × (l.indent.items ≡ l.initial.indent.items)
 
 -- the same of next hops
 abbrev pub invariant-push_hops-loop-hop : goal.invariant-push_hops-loop-hop
 invariant-push_hops-loop-hop l =
-    l.out.items ++ hops_text l.order l.indent (hops_view (drop l.hop-index l.hops))
-    ≡ l.initial.out.items ++ hops_text l.order l.indent (hops_view l.hops)
+    (l.out.items ++ hops_text l.order (indented l.initial.indent.items) (hops_view (drop l.hop-index l.hops))
+    ≡ l.initial.out.items ++ hops_text l.order (indented l.initial.indent.items) (hops_view l.hops))
+    × (l.indent.items ≡ l.initial.indent.items)

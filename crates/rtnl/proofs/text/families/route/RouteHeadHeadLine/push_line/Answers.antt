@@ -1,18 +1,10 @@
-use Rattle.std.proofs.Common.{[], ◌∷◌, codes}
-use Rattle.std.proofs.lemmas.Result.{IfOk-weaker}
-use Rattle.rtnl.specs.Text.{padded_hex}
+use Rattle.std.proofs.Common.{refl}
+use Rattle.std.proofs.lemmas.Result.{IfOk-equal}
 use Rattle.rtnl.specs.Route.{route_line}
-use Rattle.rtnl.proofs.Pieces.{numbers, whole, words}
 use Rattle.rtnl.proofs.text.families.route.RouteHeadHeadLine.push_line.Goals as goal
 
 pub returns : goal.returns
 unfolding route_line
 returns c =
-    let a = c.args in
-    let h = a.self.now in
-    IfOk-weaker c.push-2.result _ _
-    (λ _ last. whole a.out.now.items
-    (numbers ((codes "  route family ", h.family) ∷ (codes " dst_len ", h.dst_len) ∷ (codes " src_len ", h.src_len) ∷ (codes " tos ", h.tos) ∷ (codes " table ", h.table) ∷ (codes " protocol ", h.protocol) ∷ (codes " scope ", h.scope) ∷ (codes " type ", h.sort) ∷ []) ∷ words (codes " flags 0x") ∷ words (padded_hex 8 h.flags) ∷ [])
-    (codes "\n") c.push-2.new.out.items
-    (_, c.in_ok-push_numbers.ensures, (_, c.in_ok-push.ensures, (_, c.in_ok-push_hex8.ensures, last))))
-    c.push-2.ensures
+    IfOk-equal c.push_to.result _ _ _ c.push_to.ensures
+    (rw (c.put_field-8.ensures.text, c.put_field-7.ensures.text, c.put_field-6.ensures.text, c.put_field-5.ensures.text, c.put_field-4.ensures.text, c.put_field-3.ensures.text, c.put_field-2.ensures.text, c.put_field.ensures.text, c.put-2.ensures.text, c.put_hex8.ensures.text, c.put.ensures.text, c.new-line.ensures) refl)
