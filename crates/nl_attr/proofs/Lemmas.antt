@@ -34,3 +34,9 @@ pub mod Fitted
 pub mod Comparing
 pub mod Sized
 pub mod Towards
+pub mod Trail
+pub mod Fronts
+pub mod Putting
+pub mod Standing
+pub mod Taping
+pub mod Scanned

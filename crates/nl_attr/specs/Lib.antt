@@ -19,3 +19,6 @@ pub mod Measured
 pub mod Compared
 pub mod Broken
 pub mod Towards
+pub mod Trail
+pub mod Taped
+pub mod Scanned

@@ -96,7 +96,7 @@ abbrev pub IsLow : Shape → Sort → ℕ → Type 0
 IsLow S attr_head l = l ≤ S.depth
 IsLow S hop_head l = l + 1 ≤ S.depth
 
-record Inner (S : Shape) (s : Sort) (l : ℕ) (left : List ℕ) (k : Head) : Type 0 where
+pub record Inner (S : Shape) (s : Sort) (l : ℕ) (left : List ℕ) (k : Head) : Type 0 where
   pub level : k.level ≡ l + 1
   pub left_is : k.left ≡ payload_of S.order (least s) 2 left
   pub room : l + 1 ≤ S.depth
@@ -114,7 +114,7 @@ inner_low S content.Hops place l len left payload k e is p =
     let up = ltb-false _ _ (tests_none (ltb 65532 len) (ltb S.depth (l + 2)) e) in
     subst (Inner S attr_head l left) (some_head _ k is) (record { level = refl; left_is = p; room = omega (arith, up); low = omega (arith, up) })
 
-inner_is : (S : Shape) (s : Sort) (c : Ctx) (place l : ℕ) (left : List ℕ) (k : Head) → IsLow S s l → broken_in S c l s left ≡ None → inner_at S s place c l left ≡ Some k → Inner S s l left k
+pub inner_is : (S : Shape) (s : Sort) (c : Ctx) (place l : ℕ) (left : List ℕ) (k : Head) → IsLow S s l → broken_in S c l s left ≡ None → inner_at S s place c l left ≡ Some k → Inner S s l left k
 inner_is S attr_head c place l left k low e is = inner_low S (content_at S.order c left) (place + 4) l (len_of S.order 2 left) left (payload_of S.order 4 2 left) k (or_else_none _ _ e).1 is refl
 inner_is S hop_head c place l left k low e is = subst (Inner S hop_head l left) (some_head _ k is) (record { level = refl; left_is = refl; room = low; low = low })
 

@@ -207,7 +207,7 @@ stops_attr : (S : Shape) (s : Head) (r : Reason) (a b : Option Reason) → broke
 stops_attr S s r (Some t) b x y e is = stops_length S s 4 r (x ∙ e) is
 stops_attr S s r None b x y e is = in_container S s r s.level (content_at S.order s.ctx s.left) (len_of S.order 2 s.left) (y ∙ e) (subst (λ h. broken_length S.order h 2 s.left ≡ None) (sym is) x)
 
-stops_sort : (S : Shape) (s : Head) (t : Sort) (r : Reason) → s.sort ≡ t → broken_in S s.ctx s.level t s.left ≡ Some r → StopsAt S r s
+pub stops_sort : (S : Shape) (s : Head) (t : Sort) (r : Reason) → s.sort ≡ t → broken_in S s.ctx s.level t s.left ≡ Some r → StopsAt S r s
 stops_sort S s hop_head r is e = stops_length S s 8 r e (ap least is)
 stops_sort S s attr_head r is e = stops_attr S s r _ _ refl refl e (ap least is)
 

@@ -5,7 +5,7 @@ ghost use Rattle.std.specs.Prelude.{◌≡◌, ◌+◌, ◌≤◌, length};
 use crate::fault::{Fault, Reason};
 use crate::order::Order;
 use crate::tree::AttrFlags;
-use crate::walk::{align4, head_len};
+use crate::walk::{flags_in, head_len, kind_at, span_at};
 use std::marker::Model;
 
 /// An attribute as it lies in its region.
@@ -112,16 +112,13 @@ impl<'a> Iterator for Attrs<'a> {
                 Some(Err(Fault { place, reason }))
             }
             Ok(len) => {
-                let kind = self.order.read_u16(&left[2..]);
-                let span = (align4(len as u32) as usize).min(left.len());
+                let kind = kind_at(self.order, left);
+                let span = span_at(left, len);
                 self.left = &left[span..];
                 self.place = place + span as u32;
                 Some(Ok(Part {
                     number: kind % 16384,
-                    flags: AttrFlags {
-                        nested: kind / 32768 == 1,
-                        net: kind / 16384 % 2 == 1,
-                    },
+                    flags: flags_in(kind),
                     place,
                     span: span as u32,
                     payload: &left[4..len],

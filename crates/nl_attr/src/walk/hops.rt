@@ -6,7 +6,7 @@ ghost use Rattle.nl_attr.specs.Walk.{HeadIs, IsHopPart, index_of};
 
 use crate::fault::{Fault, Reason};
 use crate::order::Order;
-use crate::walk::{align4, head_len};
+use crate::walk::{head_len, span_at};
 use std::marker::Model;
 
 /// The index of the interface in the head of a next hop.
@@ -138,7 +138,7 @@ impl<'a> Iterator for HopParts<'a> {
                 Some(Err(Fault { place, reason }))
             }
             Ok(len) => {
-                let span = (align4(len as u32) as usize).min(left.len());
+                let span = span_at(left, len);
                 self.left = &left[span..];
                 self.place = place + span as u32;
                 Some(Ok(hop_part(self.order, left, len, place, span as u32)))

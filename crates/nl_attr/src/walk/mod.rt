@@ -1,8 +1,8 @@
 //! Walks over the attributes or the next hops of a region, which allocate nothing.
 
-ghost use Rattle.std.specs.Prelude.{◌≡◌, ◌≤◌};
-ghost use Rattle.nl_attr.specs.Numbers.{aligned};
-ghost use Rattle.nl_attr.specs.Walk.{HeadIs};
+ghost use Rattle.std.specs.Prelude.{◌≡◌, ◌≤◌, length, min};
+ghost use Rattle.nl_attr.specs.Numbers.{aligned, kind_of};
+ghost use Rattle.nl_attr.specs.Walk.{HeadIs, flags_of};
 
 mod attrs;
 mod counted;
@@ -10,6 +10,7 @@ mod hops;
 
 use crate::fault::Reason;
 use crate::order::Order;
+use crate::tree::AttrFlags;
 pub use attrs::{Attrs, Part};
 pub(crate) use counted::{CountedAttrs, CountedHopParts};
 pub use hops::{HopPart, HopParts};
@@ -23,7 +24,7 @@ pub fn align4(n: u32) -> u32
 }
 
 /// The length that the head at the front says, where it is at least `min` and within the bytes.
-fn head_len(order: Order, left: &[u8], min: usize) -> Result<usize, Reason>
+pub(crate) fn head_len(order: Order, left: &[u8], min: usize) -> Result<usize, Reason>
     requires { 2 ≤ min }
     ensures { HeadIs order min 2 left.now result }
 {
@@ -35,4 +36,33 @@ fn head_len(order: Order, left: &[u8], min: usize) -> Result<usize, Reason>
         return Err(Reason::BadLength);
     }
     Ok(len)
+}
+
+/// The type field of the attribute at the front.
+#[inline(always)]
+pub(crate) fn kind_at(order: Order, left: &[u8]) -> u16
+    requires { 4 ≤ length left.now }
+    ensures { result ≡ kind_of order left.now }
+{
+    order.read_u16(&left[2..])
+}
+
+/// The two flag bits of a type field.
+#[inline(always)]
+pub(crate) fn flags_in(kind: u16) -> AttrFlags
+    ensures { result ≡ flags_of kind }
+{
+    AttrFlags {
+        nested: kind / 32768 == 1,
+        net: kind / 16384 % 2 == 1,
+    }
+}
+
+/// How many bytes an item of `len` bytes at the front occupies, with padding as far as present.
+#[inline(always)]
+pub(crate) fn span_at(left: &[u8], len: usize) -> usize
+    requires { len ≤ 1048576 }
+    ensures { result ≡ min (aligned len) (length left.now) }
+{
+    (align4(len as u32) as usize).min(left.len())
 }

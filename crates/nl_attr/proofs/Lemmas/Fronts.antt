@@ -1,0 +1,91 @@
+-- What stands at the front of a region, part by part, and the step past it.
+use Rattle.std.proofs.Common.{◌≡◌, ℕ, ◌+◌, ◌-◌, ◌%◌, false, List, [], ◌∷◌, take, drop, length, slice_set, Some, None, refl, sym, ap, subst, ◌∙◌, arith, length-drop}
+use Rattle.std.proofs.lemmas.List.{take_all}
+use Rattle.nl_attr.specs.declared.fault.Reason.{Reason}
+use Rattle.nl_attr.specs.declared.order.Order.{Order}
+use Rattle.nl_attr.specs.declared.taping.Taped.{Taped}
+use Rattle.nl_attr.specs.declared.tree.AttrFlags.{AttrFlags}
+use Rattle.nl_attr.specs.declared.tree.Ctx.{Ctx}
+use Rattle.nl_attr.specs.declared.tree.Ctx.TheVariants.{Route}
+use Rattle.nl_attr.specs.declared.tree.Content.{Content}
+use Rattle.nl_attr.specs.declared.tree.Content.TheVariants as content
+use Rattle.nl_attr.specs.declared.taping.fronts.Kind.{Kind}
+use Rattle.nl_attr.specs.declared.taping.fronts.Kind.TheVariants as kind
+use Rattle.nl_attr.specs.declared.events.Event.{Event}
+use Rattle.nl_attr.specs.declared.events.TheConstants.{SORT_NEXT_HOP}
+use Rattle.nl_attr.specs.Shape.{Shape}
+use Rattle.nl_attr.specs.Numbers.{kind_of, len_of}
+use Rattle.nl_attr.specs.Tree.{holds_of}
+use Rattle.nl_attr.specs.Walk.{broken_length, flags_of, payload_of}
+use Rattle.nl_attr.specs.Heads.{Head, content_at, broken, broken_container, inner_in, inner_of, span_at, start_of}
+use Rattle.nl_attr.specs.Taped.{Adds, ctx_in, hops_start, sort_in}
+use Rattle.nl_attr.specs.Trail.{event_of, sort_of, stopped}
+use Rattle.nl_attr.proofs.Lemmas.Trail.{container_stops}
+use Rattle.nl_attr.proofs.Lemmas.Putting.{put_one}
+
+-- what is told of an attribute
+pub event_so : (o : Order) (ctx : Ctx) (l place : ℕ) (left : List ℕ) (len kind : ℕ) (content : Content) (flags : AttrFlags) (sort : ℕ) → len ≡ length (payload_of o 4 2 left) → kind ≡ kind_of o left → flags ≡ flags_of kind → content ≡ holds_of ctx (kind % 16384) flags → sort ≡ sort_of content
+    → ◌≡◌ {A = Event} (record { place = place; len = len; number = kind % 16384; level = l; sort = sort; nested = flags.nested; net = flags.net }) (event_of o (start_of ctx l place left))
+event_so o ctx l place left len kind content flags sort a b c d e = rw (e, d, c, b, a) refl
+
+-- what it holds
+pub content_so : (o : Order) (ctx : Ctx) (left : List ℕ) (kind : ℕ) (content : Content) (flags : AttrFlags) → kind ≡ kind_of o left → flags ≡ flags_of kind → content ≡ holds_of ctx (kind % 16384) flags → content ≡ content_at o ctx left
+content_so o ctx left kind content flags b c d = rw (d, c, b) refl
+
+-- what is left behind an item
+left_so : (left : List ℕ) (n m : ℕ) → n ≡ m → take (length left - n) (drop n left) ≡ drop m left
+left_so left n m e = take_all (length left - n) (drop n left) (omega (arith, length-drop n left)) ∙ ap (λ (k : ℕ). drop k left) e
+
+-- where a region goes on behind an attribute
+pub rest_so : (ctx : Ctx) (l place : ℕ) (left : List ℕ) (n m : ℕ) → n ≡ m → start_of ctx l (place + n) (take (length left - n) (drop n left)) ≡ start_of ctx l (place + m) (drop m left)
+rest_so ctx l place left n m e = ap (λ (xs : List ℕ). start_of ctx l (place + n) xs) (left_so left n m e) ∙ ap (λ (k : ℕ). start_of ctx l (place + k) (drop m left)) e
+
+-- what is told of a next hop
+pub hop_event_so : (o : Order) (l place : ℕ) (left : List ℕ) (len : ℕ) → len ≡ length (payload_of o 8 2 left)
+    → ◌≡◌ {A = Event} (record { place = place; len = len; number = 0; level = l; sort = SORT_NEXT_HOP; nested = false; net = false }) (event_of o (hops_start l place left))
+hop_event_so o l place left len e = rw e refl
+
+-- the region of its attributes
+pub hop_attrs_so : (l place : ℕ) (payload body : List ℕ) → payload ≡ body → start_of Route (l + 1) (place + 8) payload ≡ start_of Route (l + 1) (place + 8) body
+hop_attrs_so l place payload body e = ap (λ (xs : List ℕ). start_of Route (l + 1) (place + 8) xs) e
+
+-- where a region goes on behind it
+pub hop_rest_so : (l place : ℕ) (left : List ℕ) (n m : ℕ) → n ≡ m → hops_start l (place + n) (take (length left - n) (drop n left)) ≡ hops_start l (place + m) (drop m left)
+hop_rest_so l place left n m e = ap (λ (xs : List ℕ). hops_start l (place + n) xs) (left_so left n m e) ∙ ap (λ (k : ℕ). hops_start l (place + k) (drop m left)) e
+
+-- ---- steps
+
+module _ (S : Shape) where
+  -- a head that is added
+  pub added : (h : Head) (before after : Taped) (old new : List Event) (e : Event) (span : ℕ) → e ≡ event_of S.order h → span ≡ span_at S h → new ≡ slice_set old before.count e → after ≡ record before { count = before.count + 1; visits = before.visits + span } → Adds S (h ∷ []) before after old new
+  added h before after old new e span is s out counts = record {
+    fault = ap (λ (t : Taped). t.fault) counts;
+    count = ap (λ (t : Taped). t.count) counts;
+    visits = omega (arith, ap (λ (t : Taped). t.visits) counts, s);
+    events = out ∙ ap (λ (x : Event). slice_set old before.count x) is ∙ sym (put_one before.count (event_of S.order h) old);
+  }
+
+  module _ (ctx : Ctx) (l place : ℕ) (left : List ℕ) (sound : broken_length S.order 4 2 left ≡ None) (held : Content) (holds : held ≡ content_at S.order ctx left) (len : ℕ) (is : len ≡ len_of S.order 2 left) where
+    -- the rule of containers that an attribute of sound length breaks
+    attr_breaks : broken S (start_of ctx l place left) ≡ broken_container S l held len
+    attr_breaks = rw (sound, holds, is) refl
+
+    -- it breaks one, and is added
+    pub attr_fails : (r : Reason) (before after : Taped) (old new : List Event) → broken_container S l held len ≡ Some r → Adds S (start_of ctx l place left ∷ []) before after old new → (broken S (start_of ctx l place left) ≡ Some r) × Adds S (stopped r (start_of ctx l place left)) before after old new
+    attr_fails r before after old new e a = (attr_breaks ∙ e, subst (λ (hs : List Head). Adds S hs before after old new) (sym (container_stops S l held len r (start_of ctx l place left) e)) a)
+
+    -- it breaks none
+    pub attr_goes : broken_container S l held len ≡ None → broken S (start_of ctx l place left) ≡ None
+    attr_goes e = attr_breaks ∙ e
+
+    -- the region in it
+    pub attr_inner : (payload : List ℕ) → payload ≡ payload_of S.order 4 2 left → inner_of S (start_of ctx l place left) ≡ inner_in held (place + 4) (l + 1) payload
+    attr_inner payload p = rw (holds, p) refl
+
+-- the region in an attribute that holds attributes
+pub list_inner : (held : Content) (k : Kind) (c : Ctx) (place l : ℕ) (payload : List ℕ) → held ≡ content.List c → k ≡ kind.Attrs c → inner_in held place l payload ≡ Some (record { place = place; sort = sort_in k; ctx = ctx_in k; level = l; left = payload })
+list_inner held k c place l payload e f = rw (e, f) refl
+
+-- that in one that holds next hops
+pub hops_inner : (held : Content) (k : Kind) (place l : ℕ) (payload : List ℕ) → held ≡ content.Hops → k ≡ kind.Hops → inner_in held place l payload ≡ Some (record { place = place; sort = sort_in k; ctx = ctx_in k; level = l; left = payload })
+hops_inner held k place l payload e f = rw (e, f) refl

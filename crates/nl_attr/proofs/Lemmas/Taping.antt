@@ -1,0 +1,272 @@
+-- The loop over a stack of open regions.
+use Rattle.std.proofs.Common.{◌≡◌, ◌≢◌, ℕ, suc, ◌+◌, ◌-◌, ◌*◌, ◌≤◌, ◌<◌, true, false, List, [], ◌∷◌, ◌++◌, length, drop, map, Option, Some, None, refl, sym, ap, subst, ◌∙◌, arith, append_assoc, length-drop, length-append, eqb}
+use Rattle.std.proofs.lemmas.Bool.{eqb-true}
+use Rattle.std.proofs.lemmas.List.{append-nil, length-map, map-append, nil_from_length}
+use Rattle.nl_attr.specs.declared.fault.Reason.{Reason}
+use Rattle.nl_attr.specs.declared.events.Event.{Event}
+use Rattle.nl_attr.specs.declared.taping.Taped.{Taped}
+use Rattle.nl_attr.specs.declared.tree.Ctx.{Ctx}
+use Rattle.nl_attr.specs.Shape.{Shape}
+use Rattle.nl_attr.specs.Numbers.{span_of}
+use Rattle.nl_attr.specs.Heads.{Sort, attr_head, Head, least, broken, follower, inner_of, start_of}
+use Rattle.nl_attr.specs.Visits.{spans}
+use Rattle.nl_attr.specs.Trail.{Trail, and_on, inner_trail, stopped, trail_of, event_of, put_from, visit_of, visits_of, fault_of}
+use Rattle.nl_attr.specs.Taped.{Adds, IsTaped}
+use Rattle.nl_attr.proofs.Lemmas.Reading.{sound_within, span_at_least, payload_length}
+use Rattle.nl_attr.proofs.Lemmas.Scan.{sound_of, span_within, inner_at_place, least_some}
+use Rattle.nl_attr.proofs.Lemmas.First.{items_scan, sum_append}
+use Rattle.nl_attr.proofs.Lemmas.Visited.{item_bounds}
+use Rattle.nl_attr.proofs.Lemmas.Every.{IsLow, inner_is}
+use Rattle.nl_attr.proofs.Lemmas.Bounds.{items_bound}
+use Rattle.nl_attr.proofs.Lemmas.Nested.{whole_fits}
+use Rattle.nl_attr.proofs.Lemmas.Trail.{scan_is, trail_ends, trail_stops, trail_goes}
+use Rattle.nl_attr.proofs.Lemmas.Putting.{put_none, put_on, put_untouched}
+use Rattle.nl_attr.proofs.Lemmas.Standing.{trail_few}
+
+-- ---- trails
+
+-- behind these heads
+abbrev pub front : List Head → Trail → Trail
+front hs t = (hs ++ t.0, t.1)
+
+front_on : (hs : List Head) (x y : Trail) → and_on (front hs x) y ≡ front hs (and_on x y)
+front_on hs (gs, None) y = ap (λ (l : List Head). (l, y.1)) (append_assoc hs gs y.0)
+front_on hs (gs, Some f) y = refl
+
+front_front : (hs gs : List Head) (t : Trail) → front hs (front gs t) ≡ front (hs ++ gs) t
+front_front hs gs t = ap (λ (l : List Head). (l, t.1)) (sym (append_assoc hs gs t.0))
+
+module _ (S : Shape) where
+  -- the heads of the regions that wait, the last of the list first
+  abbrev pub resume : List Head → Trail → Trail
+  resume [] t = t
+  resume (f ∷ fs) t = and_on (resume fs t) (trail_of S f)
+
+  resume_push : (fs : List Head) (f : Head) (t : Trail) → resume (fs ++ f ∷ []) t ≡ resume fs (and_on t (trail_of S f))
+  resume_push [] f t = refl
+  resume_push (g ∷ fs) f t = ap (λ (x : Trail). and_on x (trail_of S g)) (resume_push fs f t)
+
+  resume_front : (fs : List Head) (hs : List Head) (t : Trail) → resume fs (front hs t) ≡ front hs (resume fs t)
+  resume_front [] hs t = refl
+  resume_front (g ∷ fs) hs t = ap (λ (x : Trail). and_on x (trail_of S g)) (resume_front fs hs t) ∙ front_on hs (resume fs t) (trail_of S g)
+
+  resume_fault : (fs : List Head) (hs : List Head) (f : ℕ × Reason) → resume fs (hs, Some f) ≡ (hs, Some f)
+  resume_fault [] hs f = refl
+  resume_fault (g ∷ fs) hs f = ap (λ (x : Trail). and_on x (trail_of S g)) (resume_fault fs hs f)
+
+  -- a head that breaks no rule comes, then those in it, then those behind it
+  goes_then : (h : Head) (o : Option Head) → h.left ≢ [] → broken S h ≡ None → inner_of S h ≡ o → trail_of S h ≡ front (h ∷ []) (and_on (inner_trail o (trail_of S)) (trail_of S (follower S h)))
+  goes_then h o some b is = trail_goes S h some b ∙ ap (λ (k : Option Head). (h ∷ (and_on (inner_trail k (trail_of S)) (trail_of S (follower S h))).0, (and_on (inner_trail k (trail_of S)) (trail_of S (follower S h))).1)) is
+
+  visits_append : (hs gs : List Head) → visits_of S (hs ++ gs) ≡ visits_of S hs + visits_of S gs
+  visits_append hs gs = ap spans (map-append (visit_of S) hs gs) ∙ sum_append (map (visit_of S) hs) (map (visit_of S) gs)
+
+  -- the visits of a region of attributes have the bound of reading
+  pub visits_bound : (ctx : Ctx) (l place : ℕ) (left : List ℕ) → visits_of S (trail_of S (start_of ctx l place left)).0 ≤ (S.depth - l + 1) * length left
+  visits_bound ctx l place left =
+      let a = items_scan (length left) S ctx l place left in
+      omega (arith, a.sums, ap (λ (s : List (ℕ × ℕ) × Option (ℕ × Reason)). spans s.0) (scan_is S (length left) (start_of ctx l place left)), items_bound (length left) S ctx l place left (omega arith))
+
+  -- ---- where regions stand
+
+  -- its level, and that its places are within the greatest
+  pub record IsAtLevel (l : ℕ) (h : Head) : Type 0 where
+    pub level : h.level ≡ l
+    pub low : IsLow S h.sort h.level
+    pub size : length h.left ≤ 1048576
+    pub place : h.place + length h.left ≤ 2097152
+
+  -- each of these is a level above the one before it
+  abbrev pub AllAtLevels : ℕ → List Head → Type 0
+  AllAtLevels l [] = Unit {0}
+  AllAtLevels l (h ∷ hs) = IsAtLevel l h × AllAtLevels (l + 1) hs
+
+  levels_push : (l : ℕ) (fs : List Head) (f : Head) → AllAtLevels l fs → IsAtLevel (l + length fs) f → AllAtLevels l (fs ++ f ∷ [])
+  levels_push l [] f a s = (subst (λ (n : ℕ). IsAtLevel n f) (omega arith) s, tt)
+  levels_push l (g ∷ fs) f a s = (a.0, levels_push (l + 1) fs f a.1 (subst (λ (n : ℕ). IsAtLevel n f) (omega arith) s))
+
+  levels_pop : (l : ℕ) (fs : List Head) (f : Head) → AllAtLevels l (fs ++ f ∷ []) → AllAtLevels l fs × IsAtLevel (l + length fs) f
+  levels_pop l [] f a = (tt, subst (λ (n : ℕ). IsAtLevel n f) (omega arith) a.0)
+  levels_pop l (g ∷ fs) f a = let p = levels_pop (l + 1) fs f a.1 in ((a.0, p.0), subst (λ (n : ℕ). IsAtLevel n f) (omega arith) p.1)
+
+  -- what is left behind a head is less
+  pub shorter : (h : Head) → broken S h ≡ None → (length (follower S h).left + 4 ≤ length h.left) × ((follower S h).place + length (follower S h).left ≡ h.place + length h.left)
+  shorter h e =
+      let w = sound_within S.order (least h.sort) 2 h.left (sound_of S h.sort h.ctx h.level h.left e) in
+      let m = least_some h.sort in
+      let d = length-drop (span_of S.order 2 h.left) h.left in
+      (omega (arith, w.low, w.high, span_at_least S.order 2 h.left w.high, d), omega (arith, d, span_within S.order 2 h.left))
+
+  follower_level : (l : ℕ) (h : Head) → broken S h ≡ None → IsAtLevel l h → IsAtLevel l (follower S h)
+  follower_level l h e s = let d = shorter h e in record { level = s.level; low = s.low; size = omega (arith, d.0, s.size); place = omega (arith, d.1, s.place) }
+
+  -- and so is what is left behind it together with what is in it
+  pub inner_less : (h k : Head) → broken S h ≡ None → inner_of S h ≡ Some k → length (follower S h).left + (length k.left + 4) ≤ length h.left
+  inner_less h k e is =
+      let w = sound_within S.order (least h.sort) 2 h.left (sound_of S h.sort h.ctx h.level h.left e) in
+      let m = least_some h.sort in
+      let at = inner_at_place S h.sort h.place h.ctx h.level h.left k is in
+      omega (arith, ap (length {A = ℕ}) at.1, payload_length S.order (least h.sort) 2 h.left w, w.high, span_at_least S.order 2 h.left w.high, length-drop (span_of S.order 2 h.left) h.left)
+
+  inner_level : (l : ℕ) (h k : Head) → broken S h ≡ None → inner_of S h ≡ Some k → IsAtLevel l h → IsAtLevel (l + 1) k × (l + 1 ≤ S.depth)
+  inner_level l h k e is s =
+      let i = inner_is S h.sort h.ctx h.place h.level h.left k s.low e is in
+      let b = item_bounds S h k e is in
+      let less = inner_less h k e is in
+      (record { level = omega (arith, i.level, s.level); low = i.low; size = omega (arith, less, s.size); place = omega (arith, b.1, span_within S.order 2 h.left, s.place) }, omega (arith, i.room, s.level))
+
+  -- ---- what is added
+
+  -- some, and then others
+  adds_then : (hs gs : List Head) (a b c : Taped) (old mid new : List Event) → Adds S hs a b old mid → Adds S gs b c mid new → Adds S (hs ++ gs) a c old new
+  adds_then hs gs a b c old mid new x y = record {
+    fault = y.fault ∙ x.fault;
+    count = omega (arith, x.count, y.count, length-append hs gs);
+    visits = omega (arith, x.visits, y.visits, visits_append hs gs);
+    events = y.events
+        ∙ ap (λ (xs : List Event). put_from b.count (map (event_of S.order) gs) xs) x.events
+        ∙ ap (λ (n : ℕ). put_from n (map (event_of S.order) gs) (put_from a.count (map (event_of S.order) hs) old)) (x.count ∙ ap (λ (n : ℕ). a.count + n) (sym (length-map hs (event_of S.order))))
+        ∙ put_on a.count (map (event_of S.order) hs) (map (event_of S.order) gs) old
+        ∙ ap (λ (es : List Event). put_from a.count es old) (sym (map-append (event_of S.order) hs gs));
+  }
+
+-- the bytes that are left in the regions that wait, and one for each
+abbrev pub work : List Head → ℕ
+work [] = 0
+work (h ∷ hs) = suc (length h.left) + work hs
+
+pub work_push : (fs : List Head) (f : Head) → work (fs ++ f ∷ []) ≡ work fs + suc (length f.left)
+work_push [] f = omega arith
+work_push (g ∷ fs) f = omega (arith, work_push fs f)
+
+-- ---- the state of the loop
+
+-- nothing is found yet
+abbrev pub begun : ℕ → Taped
+begun count = record { fault = None; count = count; visits = 0 }
+
+-- these regions wait, the last of the list first, and this is left of the one at hand
+pub record IsTaping (S : Shape) (start : Head) (count : ℕ) (old : List Event) (fs : List Head) (top : Head) (t : Taped) (out : List Event) : Type 0 where
+  pub hs : List Head
+  pub same : trail_of S start ≡ front hs (resume S fs (trail_of S top))
+  pub adds : Adds S hs (begun count) t old out
+  pub below : AllAtLevels S start.level fs
+  pub stands : IsAtLevel S (start.level + length fs) top
+
+-- the whole region is left, and none waits
+pub begins : (S : Shape) (start : Head) (count : ℕ) (old : List Event) (fs : List Head) → fs ≡ [] → start.sort ≡ attr_head → start.level ≤ S.depth → length start.left ≤ 1048576 → start.place + length start.left ≤ 2097152 → IsTaping S start count old fs start (begun count) old
+begins S start count old fs none kind level size place = subst (λ (xs : List Head). IsTaping S start count old xs start (begun count) old) (sym none) (record {
+  hs = [];
+  same = refl;
+  adds = record { fault = refl; count = omega arith; visits = omega arith; events = sym (put_none count old) };
+  below = tt;
+  stands = record { level = omega arith; low = subst (λ (s : Sort). IsLow S s start.level) (sym kind) level; size = size; place = place };
+})
+
+module _ {S : Shape} {start : Head} {count : ℕ} {old : List Event} {fs : List Head} {top : Head} {t : Taped} {out : List Event} (now : IsTaping S start count old fs top t out) where
+  -- the region at hand is at its end, and the last that waits goes on
+  pub pops : (gs : List Head) (b : Head) → top.left ≡ [] → fs ≡ gs ++ b ∷ [] → IsTaping S start count old gs b t out
+  pops gs b e is =
+      let all = levels_pop S start.level gs b (subst (AllAtLevels S start.level) is now.below) in
+      record {
+        hs = now.hs;
+        same = now.same ∙ ap (λ (x : Trail). front now.hs (resume S fs x)) (trail_ends S top e) ∙ ap (λ (xs : List Head). front now.hs (resume S xs ([], None))) is ∙ ap (front now.hs) (resume_push S gs b ([], None));
+        adds = now.adds;
+        below = all.0;
+        stands = all.1;
+      }
+
+  -- a head comes, and these heads are left
+  comes : (x : Trail) → trail_of S top ≡ front (top ∷ []) x → trail_of S start ≡ front (now.hs ++ top ∷ []) (resume S fs x)
+  comes x e = now.same ∙ ap (λ (y : Trail). front now.hs (resume S fs y)) e ∙ ap (front now.hs) (resume_front S fs (top ∷ []) x) ∙ front_front now.hs (top ∷ []) (resume S fs x)
+
+  -- it holds no region
+  pub goes : (n : Head) (u : Taped) (new : List Event) → top.left ≢ [] → broken S top ≡ None → inner_of S top ≡ None → n ≡ follower S top → Adds S (top ∷ []) t u out new → IsTaping S start count old fs n u new
+  goes n u new some b none next a = subst (λ (x : Head). IsTaping S start count old fs x u new) (sym next) (record {
+    hs = now.hs ++ top ∷ [];
+    same = comes (trail_of S (follower S top)) (goes_then S top None some b none);
+    adds = adds_then S now.hs (top ∷ []) (begun count) t u old out new now.adds a;
+    below = now.below;
+    stands = follower_level S (start.level + length fs) top b now.stands;
+  })
+
+  -- it holds one
+  pub opens : (n k : Head) (gs : List Head) (u : Taped) (new : List Event) → top.left ≢ [] → broken S top ≡ None → inner_of S top ≡ Some k → n ≡ follower S top → gs ≡ fs ++ n ∷ [] → Adds S (top ∷ []) t u out new → IsTaping S start count old gs k u new
+  opens n k gs u new some b inner next push a =
+      let pushed : gs ≡ fs ++ follower S top ∷ [] = push ∙ ap (λ (x : Head). fs ++ x ∷ []) next in
+      let i = inner_level S (start.level + length fs) top k b inner now.stands in
+      subst (λ (xs : List Head). IsTaping S start count old xs k u new) (sym pushed) (record {
+        hs = now.hs ++ top ∷ [];
+        same = comes (and_on (trail_of S k) (trail_of S (follower S top))) (goes_then S top (Some k) some b inner)
+            ∙ ap (front (now.hs ++ top ∷ [])) (sym (resume_push S fs (follower S top) (trail_of S k)));
+        adds = adds_then S now.hs (top ∷ []) (begun count) t u old out new now.adds a;
+        below = levels_push S start.level fs (follower S top) now.below (follower_level S (start.level + length fs) top b now.stands);
+        stands = subst (λ (m : ℕ). IsAtLevel S m k) (omega (arith, length-append fs (follower S top ∷ []))) i.0;
+      })
+
+  -- the sums are small
+  pub small : start.sort ≡ attr_head → start.level ≤ S.depth → S.depth ≤ 32 → length start.left ≤ 1048576 → (t.visits ≤ 34603008) × (t.count ≤ count + 34603008)
+  small kind l d size =
+      let same : start_of start.ctx start.level start.place start.left ≡ start = at start.sort kind in
+      let bound = subst (λ (h : Head). visits_of S (trail_of S h).0 ≤ (S.depth - start.level + 1) * length start.left) same (visits_bound S start.ctx start.level start.place start.left) in
+      let fits = whole_fits (S.depth - start.level + 1) (length start.left) (visits_of S (trail_of S start).0) (omega (arith, d)) size bound in
+      let rest = (resume S fs (trail_of S top)).0 in
+      let total : visits_of S (trail_of S start).0 ≡ visits_of S now.hs + visits_of S rest = ap (λ (x : Trail). visits_of S x.0) now.same ∙ visits_append S now.hs rest in
+      let heads : length (trail_of S start).0 ≡ length now.hs + length rest = ap (λ (x : Trail). length x.0) now.same ∙ length-append now.hs rest in
+      (omega (arith, fits, total, now.adds.visits), omega (arith, fits, heads, trail_few S start, now.adds.count)) where
+        at : (s : Sort) → s ≡ attr_head → ◌≡◌ {A = Head} (record { place = start.place; sort = attr_head; ctx = start.ctx; level = start.level; left = start.left }) (record { place = start.place; sort = s; ctx = start.ctx; level = start.level; left = start.left })
+        at s e = ap (λ (x : Sort). record { place = start.place; sort = x; ctx = start.ctx; level = start.level; left = start.left }) (sym e)
+
+  -- ---- what is told
+
+  -- all is accepted
+  pub tells_none : top.left ≡ [] → fs ≡ [] → IsTaped S start count old out t
+  tells_none e is =
+      let all : trail_of S start ≡ (now.hs, None) = now.same ∙ ap (λ (x : Trail). front now.hs (resume S fs x)) (trail_ends S top e) ∙ ap (λ (xs : List Head). front now.hs (resume S xs ([], None))) is ∙ ap (λ (l : List Head). (l, None)) (append-nil now.hs) in
+      record {
+        fault = now.adds.fault ∙ ap (λ (x : Trail). fault_of x.1) (sym all);
+        visits = now.adds.visits ∙ omega arith ∙ ap (λ (x : Trail). visits_of S x.0) (sym all);
+        counted = now.adds.count ∙ ap (λ (x : Trail). count + length x.0) (sym all);
+        events = now.adds.events ∙ ap (λ (x : Trail). put_from count (map (event_of S.order) x.0) old) (sym all);
+      }
+
+  -- the head at hand breaks a rule
+  pub tells_fault : (r : Reason) (u : Taped) (new : List Event) → top.left ≢ [] → broken S top ≡ Some r → Adds S (stopped r top) t u out new → IsTaped S start count old new (record u { fault = Some (record { place = top.place; reason = r }) })
+  tells_fault r u new some b a =
+      let all : trail_of S start ≡ (now.hs ++ stopped r top, Some (top.place, r)) = now.same ∙ ap (λ (x : Trail). front now.hs (resume S fs x)) (trail_stops S top r some b) ∙ ap (front now.hs) (resume_fault S fs (stopped r top) (top.place, r)) in
+      let sum = adds_then S now.hs (stopped r top) (begun count) t u old out new now.adds a in
+      record {
+        fault = ap (λ (x : Trail). fault_of x.1) (sym all);
+        visits = sum.visits ∙ omega arith ∙ ap (λ (x : Trail). visits_of S x.0) (sym all);
+        counted = sum.count ∙ ap (λ (x : Trail). count + length x.0) (sym all);
+        events = sum.events ∙ ap (λ (x : Trail). put_from count (map (event_of S.order) x.0) old) (sym all);
+      }
+
+pub not_empty : (left : List ℕ) → false ≡ eqb (length left) 0 → left ≢ []
+not_empty [] e = absurd cc
+not_empty (x ∷ xs) e = λ f. absurd cc
+
+pub empty : (left : List ℕ) → true ≡ eqb (length left) 0 → left ≡ []
+empty left e = nil_from_length left (eqb-true (length left) 0 (sym e))
+
+pub none_left : {A : Type 0} (xs : List A) → (0 < length xs → ⊥) → xs ≡ []
+none_left [] f = refl
+none_left (x ∷ xs) f = absurd (f (omega arith))
+
+-- ---- what follows of what is told
+
+module _ {S : Shape} {start : Head} {count : ℕ} {old new : List Event} {t : Taped} (is : IsTaped S start count old new t) where
+  -- there are no more events than bytes that were visited
+  pub taped_few : t.count ≤ count + t.visits
+  taped_few = omega (arith, is.counted, is.visits, trail_few S start)
+
+  -- from the last event on the buffer is as it was
+  pub taped_untouched : drop t.count new ≡ drop t.count old
+  taped_untouched =
+      let es = map (event_of S.order) (trail_of S start).0 in
+      let n : t.count ≡ count + length es = is.counted ∙ ap (λ (k : ℕ). count + k) (sym (length-map (trail_of S start).0 (event_of S.order))) in
+      ap (λ (xs : List Event). drop t.count xs) is.events ∙ ap (λ (k : ℕ). drop k (put_from count es old)) n ∙ put_untouched count es old ∙ ap (λ (k : ℕ). drop k old) (sym n)
+
+-- the visits have the bound of reading
+pub taped_bound : (S : Shape) (ctx : Ctx) (l place : ℕ) (left : List ℕ) (count : ℕ) (old new : List Event) (t : Taped) → IsTaped S (start_of ctx l place left) count old new t → t.visits ≤ (S.depth - l + 1) * length left
+taped_bound S ctx l place left count old new t is = omega (arith, is.visits, visits_bound S ctx l place left)

@@ -1,0 +1,10 @@
+use Rattle.std.proofs.Common.{◌+◌, length, map}
+use Rattle.nl_attr.specs.Taped.{head_of}
+use Rattle.nl_attr.proofs.Lemmas.Taping.{IsTaping, work}
+use Rattle.nl_attr.proofs.taping.tape_region.Given as goal
+
+abbrev pub invariant-heads : goal.invariant-heads
+invariant-heads l = IsTaping l.shape (head_of l.start) l.count l.fn.out (map head_of l.stack.items) (head_of l.top) l.taped l.out
+
+abbrev pub decreases-heads : goal.decreases-heads
+decreases-heads l = work (map head_of l.stack.items) + length l.top.left.now

@@ -1,0 +1,78 @@
+-- What a scan tells of a region, head by head and at its end.
+use Rattle.std.specs.Prelude.{◌≡◌, ◌+◌, ℕ, List, [], ◌∷◌, length, map, drop, Some, None}
+use Rattle.nl_attr.specs.declared.events.Event.{Event}
+use Rattle.nl_attr.specs.declared.order.Order.{Order}
+use Rattle.nl_attr.specs.declared.taping.Taped.{Taped}
+use Rattle.nl_attr.specs.declared.taping.fronts.Kind.{Kind}
+use Rattle.nl_attr.specs.declared.taping.fronts.Kind.TheVariants as kind
+use Rattle.nl_attr.specs.declared.taping.fronts.OpenRegion.{OpenRegion}
+use Rattle.nl_attr.specs.declared.taping.fronts.AttrFront.{AttrFront}
+use Rattle.nl_attr.specs.declared.taping.fronts.HopFront.{HopFront}
+use Rattle.nl_attr.specs.declared.taping.steps.Turn.{Turn}
+use Rattle.nl_attr.specs.declared.taping.steps.Turn.TheVariants as turn
+use Rattle.nl_attr.specs.declared.tree.Ctx.{Ctx}
+use Rattle.nl_attr.specs.declared.tree.Ctx.TheVariants.{Route}
+use Rattle.nl_attr.specs.Shape.{Shape}
+use Rattle.nl_attr.specs.Numbers.{span_of}
+use Rattle.nl_attr.specs.Walk.{payload_of}
+use Rattle.nl_attr.specs.Heads.{Sort, attr_head, hop_head, Head, content_at, start_of, broken, follower, inner_of}
+use Rattle.nl_attr.specs.Trail.{trail_of, event_of, put_from, stopped, visits_of, fault_of}
+
+-- ---- regions
+
+abbrev pub sort_in : Kind → Sort
+sort_in (kind.Attrs c) = attr_head
+sort_in kind.Hops = hop_head
+
+abbrev pub ctx_in : Kind → Ctx
+ctx_in (kind.Attrs c) = c
+ctx_in kind.Hops = Route
+
+-- the head with which what is left of a region begins
+abbrev pub head_of : OpenRegion → Head
+head_of r = record { place = r.place; sort = sort_in r.kind; ctx = ctx_in r.kind; level = r.level; left = r.left.now }
+
+-- the head with which a region of next hops begins
+abbrev pub hops_start : ℕ → ℕ → List ℕ → Head
+hops_start l place left = record { place = place; sort = hop_head; ctx = Route; level = l; left = left }
+
+-- ---- what stands at the front of one
+
+-- the attribute of this head
+pub record IsAttrFront (o : Order) (h : Head) (a : AttrFront) : Type 0 where
+  pub event : a.event ≡ event_of o h
+  pub span : a.span ≡ span_of o 2 h.left
+  pub content : a.content ≡ content_at o h.ctx h.left
+  pub payload : a.payload.now ≡ payload_of o 4 2 h.left
+  pub rest : head_of a.rest ≡ start_of h.ctx h.level (h.place + span_of o 2 h.left) (drop (span_of o 2 h.left) h.left)
+
+-- the next hop of this head
+pub record IsHopFront (o : Order) (h : Head) (f : HopFront) : Type 0 where
+  pub event : f.event ≡ event_of o h
+  pub span : f.span ≡ span_of o 2 h.left
+  pub attrs : head_of f.attrs ≡ start_of Route (h.level + 1) (h.place + 8) (payload_of o 8 2 h.left)
+  pub rest : head_of f.rest ≡ hops_start h.level (h.place + span_of o 2 h.left) (drop (span_of o 2 h.left) h.left)
+
+-- ---- one step
+
+-- these heads are added to what was found, and what is told of them to the buffer
+pub record Adds (S : Shape) (hs : List Head) (before after : Taped) (old new : List Event) : Type 0 where
+  pub fault : after.fault ≡ before.fault
+  pub count : after.count ≡ before.count + length hs
+  pub visits : after.visits ≡ before.visits + visits_of S hs
+  pub events : new ≡ put_from before.count (map (event_of S.order) hs) old
+
+-- where the head leads, and that it is added where its length is sound
+abbrev pub Steps : Shape → Head → Taped → Taped → List Event → List Event → Turn → Type 0
+Steps S h before after old new (turn.Fails r) = (broken S h ≡ Some r) × Adds S (stopped r h) before after old new
+Steps S h before after old new (turn.Goes rest) = (broken S h ≡ None) × (inner_of S h ≡ None) × (head_of rest ≡ follower S h) × Adds S (h ∷ []) before after old new
+Steps S h before after old new (turn.Opens rest inner) = (broken S h ≡ None) × (inner_of S h ≡ Some (head_of inner)) × (head_of rest ≡ follower S h) × Adds S (h ∷ []) before after old new
+
+-- ---- a whole scan
+
+-- The heads of the region up to its first fault are told of in the buffer from place `count` on, and counted.
+pub record IsTaped (S : Shape) (start : Head) (count : ℕ) (old new : List Event) (t : Taped) : Type 0 where
+  pub fault : t.fault ≡ fault_of (trail_of S start).1
+  pub visits : t.visits ≡ visits_of S (trail_of S start).0
+  pub counted : t.count ≡ count + length (trail_of S start).0
+  pub events : new ≡ put_from count (map (event_of S.order) (trail_of S start).0) old

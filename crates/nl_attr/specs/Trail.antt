@@ -1,0 +1,96 @@
+-- The heads of a region in the order in which a scan comes to them, up to the fault that ends it, and what is told of each.
+use Rattle.std.specs.Prelude.{◌+◌, ◌-◌, ◌%◌, ℕ, zero, suc, false, List, [], ◌∷◌, ◌++◌, length, map, take, drop, Option, Some, None}
+use Rattle.nl_attr.specs.declared.fault.Fault.{Fault}
+use Rattle.nl_attr.specs.declared.fault.Reason.{Reason}
+use Rattle.nl_attr.specs.declared.fault.Reason.TheVariants.{Cut, BadLength, ShortBody, TooLong, TooDeep}
+use Rattle.nl_attr.specs.declared.tree.Content.{Content}
+use Rattle.nl_attr.specs.declared.tree.Content.TheVariants as content
+use Rattle.nl_attr.specs.declared.order.Order.{Order}
+use Rattle.nl_attr.specs.declared.events.Event.{Event}
+use Rattle.nl_attr.specs.declared.events.TheConstants.{SORT_BYTES, SORT_LIST, SORT_HOPS, SORT_NEXT_HOP}
+use Rattle.nl_attr.specs.Shape.{Shape}
+use Rattle.nl_attr.specs.Numbers.{kind_of}
+use Rattle.nl_attr.specs.Walk.{flags_of, payload_of}
+use Rattle.nl_attr.specs.Heads.{Sort, attr_head, hop_head, Head, content_at, broken, follower, inner_of, span_at}
+use Rattle.nl_attr.specs.Visits.{spans}
+
+-- ---- the heads in their order
+
+-- heads, and the place and the rule of the fault behind them, where there is one
+abbrev pub Trail : Type 0
+Trail = List Head × Option (ℕ × Reason)
+
+-- the second follows where no fault ends the first
+abbrev pub and_on : Trail → Trail → Trail
+and_on (hs, None) t = (hs ++ t.0, t.1)
+and_on (hs, Some f) t = (hs, Some f)
+
+-- the heads inside an item, where it holds heads
+abbrev pub inner_trail : Option Head → (Head → Trail) → Trail
+inner_trail None f = ([], None)
+inner_trail (Some k) f = f k
+
+-- a head that breaks a rule is visited where its length is sound
+abbrev pub stopped : Reason → Head → List Head
+stopped Cut h = []
+stopped BadLength h = []
+stopped ShortBody h = h ∷ []
+stopped TooLong h = h ∷ []
+stopped TooDeep h = h ∷ []
+
+-- nothing is left; or the head breaks a rule; or it comes, then the heads inside its item, then those behind it
+abbrev pub trail_turn : List ℕ → Option Reason → Head → Trail → Trail → Trail
+trail_turn [] r h i t = ([], None)
+trail_turn (b ∷ bs) (Some r) h i t = (stopped r h, Some (h.place, r))
+trail_turn (b ∷ bs) None h i t = (h ∷ (and_on i t).0, (and_on i t).1)
+
+module _ (S : Shape) where
+  -- The number bounds the heads. The length of the region is enough.
+  unfoldable pub trail_at : ℕ → Head → Trail
+  trail_at zero h = ([], None)
+  trail_at (suc n) h = trail_turn h.left (broken S h) h (inner_trail (inner_of S h) (λ k. trail_at n k)) (trail_at n (follower S h))
+
+  -- the heads of the region that begins with this one, and the fault that ends them
+  abbrev pub trail_of : Head → Trail
+  trail_of h = trail_at (length h.left) h
+
+  -- the place of a head, and how many bytes its item occupies
+  abbrev pub visit_of : Head → ℕ × ℕ
+  visit_of h = (h.place, span_at S h)
+
+  -- how many bytes the items of these heads occupy
+  abbrev pub visits_of : List Head → ℕ
+  visits_of hs = spans (map visit_of hs)
+
+-- a fault as it is answered
+abbrev pub fault_of : Option (ℕ × Reason) → Option Fault
+fault_of None = None
+fault_of (Some f) = Some (record { place = f.0; reason = f.1 })
+
+-- ---- what is told of them
+
+-- the sort of an attribute that holds this
+abbrev pub sort_of : Content → ℕ
+sort_of content.Bytes = SORT_BYTES
+sort_of (content.List c) = SORT_LIST
+sort_of content.Hops = SORT_HOPS
+
+abbrev pub event_at : Order → Sort → Head → Event
+event_at o attr_head h = record {
+  place = h.place;
+  len = length (payload_of o 4 2 h.left);
+  number = kind_of o h.left % 16384;
+  level = h.level;
+  sort = sort_of (content_at o h.ctx h.left);
+  nested = (flags_of (kind_of o h.left)).nested;
+  net = (flags_of (kind_of o h.left)).net;
+}
+event_at o hop_head h = record { place = h.place; len = length (payload_of o 8 2 h.left); number = 0; level = h.level; sort = SORT_NEXT_HOP; nested = false; net = false }
+
+-- what is told of the head of an attribute or of a next hop
+abbrev pub event_of : Order → Head → Event
+event_of o h = event_at o h.sort h
+
+-- a buffer into which events are put from place n on, as far as it goes: what stood before them, as many of them as fit, and what stood behind them
+abbrev pub put_from : ℕ → List Event → List Event → List Event
+put_from n es old = take n old ++ (take (length old - n) es ++ drop (n + length es) old)

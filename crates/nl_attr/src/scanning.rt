@@ -1,0 +1,68 @@
+//! Scanning a region of attributes: reading that keeps nothing.
+
+ghost use Rattle.std.specs.Prelude.{◌≡◌, ◌≤◌, ◌+◌, ◌-◌, ◌*◌, length, IfOk, IfErr};
+ghost use Rattle.nl_attr.specs.Heads.{IsFirstFault, start_of};
+ghost use Rattle.nl_attr.specs.Layout.{Fits};
+ghost use Rattle.nl_attr.specs.Reading.{items_of_region};
+ghost use Rattle.nl_attr.specs.Scanned.{Ends, Scans, SeesUpTo};
+ghost use Rattle.nl_attr.specs.Shape.{shape_of};
+ghost use Rattle.nl_attr.specs.Tree.{Items};
+
+use crate::events::Event;
+use crate::fault::{Fault, Tally};
+use crate::limits::Depth;
+use crate::order::Order;
+use crate::taping::{OpenRegions, tape_list};
+use crate::tree::Ctx;
+
+/// The answer of a scan that found this fault, or none.
+fn answer(fault: Option<Fault>) -> Result<(), Fault>
+    ensures { Ends fault result }
+{
+    match fault {
+        None => Ok(()),
+        Some(fault) => Err(fault),
+    }
+}
+
+/// Whether a region of attributes is accepted by `read_list_ordered`, and how many bytes were
+/// visited. Nothing of it is kept, and no memory is taken.
+///
+/// `base` is the place of the first byte, `level` that of the region, `order` that of its numbers.
+/// It refuses at the first fault: cut, bad length, too long or too deep.
+pub fn scan_list_ordered(
+    bytes: &[u8],
+    base: u32,
+    ctx: Ctx,
+    level: u8,
+    depth: Depth,
+    order: Order,
+) -> Tally<(), Fault>
+    requires level { level ≤ depth }
+    requires size { length bytes.now ≤ 1048576 }
+    requires place { base + length bytes.now ≤ 2097152 }
+    // Whether it is accepted, the fault and the visits are those of a reading from left to right.
+    ensures told { Scans result
+        (items_of_region (shape_of order depth) ctx level base bytes.now) }
+    // Where it is accepted some list fits the region.
+    ensures fits { IfOk result.result
+        (λ _. (is : Items) × Fits (shape_of order depth) is bytes.now ctx level) }
+    // A fault is the one at the least place.
+    ensures first { IfErr result.result (λ f. IsFirstFault (shape_of order depth)
+        (start_of ctx level base bytes.now) f.place f.reason) }
+    // Then no list fits.
+    ensures none { IfErr result.result
+        (λ _. (is : Items) → Fits (shape_of order depth) is bytes.now ctx level → ⊥) }
+    // The visits are those of all heads, or of those up to the fault.
+    ensures visits { SeesUpTo (shape_of order depth) (start_of ctx level base bytes.now)
+        (base + length bytes.now) result.result result.visits }
+    ensures bound { result.visits ≤ (depth - level + 1) * length bytes.now }
+{
+    let mut regions = OpenRegions::new();
+    let out: &mut [Event] = &mut [];
+    let taped = tape_list(&mut regions, bytes, base, ctx, level, depth, order, out, 0);
+    Tally {
+        result: answer(taped.fault),
+        visits: taped.visits,
+    }
+}

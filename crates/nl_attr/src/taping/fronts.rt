@@ -1,0 +1,187 @@
+//! Open regions, and what stands at the front of one.
+
+ghost use Rattle.std.specs.Prelude.{◌≡◌, ◌≤◌, ◌<◌, ◌+◌, length, Ok};
+ghost use Rattle.nl_attr.specs.Heads.{start_of};
+ghost use Rattle.nl_attr.specs.Taped.{IsAttrFront, IsHopFront};
+ghost use Rattle.nl_attr.specs.Taped.{ctx_in, head_of, hops_start, sort_in};
+ghost use Rattle.nl_attr.specs.Trail.{sort_of};
+ghost use Rattle.nl_attr.specs.Walk.{HeadIs};
+
+use crate::events::{Event, SORT_BYTES, SORT_HOPS, SORT_LIST, SORT_NEXT_HOP};
+use crate::order::Order;
+use crate::tree::{Content, Ctx, holds};
+use crate::walk::{flags_in, kind_at, span_at};
+
+/// What a region is made of.
+#[derive(Clone, Copy)]
+pub(super) enum Kind {
+    /// Attributes of this context.
+    Attrs(Ctx),
+    /// Next hops.
+    Hops,
+}
+
+/// What is left of an open region.
+#[derive(Clone, Copy)]
+pub(super) struct OpenRegion<'a> {
+    pub(super) left: &'a [u8],
+    /// The place of the first byte that is left.
+    pub(super) place: u32,
+    pub(super) level: u8,
+    pub(super) kind: Kind,
+}
+
+/// The blank that an empty place of the stack holds.
+impl Default for OpenRegion<'_> {
+    fn default() -> Self {
+        OpenRegion {
+            left: &[],
+            place: 0,
+            level: 0,
+            kind: Kind::Hops,
+        }
+    }
+}
+
+/// An attribute at the front of a region.
+#[derive(Clone, Copy)]
+pub(super) struct AttrFront<'a> {
+    pub(super) event: Event,
+    /// How many bytes it occupies.
+    pub(super) span: u32,
+    pub(super) content: Content,
+    pub(super) payload: &'a [u8],
+    /// What is left behind it.
+    pub(super) rest: OpenRegion<'a>,
+}
+
+/// A next hop at the front of a region.
+#[derive(Clone, Copy)]
+pub(super) struct HopFront<'a> {
+    pub(super) event: Event,
+    /// How many bytes it occupies.
+    pub(super) span: u32,
+    /// The region of its attributes.
+    pub(super) attrs: OpenRegion<'a>,
+    /// What is left behind it.
+    pub(super) rest: OpenRegion<'a>,
+}
+
+/// The sort of an attribute that holds this.
+fn sort(content: Content) -> u8
+    ensures { result ≡ sort_of content }
+{
+    match content {
+        Content::Bytes => SORT_BYTES,
+        Content::List(_) => SORT_LIST,
+        Content::Hops => SORT_HOPS,
+    }
+}
+
+/// The region in an item whose head of `head` bytes stands at a place of a region of this level.
+#[inline(always)]
+pub(super) fn inside<'a>(
+    payload: &'a [u8],
+    place: u32,
+    head: u32,
+    level: u8,
+    kind: Kind,
+) -> OpenRegion<'a>
+    requires place { place + head < 4294967296 }
+    requires level { level ≤ 32 }
+    ensures { head_of result ≡ record {
+      place = place + head;
+      sort = sort_in kind;
+      ctx = ctx_in kind;
+      level = level + 1;
+      left = payload.now;
+    } }
+{
+    OpenRegion {
+        left: payload,
+        place: place + head,
+        level: level + 1,
+        kind,
+    }
+}
+
+/// The attribute of `len` bytes at the front.
+#[inline(always)]
+pub(super) fn attr_front<'a>(
+    left: &'a [u8],
+    len: usize,
+    place: u32,
+    level: u8,
+    ctx: Ctx,
+    order: Order,
+) -> AttrFront<'a>
+    requires size { length left.now ≤ 1048576 }
+    requires place { place + length left.now ≤ 2097152 }
+    requires sound { HeadIs order 4 2 left.now (Ok len) }
+    ensures { IsAttrFront order (start_of ctx level place left.now) result }
+{
+    let kind = kind_at(order, left);
+    let number = kind % 16384;
+    let flags = flags_in(kind);
+    let content = holds(ctx, number, flags);
+    let payload = &left[4..len];
+    let span = span_at(left, len);
+    AttrFront {
+        event: Event {
+            place,
+            len: payload.len() as u32,
+            number,
+            level,
+            sort: sort(content),
+            nested: flags.nested,
+            net: flags.net,
+        },
+        span: span as u32,
+        content,
+        payload,
+        rest: OpenRegion {
+            left: &left[span..],
+            place: place + span as u32,
+            level,
+            kind: Kind::Attrs(ctx),
+        },
+    }
+}
+
+/// The next hop of `len` bytes at the front.
+#[inline(always)]
+pub(super) fn hop_front<'a>(
+    left: &'a [u8],
+    len: usize,
+    place: u32,
+    level: u8,
+    order: Order,
+) -> HopFront<'a>
+    requires size { length left.now ≤ 1048576 }
+    requires place { place + length left.now ≤ 2097152 }
+    requires level { level ≤ 32 }
+    requires sound { HeadIs order 8 2 left.now (Ok len) }
+    ensures { IsHopFront order (hops_start level place left.now) result }
+{
+    let payload = &left[8..len];
+    let span = span_at(left, len);
+    HopFront {
+        event: Event {
+            place,
+            len: payload.len() as u32,
+            number: 0,
+            level,
+            sort: SORT_NEXT_HOP,
+            nested: false,
+            net: false,
+        },
+        span: span as u32,
+        attrs: inside(payload, place, 8, level, Kind::Attrs(Ctx::Route)),
+        rest: OpenRegion {
+            left: &left[span..],
+            place: place + span as u32,
+            level,
+            kind: Kind::Hops,
+        },
+    }
+}

@@ -1,0 +1,160 @@
+//! Scanning a region by one loop over a stack of open regions, which takes no memory and no call
+//! stack: each head is checked, and what is told of it is put into a buffer.
+
+ghost use Rattle.std.specs.Prelude.{◌≡◌, ◌≤◌, ◌+◌, ◌-◌, ◌*◌, drop, length, slice_set};
+ghost use Rattle.nl_attr.specs.Heads.{attr_head, start_of};
+ghost use Rattle.nl_attr.specs.Shape.{shape_of};
+ghost use Rattle.nl_attr.specs.Taped.{IsTaped, head_of, sort_in};
+
+mod fronts;
+mod steps;
+
+use crate::events::Event;
+use crate::fault::Fault;
+use crate::limits::{Depth, Shape};
+use crate::order::Order;
+use crate::taping::fronts::{Kind, OpenRegion};
+use crate::taping::steps::{Turn, step};
+use crate::tree::Ctx;
+use arrayvec::ArrayVec;
+
+/// What a scan found.
+#[derive(Clone, Copy, Debug, PartialEq, Eq)]
+pub struct Taped {
+    /// The first fault, or none.
+    pub fault: Option<Fault>,
+    /// The place in the buffer behind the last event, also where the buffer ends before it.
+    pub count: usize,
+    /// How many attribute bytes were visited, on a fault too, as for `Tally`.
+    pub visits: u64,
+}
+
+impl Taped {
+    /// Adds a head that is visited: puts what is told of it into a buffer, where that goes so far.
+    #[inline(always)]
+    fn add(&mut self, out: &mut [Event], event: Event, span: u32)
+        requires count { self.old.count ≤ 4329570304 }
+        requires visits { self.old.visits ≤ 34603008 }
+        ensures event { out.new ≡ slice_set out.old self.old.count event }
+        ensures counts { self.new ≡ record self.old {
+          count = self.old.count + 1;
+          visits = self.old.visits + span;
+        } }
+    {
+        let at = self.count;
+        if at < out.len() {
+            out[at] = event;
+        }
+        self.count = at + 1;
+        self.visits += span as u64;
+    }
+}
+
+/// How many regions may be open below the one that is scanned.
+const MOST_OPEN: usize = 33;
+
+/// Room for the regions that are open below the one that is scanned. It is made once for the scans
+/// of a whole datagram, and says nothing between them.
+#[derive(Drop)]
+pub struct OpenRegions<'a> {
+    stack: ArrayVec<OpenRegion<'a>, MOST_OPEN>,
+}
+
+impl OpenRegions<'_> {
+    /// Room in which no region is open.
+    pub fn new() -> Self {
+        OpenRegions {
+            stack: ArrayVec::new(),
+        }
+    }
+}
+
+/// Scans a region of attributes from its front to its end or its first fault.
+#[inline(always)]
+fn tape_region<'a>(
+    stack: &mut ArrayVec<OpenRegion<'a>, MOST_OPEN>,
+    start: OpenRegion<'a>,
+    shape: Shape,
+    out: &mut [Event],
+    count: usize,
+) -> Taped
+    requires limit { shape.depth ≤ 32 }
+    requires kind { sort_in start.kind ≡ attr_head }
+    requires level { start.level ≤ shape.depth }
+    requires size { length start.left.now ≤ 1048576 }
+    requires place { start.place + length start.left.now ≤ 2097152 }
+    requires count { count ≤ 4294967296 }
+    ensures { IsTaped shape (head_of start.entry) count out.old out.new result }
+{
+    stack.clear();
+    let mut top = start;
+    let mut taped = Taped {
+        fault: None,
+        count,
+        visits: 0,
+    };
+    'heads: loop {
+        if top.left.is_empty() {
+            match stack.pop() {
+                None => return taped,
+                Some(below) => {
+                    top = below;
+                    continue 'heads;
+                }
+            }
+        }
+        match step(top, shape, out, &mut taped) {
+            Turn::Fails(reason) => {
+                let place = top.place;
+                taped.fault = Some(Fault { place, reason });
+                return taped;
+            }
+            Turn::Goes(rest) => top = rest,
+            Turn::Opens(rest, inner) => {
+                stack.push(rest);
+                top = inner;
+            }
+        }
+    }
+}
+
+/// Scans a region of attributes, as `read_list_ordered` reads it, and puts what is told of each
+/// head into a buffer, in the order of their places: the first at `count`, as far as the buffer
+/// goes. What is told of the heads up to a fault is put there too. It takes no memory.
+///
+/// The answer's `count` is the place behind the last event, so that scans follow one another. Where
+/// it is above the buffer's length, the last events had no room.
+#[inline(always)]
+pub fn tape_list<'a>(
+    regions: &mut OpenRegions<'a>,
+    bytes: &'a [u8],
+    base: u32,
+    ctx: Ctx,
+    level: u8,
+    depth: Depth,
+    order: Order,
+    out: &mut [Event],
+    count: usize,
+) -> Taped
+    requires level { level ≤ depth }
+    requires size { length bytes.now ≤ 1048576 }
+    requires place { base + length bytes.now ≤ 2097152 }
+    requires count { count ≤ 4294967296 }
+    // The heads are those of the region up to its first fault, and so are the visits.
+    ensures taped { IsTaped (shape_of order depth) (start_of ctx level base bytes.now)
+        count out.old out.new result }
+    ensures bound { result.visits ≤ (depth - level + 1) * length bytes.now }
+    ensures count { result.count ≤ count + result.visits }
+    // From the last event on the buffer is as it was.
+    ensures untouched { drop result.count out.new ≡ drop result.count out.old }
+{
+    let shape = Shape::of(depth, order);
+    let _limit = shape.depth();
+    let start = OpenRegion {
+        left: bytes,
+        place: base,
+        level,
+        kind: Kind::Attrs(ctx),
+    };
+    tape_region(&mut regions.stack, start, shape, out, count)
+}

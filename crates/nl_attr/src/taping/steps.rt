@@ -1,0 +1,108 @@
+//! One step of a scan: past the head at the front of a region.
+
+ghost use Rattle.std.specs.Prelude.{◌≡◌, ◌≤◌, ◌+◌, length};
+ghost use Rattle.nl_attr.specs.Heads.{start_of};
+ghost use Rattle.nl_attr.specs.Taped.{Steps, head_of, hops_start};
+
+use crate::events::Event;
+use crate::fault::Reason;
+use crate::limits::Shape;
+use crate::stack::container_fault;
+use crate::taping::Taped;
+use crate::taping::fronts::{Kind, OpenRegion, attr_front, hop_front, inside};
+use crate::tree::{Content, Ctx};
+use crate::walk::head_len;
+
+/// Where the head at the front of a region leads.
+#[derive(Clone, Copy)]
+pub(super) enum Turn<'a> {
+    /// To no other: it breaks this rule.
+    Fails(Reason),
+    /// To what is left behind it.
+    Goes(OpenRegion<'a>),
+    /// To the region in its item, the second, and then to what is left behind it, the first.
+    Opens(OpenRegion<'a>, OpenRegion<'a>),
+}
+
+/// The step past an attribute.
+#[inline(always)]
+fn step_attr<'a>(
+    region: OpenRegion<'a>,
+    ctx: Ctx,
+    shape: Shape,
+    out: &mut [Event],
+    taped: &mut Taped,
+) -> Turn<'a>
+    requires size { length region.left.now ≤ 1048576 }
+    requires place { region.place + length region.left.now ≤ 2097152 }
+    requires level { region.level ≤ 32 }
+    requires count { taped.old.count ≤ 4329570304 }
+    requires visits { taped.old.visits ≤ 34603008 }
+    ensures { Steps shape (start_of ctx region.entry.level region.entry.place region.entry.left.now)
+        taped.old taped.new out.old out.new result }
+{
+    let order = shape.order();
+    let (left, place, level) = (region.left, region.place, region.level);
+    let len = match head_len(order, left, 4) {
+        Ok(len) => len,
+        Err(reason) => return Turn::Fails(reason),
+    };
+    let attr = attr_front(left, len, place, level, ctx, order);
+    taped.add(out, attr.event, attr.span);
+    if let Some(reason) = container_fault(attr.content, len, level, shape) {
+        return Turn::Fails(reason);
+    }
+    let kind = match attr.content {
+        Content::Bytes => return Turn::Goes(attr.rest),
+        Content::List(ctx) => Kind::Attrs(ctx),
+        Content::Hops => Kind::Hops,
+    };
+    Turn::Opens(attr.rest, inside(attr.payload, place, 4, level, kind))
+}
+
+/// The step past a next hop.
+#[inline(always)]
+fn step_hop<'a>(
+    region: OpenRegion<'a>,
+    shape: Shape,
+    out: &mut [Event],
+    taped: &mut Taped,
+) -> Turn<'a>
+    requires size { length region.left.now ≤ 1048576 }
+    requires place { region.place + length region.left.now ≤ 2097152 }
+    requires level { region.level ≤ 32 }
+    requires count { taped.old.count ≤ 4329570304 }
+    requires visits { taped.old.visits ≤ 34603008 }
+    ensures { Steps shape (hops_start region.entry.level region.entry.place region.entry.left.now)
+        taped.old taped.new out.old out.new result }
+{
+    let order = shape.order();
+    let len = match head_len(order, region.left, 8) {
+        Ok(len) => len,
+        Err(reason) => return Turn::Fails(reason),
+    };
+    let hop = hop_front(region.left, len, region.place, region.level, order);
+    taped.add(out, hop.event, hop.span);
+    Turn::Opens(hop.rest, hop.attrs)
+}
+
+/// The step past the head at the front of a region.
+#[inline(always)]
+pub(super) fn step<'a>(
+    region: OpenRegion<'a>,
+    shape: Shape,
+    out: &mut [Event],
+    taped: &mut Taped,
+) -> Turn<'a>
+    requires size { length region.left.now ≤ 1048576 }
+    requires place { region.place + length region.left.now ≤ 2097152 }
+    requires level { region.level ≤ 32 }
+    requires count { taped.old.count ≤ 4329570304 }
+    requires visits { taped.old.visits ≤ 34603008 }
+    ensures { Steps shape (head_of region.entry) taped.old taped.new out.old out.new result }
+{
+    match region.kind {
+        Kind::Attrs(ctx) => step_attr(region, ctx, shape, out, taped),
+        Kind::Hops => step_hop(region, shape, out, taped),
+    }
+}
