@@ -40,3 +40,4 @@ pub mod Putting
 pub mod Standing
 pub mod Taping
 pub mod Scanned
+pub mod InOrder

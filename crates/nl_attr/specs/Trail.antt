@@ -1,5 +1,5 @@
 -- The heads of a region in the order in which a scan comes to them, up to the fault that ends it, and what is told of each.
-use Rattle.std.specs.Prelude.{◌+◌, ◌-◌, ◌%◌, ℕ, zero, suc, false, List, [], ◌∷◌, ◌++◌, length, map, take, drop, Option, Some, None}
+use Rattle.std.specs.Prelude.{◌≡◌, ◌<◌, ◌⊎◌, ◌+◌, ◌-◌, ◌%◌, ℕ, zero, suc, false, List, [], ◌∷◌, ◌++◌, length, map, take, drop, Option, Some, None}
 use Rattle.nl_attr.specs.declared.fault.Fault.{Fault}
 use Rattle.nl_attr.specs.declared.fault.Reason.{Reason}
 use Rattle.nl_attr.specs.declared.fault.Reason.TheVariants.{Cut, BadLength, ShortBody, TooLong, TooDeep}
@@ -11,7 +11,7 @@ use Rattle.nl_attr.specs.declared.events.TheConstants.{SORT_BYTES, SORT_LIST, SO
 use Rattle.nl_attr.specs.Shape.{Shape}
 use Rattle.nl_attr.specs.Numbers.{kind_of}
 use Rattle.nl_attr.specs.Walk.{flags_of, payload_of}
-use Rattle.nl_attr.specs.Heads.{Sort, attr_head, hop_head, Head, content_at, broken, follower, inner_of, span_at}
+use Rattle.nl_attr.specs.Heads.{Sort, attr_head, hop_head, Head, content_at, broken, IsSound, follower, inner_of, span_at, FaultAt, IsFirstFault}
 use Rattle.nl_attr.specs.Visits.{spans}
 
 -- ---- the heads in their order
@@ -61,6 +61,16 @@ module _ (S : Shape) where
   -- how many bytes the items of these heads occupy
   abbrev pub visits_of : List Head → ℕ
   visits_of hs = spans (map visit_of hs)
+
+  -- what ends the heads: no head of the region breaks a rule, or this is the first fault
+  abbrev pub IsEnd : Head → Option (ℕ × Reason) → Type 0
+  IsEnd start None = (p : ℕ) (r : Reason) → FaultAt S start p r → ⊥
+  IsEnd start (Some f) = IsFirstFault S start f.0 f.1
+
+  -- a head comes before that end: any head where there is no fault, else each before the fault, and the one there where its length is sound
+  abbrev pub ComesBefore : Option (ℕ × Reason) → Head → Type 0
+  ComesBefore None h = Unit {0}
+  ComesBefore (Some f) h = (h.place < f.0) ⊎ ((h.place ≡ f.0) × IsSound S h)
 
 -- a fault as it is answered
 abbrev pub fault_of : Option (ℕ × Reason) → Option Fault

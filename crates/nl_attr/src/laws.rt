@@ -1,7 +1,9 @@
 //! Laws over the definitions alone: each contract is a law, and each body is empty.
 
 ghost use Rattle.std.specs.Prelude.{◌≡◌, ◌≤◌, ◌<◌, ◌+◌, ◌-◌, ◌*◌, ◌^◌, ◌↔◌, ◌++◌, drop, ℕ, ℤ, List, length, FitsSigned};
+ghost use Rattle.std.specs.Prelude.{All, Contains, map};
 ghost use Rattle.std.specs.Int.{w32, cast_unsigned};
+ghost use Rattle.std.specs.List.Sorted.{IsStrictlyIncreasing};
 ghost use Rattle.nl_attr.specs.declared.order.Order.{Order};
 ghost use Rattle.nl_attr.specs.declared.tree.Ctx.{Ctx};
 ghost use Rattle.nl_attr.specs.declared.fault.Reason.{Reason};
@@ -9,7 +11,8 @@ ghost use Rattle.nl_attr.specs.Shape.{Shape};
 ghost use Rattle.nl_attr.specs.Numbers.{aligned, num, number_of, AreBytes};
 ghost use Rattle.nl_attr.specs.Tree.{Items};
 ghost use Rattle.nl_attr.specs.Layout.{Fits};
-ghost use Rattle.nl_attr.specs.Heads.{FaultAt, Head, IsFirstFault, start_of};
+ghost use Rattle.nl_attr.specs.Heads.{FaultAt, Head, HeadAt, IsFirstFault, IsSound, start_of};
+ghost use Rattle.nl_attr.specs.Trail.{ComesBefore, IsEnd, trail_of};
 ghost use Rattle.nl_attr.specs.Visits.{Visits};
 ghost use Rattle.nl_attr.specs.Written.{written, items_len};
 ghost use Rattle.nl_attr.specs.Proper.{IsProper, IsRanged};
@@ -52,6 +55,22 @@ pub fn visits_are_bounded()
 pub fn one_sum()
     ensures some { (s : Shape) (start : Head) (q : ℕ) → (total : ℕ) × Visits s start q total }
     ensures only { (s : Shape) (start : Head) (q a b : ℕ) → Visits s start q a → Visits s start q b → a ≡ b }
+{}
+
+/// The heads to which a scan of a region comes are those that stand in it, each once, in the order
+/// of their places: all of them where none breaks a rule, else those up to the first that does.
+pub fn heads_in_order()
+    // Each stands in the region, and its length is within bounds.
+    ensures each { (s : Shape) (start : Head)
+        → All (λ h. HeadAt s start h × IsSound s h) (trail_of s start).0 }
+    // Their places rise.
+    ensures order { (s : Shape) (start : Head)
+        → IsStrictlyIncreasing (map (λ h. h.place) (trail_of s start).0) }
+    // They end where no head breaks a rule, or at the first fault.
+    ensures end { (s : Shape) (start : Head) → IsEnd s start (trail_of s start).1 }
+    // All heads before that end are among them, and no other is.
+    ensures all { (s : Shape) (start h : Head) → Contains (trail_of s start).0 h
+        ↔ (HeadAt s start h × ComesBefore s (trail_of s start).1 h) }
 {}
 
 /// A list is written as many bytes in either order.
