@@ -53,8 +53,8 @@ impl Taped {
 /// How many regions may be open below the one that is scanned.
 const MOST_OPEN: usize = 33;
 
-/// Room for the regions that are open below the one that is scanned. It is made once for the scans
-/// of a whole datagram, and says nothing between them.
+/// Room for the regions that are open below the one that is scanned. It is made once for all scans
+/// of a datagram: none leaves anything in it that the next one sees.
 #[derive(Drop)]
 pub struct OpenRegions<'a> {
     stack: ArrayVec<OpenRegion<'a>, MOST_OPEN>,
@@ -119,11 +119,13 @@ fn tape_region<'a>(
 }
 
 /// Scans a region of attributes, as `read_list_ordered` reads it, and puts what is told of each
-/// head into a buffer, in the order of their places: the first at `count`, as far as the buffer
-/// goes. What is told of the heads up to a fault is put there too. It takes no memory.
+/// head into `out`, in the order of their places: the first at `count`, as far as `out` goes. It
+/// takes no memory.
 ///
-/// The answer's `count` is the place behind the last event, so that scans follow one another. Where
-/// it is above the buffer's length, the last events had no room.
+/// `base` is the place of the first byte, `level` that of the region, `order` that of its numbers.
+/// It ends at the first fault: cut, bad length, too long or too deep; the heads up to that one are
+/// told of all the same. The answer's `count` is the place behind the last event, at which a next
+/// scan goes on. Where it is above the length of `out`, the last events had no room.
 #[inline(always)]
 pub fn tape_list<'a>(
     regions: &mut OpenRegions<'a>,
