@@ -109,12 +109,29 @@ same 'lengths and types of attributes and next hops are read by the walkers alon
   'crates/nl_attr/src/broken.rt 1
 crates/nl_attr/src/order.rt 3
 crates/nl_attr/src/views.rt 1
-crates/nl_attr/src/walk/attrs.rt 1
-crates/nl_attr/src/walk/mod.rt 1
+crates/nl_attr/src/walk/mod.rt 2
 crates/nl_frame/src/header.rt 2
 crates/nl_route/src/ifinfomsg.rt 1
 crates/nl_route/src/ndmsg.rt 1
 crates/rtnl/src/text/values.rt 1'
+
+scan=(crates/nl_attr/src/scanning.rt crates/nl_attr/src/taping/*.rt)
+
+same 'heads are read by the walkers, and by a scan at one place for each sort of head' \
+  "$(counts '\b(head_len|kind_at|span_at)\(')" \
+  'crates/nl_attr/src/taping/fronts.rt 3
+crates/nl_attr/src/taping/steps.rt 2
+crates/nl_attr/src/walk/attrs.rt 3
+crates/nl_attr/src/walk/hops.rt 2
+crates/nl_attr/src/walk/mod.rt 3'
+
+same 'a scan is one loop' "$(lines '\b(loop|while|for)\b[^<]*\{$' "${scan[@]}" | sed 's/^[^:]*: *//')" \
+  "'heads: loop {"
+
+same 'a region is scanned by the calls that are made for it, and in no reading' \
+  "$(counts '\b(scan_list_ordered|tape_list|tape_region)\b.*\(')" \
+  'crates/nl_attr/src/scanning.rt 2
+crates/nl_attr/src/taping/mod.rt 3'
 
 same 'numbers are made of bytes by their order alone' \
   "$(lines 'from_(le|be|ne)_bytes|(Little|Big|Native)Endian' | grep -v '^crates/nl_attr/src/order\.rt:')" \
@@ -123,6 +140,7 @@ same 'numbers are made of bytes by their order alone' \
 same 'calls that answer a tally' "$(counts '-> Tally<')" \
   'crates/nl_attr/src/fault.rt 1
 crates/nl_attr/src/reading.rt 2
+crates/nl_attr/src/scanning.rt 1
 crates/nl_dump/src/reading.rt 1
 crates/nl_frame/src/body.rt 3
 crates/nl_frame/src/reading.rt 3
