@@ -38,7 +38,8 @@ fn step_attr<'a>(
     requires level { region.level ≤ 32 }
     requires count { taped.old.count ≤ 4329570304 }
     requires visits { taped.old.visits ≤ 34603008 }
-    ensures { Steps shape (start_of ctx region.entry.level region.entry.place region.entry.left.now)
+    ensures { Steps shape
+        (start_of ctx region.entry.level region.entry.place region.entry.left.now)
         taped.old taped.new out.old out.new result }
 {
     let order = shape.order();
