@@ -3,7 +3,7 @@ use Rattle.std.proofs.Common.{◌≡◌, ◌==◌, ◌∷◌, ◌++◌, ◌<◌,
 use Rattle.std.specs.Fmt.{signed_decimal}
 use Rattle.std.specs.List.{list_all}
 use Rattle.std.specs.Prelude.{int_lt, nat_le, unsigned_abs}
-use Rattle.std.proofs.lemmas.Bool.{cases_Bool}
+use Rattle.std.proofs.lemmas.Bool.{and_parts, cases_Bool}
 use Rattle.std.proofs.lemmas.Fmt.{length-decimal-le}
 use Rattle.nl_attr.specs.declared.tree.Ctx.{Ctx}
 use Rattle.nl_attr.specs.declared.tree.Ctx.TheVariants as ctx
@@ -30,13 +30,10 @@ abbrev short_names : List (Row Form) → Bool
 short_names [] = true
 short_names (row ∷ rows) = nat_le (length row.1) 16 && short_names rows
 
-both : (a b : Bool) → (a && b) ≡ true → (a ≡ true) × (b ≡ true)
-both a b h = search rules
-
 found_short : (rows : List (Row Form)) (number : ℕ) → short_names rows ≡ true → length (name_in (codes "-") (find_row number rows)) ≤ 16
 found_short [] number short = omega arith
 found_short (row ∷ rows) number short =
-    let parts = both (nat_le (length row.1) 16) (short_names rows) short in
+    let parts = and_parts (nat_le (length row.1) 16) (short_names rows) short in
     elim (cases_Bool (row.0 == number)) [
       | inl here ↦ rw here (search (rules, parts.0))
       | inr there ↦ rw there (found_short rows number parts.1)
