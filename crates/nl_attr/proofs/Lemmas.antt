@@ -41,3 +41,4 @@ pub mod Standing
 pub mod Taping
 pub mod Scanned
 pub mod InOrder
+pub mod Listed

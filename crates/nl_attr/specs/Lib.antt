@@ -22,3 +22,4 @@ pub mod Towards
 pub mod Trail
 pub mod Taped
 pub mod Scanned
+pub mod Listed

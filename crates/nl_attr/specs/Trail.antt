@@ -3,6 +3,7 @@ use Rattle.std.specs.Prelude.{◌≡◌, ◌<◌, ◌⊎◌, ◌+◌, ◌-◌, �
 use Rattle.nl_attr.specs.declared.fault.Fault.{Fault}
 use Rattle.nl_attr.specs.declared.fault.Reason.{Reason}
 use Rattle.nl_attr.specs.declared.fault.Reason.TheVariants.{Cut, BadLength, ShortBody, TooLong, TooDeep}
+use Rattle.nl_attr.specs.declared.tree.AttrFlags.{AttrFlags}
 use Rattle.nl_attr.specs.declared.tree.Content.{Content}
 use Rattle.nl_attr.specs.declared.tree.Content.TheVariants as content
 use Rattle.nl_attr.specs.declared.order.Order.{Order}
@@ -16,12 +17,15 @@ use Rattle.nl_attr.specs.Visits.{spans}
 
 -- ---- the heads in their order
 
--- heads, and the place and the rule of the fault behind them, where there is one
+-- heads of some kind, and the place and the rule of the fault behind them, where there is one
+abbrev pub TrailOf : Type 0 → Type 0
+TrailOf H = List H × Option (ℕ × Reason)
+
 abbrev pub Trail : Type 0
-Trail = List Head × Option (ℕ × Reason)
+Trail = TrailOf Head
 
 -- the second follows where no fault ends the first
-abbrev pub and_on : Trail → Trail → Trail
+abbrev pub and_on : {H : Type 0} → TrailOf H → TrailOf H → TrailOf H
 and_on (hs, None) t = (hs ++ t.0, t.1)
 and_on (hs, Some f) t = (hs, Some f)
 
@@ -85,17 +89,19 @@ sort_of content.Bytes = SORT_BYTES
 sort_of (content.List c) = SORT_LIST
 sort_of content.Hops = SORT_HOPS
 
+-- the event of an attribute's head: its place, its level, its type and flags, the sort of what it holds, and how many bytes that has
+abbrev pub attr_event : ℕ → ℕ → ℕ → AttrFlags → ℕ → ℕ → Event
+attr_event place l n flags sort len = record { place = place; len = len; number = n; level = l; sort = sort; nested = flags.nested; net = flags.net }
+
+-- the event of a next hop's head: its place, its level, and how many bytes its attributes have
+abbrev pub hop_event : ℕ → ℕ → ℕ → Event
+hop_event place l len = record { place = place; len = len; number = 0; level = l; sort = SORT_NEXT_HOP; nested = false; net = false }
+
 abbrev pub event_at : Order → Sort → Head → Event
-event_at o attr_head h = record {
-  place = h.place;
-  len = length (payload_of o 4 2 h.left);
-  number = kind_of o h.left % 16384;
-  level = h.level;
-  sort = sort_of (content_at o h.ctx h.left);
-  nested = (flags_of (kind_of o h.left)).nested;
-  net = (flags_of (kind_of o h.left)).net;
-}
-event_at o hop_head h = record { place = h.place; len = length (payload_of o 8 2 h.left); number = 0; level = h.level; sort = SORT_NEXT_HOP; nested = false; net = false }
+event_at o attr_head h =
+    let k = kind_of o h.left in
+    attr_event h.place h.level (k % 16384) (flags_of k) (sort_of (content_at o h.ctx h.left)) (length (payload_of o 4 2 h.left))
+event_at o hop_head h = hop_event h.place h.level (length (payload_of o 8 2 h.left))
 
 -- what is told of the head of an attribute or of a next hop
 abbrev pub event_of : Order → Head → Event

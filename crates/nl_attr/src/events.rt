@@ -1,5 +1,7 @@
 //! What is told of one head of a datagram.
 
+ghost use Rattle.std.specs.Prelude.{◌≡◌, slice_set};
+
 /// The sort of a message.
 pub const SORT_MESSAGE: u8 = 0;
 /// The sort of an attribute that holds bytes.
@@ -33,4 +35,16 @@ pub struct Event {
     pub nested: bool,
     /// `NLA_F_NET_BYTEORDER` of an attribute, 0x4000 of its type; false for others.
     pub net: bool,
+}
+
+impl Event {
+    /// Puts the event into a buffer at this place; where the buffer ends before it, nothing is put.
+    #[inline(always)]
+    pub fn put(self, out: &mut [Event], at: usize)
+        ensures { out.new ≡ slice_set out.old at self }
+    {
+        if at < out.len() {
+            out[at] = self;
+        }
+    }
 }

@@ -12,7 +12,8 @@ ghost use Rattle.nl_attr.specs.Numbers.{aligned, num, number_of, AreBytes};
 ghost use Rattle.nl_attr.specs.Tree.{Items};
 ghost use Rattle.nl_attr.specs.Layout.{Fits};
 ghost use Rattle.nl_attr.specs.Heads.{FaultAt, Head, HeadAt, IsFirstFault, IsSound, start_of};
-ghost use Rattle.nl_attr.specs.Trail.{ComesBefore, IsEnd, trail_of};
+ghost use Rattle.nl_attr.specs.Trail.{ComesBefore, IsEnd, event_of, trail_of};
+ghost use Rattle.nl_attr.specs.Listed.{items_events, rounded};
 ghost use Rattle.nl_attr.specs.Visits.{Visits};
 ghost use Rattle.nl_attr.specs.Written.{written, items_len};
 ghost use Rattle.nl_attr.specs.Proper.{IsProper, IsRanged};
@@ -71,6 +72,16 @@ pub fn heads_in_order()
     // All heads before that end are among them, and no other is.
     ensures all { (s : Shape) (start h : Head) → Contains (trail_of s start).0 h
         ↔ (HeadAt s start h × ComesBefore s (trail_of s start).1 h) }
+{}
+
+/// Where a list fits a region, the events of a scan are those of the list: for each attribute and
+/// next hop, in order, its place, level, type, flags, sort and length. A length is rounded up
+/// where heads stand inside, since the padding behind the last of them may be absent.
+pub fn heads_of_list()
+    ensures { (s : Shape) (ctx : Ctx) (l place : ℕ) (bytes : List ℕ) (is : Items)
+        → Fits s is bytes ctx l
+        → map rounded (map (event_of s.order) (trail_of s (start_of ctx l place bytes)).0)
+        ≡ items_events place l is }
 {}
 
 /// A list is written as many bytes in either order.

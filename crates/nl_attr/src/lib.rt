@@ -35,5 +35,5 @@ pub use scanning::scan_list_ordered;
 pub use taping::{OpenRegions, Taped, tape_list};
 pub use tree::{Attr, AttrFlags, Content, Ctx, Hop, Value, holds};
 pub use views::find;
-pub use walk::{Attrs, HopPart, HopParts, Part, align4};
+pub use walk::{Attrs, HopPart, HopParts, Part, align4, attr_at, hop_at};
 pub use writing::{list_len, write_list, write_list_ordered};

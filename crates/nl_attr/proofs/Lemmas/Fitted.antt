@@ -36,15 +36,15 @@ again : (h k : ℕ) → h % 4 ≡ 0 → aligned (h + aligned k) ≡ aligned (h +
 again h k e = omega (arith, e)
 
 -- the payload behind a head
-attr_size : (o : Order) (it payload : List ℕ) (n k : ℕ) → it ≡ num n 2 o ++ (num k 2 o ++ payload) → length it ≡ 4 + length payload
+pub attr_size : (o : Order) (it payload : List ℕ) (n k : ℕ) → it ≡ num n 2 o ++ (num k 2 o ++ payload) → length it ≡ 4 + length payload
 attr_size o it payload n k e = let size : length it ≡ length payload + 4 = ap (length {A = ℕ}) e ∙ head_length o n k payload in omega (arith, size)
 
-hop_size : (o : Order) (it payload : List ℕ) (n flags count k : ℕ) → it ≡ num n 2 o ++ (flags ∷ count ∷ (num k 4 o ++ payload)) → length it ≡ 8 + length payload
+pub hop_size : (o : Order) (it payload : List ℕ) (n flags count k : ℕ) → it ≡ num n 2 o ++ (flags ∷ count ∷ (num k 4 o ++ payload)) → length it ≡ 8 + length payload
 hop_size o it payload n flags count k e = let size : length it ≡ length payload + 8 = ap (length {A = ℕ}) e ∙ hop_length o n flags count k payload in omega (arith, size)
 
 module _ (S : Shape) where
   mutual
-    val_len_is : (v : Val) (c : Content) (payload : List ℕ) (len l : ℕ) → len ≡ 4 + length payload → FitsVal S v c payload len l → aligned (4 + val_len v) ≡ aligned len
+    pub val_len_is : (v : Val) (c : Content) (payload : List ℕ) (len l : ℕ) → len ≡ 4 + length payload → FitsVal S v c payload len l → aligned (4 + val_len v) ≡ aligned len
     val_len_is (bytes bs) content.Bytes payload len l e f = ap (λ (x : List ℕ). aligned (4 + length x)) (sym f) ∙ ap aligned (sym e)
     val_len_is (bytes bs) (content.List c) payload len l e f = absurd f
     val_len_is (bytes bs) content.Hops payload len l e f = absurd f
@@ -55,14 +55,14 @@ module _ (S : Shape) where
     val_len_is (hops hs) (content.List c) payload len l e f = absurd f
     val_len_is (hops hs) content.Hops payload len l e f = ap (λ k. aligned (4 + k)) (hops_len_is hs payload (l + 1) f.2) ∙ again 4 (length payload) refl ∙ ap aligned (sym e)
 
-    items_len_is : (is : Items) (region : List ℕ) (ctx : Ctx) (l : ℕ) → Fits S is region ctx l → items_len is ≡ aligned (length region)
+    pub items_len_is : (is : Items) (region : List ℕ) (ctx : Ctx) (l : ℕ) → Fits S is region ctx l → items_len is ≡ aligned (length region)
     items_len_is no_items region ctx l f = sym (ap (λ (x : List ℕ). aligned (length x)) f)
     items_len_is (item n flags v more) region ctx l f =
         let len : length f.0 ≡ 4 + length f.3 = attr_size S.order f.0 f.3 _ _ f.5 in
         ap (λ k. k + items_len more) (val_len_is v (holds_of ctx n flags) f.3 (length f.0) l len f.7)
         ∙ ap (λ k. aligned (length f.0) + k) (items_len_is more f.2 ctx l f.8) ∙ sym (two_parts S.order 4 region f.0 f.1 f.2 f.4)
 
-    hops_len_is : (hs : HopItems) (region : List ℕ) (l : ℕ) → FitsHops S hs region l → hops_len hs ≡ aligned (length region)
+    pub hops_len_is : (hs : HopItems) (region : List ℕ) (l : ℕ) → FitsHops S hs region l → hops_len hs ≡ aligned (length region)
     hops_len_is no_hops region l f = sym (ap (λ (x : List ℕ). aligned (length x)) f)
     hops_len_is (hop flags count index attrs more) region l f =
         let len : length f.0 ≡ 8 + length f.3 = hop_size S.order f.0 f.3 _ _ _ _ f.5 in

@@ -1,5 +1,5 @@
 -- What fits a region is what is read of it, so no two lists fit one.
-use Rattle.std.proofs.Common.{◌≡◌, ℕ, ◌+◌, ◌*◌, ◌/◌, ◌%◌, ◌<◌, ◌≤◌, min, Bool, true, false, cond, eqb, ltb, ◌||◌, ◌⊎◌, ℤ, List, ◌∷◌, ◌++◌, length, take, drop, Some, None, Result, Ok, refl, sym, ap, subst, ◌∙◌, arith, inl, inr, append_assoc, length-append}
+use Rattle.std.proofs.Common.{◌≡◌, ◌≢◌, ℕ, ◌+◌, ◌-◌, ◌*◌, ◌/◌, ◌%◌, ◌<◌, ◌≤◌, min, Bool, true, false, cond, eqb, ltb, ◌||◌, ◌⊎◌, ℤ, List, [], ◌∷◌, ◌++◌, length, take, drop, Some, None, Result, Ok, refl, sym, ap, subst, ◌∙◌, arith, inl, inr, append_assoc, length-append, length-drop}
 use Rattle.std.proofs.lemmas.Bool.{le-ltb}
 use Rattle.std.proofs.lemmas.List.{take_at, drop_at}
 use Rattle.std.specs.Prelude.{slice_index}
@@ -15,7 +15,7 @@ use Rattle.nl_attr.specs.declared.tree.Content.{Content}
 use Rattle.nl_attr.specs.declared.tree.Content.TheVariants as content
 use Rattle.nl_attr.specs.declared.order.Order.{Order}
 use Rattle.nl_attr.specs.Shape.{Shape}
-use Rattle.nl_attr.specs.Numbers.{num, len_of, kind_of, span_of}
+use Rattle.nl_attr.specs.Numbers.{aligned, num, len_of, kind_of, span_of}
 use Rattle.nl_attr.specs.Walk.{flags_of, index_of, broken_length}
 use Rattle.nl_attr.specs.Tree.{Val, bytes, list, hops, Items, no_items, item, HopItems, no_hops, hop, holds_of}
 use Rattle.nl_attr.specs.Layout.{IsPadded, IsPiece, kind_number, FitsVal, Fits, FitsHops}
@@ -24,6 +24,7 @@ use Rattle.nl_attr.specs.Reading.{Outcome, and_then, map_value, more_visits, che
 use Rattle.nl_attr.proofs.Lemmas.Numbers.{number_of-num, kind_of-num, index_of-num, past_head, past_hop, flags_at, count_at, head_length, head_then, hop_then}
 use Rattle.nl_attr.proofs.Lemmas.Reading.{items_step, hops_step}
 use Rattle.nl_attr.specs.Walk.{payload_of}
+use Rattle.nl_attr.proofs.Lemmas.Scan.{no_length}
 
 -- a piece at the front, as the fields of its head have it
 pub record IsCut (o : Order) (h w : ℕ) (left it rest : List ℕ) : Type 0 where
@@ -81,6 +82,36 @@ kind_below n flags h = both flags.nested flags.net where
   both false true = omega arith
   both false false = omega arith
 
+-- an attribute at the front, as the list that fits has it
+pub record IsAttr (o : Order) (left it : List ℕ) (n : ℕ) (flags : AttrFlags) (payload rest : List ℕ) : Type 0 where
+  pub cut : IsCut o 4 2 left it rest
+  pub number : kind_of o left % 16384 ≡ n
+  pub flags_are : flags_of (kind_of o left) ≡ flags
+  pub payload_is : payload_of o 4 2 left ≡ payload
+  pub size : length it ≡ length payload + 4
+
+pub attr_is : (o : Order) (left it pad rest payload : List ℕ) (n : ℕ) (flags : AttrFlags) → IsPiece o 4 2 left it pad rest → it ≡ num (length it) 2 o ++ (num (kind_number n flags) 2 o ++ payload) → n < 16384 → IsAttr o left it n flags payload rest
+attr_is o left it pad rest payload n flags p e low =
+    let cut = cut_piece o 4 2 left it pad rest p in
+    let k = kind_number n flags in
+    let start : left ≡ num (length it) 2 o ++ (num k 2 o ++ (payload ++ (pad ++ rest))) = p.parts ∙ ap (λ (t : List ℕ). t ++ (pad ++ rest)) e ∙ head_then o (length it) k payload (pad ++ rest) in
+    let kind : kind_of o left ≡ k = ap (kind_of o) start ∙ kind_of-num o (length it) k (payload ++ (pad ++ rest)) (kind_below n flags low) in
+    let is = kind_is n flags low in
+    record {
+      cut = cut;
+      number = ap (λ x. x % 16384) kind ∙ is.number;
+      flags_are = ap flags_of kind ∙ is.flags_are;
+      payload_is = ap (drop 4) (cut.item ∙ e) ∙ past_head o (length it) k payload;
+      size = ap (length {A = ℕ}) e ∙ head_length o (length it) k payload;
+    }
+
+-- what is behind a piece begins at its aligned length
+pub next_span : (o : Order) (h w : ℕ) (left it rest : List ℕ) → IsCut o h w left it rest → rest ≢ [] → span_of o w left ≡ aligned (length it)
+next_span o h w left it rest c some =
+    whole (aligned (len_of o w left)) (length left) (length rest) (omega (arith, ap (length {A = ℕ}) c.rest_is, length-drop (span_of o w left) left)) (no_length rest some) ∙ ap aligned c.len where
+      whole : (a n d : ℕ) → d ≡ n - min a n → 0 < d → min a n ≡ a
+      whole a n d e lt = omega arith
+
 abbrev pub ReadAs : {A : Type 0} → Outcome A → A → Type 0
 ReadAs o x = (v : ℕ) × (o ≡ (Ok x, v))
 
@@ -121,19 +152,11 @@ mutual
       let pad = f.1 in
       let rest = f.2 in
       let payload = f.3 in
-      let cut = cut_piece S.order 4 2 left it pad rest f.4 in
-      let k = kind_number n flags in
-      let start : left ≡ num (length it) 2 S.order ++ (num k 2 S.order ++ (payload ++ (pad ++ rest))) = f.4.parts ∙ ap (λ (t : List ℕ). t ++ (pad ++ rest)) f.5 ∙ head_then S.order (length it) k payload (pad ++ rest) in
-      let kind : kind_of S.order left ≡ k = ap (kind_of S.order) start ∙ kind_of-num S.order (length it) k (payload ++ (pad ++ rest)) (kind_below n flags f.6) in
-      let body : payload_of S.order 4 2 left ≡ payload = ap (drop 4) (cut.item ∙ f.5) ∙ past_head S.order (length it) k payload in
-      let size : length it ≡ length payload + 4 = ap (length {A = ℕ}) f.5 ∙ head_length S.order (length it) k payload in
-      let is = kind_is n flags f.6 in
-      let number-is : kind_of S.order left % 16384 ≡ n = ap (λ x. x % 16384) kind ∙ is.number in
-      let flags-are : flags_of (kind_of S.order left) ≡ flags = ap flags_of kind ∙ is.flags_are in
-      let val = val_fit v (holds_of ctx n flags) S l (place + 4) payload (subst (λ x. FitsVal S v (holds_of ctx n flags) payload x l) size f.7) in
+      let is = attr_is S.order left it pad rest payload n flags f.4 f.5 f.6 in
+      let val = val_fit v (holds_of ctx n flags) S l (place + 4) payload (subst (λ x. FitsVal S v (holds_of ctx n flags) payload x l) is.size f.7) in
       let step : items_of_region S ctx l place left ≡ more_visits (span_of S.order 2 left) (and_then (attr_at S ctx l place n flags payload) (λ m. map_value m (items_of_region S ctx l (place + span_of S.order 2 left) rest))) =
-      items_step S ctx l place left cut.sound
-      ∙ ap (λ (x : ℕ × AttrFlags × List ℕ × List ℕ). more_visits (span_of S.order 2 left) (and_then (attr_at S ctx l place x.0 x.1 x.2) (λ m. map_value m (items_of_region S ctx l (place + span_of S.order 2 left) x.3)))) (four number-is flags-are body cut.rest_is) in
+      items_step S ctx l place left is.cut.sound
+      ∙ ap (λ (x : ℕ × AttrFlags × List ℕ × List ℕ). more_visits (span_of S.order 2 left) (and_then (attr_at S ctx l place x.0 x.1 x.2) (λ m. map_value m (items_of_region S ctx l (place + span_of S.order 2 left) x.3)))) (four is.number is.flags_are is.payload_is is.cut.rest_is) in
       along _ _ _ step
       (more_read (span_of S.order 2 left) _ _ (then_read (attr_at S ctx l place n flags payload) _ (λ m. item n flags v m) _ (attr_read S ctx l place n flags payload v val.0 val.1)
       (map_read (λ m. item n flags v m) _ more (items_fit more S ctx l (place + span_of S.order 2 left) rest f.8))))
@@ -159,7 +182,7 @@ mutual
       (more_read (span_of S.order 2 left) _ _ (then_read (items_of_region S Route (l + 1) (place + 8) payload) _ attrs _ (items_fit attrs S Route (l + 1) (place + 8) payload f.7)
       (map_read (λ m. hop flags count index attrs m) _ more (hops_fit more S l (place + span_of S.order 2 left) rest f.8))))
 
-  val_fit : (v : Val) (c : Content) (S : Shape) (l place : ℕ) (payload : List ℕ) → FitsVal S v c payload (length payload + 4) l → (broken_container S l c (length payload + 4) ≡ None) × ReadAs (value_at S c l place payload) v
+  pub val_fit : (v : Val) (c : Content) (S : Shape) (l place : ℕ) (payload : List ℕ) → FitsVal S v c payload (length payload + 4) l → (broken_container S l c (length payload + 4) ≡ None) × ReadAs (value_at S c l place payload) v
   val_fit (bytes bs) content.Bytes S l place payload f = (refl, (0, ap (λ x. (Ok (bytes x), 0)) f))
   val_fit (bytes bs) (content.List c) S l place payload f = absurd f
   val_fit (bytes bs) content.Hops S l place payload f = absurd f

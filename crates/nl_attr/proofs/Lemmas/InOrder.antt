@@ -7,7 +7,7 @@ use Rattle.std.proofs.lemmas.List.Elements.{All-contains, All-from_recursion, Co
 use Rattle.nl_attr.specs.declared.fault.Reason.{Reason}
 use Rattle.nl_attr.specs.Shape.{Shape}
 use Rattle.nl_attr.specs.Walk.{broken_length}
-use Rattle.nl_attr.specs.Heads.{Sort, attr_head, hop_head, Head, HeadAt, IsSound, broken, broken_in, broken_container, content_at, least, or_else}
+use Rattle.nl_attr.specs.Heads.{Sort, attr_head, hop_head, Head, HeadAt, IsSound, broken, broken_in, broken_container, content_at, least, or_else, span_at}
 use Rattle.nl_attr.specs.Numbers.{len_of}
 use Rattle.nl_attr.specs.declared.tree.Ctx.{Ctx}
 use Rattle.nl_attr.specs.Visits.{Rises, Has}
@@ -25,13 +25,14 @@ increasing_on x y xs lt r (suc k) below = subst (λ (n : ℕ). slice_index (y �
   next : (k : ℕ) → suc (k + 1) ≡ suc k + 1
   next k = omega arith
 
+-- places that rise as those of visits are strictly increasing
+pub rising : {X : Type 0} (place size : X → ℕ) (p m : ℕ) (xs : List X) → Rises p m (map (λ x. (place x, size x)) xs) → IsStrictlyIncreasing (map place xs)
+rising place size p m [] r = λ k lt. absurd (omega arith)
+rising place size p m (x ∷ []) r = λ k lt. absurd (omega arith)
+rising place size p m (x ∷ y ∷ xs) r = increasing_on (place x) (place y) (map place xs) r.2.0 (rising place size (suc (place x)) m (y ∷ xs) r.2)
+
 module _ (S : Shape) where
   -- ---- what visits say of heads
-
-  rises_on : (p m : ℕ) (hs : List Head) → Rises p m (map (visit_of S) hs) → IsStrictlyIncreasing (map (λ h. h.place) hs)
-  rises_on p m [] r = λ k lt. absurd (omega arith)
-  rises_on p m (h ∷ []) r = λ k lt. absurd (omega arith)
-  rises_on p m (h ∷ g ∷ hs) r = increasing_on h.place g.place (map (λ h. h.place) hs) r.2.0 (rises_on (suc h.place) m (g ∷ hs) r.2)
 
   has_head : (s : Head) (hs : List Head) (v : ℕ × ℕ) → AllStand S s hs → Has (map (visit_of S) hs) v → (h : Head) × Contains hs h × HeadAt S s h × (h.place ≡ v.0)
   has_head s [] v a x = absurd x
@@ -65,7 +66,7 @@ module _ (S : Shape) where
   ]
   before_end s h (Some f) is p (inr at) = (at.1, omega (arith, at.0))
 
-  up_to_before : (h : Head) (o : Option (ℕ × Reason)) → IsSound S h → UpTo o h.place → ComesBefore S o h
+  pub up_to_before : (h : Head) (o : Option (ℕ × Reason)) → IsSound S h → UpTo o h.place → ComesBefore S o h
   up_to_before h None e u = tt
   up_to_before h (Some f) e u = elim (eq-or-lt_of_le u) [ inl at ↦ inr (at, e) | inr lt ↦ inl lt ]
 
@@ -75,7 +76,7 @@ module _ (S : Shape) where
     scanned : scan S (length s.left) s ≡ as_scan S (trail_of S s)
     scanned = scan_is S (length s.left) s
 
-    covers : Covers S s (as_scan S (trail_of S s))
+    pub covers : Covers S s (as_scan S (trail_of S s))
     covers = subst (Covers S s) scanned (scan_covers (length s.left) S s (omega arith))
 
     stands : AllStand S s (trail_of S s).0
@@ -92,7 +93,7 @@ module _ (S : Shape) where
     each = All-from_recursion (λ h. HeadAt S s h × IsSound S h) (trail_of S s).0 stands
 
     pub in_order : IsStrictlyIncreasing (map (λ h. h.place) (trail_of S s).0)
-    in_order = rises_on s.place (s.place + length s.left) (trail_of S s).0 covers.rises
+    in_order = rising (λ h. h.place) (span_at S) s.place (s.place + length s.left) (trail_of S s).0 covers.rises
 
     pub all : (h : Head) → Contains (trail_of S s).0 h ↔ (HeadAt S s h × ComesBefore S (trail_of S s).1 h)
     all h = (

@@ -21,7 +21,7 @@ use Rattle.nl_attr.proofs.Lemmas.Visited.{read_visits}
 use Rattle.nl_attr.proofs.Lemmas.Exact.{read_all_visits}
 use Rattle.nl_attr.proofs.Lemmas.Fitting.{items_fit}
 use Rattle.nl_attr.proofs.Lemmas.Sound.{items_sound}
-use Rattle.nl_attr.proofs.Lemmas.Trail.{end_of, agrees_so, scan_is}
+use Rattle.nl_attr.proofs.Lemmas.Trail.{as_scan, end_of, agrees_so, scan_is}
 
 says : {X Y : Type 0} (S : Shape) (r : Result X Fault) (v : ℕ) (e : Option (ℕ × Reason)) (n : ℕ) (o : Outcome Y) → without o ≡ (end_of S e, n) → Ends (fault_of e) r → v ≡ n → SaysEnd r v o
 says S (Ok x) v None n o w i k = w ∙ ap (λ (m : ℕ). (Ok tt, m)) (sym k)
@@ -30,22 +30,22 @@ says S (Err d) v None n o w i k = absurd i
 says S (Err d) v (Some f) n o w i k = w ∙ rw (i, k) refl
 
 -- two outcomes that are the same, without what was read
-not_ok : {A : Type 0} (f : Fault) (n v : ℕ) → ◌≡◌ {A = Outcome (Unit {0})} (Err f, n) (Ok tt, v) → A
+pub not_ok : {A : Type 0} (f : Fault) (n v : ℕ) → ◌≡◌ {A = Outcome (Unit {0})} (Err f, n) (Ok tt, v) → A
 not_ok f n v w = absurd (let x : ◌≡◌ {A = Result (Unit {0}) Fault} (Err f) (Ok tt) = ap (λ (o : Outcome (Unit {0})). o.0) w in cc)
 
-not_err : {A : Type 0} (f : Fault) (n v : ℕ) → ◌≡◌ {A = Outcome (Unit {0})} (Ok tt, n) (Err f, v) → A
+pub not_err : {A : Type 0} (f : Fault) (n v : ℕ) → ◌≡◌ {A = Outcome (Unit {0})} (Ok tt, n) (Err f, v) → A
 not_err f n v w = absurd (let x : ◌≡◌ {A = Result (Unit {0}) Fault} (Ok tt) (Err f) = ap (λ (o : Outcome (Unit {0})). o.0) w in cc)
 
-same_fault : (g f : Fault) (n v : ℕ) → ◌≡◌ {A = Outcome (Unit {0})} (Err g, n) (Err f, v) → g ≡ f
+pub same_fault : (g f : Fault) (n v : ℕ) → ◌≡◌ {A = Outcome (Unit {0})} (Err g, n) (Err f, v) → g ≡ f
 same_fault g f n v w = let x : ◌≡◌ {A = Result (Unit {0}) Fault} (Err g) (Err f) = ap (λ (o : Outcome (Unit {0})). o.0) w in cc
 
-same_sum : (o p : Outcome (Unit {0})) → o ≡ p → o.1 ≡ p.1
+pub same_sum : (o p : Outcome (Unit {0})) → o ≡ p → o.1 ≡ p.1
 same_sum o p w = ap (λ (q : Outcome (Unit {0})). q.1) w
 
 module _ (S : Shape) (ctx : Ctx) (l place : ℕ) (left : List ℕ) where
   -- a reading ends as the heads do
   reads : without (items_of_region S ctx l place left) ≡ (end_of S (trail_of S (start_of ctx l place left)).1, visits_of S (trail_of S (start_of ctx l place left)).0)
-  reads = agrees_so S (items_of_region S ctx l place left) (trail_of S (start_of ctx l place left)) (subst (λ (s : Scan). Agrees (items_of_region S ctx l place left) s) (scan_is S (length left) (start_of ctx l place left)) (items_scan (length left) S ctx l place left))
+  reads = agrees_so S (items_of_region S ctx l place left) (as_scan S (trail_of S (start_of ctx l place left))) (subst (λ (s : Scan). Agrees (items_of_region S ctx l place left) s) (scan_is S (length left) (start_of ctx l place left)) (items_scan (length left) S ctx l place left))
 
   -- and so does an answer of what was told of them
   pub scans_so : {X : Type 0} (count : ℕ) (old new : List Event) (t : Taped) (r : Result X Fault) → IsTaped S (start_of ctx l place left) count old new t → Ends t.fault r → SaysEnd r t.visits (items_of_region S ctx l place left)

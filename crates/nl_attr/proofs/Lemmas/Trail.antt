@@ -8,9 +8,10 @@ use Rattle.nl_attr.specs.declared.tree.Content.{Content}
 use Rattle.nl_attr.specs.declared.tree.Content.TheVariants as content
 use Rattle.nl_attr.specs.Shape.{Shape}
 use Rattle.nl_attr.specs.Heads.{Head, broken, broken_container, follower, inner_of}
+use Rattle.nl_attr.specs.Visits.{spans}
 use Rattle.nl_attr.specs.Reading.{Outcome}
 use Rattle.nl_attr.specs.Scanned.{without}
-use Rattle.nl_attr.specs.Trail.{Trail, and_on, inner_trail, stopped, trail_turn, trail_at, trail_of, visit_of, visits_of}
+use Rattle.nl_attr.specs.Trail.{Trail, and_on, inner_trail, stopped, trail_turn, trail_at, trail_of, visit_of}
 use Rattle.nl_attr.proofs.Lemmas.Scan.{Scan, scan, turn, join, inner_scan, follower_shorter, inner_shorter}
 use Rattle.nl_attr.proofs.Lemmas.Scan as heads
 use Rattle.nl_attr.proofs.Lemmas.First.{Agrees}
@@ -123,12 +124,12 @@ module _ (S : Shape) where
   end_of None = Ok tt
   end_of (Some f) = Err (record { place = f.0; reason = f.1 })
 
-  -- a reading ends as the heads do, and its visits are theirs
-  pub agrees_so : {A : Type 0} (o : Outcome A) (t : Trail) → Agrees o (as_scan t) → without o ≡ (end_of t.1, visits_of S t.0)
-  agrees_so (Ok x, v) (hs, None) a = ap (λ (n : ℕ). (Ok tt, n)) a.sums
-  agrees_so (Ok x, v) (hs, Some f) a = absurd (let e = a.end in cc)
-  agrees_so (Err d, v) (hs, None) a = absurd (let e = a.end in cc)
-  agrees_so (Err d, v) (hs, Some f) a = let e : ◌≡◌ {A = Option (ℕ × Reason)} (Some f) (Some (d.place, d.reason)) = a.end in
-      same f d.place d.reason v (visits_of S hs) e a.sums where
+  -- a reading ends as the scan does with which it agrees, and its visits are as many
+  pub agrees_so : {A : Type 0} (o : Outcome A) (s : Scan) → Agrees o s → without o ≡ (end_of s.1, spans s.0)
+  agrees_so (Ok x, v) (vs, None) a = ap (λ (n : ℕ). (Ok tt, n)) a.sums
+  agrees_so (Ok x, v) (vs, Some f) a = absurd (let e = a.end in cc)
+  agrees_so (Err d, v) (vs, None) a = absurd (let e = a.end in cc)
+  agrees_so (Err d, v) (vs, Some f) a = let e : ◌≡◌ {A = Option (ℕ × Reason)} (Some f) (Some (d.place, d.reason)) = a.end in
+      same f d.place d.reason v (spans vs) e a.sums where
         same : (f : ℕ × Reason) (p : ℕ) (r : Reason) (v n : ℕ) → ◌≡◌ {A = Option (ℕ × Reason)} (Some f) (Some (p, r)) → v ≡ n → ◌≡◌ {A = Outcome (Unit {0})} (Err (record { place = p; reason = r }), v) (Err (record { place = f.0; reason = f.1 }), n)
         same f p r v n e g = let x : f ≡ (p, r) = cc in rw (x, g) refl

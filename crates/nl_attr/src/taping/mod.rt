@@ -42,9 +42,7 @@ impl Taped {
         } }
     {
         let at = self.count;
-        if at < out.len() {
-            out[at] = event;
-        }
+        event.put(out, at);
         self.count = at + 1;
         self.visits += span as u64;
     }

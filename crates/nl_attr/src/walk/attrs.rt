@@ -1,8 +1,9 @@
 //! The attributes of a region.
 
 ghost use Rattle.std.specs.Prelude.{◌≡◌, ◌+◌, ◌≤◌, length};
+ghost use Rattle.nl_attr.specs.Walk.{IsInFront, IsPart};
 
-use crate::fault::{Fault, Reason};
+use crate::fault::Fault;
 use crate::order::Order;
 use crate::tree::AttrFlags;
 use crate::walk::{flags_in, head_len, kind_at, span_at};
@@ -19,6 +20,28 @@ pub struct Part<'a> {
     /// How many bytes it occupies: head, payload, and the padding as far as present.
     pub span: u32,
     pub payload: &'a [u8],
+}
+
+/// The attribute at the front of what is left of a region from this place on.
+#[inline(always)]
+pub(super) fn attr_in_front(order: Order, left: &[u8], place: u32) -> Result<Part<'_>, Fault>
+    requires { length left.now ≤ 1048576 }
+    ensures { IsInFront 4 IsPart
+        (record { order = order; place = place; left = left.now }) result }
+{
+    match head_len(order, left, 4) {
+        Err(reason) => Err(Fault { place, reason }),
+        Ok(len) => {
+            let kind = kind_at(order, left);
+            Ok(Part {
+                number: kind % 16384,
+                flags: flags_in(kind),
+                place,
+                span: span_at(left, len) as u32,
+                payload: &left[4..len],
+            })
+        }
+    }
 }
 
 /// Goes over the attributes of a region, in the order of their places. After the last it answers
@@ -105,24 +128,15 @@ impl<'a> Iterator for Attrs<'a> {
         if left.is_empty() {
             return None;
         }
-        let place = self.place;
-        match head_len(self.order, left, 4) {
-            Err(reason) => {
+        match attr_in_front(self.order, left, self.place) {
+            Err(fault) => {
                 self.left = &left[left.len()..];
-                Some(Err(Fault { place, reason }))
+                Some(Err(fault))
             }
-            Ok(len) => {
-                let kind = kind_at(self.order, left);
-                let span = span_at(left, len);
-                self.left = &left[span..];
-                self.place = place + span as u32;
-                Some(Ok(Part {
-                    number: kind % 16384,
-                    flags: flags_in(kind),
-                    place,
-                    span: span as u32,
-                    payload: &left[4..len],
-                }))
+            Ok(part) => {
+                self.left = &left[part.span as usize..];
+                self.place += part.span;
+                Some(Ok(part))
             }
         }
     }

@@ -2,9 +2,9 @@
 
 ghost use Rattle.std.specs.Prelude.{◌≡◌, ◌+◌, ◌≤◌, length, Ok};
 ghost use Rattle.nl_attr.specs.Numbers.{span_of};
-ghost use Rattle.nl_attr.specs.Walk.{HeadIs, IsHopPart, index_of};
+ghost use Rattle.nl_attr.specs.Walk.{HeadIs, IsHopPart, IsInFront, index_of};
 
-use crate::fault::{Fault, Reason};
+use crate::fault::Fault;
 use crate::order::Order;
 use crate::walk::{head_len, span_at};
 use std::marker::Model;
@@ -45,6 +45,19 @@ fn hop_part(order: Order, left: &[u8], len: usize, place: u32, span: u32) -> Hop
         place,
         span,
         rest: &left[8..len],
+    }
+}
+
+/// The next hop at the front of what is left of a region from this place on.
+#[inline(always)]
+pub(super) fn hop_in_front(order: Order, left: &[u8], place: u32) -> Result<HopPart<'_>, Fault>
+    requires { length left.now ≤ 1048576 }
+    ensures { IsInFront 8 IsHopPart
+        (record { order = order; place = place; left = left.now }) result }
+{
+    match head_len(order, left, 8) {
+        Err(reason) => Err(Fault { place, reason }),
+        Ok(len) => Ok(hop_part(order, left, len, place, span_at(left, len) as u32)),
     }
 }
 
@@ -131,17 +144,15 @@ impl<'a> Iterator for HopParts<'a> {
         if left.is_empty() {
             return None;
         }
-        let place = self.place;
-        match head_len(self.order, left, 8) {
-            Err(reason) => {
+        match hop_in_front(self.order, left, self.place) {
+            Err(fault) => {
                 self.left = &left[left.len()..];
-                Some(Err(Fault { place, reason }))
+                Some(Err(fault))
             }
-            Ok(len) => {
-                let span = span_at(left, len);
-                self.left = &left[span..];
-                self.place = place + span as u32;
-                Some(Ok(hop_part(self.order, left, len, place, span as u32)))
+            Ok(part) => {
+                self.left = &left[part.span as usize..];
+                self.place += part.span;
+                Some(Ok(part))
             }
         }
     }

@@ -6,6 +6,7 @@ ghost use Rattle.nl_attr.specs.Walk.{HeadIs, flags_of};
 
 mod attrs;
 mod counted;
+mod cursors;
 mod hops;
 
 use crate::fault::Reason;
@@ -13,6 +14,7 @@ use crate::order::Order;
 use crate::tree::AttrFlags;
 pub use attrs::{Attrs, Part};
 pub(crate) use counted::{CountedAttrs, CountedHopParts};
+pub use cursors::{attr_at, hop_at};
 pub use hops::{HopPart, HopParts};
 
 /// The least multiple of 4 that is not below `n` (`NLMSG_ALIGN`, `RTA_ALIGN`).
