@@ -1,5 +1,5 @@
 -- A datagram has one first fault.
-use Rattle.std.proofs.Common.{◌≡◌, ℕ, zero, suc, ◌+◌, ◌<◌, ◌≤◌, List, length, Option, Some, None, inl, inr, refl, sym, ap, subst, ◌∙◌, arith, length-drop}
+use Rattle.std.proofs.Common.{◌≡◌, ℕ, zero, suc, ◌+◌, ◌<◌, ◌≤◌, length, Option, Some, None, inl, inr, sym, ap, subst, ◌∙◌, arith, length-drop}
 use Rattle.nl_attr.specs.declared.fault.Reason.{Reason}
 use Rattle.nl_attr.specs.Shape.{Shape}
 use Rattle.nl_attr.specs.Heads.{Head, FaultAt as RegionFaultAt}
@@ -30,7 +30,7 @@ module _ (S : Shape) where
       ]
 
   -- what lies behind a message begins behind its head, and is shorter
-  goes_on : (s : Rest) → broken_frame S.order s.left ≡ None → 0 < length (behind S s).left → (s.place < (behind S s).place) × (length (behind S s).left < length s.left)
+  pub goes_on : (s : Rest) → broken_frame S.order s.left ≡ None → 0 < length (behind S s).left → (s.place < (behind S s).place) × (length (behind S s).left < length s.left)
   goes_on s e some =
       let w = sound_within S.order 16 4 s.left e in
       let a = span_at_least S.order 4 s.left w.high in

@@ -36,7 +36,7 @@ unless_agrees : {A : Type 0} (b : ℕ) (bs : List ℕ) (r : Option Reason) (plac
 unless_agrees b bs None place o s a = a
 unless_agrees b bs (Some r) place o s a = record { end = refl; sums = refl }
 
-messages_scan : (n : ℕ) (S : Shape) (place : ℕ) (left : List ℕ) → Agrees (messages_at S n place left) (frame_scan n S (record { place = place; left = left }))
+pub messages_scan : (n : ℕ) (S : Shape) (place : ℕ) (left : List ℕ) → Agrees (messages_at S n place left) (frame_scan n S (record { place = place; left = left }))
 unfolding messages_at frame_scan
 messages_scan zero S place left = record { end = refl; sums = refl }
 messages_scan (suc n) S place [] = record { end = refl; sums = refl }

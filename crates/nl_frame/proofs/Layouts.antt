@@ -5,10 +5,11 @@ use Rattle.nl_attr.specs.declared.fault.Reason.{Reason}
 use Rattle.nl_attr.specs.declared.fault.Fault.{Fault}
 use Rattle.nl_attr.specs.Shape.{Shape}
 use Rattle.nl_attr.specs.Numbers.{AreBytes, len_of}
+use Rattle.nl_attr.specs.Layout.{IsPiece}
 use Rattle.nl_attr.specs.Reading.{Outcome, map_value}
 use Rattle.nl_attr.proofs.Lemmas.Pieces.{take_take, piece_at}
 use Rattle.nl_attr.proofs.Lemmas.Reading.{sound_within, rest_shorter, or_else_none}
-use Rattle.nl_attr.proofs.Lemmas.Fitting.{ReadAs, then_read, map_read, along, cut_piece}
+use Rattle.nl_attr.proofs.Lemmas.Fitting.{ReadAs, then_read, map_read, along, IsCut, cut_piece}
 use Rattle.nl_attr.proofs.Lemmas.Sound.{then_ok, map_ok}
 use Rattle.nl_attr.proofs.Lemmas.Numbers.{bytes_drop, bytes_take}
 use Rattle.nl_route.specs.Fields.{AreFields}
@@ -26,7 +27,7 @@ use Rattle.nl_frame.proofs.Headers.{header_known, header_front}
 use Rattle.nl_frame.proofs.Fronts.{sound_of, long_of}
 use Rattle.nl_frame.proofs.Bodies.{body_fit, body_sound}
 
-some_of : (left : List ℕ) → 16 ≤ length left → left ≢ []
+pub some_of : (left : List ℕ) → 16 ≤ length left → left ≢ []
 some_of [] h = absurd (omega arith)
 some_of (x ∷ xs) h = λ e. absurd cc
 
@@ -40,26 +41,42 @@ unless_ok : {A : Type 0} (place : ℕ) (r : Option Reason) (o : Outcome A) (x : 
 unless_ok place None o x v e = (refl, e)
 unless_ok {A} place (Some r) o x v e = absurd (let f : ◌≡◌ {A = Result A Fault} (Err (record { place = place; reason = r })) (Ok x) = ap (λ (p : Outcome A). p.0) e in cc)
 
+-- the header of a message with these bytes
+abbrev pub header_in : MessageVal → List ℕ → Header
+header_in m it = record { len = length it; kind = m.kind; flags = m.flags; seq = m.seq; port = m.port }
+
 module _ (S : Shape) where
+  -- a message at the front, as the layout has it
+  pub record IsMessage (m : MessageVal) (left it rest : List ℕ) : Type 0 where
+    pub cut : IsCut S.order 16 4 left it rest
+    pub header_is : header_of S.order left ≡ header_in m it
+    pub form_is : form_at S.order left ≡ form_of m.kind
+    pub payload_is : payload_at S.order left ≡ drop 16 it
+    pub sound : broken_message S.order left ≡ None
+
+  pub message_is : (m : MessageVal) (left it pad rest : List ℕ) → IsPiece S.order 16 4 left it pad rest → AreFields S.order (header_fields (header_in m it)) (take 16 it) → least_body (form_of m.kind) ≤ length (drop 16 it) → IsMessage m left it rest
+  message_is m left it pad rest p are long =
+      let cut = cut_piece S.order 16 4 left it pad rest p in
+      let w = sound_within S.order 16 4 left cut.sound in
+      let front : take 16 it ≡ take 16 left = ap (take 16) (sym cut.item) ∙ take_take 16 (len_of S.order 4 left) left w.low in
+      let head : header_of S.order left ≡ header_in m it = sym (header_front S.order left) ∙ ap (header_of S.order) (sym front) ∙ sym (read_of_fields header_known S.order (header_in m it) (take 16 it) are) in
+      let form : form_at S.order left ≡ form_of m.kind = ap (λ (x : Header). form_of x.kind) head in
+      let payload : payload_at S.order left ≡ drop 16 it = ap (drop 16) cut.item in
+      let least : least_body (form_at S.order left) ≤ length (payload_at S.order left) = subst (λ (x : Form × List ℕ). least_body x.0 ≤ length x.1) (two (sym form) (sym payload)) long in
+      record { cut = cut; header_is = head; form_is = form; payload_is = payload; sound = sound_of (broken_frame S.order left) (length (payload_at S.order left)) (least_body (form_at S.order left)) cut.sound least }
+
   pub messages_fit : (ms : List MessageVal) (place : ℕ) (left : List ℕ) → Layout S ms left → ReadAs (messages_of S place left) ms
   messages_fit [] place left f = (0, messages_none S place left f)
   messages_fit (m ∷ ms) place left f =
       let it = f.0 in
       let pad = f.1 in
       let rest = f.2 in
-      let cut = cut_piece S.order 16 4 left it pad rest f.3 in
-      let w = sound_within S.order 16 4 left cut.sound in
-      let h : Header = record { len = length it; kind = m.kind; flags = m.flags; seq = m.seq; port = m.port } in
-      let front : take 16 it ≡ take 16 left = ap (take 16) (sym cut.item) ∙ take_take 16 (len_of S.order 4 left) left w.low in
-      let head : header_of S.order left ≡ h = sym (header_front S.order left) ∙ ap (header_of S.order) (sym front) ∙ sym (read_of_fields header_known S.order h (take 16 it) f.4) in
-      let form : form_at S.order left ≡ form_of m.kind = ap (λ (x : Header). form_of x.kind) head in
-      let payload : payload_at S.order left ≡ drop 16 it = ap (drop 16) cut.item in
       let body = body_fit S m.body (form_of m.kind) (place + 16) (drop 16 it) f.5 in
-      let long : least_body (form_at S.order left) ≤ length (payload_at S.order left) = subst (λ (x : Form × List ℕ). least_body x.0 ≤ length x.1) (two (sym form) (sym payload)) body.0 in
-      let sound : broken_message S.order left ≡ None = sound_of (broken_frame S.order left) (length (payload_at S.order left)) (least_body (form_at S.order left)) cut.sound long in
-      let message : ReadAs (message_at S place left) m = along _ _ m (ap (λ (x : Header × Form × List ℕ). map_value (message_of x.0) (body_at S x.1 (place + 16) x.2)) (three head form payload)) (map_read (message_of h) _ m.body body.1) in
-      let more = subst (λ (xs : List ℕ). ReadAs (messages_of S (place + span_at S.order left) xs) ms) (sym cut.rest_is) (messages_fit ms (place + span_at S.order left) rest f.6) in
-      along _ _ (m ∷ ms) (messages_step S place left (some_of left w.head) sound)
+      let is = message_is m left it pad rest f.3 f.4 body.0 in
+      let w = sound_within S.order 16 4 left is.cut.sound in
+      let message : ReadAs (message_at S place left) m = along _ _ m (ap (λ (x : Header × Form × List ℕ). map_value (message_of x.0) (body_at S x.1 (place + 16) x.2)) (three is.header_is is.form_is is.payload_is)) (map_read (message_of (header_in m it)) _ m.body body.1) in
+      let more = subst (λ (xs : List ℕ). ReadAs (messages_of S (place + span_at S.order left) xs) ms) (sym is.cut.rest_is) (messages_fit ms (place + span_at S.order left) rest f.6) in
+      along _ _ (m ∷ ms) (messages_step S place left (some_of left w.head) is.sound)
       (then_read (message_at S place left) _ m (m ∷ ms) message (map_read (λ xs. m ∷ xs) _ ms more))
 
   empty_layout : (ms : List MessageVal) (v w : ℕ) (left : List ℕ) → left ≡ [] → ◌≡◌ {A = Outcome (List MessageVal)} (Ok [], w) (Ok ms, v) → Layout S ms left

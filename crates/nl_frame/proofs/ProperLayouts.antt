@@ -43,7 +43,7 @@ two_parts o d it pad rest p = cut p.padded where
 item_in : (o : Order) (d it pad rest : List ℕ) → IsPiece o 16 4 d it pad rest → length it + length rest ≤ length d
 item_in o d it pad rest p = omega (arith, ap (length {A = ℕ}) p.parts, length-append it (pad ++ rest), length-append pad rest)
 
-payload_in : (o : Order) (d it pad rest : List ℕ) → IsPiece o 16 4 d it pad rest → 16 + length (drop 16 it) ≡ length it
+pub payload_in : (o : Order) (d it pad rest : List ℕ) → IsPiece o 16 4 d it pad rest → 16 + length (drop 16 it) ≡ length it
 payload_in o d it pad rest p = omega (arith, p.least, length-drop 16 it)
 
 -- what is behind the front of a payload
@@ -54,7 +54,7 @@ again : (n k size : ℕ) → n % 4 ≡ 0 → n + k ≡ size → aligned (16 + (n
 again n k size e f = omega (arith, e, f)
 
 module _ (S : Shape) where
-  body_len_is : (c : BodyVal) (f : Form) (payload : List ℕ) → BodyOf S c f payload → aligned (16 + body_len c) ≡ aligned (16 + length payload)
+  pub body_len_is : (c : BodyVal) (f : Form) (payload : List ℕ) → BodyOf S c f payload → aligned (16 + body_len c) ≡ aligned (16 + length payload)
   body_len_is (noop bs) f payload b = ap (λ (x : List ℕ). aligned (16 + length x)) (sym b.1)
   body_len_is (error z h tail) f payload b = ap (λ k. aligned (16 + k)) (tail_len 20 payload tail b.1 b.3)
   body_len_is (done None tail) f payload b = ap (λ (x : List ℕ). aligned (16 + length x)) (sym b.2)

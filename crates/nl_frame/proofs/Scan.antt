@@ -109,7 +109,7 @@ message_region S r h e is =
 pub same_region : (S : Shape) (s : Rest) (h k : Head) → region_of S s ≡ Some h → region_of S s ≡ Some k → k ≡ h
 same_region S s h k e f = some_same k h (sym f ∙ e)
 
-no_region : (S : Shape) (s : Rest) (k : Head) → region_of S s ≡ None → region_of S s ≡ Some k → ⊥
+pub no_region : (S : Shape) (s : Rest) (k : Head) → region_of S s ≡ None → region_of S s ≡ Some k → ⊥
 no_region S s k e f = let g : ◌≡◌ {A = Option Head} (Some k) None = sym f ∙ e in absurd cc
 
 -- ---- the first fault
@@ -178,7 +178,7 @@ region_found : (S : Shape) (o : Option Head) → InsideFinds S o (region_scan S 
 region_found S None = refl
 region_found S (Some h) = scan_finds S (length h.left) h (omega arith)
 
-behind_shorter : (n : ℕ) (S : Shape) (s : Rest) → length s.left ≤ suc n → broken_message S.order s.left ≡ None → length (behind S s).left ≤ n
+pub behind_shorter : (n : ℕ) (S : Shape) (s : Rest) → length s.left ≤ suc n → broken_message S.order s.left ≡ None → length (behind S s).left ≤ n
 behind_shorter n S s h e = rest_shorter S.order 16 4 n s.left (omega arith) (message_within S.order s.left e) h
 
 pub frame_finds : (n : ℕ) (S : Shape) (s : Rest) → length s.left ≤ n → Finds S s (frame_scan n S s).1

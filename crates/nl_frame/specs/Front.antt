@@ -1,6 +1,7 @@
--- The message at the front of bytes.
-use Rattle.std.specs.Prelude.{◌≡◌, ◌≤◌, ◌+◌, ℕ, nat_lt, if◌then◌else◌, List, length, drop, Option, Some, None, Result, Ok, Err}
+-- The message at the front of bytes, and the one at a place of them.
+use Rattle.std.specs.Prelude.{◌≡◌, ◌≤◌, ◌<◌, ◌+◌, ℕ, nat_lt, if◌then◌else◌, List, length, drop, Option, Some, None, Result, Ok, Err}
 use Rattle.nl_attr.specs.declared.order.Order.{Order}
+use Rattle.nl_attr.specs.declared.fault.Fault.{Fault}
 use Rattle.nl_attr.specs.declared.fault.Reason.{Reason}
 use Rattle.nl_attr.specs.declared.fault.Reason.TheVariants.{ShortBody}
 use Rattle.nl_attr.specs.Numbers.{number_of, span_of}
@@ -50,3 +51,9 @@ module _ (o : Order) where
   abbrev pub GivesFrame : List ℕ → Result Frame Reason → Type 0
   GivesFrame left (Ok f) = IsFrame left f
   GivesFrame left (Err r) = broken_message left ≡ Some r
+
+  -- what stands at a place of these bytes: nothing at their end or behind it, else the message there, or the first rule that it breaks
+  abbrev pub StandsAt : List ℕ → ℕ → Option (Result Frame Fault) → Type 0
+  StandsAt bytes place None = length bytes ≤ place
+  StandsAt bytes place (Some (Ok f)) = (place < length bytes) × IsFrame (drop place bytes) f
+  StandsAt bytes place (Some (Err f)) = (place < length bytes) × (broken_message (drop place bytes) ≡ Some f.reason) × (f.place ≡ place)

@@ -16,6 +16,9 @@ pub mod Measured
 pub mod Compared
 pub mod Broken
 pub mod Towards
+pub mod Trail
+pub mod Taped
+pub mod Listed
 pub use Rattle.nl_attr.specs.Numbers
 pub use Rattle.nl_attr.specs.Shape
 pub use Rattle.nl_attr.specs.Walk
@@ -30,3 +33,5 @@ pub use Rattle.nl_route.specs.Body
 pub use Rattle.nl_attr.specs.Written as RegionWritten
 pub use Rattle.nl_attr.specs.Proper as RegionProper
 pub use Rattle.nl_attr.specs.Broken as RegionBroken
+pub use Rattle.nl_attr.specs.Trail as RegionTrail
+pub use Rattle.nl_attr.specs.Listed as RegionListed

@@ -1,22 +1,27 @@
-//! The message at the front of bytes.
+//! The message at the front of bytes, and the one at a place of a datagram.
 
 ghost use Rattle.std.specs.Prelude.{◌≡◌, ◌≤◌, length, min};
 ghost use Rattle.nl_attr.specs.Numbers.{aligned};
 ghost use Rattle.nl_attr.specs.Walk.{HeadIs};
-ghost use Rattle.nl_frame.specs.Front.{GivesFrame};
+ghost use Rattle.nl_frame.specs.Front.{GivesFrame, StandsAt};
 
 use crate::form::Form;
 use crate::header::Header;
-use nl_attr::{Order, Reason, align4};
+use nl_attr::{Fault, Order, Reason, align4};
 
 /// A message as it lies in its datagram.
 #[derive(Clone, Copy, Debug)]
-pub(crate) struct Frame<'a> {
-    pub(crate) header: Header,
-    pub(crate) form: Form,
-    pub(crate) span: u32,
-    pub(crate) payload: &'a [u8],
-    pub(crate) rest: &'a [u8],
+pub struct Frame<'a> {
+    /// Its header, whose length is within the datagram and at least 16.
+    pub header: Header,
+    /// The form of its body, by the type in the header.
+    pub form: Form,
+    /// How many bytes it occupies: header, payload, and the padding as far as present.
+    pub span: u32,
+    /// The bytes of its body, at least as many as the form wants.
+    pub payload: &'a [u8],
+    /// The bytes behind the message and its padding, to the end of the datagram.
+    pub rest: &'a [u8],
 }
 
 /// The length that the header at the front says, where it is within bounds.
@@ -62,4 +67,21 @@ pub(crate) fn front(left: &[u8], order: Order) -> Result<Frame<'_>, Reason>
         payload,
         rest: &left[span as usize..],
     })
+}
+
+/// The message whose header stands at a place of a datagram; none where the place is at the
+/// datagram's end or behind it; the fault where no whole message stands there. It takes no memory,
+/// and looks at no byte before the place.
+///
+/// Places count from the datagram's start, also that of the fault. The next message stands at the
+/// place plus the span. Of the body only its least length is looked at, and whether messages from
+/// the datagram's start on come to the place is not asked.
+pub fn message_at(bytes: &[u8], place: u32, order: Order) -> Option<Result<Frame<'_>, Fault>>
+    requires { length bytes.now ≤ 1048576 }
+    ensures { StandsAt order bytes.now place result }
+{
+    if bytes.len() <= place as usize {
+        return None;
+    }
+    Some(front(&bytes[place as usize..], order).map_err(|reason| Fault { place, reason }))
 }

@@ -1,6 +1,8 @@
 //! Laws over the definitions alone: each contract is a law, and each body is empty.
 
 ghost use Rattle.std.specs.Prelude.{◌≡◌, ◌≤◌, ◌+◌, ◌*◌, ◌↔◌, ℕ, List, length};
+ghost use Rattle.std.specs.Prelude.{All, Contains, map};
+ghost use Rattle.std.specs.List.Sorted.{IsStrictlyIncreasing};
 ghost use Rattle.nl_attr.specs.declared.order.Order.{Order};
 ghost use Rattle.nl_attr.specs.declared.fault.Reason.{Reason};
 ghost use Rattle.nl_attr.specs.Shape.{Shape};
@@ -8,6 +10,10 @@ ghost use Rattle.nl_attr.specs.Numbers.{aligned, AreBytes};
 ghost use Rattle.nl_frame.specs.Message.{MessageVal};
 ghost use Rattle.nl_frame.specs.Layout.{Layout};
 ghost use Rattle.nl_frame.specs.Heads.{Rest, FaultAt, IsFirstFault, Visits, whole};
+ghost use Rattle.nl_attr.specs.Listed.{rounded};
+ghost use Rattle.nl_frame.specs.Listed.{messages_events};
+ghost use Rattle.nl_frame.specs.Trail.{AnyHead, ComesUpTo, IsEnd, StandsIn, events_of, place_of};
+ghost use Rattle.nl_frame.specs.Trail.{trail_of};
 ghost use Rattle.nl_frame.specs.Limits.{Bounds, AreLimits};
 ghost use Rattle.nl_frame.specs.OneList.{IsTheList};
 ghost use Rattle.nl_frame.specs.Written.{written, written_len};
@@ -45,6 +51,31 @@ pub fn visits_are_bounded()
 pub fn one_sum()
     ensures some { (s : Shape) (d : Rest) (q : ℕ) → (total : ℕ) × Visits s d q total }
     ensures only { (s : Shape) (d : Rest) (q a b : ℕ) → Visits s d q a → Visits s d q b → a ≡ b }
+{}
+
+/// The heads to which a scan of a datagram comes are those that stand in it, each once, in the
+/// order of their places: each message, and behind it the heads of its attributes; all of them
+/// where none breaks a rule, else those up to the first fault.
+pub fn heads_in_order()
+    // Each stands there: a message that breaks no rule, or a head whose length is within bounds.
+    ensures each { (s : Shape) (r : Rest) → All (StandsIn s r) (trail_of s r).0 }
+    // Their places rise.
+    ensures order { (s : Shape) (r : Rest)
+        → IsStrictlyIncreasing (map place_of (trail_of s r).0) }
+    // They end where no head breaks a rule, or at the first fault.
+    ensures end { (s : Shape) (r : Rest) → IsEnd s r (trail_of s r).1 }
+    // All that stand there up to that end are among them, and no other is.
+    ensures all { (s : Shape) (r : Rest) (h : AnyHead) → Contains (trail_of s r).0 h
+        ↔ (StandsIn s r h × ComesUpTo (trail_of s r).1 h) }
+{}
+
+/// Where messages are the layout of a datagram, the events of a scan are those of the messages:
+/// for each its place, type and length, and behind it for each attribute and next hop, in order,
+/// its place, level, type, flags, sort and length. Lengths are rounded up, but for an attribute's
+/// bytes, since the padding behind what stands last may be absent.
+pub fn heads_of_layout()
+    ensures { (s : Shape) (d : List ℕ) (ms : List MessageVal) → Layout s ms d
+        → map rounded (events_of s (whole d)) ≡ messages_events 0 ms }
 {}
 
 /// Messages are written as many bytes in either order.

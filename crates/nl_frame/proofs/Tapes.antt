@@ -1,0 +1,201 @@
+-- The loop that scans the messages of a datagram.
+use Rattle.std.proofs.Common.{◌≡◌, ◌≢◌, ℕ, ◌+◌, ◌*◌, ◌^◌, ◌≤◌, ◌<◌, List, [], ◌∷◌, ◌++◌, length, map, slice_set, Option, Some, None, refl, sym, ap, ◌∙◌, arith, length-append, length-drop}
+use Rattle.std.proofs.lemmas.List.{append-nil, length-map, map-append}
+use Rattle.nl_attr.specs.declared.events.Event.{Event}
+use Rattle.nl_attr.specs.declared.fault.Fault.{Fault}
+use Rattle.nl_attr.specs.declared.fault.Reason.{Reason}
+use Rattle.nl_attr.specs.declared.taping.Taped.{Taped}
+use Rattle.nl_attr.specs.Shape.{Shape}
+use Rattle.nl_attr.specs.Heads.{Head}
+use Rattle.nl_attr.specs.Visits.{spans}
+use Rattle.nl_attr.specs.Trail.{and_on, fault_of, put_from}
+use Rattle.nl_attr.specs.Trail as region
+use Rattle.nl_attr.specs.Taped as regions
+use Rattle.nl_attr.proofs.Lemmas.First.{sum_append}
+use Rattle.nl_attr.proofs.Lemmas.Putting.{put_none, put_on, put_one}
+use Rattle.nl_frame.specs.declared.front.Frame.{Frame}
+use Rattle.nl_frame.specs.Front.{span_at, broken_message, IsFrame}
+use Rattle.nl_frame.specs.Heads.{Rest, region_in, whole}
+use Rattle.nl_frame.specs.Taped.{IsTaped, IsFrameTaped}
+use Rattle.nl_frame.specs.Trail.{AnyHead, header, inner, Trail, region_trail, trail_of, visits_in, visits_of, event_of, header_event}
+use Rattle.nl_frame.proofs.Fronts.{step_bound, whole_bound, small}
+use Rattle.nl_frame.proofs.Trails.{front, front_front, trail_ends, trail_stops, trail_goes, visits_in_append, visits_in_region}
+
+module _ (S : Shape) where
+  -- ---- a body
+
+  -- the heads of a region, as those of a datagram
+  pub region_events : (hs : List Head) → map (region.event_of S.order) hs ≡ map (event_of S.order) (map inner hs)
+  region_events [] = refl
+  region_events (h ∷ hs) = ap (λ (es : List Event). region.event_of S.order h ∷ es) (region_events hs)
+
+  pub region_taped : (h : Head) (count : ℕ) (old new : List Event) (t : Taped) → regions.IsTaped S h count old new t → IsTaped S (region_trail S (Some h)) count old new t
+  region_taped h count old new t is = record {
+    fault = is.fault;
+    visits = is.visits ∙ ap spans (sym (visits_in_region S (region.trail_of S h).0));
+    counted = is.counted ∙ ap (λ (n : ℕ). count + n) (sym (length-map (region.trail_of S h).0 inner));
+    events = is.events ∙ ap (λ (es : List Event). put_from count es old) (region_events (region.trail_of S h).0);
+  }
+
+  -- a body that holds no heads
+  pub nothing_taped : (count : ℕ) (old : List Event) → IsTaped S ([], None) count old old (record { fault = None; count = count; visits = 0 })
+  nothing_taped count old = record { fault = refl; visits = refl; counted = omega arith; events = sym (put_none count old) }
+
+  -- ---- the state of the loop
+
+  visits_append : (hs gs : List AnyHead) → visits_of S (hs ++ gs) ≡ visits_of S hs + visits_of S gs
+  visits_append hs gs = ap spans (visits_in_append S hs gs) ∙ sum_append (visits_in S hs) (visits_in S gs)
+
+  -- these heads were found, and this is left
+  pub record IsTaping (d : List ℕ) (old : List Event) (count visits place : ℕ) (left : List ℕ) (out : List Event) : Type 0 where
+    pub hs : List AnyHead
+    pub same : trail_of S (whole d) ≡ front hs (trail_of S (record { place = place; left = left }))
+    pub counted : count ≡ length hs
+    pub seen : visits ≡ visits_of S hs
+    pub events : out ≡ put_from 0 (map (event_of S.order) hs) old
+    pub size : place + length left ≡ length d
+    pub bound : visits ≤ (S.depth + 1) * place
+    pub few : count ≤ place + visits
+
+  -- the whole datagram is left
+  pub begins : (d : List ℕ) (old : List Event) → IsTaping d old 0 0 0 d old
+  begins d old = record { hs = []; same = refl; counted = refl; seen = refl; events = sym (put_none 0 old); size = omega arith; bound = omega arith; few = omega arith }
+
+module _ {S : Shape} {d : List ℕ} {old : List Event} {count visits place : ℕ} {left : List ℕ} {out : List Event} (now : IsTaping S d old count visits place left out) where
+  rest : Rest
+  rest = record { place = place; left = left }
+
+  -- these are all heads, and this is what ends them
+  ends_so : (hs : List AnyHead) (o : Option (ℕ × Reason)) (n v : ℕ) (new : List Event) → trail_of S (whole d) ≡ (hs, o) → n ≡ length hs → v ≡ visits_of S hs → new ≡ put_from 0 (map (event_of S.order) hs) old
+      → IsTaped S (trail_of S (whole d)) 0 old new (record { fault = fault_of o; count = n; visits = v })
+  ends_so hs o n v new e c s p = record {
+    fault = ap (λ (t : Trail). fault_of t.1) (sym e);
+    visits = s ∙ ap (λ (t : Trail). visits_of S t.0) (sym e);
+    counted = omega (arith, c, ap (λ (t : Trail). length t.0) e);
+    events = p ∙ ap (λ (t : Trail). put_from 0 (map (event_of S.order) t.0) old) (sym e);
+  }
+
+  -- nothing is left
+  pub tells_none : left ≡ [] → IsTaped S (trail_of S (whole d)) 0 old out (record { fault = None; count = count; visits = visits })
+  unfolding rest
+  tells_none e = ends_so now.hs None count visits out
+      (now.same ∙ ap (front now.hs) (trail_ends S rest e) ∙ ap (λ (l : List AnyHead). (l, None)) (append-nil now.hs)) now.counted now.seen now.events
+
+  -- the header of what is left breaks a rule
+  pub tells_broken : (why : Reason) → left ≢ [] → broken_message S.order left ≡ Some why → IsTaped S (trail_of S (whole d)) 0 old out (record { fault = Some (record { place = place; reason = why }); count = count; visits = visits })
+  unfolding rest
+  tells_broken why some e = ends_so now.hs (Some (place, why)) count visits out
+      (now.same ∙ ap (front now.hs) (trail_stops S rest why some e) ∙ ap (λ (l : List AnyHead). (l, Some (place, why))) (append-nil now.hs)) now.counted now.seen now.events
+
+  -- ---- a message
+
+  module _ (f : Frame) (some : left ≢ []) (is : IsFrame S.order left f) where
+    -- the heads in its body, and what is behind it
+    body : Trail
+    body = region_trail S (region_in f.form (place + 16) f.payload.now)
+
+    onward : Rest
+    onward = record { place = place + f.span; left = f.rest.now }
+
+    told : Event
+    told = header_event place f.header.kind (length f.payload.now)
+
+    told_is : told ≡ event_of S.order (header rest)
+    unfolding told rest
+    told_is = rw (is.header, is.payload) refl
+
+    -- the heads that were found, and the header
+    found : List AnyHead
+    found = now.hs ++ header rest ∷ []
+
+    goes : trail_of S (whole d) ≡ front found (and_on body (trail_of S onward))
+    unfolding rest body onward found
+    goes = now.same ∙ ap (front now.hs) (trail_goes S rest some is.sound) ∙ front_front now.hs (header rest ∷ []) _
+        ∙ rw (is.form, is.payload, is.span, is.rest) refl
+
+    found_length : length found ≡ count + 1
+    unfolding found
+    found_length = omega (arith, now.counted, length-append now.hs (header rest ∷ []))
+
+    -- the buffer, once the header was told of
+    put_is : slice_set out count told ≡ put_from 0 (map (event_of S.order) found) old
+    unfolding found
+    put_is =
+        let e = event_of S.order in
+        sym (put_one count told out)
+        ∙ ap (λ (x : Event). put_from count (x ∷ []) out) told_is
+        ∙ ap (put_from count (e (header rest) ∷ [])) now.events
+        ∙ ap (λ (n : ℕ). put_from n (e (header rest) ∷ []) (put_from 0 (map e now.hs) old)) (omega (arith, now.counted, length-map now.hs e))
+        ∙ put_on 0 (map e now.hs) (e (header rest) ∷ []) old
+        ∙ ap (λ (es : List Event). put_from 0 es old) (sym (map-append e now.hs (header rest ∷ [])))
+
+    -- and once these were
+    put_more : (hs : List AnyHead) → put_from (count + 1) (map (event_of S.order) hs) (slice_set out count told) ≡ put_from 0 (map (event_of S.order) (found ++ hs)) old
+    put_more hs =
+        let e = event_of S.order in
+        ap (put_from (count + 1) (map e hs)) put_is
+        ∙ ap (λ (n : ℕ). put_from n (map e hs) (put_from 0 (map e found) old)) (omega (arith, found_length, length-map found e))
+        ∙ put_on 0 (map e found) (map e hs) old
+        ∙ ap (λ (es : List Event). put_from 0 es old) (sym (map-append e found hs))
+
+    counts : (hs : List AnyHead) → length (found ++ hs) ≡ count + 1 + length hs
+    counts hs = omega (arith, found_length, length-append found hs)
+
+    sees : (hs : List AnyHead) → visits_of S (found ++ hs) ≡ visits + visits_of S hs
+    unfolding found
+    sees hs = omega (arith, now.seen, visits_append S found hs, visits_append S now.hs (header rest ∷ []))
+
+    stops_at : (i t : Trail) (g : ℕ × Reason) → i.1 ≡ Some g → and_on i t ≡ (i.0, Some g)
+    stops_at (hs, None) t g e = absurd (let x : ◌≡◌ {A = Option (ℕ × Reason)} None (Some g) = e in cc)
+    stops_at (hs, Some k) t g e = ap (λ (o : Option (ℕ × Reason)). (hs, o)) e
+
+    passes_at : (i t : Trail) → i.1 ≡ None → and_on i t ≡ front i.0 t
+    passes_at (hs, None) t e = refl
+    passes_at (hs, Some k) t e = absurd (let x : ◌≡◌ {A = Option (ℕ × Reason)} (Some k) None = e in cc)
+
+    fault_some : (o : Option (ℕ × Reason)) (g : Fault) → Some g ≡ fault_of o → o ≡ Some (g.place, g.reason)
+    fault_some None g e = absurd (let x : ◌≡◌ {A = Option Fault} (Some g) None = e in cc)
+    fault_some (Some k) g e = let x : ◌≡◌ {A = Option Fault} (Some g) (Some (record { place = k.0; reason = k.1 })) = e in let y : g ≡ record { place = k.0; reason = k.1 } = cc in ap (λ (h : Fault). Some (h.place, h.reason)) (sym y)
+
+    fault_none : (o : Option (ℕ × Reason)) → None ≡ fault_of o → o ≡ None
+    fault_none None e = refl
+    fault_none (Some k) e = absurd (let x : ◌≡◌ {A = Option Fault} None (Some (record { place = k.0; reason = k.1 })) = e in cc)
+
+    module _ (new : List Event) (t : Taped) (taped : IsFrameTaped S f place count out new t) where
+      -- a head in it breaks a rule
+      pub tells_fault : (g : Fault) → t.fault ≡ Some g → IsTaped S (trail_of S (whole d)) 0 old new (record { fault = Some g; count = t.count; visits = visits + t.visits })
+      unfolding told body
+      tells_fault g e =
+          ends_so (found ++ body.0) (Some (g.place, g.reason)) t.count (visits + t.visits) new
+          (goes ∙ ap (front found) (stops_at body (trail_of S onward) (g.place, g.reason) (fault_some body.1 g (sym e ∙ taped.fault))))
+          (omega (arith, taped.counted, counts body.0))
+          (omega (arith, taped.visits, sees body.0))
+          (taped.events ∙ put_more body.0)
+
+      -- none does
+      pub goes_on : t.fault ≡ None → t.visits ≤ (S.depth + 1) * length f.payload.now → t.count ≤ count + 1 + t.visits → IsTaping S d old t.count (visits + t.visits) (place + f.span) f.rest.now new
+      unfolding told body onward
+      goes_on e b c = record {
+        hs = found ++ body.0;
+        same = goes ∙ ap (front found) (passes_at body (trail_of S onward) (fault_none body.1 (sym e ∙ taped.fault))) ∙ front_front found body.0 (trail_of S onward);
+        counted = omega (arith, taped.counted, counts body.0);
+        seen = omega (arith, taped.visits, sees body.0);
+        events = taped.events ∙ put_more body.0;
+        size = omega (arith, is.within, now.size, is.span, ap (length {A = ℕ}) is.rest, length-drop (span_at S.order left) left);
+        bound = step_bound (S.depth + 1) visits t.visits place f.span (length f.payload.now) now.bound b (omega (arith, is.inside));
+        few = omega (arith, c, now.few, is.inside);
+      }
+
+      sum_bound : t.visits ≤ (S.depth + 1) * length f.payload.now → visits + t.visits ≤ (S.depth + 1) * (place + f.span)
+      sum_bound b = step_bound (S.depth + 1) visits t.visits place f.span (length f.payload.now) now.bound b (omega (arith, is.inside))
+
+      -- the sum of the visits is small
+      pub sum_small : S.depth ≤ 32 → length d ≤ 1048576 → t.visits ≤ (S.depth + 1) * length f.payload.now → visits + t.visits < 2 ^ 64
+      sum_small low size b = small (S.depth + 1) (place + f.span) (visits + t.visits) (omega arith) (omega (arith, is.within, now.size)) (sum_bound b)
+
+      -- and has the bound of the datagram
+      pub sum_whole : t.visits ≤ (S.depth + 1) * length f.payload.now → visits + t.visits ≤ (S.depth + 1) * length d
+      sum_whole b = whole_bound (S.depth + 1) (visits + t.visits) (place + f.span) (length d) (sum_bound b) (omega (arith, is.within, now.size))
+
+  pub here_whole : visits ≤ (S.depth + 1) * length d
+  here_whole = whole_bound (S.depth + 1) visits place (length d) now.bound (omega (arith, now.size))

@@ -1,0 +1,29 @@
+use Rattle.std.proofs.Common.{◌≡◌, ℕ, ◌*◌, ◌+◌, ◌-◌, ◌≤◌, take, drop, length, subst, arith}
+use Rattle.nl_attr.specs.Shape.{shape_of}
+use Rattle.nl_attr.specs.Heads.{Head}
+use Rattle.nl_attr.specs.Taped.{IsTaped}
+use Rattle.nl_attr.proofs.Lemmas.Comparing.{length-from}
+use Rattle.nl_attr.proofs.Lemmas.Fronts.{rest_so}
+use Rattle.nl_route.specs.Families.{context_of, head_size}
+use Rattle.nl_frame.proofs.Fronts.{whole_bound}
+use Rattle.nl_frame.proofs.Tapes.{region_taped}
+use Rattle.nl_frame.proofs.taping.tape_family.Goals as goal
+
+pub returns-clause-taped : goal.returns-clause-taped
+returns-clause-taped c =
+    let a = c.args in
+    let S = shape_of a.order a.depth in
+    let start = rest_so (context_of a.group) 0 a.place a.payload.now c.row-row.result.head_size (head_size a.group) c.row-row.ensures.size in
+    region_taped S _ a.count a.out.now _ c.tape_list.result (subst (λ (h : Head). IsTaped S h a.count a.out.now c.tape_list.new.out c.tape_list.result) start (rw (c.row-row.ensures.context) at c.tape_list.ensures.taped))
+
+-- a level more for each, above none
+from_the_lowest : (v d n : ℕ) → v ≤ (d - 0 + 1) * n → v ≤ (d + 1) * n
+from_the_lowest v d n h = let e : d - 0 + 1 ≡ d + 1 = omega arith in subst (λ (k : ℕ). v ≤ k * n) e h
+
+pub returns-clause-bound : goal.returns-clause-bound
+returns-clause-bound c =
+    let a = c.args in
+    let bytes = take (length a.payload.now - c.row-row.result.head_size) (drop c.row-row.result.head_size a.payload.now) in
+    let v = c.tape_list.result.visits in
+    whole_bound (a.depth + 1) v (length bytes) (length a.payload.now) (from_the_lowest v a.depth (length bytes) c.tape_list.ensures.bound)
+    (omega (arith, length-from c.row-row.result.head_size a.payload.now))

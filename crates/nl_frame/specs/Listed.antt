@@ -1,0 +1,25 @@
+-- The events of messages: what a scan of the datagram whose layout they are tells of each head, in their order.
+use Rattle.std.specs.Prelude.{◌+◌, ℕ, List, [], ◌∷◌, ◌++◌}
+use Rattle.nl_attr.specs.declared.events.Event.{Event}
+use Rattle.nl_attr.specs.Numbers.{aligned}
+use Rattle.nl_attr.specs.Listed.{items_events}
+use Rattle.nl_route.specs.Families.{head_size, group_of}
+use Rattle.nl_frame.specs.Message.{BodyVal, noop, error, done, overrun, family, get, other, MessageVal}
+use Rattle.nl_frame.specs.Written.{body_len}
+use Rattle.nl_frame.specs.Trail.{header_event}
+
+-- the heads of the attributes in a body at a place
+abbrev pub body_events : ℕ → BodyVal → List Event
+body_events place (noop bs) = []
+body_events place (error code h tail) = []
+body_events place (done status tail) = []
+body_events place (overrun bs) = []
+body_events place (family h is) = items_events (place + head_size (group_of h)) 0 is
+body_events place (get n tail) = []
+body_events place (other bs) = []
+
+-- each message, then the heads in its body; the next stands behind its padding
+abbrev pub messages_events : ℕ → List MessageVal → List Event
+messages_events place [] = []
+messages_events place (m ∷ ms) =
+    header_event place m.kind (aligned (body_len m.body)) ∷ (body_events (place + 16) m.body ++ messages_events (place + aligned (16 + body_len m.body)) ms)

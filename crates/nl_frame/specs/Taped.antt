@@ -1,0 +1,51 @@
+-- What a scan of a datagram tells, head by head and at its end.
+use Rattle.std.specs.Prelude.{◌≡◌, ◌+◌, ℕ, List, length, map, slice_set, Option, Some, None, Result, Ok, Err}
+use Rattle.nl_attr.specs.declared.events.Event.{Event}
+use Rattle.nl_attr.specs.declared.fault.Fault.{Fault}
+use Rattle.nl_attr.specs.declared.taping.Taped.{Taped}
+use Rattle.nl_attr.specs.Shape.{Shape}
+use Rattle.nl_attr.specs.Reading.{Outcome}
+use Rattle.nl_attr.specs.Scanned.{without}
+use Rattle.nl_attr.specs.Trail.{put_from, fault_of}
+use Rattle.nl_frame.specs.declared.front.Frame.{Frame}
+use Rattle.nl_frame.specs.declared.reading.ReadError.{ReadError}
+use Rattle.nl_frame.specs.declared.reading.ReadError.TheVariants as unread
+use Rattle.nl_frame.specs.declared.scanning.ScanError.{ScanError}
+use Rattle.nl_frame.specs.declared.scanning.ScanError.TheVariants.{TooLarge, Layout}
+use Rattle.nl_frame.specs.Heads.{region_in}
+use Rattle.nl_frame.specs.Trail.{Trail, region_trail, visits_of, event_of, header_event}
+
+-- these heads are told of in the buffer from place `count` on, and counted
+pub record IsTaped (S : Shape) (trail : Trail) (count : ℕ) (old new : List Event) (t : Taped) : Type 0 where
+  pub fault : t.fault ≡ fault_of trail.1
+  pub visits : t.visits ≡ visits_of S trail.0
+  pub counted : t.count ≡ count + length trail.0
+  pub events : new ≡ put_from count (map (event_of S.order) trail.0) old
+
+-- a message's header is told of, and the heads in its body behind it
+abbrev pub IsFrameTaped : Shape → Frame → ℕ → ℕ → List Event → List Event → Taped → Type 0
+IsFrameTaped S f place count old new t =
+    IsTaped S (region_trail S (region_in f.form (place + 16) f.payload.now)) (count + 1) (slice_set old count (header_event place f.header.kind (length f.payload.now))) new t
+
+-- it is refused for this fault, or accepted with this count where there is none
+abbrev pub Ends : ℕ → Option Fault → Result ℕ ScanError → Type 0
+Ends count None (Ok n) = n ≡ count
+Ends count None (Err e) = ⊥
+Ends count (Some g) (Ok n) = ⊥
+Ends count (Some g) (Err e) = e ≡ Layout g
+
+-- a refusal of a scan, as reading refuses
+abbrev pub refusal : ScanError → ReadError
+refusal TooLarge = unread.TooLarge
+refusal (Layout f) = unread.Layout f
+
+-- an answer of a scan, as reading answers
+abbrev pub as_read : {X : Type 0} → Result X ScanError → Result X ReadError
+as_read (Ok x) = Ok x
+as_read (Err e) = Err (refusal e)
+
+-- whether all is accepted or which fault is met, and the visits, are those of this outcome of a reading
+abbrev pub SaysEnd : {X Y : Type 0} → Result X ScanError → ℕ → Outcome Y → Type 0
+SaysEnd (Ok x) v o = without o ≡ (Ok tt, v)
+SaysEnd (Err TooLarge) v o = ⊥
+SaysEnd (Err (Layout f)) v o = without o ≡ (Err f, v)

@@ -1,0 +1,125 @@
+//! Scanning a datagram: reading that keeps nothing and takes no memory.
+
+ghost use Rattle.std.specs.Prelude.{◌≡◌, ◌≤◌, ◌<◌, ◌+◌, ◌*◌, ◌↔◌, drop, length, List, IfOk, IfErr, Err};
+ghost use Rattle.nl_attr.specs.Trail.{put_from};
+ghost use Rattle.nl_frame.specs.Heads.{IsFirstFault, whole};
+ghost use Rattle.nl_frame.specs.Layout.{Layout};
+ghost use Rattle.nl_frame.specs.Message.{MessageVal};
+ghost use Rattle.nl_frame.specs.Reading.{messages_of};
+ghost use Rattle.nl_frame.specs.Taped.{Ends, SaysEnd, as_read};
+ghost use Rattle.nl_frame.specs.Told.{IfFault, VisitsUpTo};
+ghost use Rattle.nl_frame.specs.Trail.{events_of};
+
+use crate::limits::Limits;
+use crate::taping::tape_messages;
+use nl_attr::{Event, Fault, Tally};
+use thiserror::Error;
+
+/// Why a scan refuses a datagram: as `read_datagram` does, but never for memory.
+#[derive(Clone, Copy, Debug, PartialEq, Eq, Error)]
+pub enum ScanError {
+    /// The datagram is above the datagram limit; nothing of it was looked at.
+    #[error("too large")]
+    TooLarge,
+    /// The first fault of the datagram.
+    #[error("{0}")]
+    Layout(Fault),
+}
+
+impl ScanError {
+    ghost use Rattle.nl_frame.specs.Taped.{refusal};
+    ghost use Rattle.nl_frame.specs.Told.{read_code};
+
+    /// The number of this refusal: that of the fault's reason, or 6 for too large.
+    pub fn code(self) -> u8
+        ensures { result ≡ read_code (refusal self) }
+    {
+        match self {
+            ScanError::Layout(fault) => fault.code(),
+            ScanError::TooLarge => 6,
+        }
+    }
+}
+
+/// The answer of a scan that found this fault, or none and so many heads.
+fn answer(fault: Option<Fault>, count: usize) -> Result<usize, ScanError>
+    ensures { Ends count fault result }
+{
+    match fault {
+        None => Ok(count),
+        Some(fault) => Err(ScanError::Layout(fault)),
+    }
+}
+
+/// Scans a datagram, as `read_datagram` reads it, and puts what is told of each head into `out`, in
+/// the order of their places and as far as `out` goes: each message's header, and behind it the
+/// heads of its attributes and next hops. It takes no memory.
+///
+/// It answers how many heads there are, which may be more than `out` has room for, and how many
+/// attribute bytes were visited. It refuses what `read_datagram` refuses: nothing is put where the
+/// datagram is above the datagram limit; at the first fault the heads up to it have been put.
+#[inline(always)]
+pub fn tape_datagram(bytes: &[u8], limits: &Limits, out: &mut [Event]) -> Tally<usize, ScanError>
+    ensures large { result.result ≡ Err ScanError.TooLarge ↔ limits.now.datagram < length bytes.now }
+    ensures untouched { limits.now.datagram < length bytes.now → out.new ≡ out.old }
+    // Else whether it is accepted, the fault and the visits are those of a reading.
+    ensures told { length bytes.now ≤ limits.now.datagram
+        → SaysEnd result.result result.visits (messages_of limits.now.shape 0 bytes.now) }
+    // What is told of the heads up to the fault stands in the buffer, and the rest is as it was.
+    ensures events { length bytes.now ≤ limits.now.datagram
+        → out.new ≡ put_from 0 (events_of limits.now.shape (whole bytes.now)) out.old }
+    ensures count { IfOk result.result
+        (λ n. n ≡ length (events_of limits.now.shape (whole bytes.now))) }
+    // Where it is accepted some list of messages is the layout.
+    ensures fits { IfOk result.result
+        (λ _. (ms : List MessageVal) × Layout limits.now.shape ms bytes.now) }
+    // A fault is the one at the least place.
+    ensures first { IfErr (as_read result.result) (λ e. IfFault e
+        (λ f. IsFirstFault limits.now.shape (whole bytes.now) f.place f.reason)) }
+    // Then no list is the layout.
+    ensures none { IfErr (as_read result.result) (λ e. IfFault e
+        (λ _. (ms : List MessageVal) → Layout limits.now.shape ms bytes.now → ⊥)) }
+    // The visits are those of all heads, or of those up to the fault.
+    ensures visits { VisitsUpTo limits.now.shape bytes.now
+        (as_read result.result) result.visits }
+    ensures bound { result.visits ≤ (limits.now.shape.depth + 1) * length bytes.now }
+{
+    if bytes.len() > limits.datagram() as usize {
+        return Tally {
+            result: Err(ScanError::TooLarge),
+            visits: 0,
+        };
+    }
+    let taped = tape_messages(bytes, limits.depth(), limits.order(), out);
+    Tally {
+        result: answer(taped.fault, taped.count),
+        visits: taped.visits,
+    }
+}
+
+/// Whether a datagram is accepted by `read_datagram`, and how many attribute bytes were visited.
+/// Nothing of it is kept, and no memory is taken.
+///
+/// It refuses a datagram above the datagram limit, then at the first fault over all heads.
+pub fn scan_datagram(bytes: &[u8], limits: &Limits) -> Tally<(), ScanError>
+    ensures large { result.result ≡ Err ScanError.TooLarge ↔ limits.now.datagram < length bytes.now }
+    // Else whether it is accepted, the fault and the visits are those of a reading.
+    ensures told { length bytes.now ≤ limits.now.datagram
+        → SaysEnd result.result result.visits (messages_of limits.now.shape 0 bytes.now) }
+    // Where it is accepted some list of messages is the layout.
+    ensures fits { IfOk result.result
+        (λ _. (ms : List MessageVal) × Layout limits.now.shape ms bytes.now) }
+    // A fault is the one at the least place.
+    ensures first { IfErr (as_read result.result) (λ e. IfFault e
+        (λ f. IsFirstFault limits.now.shape (whole bytes.now) f.place f.reason)) }
+    // Then no list is the layout.
+    ensures none { IfErr (as_read result.result) (λ e. IfFault e
+        (λ _. (ms : List MessageVal) → Layout limits.now.shape ms bytes.now → ⊥)) }
+    // The visits are those of all heads, or of those up to the fault.
+    ensures visits { VisitsUpTo limits.now.shape bytes.now
+        (as_read result.result) result.visits }
+    ensures bound { result.visits ≤ (limits.now.shape.depth + 1) * length bytes.now }
+{
+    let out: &mut [Event] = &mut [];
+    tape_datagram(bytes, limits, out).map(|_| ())
+}

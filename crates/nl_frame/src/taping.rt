@@ -1,0 +1,182 @@
+//! Scanning the messages of a datagram in one pass, which takes no memory and no call stack: each
+//! head is checked, and what is told of it is put into a buffer.
+
+ghost use Rattle.std.specs.Prelude.{◌≡◌, ◌≤◌, ◌+◌, ◌*◌, length, None};
+ghost use Rattle.nl_attr.specs.Shape.{shape_of};
+ghost use Rattle.nl_route.specs.Families.{head_size};
+ghost use Rattle.nl_frame.specs.Form.{least_body};
+ghost use Rattle.nl_frame.specs.Heads.{region_in, whole};
+ghost use Rattle.nl_frame.specs.Taped.{IsFrameTaped, IsTaped};
+ghost use Rattle.nl_frame.specs.Trail.{header_event, region_trail, trail_of};
+
+use crate::form::Form;
+use crate::front::{Frame, front};
+use nl_attr::{Depth, Event, Fault, OpenRegions, Order, SORT_MESSAGE, Taped, tape_list};
+use nl_route::Group;
+
+/// What is told of a message's header.
+#[inline(always)]
+fn event_of(frame: &Frame, place: u32) -> Event
+    requires { length frame.now.payload.now ≤ 1048576 }
+    ensures { result ≡ header_event place frame.now.header.kind (length frame.now.payload.now) }
+{
+    let payload = frame.payload;
+    Event {
+        place,
+        len: payload.len() as u32,
+        number: frame.header.kind,
+        level: 0,
+        sort: SORT_MESSAGE,
+        nested: false,
+        net: false,
+    }
+}
+
+/// The attributes of a family's body.
+#[inline(always)]
+fn tape_family<'a>(
+    regions: &mut OpenRegions<'a>,
+    payload: &'a [u8],
+    group: Group,
+    place: u32,
+    depth: Depth,
+    order: Order,
+    out: &mut [Event],
+    count: usize,
+) -> Taped
+    requires least { head_size group ≤ length payload.now }
+    requires size { length payload.now ≤ 1048576 }
+    requires place { place + length payload.now ≤ 2097152 }
+    requires count { count ≤ 4294967296 }
+    ensures taped { IsTaped (shape_of order depth) (region_trail (shape_of order depth)
+        (region_in (Form.Family group) place payload.now)) count out.old out.new result }
+    ensures bound { result.visits ≤ (depth + 1) * length payload.now }
+    ensures count { result.count ≤ count + result.visits }
+{
+    let row = group.row();
+    let bytes = &payload[row.head_size..];
+    let base = place + row.head_size as u32;
+    tape_list(
+        regions,
+        bytes,
+        base,
+        row.context,
+        0,
+        depth,
+        order,
+        out,
+        count,
+    )
+}
+
+/// The heads in a body of this form.
+#[inline(always)]
+fn tape_body<'a>(
+    regions: &mut OpenRegions<'a>,
+    payload: &'a [u8],
+    form: Form,
+    place: u32,
+    depth: Depth,
+    order: Order,
+    out: &mut [Event],
+    count: usize,
+) -> Taped
+    requires least { least_body form ≤ length payload.now }
+    requires size { length payload.now ≤ 1048576 }
+    requires place { place + length payload.now ≤ 2097152 }
+    requires count { count ≤ 4294967296 }
+    ensures taped { IsTaped (shape_of order depth) (region_trail (shape_of order depth)
+        (region_in form place payload.now)) count out.old out.new result }
+    ensures bound { result.visits ≤ (depth + 1) * length payload.now }
+    ensures count { result.count ≤ count + result.visits }
+{
+    match form {
+        Form::Family(group) => {
+            tape_family(regions, payload, group, place, depth, order, out, count)
+        }
+        Form::Noop | Form::Error | Form::Done | Form::Overrun | Form::Get | Form::Other => Taped {
+            fault: None,
+            count,
+            visits: 0,
+        },
+    }
+}
+
+/// A message, and the heads in it.
+#[inline(always)]
+fn tape_frame<'a>(
+    regions: &mut OpenRegions<'a>,
+    frame: &Frame<'a>,
+    place: u32,
+    depth: Depth,
+    order: Order,
+    out: &mut [Event],
+    count: usize,
+) -> Taped
+    requires least { least_body frame.now.form ≤ length frame.now.payload.now }
+    requires size { length frame.now.payload.now ≤ 1048576 }
+    requires place { place + 16 + length frame.now.payload.now ≤ 2097152 }
+    requires count { count + 1 ≤ 4294967296 }
+    ensures taped { IsFrameTaped (shape_of order depth) frame.now place count
+        out.old out.new result }
+    ensures bound { result.visits ≤ (depth + 1) * length frame.now.payload.now }
+    ensures count { result.count ≤ count + 1 + result.visits }
+{
+    event_of(frame, place).put(out, count);
+    tape_body(
+        regions,
+        frame.payload,
+        frame.form,
+        place + 16,
+        depth,
+        order,
+        out,
+        count + 1,
+    )
+}
+
+/// The messages of a datagram.
+#[inline(always)]
+pub(crate) fn tape_messages(bytes: &[u8], depth: Depth, order: Order, out: &mut [Event]) -> Taped
+    requires { length bytes.now ≤ 1048576 }
+    ensures taped { IsTaped (shape_of order depth) (trail_of (shape_of order depth)
+        (whole bytes.now)) 0 out.old out.new result }
+    ensures bound { result.visits ≤ (depth + 1) * length bytes.now }
+{
+    // The depth is at most 32, so the visits fit their number.
+    let _limit = depth.get();
+    let mut regions = OpenRegions::new();
+    let mut count = 0;
+    let mut visits = 0u64;
+    let mut place = 0u32;
+    let mut left = bytes;
+    'messages: while !left.is_empty() {
+        let frame = match front(left, order) {
+            Ok(frame) => frame,
+            Err(reason) => {
+                return Taped {
+                    fault: Some(Fault { place, reason }),
+                    count,
+                    visits,
+                };
+            }
+        };
+        let taped = tape_frame(&mut regions, &frame, place, depth, order, out, count);
+        count = taped.count;
+        visits += taped.visits;
+        if let Some(fault) = taped.fault {
+            return Taped {
+                fault: Some(fault),
+                count,
+                visits,
+            };
+        }
+        place += frame.span;
+        left = frame.rest;
+    }
+    Taped {
+        fault: None,
+        count,
+        visits,
+    }
+}
