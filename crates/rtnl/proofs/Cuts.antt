@@ -1,9 +1,10 @@
 -- Where lines end, and whether they have blanks, by searches of bytes.
-use Rattle.std.proofs.Common.{◌≡◌, ◌==◌, ◌||◌, ℕ, ◌+◌, ◌<◌, ◌≤◌, Bool, true, false, List, [], ◌∷◌, ◌++◌, get_or, take, drop, length, Option, Some, None, refl, sym, ap, ◌∙◌, arith}
+use Rattle.std.proofs.Common.{◌≡◌, ◌==◌, ◌||◌, ℕ, ◌+◌, ◌<◌, ◌≤◌, Bool, true, false, cond, List, [], ◌∷◌, ◌++◌, get_or, take, drop, length, Option, Some, None, refl, sym, ap, ◌∙◌, arith}
 use Rattle.std.specs.List.{All, list_any}
 use Rattle.std.specs.Option.{is_some}
 use Rattle.std.proofs.lemmas.Grind.{common_steps}
-use Rattle.std.proofs.lemmas.List.Sums.{count_by-le-length}
+use Rattle.std.proofs.lemmas.List.Sums.{count_by-le-length, sum_by-cons}
+use Rattle.std.specs.List.{onto_first, sum_by}
 use Rattle.std.proofs.lemmas.List.{drop_more, take-append-drop}
 use Rattle.std.proofs.lemmas.List.Elements.{All-from_get_or}
 use Rattle.std.proofs.lemmas.List.Folds.{list_any_at, list_any_none}
@@ -47,6 +48,16 @@ line_found xs k none here =
 -- an input has no more lines than bytes, and one
 pub length-lines_of : (input : List ℕ) → length (lines_of input) ≤ length input + 1
 length-lines_of input = omega (arith, length-slice_split is_newline input, count_by-le-length is_newline input)
+
+longer_first : (byte : ℕ) (parts : List (List ℕ)) (ends : Bool) → sum_by length (cond ends ([] ∷ parts) (onto_first byte parts)) ≤ 1 + sum_by length parts
+longer_first byte parts true = omega (arith, sum_by-cons length [] parts)
+longer_first byte [] false = omega arith
+longer_first byte (part ∷ parts) false = omega (arith, sum_by-cons length (byte ∷ part) parts, sum_by-cons length part parts)
+
+-- the lines of an input have no more bytes than it
+pub total-lines_of : (input : List ℕ) → sum_by length (lines_of input) ≤ length input
+total-lines_of [] = omega arith
+total-lines_of (byte ∷ input) = omega (arith, longer_first byte (lines_of input) (is_newline byte), total-lines_of input)
 
 -- what the lines of an input give
 pub YieldsList-lines : {s : Lines} (input : List ℕ) → lines_left s.0 ≡ lines_of input →

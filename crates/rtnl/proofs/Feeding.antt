@@ -1,7 +1,5 @@
 -- Datagrams that are fed one after another.
-use Rattle.std.proofs.Common.{◌≡◌, ℕ, ◌+◌, List, [], ◌∷◌, ◌++◌, length, Result, Ok, refl, sym, ap, ◌∙◌, append_assoc, append-nil, ◌-◌, map, drop, arith, length-drop}
-use Rattle.std.proofs.Math.ListN.{drop_of_length-le}
-use Rattle.std.proofs.lemmas.List.{length-map}
+use Rattle.std.proofs.Common.{◌≡◌, ℕ, ◌+◌, List, [], ◌∷◌, ◌++◌, length, Result, Ok, refl, sym, ap, ◌∙◌, append_assoc, append-nil}
 use Rattle.std.specs.Global.{Vec}
 use Rattle.nl_attr.specs.declared.order.Order.{Order}
 use Rattle.nl_frame.specs.Limits.{Bounds}
@@ -44,13 +42,6 @@ pub run_is : (b : Bounds) (d : Dump) (ds : List (List ℕ)) (request : Vec ℕ) 
 run_is b d ds request fed unfed new begun v is_new began h all =
     let calls = h.calls b (begins d (Ok request) ∷ []) (new, is_new, began) in
     record { calls = calls; session = calls_end b (calls_of d request fed) v calls; order = h.order; told = h.told; all = all }
-
--- nothing is left where all was fed
-pub none_left : {X : Type 0} (f : X → List ℕ) (xs : List X) (n : ℕ) → n ≡ length xs → map f (drop n xs) ≡ []
-none_left f xs n e = ap (map f) (drop_of_length-le xs (omega (arith, e)))
-
-pub left_length : {X : Type 0} (f : X → List ℕ) (xs : List X) (n : ℕ) → length (map f (drop n xs)) ≡ length xs - n
-left_length f xs n = length-map (drop n xs) f ∙ length-drop n xs
 
 -- what is told of a run
 pub run_text : (t : Telling) (d : Dump) (fed : List Answered) (unfed : List (List ℕ)) (v : View) (b : Bounds) (o : Order) (n : ℕ) (first second third all : List ℕ) → first ≡ [] → second ≡ first ++ t.front d → third ≡ second ++ refusals_text t fed

@@ -1,12 +1,15 @@
 mod Answers
 mod BadLines
 mod Cuts
+mod Decoded
 mod Digits
 mod Entries
 mod Feeding
 mod Json
 mod Listing
+mod Pieces
 mod Plain
+mod Reading
 mod Recordings
 mod Refusing
 mod Running

@@ -1,8 +1,13 @@
 -- The lines of a recording, read one after another.
-use Rattle.std.proofs.Common.{rules, ◌≡◌, Bool, true, false, not, filter, ℕ, ◌+◌, ◌<◌, List, [], ◌∷◌, ◌++◌, get_or, drop, length, Option, Some, None, Result, Ok, Err, refl, sym, subst, ◌∙◌, ap, append_assoc, append-nil, arith}
+use Rattle.std.proofs.Common.{rules, ◌≡◌, ◌==◌, if◌then◌else◌, Bool, true, false, not, filter, ℕ, ◌+◌, ◌<◌, ◌≤◌, unwrap_or, List, [], ◌∷◌, ◌++◌, get_or, drop, length, Option, Some, None, Result, Ok, Err, refl, sym, subst, ◌∙◌, ap, append_assoc, append-nil, arith}
 use Rattle.std.proofs.lemmas.List.{at_drop_more, at_drop_all}
 use Rattle.std.specs.List.{list_any}
-use Rattle.rtnl.specs.Lines.{Fails, datagrams_from, line_at, with_first, ◌>>=◌}
+use Rattle.std.specs.Result.{result_unwrap_or}
+use Rattle.std.proofs.lemmas.List.Sums.{count_by-le-length, length-filter}
+use Rattle.hex.specs.Hex.{decode_of}
+use Rattle.hex.specs.declared.error.FromHexError.{FromHexError}
+use Rattle.hex.proofs.HexLemmas.{decode_of-ok}
+use Rattle.rtnl.specs.Lines.{Fails, compact, datagrams_from, decoded, digits_at, is_blank, is_comment, line_at, with_first, ◌>>=◌}
 use Rattle.rtnl.specs.declared.error.RunError.{RunError}
 use Rattle.rtnl.specs.declared.error.RunError.TheVariants.{BadLine, ReadFault, WriteFault, Memory}
 
@@ -79,3 +84,22 @@ pub no_line : (found lines : List (List ℕ)) (n : ℕ) (all : Result (List (Lis
 unfolding datagrams_from
 no_line found lines n all past so_far =
     sym so_far ∙ at_drop_all (λ ls. with_front found (datagrams_from (n + 1) ls)) lines n (omega (arith, past)) ∙ ap Ok (append-nil found)
+
+decoded_ok : (number : ℕ) (read : Result (List ℕ) FromHexError) (datagram : List ℕ) → decoded number read ≡ Ok (Some datagram) → read ≡ Ok datagram
+decoded_ok number (Ok bytes) datagram is = ap (λ r. Ok (unwrap_or (result_unwrap_or r None) [])) is
+decoded_ok number (Err e) datagram is = cc is
+
+some_digits : (none : Bool) (number : ℕ) (read : Result (List ℕ) FromHexError) (datagram : List ℕ) →
+    (if none then Ok None else decoded number read) ≡ Ok (Some datagram) → read ≡ Ok datagram
+some_digits true number read datagram is = cc is
+some_digits false number read datagram is = decoded_ok number read datagram is
+
+no_comment : (comment : Bool) (number : ℕ) (digits datagram : List ℕ) → (if comment then Ok None else digits_at number digits) ≡ Ok (Some datagram) → decode_of digits ≡ Ok datagram
+no_comment true number digits datagram is = cc is
+no_comment false number digits datagram is = some_digits (length digits == 0) number (decode_of digits) datagram is
+
+-- the datagram of a line is not longer than the line
+pub line_long : (number : ℕ) (line datagram : List ℕ) → line_at number line ≡ Ok (Some datagram) → length datagram ≤ length line
+line_long number line datagram is =
+    let pairs = decode_of-ok (compact line) datagram (no_comment (is_comment line) number (compact line) datagram is) in
+    omega (arith, pairs.2, length-filter (λ byte. not (is_blank byte)) line, count_by-le-length (λ byte. not (is_blank byte)) line)

@@ -13,6 +13,7 @@ pub mod Messages
 pub mod NamedBits
 pub mod Names
 pub mod Objects
+pub mod Pieces
 pub mod Readings
 pub mod Requested
 pub mod Rows

@@ -1,5 +1,5 @@
 -- The lines of a recording, each of them a comment, blank, or a datagram in hexadecimal.
-use Rattle.std.specs.Prelude.{◌≡◌, ℕ, ◌+◌, ◌%◌, ◌==◌, ◌||◌, not, if◌then◌else◌, Bool, false, List, [], ◌∷◌, filter, length, slice_index, Option, Some, None, Result, Ok, Err}
+use Rattle.std.specs.Prelude.{◌≡◌, ℕ, ◌+◌, ◌%◌, ◌==◌, ◌||◌, not, if◌then◌else◌, Bool, true, false, List, [], ◌∷◌, ◌++◌, filter, length, slice_index, Option, Some, None, Result, Ok, Err}
 use Rattle.std.specs.Borrow.{Bor}
 use Rattle.std.specs.List.{position, slice_split}
 use Rattle.hex.specs.Hex.{decode_of, is_hex_digit}
@@ -103,3 +103,13 @@ Fails Memory expected = Unit {0}
 abbrev pub Gives : {X Y : Type 0} → (X → Y) → Result X RunError → Result Y ℕ → Type 0
 Gives view (Ok x) expected = expected ≡ Ok (view x)
 Gives view (Err e) expected = Fails e expected
+
+-- a datagram was added to bytes; or there is none, and they stayed as they were
+abbrev pub Adds : Option (List ℕ) → Bool → List ℕ → List ℕ → Type 0
+Adds None added old new = (added ≡ false) × (new ≡ old)
+Adds (Some datagram) added old new = (added ≡ true) × (new ≡ old ++ datagram)
+
+-- the datagram that a line has, if it has one, was added to bytes, and the answer says which; or the line is bad, or memory ran out
+abbrev pub Reads : List ℕ → List ℕ → Result Bool RunError → Result (Option (List ℕ)) ℕ → Type 0
+Reads old new (Ok added) expected = (datagram : Option (List ℕ)) × (expected ≡ Ok datagram) × Adds datagram added old new
+Reads old new (Err e) expected = Fails e expected

@@ -10,6 +10,7 @@ use crate::each::{Each, text_of_each};
 use crate::error::{RunError, Verdict};
 use crate::objects;
 use crate::objects::line::Line;
+use crate::recording::Datagrams;
 use crate::run::{Command, run};
 use crate::sink::Sink;
 use crate::source::Source;
@@ -119,7 +120,7 @@ impl Command for Check {
     fn text_of(
         &self,
         alloc: Global,
-        datagrams: &[Vec<u8>],
+        datagrams: &Datagrams,
     ) -> Result<(Vec<u8>, Verdict), AllocError> {
         text_of_each(alloc, self, datagrams)
     }
@@ -133,7 +134,7 @@ impl Command for CheckJson {
     fn text_of(
         &self,
         alloc: Global,
-        datagrams: &[Vec<u8>],
+        datagrams: &Datagrams,
     ) -> Result<(Vec<u8>, Verdict), AllocError> {
         text_of_each(alloc, self, datagrams)
     }

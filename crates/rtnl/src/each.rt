@@ -1,9 +1,10 @@
 //! What is said of each datagram of a recording by itself.
 
-ghost use Rattle.std.specs.Prelude.{◌≡◌, ◌++◌, List, map, IfOk};
+ghost use Rattle.std.specs.Prelude.{◌≡◌, ◌++◌, List, IfOk};
 ghost use Rattle.rtnl.specs.Runs.{EachIs, Prints, texts_from, verdict_from};
 
 use crate::error::Verdict;
+use crate::recording::Datagrams;
 use std::alloc::{AllocError, Global};
 
 /// What is found of a datagram, and its text.
@@ -40,17 +41,17 @@ fn push_each<E: Each>(
     alloc: Global,
     out: &mut Vec<u8>,
     each: &E,
-    datagrams: &[Vec<u8>],
+    datagrams: &Datagrams,
 ) -> Result<Verdict, AllocError>
     ensures { IfOk result (λ verdict. (found : List E.Found)
-        × EachIs (E.finds each.now) (map (λ d. d.items) datagrams.now) found
+        × EachIs (E.finds each.now) datagrams.now found
         × (out.new.items
-        ≡ out.old.items ++ texts_from (E.text each.now) 1 (map (λ d. d.items) datagrams.now) found)
+        ≡ out.old.items ++ texts_from (E.text each.now) 1 datagrams.now found)
         × (verdict ≡ verdict_from E.takes Verdict.Clean found)) }
 {
     let mut verdict = Verdict::Clean;
-    for (index, datagram) in datagrams.iter().enumerate() {
-        let taken = each.push(alloc, out, index + 1, datagram.as_slice())?;
+    for index in 0..datagrams.len() {
+        let taken = each.push(alloc, out, index + 1, datagrams.get(index))?;
         verdict = verdict.and(taken);
     }
     Ok(verdict)
@@ -60,10 +61,10 @@ fn push_each<E: Each>(
 pub(crate) fn text_of_each<E: Each>(
     alloc: Global,
     each: &E,
-    datagrams: &[Vec<u8>],
+    datagrams: &Datagrams,
 ) -> Result<(Vec<u8>, Verdict), AllocError>
     ensures { IfOk result (λ p. Prints (E.finds each.now) (E.text each.now) E.takes
-        (map (λ d. d.items) datagrams.now) p.0.items p.1) }
+        datagrams.now p.0.items p.1) }
 {
     let mut text = Vec::new(alloc);
     let verdict = push_each(alloc, &mut text, each, datagrams)?;

@@ -1,14 +1,16 @@
 //! The lines of a recording.
 
 ghost use Rattle.std.specs.List.{list_any, position};
-ghost use Rattle.std.specs.Prelude.{◌≡◌, ◌≤◌, ◌<◌, ◌↔◌, length, map, option_map, IfOk, Err};
-ghost use Rattle.rtnl.specs.Lines.{Gives, compact, datagrams, digits_at, is_blank, is_comment};
-ghost use Rattle.rtnl.specs.Lines.{is_stray, line_at, line_fault_of, lines_left, longest_input};
+ghost use Rattle.std.specs.Prelude.{◌≡◌, ◌≤◌, ◌<◌, ◌↔◌, length, map, IfOk, Err};
+ghost use Rattle.rtnl.specs.Lines.{Gives, Reads, compact, datagrams, digits_at, is_blank};
+ghost use Rattle.rtnl.specs.Lines.{is_comment, is_stray, line_at, line_fault_of, lines_left};
+ghost use Rattle.rtnl.specs.Lines.{longest_input};
 ghost use Rattle.std.specs.Iterator.{YieldsFirstRef, item_count};
 
+use crate::decoding::push_decoded;
 use crate::error::RunError;
+use crate::recording::Datagrams;
 use crate::source::LONGEST_INPUT;
-use hex::FromHexError;
 use memchr::{memchr, memchr3};
 use std::alloc::{AllocError, Global};
 
@@ -90,32 +92,29 @@ pub fn line_fault(line: &[u8]) -> Option<LineFault>
     None
 }
 
-/// The datagram of the digits of a line, if there are any.
-fn decode(alloc: Global, number: u32, digits: &[u8]) -> Result<Option<Vec<u8>>, RunError>
-    ensures { Gives (λ o. option_map (λ d. d.items) o) result (digits_at number digits.now) }
+/// Appends the datagram of the digits of a line, and says whether there are any.
+fn read_digits(bytes: &mut Vec<u8>, number: u32, digits: &[u8]) -> Result<bool, RunError>
+    ensures { Reads bytes.old.items bytes.new.items result (digits_at number digits.now) }
 {
     if digits.is_empty() {
-        return Ok(None);
+        return Ok(false);
     }
-    match hex::decode(alloc, digits) {
-        Ok(datagram) => Ok(Some(datagram)),
-        Err(FromHexError::OutOfMemory) => Err(RunError::Memory),
-        Err(_) => Err(RunError::BadLine(number)),
-    }
+    push_decoded(bytes, number, digits)?;
+    Ok(true)
 }
 
-/// The datagram of a line, if it has one. Only a line with blanks is copied.
-fn read_line(alloc: Global, number: u32, line: &[u8]) -> Result<Option<Vec<u8>>, RunError>
-    ensures { Gives (λ o. option_map (λ d. d.items) o) result (line_at number line.now) }
+/// Appends the datagram of a line, and says whether it has one. Only a line with blanks is copied.
+fn read_line(alloc: Global, bytes: &mut Vec<u8>, number: u32, line: &[u8]) -> Result<bool, RunError>
+    ensures { Reads bytes.old.items bytes.new.items result (line_at number line.now) }
 {
     if begins_comment(line) {
-        return Ok(None);
+        return Ok(false);
     }
     if !has_blank(line) {
-        return decode(alloc, number, line);
+        return read_digits(bytes, number, line);
     }
     let digits = without_blanks(alloc, line)?;
-    decode(alloc, number, digits.as_slice())
+    read_digits(bytes, number, digits.as_slice())
 }
 
 /// The lines of what is left of an input, if it has not come to its end.
@@ -145,21 +144,23 @@ impl<'a> Iterator for Lines<'a> {
     }
 }
 
-/// The datagrams of the lines of a recording, or the first line that is bad.
-pub(crate) fn read_datagrams(alloc: Global, input: &[u8]) -> Result<Vec<Vec<u8>>, RunError>
+/// The datagrams of the lines of a recording, or the first line that is bad. A byte takes two
+/// digits, so there is room for all bytes from the start.
+pub(crate) fn read_datagrams(alloc: Global, input: &[u8]) -> Result<Datagrams, RunError>
     requires { length input.now ≤ longest_input }
-    ensures { Gives (λ v. map (λ d. d.items) v.items) result (datagrams input.now) }
+    ensures { Gives (λ ds. ds) result (datagrams input.now) }
 {
-    let mut datagrams = Vec::new(alloc);
+    let mut bytes = Vec::with_capacity(alloc, input.len() / 2)?;
+    let mut ends = Vec::new(alloc);
     let mut number = 0;
     for line in Lines(Some(input)) {
         number += 1;
-        match read_line(alloc, number, line)? {
-            Some(datagram) => datagrams.push(datagram)?,
-            None => continue,
+        if !read_line(alloc, &mut bytes, number, line)? {
+            continue;
         }
+        ends.push(bytes.len() as u32)?;
     }
-    Ok(datagrams)
+    Ok(Datagrams::new(bytes, ends))
 }
 
 /// The datagrams of a recording in memory, one for each line that has one, or the number of the
@@ -173,5 +174,5 @@ pub fn datagrams(alloc: Global, recording: &[u8]) -> Result<Vec<Vec<u8>>, RunErr
     if recording.len() > LONGEST_INPUT {
         return Err(RunError::ReadFault);
     }
-    read_datagrams(alloc, recording)
+    Ok(read_datagrams(alloc, recording)?.to_vecs(alloc)?)
 }

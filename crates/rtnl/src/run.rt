@@ -8,13 +8,14 @@ ghost use Rattle.rtnl.specs.Runs.{OfInput, Runs};
 
 use crate::error::{RunError, Verdict};
 use crate::lines::read_datagrams;
+use crate::recording::Datagrams;
 use crate::sink::{Sink, give_all};
 use crate::source::{Source, read_input};
 use std::alloc::{AllocError, Global};
 
 /// What is said of the datagrams of a recording.
 pub(crate) trait Command {
-    ghost use Rattle.std.specs.Prelude.{ℕ, List, map, IfOk};
+    ghost use Rattle.std.specs.Prelude.{ℕ, List, IfOk};
     ghost use Rattle.rtnl.specs.declared.error.Verdict.{Verdict};
 
     // The text of datagrams, and the verdict on them.
@@ -24,9 +25,9 @@ pub(crate) trait Command {
     fn text_of(
         &self,
         alloc: Global,
-        datagrams: &[Vec<u8>],
+        datagrams: &Datagrams,
     ) -> Result<(Vec<u8>, Verdict), AllocError>
-        ensures { IfOk result (λ p. says self.now (map (λ d. d.items) datagrams.now) p.0.items p.1) };
+        ensures { IfOk result (λ p. says self.now datagrams.now p.0.items p.1) };
 }
 
 /// Runs a command over a recording. The input is read to its end and all lines are checked, then
@@ -48,7 +49,7 @@ pub(crate) fn run<S: Source, W: Sink, C: Command>(
     let input = read_input(alloc, source)?;
     let datagrams = read_datagrams(alloc, input.as_slice())?;
     drop(input);
-    let (text, verdict) = command.text_of(alloc, datagrams.as_slice())?;
+    let (text, verdict) = command.text_of(alloc, &datagrams)?;
     match give_all(sink, text.as_slice()) {
         Ok(()) => Ok(verdict),
         Err(_) => Err(RunError::WriteFault),

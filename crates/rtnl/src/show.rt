@@ -1,15 +1,17 @@
 //! Showing a recording.
 
-ghost use Rattle.std.specs.Prelude.{◌+◌, IfOk};
+ghost use Rattle.std.specs.Prelude.{◌≡◌, ◌+◌, ◌++◌, IfOk};
 ghost use Rattle.rtnl.specs.Lines.{longest_input};
 ghost use Rattle.rtnl.specs.Streams.{ConsumesAtMost};
 ghost use Rattle.rtnl.specs.Runs.{Runs};
+ghost use Rattle.rtnl.specs.Shown.{Answer, Answers, datagram_text, is_taken};
 ghost use Rattle.rtnl.specs.Shown.{Shows, ShowsInput, ShowsInputJson, ShowsJson};
 
 use crate::each::{Each, text_of_each};
 use crate::error::{RunError, Verdict};
 use crate::objects;
 use crate::objects::line::Line;
+use crate::recording::Datagrams;
 use crate::run::{Command, run};
 use crate::sink::Sink;
 use crate::source::Source;
@@ -17,6 +19,36 @@ use crate::text::datagram::{push_datagram_line, push_refusal};
 use crate::text::message::push_messages;
 use nl_frame::{Limits, read_datagram};
 use std::alloc::{AllocError, Global};
+
+/// Appends the text of a datagram, which `run_show` writes of the datagram of this number: its
+/// messages and their attributes, or why it is refused. It answers whether it was taken.
+///
+/// Only memory can be refused; then `out` has its old bytes and a part of the text.
+pub fn push_datagram(
+    alloc: Global,
+    out: &mut Vec<u8>,
+    number: usize,
+    bytes: &[u8],
+    limits: &Limits,
+) -> Result<bool, AllocError>
+    // The text is that of the datagram's answer under these limits.
+    ensures { IfOk result (λ taken. (answer : Answer) × Answers limits.now bytes.now answer
+        × (out.new.items ≡ out.old.items
+        ++ datagram_text limits.now.shape.order number bytes.now answer)
+        × (taken ≡ is_taken answer)) }
+{
+    push_datagram_line(out, number, bytes.len())?;
+    match read_datagram(alloc, bytes, limits).into_result() {
+        Ok(messages) => {
+            push_messages(alloc, out, limits.order(), messages.as_slice())?;
+            Ok(true)
+        }
+        Err(error) => {
+            push_refusal(out, error)?;
+            Ok(false)
+        }
+    }
+}
 
 /// To show datagrams under these limits.
 #[derive(Clone, Copy)]
@@ -42,17 +74,7 @@ impl Each for Show {
         number: usize,
         bytes: &[u8],
     ) -> Result<bool, AllocError> {
-        push_datagram_line(out, number, bytes.len())?;
-        match read_datagram(alloc, bytes, &self.limits).into_result() {
-            Ok(messages) => {
-                push_messages(alloc, out, self.limits.order(), messages.as_slice())?;
-                Ok(true)
-            }
-            Err(error) => {
-                push_refusal(out, error)?;
-                Ok(false)
-            }
-        }
+        push_datagram(alloc, out, number, bytes, &self.limits)
     }
 }
 
@@ -106,7 +128,7 @@ impl Command for Show {
     fn text_of(
         &self,
         alloc: Global,
-        datagrams: &[Vec<u8>],
+        datagrams: &Datagrams,
     ) -> Result<(Vec<u8>, Verdict), AllocError> {
         text_of_each(alloc, self, datagrams)
     }
@@ -120,7 +142,7 @@ impl Command for ShowJson {
     fn text_of(
         &self,
         alloc: Global,
-        datagrams: &[Vec<u8>],
+        datagrams: &Datagrams,
     ) -> Result<(Vec<u8>, Verdict), AllocError> {
         text_of_each(alloc, self, datagrams)
     }

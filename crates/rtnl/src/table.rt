@@ -1,6 +1,6 @@
 //! Reading a recording as the answers to a dump.
 
-ghost use Rattle.std.specs.Prelude.{◌≡◌, ◌≤◌, ◌+◌, ◌++◌, ◌↔◌, IsTrue, List, map, length, drop, Result, OnOk, IfOk};
+ghost use Rattle.std.specs.Prelude.{◌≡◌, ◌≤◌, ◌+◌, ◌++◌, ◌↔◌, IsTrue, List, length, drop, Result, OnOk, IfOk};
 ghost use Rattle.nl_dump.specs.Steps.{Fed, IsWaiting};
 ghost use Rattle.nl_dump.specs.declared.dump.Progress.{Progress as AnyProgress};
 ghost use Rattle.nl_dump.specs.declared.errors.FeedError.{FeedError as AnyFeedError};
@@ -14,6 +14,7 @@ use crate::begun::begun;
 use crate::contents::push_table;
 use crate::error::{RunError, Verdict};
 use crate::objects::dump::InJson;
+use crate::recording::Datagrams;
 use crate::run::{Command, run};
 use crate::sink::Sink;
 use crate::source::Source;
@@ -54,17 +55,17 @@ fn feed_all<F: Telling>(
     alloc: Global,
     session: &mut Session,
     out: &mut Vec<u8>,
-    datagrams: &[Vec<u8>],
+    datagrams: &Datagrams,
 ) -> Result<usize, AllocError>
     ensures { IfOk result (λ count. (count ≤ length datagrams.now) × (IsWaiting session.new.state → count ≡ length datagrams.now)
-        × ((fed : List Answered) × FeedsSome session.old (map (λ d. d.items) datagrams.now) fed (map (λ d. d.items) (drop count datagrams.now)) session.new
+        × ((fed : List Answered) × FeedsSome session.old datagrams.now fed (drop count datagrams.now) session.new
         × (out.new.items ≡ out.old.items ++ refusals_text F.told fed))) }
 {
-    for (index, datagram) in datagrams.iter().enumerate() {
+    for index in 0..datagrams.len() {
         if !is_waiting(session.state()) {
             return Ok(index);
         }
-        feed_one::<F>(alloc, session, out, index + 1, datagram.as_slice())?;
+        feed_one::<F>(alloc, session, out, index + 1, datagrams.get(index))?;
     }
     Ok(datagrams.len())
 }
@@ -95,7 +96,7 @@ impl<F: Telling> Command for Tabulate<F> {
     fn text_of(
         &self,
         alloc: Global,
-        datagrams: &[Vec<u8>],
+        datagrams: &Datagrams,
     ) -> Result<(Vec<u8>, Verdict), AllocError> {
         let (mut session, _request) = begun(alloc, &self.dump, &self.limits)?;
         let mut out = Vec::new(alloc);

@@ -1,6 +1,7 @@
-use Rattle.std.proofs.Common.{◌++◌, ◌-◌, ◌∙◌, ap, drop, length, map, sym}
+use Rattle.std.proofs.Common.{◌++◌, ◌-◌, ◌∙◌, ap, arith, drop, length, sym}
 use Rattle.rtnl.specs.Tabled.{verdict_of}
-use Rattle.rtnl.proofs.Feeding.{run_is, run_text, none_left, left_length}
+use Rattle.std.proofs.lemmas.List.{drop_all, length-drop}
+use Rattle.rtnl.proofs.Feeding.{run_is, run_text}
 use Rattle.rtnl.proofs.table.TabulateCommand.text_of.Goals as goal
 
 pub returns : goal.returns
@@ -12,9 +13,9 @@ returns g c =
     let begun = c.in_ok-session.ensures in
     let told = c.in_ok-fed.ensures in
     let count = c.in_ok-fed.fed in
-    let unfed = map (λ d. d.items) (drop count ds) in
+    let unfed = drop count ds in
     let v = c.feed_all.new.session in
-    let run = run_is b d (map (λ d. d.items) ds) c.in_ok-session._request told.2.0 unfed begun.0 c.in_ok-session.session v begun.1 begun.2 told.2.1 (λ w. none_left (λ d. d.items) ds count (told.1 w)) in
+    let run = run_is b d ds c.in_ok-session._request told.2.0 unfed begun.0 c.in_ok-session.session v begun.1 begun.2 told.2.1 (λ w. drop_all count ds (omega (arith, told.1 w))) in
     record {
       request = c.in_ok-session._request;
       fed = told.2.0;
@@ -22,6 +23,6 @@ returns g c =
       session = v;
       run = run;
       text_is = run_text t d told.2.0 unfed v b c.order.result (length ds - count) c.new-out.result.items c.push_front.new.out.items c.feed_all.new.out.items c.push_ending.new.out.items c.new-out.ensures.items c.in_ok-push_front.ensures told.2.2
-          (c.in_ok-push_ending.ensures ∙ ap (λ x. x ++ t.ending d (length ds - count) v) c.in_ok-size.ensures.text) c.order.ensures run.session.limits (sym (left_length (λ d. d.items) ds count));
+          (c.in_ok-push_ending.ensures ∙ λ i. c.in_ok-size.ensures.text i ++ t.ending d (c.len.ensures i - count) v) c.order.ensures run.session.limits (sym (length-drop count ds));
       verdict_is = c.verdict.ensures ∙ ap verdict_of c.complete.ensures;
     }
