@@ -1,0 +1,54 @@
+-- What a scan finds, by what it answered.
+use Rattle.std.proofs.Common.{◌≡◌, ◌≢◌, ◌≤◌, ◌<◌, ◌↔◌, ℕ, List, length, Result, Ok, Err, IfOk, IfErr, refl, subst, sym, arith}
+use Rattle.nl_attr.specs.declared.events.Event.{Event}
+use Rattle.nl_attr.specs.Trail.{put_from}
+use Rattle.nl_frame.specs.declared.scanning.ScanError.{ScanError}
+use Rattle.nl_frame.specs.declared.scanning.ScanError.TheVariants.{TooLarge, Layout as Fails}
+use Rattle.nl_frame.specs.Heads.{IsFirstFault, whole}
+use Rattle.nl_frame.specs.Layout.{Layout}
+use Rattle.nl_frame.specs.Limits.{Bounds}
+use Rattle.nl_frame.specs.Message.{MessageVal}
+use Rattle.nl_frame.specs.Taped.{as_read, refusal}
+use Rattle.nl_frame.specs.Told.{IfFault, VisitsUpTo, read_code}
+use Rattle.nl_frame.specs.Trail.{events_of}
+use Rattle.rtnl_c.specs.Scanned.{Scans, Tapes, place_of, refused, untaped}
+use Rattle.rtnl_c.specs.Scanned as found
+
+-- what is not refused for its size is within the limit
+within : {X : Type 0} (r : Result X ScanError) (n m : ℕ) → r ≡ Err TooLarge ↔ n < m → r ≢ Err TooLarge → m ≤ n
+within r n m large other = let f : n < m → ⊥ = λ h. other (large.1 h) in omega (arith, f)
+
+module _ (b : Bounds) (d : List ℕ) where
+  -- what a scan answers of a datagram
+  abbrev pub IsScan : {X : Type 0} → Result X ScanError → ℕ → Type 0
+  IsScan r v = (r ≡ Err TooLarge ↔ b.datagram < length d)
+      × IfOk r (λ _. (ms : List MessageVal) × Layout b.shape ms d)
+      × IfErr (as_read r) (λ e. IfFault e (λ f. IsFirstFault b.shape (whole d) f.place f.reason))
+      × VisitsUpTo b.shape d (as_read r) v
+
+  pub scans_ok : {X : Type 0} (r : Result X ScanError) (x : X) (v : ℕ) → r ≡ Ok x → IsScan r v → Scans b d (record { visits = v; place = 0; code = 0 })
+  scans_ok r x v is scan =
+      let s = subst (λ r. IsScan r v) is scan in
+      found.accepted (within (Ok x) b.datagram (length d) s.0 (λ e. cc)) s.1.0 s.1.1 v s.3
+
+  pub scans_err : {X : Type 0} (r : Result X ScanError) (e : ScanError) (v : ℕ) → r ≡ Err e → IsScan r v → Scans b d (refused v (place_of e) (read_code (refusal e)))
+  scans_err {X = X} r e v is scan = by e (subst (λ r. IsScan r v) is scan) where
+    by : (e : ScanError) → IsScan {X = X} (Err e) v → Scans b d (refused v (place_of e) (read_code (refusal e)))
+    by TooLarge s = subst (λ n. Scans b d (refused n 0 6)) (sym s.3) (found.too_large (s.0.0 refl))
+    by (Fails f) s = found.faulty (within {X = X} (Err (Fails f)) b.datagram (length d) s.0 (λ e. cc)) f.place f.reason s.2 v s.3
+
+  module _ (old new : List Event) (untouched : b.datagram < length d → new ≡ old) (events : length d ≤ b.datagram → new ≡ put_from 0 (events_of b.shape (whole d)) old) where
+    pub tapes_ok : (r : Result ℕ ScanError) (n v : ℕ) → r ≡ Ok n → IsScan r v → IfOk r (λ n. n ≡ length (events_of b.shape (whole d))) → Tapes b d old new (record { count = n; visits = v; place = 0; code = 0 })
+    tapes_ok r n v is scan count =
+        let s = subst (λ r. IsScan r v) is scan in
+        let c : n ≡ length (events_of b.shape (whole d)) = subst (λ r. IfOk r (λ n. n ≡ length (events_of b.shape (whole d)))) is count in
+        let small = within (Ok n) b.datagram (length d) s.0 (λ e. cc) in
+        rw (events small, c) (found.accepted small s.1.0 s.1.1 v s.3)
+
+    pub tapes_err : (r : Result ℕ ScanError) (e : ScanError) (v : ℕ) → r ≡ Err e → IsScan r v → Tapes b d old new (untaped v (place_of e) (read_code (refusal e)))
+    tapes_err r e v is scan = by e (subst (λ r. IsScan r v) is scan) where
+      by : (e : ScanError) → IsScan {X = ℕ} (Err e) v → Tapes b d old new (untaped v (place_of e) (read_code (refusal e)))
+      by TooLarge s = let large = s.0.0 refl in rw (untouched large, s.3) (found.too_large large)
+      by (Fails f) s =
+          let small = within {X = ℕ} (Err (Fails f)) b.datagram (length d) s.0 (λ e. cc) in
+          rw (events small) (found.faulty small f.place f.reason s.2 v s.3)

@@ -1,0 +1,69 @@
+//! Checking a datagram, which takes memory while it runs.
+
+ghost use Rattle.std.specs.Prelude.{◌≡◌, Ok, Err};
+ghost use Rattle.nl_frame.specs.Limits.{AreLimits};
+ghost use Rattle.rtnl_c.specs.Checked.{Checks, found, unchecked};
+ghost use Rattle.rtnl_c.specs.Options.{bounds_in};
+
+use crate::options::{Options, limits};
+use nl_frame::{Limits, ReadError, is_canonical};
+use std::alloc::Global;
+
+/// What a check finds.
+#[repr(C)]
+#[derive(Clone, Copy)]
+pub struct Checked {
+    /// The place of the first fault, an offset in bytes; 0 where there is none.
+    pub place: u32,
+    /// 0 where the datagram is accepted, else the number of the refusal.
+    pub code: u8,
+    /// Whether it is accepted and written as its messages are.
+    pub canonical: bool,
+}
+
+/// What C is told of a refusal.
+fn refused(error: ReadError) -> Checked
+    ensures { result ≡ found (Err error) }
+{
+    let place = match error {
+        ReadError::Layout(fault) => fault.place,
+        ReadError::TooLarge | ReadError::Memory => 0,
+    };
+    Checked {
+        place,
+        code: error.code(),
+        canonical: false,
+    }
+}
+
+/// What a check finds within limits.
+fn check(alloc: Global, bytes: &[u8], limits: &Limits) -> Checked
+    ensures { Checks limits.now bytes.now result }
+{
+    match is_canonical(alloc, bytes, limits) {
+        Ok(canonical) => Checked {
+            place: 0,
+            code: 0,
+            canonical,
+        },
+        Err(error) => refused(error),
+    }
+}
+
+/// Whether a datagram is canonical, accepted or refused within these limits; 12 where one of the
+/// limits is out of its range, 13 where memory ran out.
+#[unsafe(no_mangle)]
+pub extern "C" fn rtnl_check(alloc: Global, bytes: &[u8], options: &Options) -> Checked
+    ensures checked { AreLimits (bounds_in options.now)
+        → Checks (bounds_in options.now) bytes.now result }
+    ensures limits { (AreLimits (bounds_in options.now) → ⊥) → result ≡ unchecked 12 }
+{
+    match limits(options) {
+        Ok(limits) => check(alloc, bytes, &limits),
+        Err(fault) => Checked {
+            place: 0,
+            code: fault.code(),
+            canonical: false,
+        },
+    }
+}

@@ -1,0 +1,198 @@
+//! What stands at a place: a message of a datagram, an attribute or a next hop of a region. No call
+//! here takes memory.
+
+ghost use Rattle.std.specs.Prelude.{◌≡◌, ◌≤◌, ◌<◌, length};
+ghost use Rattle.rtnl_c.specs.Cursors.{AttrStands, HopStands, MessageStands};
+ghost use Rattle.rtnl_c.specs.Cursors.{longest_region, no_attr, no_hop, no_message};
+ghost use Rattle.rtnl_c.specs.Options.{order_in};
+
+use crate::options::order;
+use nl_attr::{attr_at, hop_at};
+use nl_frame::message_at;
+
+/// The most bytes in which a place is looked at.
+const LONGEST_REGION: usize = 1_048_576;
+
+/// The code where the bytes are above `LONGEST_REGION`.
+const TOO_LARGE: u8 = 6;
+
+/// The code at the end of the bytes, and behind it.
+const END: u8 = 255;
+
+/// The message at a place of a datagram.
+#[repr(C)]
+#[derive(Clone, Copy)]
+pub struct MessageAt {
+    /// The place that was asked for.
+    pub place: u32,
+    /// Where the next message stands; the place itself where none stands here.
+    pub next: u32,
+    /// How many bytes its body has, from 16 bytes behind the place on.
+    pub len: u32,
+    pub seq: u32,
+    pub port: u32,
+    pub kind: u16,
+    pub flags: u16,
+    /// 0 where a message stands here, else why none does.
+    pub code: u8,
+}
+
+/// The attribute at a place of a region.
+#[repr(C)]
+#[derive(Clone, Copy)]
+pub struct AttrAt {
+    /// The place that was asked for.
+    pub place: u32,
+    /// Where the next attribute stands; the place itself where none stands here.
+    pub next: u32,
+    /// How many bytes its payload has, from 4 bytes behind the place on.
+    pub len: u32,
+    /// Its type without the two flag bits.
+    pub number: u16,
+    pub nested: bool,
+    pub net: bool,
+    /// 0 where an attribute stands here, else why none does.
+    pub code: u8,
+}
+
+/// The next hop at a place of a region.
+#[repr(C)]
+#[derive(Clone, Copy)]
+pub struct HopAt {
+    /// The place that was asked for.
+    pub place: u32,
+    /// Where the next one stands; the place itself where none stands here.
+    pub next: u32,
+    /// How many bytes its attributes have, from 8 bytes behind the place on.
+    pub len: u32,
+    pub ifindex: i32,
+    pub flags: u8,
+    pub hops: u8,
+    /// 0 where a next hop stands here, else why none does.
+    pub code: u8,
+}
+
+/// That no message stands at a place.
+fn message_none(place: u32, code: u8) -> MessageAt
+    ensures { result ≡ no_message place code }
+{
+    MessageAt {
+        place,
+        next: place,
+        len: 0,
+        seq: 0,
+        port: 0,
+        kind: 0,
+        flags: 0,
+        code,
+    }
+}
+
+/// That no attribute stands at a place.
+fn attr_none(place: u32, code: u8) -> AttrAt
+    ensures { result ≡ no_attr place code }
+{
+    AttrAt {
+        place,
+        next: place,
+        len: 0,
+        number: 0,
+        nested: false,
+        net: false,
+        code,
+    }
+}
+
+/// That no next hop stands at a place.
+fn hop_none(place: u32, code: u8) -> HopAt
+    ensures { result ≡ no_hop place code }
+{
+    HopAt {
+        place,
+        next: place,
+        len: 0,
+        ifindex: 0,
+        flags: 0,
+        hops: 0,
+        code,
+    }
+}
+
+/// The message whose header stands at a place of a datagram; 255 at the end and behind it, 6 where
+/// the datagram is above 1,048,576 bytes.
+#[unsafe(no_mangle)]
+pub extern "C" fn rtnl_message_at(bytes: &[u8], place: u32, big: bool) -> MessageAt
+    ensures stands { length bytes.now ≤ longest_region
+        → MessageStands (order_in big) bytes.now place result }
+    ensures large { longest_region < length bytes.now → result ≡ no_message place 6 }
+{
+    if bytes.len() > LONGEST_REGION {
+        return message_none(place, TOO_LARGE);
+    }
+    match message_at(bytes, place, order(big)) {
+        None => message_none(place, END),
+        Some(Err(fault)) => message_none(place, fault.code()),
+        Some(Ok(frame)) => MessageAt {
+            place,
+            next: place + frame.span,
+            len: frame.payload.len() as u32,
+            seq: frame.header.seq,
+            port: frame.header.port,
+            kind: frame.header.kind,
+            flags: frame.header.flags,
+            code: 0,
+        },
+    }
+}
+
+/// The attribute whose head stands at a place of a region; 255 at the end and behind it, 6 where
+/// the region is above 1,048,576 bytes.
+#[unsafe(no_mangle)]
+pub extern "C" fn rtnl_attr_at(bytes: &[u8], place: u32, big: bool) -> AttrAt
+    ensures stands { length bytes.now ≤ longest_region
+        → AttrStands (order_in big) bytes.now place result }
+    ensures large { longest_region < length bytes.now → result ≡ no_attr place 6 }
+{
+    if bytes.len() > LONGEST_REGION {
+        return attr_none(place, TOO_LARGE);
+    }
+    match attr_at(bytes, place, order(big)) {
+        None => attr_none(place, END),
+        Some(Err(fault)) => attr_none(place, fault.code()),
+        Some(Ok(part)) => AttrAt {
+            place,
+            next: place + part.span,
+            len: part.payload.len() as u32,
+            number: part.number,
+            nested: part.flags.nested,
+            net: part.flags.net,
+            code: 0,
+        },
+    }
+}
+
+/// The next hop whose head stands at a place of a region; 255 at the end and behind it, 6 where the
+/// region is above 1,048,576 bytes.
+#[unsafe(no_mangle)]
+pub extern "C" fn rtnl_hop_at(bytes: &[u8], place: u32, big: bool) -> HopAt
+    ensures stands { length bytes.now ≤ longest_region
+        → HopStands (order_in big) bytes.now place result }
+    ensures large { longest_region < length bytes.now → result ≡ no_hop place 6 }
+{
+    if bytes.len() > LONGEST_REGION {
+        return hop_none(place, TOO_LARGE);
+    }
+    match hop_at(bytes, place, order(big)) {
+        None => hop_none(place, END),
+        Some(Err(fault)) => hop_none(place, fault.code()),
+        Some(Ok(part)) => HopAt {
+            place,
+            next: place + part.span,
+            len: part.rest.len() as u32,
+            ifindex: part.ifindex,
+            flags: part.flags,
+            hops: part.hops,
+            code: 0,
+        },
+    }
+}

@@ -1,0 +1,120 @@
+//! What the numbers of messages and of attributes say, for a caller that walks by itself.
+
+ghost use Rattle.std.specs.Prelude.{◌≡◌};
+ghost use Rattle.nl_frame.specs.Form.{form_of};
+ghost use Rattle.rtnl_c.specs.Numbers.{context_in, context_number, family_told, holds_told, held};
+
+use nl_attr::{AttrFlags, Content, Ctx, SORT_BYTES, SORT_HOPS, SORT_LIST, holds};
+use nl_frame::Form;
+
+/// What the body of a message begins with.
+#[repr(C)]
+#[derive(Clone, Copy)]
+pub struct Family {
+    /// How many bytes the family's head has, behind which attributes stand; 0 where the body is no
+    /// head and attributes.
+    pub head_size: u8,
+    /// The number of the attributes' context, or 0.
+    pub context: u8,
+}
+
+/// What the payload of an attribute is.
+#[repr(C)]
+#[derive(Clone, Copy)]
+pub struct Holds {
+    /// `SORT_BYTES`, `SORT_LIST` or `SORT_HOPS`; 0 where no context has the number.
+    pub sort: u8,
+    /// The number of the context of the attributes in it, or in its next hops; else 0.
+    pub context: u8,
+}
+
+/// The number of a context.
+fn number(ctx: Ctx) -> u8
+    ensures { result ≡ context_number ctx }
+{
+    match ctx {
+        Ctx::Link => 1,
+        Ctx::LinkInfo => 2,
+        Ctx::Addr => 3,
+        Ctx::Route => 4,
+        Ctx::Metrics => 5,
+        Ctx::Neigh => 6,
+        Ctx::Rule => 7,
+        Ctx::Plain => 8,
+    }
+}
+
+/// The context of a number.
+fn context(number: u8) -> Option<Ctx>
+    ensures { result ≡ context_in number }
+{
+    match number {
+        1 => Some(Ctx::Link),
+        2 => Some(Ctx::LinkInfo),
+        3 => Some(Ctx::Addr),
+        4 => Some(Ctx::Route),
+        5 => Some(Ctx::Metrics),
+        6 => Some(Ctx::Neigh),
+        7 => Some(Ctx::Rule),
+        8 => Some(Ctx::Plain),
+        _ => None,
+    }
+}
+
+/// What C is told of what an attribute holds.
+fn told(content: Content) -> Holds
+    ensures { result ≡ held content }
+{
+    match content {
+        Content::Bytes => Holds {
+            sort: SORT_BYTES,
+            context: 0,
+        },
+        Content::List(inner) => Holds {
+            sort: SORT_LIST,
+            context: number(inner),
+        },
+        Content::Hops => Holds {
+            sort: SORT_HOPS,
+            context: number(Ctx::Route),
+        },
+    }
+}
+
+/// What the body of a message of this type begins with.
+#[unsafe(no_mangle)]
+pub extern "C" fn rtnl_family_of(kind: u16) -> Family
+    ensures { result ≡ family_told (form_of kind) }
+{
+    match Form::of(kind) {
+        Form::Family(group) => {
+            let row = group.row();
+            Family {
+                head_size: row.head_size as u8,
+                context: number(row.context),
+            }
+        }
+        Form::Noop | Form::Error | Form::Done | Form::Overrun | Form::Get | Form::Other => Family {
+            head_size: 0,
+            context: 0,
+        },
+    }
+}
+
+/// What an attribute holds in the context of this number, by its own number and its flag
+/// `NLA_F_NESTED`.
+#[unsafe(no_mangle)]
+pub extern "C" fn rtnl_holds(context_number: u8, number: u16, nested: bool) -> Holds
+    ensures { result ≡ holds_told (context_in context_number) number nested }
+{
+    match context(context_number) {
+        None => Holds {
+            sort: 0,
+            context: 0,
+        },
+        Some(ctx) => {
+            let net = false;
+            told(holds(ctx, number, AttrFlags { nested, net }))
+        }
+    }
+}

@@ -1,0 +1,35 @@
+//! The limits for which C asks.
+
+ghost use Rattle.std.specs.Prelude.{◌≡◌};
+ghost use Rattle.std.specs.Result.{OkIff};
+ghost use Rattle.nl_frame.specs.Limits.{AreLimits};
+ghost use Rattle.rtnl_c.specs.Options.{bounds_in, order_in};
+
+use nl_frame::{LimitFault, Limits, Order};
+
+/// The limits of one call.
+#[repr(C)]
+#[derive(Clone, Copy)]
+pub struct Options {
+    /// How many bytes a datagram may have: a multiple of 4 from 16 to 1,048,576.
+    pub datagram: u32,
+    /// How many levels containers may open: 0 to 32.
+    pub depth: u8,
+    /// Whether numbers have their highest byte first.
+    pub big: bool,
+}
+
+/// The order of numbers.
+pub(crate) fn order(big: bool) -> Order
+    ensures { result ≡ order_in big }
+{
+    if big { Order::Big } else { Order::Little }
+}
+
+/// The limits, where each is in its range.
+pub(crate) fn limits(options: &Options) -> Result<Limits, LimitFault>
+    ensures { OkIff result (AreLimits (bounds_in options.now)) (bounds_in options.now) }
+{
+    let limits = Limits::new(options.depth, options.datagram, 0, 0)?;
+    Ok(limits.with_order(order(options.big)))
+}

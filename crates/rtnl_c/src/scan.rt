@@ -1,0 +1,124 @@
+//! Scanning a datagram, which takes no memory.
+
+ghost use Rattle.std.specs.Prelude.{◌≡◌};
+ghost use Rattle.nl_frame.specs.Limits.{AreLimits};
+ghost use Rattle.rtnl_c.specs.Options.{bounds_in};
+ghost use Rattle.rtnl_c.specs.Scanned.{Scans, Tapes, place_of, refused, untaped};
+
+use crate::options::{Options, limits};
+use nl_attr::Tally;
+use nl_frame::{Event, Limits, ScanError, scan_datagram, tape_datagram};
+
+/// What a scan finds.
+#[repr(C)]
+#[derive(Clone, Copy)]
+pub struct Scanned {
+    /// How many attribute bytes were visited.
+    pub visits: u64,
+    /// The place of the first fault, an offset in bytes; 0 where there is none.
+    pub place: u32,
+    /// 0 where the datagram is accepted, else the number of the refusal.
+    pub code: u8,
+}
+
+/// What a scan finds that tells of each head in a buffer.
+#[repr(C)]
+#[derive(Clone, Copy)]
+pub struct Taped {
+    /// How many heads the datagram has, also where the buffer has less room; 0 on a refusal.
+    pub count: usize,
+    /// How many attribute bytes were visited.
+    pub visits: u64,
+    /// The place of the first fault, an offset in bytes; 0 where there is none.
+    pub place: u32,
+    /// 0 where the datagram is accepted, else the number of the refusal.
+    pub code: u8,
+}
+
+/// The place of a refusal.
+fn place(error: ScanError) -> u32
+    ensures { result ≡ place_of error }
+{
+    match error {
+        ScanError::Layout(fault) => fault.place,
+        ScanError::TooLarge => 0,
+    }
+}
+
+/// What a scan finds within limits.
+fn scan(bytes: &[u8], limits: &Limits) -> Scanned
+    ensures { Scans limits.now bytes.now result }
+{
+    let Tally { result, visits } = scan_datagram(bytes, limits);
+    match result {
+        Ok(()) => Scanned {
+            visits,
+            place: 0,
+            code: 0,
+        },
+        Err(error) => Scanned {
+            visits,
+            place: place(error),
+            code: error.code(),
+        },
+    }
+}
+
+/// What a scan finds within limits that tells of each head in a buffer.
+fn tape(bytes: &[u8], limits: &Limits, out: &mut [Event]) -> Taped
+    ensures { Tapes limits.now bytes.now out.old out.new result }
+{
+    let Tally { result, visits } = tape_datagram(bytes, limits, out);
+    match result {
+        Ok(count) => Taped {
+            count,
+            visits,
+            place: 0,
+            code: 0,
+        },
+        Err(error) => Taped {
+            count: 0,
+            visits,
+            place: place(error),
+            code: error.code(),
+        },
+    }
+}
+
+/// Whether a datagram is accepted within these limits, or why it is refused; 12 where one of the
+/// limits is out of its range.
+#[unsafe(no_mangle)]
+pub extern "C" fn rtnl_scan(bytes: &[u8], options: &Options) -> Scanned
+    ensures scanned { AreLimits (bounds_in options.now)
+        → Scans (bounds_in options.now) bytes.now result }
+    ensures limits { (AreLimits (bounds_in options.now) → ⊥) → result ≡ refused 0 0 12 }
+{
+    match limits(options) {
+        Ok(limits) => scan(bytes, &limits),
+        Err(fault) => Scanned {
+            visits: 0,
+            place: 0,
+            code: fault.code(),
+        },
+    }
+}
+
+/// Scans a datagram as `rtnl_scan` does, and puts what is told of each head into `out`, in the
+/// order of their places and as far as `out` goes.
+#[unsafe(no_mangle)]
+pub extern "C" fn rtnl_tape(bytes: &[u8], options: &Options, out: &mut [Event]) -> Taped
+    ensures taped { AreLimits (bounds_in options.now)
+        → Tapes (bounds_in options.now) bytes.now out.old out.new result }
+    ensures limits { (AreLimits (bounds_in options.now) → ⊥)
+        → (result ≡ untaped 0 0 12) × (out.new ≡ out.old) }
+{
+    match limits(options) {
+        Ok(limits) => tape(bytes, &limits, out),
+        Err(fault) => Taped {
+            count: 0,
+            visits: 0,
+            place: 0,
+            code: fault.code(),
+        },
+    }
+}

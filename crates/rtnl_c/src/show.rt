@@ -1,0 +1,87 @@
+//! The text of a datagram, which takes memory while it is made.
+
+ghost use Rattle.std.specs.Prelude.{◌≡◌, IfOk};
+ghost use Rattle.nl_frame.specs.Limits.{AreLimits};
+ghost use Rattle.rtnl.specs.Shown.{Answer, Answers, datagram_text};
+ghost use Rattle.rtnl_c.specs.Options.{bounds_in};
+ghost use Rattle.rtnl_c.specs.Shown.{Shows, laid, unshown};
+
+use crate::options::{Options, limits};
+use nl_frame::Limits;
+use rtnl::push_datagram;
+use std::alloc::{AllocError, Global};
+
+/// How a datagram was shown.
+#[repr(C)]
+#[derive(Clone, Copy)]
+pub struct Shown {
+    /// How many bytes the text has, also where the buffer has less room.
+    pub len: usize,
+    /// 0 where there is a text, else why there is none.
+    pub code: u8,
+}
+
+/// The text of a datagram.
+fn text_of(
+    alloc: Global,
+    number: usize,
+    bytes: &[u8],
+    limits: &Limits,
+) -> Result<Vec<u8>, AllocError>
+    ensures { IfOk result (λ text. (answer : Answer) × Answers limits.now bytes.now answer
+        × (text.items ≡ datagram_text limits.now.shape.order number bytes.now answer)) }
+{
+    let mut text = Vec::new(alloc);
+    push_datagram(alloc, &mut text, number, bytes, limits)?;
+    Ok(text)
+}
+
+/// Puts a text into a buffer, as far as it goes.
+fn lay(text: &[u8], out: &mut [u8])
+    ensures { out.new ≡ laid text.now out.old }
+{
+    let count = text.len().min(out.len());
+    out[..count].copy_from_slice(&text[..count]);
+}
+
+/// Shows a datagram within limits.
+fn show(alloc: Global, number: usize, bytes: &[u8], limits: &Limits, out: &mut [u8]) -> Shown
+    ensures { Shows limits.now number bytes.now out.old out.new result }
+{
+    match text_of(alloc, number, bytes, limits) {
+        Ok(text) => {
+            let text = text.as_slice();
+            lay(text, out);
+            Shown {
+                len: text.len(),
+                code: 0,
+            }
+        }
+        Err(AllocError) => Shown { len: 0, code: 13 },
+    }
+}
+
+/// Puts the text of a datagram, which `rtnl show` prints of the datagram of this number, into
+/// `out`, as far as `out` goes; 12 where one of the limits is out of its range, 13 where memory ran
+/// out: then nothing is put there.
+#[unsafe(no_mangle)]
+pub extern "C" fn rtnl_show(
+    alloc: Global,
+    number: usize,
+    bytes: &[u8],
+    options: &Options,
+    out: &mut [u8],
+) -> Shown
+    ensures shown { AreLimits (bounds_in options.now)
+        → Shows (bounds_in options.now) number bytes.now out.old out.new result }
+    ensures limits { (AreLimits (bounds_in options.now) → ⊥)
+        → (result ≡ unshown 12) × (out.new ≡ out.old) }
+{
+    match limits(options) {
+        Ok(limits) => show(alloc, number, bytes, &limits, out),
+        Err(fault) => Shown {
+            len: 0,
+            code: fault.code(),
+        },
+    }
+}
