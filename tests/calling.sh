@@ -54,5 +54,6 @@ compare nl_frame datagrams
 compare nl_table tables
 compare nl_dump dumps
 compare rtnl recordings
+check "the contracts of rtnl_c" quotes_code rtnl_c crates/rtnl_c/CALLING.md
 
 finish

@@ -8,7 +8,8 @@ set -u
 cd "$(dirname "${BASH_SOURCE[0]}")/.." || exit 1
 
 if [ "${1-}" != inside ]; then
-  tests/first_hour/packages.sh
+  tests/packages.sh mandoc mandoc xxd xxd jq jq strace strace ip iproute2 \
+    /usr/share/bash-completion/bash_completion bash-completion zsh zsh fish fish
   # The first run builds the program where it isn't built.
   ./rtnl --version >/dev/null || exit 1
   for way in -n -rn; do

@@ -1,0 +1,30 @@
+#!/usr/bin/env bash
+# Builds the library for C and makes its calls: on every datagram of the recordings, as they are
+# and mutated, in both byte orders, against the built program and against one another, with each
+# allocation refused in turn, by four threads at once, and on a painted stack; in several
+# versions of C and C++, and under the sanitizers. It holds the header against the code, the
+# names that the library defines against the header, and runs the examples, with the library
+# installed. Packages that are missing are installed where that can be, and what can't run says
+# so and isn't counted. The last line is 'N passed, M failed', and the status is 1 where a case
+# failed.
+set -u
+cd "$(dirname "${BASH_SOURCE[0]}")/.." || exit 1
+top=$PWD
+program=$top/crates/rtnl_cli/out/rtnl_cli
+folder=$(mktemp -d) || exit 1
+trap 'rm -rf "$folder"' EXIT
+. tests/counting.sh
+
+tests/packages.sh cc gcc c++ g++ objcopy binutils pkg-config pkg-config go golang-go rustc rustc
+./rtnl --version >/dev/null || exit 1
+c/build.sh "$folder/library" || exit 1
+
+# has COMMAND WHAT: the command is here, or it is told that this is skipped.
+has() { command -v "$1" >/dev/null || ! echo "skipped: $2, since $1 is not here"; }
+
+. tests/c_library/names.sh
+. tests/c_library/programs.sh
+. tests/c_library/installed.sh
+. tests/c_library/examples.sh
+
+finish

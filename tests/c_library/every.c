@@ -1,0 +1,191 @@
+/*
+ * Makes every call on every datagram of a recording: `every check`, `every show` or `every
+ * compare`, with `big` behind it where numbers have their highest byte first. The first two
+ * print what `rtnl` prints; the third holds the calls against each other, and says how many
+ * datagrams and heads there were.
+ */
+#include "guarded.h"
+#include "walk.h"
+
+#define LARGEST (1 << 20)
+#define MARGIN  8
+
+static const char *const reasons[] = { "",           "cut",      "bad length",
+	                                   "short body", "too long", "too deep" };
+
+/* The ends of guarded memory for a datagram, for events and for a text. */
+static uint8_t *bytes_end, *events_end, *text_end;
+static size_t heads;
+
+static void print_check(const struct datagram *one, const struct rtnl_options *limits)
+{
+	struct rtnl_checked checked = rtnl_check(one->bytes, one->len, limits);
+	printf("datagram %lu ", (unsigned long)one->number);
+	if (checked.code == RTNL_OK)
+		puts(checked.canonical ? "canonical" : "accepted");
+	else if (checked.code == RTNL_TOO_LARGE)
+		puts("refused too large");
+	else if (checked.code <= RTNL_TOO_DEEP)
+		printf("refused %s at %lu\n", reasons[checked.code], (unsigned long)checked.place);
+	else
+		fail("a code of rtnl_check", one->number);
+}
+
+/* A text into so much room, at the end of which MARGIN bytes are painted too: as much as fits is put,
+ * and no more is touched. */
+static void compare_show(const struct datagram *one, const struct rtnl_options *limits,
+                         const char *text, size_t len, size_t room)
+{
+	char *out = (char *)text_end - room - MARGIN;
+	size_t put = room < len ? room : len;
+	struct rtnl_shown shown;
+	memset(out, PAINT, room + MARGIN);
+	shown = rtnl_show(one->number, one->bytes, one->len, limits, out, room);
+	if (shown.code || shown.len != len)
+		fail("the length of a text by its room", one->number);
+	if (memcmp(out, text, put) || !is_painted(out + put, room + MARGIN - put))
+		fail("a text by its room", one->number);
+}
+
+static void print_show(const struct datagram *one, const struct rtnl_options *limits)
+{
+	struct rtnl_shown none = rtnl_show(one->number, one->bytes, one->len, limits, NULL, 0), shown;
+	char *text = (char *)text_end - none.len;
+	char *kept = (char *)taken(none.len);
+	if (none.code || none.len > (size_t)64 * LARGEST)
+		fail("a text's length", one->number);
+	shown = rtnl_show(one->number, one->bytes, one->len, limits, text, none.len);
+	if (shown.code || shown.len != none.len)
+		fail("the length of a whole text", one->number);
+	memcpy(kept, text, none.len);
+	compare_show(one, limits, kept, none.len, 0);
+	compare_show(one, limits, kept, none.len, none.len / 2);
+	compare_show(one, limits, kept, none.len, none.len + MARGIN);
+	fwrite(kept, 1, none.len, stdout);
+	free(kept);
+}
+
+static bool is_event(const struct rtnl_event *found, const struct rtnl_event *wanted)
+{
+	return found->place == wanted->place && found->len == wanted->len &&
+	       found->number == wanted->number && found->level == wanted->level &&
+	       found->sort == wanted->sort && found->nested == wanted->nested &&
+	       found->net == wanted->net;
+}
+
+/* A tape with so much room puts the events of the walk, as far as they fit, and touches nothing
+ * behind them. */
+static void compare_tape(const struct walk *w, const struct rtnl_options *limits, size_t room)
+{
+	struct rtnl_event *out = (struct rtnl_event *)events_end - room;
+	struct rtnl_taped taped;
+	size_t at, put = room < w->count ? room : w->count;
+	memset(out, PAINT, room * sizeof *out);
+	taped = rtnl_tape(w->bytes, w->len, limits, room ? out : NULL, room);
+	if (taped.code != w->code || taped.place != w->place || taped.visits != w->visits)
+		fail("the end of a tape", w->number);
+	if (taped.count != (w->code ? 0 : w->count))
+		fail("the count of a tape", w->number);
+	for (at = 0; at < put; at++)
+		if (!is_event(&out[at], &w->events[at]))
+			fail("an event of a tape", w->number);
+	if (!is_painted(out + put, (room - put) * sizeof *out))
+		fail("what stands behind the events of a tape", w->number);
+}
+
+/* All calls under these limits; `given` is what they are handed: a pointer to the limits, or
+ * null. */
+static void compare_under(struct datagram at_end, struct rtnl_options limits,
+                          const struct rtnl_options *given)
+{
+	struct walk w = walked(at_end.bytes, at_end.len, at_end.number, limits);
+	struct rtnl_scanned scanned = rtnl_scan(at_end.bytes, at_end.len, given);
+	struct rtnl_checked checked = rtnl_check(at_end.bytes, at_end.len, given);
+	if (scanned.code != w.code || scanned.place != w.place || scanned.visits != w.visits)
+		fail("a scan and the walk", at_end.number);
+	if (scanned.visits > (limits.depth + 1) * (uint64_t)at_end.len)
+		fail("the visits of a scan", at_end.number);
+	if (checked.code != w.code || checked.place != w.place || (checked.canonical && w.code))
+		fail("a check and the walk", at_end.number);
+	compare_tape(&w, given, 0);
+	compare_tape(&w, given, w.count / 2);
+	compare_tape(&w, given, w.count);
+	compare_tape(&w, given, w.count + MARGIN);
+	heads += w.count;
+	free(w.events);
+}
+
+/* Where the limits are out of their range, each call says so and touches nothing. */
+static void compare_bad(struct datagram at_end, uint32_t datagram, uint8_t depth)
+{
+	struct rtnl_options bad = { datagram, depth, false };
+	struct rtnl_event *out = (struct rtnl_event *)events_end - MARGIN;
+	char *text = (char *)text_end - MARGIN;
+	struct rtnl_scanned scanned = rtnl_scan(at_end.bytes, at_end.len, &bad);
+	struct rtnl_checked checked = rtnl_check(at_end.bytes, at_end.len, &bad);
+	struct rtnl_taped taped;
+	struct rtnl_shown shown;
+	memset(out, PAINT, MARGIN * sizeof *out);
+	memset(text, PAINT, MARGIN);
+	taped = rtnl_tape(at_end.bytes, at_end.len, &bad, out, MARGIN);
+	shown = rtnl_show(1, at_end.bytes, at_end.len, &bad, text, MARGIN);
+	if (scanned.code != RTNL_BAD_LIMIT || scanned.place || scanned.visits)
+		fail("a scan under bad limits", at_end.number);
+	if (checked.code != RTNL_BAD_LIMIT || checked.place || checked.canonical)
+		fail("a check under bad limits", at_end.number);
+	if (taped.code != RTNL_BAD_LIMIT || taped.place || taped.visits || taped.count)
+		fail("a tape under bad limits", at_end.number);
+	if (shown.code != RTNL_BAD_LIMIT || shown.len)
+		fail("a text under bad limits", at_end.number);
+	if (!is_painted(out, MARGIN * sizeof *out) || !is_painted(text, MARGIN))
+		fail("what bad limits touch", at_end.number);
+}
+
+static void compare(const struct datagram *one, bool big)
+{
+	static const uint8_t depths[] = { 0, 1, 2, 32 };
+	struct rtnl_options limits = { RTNL_STANDARD_DATAGRAM, RTNL_STANDARD_DEPTH, false };
+	struct datagram at_end = *one;
+	size_t at;
+	at_end.bytes = bytes_end - one->len;
+	memcpy(at_end.bytes, one->bytes, one->len);
+	compare_under(at_end, limits, NULL);
+	limits.big = big;
+	compare_under(at_end, limits, &limits);
+	for (at = 0; at < sizeof depths; at++) {
+		limits.depth = depths[at];
+		compare_under(at_end, limits, &limits);
+	}
+	limits.datagram = one->len > 20 ? (uint32_t)(one->len - 4) / 4 * 4 : 16;
+	compare_under(at_end, limits, &limits);
+	limits.datagram = LARGEST;
+	compare_under(at_end, limits, &limits);
+	compare_bad(at_end, 12, 8);
+	compare_bad(at_end, LARGEST + 4, 8);
+	compare_bad(at_end, 65538, 8);
+	compare_bad(at_end, 65536, 33);
+}
+
+int main(int count, char **words)
+{
+	bool big = count > 2 && strcmp(words[2], "big") == 0;
+	struct rtnl_options limits = { RTNL_STANDARD_DATAGRAM, RTNL_STANDARD_DEPTH, big };
+	struct datagram one = { NULL, 0, 0 };
+	if (count < 2)
+		return 2;
+	bytes_end = guarded_end(LARGEST);
+	events_end = guarded_end(LARGEST * 4 + PAGE);
+	text_end = guarded_end((size_t)64 * LARGEST + PAGE);
+	while (next_datagram(stdin, &one)) {
+		if (strcmp(words[1], "check") == 0)
+			print_check(&one, big ? &limits : NULL);
+		else if (strcmp(words[1], "show") == 0)
+			print_show(&one, big ? &limits : NULL);
+		else
+			compare(&one, big);
+		free(one.bytes);
+	}
+	if (strcmp(words[1], "compare") == 0)
+		printf("%lu datagrams, %lu heads\n", (unsigned long)one.number, (unsigned long)heads);
+	return fflush(stdout) ? 3 : 0;
+}

@@ -1,0 +1,110 @@
+# The programs in this folder, built and run.
+
+for order in little big; do
+  for sort in recorded mutated; do
+    tests/c_library/datagrams.py "$sort" "$order" >"$folder/$sort.$order" || exit 1
+    for command in check show; do
+      "$program" "$command" --order "$order" "$folder/$sort.$order" \
+        >"$folder/$command.$sort.$order"
+    done
+  done
+done
+
+warnings=(-D_GNU_SOURCE -Iinclude -O1 -g -Wall -Wextra -Werror -pedantic)
+wraps=-Wl,--wrap=malloc,--wrap=calloc,--wrap=realloc,--wrap=free
+
+# built NAME TO COMMAND..: a program of this folder by this compiler.
+built() {
+  "${@:3}" "${warnings[@]}" "tests/c_library/$1.c" -x none "$archive" -o "$folder/$2" -pthread
+}
+
+# sees_all PROGRAM FILE [ARGUMENT..]: it ends well, and tells of all datagrams of the file.
+sees_all() {
+  "$folder/$1" "${@:3}" <"$2" >"$folder/told" &&
+    [[ $(<"$folder/told") == "$(wc -l <"$2") datagrams"* ]]
+}
+
+# prints_so PROGRAM COMMAND SORT ORDER: the program prints what rtnl does.
+prints_so() { "$folder/$1" "$2" "$4" <"$folder/$3.$4" | cmp - "$folder/$2.$3.$4"; }
+
+# compares PROGRAM SORT ORDER: it finds no difference in any datagram, and has seen all.
+compares() { sees_all "$1" "$folder/$2.$3" compare "$3"; }
+
+# every PROGRAM: all cases of every.c.
+every() {
+  local order sort command
+  for order in little big; do
+    for sort in recorded mutated; do
+      for command in check show; do
+        check "$1: $command of $sort datagrams, $order" prints_so "$1" "$command" "$sort" "$order"
+      done
+      check "$1: calls on $sort datagrams, $order" compares "$1" "$sort" "$order"
+    done
+  done
+}
+
+# refuses PROGRAM: each allocation is refused in turn, of the recordings and of some that are
+# mutated.
+refuses() {
+  cat "$folder/recorded.little" <(head -n 200 "$folder/mutated.little") >"$folder/refused"
+  sees_all "$1" "$folder/refused" && cp "$folder/told" "$folder/refusals"
+}
+
+# agree PROGRAM: threads at once come to what one comes to.
+agree() {
+  cat "$folder/recorded.little" <(head -n 300 "$folder/mutated.little") >"$folder/shared"
+  sees_all "$1" "$folder/shared"
+}
+
+stays_in_stack() {
+  head -n 200 "$folder/mutated.little" >"$folder/measured" &&
+    "$folder/$1" <"$folder/measured" >"$folder/stack.found"
+}
+
+# all_programs NAME COMMAND..: each program by this compiler, built and run.
+all_programs() {
+  local name=$1
+  shift
+  check "$name: every.c" built every "every $name" "$@"
+  every "every $name"
+  check "$name: fixed.c" built fixed "fixed $name" "$@"
+  check "$name: fixed.c runs" "$folder/fixed $name"
+  check "$name: refused.c" built refused "refused $name" "$@" "$wraps"
+  check "$name: allocations refused" refuses "refused $name"
+  check "$name: threads.c" built threads "threads $name" "$@"
+  check "$name: threads at once" agree "threads $name"
+}
+
+all_programs plain cc -std=c99
+all_programs 'with sanitizers' cc -std=c99 -fsanitize=address,undefined -fno-sanitize-recover=all
+echo "allocations refused: $(<"$folder/refusals")"
+
+check 'stack.c' built stack stack cc -std=c99
+check 'the stack of each call' stays_in_stack stack
+echo "stack: $(paste -sd, "$folder/stack.found")"
+
+# Other versions of the languages.
+for standard in c11 c17; do
+  check "$standard: every.c" built every every cc "-std=$standard"
+  check "$standard: fixed.c" built fixed fixed cc "-std=$standard"
+  check "$standard: fixed.c runs" "$folder/fixed"
+done
+for standard in c++11 c++17 c++20; do
+  for name in fixed threads stack; do
+    check "$standard: $name.c" built "$name" "$name" c++ "-std=$standard" -x c++
+  done
+  check "$standard: refused.c" built refused refused c++ "-std=$standard" "$wraps" -x c++
+  check "$standard: fixed.c runs" "$folder/fixed"
+done
+check 'c++11: every.c' built every every c++ -std=c++11 -x c++
+check 'c++11: calls on recorded datagrams' compares every recorded little
+
+# ThreadSanitizer sees c/rtnl.c's callers and the C library's functions, not what the proved code
+# reads.
+echo 'int main(void) { return 0; }' >"$folder/try.c"
+if cc -fsanitize=thread "$folder/try.c" -o "$folder/try" 2>/dev/null && "$folder/try"; then
+  check 'threads.c under ThreadSanitizer' built threads threads cc -std=c99 -fsanitize=thread
+  check 'threads at once under ThreadSanitizer' agree threads
+else
+  echo 'skipped: threads under ThreadSanitizer, since cc has none'
+fi

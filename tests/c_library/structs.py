@@ -1,0 +1,115 @@
+#!/usr/bin/env python3
+"""Compares include/rtnl.h and c/rtnl.c with the code of crates/rtnl_c: the names, types and order
+of the fields of each struct, and the parameters and the result of each call. The status is 1 where
+one differs.
+"""
+import glob
+import os
+import re
+import sys
+
+ROOT = os.path.join(os.path.dirname(os.path.abspath(__file__)), "../..")
+# The structs of the header by the code's names.
+NAMES = {
+    "Options": "rtnl_options",
+    "Scanned": "rtnl_scanned",
+    "Event": "rtnl_event",
+    "Taped": "rtnl_taped",
+    "MessageAt": "rtnl_message",
+    "AttrAt": "rtnl_attr",
+    "HopAt": "rtnl_hop",
+    "Family": "rtnl_family",
+    "Holds": "rtnl_holds",
+    "Checked": "rtnl_checked",
+    "Shown": "rtnl_shown",
+}
+TYPES = {f"u{bits}": f"uint{bits}_t" for bits in (8, 16, 32, 64)}
+TYPES |= {"i32": "int32_t", "usize": "size_t", "bool": "bool"}
+TYPES |= {name: f"struct {it}" for name, it in NAMES.items()}
+# What stands for a parameter of the code; one of the type Global takes no place.
+PARAMETERS = {"Global": []} | {name: [it] for name, it in TYPES.items()}
+for name in ("u8", "Event"):
+    PARAMETERS[f"&[{name}]"] = [f"const {TYPES[name]} *", "size_t"]
+    PARAMETERS[f"&mut [{name}]"] = [f"{TYPES[name]} *", "size_t"]
+PARAMETERS["&Options"] = ["const struct rtnl_options *"]
+
+
+def text_of(file):
+    with open(f"{ROOT}/{file}", encoding="utf-8") as it:
+        return it.read()
+
+
+def plain(text):
+    """C without comments and lines of the preprocessor, on one line."""
+    text = re.sub(r"/\*.*?\*/", " ", text, flags=re.S)
+    return " ".join(re.sub(r"^#.*$", "", text, flags=re.M).split())
+
+
+def structs_in_c(text):
+    """Each struct by its name, with the name and the type of each field."""
+    found = {}
+    for name, body in re.findall(r"struct (\w+) \{([^{}]*)\}", text):
+        rows = [row.strip().split(" ", 1) for row in body.split(";") if row.strip()]
+        named = [(kind, field) for kind, fields in rows for field in fields.split(",")]
+        found[name] = [(field.strip(), kind) for kind, field in named]
+    return found
+
+
+def structs_in_code(text):
+    """The same of the code's structs laid out as in C, by the header's names and types."""
+    found = {}
+    struct = r"#\[repr\(C\)\]\s*(?:#\[[^\n]*\s*)*pub struct (\w+) \{(.*?)\n\}"
+    for name, body in re.findall(struct, text, re.S):
+        fields = re.findall(r"^\s*pub (\w+): (\w+),$", body, re.M)
+        found[NAMES.get(name, name)] = [(field, TYPES.get(kind, kind)) for field, kind in fields]
+    return found
+
+
+def types_of(parameters):
+    """The types of the parameters of a declaration in C, with or without names."""
+    found = []
+    for it in parameters.split(","):
+        kind = re.match(r"\s*((?:const )?(?:struct )?\w+)\s*(\*?)", it)
+        found.append(f"{kind[1]} *" if kind[2] else kind[1])
+    return found
+
+
+def calls_in_c(text, prefix):
+    calls = re.findall(rf"(struct \w+) {prefix}_(\w+)\(([^()]*)\);", text)
+    return {name: (result, types_of(parameters)) for result, name, parameters in calls}
+
+
+def calls_in_code(text):
+    found = {}
+    call = r'pub extern "C" fn rtnl_(\w+)\(([^()]*)\) -> (\w+)'
+    for name, parameters, result in re.findall(call, text):
+        kinds = [it.partition(":")[2].strip() for it in parameters.split(",") if it.strip()]
+        flat = [kind for it in kinds for kind in PARAMETERS.get(it, [f"unknown {it}"])]
+        found[name] = (TYPES.get(result, result), flat)
+    return found
+
+
+def differences(what, one, other):
+    for name in sorted({*one, *other}):
+        if one.get(name) != other.get(name):
+            yield f"{what} {name}: {one.get(name)} in C, {other.get(name)} in the code"
+
+
+def main():
+    header = plain(text_of("include/rtnl.h"))
+    files = sorted(glob.glob("crates/rtnl_c/src/*.rt", root_dir=ROOT))
+    code = "\n".join(map(text_of, files))
+    events = structs_in_code(text_of("crates/nl_attr/src/events.rt"))
+    calls = calls_in_code(code)
+    # A text is of bytes in the code, and of characters in the header.
+    declared = calls_in_c(header.replace("char *", "uint8_t *"), "rtnl")
+    between = calls_in_c(plain(text_of("c/rtnl.c")), "proved")
+    found = [*differences("struct", structs_in_c(header), structs_in_code(code) | events)]
+    found += differences("the call", declared, calls)
+    found += differences("the proved call", between, calls)
+    print("\n".join(found or [f"{len(calls)} calls, {len(structs_in_c(header))} structs"]))
+    return 1 if found or not calls else 0
+
+
+if __name__ == "__main__":
+    sys.exit(main())
