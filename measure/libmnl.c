@@ -1,32 +1,59 @@
-/* Walks over what a recording's datagrams hold by libmnl's calls, and counts it; it keeps nothing.
- * usage: libmnl PASSES < BINARY, where each datagram stands behind its size, four bytes, lowest first. */
+/* Walks over what a recording's datagrams hold by libmnl's calls, and counts it; it keeps nothing. The walk goes into
+ * lists and next hops, by loops (mnl_attr_for_each) or by callbacks (mnl_attr_parse).
+ * usage: libmnl loops|callbacks PASSES < BINARY, where each datagram stands behind its size, four bytes, lowest
+ * first. */
 #include <libmnl/libmnl.h>
 #include <linux/if_link.h>
 #include <linux/fib_rules.h>
 #include <linux/neighbour.h>
 #include <linux/rtnetlink.h>
+#include <stdbool.h>
 #include <stdint.h>
 #include <stdio.h>
 #include <stdlib.h>
+#include <string.h>
 
 static unsigned long count;
+static bool by_callbacks;
 
-static void attributes(const void *region, int size)
-{
-	const struct nlattr *attr;
+enum context { LINK, ROUTE, OTHER };
 
-	mnl_attr_for_each_payload(region, size)
-		count += mnl_attr_get_type(attr) + mnl_attr_get_payload_len(attr);
-}
+static void region(const void *bytes, size_t size, enum context *context);
 
 static void next_hops(const struct nlattr *attr)
 {
 	const struct rtnexthop *hop = mnl_attr_get_payload(attr);
 	int left = mnl_attr_get_payload_len(attr);
+	enum context context = ROUTE;
 
 	for (; left >= (int)sizeof(*hop) && hop->rtnh_len >= sizeof(*hop) && hop->rtnh_len <= left;
 	     left -= RTNH_ALIGN(hop->rtnh_len), hop = RTNH_NEXT(hop))
-		attributes(RTNH_DATA(hop), hop->rtnh_len - sizeof(*hop));
+		region(RTNH_DATA(hop), hop->rtnh_len - sizeof(*hop), &context);
+}
+
+static int attribute(const struct nlattr *attr, void *data)
+{
+	enum context context = *(enum context *)data, inner = OTHER;
+	int type = mnl_attr_get_type(attr);
+
+	count += type + mnl_attr_get_payload_len(attr);
+	if (context == ROUTE && type == RTA_MULTIPATH)
+		next_hops(attr);
+	else if ((attr->nla_type & NLA_F_NESTED) || (context == LINK && type == IFLA_LINKINFO) ||
+	         (context == ROUTE && type == RTA_METRICS))
+		region(mnl_attr_get_payload(attr), mnl_attr_get_payload_len(attr), &inner);
+	return MNL_CB_OK;
+}
+
+static void region(const void *bytes, size_t size, enum context *context)
+{
+	const struct nlattr *attr;
+
+	if (by_callbacks)
+		mnl_attr_parse_payload(bytes, size, attribute, context);
+	else
+		mnl_attr_for_each_payload(bytes, size)
+			attribute(attr, context);
 }
 
 static int head_of(int type)
@@ -42,24 +69,21 @@ static int head_of(int type)
 static void message(const struct nlmsghdr *head)
 {
 	int size = head_of(head->nlmsg_type);
-	const struct nlattr *attr;
+	enum context context = head->nlmsg_type == RTM_NEWLINK ? LINK : head->nlmsg_type == RTM_NEWROUTE ? ROUTE : OTHER;
 
 	count++;
-	if (size < 0 || mnl_nlmsg_get_payload_len(head) < (size_t)size)
-		return;
-	mnl_attr_for_each(attr, head, size) {
-		count += mnl_attr_get_type(attr) + mnl_attr_get_payload_len(attr);
-		if (head->nlmsg_type == RTM_NEWROUTE && mnl_attr_get_type(attr) == RTA_MULTIPATH)
-			next_hops(attr);
-	}
+	if (size >= 0 && mnl_nlmsg_get_payload_len(head) >= (size_t)size)
+		region((const char *)mnl_nlmsg_get_payload(head) + MNL_ALIGN(size),
+		       mnl_nlmsg_get_payload_len(head) - size, &context);
 }
 
 int main(int argc, char **argv)
 {
 	static char bytes[1 << 24];
 	size_t size = fread(bytes, 1, sizeof(bytes), stdin);
-	int passes = argc > 1 ? atoi(argv[1]) : 1;
+	int passes = argc > 2 ? atoi(argv[2]) : 1;
 
+	by_callbacks = argc > 1 && !strcmp(argv[1], "callbacks");
 	while (passes-- > 0) {
 		for (size_t at = 0; at + 4 <= size;) {
 			uint32_t len = *(const uint32_t *)(bytes + at);
