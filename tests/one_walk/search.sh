@@ -116,6 +116,7 @@ crates/nl_route/src/ndmsg.rt 1
 crates/rtnl/src/text/values.rt 1'
 
 scan=(crates/nl_attr/src/scanning.rt crates/nl_attr/src/taping/*.rt)
+taping=crates/nl_frame/src/taping.rt
 
 same 'heads are read by the walkers, and by a scan at one place for each sort of head' \
   "$(counts '\b(head_len|kind_at|span_at)\(')" \
@@ -125,13 +126,46 @@ crates/nl_attr/src/walk/attrs.rt 3
 crates/nl_attr/src/walk/hops.rt 2
 crates/nl_attr/src/walk/mod.rt 3'
 
-same 'a scan is one loop' "$(lines '\b(loop|while|for)\b[^<]*\{$' "${scan[@]}" | sed 's/^[^:]*: *//')" \
-  "'heads: loop {"
+same 'headers are read at the front of a message, where an error quotes one, and on the way to a fault' \
+  "$(counts '\b(frame_len|Header::read)\(')" \
+  'crates/nl_frame/src/body.rt 1
+crates/nl_frame/src/broken.rt 1
+crates/nl_frame/src/front.rt 3'
 
-same 'a region is scanned by the calls that are made for it, and in no reading' \
+same 'a message is taken from the front once by a reading, a scan and a cursor, and on the way to a fault' \
+  "$(counts '\bfront\(')" \
+  'crates/nl_frame/src/broken.rt 2
+crates/nl_frame/src/front.rt 2
+crates/nl_frame/src/reading.rt 1
+crates/nl_frame/src/taping.rt 1'
+
+same 'a scan is one loop over heads and one over messages' \
+  "$(lines '\b(loop|while|for)\b[^<]*\{$' "${scan[@]}" crates/nl_frame/src/scanning.rt "$taping" |
+    sed 's/^[^:]*: *//')" \
+  "'heads: loop {
+'messages: while !left.is_empty() {"
+
+same 'a region is scanned by the calls that are made for it and once by the scan of a message, and in no reading' \
   "$(counts '\b(scan_list_ordered|tape_list|tape_region)\b.*\(')" \
   'crates/nl_attr/src/scanning.rt 2
-crates/nl_attr/src/taping/mod.rt 3'
+crates/nl_attr/src/taping/mod.rt 3
+crates/nl_frame/src/taping.rt 1'
+
+same 'a datagram is scanned by the calls that are made for it, and in no reading' \
+  "$(counts '\b(scan_datagram|tape_datagram|tape_(messages|ordered|big|frame|body|family))\(')" \
+  'crates/nl_frame/src/scanning.rt 4
+crates/nl_frame/src/taping.rt 9
+crates/rtnl_c/src/scan.rt 2'
+
+same 'a scan of a datagram adds the visits of each message, and nothing else' \
+  "$(lines '\bvisits [-+*]?=' "$taping" | sed 's/^[^:]*: *//')" 'let mut visits = 0u64;
+visits += taped.visits;'
+
+same 'the item at a place is sought by those who ask for one, and in no walk' \
+  "$(counts '\b(attr_at|hop_at|message_at)\(')" \
+  'crates/nl_attr/src/walk/cursors.rt 2
+crates/nl_frame/src/front.rt 1
+crates/rtnl_c/src/cursors.rt 3'
 
 same 'numbers are made of bytes by their order alone' \
   "$(lines 'from_(le|be|ne)_bytes|(Little|Big|Native)Endian' | grep -v '^crates/nl_attr/src/order\.rt:')" \
@@ -144,6 +178,7 @@ crates/nl_attr/src/scanning.rt 1
 crates/nl_dump/src/reading.rt 1
 crates/nl_frame/src/body.rt 3
 crates/nl_frame/src/reading.rt 3
+crates/nl_frame/src/scanning.rt 2
 crates/nl_route/src/family.rt 2'
 
 same 'a tally is ended without its visits by those who answer none' "$(counts '\.into_result\(')" \
@@ -170,7 +205,8 @@ same 'each family is read by one arm' "$(counts 'read_body_ordered \$')" 'crates
 
 same 'a datagram is checked by a check alone' "$(counts '\bis_canonical\(')" \
   'crates/nl_frame/src/canonical.rt 1
-crates/rtnl/src/check.rt 2'
+crates/rtnl/src/check.rt 2
+crates/rtnl_c/src/check.rt 1'
 
 same 'a session adds the visits of each datagram that it takes, and nothing else' \
   "$(lines 'self\.visits [-+*]?=|[^_a-z]take\($' crates/nl_dump/src/session.rt | sed 's/^[^:]*: *//')" \
