@@ -3,13 +3,14 @@
 
 usage: measure/measure.py [FOLDER]
 
-FOLDER holds recordings of dumps, NAME.hex, one kind of message each; with none, examples/. It needs the programs
-that the gate builds (crates/rtnl_cli/out/rtnl_cli, crates/rtnl_bench/out/rtnl_bench), and valgrind. Beside ours it
-runs `ip`, and small programs over libmnl and libnl where cc, pkg-config and those libraries are installed, and GNU time for
-memory; what is missing has a dash.
+FOLDER holds recordings of dumps, NAME.hex, one kind of message each, as measure/record.sh makes them; with none,
+examples/. It needs the programs that the gate builds (crates/rtnl_cli/out/rtnl_cli, crates/rtnl_bench/out/rtnl_bench,
+crates/rtnl_c/out/librtnl_c.a), and valgrind. Beside ours it runs `ip`, and small programs over libmnl and libnl where
+cc, pkg-config and those libraries are installed, and GNU time for memory; what is missing has a dash.
 
 Instructions are those that callgrind counts: of three passes less one pass, halved, over the bytes of the datagrams;
-of a whole program for N datagrams and for twice as many, one less the other. Larger recordings are made by repeating.
+of a whole program for N datagrams and for twice as many, one less the other. Times are the shortest of five. Larger
+recordings are made by repeating.
 """
 import os
 import re
@@ -18,6 +19,7 @@ import struct
 import subprocess
 import sys
 import tempfile
+import time
 
 TOP = os.path.join(os.path.dirname(os.path.abspath(__file__)), "..")
 PROGRAM = os.path.join(TOP, "crates/rtnl_cli/out/rtnl_cli")
@@ -26,6 +28,9 @@ BENCH = os.path.join(TOP, "crates/rtnl_bench/out/rtnl_bench")
 # The bytes of datagrams of a larger recording, and the hexadecimal digits of one for memory.
 LARGE = 400_000
 LONG = 10_000_000
+
+# How many passes are timed.
+PASSES = 200
 
 # The dumps that `ip` shows from a file, by their message type: what it calls them, and what stands before them.
 DUMPS = {20: ("address", 0x47361222), 24: ("route", 0x45311224)}
@@ -68,6 +73,18 @@ def passes(command, given):
     return None if one is None or three is None else (three - one) / 2
 
 
+def nanoseconds(command, given):
+    """How long a pass of such a program takes: of many passes less one, each the shortest of five runs."""
+    def shortest(count):
+        times = []
+        for _ in range(5):
+            begun = time.perf_counter_ns()
+            subprocess.run([*command, str(count)], input=given, stdout=subprocess.DEVNULL, check=True)
+            times.append(time.perf_counter_ns() - begun)
+        return min(times)
+    return (shortest(1 + PASSES) - shortest(1)) / PASSES
+
+
 def whole(command, files):
     """The instructions of a program over the second file, less those over the first."""
     first, second = (instructions([*command, file]) for file in files)
@@ -93,6 +110,15 @@ def compiled(folder, name, package):
         return None
     # libnl-route is used by what it adds to libnl as it is loaded, and by no call.
     command = ["cc", "-O2", "-o", program, source, "-Wl,--no-as-needed", *flags.stdout.split()]
+    return None if subprocess.run(command, check=False).returncode else program
+
+
+def over_ours(folder):
+    """The program over our C library, or none where it can't be made."""
+    source, program = os.path.join(TOP, "measure/librtnl.c"), os.path.join(folder, "librtnl")
+    if not shutil.which("cc") or subprocess.run([os.path.join(TOP, "c/build.sh"), folder], check=False).returncode:
+        return None
+    command = ["cc", "-O2", "-I" + os.path.join(TOP, "include"), "-o", program, source, program + ".a"]
     return None if subprocess.run(command, check=False).returncode else program
 
 
@@ -139,8 +165,22 @@ def small(folder, recordings):
         size, lines, binary = sum(map(len, datagrams)), as_lines(datagrams), sized(datagrams)
         rows.append((
             name, f"{size:,}", shown(passes([BENCH, "read"], lines), size),
-            shown(mnl and passes([mnl], binary), size), shown(nl and passes([nl], binary), size),
+            shown(mnl and passes([mnl, "callbacks"], binary), size), shown(nl and passes([nl], binary), size),
             shown(passes([BENCH, "write"], lines), size)))
+    table(*rows)
+
+
+def library(folder, recordings, cost):
+    """What the calls of our C library and those of others take of a byte, by instructions or by time."""
+    ours, mnl = over_ours(folder), compiled(folder, "libmnl", "libmnl")
+    nl = compiled(folder, "libnl", "libnl-route-3.0")
+    ways = [(ours, "scan"), (ours, "tape"), (ours, "cursors"), (mnl, "loops"), (mnl, "callbacks")]
+    heads = ["`rtnl_scan`", "`rtnl_tape`", "cursors", "libmnl, loops", "libmnl, callbacks", "libnl"]
+    rows = [("recording", "bytes", *heads)]
+    for name, datagrams in recordings:
+        size, binary = sum(map(len, datagrams)), sized(datagrams)
+        costs = [program and cost([program, way], binary) for program, way in ways] + [nl and cost([nl], binary)]
+        rows.append((name, f"{size:,}", *(shown(each, size, "{:.2f}") for each in costs)))
     table(*rows)
 
 
@@ -235,9 +275,12 @@ def main():
     with tempfile.TemporaryDirectory() as made:
         print("Instructions a byte of datagrams:\n")
         small(made, recordings)
+        library(made, recordings, passes)
         large(made, recordings)
         hostile(made)
         tables(made)
+        print("Nanoseconds a byte of datagrams:\n")
+        library(made, recordings, nanoseconds)
         print("Greatest memory, in megabytes:\n")
         memory(made, recordings)
 
