@@ -48,6 +48,7 @@ pub(crate) fn frame_span(left: &[u8], len: usize) -> u32
 }
 
 /// The message at the front, or the first rule that its head breaks.
+#[inline(always)]
 pub(crate) fn front(left: &[u8], order: Order) -> Result<Frame<'_>, Reason>
     requires { length left.now ≤ 1048576 }
     ensures { GivesFrame order left.now result }

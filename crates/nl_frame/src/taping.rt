@@ -135,9 +135,9 @@ fn tape_frame<'a>(
     )
 }
 
-/// The messages of a datagram.
+/// The messages of a datagram, in an order that the caller writes as a constant.
 #[inline(always)]
-pub(crate) fn tape_messages(bytes: &[u8], depth: Depth, order: Order, out: &mut [Event]) -> Taped
+fn tape_ordered(bytes: &[u8], depth: Depth, order: Order, out: &mut [Event]) -> Taped
     requires { length bytes.now ≤ 1048576 }
     ensures taped { IsTaped (shape_of order depth) (trail_of (shape_of order depth)
         (whole bytes.now)) 0 out.old out.new result }
@@ -178,5 +178,30 @@ pub(crate) fn tape_messages(bytes: &[u8], depth: Depth, order: Order, out: &mut 
         fault: None,
         count,
         visits,
+    }
+}
+
+/// The messages of a datagram in the big order: a function of its own keeps the registers of the
+/// other loop free.
+#[inline(never)]
+fn tape_big(bytes: &[u8], depth: Depth, out: &mut [Event]) -> Taped
+    requires { length bytes.now ≤ 1048576 }
+    ensures taped { IsTaped (shape_of Order.Big depth) (trail_of (shape_of Order.Big depth)
+        (whole bytes.now)) 0 out.old out.new result }
+    ensures bound { result.visits ≤ (depth + 1) * length bytes.now }
+{
+    tape_ordered(bytes, depth, Order::Big, out)
+}
+
+/// The messages of a datagram, by a loop for each order.
+pub(crate) fn tape_messages(bytes: &[u8], depth: Depth, order: Order, out: &mut [Event]) -> Taped
+    requires { length bytes.now ≤ 1048576 }
+    ensures taped { IsTaped (shape_of order depth) (trail_of (shape_of order depth)
+        (whole bytes.now)) 0 out.old out.new result }
+    ensures bound { result.visits ≤ (depth + 1) * length bytes.now }
+{
+    match order {
+        Order::Little => tape_ordered(bytes, depth, Order::Little, out),
+        Order::Big => tape_big(bytes, depth, out),
     }
 }

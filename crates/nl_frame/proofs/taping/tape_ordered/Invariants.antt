@@ -1,7 +1,7 @@
 use Rattle.std.proofs.Common.{length}
 use Rattle.nl_attr.specs.Shape.{shape_of}
 use Rattle.nl_frame.proofs.Tapes.{IsTaping}
-use Rattle.nl_frame.proofs.taping.tape_messages.Given as goal
+use Rattle.nl_frame.proofs.taping.tape_ordered.Given as goal
 
 abbrev pub invariant-messages : goal.invariant-messages
 invariant-messages l = IsTaping (shape_of l.order l.depth) l.fn.bytes l.fn.out l.count l.visits l.place l.left l.out

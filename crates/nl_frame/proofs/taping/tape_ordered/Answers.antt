@@ -2,7 +2,7 @@ use Rattle.std.proofs.Common.{arith}
 use Rattle.nl_attr.specs.Shape.{shape_of}
 use Rattle.nl_frame.proofs.Loop.{empty, not_empty}
 use Rattle.nl_frame.proofs.Tapes.{begins, tells_none, tells_broken, tells_fault, goes_on, sum_small, sum_whole, here_whole}
-use Rattle.nl_frame.proofs.taping.tape_messages.Goals as goal
+use Rattle.nl_frame.proofs.taping.tape_ordered.Goals as goal
 
 pub messages-init : goal.messages-init
 messages-init c = begins (shape_of c.args.order c.args.depth) c.args.bytes.now c.args.out.now
