@@ -48,8 +48,12 @@ HasInner c (Some i) = c ≡ content_in i
 -- an attribute that holds a region: it opens, or breaks a rule of containers
 abbrev pub TurnsAt : Shape → ℕ → ℕ → Part → Inner → Turn → Type 0
 TurnsAt S level base p i turn.Ends = ⊥
-TurnsAt S level base p i (turn.Opens o) = (o ≡ record { number = p.number; flags = p.flags; place = base + p.place + 4; payload = p.payload; inner = i }) × (broken_container S level (content_in i) (length p.payload.now + 4) ≡ None)
-TurnsAt S level base p i (turn.Fails (Layout f)) = (f.place ≡ base + p.place) × (broken_container S level (content_in i) (length p.payload.now + 4) ≡ Some f.reason)
+TurnsAt S level base p i (turn.Opens o) =
+    (o ≡ record { number = p.number; flags = p.flags; place = base + p.place + 4; payload = p.payload; inner = i })
+    × (broken_container S level (content_in i) (length p.payload.now + 4) ≡ None)
+TurnsAt S level base p i (turn.Fails (Layout f)) =
+    (f.place ≡ base + p.place)
+    × (broken_container S level (content_in i) (length p.payload.now + 4) ≡ Some f.reason)
 TurnsAt S level base p i (turn.Fails Memory) = ⊥
 
 module _ (S : Shape) where
@@ -208,17 +212,23 @@ pub record Advances (s t : Spot) : Type 0 where
 -- what opens lies in the region, and less is left
 abbrev pub Moves : Shape → Spot → ListRegion → Turn → Type 0
 Moves S s r turn.Ends = Unit {0}
-Moves S s r (turn.Opens p) = Advances s (list_spot r) × IsIn S (room_in (list_spot r)) (opening_spot S r p) × (length r.walk.left + suc (length p.payload.now) < length s.region.left)
+Moves S s r (turn.Opens p) =
+    Advances s (list_spot r) × IsIn S (room_in (list_spot r)) (opening_spot S r p)
+    × (length r.walk.left + suc (length p.payload.now) < length s.region.left)
 Moves S s r (turn.Fails e) = Unit {0}
 
 abbrev pub HopMoves : Shape → Spot → HopsRegion → HopTurn → Type 0
 HopMoves S s r hop_turn.Ends = Unit {0}
-HopMoves S s r (hop_turn.Opens h a) = Advances s (hops_spot r) × IsIn S (room_in (hops_spot r)) (list_spot a) × (length r.walk.left + suc (length a.walk.left) < length s.region.left)
+HopMoves S s r (hop_turn.Opens h a) =
+    Advances s (hops_spot r) × IsIn S (room_in (hops_spot r)) (list_spot a)
+    × (length r.walk.left + suc (length a.walk.left) < length s.region.left)
 HopMoves S s r (hop_turn.Fails e) = Unit {0}
 
 abbrev pub HopsMove : Shape → Spot → HopsRegion → HopsTurn → Type 0
 HopsMove S s r hops_turn.Ends = Unit {0}
-HopsMove S s r (hops_turn.Opens h a p) = Advances s (hops_spot r) × IsIn S (room_in (hops_spot r)) (list_spot a) × IsIn S (room_in (list_spot a)) (opening_spot S a p)
+HopsMove S s r (hops_turn.Opens h a p) =
+    Advances s (hops_spot r) × IsIn S (room_in (hops_spot r)) (list_spot a)
+    × IsIn S (room_in (list_spot a)) (opening_spot S a p)
 HopsMove S s r (hops_turn.Fails e) = Unit {0}
 
 -- what comes next stands where this region does, or lies in it, and no more than so much is left

@@ -55,8 +55,11 @@ module _ (S : Shape) where
     items_at (suc n) ctx l place [] = (Ok no_items, 0)
     items_at (suc n) ctx l place (b ∷ bs) =
         and_then (checked place (span_of S.order 2 (b ∷ bs)) (broken_in S ctx l attr_head (b ∷ bs))) (λ _.
-        and_then (value_by (content_at S.order ctx (b ∷ bs)) (payload_of S.order 4 2 (b ∷ bs)) (λ c. items_at n c (l + 1) (place + 4) (payload_of S.order 4 2 (b ∷ bs))) (λ _. hops_at n (l + 1) (place + 4) (payload_of S.order 4 2 (b ∷ bs)))) (λ v.
-        map_value (item (kind_of S.order (b ∷ bs) % 16384) (flags_of (kind_of S.order (b ∷ bs))) v) (items_at n ctx l (place + span_of S.order 2 (b ∷ bs)) (drop (span_of S.order 2 (b ∷ bs)) (b ∷ bs)))))
+        and_then (value_by (content_at S.order ctx (b ∷ bs)) (payload_of S.order 4 2 (b ∷ bs))
+        (λ c. items_at n c (l + 1) (place + 4) (payload_of S.order 4 2 (b ∷ bs)))
+        (λ _. hops_at n (l + 1) (place + 4) (payload_of S.order 4 2 (b ∷ bs)))) (λ v.
+        map_value (item (kind_of S.order (b ∷ bs) % 16384) (flags_of (kind_of S.order (b ∷ bs))) v)
+        (items_at n ctx l (place + span_of S.order 2 (b ∷ bs)) (drop (span_of S.order 2 (b ∷ bs)) (b ∷ bs)))))
 
     pub hops_at : ℕ → ℕ → ℕ → List ℕ → Outcome HopItems
     hops_at zero l place left = (Ok no_hops, 0)
@@ -64,7 +67,8 @@ module _ (S : Shape) where
     hops_at (suc n) l place (b ∷ bs) =
         and_then (checked place (span_of S.order 2 (b ∷ bs)) (broken_in S Route l hop_head (b ∷ bs))) (λ _.
         and_then (items_at n Route (l + 1) (place + 8) (payload_of S.order 8 2 (b ∷ bs))) (λ is.
-        map_value (hop (slice_index (b ∷ bs) 2) (slice_index (b ∷ bs) 3) (index_of S.order (b ∷ bs)) is) (hops_at n l (place + span_of S.order 2 (b ∷ bs)) (drop (span_of S.order 2 (b ∷ bs)) (b ∷ bs)))))
+        map_value (hop (slice_index (b ∷ bs) 2) (slice_index (b ∷ bs) 3) (index_of S.order (b ∷ bs)) is)
+        (hops_at n l (place + span_of S.order 2 (b ∷ bs)) (drop (span_of S.order 2 (b ∷ bs)) (b ∷ bs)))))
 
   -- the whole region
   abbrev pub items_of_region : Ctx → ℕ → ℕ → List ℕ → Outcome Items

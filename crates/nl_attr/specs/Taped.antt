@@ -65,8 +65,12 @@ pub record Adds (S : Shape) (hs : List Head) (before after : Taped) (old new : L
 -- where the head leads, and that it is added where its length is sound
 abbrev pub Steps : Shape → Head → Taped → Taped → List Event → List Event → Turn → Type 0
 Steps S h before after old new (turn.Fails r) = (broken S h ≡ Some r) × Adds S (stopped r h) before after old new
-Steps S h before after old new (turn.Goes rest) = (broken S h ≡ None) × (inner_of S h ≡ None) × (head_of rest ≡ follower S h) × Adds S (h ∷ []) before after old new
-Steps S h before after old new (turn.Opens rest inner) = (broken S h ≡ None) × (inner_of S h ≡ Some (head_of inner)) × (head_of rest ≡ follower S h) × Adds S (h ∷ []) before after old new
+Steps S h before after old new (turn.Goes rest) =
+    (broken S h ≡ None) × (inner_of S h ≡ None) × (head_of rest ≡ follower S h)
+    × Adds S (h ∷ []) before after old new
+Steps S h before after old new (turn.Opens rest inner) =
+    (broken S h ≡ None) × (inner_of S h ≡ Some (head_of inner)) × (head_of rest ≡ follower S h)
+    × Adds S (h ∷ []) before after old new
 
 -- ---- a whole scan
 

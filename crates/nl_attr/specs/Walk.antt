@@ -1,5 +1,6 @@
 -- What a walk over a region gives, one item at a time.
-use Rattle.std.specs.Prelude.{◌≡◌, ◌≢◌, ◌≤◌, ◌<◌, ◌+◌, ◌/◌, ◌%◌, ◌==◌, ◌||◌, ℕ, nat_lt, if◌then◌else◌, List, [], ◌∷◌, length, slice_index, take, drop, Option, Some, None, Result, Ok, Err}
+use Rattle.std.specs.Prelude.{◌≡◌, ◌≢◌, ◌≤◌, ◌<◌, ◌+◌, ◌/◌, ◌%◌, ◌==◌, ◌||◌, ℕ, nat_lt, if◌then◌else◌, List}
+use Rattle.std.specs.Prelude.{[], ◌∷◌, length, slice_index, take, drop, Option, Some, None, Result, Ok, Err}
 use Rattle.nl_attr.specs.declared.fault.Reason.{Reason}
 use Rattle.nl_attr.specs.declared.fault.Reason.TheVariants.{Cut, BadLength}
 use Rattle.nl_attr.specs.declared.fault.Fault.{Fault}
@@ -80,7 +81,9 @@ module _ {P : Type 0} (h : ℕ) (Is : P → Region → Type 0) where
   -- what stands at a place of these bytes: nothing at their end or behind it, else the item there, or the rule that its head breaks
   abbrev pub StandsAt : Order → List ℕ → ℕ → Option (Result P Fault) → Type 0
   StandsAt o bytes place None = length bytes ≤ place
-  StandsAt o bytes place (Some (Ok p)) = (place < length bytes) × (broken_length o h 2 (drop place bytes) ≡ None) × Is p (record { order = o; place = place; left = drop place bytes })
+  StandsAt o bytes place (Some (Ok p)) =
+      (place < length bytes) × (broken_length o h 2 (drop place bytes) ≡ None)
+      × Is p (record { order = o; place = place; left = drop place bytes })
   StandsAt o bytes place (Some (Err f)) = (place < length bytes) × (broken_length o h 2 (drop place bytes) ≡ Some f.reason) × (f.place ≡ place)
 
 abbrev pub GivesPart : Region → Option (Result Part Fault) → Region → Type 0

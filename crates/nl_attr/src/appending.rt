@@ -1,13 +1,16 @@
 //! Lists appended to bytes that have room for them.
 
-ghost use Rattle.std.specs.Prelude.{◌≡◌, ◌≤◌, ◌<◌, ◌+◌, ◌-◌, ◌++◌, ◌∷◌, length, take, drop, vec_len, vec_capacity, FitsSigned};
+ghost use Rattle.std.specs.Prelude.{◌≡◌, ◌≤◌, ◌<◌, ◌+◌, ◌-◌, ◌++◌, ◌∷◌, length};
+ghost use Rattle.std.specs.Prelude.{take, drop, vec_len, vec_capacity, FitsSigned};
 ghost use Rattle.std.specs.Int.{w32, cast_unsigned};
 ghost use Rattle.nl_attr.specs.declared.tree.Hop.{out-Hop};
 ghost use Rattle.nl_attr.specs.Numbers.{aligned, num};
 ghost use Rattle.nl_attr.specs.Layout.{kind_number};
 ghost use Rattle.nl_attr.specs.View.{attrs_view, hops_view, value_view};
-ghost use Rattle.nl_attr.specs.Written.{padded, attr_item, hop_item, written, written_val, written_hops, val_len, items_len, hops_len};
-ghost use Rattle.nl_attr.specs.Proper.{IsSized, IsSizedVal, IsSizedHops, IsRanged, IsRangedVal, IsRangedHops};
+ghost use Rattle.nl_attr.specs.Written.{padded, attr_item, hop_item, written, written_val};
+ghost use Rattle.nl_attr.specs.Written.{written_hops, val_len, items_len, hops_len};
+ghost use Rattle.nl_attr.specs.Proper.{IsSized, IsSizedVal, IsSizedHops};
+ghost use Rattle.nl_attr.specs.Proper.{IsRanged, IsRangedVal, IsRangedHops};
 
 use crate::order::Order;
 use crate::tree::{Attr, AttrFlags, Hop, Value};
@@ -36,7 +39,8 @@ pub(crate) fn kind_field(number: u16, flags: AttrFlags) -> u16
 fn put_attr_head(out: &mut Vec<u8>, order: Order, number: u16, flags: AttrFlags)
     requires number { number < 16384 }
     requires space { vec_len out.old + 4 ≤ vec_capacity out.old }
-    ensures items { out.new.items ≡ out.old.items ++ (0 ∷ 0 ∷ num (kind_number number flags) 2 order) }
+    ensures items { out.new.items
+        ≡ out.old.items ++ (0 ∷ 0 ∷ num (kind_number number flags) 2 order) }
     ensures len { vec_len out.new ≡ vec_len out.old + 4 }
     ensures room { vec_capacity out.old ≤ vec_capacity out.new }
 {
@@ -48,7 +52,8 @@ fn put_attr_head(out: &mut Vec<u8>, order: Order, number: u16, flags: AttrFlags)
 /// Appends the head of a next hop, its length still 0.
 fn put_hop_head(out: &mut Vec<u8>, order: Order, flags: u8, hops: u8, ifindex: &i32)
     requires { vec_len out.old + 8 ≤ vec_capacity out.old }
-    ensures items { out.new.items ≡ out.old.items ++ (0 ∷ 0 ∷ flags ∷ hops ∷ num (cast_unsigned w32 ifindex.now) 4 order) }
+    ensures items { out.new.items
+        ≡ out.old.items ++ (0 ∷ 0 ∷ flags ∷ hops ∷ num (cast_unsigned w32 ifindex.now) 4 order) }
     ensures len { vec_len out.new ≡ vec_len out.old + 8 }
     ensures room { vec_capacity out.old ≤ vec_capacity out.new }
     ensures ranged { FitsSigned w32 ifindex.now }
@@ -63,7 +68,8 @@ fn close_item(out: &mut Vec<u8>, order: Order, start: usize)
     requires begun { start + 2 ≤ vec_len out.old }
     requires short { vec_len out.old - start ≤ 65535 }
     requires space { start + aligned (vec_len out.old - start) ≤ vec_capacity out.old }
-    ensures items { out.new.items ≡ take start out.old.items ++ padded (num (vec_len out.old - start) 2 order ++ drop (start + 2) out.old.items) }
+    ensures items { out.new.items ≡ take start out.old.items
+        ++ padded (num (vec_len out.old - start) 2 order ++ drop (start + 2) out.old.items) }
     ensures room { vec_capacity out.old ≤ vec_capacity out.new }
 {
     let len = out.len() - start;
@@ -93,8 +99,10 @@ fn append_attr(attr: &Attr, order: Order, out: &mut Vec<u8>)
     requires number { attr.now.number < 16384 }
     requires short { 4 + val_len (value_view attr.now.value) ≤ 65535 }
     requires sized { IsSizedVal (value_view attr.now.value) }
-    requires space { vec_len out.old + aligned (4 + val_len (value_view attr.now.value)) ≤ vec_capacity out.old }
-    ensures items { out.new.items ≡ out.old.items ++ padded (attr_item order attr.now.number attr.now.flags (written_val order (value_view attr.now.value))) }
+    requires space { vec_len out.old + aligned (4 + val_len (value_view attr.now.value))
+        ≤ vec_capacity out.old }
+    ensures items { out.new.items ≡ out.old.items ++ padded (attr_item order
+        attr.now.number attr.now.flags (written_val order (value_view attr.now.value))) }
     ensures room { vec_capacity out.old ≤ vec_capacity out.new }
     ensures ranged { IsRangedVal (value_view attr.now.value) }
 {
@@ -127,10 +135,14 @@ pub fn append_list(attrs: &[Attr], order: Order, out: &mut Vec<u8>)
 fn append_hop(hop: &Hop, order: Order, out: &mut Vec<u8>)
     requires short { 8 + items_len (attrs_view (out-Hop hop.now).attrs.items) ≤ 65535 }
     requires sized { IsSized (attrs_view (out-Hop hop.now).attrs.items) }
-    requires space { vec_len out.old + aligned (8 + items_len (attrs_view (out-Hop hop.now).attrs.items)) ≤ vec_capacity out.old }
-    ensures items { out.new.items ≡ out.old.items ++ padded (hop_item order (out-Hop hop.now).flags (out-Hop hop.now).hops (out-Hop hop.now).ifindex (written order (attrs_view (out-Hop hop.now).attrs.items))) }
+    requires space { vec_len out.old + aligned
+        (8 + items_len (attrs_view (out-Hop hop.now).attrs.items)) ≤ vec_capacity out.old }
+    ensures items { out.new.items
+        ≡ out.old.items ++ padded (hop_item order (out-Hop hop.now).flags (out-Hop hop.now).hops
+        (out-Hop hop.now).ifindex (written order (attrs_view (out-Hop hop.now).attrs.items))) }
     ensures room { vec_capacity out.old ≤ vec_capacity out.new }
-    ensures ranged { FitsSigned w32 (out-Hop hop.now).ifindex × IsRanged (attrs_view (out-Hop hop.now).attrs.items) }
+    ensures ranged { FitsSigned w32 (out-Hop hop.now).ifindex
+        × IsRanged (attrs_view (out-Hop hop.now).attrs.items) }
 {
     let start = out.len();
     put_hop_head(out, order, hop.flags, hop.hops, &hop.ifindex);

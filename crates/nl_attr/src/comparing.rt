@@ -1,11 +1,13 @@
 //! Lists compared with the bytes that they would be written as.
 
-ghost use Rattle.std.specs.Prelude.{◌≡◌, ◌≤◌, ◌<◌, ◌+◌, ◌++◌, ◌∷◌, ℕ, List, length, take, drop, replicate, IfSome};
+ghost use Rattle.std.specs.Prelude.{◌≡◌, ◌≤◌, ◌<◌, ◌+◌, ◌++◌, ◌∷◌, ℕ, List};
+ghost use Rattle.std.specs.Prelude.{length, take, drop, replicate, IfSome};
 ghost use Rattle.std.specs.Int.{w32, cast_unsigned};
 ghost use Rattle.nl_attr.specs.declared.tree.Hop.{out-Hop};
 ghost use Rattle.nl_attr.specs.Numbers.{num};
 ghost use Rattle.nl_attr.specs.View.{attrs_view, hops_view, value_view};
-ghost use Rattle.nl_attr.specs.Written.{padded, attr_item, hop_item, written, written_val, written_hops, val_len, items_len};
+ghost use Rattle.nl_attr.specs.Written.{padded, attr_item, hop_item, written};
+ghost use Rattle.nl_attr.specs.Written.{written_val, written_hops, val_len, items_len};
 ghost use Rattle.nl_attr.specs.Proper.{IsSized, IsSizedVal, IsSizedHops};
 ghost use Rattle.nl_attr.specs.Compared.{Begins};
 
@@ -39,7 +41,9 @@ pub fn begins_with_zeros(count: usize, bytes: &[u8]) -> Option<usize>
 fn closes_item(len: usize, order: Order, bytes: &[u8]) -> Option<usize>
     requires short { len ≤ 65535 }
     requires inside { len ≤ length bytes.now }
-    ensures begins { (body : List ℕ) → length body + 2 ≡ len → take (length body) (drop 2 bytes.now) ≡ body → Begins (padded (num len 2 order ++ body)) bytes.now result }
+    ensures begins { (body : List ℕ)
+        → length body + 2 ≡ len → take (length body) (drop 2 bytes.now) ≡ body
+        → Begins (padded (num len 2 order ++ body)) bytes.now result }
     ensures within { IfSome result (λ n. n ≤ length bytes.now) }
 {
     begins_with_bytes(&order.u16_bytes(len as u16), bytes)?;
@@ -55,7 +59,8 @@ fn begins_with_hop_head(
     order: Order,
     bytes: &[u8],
 ) -> Option<usize>
-    ensures begins { Begins (flags ∷ hops ∷ num (cast_unsigned w32 ifindex.now) 4 order) bytes.now result }
+    ensures begins { Begins
+        (flags ∷ hops ∷ num (cast_unsigned w32 ifindex.now) 4 order) bytes.now result }
     ensures within { IfSome result (λ n. n ≤ length bytes.now) }
 {
     let front = begins_with_bytes(&[flags, hops], bytes)?;
@@ -83,7 +88,8 @@ fn begins_with_attr(attr: &Attr, order: Order, bytes: &[u8]) -> Option<usize>
     requires number { attr.now.number < 16384 }
     requires short { 4 + val_len (value_view attr.now.value) ≤ 65535 }
     requires sized { IsSizedVal (value_view attr.now.value) }
-    ensures begins { Begins (padded (attr_item order attr.now.number attr.now.flags (written_val order (value_view attr.now.value)))) bytes.now result }
+    ensures begins { Begins (padded (attr_item order attr.now.number attr.now.flags
+        (written_val order (value_view attr.now.value)))) bytes.now result }
     ensures within { IfSome result (λ n. n ≤ length bytes.now) }
 {
     if bytes.len() < 4 {
@@ -98,9 +104,9 @@ fn begins_with_attr(attr: &Attr, order: Order, bytes: &[u8]) -> Option<usize>
 /// How long a list is with which bytes begin, as it is written with numbers in this order, each
 /// attribute with its padding; none where they don't begin with it. It takes no memory.
 ///
-/// So callers decide whether bytes are canonical, that is, the very bytes that what was read of them
-/// is written as, with no second copy. The length field of a container is compared once its last
-/// byte has been, so nothing is measured again. What was read is sized.
+/// So callers decide whether bytes are canonical, that is, the very bytes that what was read of
+/// them is written as, with no second copy. The length field of a container is compared once its
+/// last byte has been, so nothing is measured again. What was read is sized.
 #[cycle(comparing)]
 pub fn begins_with(attrs: &[Attr], order: Order, bytes: &[u8]) -> Option<usize>
     requires sized { IsSized (attrs_view attrs.now) }
@@ -120,7 +126,9 @@ pub fn begins_with(attrs: &[Attr], order: Order, bytes: &[u8]) -> Option<usize>
 fn begins_with_hop(hop: &Hop, order: Order, bytes: &[u8]) -> Option<usize>
     requires short { 8 + items_len (attrs_view (out-Hop hop.now).attrs.items) ≤ 65535 }
     requires sized { IsSized (attrs_view (out-Hop hop.now).attrs.items) }
-    ensures begins { Begins (padded (hop_item order (out-Hop hop.now).flags (out-Hop hop.now).hops (out-Hop hop.now).ifindex (written order (attrs_view (out-Hop hop.now).attrs.items)))) bytes.now result }
+    ensures begins { Begins (padded (hop_item order (out-Hop hop.now).flags (out-Hop hop.now).hops
+        (out-Hop hop.now).ifindex (written order (attrs_view (out-Hop hop.now).attrs.items))))
+        bytes.now result }
     ensures within { IfSome result (λ n. n ≤ length bytes.now) }
 {
     if bytes.len() < 8 {

@@ -187,7 +187,8 @@ impl<T, E> Tally<T, E> {
     /// What was read, made into something else, with the same visits. A refusal stays as it is.
     pub fn map<U, F: FnOnce(T) -> U>(self, make: F) -> Tally<U, E>
         requires { ForOk self.result (F.pre make) }
-        ensures cases { MatchResult self.result (λ x. IsOkAnd result.result (F.post make x)) (λ e. result.result ≡ Err e) }
+        ensures cases { MatchResult self.result
+            (λ x. IsOkAnd result.result (F.post make x)) (λ e. result.result ≡ Err e) }
         ensures visits { result.visits ≡ self.visits }
     {
         let Tally { result, visits } = self;

@@ -1,6 +1,7 @@
 //! Laws over the definitions alone: each contract is a law, and each body is empty.
 
-ghost use Rattle.std.specs.Prelude.{◌≡◌, ◌≤◌, ◌<◌, ◌+◌, ◌-◌, ◌*◌, ◌^◌, ◌↔◌, ◌++◌, drop, ℕ, ℤ, List, length, FitsSigned};
+ghost use Rattle.std.specs.Prelude.{◌≡◌, ◌≤◌, ◌<◌, ◌+◌, ◌-◌, ◌*◌, ◌^◌, ◌↔◌};
+ghost use Rattle.std.specs.Prelude.{◌++◌, drop, ℕ, ℤ, List, length, FitsSigned};
 ghost use Rattle.std.specs.Prelude.{All, Contains, map};
 ghost use Rattle.std.specs.Int.{w32, cast_unsigned};
 ghost use Rattle.std.specs.List.Sorted.{IsStrictlyIncreasing};
@@ -20,25 +21,34 @@ ghost use Rattle.nl_attr.specs.Proper.{IsProper, IsRanged};
 
 /// Bytes are the form of the number that is read of them, and of no other number of so many bytes.
 pub fn one_number()
-    ensures below { (o : Order) (bytes : List ℕ) → AreBytes bytes → number_of o (length bytes) bytes < 256 ^ length bytes }
-    ensures is { (o : Order) (bytes : List ℕ) → AreBytes bytes → num (number_of o (length bytes) bytes) (length bytes) o ≡ bytes }
-    ensures front { (o : Order) (w : ℕ) (bytes : List ℕ) → AreBytes bytes → w ≤ length bytes → num (number_of o w bytes) w o ++ drop w bytes ≡ bytes }
-    ensures only { (o : Order) (w m n : ℕ) → m < 256 ^ w → n < 256 ^ w → num m w o ≡ num n w o → m ≡ n }
+    ensures below { (o : Order) (bytes : List ℕ)
+        → AreBytes bytes → number_of o (length bytes) bytes < 256 ^ length bytes }
+    ensures is { (o : Order) (bytes : List ℕ)
+        → AreBytes bytes → num (number_of o (length bytes) bytes) (length bytes) o ≡ bytes }
+    ensures front { (o : Order) (w : ℕ) (bytes : List ℕ) → AreBytes bytes
+        → w ≤ length bytes → num (number_of o w bytes) w o ++ drop w bytes ≡ bytes }
+    ensures only { (o : Order) (w m n : ℕ)
+        → m < 256 ^ w → n < 256 ^ w → num m w o ≡ num n w o → m ≡ n }
 {}
 
 /// Four bytes are the two's complement of exactly one number.
 pub fn one_signed_number()
-    ensures { (o : Order) (bytes : List ℕ) → AreBytes bytes → length bytes ≡ 4 → (z : ℤ) × FitsSigned w32 z × (num (cast_unsigned w32 z) 4 o ≡ bytes) × ((y : ℤ) → FitsSigned w32 y → num (cast_unsigned w32 y) 4 o ≡ bytes → y ≡ z) }
+    ensures { (o : Order) (bytes : List ℕ) → AreBytes bytes
+        → length bytes ≡ 4 → (z : ℤ) × FitsSigned w32 z × (num (cast_unsigned w32 z) 4 o ≡ bytes)
+        × ((y : ℤ) → FitsSigned w32 y → num (cast_unsigned w32 y) 4 o ≡ bytes → y ≡ z) }
 {}
 
 /// At most one list fits a region.
 pub fn one_list()
-    ensures { (s : Shape) (ctx : Ctx) (l : ℕ) (bytes : List ℕ) (is js : Items) → Fits s is bytes ctx l → Fits s js bytes ctx l → is ≡ js }
+    ensures { (s : Shape) (ctx : Ctx) (l : ℕ) (bytes : List ℕ) (is js : Items)
+        → Fits s is bytes ctx l → Fits s js bytes ctx l → is ≡ js }
 {}
 
 /// A list fits a region exactly where no head in it has a fault.
 pub fn fits_or_fault()
-    ensures { (s : Shape) (ctx : Ctx) (l place : ℕ) (bytes : List ℕ) → AreBytes bytes → ((is : Items) × Fits s is bytes ctx l) ↔ ((p : ℕ) (r : Reason) → FaultAt s (start_of ctx l place bytes) p r → ⊥) }
+    ensures { (s : Shape) (ctx : Ctx) (l place : ℕ) (bytes : List ℕ)
+        → AreBytes bytes → ((is : Items) × Fits s is bytes ctx l)
+        ↔ ((p : ℕ) (r : Reason) → FaultAt s (start_of ctx l place bytes) p r → ⊥) }
 {}
 
 /// At most one fault is the first of a region.
@@ -47,15 +57,18 @@ pub fn one_first_fault()
         → IsFirstFault s start p r → IsFirstFault s start q t → (p ≡ q) × (r ≡ t) }
 {}
 
-/// The visits of a region, up to any place, are no more than its length once for each level that is left.
+/// The visits of a region, up to any place, are no more than its length once for each level that is
+/// left.
 pub fn visits_are_bounded()
-    ensures { (s : Shape) (ctx : Ctx) (l place : ℕ) (bytes : List ℕ) (q total : ℕ) → l ≤ s.depth → Visits s (start_of ctx l place bytes) q total → total ≤ (s.depth - l + 1) * length bytes }
+    ensures { (s : Shape) (ctx : Ctx) (l place : ℕ) (bytes : List ℕ) (q total : ℕ) → l ≤ s.depth
+        → Visits s (start_of ctx l place bytes) q total → total ≤ (s.depth - l + 1) * length bytes }
 {}
 
 /// The visits up to a place, behind faults too, have a sum, and one alone.
 pub fn one_sum()
     ensures some { (s : Shape) (start : Head) (q : ℕ) → (total : ℕ) × Visits s start q total }
-    ensures only { (s : Shape) (start : Head) (q a b : ℕ) → Visits s start q a → Visits s start q b → a ≡ b }
+    ensures only { (s : Shape) (start : Head) (q a b : ℕ)
+        → Visits s start q a → Visits s start q b → a ≡ b }
 {}
 
 /// The heads to which a scan of a region comes are those that stand in it, each once, in the order
@@ -91,12 +104,16 @@ pub fn written_length()
 
 /// A list that can be written fits the bytes that it is written as.
 pub fn written_fits()
-    ensures { (s : Shape) (ctx : Ctx) (l : ℕ) (is : Items) → IsProper is ctx l s.depth → IsRanged is → Fits s is (written s.order is) ctx l }
+    ensures { (s : Shape) (ctx : Ctx) (l : ℕ) (is : Items)
+        → IsProper is ctx l s.depth → IsRanged is → Fits s is (written s.order is) ctx l }
 {}
 
 /// A list that fits a region can be written, and is as long as the region with its last padding.
 pub fn fitting_is_proper()
-    ensures proper { (s : Shape) (ctx : Ctx) (l : ℕ) (bytes : List ℕ) (is : Items) → Fits s is bytes ctx l → length bytes ≤ 1048576 → IsProper is ctx l s.depth }
-    ensures len { (s : Shape) (ctx : Ctx) (l : ℕ) (bytes : List ℕ) (is : Items) → Fits s is bytes ctx l → items_len is ≡ aligned (length bytes) }
-    ensures ranged { (s : Shape) (ctx : Ctx) (l : ℕ) (bytes : List ℕ) (is : Items) → Fits s is bytes ctx l → IsRanged is }
+    ensures proper { (s : Shape) (ctx : Ctx) (l : ℕ) (bytes : List ℕ) (is : Items)
+        → Fits s is bytes ctx l → length bytes ≤ 1048576 → IsProper is ctx l s.depth }
+    ensures len { (s : Shape) (ctx : Ctx) (l : ℕ) (bytes : List ℕ) (is : Items)
+        → Fits s is bytes ctx l → items_len is ≡ aligned (length bytes) }
+    ensures ranged { (s : Shape) (ctx : Ctx) (l : ℕ) (bytes : List ℕ) (is : Items)
+        → Fits s is bytes ctx l → IsRanged is }
 {}

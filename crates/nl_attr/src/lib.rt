@@ -1,5 +1,5 @@
-//! Attributes of netlink messages (netlink(7), rtnetlink(7)): walkers, trees, reading and writing, and
-//! the laws of regions.
+//! Attributes of netlink messages (netlink(7), rtnetlink(7)): walkers, trees, reading and writing,
+//! and the laws of regions.
 #![tactic(auto)]
 
 mod appending;

@@ -67,8 +67,8 @@ impl Extent {
     }
 }
 
-/// What the value of an attribute comes to, where containers may open `room` more levels; none where
-/// something is of the wrong kind.
+/// What the value of an attribute comes to, where containers may open `room` more levels; none
+/// where something is of the wrong kind.
 #[cycle(measuring)]
 fn measure_value(value: &Value, content: Content, room: u8) -> Option<Extent>
     ensures { result ≡ extent_of_val (value_view value.now) content room }
@@ -98,7 +98,8 @@ fn measure_value(value: &Value, content: Content, room: u8) -> Option<Extent>
 
 #[cycle(measuring)]
 fn measure_attr(attr: &Attr, ctx: Ctx, room: u8) -> Option<Extent>
-    ensures { (more : Items) → extent_of (attr_view attr.now more) ctx room ≡ join result (extent_of more ctx room) }
+    ensures { (more : Items)
+        → extent_of (attr_view attr.now more) ctx room ≡ join result (extent_of more ctx room) }
 {
     if attr.number > 16383 {
         return None;
@@ -124,7 +125,8 @@ fn measure_list(attrs: &[Attr], ctx: Ctx, room: u8) -> Option<Extent>
 
 #[cycle(measuring)]
 fn measure_hop(hop: &Hop, room: u8) -> Option<Extent>
-    ensures { (more : HopItems) → extent_of_hops (hop_view hop.now more) room ≡ join result (extent_of_hops more room) }
+    ensures { (more : HopItems)
+        → extent_of_hops (hop_view hop.now more) room ≡ join result (extent_of_hops more room) }
 {
     let inner = measure_list(&hop.attrs, Ctx::Route, room.saturating_sub(1))?;
     Some(item_extent(8, inner))
@@ -147,9 +149,9 @@ fn measure_hops(hops: &[Hop], room: u8) -> Option<Extent>
 /// What a list of this context comes to when it is written; none where an attribute has a number of
 /// 16,384 or more, or a value of another kind than its context, number and flags say.
 ///
-/// So a caller that writes the list behind bytes of its own decides every refusal in one walk, before
-/// any memory is taken: first none, then `deep`, then no `len`. Where there is a `len`, `append_list`
-/// may be called with room for so many bytes.
+/// So a caller that writes the list behind bytes of its own decides every refusal in one walk,
+/// before any memory is taken: first none, then `deep`, then no `len`. Where there is a `len`,
+/// `append_list` may be called with room for so many bytes.
 pub fn measure(attrs: &[Attr], ctx: Ctx, depth: Depth) -> Option<Extent>
     ensures mismatch { (result ≡ None) ↔ IsMismatched (attrs_view attrs.now) ctx }
     ensures deep { IfSome result (λ e. IsTrue e.deep ↔ IsDeep (attrs_view attrs.now) 0 depth) }

@@ -1,6 +1,7 @@
 //! The bytes of an attribute that holds neither a list nor next hops.
 
-ghost use Rattle.std.specs.Prelude.{◌≡◌, ◌≤◌, ◌<◌, ◌==◌, ◌↔◌, nat_eq, length, IsTrue, IsOk, IfOk, IfErr};
+ghost use Rattle.std.specs.Prelude.{◌≡◌, ◌≤◌, ◌<◌, ◌==◌, ◌↔◌, nat_eq};
+ghost use Rattle.std.specs.Prelude.{length, IsTrue, IsOk, IfOk, IfErr};
 ghost use Rattle.std.specs.Cmp.Lexicographic.{pointwise, nat_list_eq_equiv};
 ghost use Rattle.std.specs.Cmp.{partial_equiv_from_equiv};
 
@@ -11,8 +12,8 @@ use std::marker::Model;
 /// How many bytes lie in the value itself.
 pub(crate) const INLINE: usize = 23;
 
-/// Bytes, of which up to 23 lie in the value itself, so that numbers, addresses and short names take
-/// no memory.
+/// Bytes, of which up to 23 lie in the value itself, so that numbers, addresses and short names
+/// take no memory.
 #[derive(Drop)]
 pub struct Payload {
     store: Store,

@@ -75,8 +75,8 @@ pub struct Hop {
 }
 
 /// What an attribute holds, the first line that applies: `RTA_MULTIPATH` of a route next hops,
-/// `IFLA_LINKINFO` of a link and `RTA_METRICS` of a route a list, whatever their flags; a nested one
-/// a plain list; any other bytes.
+/// `IFLA_LINKINFO` of a link and `RTA_METRICS` of a route a list, whatever their flags; a nested
+/// one a plain list; any other bytes.
 pub fn holds(ctx: Ctx, number: u16, flags: AttrFlags) -> Content
     ensures { result ≡ holds_of ctx number flags }
 {

@@ -89,7 +89,8 @@ impl Attr {
         }
     }
 
-    /// The number in the first four bytes, the lowest first; none where it holds fewer, or no bytes.
+    /// The number in the first four bytes, the lowest first; none where it holds fewer, or no
+    /// bytes.
     ///
     /// For what was read in the other order, call `u32_value_ordered`.
     pub fn u32_value(&self) -> Option<u32>

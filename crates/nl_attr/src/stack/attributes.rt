@@ -2,7 +2,8 @@
 
 ghost use Rattle.std.specs.Prelude.{◌≡◌, ◌≤◌, ◌<◌, ◌+◌, length};
 ghost use Rattle.nl_attr.specs.Tree.{holds_of};
-ghost use Rattle.nl_attr.specs.Open.{content_in, HasInner, TurnsAt, list_rest, list_spot, Goes, Moves, IsWithinLimits};
+ghost use Rattle.nl_attr.specs.Open.{content_in, HasInner, TurnsAt, list_rest};
+ghost use Rattle.nl_attr.specs.Open.{list_spot, Goes, Moves, IsWithinLimits};
 
 use crate::fault::{Fault, ListError};
 use crate::limits::Shape;

@@ -36,7 +36,8 @@ pub(crate) fn read_region(
     requires none { visits.old ≡ 0 }
     requires size { length bytes.now ≤ 1048576 }
     requires place { base + length bytes.now ≤ 2097152 }
-    ensures told { Says (λ v. attrs_view v.items) result visits.new (items_of_region shape ctx level base bytes.now) }
+    ensures told { Says (λ v. attrs_view v.items) result visits.new
+        (items_of_region shape ctx level base bytes.now) }
     ensures bound { visits.new ≤ (shape.depth - level + 1) * length bytes.now }
 {
     let mut region = list_of(alloc, bytes, base, ctx, level, shape)?;

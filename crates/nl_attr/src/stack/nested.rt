@@ -5,7 +5,10 @@ ghost use Rattle.nl_attr.specs.Shape.{Shape as ShapeOf};
 ghost use Rattle.nl_attr.specs.View.{value_view, attrs_view};
 ghost use Rattle.nl_attr.specs.Told.{Says};
 ghost use Rattle.nl_attr.specs.Reading.{and_then, more_visits};
-ghost use Rattle.nl_attr.specs.Open.{list_rest, hops_rest, opening_rest, waiting_goes_on, hops_then, goes_on, next_rest, NextGoes, list_spot, hops_spot, opening_spot, frame_spot, Holds, frame_room, room_in, IsIn, IsWithinLimits, frame_work, NextMoves, LiesUnder, PutsOn};
+ghost use Rattle.nl_attr.specs.Open.{list_rest, hops_rest, opening_rest, waiting_goes_on};
+ghost use Rattle.nl_attr.specs.Open.{hops_then, goes_on, next_rest, NextGoes, list_spot, hops_spot};
+ghost use Rattle.nl_attr.specs.Open.{opening_spot, frame_spot, Holds, frame_room, room_in, IsIn};
+ghost use Rattle.nl_attr.specs.Open.{IsWithinLimits, frame_work, NextMoves, LiesUnder, PutsOn};
 ghost use Rattle.arrayvec.specs.ArrayVec.{array_vec_len};
 
 use crate::fault::ListError;
@@ -75,7 +78,11 @@ pub(super) enum Next<'a> {
 
 /// A region, which waits for what opens in it.
 pub(super) fn waits_for<'a>(region: ListRegion<'a>, opening: Opening<'a>) -> ListWaits<'a>
-    ensures { result ≡ record { region = region.entry; number = opening.entry.number; flags = opening.entry.flags } }
+    ensures { result ≡ record {
+      region = region.entry;
+      number = opening.entry.number;
+      flags = opening.entry.flags;
+    } }
 {
     ListWaits {
         region,
@@ -86,7 +93,8 @@ pub(super) fn waits_for<'a>(region: ListRegion<'a>, opening: Opening<'a>) -> Lis
 
 /// Collects the attribute that a region waits for.
 fn take_value<'a>(waits: ListWaits<'a>, value: Value) -> Result<ListRegion<'a>, AllocError>
-    ensures rest { IfOk result (λ r. (S : ShapeOf) → list_rest S r ≡ waiting_goes_on S waits.entry (value_view value)) }
+    ensures rest { IfOk result
+        (λ r. (S : ShapeOf) → list_rest S r ≡ waiting_goes_on S waits.entry (value_view value)) }
     ensures spot { IfOk result (λ r. list_spot r ≡ list_spot waits.entry.region) }
 {
     let ListWaits {
@@ -109,8 +117,10 @@ fn go_on_hops<'a>(
     requires limit { shape.depth ≤ 32 }
     requires inside { IsIn shape (room_in (list_spot waits.region)) (hops_spot hops) }
     requires room { visits.old + (hops_then shape waits (hops_rest shape hops)).1 ≤ 34603008 }
-    ensures goes { NextGoes shape visits.old (hops_then shape waits.entry (hops_rest shape hops.entry)) visits.new result }
-    ensures moves { NextMoves shape (list_spot waits.entry.region) (suc (length waits.entry.region.walk.left) + suc (length hops.entry.walk.left)) result }
+    ensures goes { NextGoes shape visits.old
+        (hops_then shape waits.entry (hops_rest shape hops.entry)) visits.new result }
+    ensures moves { NextMoves shape (list_spot waits.entry.region)
+        (suc (length waits.entry.region.walk.left) + suc (length hops.entry.walk.left)) result }
 {
     match next_hop(alloc, &mut hops, shape, visits) {
         HopTurn::Ends => Ok(Next::Goes(take_value(waits, Value::Hops(hops.list))?)),
@@ -133,8 +143,10 @@ fn open<'a>(
     requires limit { shape.depth ≤ 32 }
     requires inside { IsIn shape (room_in (list_spot region)) (opening_spot shape region opening) }
     requires room { visits.old + (opening_rest shape region opening).1 ≤ 34603008 }
-    ensures goes { NextGoes shape visits.old (opening_rest shape region.entry opening.entry) visits.new result }
-    ensures moves { NextMoves shape (list_spot region.entry) (suc (length region.entry.walk.left) + suc (length opening.entry.payload.now)) result }
+    ensures goes { NextGoes shape visits.old
+        (opening_rest shape region.entry opening.entry) visits.new result }
+    ensures moves { NextMoves shape (list_spot region.entry)
+        (suc (length region.entry.walk.left) + suc (length opening.entry.payload.now)) result }
 {
     let level = region.level + 1;
     let waits = waits_for(region, opening);
@@ -161,7 +173,8 @@ fn close<'a>(
     requires limit { shape.depth ≤ 32 }
     requires holds { Holds shape frame }
     requires room { visits.old + (goes_on shape frame (attrs_view attrs.items)).1 ≤ 34603008 }
-    ensures goes { NextGoes shape visits.old (goes_on shape frame.entry (attrs_view attrs.items)) visits.new result }
+    ensures goes { NextGoes shape visits.old
+        (goes_on shape frame.entry (attrs_view attrs.items)) visits.new result }
     ensures moves { NextMoves shape (frame_spot frame.entry) (frame_work frame.entry) result }
 {
     match frame {
@@ -201,9 +214,14 @@ pub(super) fn read_nested<'a>(
     requires limit { shape.depth ≤ 32 }
     requires lies { LiesUnder shape outermost region }
     requires inside { IsIn shape (room_in (list_spot region)) (opening_spot shape region opening) }
-    requires room { visits.old + (and_then (opening_rest shape region opening) (goes_on shape outermost)).1 ≤ 34603008 }
-    ensures told { Says (λ v. attrs_view v.items) result visits.new (more_visits visits.old (and_then (opening_rest shape region.entry opening.entry) (goes_on shape outermost.entry))) }
-    ensures bound { visits.new ≤ visits.old + (and_then (opening_rest shape region.entry opening.entry) (goes_on shape outermost.entry)).1 }
+    requires room { visits.old
+        + (and_then (opening_rest shape region opening) (goes_on shape outermost)).1 ≤ 34603008 }
+    ensures told { Says (λ v. attrs_view v.items) result visits.new
+        (more_visits visits.old (and_then (opening_rest shape region.entry opening.entry)
+        (goes_on shape outermost.entry))) }
+    ensures bound { visits.new
+        ≤ visits.old + (and_then (opening_rest shape region.entry opening.entry)
+        (goes_on shape outermost.entry)).1 }
 {
     let mut stack: ArrayVec<Frame<'a>, 33, Global> = ArrayVec::new_in(alloc);
     stack.push(outermost);

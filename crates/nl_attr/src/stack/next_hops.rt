@@ -1,7 +1,8 @@
 //! Reading a region of next hops.
 
 ghost use Rattle.std.specs.Prelude.{◌≤◌, ◌+◌};
-ghost use Rattle.nl_attr.specs.Open.{hops_rest, hops_spot, HopGoes, HopMoves, HopsGo, HopsMove, IsWithinLimits};
+ghost use Rattle.nl_attr.specs.Open.{hops_rest, hops_spot, HopGoes, HopMoves};
+ghost use Rattle.nl_attr.specs.Open.{HopsGo, HopsMove, IsWithinLimits};
 
 use crate::fault::ListError;
 use crate::limits::Shape;
@@ -31,7 +32,8 @@ pub(super) fn next_hop<'a>(
     requires limit { shape.depth ≤ 32 }
     requires limits { IsWithinLimits shape (hops_spot region.old) }
     requires room { visits.old + (hops_rest shape region.old).1 ≤ 34603008 }
-    ensures goes { HopGoes shape visits.old (hops_rest shape region.old) visits.new region.new result }
+    ensures goes { HopGoes shape visits.old
+        (hops_rest shape region.old) visits.new region.new result }
     ensures moves { HopMoves shape (hops_spot region.old) region.new result }
 {
     let part = match region.walk.step(visits) {
@@ -74,7 +76,8 @@ pub(super) fn read_hops<'a>(
     requires limit { shape.depth ≤ 32 }
     requires limits { IsWithinLimits shape (hops_spot region.old) }
     requires room { visits.old + (hops_rest shape region.old).1 ≤ 34603008 }
-    ensures goes { HopsGo shape visits.old (hops_rest shape region.old) visits.new region.new result }
+    ensures goes { HopsGo shape visits.old
+        (hops_rest shape region.old) visits.new region.new result }
     ensures moves { HopsMove shape (hops_spot region.old) region.new result }
 {
     'hops: loop {

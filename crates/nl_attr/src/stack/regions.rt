@@ -68,7 +68,8 @@ pub(crate) fn container_fault(
 /// A fault whose place counts from the base.
 pub(super) fn layout(base: u32, fault: Fault) -> ListError
     requires { base + fault.place < 4294967296 }
-    ensures { result ≡ ListError.Layout (record { place = base + fault.place; reason = fault.reason }) }
+    ensures { result
+        ≡ ListError.Layout (record { place = base + fault.place; reason = fault.reason }) }
 {
     ListError::Layout(Fault {
         place: base + fault.place,
@@ -90,7 +91,8 @@ pub(super) fn list_of<'a>(
     shape: Shape,
 ) -> Result<ListRegion<'a>, AllocError>
     requires { length bytes.now ≤ 1048576 }
-    ensures rest { IfOk result (λ r. list_rest shape r ≡ items_of_region shape ctx level base bytes.now) }
+    ensures rest { IfOk result
+        (λ r. list_rest shape r ≡ items_of_region shape ctx level base bytes.now) }
     ensures spot { IfOk result (λ r. list_spot r ≡ spot_of shape attr_head base level bytes.now) }
 {
     Ok(ListRegion {
@@ -112,7 +114,8 @@ pub(super) fn hops_of<'a>(
     shape: Shape,
 ) -> Result<HopsRegion<'a>, AllocError>
     requires { length bytes.now ≤ 1048576 }
-    ensures rest { IfOk result (λ r. hops_rest shape r ≡ hops_of_region shape level base bytes.now) }
+    ensures rest { IfOk result
+        (λ r. hops_rest shape r ≡ hops_of_region shape level base bytes.now) }
     ensures spot { IfOk result (λ r. hops_spot r ≡ spot_of shape hop_head base level bytes.now) }
 {
     Ok(HopsRegion {
@@ -131,7 +134,8 @@ pub(super) fn keep_attr(
     flags: AttrFlags,
     value: Value,
 ) -> Result<(), AllocError>
-    ensures { IfOk result (λ _. map attr_view list.new.items ≡ map attr_view list.old.items ++ item number flags (value_view value) ∷ []) }
+    ensures { IfOk result (λ _. map attr_view list.new.items
+        ≡ map attr_view list.old.items ++ item number flags (value_view value) ∷ []) }
 {
     let attr = Attr {
         number,
@@ -151,7 +155,8 @@ pub(super) fn keep_bytes(
     flags: AttrFlags,
     payload: &[u8],
 ) -> Result<(), AllocError>
-    ensures { IfOk result (λ _. map attr_view list.new.items ≡ map attr_view list.old.items ++ item number flags (held payload.now) ∷ []) }
+    ensures { IfOk result (λ _. map attr_view list.new.items
+        ≡ map attr_view list.old.items ++ item number flags (held payload.now) ∷ []) }
 {
     if payload.len() == 4 {
         keep_attr(list, number, flags, Value::Bytes(Payload::four(payload)))
@@ -170,7 +175,8 @@ pub(super) fn keep_hop(
     head: HopHead,
     attrs: Vec<Attr>,
 ) -> Result<(), AllocError>
-    ensures { IfOk result (λ _. map hop_view list.new.items ≡ map hop_view list.old.items ++ hop head.flags head.hops head.ifindex (attrs_view attrs.items) ∷ []) }
+    ensures { IfOk result (λ _. map hop_view list.new.items ≡ map hop_view list.old.items
+        ++ hop head.flags head.hops head.ifindex (attrs_view attrs.items) ∷ []) }
 {
     let hop = Hop {
         flags: head.flags,

@@ -77,11 +77,15 @@ impl<'a> Attrs<'a> {
         requires { length bytes.now ≤ 1048576 }
         ensures start { result ≡ record { order = Order.Little; place = 0; left = bytes.now } }
         // What comes is the pieces of the bytes in their order, then the fault of what is no piece.
-        ensures walk { (parts : List (Result Part Fault)) → Drains GivesPart result parts → IsWalk 4 IsPart Order.Little 0 bytes.now parts }
+        ensures walk { (parts : List (Result Part Fault))
+            → Drains GivesPart result parts → IsWalk 4 IsPart Order.Little 0 bytes.now parts }
         // They lie in the bytes, and so do their payloads.
-        ensures inside { (parts : List (Result Part Fault)) (walk : Region) → Yields GivesPart result parts walk → EachLies (λ p. LiesIn bytes.now 4 p.place p.span p.payload.now) parts }
+        ensures inside { (parts : List (Result Part Fault)) (walk : Region)
+            → Yields GivesPart result parts walk
+            → EachLies (λ p. LiesIn bytes.now 4 p.place p.span p.payload.now) parts }
         // Where the walk stands then is the sum of their spans.
-        ensures seen { (parts : List (Result Part Fault)) (walk : Region) → Yields GivesPart result parts walk → walk.place ≡ spans_of (λ p. p.span) parts }
+        ensures seen { (parts : List (Result Part Fault)) (walk : Region)
+            → Yields GivesPart result parts walk → walk.place ≡ spans_of (λ p. p.span) parts }
     {
         Attrs::of_ordered(bytes, Order::Little)
     }
@@ -91,11 +95,15 @@ impl<'a> Attrs<'a> {
         requires { length bytes.now ≤ 1048576 }
         ensures start { result ≡ record { order = order; place = 0; left = bytes.now } }
         // What comes is the pieces of the bytes in their order, then the fault of what is no piece.
-        ensures walk { (parts : List (Result Part Fault)) → Drains GivesPart result parts → IsWalk 4 IsPart order 0 bytes.now parts }
+        ensures walk { (parts : List (Result Part Fault))
+            → Drains GivesPart result parts → IsWalk 4 IsPart order 0 bytes.now parts }
         // They lie in the bytes, and so do their payloads.
-        ensures inside { (parts : List (Result Part Fault)) (walk : Region) → Yields GivesPart result parts walk → EachLies (λ p. LiesIn bytes.now 4 p.place p.span p.payload.now) parts }
+        ensures inside { (parts : List (Result Part Fault)) (walk : Region)
+            → Yields GivesPart result parts walk
+            → EachLies (λ p. LiesIn bytes.now 4 p.place p.span p.payload.now) parts }
         // Where the walk stands then is the sum of their spans.
-        ensures seen { (parts : List (Result Part Fault)) (walk : Region) → Yields GivesPart result parts walk → walk.place ≡ spans_of (λ p. p.span) parts }
+        ensures seen { (parts : List (Result Part Fault)) (walk : Region)
+            → Yields GivesPart result parts walk → walk.place ≡ spans_of (λ p. p.span) parts }
     {
         Attrs {
             order,

@@ -93,11 +93,15 @@ impl<'a> HopParts<'a> {
         requires { length bytes.now ≤ 1048576 }
         ensures start { result ≡ record { order = Order.Little; place = 0; left = bytes.now } }
         // What comes is the pieces of the bytes in their order, then the fault of what is no piece.
-        ensures walk { (parts : List (Result HopPart Fault)) → Drains GivesHop result parts → IsWalk 8 IsHopPart Order.Little 0 bytes.now parts }
+        ensures walk { (parts : List (Result HopPart Fault))
+            → Drains GivesHop result parts → IsWalk 8 IsHopPart Order.Little 0 bytes.now parts }
         // They lie in the bytes, and so do their payloads.
-        ensures inside { (parts : List (Result HopPart Fault)) (walk : Region) → Yields GivesHop result parts walk → EachLies (λ p. LiesIn bytes.now 8 p.place p.span p.rest.now) parts }
+        ensures inside { (parts : List (Result HopPart Fault)) (walk : Region)
+            → Yields GivesHop result parts walk
+            → EachLies (λ p. LiesIn bytes.now 8 p.place p.span p.rest.now) parts }
         // Where the walk stands then is the sum of their spans.
-        ensures seen { (parts : List (Result HopPart Fault)) (walk : Region) → Yields GivesHop result parts walk → walk.place ≡ spans_of (λ p. p.span) parts }
+        ensures seen { (parts : List (Result HopPart Fault)) (walk : Region)
+            → Yields GivesHop result parts walk → walk.place ≡ spans_of (λ p. p.span) parts }
     {
         HopParts::of_ordered(bytes, Order::Little)
     }
@@ -107,11 +111,15 @@ impl<'a> HopParts<'a> {
         requires { length bytes.now ≤ 1048576 }
         ensures start { result ≡ record { order = order; place = 0; left = bytes.now } }
         // What comes is the pieces of the bytes in their order, then the fault of what is no piece.
-        ensures walk { (parts : List (Result HopPart Fault)) → Drains GivesHop result parts → IsWalk 8 IsHopPart order 0 bytes.now parts }
+        ensures walk { (parts : List (Result HopPart Fault))
+            → Drains GivesHop result parts → IsWalk 8 IsHopPart order 0 bytes.now parts }
         // They lie in the bytes, and so do their payloads.
-        ensures inside { (parts : List (Result HopPart Fault)) (walk : Region) → Yields GivesHop result parts walk → EachLies (λ p. LiesIn bytes.now 8 p.place p.span p.rest.now) parts }
+        ensures inside { (parts : List (Result HopPart Fault)) (walk : Region)
+            → Yields GivesHop result parts walk
+            → EachLies (λ p. LiesIn bytes.now 8 p.place p.span p.rest.now) parts }
         // Where the walk stands then is the sum of their spans.
-        ensures seen { (parts : List (Result HopPart Fault)) (walk : Region) → Yields GivesHop result parts walk → walk.place ≡ spans_of (λ p. p.span) parts }
+        ensures seen { (parts : List (Result HopPart Fault)) (walk : Region)
+            → Yields GivesHop result parts walk → walk.place ≡ spans_of (λ p. p.span) parts }
     {
         HopParts {
             order,
