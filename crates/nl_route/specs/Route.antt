@@ -7,7 +7,9 @@ use Rattle.nl_route.specs.Fields.{Field, byte, number}
 
 -- the fields of rtmsg, 12 bytes
 abbrev pub route_fields : RouteHead → List Field
-route_fields h = byte h.family ∷ byte h.dst_len ∷ byte h.src_len ∷ byte h.tos ∷ byte h.table ∷ byte h.protocol ∷ byte h.scope ∷ byte h.sort ∷ number 4 h.flags ∷ []
+route_fields h =
+    byte h.family ∷ byte h.dst_len ∷ byte h.src_len ∷ byte h.tos ∷ byte h.table
+    ∷ byte h.protocol ∷ byte h.scope ∷ byte h.sort ∷ number 4 h.flags ∷ []
 
 -- what is read of the bytes of rtmsg
 abbrev pub route_of : Order → List ℕ → RouteHead

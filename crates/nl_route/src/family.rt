@@ -39,20 +39,30 @@ impl<H: Head> Family<H> {
         requires size { length bytes.now ≤ 1048576 }
         requires place { base + length bytes.now ≤ 2097152 }
         // What is read, or the fault, and the visits are those of a reading from left to right.
-        ensures told { Tells (λ b. (b.head, attrs_view b.attrs.items)) result (family_at (shape_of Order.Little depth) H.SIZE H.ctx H.of base bytes.now) }
+        ensures told { Tells (λ b. (b.head, attrs_view b.attrs.items)) result
+            (family_at (shape_of Order.Little depth) H.SIZE H.ctx H.of base bytes.now) }
         // What is read is the body.
-        ensures fits { IfOk result.result (λ b. IsFamilyBody (shape_of Order.Little depth) H.SIZE (H.fields b.head) H.ctx (attrs_view b.attrs.items) bytes.now) }
+        ensures fits { IfOk result.result (λ b. IsFamilyBody (shape_of Order.Little depth) H.SIZE
+            (H.fields b.head) H.ctx (attrs_view b.attrs.items) bytes.now) }
         // No other is.
-        ensures only { IfOk result.result (λ b. (h : H) (is : Items) → IsFamilyBody (shape_of Order.Little depth) H.SIZE (H.fields h) H.ctx is bytes.now → (h ≡ b.head) × (is ≡ attrs_view b.attrs.items)) }
+        ensures only { IfOk result.result (λ b. (h : H) (is : Items)
+            → IsFamilyBody (shape_of Order.Little depth) H.SIZE (H.fields h) H.ctx is bytes.now
+            → (h ≡ b.head) × (is ≡ attrs_view b.attrs.items)) }
         // A fault is the one at the least place.
-        ensures first { IfErr result.result (λ e. IfLayout e (λ f. IsFirstFault (shape_of Order.Little depth) (attrs_of H.SIZE H.ctx base bytes.now) f.place f.reason)) }
+        ensures first { IfErr result.result
+            (λ e. IfLayout e (λ f. IsFirstFault (shape_of Order.Little depth)
+            (attrs_of H.SIZE H.ctx base bytes.now) f.place f.reason)) }
         // Then no body is there.
-        ensures none { IfErr result.result (λ e. IfLayout e (λ _. (h : H) (is : Items) → IsFamilyBody (shape_of Order.Little depth) H.SIZE (H.fields h) H.ctx is bytes.now → ⊥)) }
+        ensures none { IfErr result.result
+            (λ e. IfLayout e (λ _. (h : H) (is : Items) → IsFamilyBody (shape_of Order.Little depth)
+            H.SIZE (H.fields h) H.ctx is bytes.now → ⊥)) }
         // The visits are those of all heads, or of those up to the fault.
-        ensures visits { VisitsUpTo (shape_of Order.Little depth) (attrs_of H.SIZE H.ctx base bytes.now) (base + length bytes.now) result.result result.visits }
+        ensures visits { VisitsUpTo (shape_of Order.Little depth) (attrs_of H.SIZE
+            H.ctx base bytes.now) (base + length bytes.now) result.result result.visits }
         ensures bound { result.visits ≤ (depth + 1) * length bytes.now }
         // What is read keeps no more bytes than there are behind the head.
-        ensures kept { IfOk result.result (λ b. H.SIZE + kept (attrs_view b.attrs.items) ≤ length bytes.now) }
+        ensures kept { IfOk result.result
+            (λ b. H.SIZE + kept (attrs_view b.attrs.items) ≤ length bytes.now) }
     {
         Self::read_body_ordered(alloc, bytes, base, depth, Order::Little)
     }
@@ -69,20 +79,28 @@ impl<H: Head> Family<H> {
         requires size { length bytes.now ≤ 1048576 }
         requires place { base + length bytes.now ≤ 2097152 }
         // What is read, or the fault, and the visits are those of a reading from left to right.
-        ensures told { Tells (λ b. (b.head, attrs_view b.attrs.items)) result (family_at (shape_of order depth) H.SIZE H.ctx H.of base bytes.now) }
+        ensures told { Tells (λ b. (b.head, attrs_view b.attrs.items)) result
+            (family_at (shape_of order depth) H.SIZE H.ctx H.of base bytes.now) }
         // What is read is the body.
-        ensures fits { IfOk result.result (λ b. IsFamilyBody (shape_of order depth) H.SIZE (H.fields b.head) H.ctx (attrs_view b.attrs.items) bytes.now) }
+        ensures fits { IfOk result.result (λ b. IsFamilyBody (shape_of order depth) H.SIZE
+            (H.fields b.head) H.ctx (attrs_view b.attrs.items) bytes.now) }
         // No other is.
-        ensures only { IfOk result.result (λ b. (h : H) (is : Items) → IsFamilyBody (shape_of order depth) H.SIZE (H.fields h) H.ctx is bytes.now → (h ≡ b.head) × (is ≡ attrs_view b.attrs.items)) }
+        ensures only { IfOk result.result (λ b. (h : H) (is : Items)
+            → IsFamilyBody (shape_of order depth) H.SIZE (H.fields h) H.ctx is bytes.now
+            → (h ≡ b.head) × (is ≡ attrs_view b.attrs.items)) }
         // A fault is the one at the least place.
-        ensures first { IfErr result.result (λ e. IfLayout e (λ f. IsFirstFault (shape_of order depth) (attrs_of H.SIZE H.ctx base bytes.now) f.place f.reason)) }
+        ensures first { IfErr result.result (λ e. IfLayout e (λ f. IsFirstFault
+            (shape_of order depth) (attrs_of H.SIZE H.ctx base bytes.now) f.place f.reason)) }
         // Then no body is there.
-        ensures none { IfErr result.result (λ e. IfLayout e (λ _. (h : H) (is : Items) → IsFamilyBody (shape_of order depth) H.SIZE (H.fields h) H.ctx is bytes.now → ⊥)) }
+        ensures none { IfErr result.result (λ e. IfLayout e (λ _. (h : H) (is : Items)
+            → IsFamilyBody (shape_of order depth) H.SIZE (H.fields h) H.ctx is bytes.now → ⊥)) }
         // The visits are those of all heads, or of those up to the fault.
-        ensures visits { VisitsUpTo (shape_of order depth) (attrs_of H.SIZE H.ctx base bytes.now) (base + length bytes.now) result.result result.visits }
+        ensures visits { VisitsUpTo (shape_of order depth) (attrs_of H.SIZE H.ctx base bytes.now)
+            (base + length bytes.now) result.result result.visits }
         ensures bound { result.visits ≤ (depth + 1) * length bytes.now }
         // What is read keeps no more bytes than there are behind the head.
-        ensures kept { IfOk result.result (λ b. H.SIZE + kept (attrs_view b.attrs.items) ≤ length bytes.now) }
+        ensures kept { IfOk result.result
+            (λ b. H.SIZE + kept (attrs_view b.attrs.items) ≤ length bytes.now) }
     {
         let head = H::read_front(bytes, order);
         read_list_ordered(

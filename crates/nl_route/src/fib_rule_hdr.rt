@@ -32,7 +32,8 @@ const FIREWALL_MASK: u16 = 16;
 /// `FRA_OIFNAME`.
 const OUTPUT_INTERFACE: u16 = 17;
 
-/// The head of a routing rule, `fib_rule_hdr`: 12 bytes, of which the sixth and seventh are not kept.
+/// The head of a routing rule, `fib_rule_hdr`: 12 bytes, of which the sixth and seventh are not
+/// kept.
 #[derive(Clone, Copy, Debug, PartialEq, Eq)]
 pub struct RuleHead {
     /// `family`: 2 for IPv4, 10 for IPv6.
@@ -64,7 +65,8 @@ impl RuleHead {
         // It has the fields of the bytes.
         ensures fields { AreFields Order.Little (rule_fields result) bytes.now }
         // No other head has.
-        ensures only { (h : RuleHead) → AreFields Order.Little (rule_fields h) bytes.now → h ≡ result }
+        ensures only { (h : RuleHead)
+            → AreFields Order.Little (rule_fields h) bytes.now → h ≡ result }
     {
         RuleHead::read_ordered(bytes, Order::Little)
     }
@@ -277,15 +279,17 @@ impl Rule {
     ///
     /// For a body that was read in the other order, call `table_id_ordered`.
     pub fn table_id(&self) -> u32
-        ensures { result ≡ unwrap_or (number_view Order.Little 4 15 (attrs_view self.now.attrs.items)) self.now.head.table }
+        ensures { result ≡ unwrap_or
+            (number_view Order.Little 4 15 (attrs_view self.now.attrs.items)) self.now.head.table }
     {
         self.table_id_ordered(Order::Little)
     }
 
-    /// The routing table: `FRA_TABLE`, its bytes in this order, or the head's where there is no such
-    /// number.
+    /// The routing table: `FRA_TABLE`, its bytes in this order, or the head's where there is no
+    /// such number.
     pub fn table_id_ordered(&self, order: Order) -> u32
-        ensures { result ≡ unwrap_or (number_view order 4 15 (attrs_view self.now.attrs.items)) self.now.head.table }
+        ensures { result ≡ unwrap_or
+            (number_view order 4 15 (attrs_view self.now.attrs.items)) self.now.head.table }
     {
         u32_view(&self.attrs, TABLE, order).unwrap_or(u32::from(self.head.table))
     }

@@ -2,7 +2,8 @@
 
 ghost use Rattle.std.specs.Prelude.{◌≡◌, Some, IsTrue};
 ghost use Rattle.nl_route.specs.Types.{route_type, says};
-ghost use Rattle.nl_route.specs.Families.{context_of, has_verb, head_size, name_of, place_of, row, type_of};
+ghost use Rattle.nl_route.specs.Families.{context_of, has_verb, head_size};
+ghost use Rattle.nl_route.specs.Families.{name_of, place_of, row, type_of};
 ghost use Rattle.nl_route.specs.Parts.{group_at, verb_at};
 
 use crate::fib_rule_hdr::RuleHead;

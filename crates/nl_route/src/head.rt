@@ -1,6 +1,7 @@
 //! What the heads of all families have in common.
 
-ghost use Rattle.std.specs.Prelude.{◌≡◌, ◌≤◌, ◌+◌, ◌++◌, ℕ, List, length, take, IfSome, vec_len, vec_capacity};
+ghost use Rattle.std.specs.Prelude.{◌≡◌, ◌≤◌, ◌+◌, ◌++◌, ℕ, List, length};
+ghost use Rattle.std.specs.Prelude.{take, IfSome, vec_len, vec_capacity};
 ghost use Rattle.nl_attr.specs.declared.order.Order.{Order};
 ghost use Rattle.nl_attr.specs.declared.tree.Ctx.{Ctx};
 ghost use Rattle.nl_attr.specs.Compared.{Begins};

@@ -52,7 +52,8 @@ impl AddrHead {
         // It has the fields of the bytes.
         ensures fields { AreFields Order.Little (addr_fields result) bytes.now }
         // No other head has.
-        ensures only { (h : AddrHead) → AreFields Order.Little (addr_fields h) bytes.now → h ≡ result }
+        ensures only { (h : AddrHead)
+            → AreFields Order.Little (addr_fields h) bytes.now → h ≡ result }
     {
         AddrHead::read_ordered(bytes, Order::Little)
     }
@@ -194,14 +195,17 @@ impl Addr {
     ///
     /// For a body that was read in the other order, call `flags_full_ordered`.
     pub fn flags_full(&self) -> u32
-        ensures { result ≡ unwrap_or (number_view Order.Little 4 8 (attrs_view self.now.attrs.items)) self.now.head.flags }
+        ensures { result ≡ unwrap_or
+            (number_view Order.Little 4 8 (attrs_view self.now.attrs.items)) self.now.head.flags }
     {
         self.flags_full_ordered(Order::Little)
     }
 
-    /// All flags: `IFA_FLAGS`, its bytes in this order, or the head's where there is no such number.
+    /// All flags: `IFA_FLAGS`, its bytes in this order, or the head's where there is no such
+    /// number.
     pub fn flags_full_ordered(&self, order: Order) -> u32
-        ensures { result ≡ unwrap_or (number_view order 4 8 (attrs_view self.now.attrs.items)) self.now.head.flags }
+        ensures { result ≡ unwrap_or
+            (number_view order 4 8 (attrs_view self.now.attrs.items)) self.now.head.flags }
     {
         u32_view(&self.attrs, FLAGS, order).unwrap_or(u32::from(self.head.flags))
     }

@@ -54,7 +54,8 @@ impl LinkHead {
         // It has the fields of the bytes.
         ensures fields { AreFields Order.Little (link_fields result) bytes.now }
         // No other head has.
-        ensures only { (h : LinkHead) → AreFields Order.Little (link_fields h) bytes.now → h ≡ result }
+        ensures only { (h : LinkHead)
+            → AreFields Order.Little (link_fields h) bytes.now → h ≡ result }
     {
         LinkHead::read_ordered(bytes, Order::Little)
     }
@@ -196,7 +197,8 @@ impl Link {
         self.master_ordered(Order::Little)
     }
 
-    /// The index of the interface that this one is a port of, `IFLA_MASTER`, its bytes in this order.
+    /// The index of the interface that this one is a port of, `IFLA_MASTER`, its bytes in this
+    /// order.
     pub fn master_ordered(&self, order: Order) -> Option<u32>
         ensures { result ≡ number_view order 4 10 (attrs_view self.now.attrs.items) }
     {
@@ -212,7 +214,8 @@ impl Link {
 
     /// The kind of a virtual interface, as `vlan`: `IFLA_INFO_KIND` in the list of `IFLA_LINKINFO`.
     pub fn kind(&self) -> Option<&[u8]>
-        ensures { option_copied result ≡ text_view 1 (items_view 18 (attrs_view self.now.attrs.items)) }
+        ensures { option_copied result
+            ≡ text_view 1 (items_view 18 (attrs_view self.now.attrs.items)) }
     {
         text_of(list_of(&self.attrs, LINK_INFO), INFO_KIND)
     }

@@ -52,7 +52,8 @@ impl NeighHead {
         // It has the fields of the bytes.
         ensures fields { AreFields Order.Little (neigh_fields result) bytes.now }
         // No other head has.
-        ensures only { (h : NeighHead) → AreFields Order.Little (neigh_fields h) bytes.now → h ≡ result }
+        ensures only { (h : NeighHead)
+            → AreFields Order.Little (neigh_fields h) bytes.now → h ≡ result }
     {
         NeighHead::read_ordered(bytes, Order::Little)
     }

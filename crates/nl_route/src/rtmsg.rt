@@ -70,7 +70,8 @@ impl RouteHead {
         // It has the fields of the bytes.
         ensures fields { AreFields Order.Little (route_fields result) bytes.now }
         // No other head has.
-        ensures only { (h : RouteHead) → AreFields Order.Little (route_fields h) bytes.now → h ≡ result }
+        ensures only { (h : RouteHead)
+            → AreFields Order.Little (route_fields h) bytes.now → h ≡ result }
     {
         RouteHead::read_ordered(bytes, Order::Little)
     }
@@ -273,15 +274,17 @@ impl Route {
     ///
     /// For a body that was read in the other order, call `table_id_ordered`.
     pub fn table_id(&self) -> u32
-        ensures { result ≡ unwrap_or (number_view Order.Little 4 15 (attrs_view self.now.attrs.items)) self.now.head.table }
+        ensures { result ≡ unwrap_or
+            (number_view Order.Little 4 15 (attrs_view self.now.attrs.items)) self.now.head.table }
     {
         self.table_id_ordered(Order::Little)
     }
 
-    /// The routing table: `RTA_TABLE`, its bytes in this order, or the head's where there is no such
-    /// number.
+    /// The routing table: `RTA_TABLE`, its bytes in this order, or the head's where there is no
+    /// such number.
     pub fn table_id_ordered(&self, order: Order) -> u32
-        ensures { result ≡ unwrap_or (number_view order 4 15 (attrs_view self.now.attrs.items)) self.now.head.table }
+        ensures { result ≡ unwrap_or
+            (number_view order 4 15 (attrs_view self.now.attrs.items)) self.now.head.table }
     {
         u32_view(&self.attrs, TABLE, order).unwrap_or(u32::from(self.head.table))
     }

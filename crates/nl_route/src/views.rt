@@ -3,7 +3,8 @@
 ghost use Rattle.std.specs.Prelude.{◌≡◌};
 ghost use Rattle.std.specs.Option.{option_copied};
 ghost use Rattle.nl_attr.specs.View.{attrs_view, hops_view};
-ghost use Rattle.nl_route.specs.Views.{number_view, text_view, bytes_view, items_view, hop_items_view};
+ghost use Rattle.nl_route.specs.Views.{number_view, text_view, bytes_view};
+ghost use Rattle.nl_route.specs.Views.{items_view, hop_items_view};
 
 use nl_attr::{Attr, Hop, Order, Value, find};
 
