@@ -15,7 +15,9 @@ module _ (S : Shape) where
   -- the payload of a message of this form is this body
   abbrev pub BodyOf : BodyVal → Form → List ℕ → Type 0
   BodyOf (noop bs) f payload = (f ≡ form.Noop) × (payload ≡ bs)
-  BodyOf (error code h tail) f payload = (f ≡ form.Error) × (20 ≤ length payload) × AreFields S.order (signed code ∷ header_fields h) (take 20 payload) × (drop 20 payload ≡ tail)
+  BodyOf (error code h tail) f payload =
+      (f ≡ form.Error) × (20 ≤ length payload)
+      × AreFields S.order (signed code ∷ header_fields h) (take 20 payload) × (drop 20 payload ≡ tail)
   BodyOf (done None tail) f payload = (f ≡ form.Done) × (length payload < 4) × (payload ≡ tail)
   BodyOf (done (Some z) tail) f payload = (f ≡ form.Done) × (4 ≤ length payload) × AreFields S.order (signed z ∷ []) (take 4 payload) × (drop 4 payload ≡ tail)
   BodyOf (overrun bs) f payload = (f ≡ form.Overrun) × (payload ≡ bs)

@@ -34,7 +34,9 @@ unless place (Some r) o = (Err (record { place = place; reason = r }), 0)
 
 module _ (S : Shape) where
   abbrev pub family_body_at : Group → ℕ → List ℕ → Outcome BodyVal
-  family_body_at g place payload = map_value (family (head_of S.order g (take (head_size g) payload))) (items_of_region S (context_of g) 0 (place + head_size g) (drop (head_size g) payload))
+  family_body_at g place payload =
+      map_value (family (head_of S.order g (take (head_size g) payload)))
+      (items_of_region S (context_of g) 0 (place + head_size g) (drop (head_size g) payload))
 
   -- the body in the payload at a place, when it is long enough for its form
   abbrev pub body_at : Form → ℕ → List ℕ → Outcome BodyVal
@@ -55,7 +57,9 @@ module _ (S : Shape) where
   messages_at zero place left = (Ok [], 0)
   messages_at (suc n) place [] = (Ok [], 0)
   messages_at (suc n) place (b ∷ bs) =
-      unless place (broken_message S.order (b ∷ bs)) (and_then (message_at place (b ∷ bs)) (λ m. map_value (λ ms. m ∷ ms) (messages_at n (place + span_at S.order (b ∷ bs)) (drop (span_at S.order (b ∷ bs)) (b ∷ bs)))))
+      unless place (broken_message S.order (b ∷ bs))
+      (and_then (message_at place (b ∷ bs)) (λ m. map_value (λ ms. m ∷ ms)
+      (messages_at n (place + span_at S.order (b ∷ bs)) (drop (span_at S.order (b ∷ bs)) (b ∷ bs)))))
 
   -- all that is left
   abbrev pub messages_of : ℕ → List ℕ → Outcome (List MessageVal)

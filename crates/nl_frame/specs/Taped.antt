@@ -25,7 +25,8 @@ pub record IsTaped (S : Shape) (trail : Trail) (count : ℕ) (old new : List Eve
 -- a message's header is told of, and the heads in its body behind it
 abbrev pub IsFrameTaped : Shape → Frame → ℕ → ℕ → List Event → List Event → Taped → Type 0
 IsFrameTaped S f place count old new t =
-    IsTaped S (region_trail S (region_in f.form (place + 16) f.payload.now)) (count + 1) (slice_set old count (header_event place f.header.kind (length f.payload.now))) new t
+    IsTaped S (region_trail S (region_in f.form (place + 16) f.payload.now)) (count + 1)
+    (slice_set old count (header_event place f.header.kind (length f.payload.now))) new t
 
 -- it is refused for this fault, or accepted with this count where there is none
 abbrev pub Ends : ℕ → Option Fault → Result ℕ ScanError → Type 0

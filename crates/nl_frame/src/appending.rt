@@ -1,6 +1,7 @@
 //! Messages appended to bytes that have room for them.
 
-ghost use Rattle.std.specs.Prelude.{◌≡◌, ◌≤◌, ◌<◌, ◌+◌, ◌-◌, ◌++◌, ◌∷◌, [], length, map, take, drop, vec_len, vec_capacity, FitsSigned};
+ghost use Rattle.std.specs.Prelude.{◌≡◌, ◌≤◌, ◌<◌, ◌+◌, ◌-◌, ◌++◌, ◌∷◌, [], length};
+ghost use Rattle.std.specs.Prelude.{map, take, drop, vec_len, vec_capacity, FitsSigned};
 ghost use Rattle.std.specs.Int.{w32};
 ghost use Rattle.nl_attr.specs.Numbers.{aligned, num};
 ghost use Rattle.nl_attr.specs.Written.{padded};
@@ -8,7 +9,8 @@ ghost use Rattle.nl_route.specs.Fields.{signed};
 ghost use Rattle.nl_route.specs.Fields as fields;
 ghost use Rattle.nl_frame.specs.Message.{error, done};
 ghost use Rattle.nl_frame.specs.View.{body_view, message_view};
-ghost use Rattle.nl_frame.specs.Written.{body_len, body_written, message_item, written, written_len};
+ghost use Rattle.nl_frame.specs.Written.{body_len, body_written};
+ghost use Rattle.nl_frame.specs.Written.{message_item, written, written_len};
 ghost use Rattle.nl_frame.specs.Proper.{IsRangedBody, IsRanged};
 ghost use Rattle.nl_frame.specs.Measured.{IsSizedBody, IsSized};
 
@@ -31,7 +33,8 @@ fn append_signed(out: &mut Vec<u8>, order: Order, number: i32)
 /// Appends the body of an ERROR message.
 fn append_error(out: &mut Vec<u8>, order: Order, code: i32, answered: Header, tail: &[u8])
     requires { vec_len out.old + (20 + length tail.now) ≤ vec_capacity out.old }
-    ensures items { out.new.items ≡ out.old.items ++ body_written order (error code answered tail.now) }
+    ensures items { out.new.items
+        ≡ out.old.items ++ body_written order (error code answered tail.now) }
     ensures len { vec_len out.new ≡ vec_len out.old + (20 + length tail.now) }
     ensures room { vec_capacity out.old ≤ vec_capacity out.new }
     ensures ranged { IsRangedBody (error code answered tail.now) }
@@ -99,7 +102,8 @@ fn close_message(out: &mut Vec<u8>, order: Order, start: usize)
     requires begun { start + 4 ≤ vec_len out.old }
     requires short { vec_len out.old - start ≤ 1048592 }
     requires space { start + aligned (vec_len out.old - start) ≤ vec_capacity out.old }
-    ensures items { out.new.items ≡ take start out.old.items ++ padded (num (vec_len out.old - start) 4 order ++ drop (start + 4) out.old.items) }
+    ensures items { out.new.items ≡ take start out.old.items
+        ++ padded (num (vec_len out.old - start) 4 order ++ drop (start + 4) out.old.items) }
     ensures len { vec_len out.new ≡ start + aligned (vec_len out.old - start) }
     ensures room { vec_capacity out.old ≤ vec_capacity out.new }
 {
@@ -112,9 +116,12 @@ fn close_message(out: &mut Vec<u8>, order: Order, start: usize)
 fn append_message(message: &Message, order: Order, out: &mut Vec<u8>)
     requires sized { IsSizedBody (body_view message.now.body) }
     requires short { body_len (body_view message.now.body) ≤ 1048576 }
-    requires space { vec_len out.old + aligned (16 + body_len (body_view message.now.body)) ≤ vec_capacity out.old }
-    ensures items { out.new.items ≡ out.old.items ++ padded (message_item order (message_view message.now)) }
-    ensures len { vec_len out.new ≡ vec_len out.old + aligned (16 + body_len (body_view message.now.body)) }
+    requires space { vec_len out.old + aligned (16 + body_len (body_view message.now.body))
+        ≤ vec_capacity out.old }
+    ensures items { out.new.items
+        ≡ out.old.items ++ padded (message_item order (message_view message.now)) }
+    ensures len { vec_len out.new
+        ≡ vec_len out.old + aligned (16 + body_len (body_view message.now.body)) }
     ensures room { vec_capacity out.old ≤ vec_capacity out.new }
     ensures ranged { IsRanged (message_view message.now ∷ []) }
 {
@@ -136,7 +143,8 @@ fn append_message(message: &Message, order: Order, out: &mut Vec<u8>)
 pub(crate) fn append_messages(messages: &[Message], order: Order, out: &mut Vec<u8>)
     requires sized { IsSized (map message_view messages.now) }
     requires short { written_len (map message_view messages.now) ≤ 1048576 }
-    requires space { vec_len out.old + written_len (map message_view messages.now) ≤ vec_capacity out.old }
+    requires space { vec_len out.old + written_len (map message_view messages.now)
+        ≤ vec_capacity out.old }
     ensures items { out.new.items ≡ out.old.items ++ written order (map message_view messages.now) }
     // What messages of the program hold is in the range of its types.
     ensures ranged { IsRanged (map message_view messages.now) }

@@ -1,6 +1,7 @@
 //! What a message holds.
 
-ghost use Rattle.std.specs.Prelude.{◌≡◌, ◌≤◌, ◌+◌, ◌*◌, length, drop, slice_index, IfSome, MatchOption};
+ghost use Rattle.std.specs.Prelude.{◌≡◌, ◌≤◌, ◌+◌, ◌*◌, length, drop};
+ghost use Rattle.std.specs.Prelude.{slice_index, IfSome, MatchOption};
 ghost use Rattle.nl_attr.specs.Told.{Tells};
 ghost use Rattle.nl_route.specs.Families.{head_size};
 ghost use Rattle.nl_frame.specs.Form.{least_body};
@@ -61,7 +62,8 @@ pub struct Message {
 /// A value that takes no visits, or the end of memory.
 fn plain<T: Drop>(value: Option<T>) -> Tally<T, ListError>
     ensures none { result.visits ≡ 0 }
-    ensures value { MatchOption value (result.result ≡ Err ListError.Memory) (λ v. result.result ≡ Ok v) }
+    ensures value { MatchOption value (result.result ≡ Err ListError.Memory)
+        (λ v. result.result ≡ Ok v) }
 {
     match value {
         Some(value) => Tally {
@@ -94,7 +96,8 @@ fn read_done(alloc: Global, bytes: &[u8], order: Order) -> Option<Body>
 /// The body of an ERROR message.
 fn read_error(alloc: Global, bytes: &[u8], order: Order) -> Option<Body>
     requires { 20 ≤ length bytes.now }
-    ensures { IfSome result (λ b. body_view b ≡ error (signed_of order bytes.now) (header_of order (drop 4 bytes.now)) (drop 20 bytes.now)) }
+    ensures { IfSome result (λ b. body_view b ≡ error (signed_of order bytes.now)
+        (header_of order (drop 4 bytes.now)) (drop 20 bytes.now)) }
 {
     Some(Body::Error {
         code: order.read_i32(bytes),

@@ -12,19 +12,23 @@ use crate::limits::Limits;
 use crate::reading::{ReadError, read_datagram};
 use std::alloc::Global;
 
-/// Whether a datagram is canonical: written as its messages are, every padding whole and of zeros, and
-/// every byte of a head that is not kept zero.
+/// Whether a datagram is canonical: written as its messages are, every padding whole and of zeros,
+/// and every byte of a head that is not kept zero.
 ///
-/// It refuses as `read_datagram` does. What was read is compared with the bytes where they stand; no
-/// second datagram is made.
+/// It refuses as `read_datagram` does. What was read is compared with the bytes where they stand;
+/// no second datagram is made.
 pub fn is_canonical(alloc: Global, bytes: &[u8], limits: &Limits) -> Result<bool, ReadError>
     ensures large { result ≡ Err ReadError.TooLarge ↔ limits.now.datagram < length bytes.now }
     // The datagram has a layout, and is canonical exactly where it is what that is written as.
-    ensures canonical { IfOk result (λ canonical. (ms : List MessageVal) × Layout limits.now.shape ms bytes.now × (IsTrue canonical ↔ written limits.now.shape.order ms ≡ bytes.now)) }
+    ensures canonical { IfOk result
+        (λ canonical. (ms : List MessageVal) × Layout limits.now.shape ms bytes.now
+        × (IsTrue canonical ↔ written limits.now.shape.order ms ≡ bytes.now)) }
     // A fault is the one at the least place.
-    ensures first { IfErr result (λ e. IfFault e (λ f. IsFirstFault limits.now.shape (whole bytes.now) f.place f.reason)) }
+    ensures first { IfErr result
+        (λ e. IfFault e (λ f. IsFirstFault limits.now.shape (whole bytes.now) f.place f.reason)) }
     // Then no list of messages is the layout.
-    ensures none { IfErr result (λ e. IfFault e (λ _. (ms : List MessageVal) → Layout limits.now.shape ms bytes.now → ⊥)) }
+    ensures none { IfErr result
+        (λ e. IfFault e (λ _. (ms : List MessageVal) → Layout limits.now.shape ms bytes.now → ⊥)) }
 {
     let _limit = limits.datagram();
     let messages = match read_datagram(alloc, bytes, limits).into_result() {

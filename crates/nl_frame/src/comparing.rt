@@ -35,7 +35,8 @@ fn begins_with_error(
     order: Order,
     bytes: &[u8],
 ) -> Option<usize>
-    ensures begins { Begins (fields.written order (signed code ∷ header_fields answered) ++ tail.now) bytes.now result }
+    ensures begins { Begins (fields.written order (signed code ∷ header_fields answered)
+        ++ tail.now) bytes.now result }
     ensures within { IfSome result (λ n. n ≤ length bytes.now) }
 {
     let front = begins_with_bytes(&order.i32_bytes(code), bytes)?;
@@ -46,7 +47,8 @@ fn begins_with_error(
 /// The body of a DONE message.
 fn begins_with_done(status: Option<i32>, tail: &[u8], order: Order, bytes: &[u8]) -> Option<usize>
     ensures none { status ≡ None → Begins tail.now bytes.now result }
-    ensures some { IfSome status (λ z. Begins (fields.written order (signed z ∷ []) ++ tail.now) bytes.now result) }
+    ensures some { IfSome status
+        (λ z. Begins (fields.written order (signed z ∷ []) ++ tail.now) bytes.now result) }
     ensures within { IfSome result (λ n. n ≤ length bytes.now) }
 {
     match status {
@@ -79,7 +81,8 @@ fn begins_with_body(body: &Body, order: Order, bytes: &[u8]) -> Option<usize>
 fn begins_with_message(message: &Message, order: Order, bytes: &[u8]) -> Option<usize>
     requires short { 16 + body_len (body_view message.now.body) ≤ 1048576 }
     requires sized { IsSizedBody (body_view message.now.body) }
-    ensures begins { Begins (padded (message_item order (message_view message.now))) bytes.now result }
+    ensures begins { Begins
+        (padded (message_item order (message_view message.now))) bytes.now result }
     ensures within { IfSome result (λ n. n ≤ length bytes.now) }
 {
     if bytes.len() < 16 {

@@ -21,12 +21,14 @@ ghost use Rattle.nl_frame.specs.Proper.{IsProper, IsRanged};
 
 /// At most one list of messages is the layout of a datagram.
 pub fn one_layout()
-    ensures { (s : Shape) (d : List ℕ) (ms ns : List MessageVal) → Layout s ms d → Layout s ns d → ms ≡ ns }
+    ensures { (s : Shape) (d : List ℕ) (ms ns : List MessageVal)
+        → Layout s ms d → Layout s ns d → ms ≡ ns }
 {}
 
 /// Some list of messages is the layout of a datagram exactly where no head has a fault.
 pub fn layout_or_fault()
-    ensures { (s : Shape) (d : List ℕ) → AreBytes d → ((ms : List MessageVal) × Layout s ms d) ↔ ((p : ℕ) (r : Reason) → FaultAt s (whole d) p r → ⊥) }
+    ensures { (s : Shape) (d : List ℕ) → AreBytes d → ((ms : List MessageVal) × Layout s ms d)
+        ↔ ((p : ℕ) (r : Reason) → FaultAt s (whole d) p r → ⊥) }
 {}
 
 /// At most one fault is the first of a datagram.
@@ -44,7 +46,8 @@ pub fn written_back()
 
 /// The visits of a datagram, up to any place, are no more than its length once for each level.
 pub fn visits_are_bounded()
-    ensures { (s : Shape) (d : List ℕ) (q total : ℕ) → Visits s (whole d) q total → total ≤ (s.depth + 1) * length d }
+    ensures { (s : Shape) (d : List ℕ) (q total : ℕ)
+        → Visits s (whole d) q total → total ≤ (s.depth + 1) * length d }
 {}
 
 /// The visits up to a place, behind faults too, have a sum, and one alone.
@@ -85,12 +88,17 @@ pub fn written_length()
 
 /// Messages that can be written are the layout of the bytes that they are written as.
 pub fn written_has_layout()
-    ensures { (s : Shape) (ms : List MessageVal) → IsProper ms s.depth → IsRanged ms → Layout s ms (written s.order ms) }
+    ensures { (s : Shape) (ms : List MessageVal)
+        → IsProper ms s.depth → IsRanged ms → Layout s ms (written s.order ms) }
 {}
 
-/// Messages that are a datagram's layout can be written, and are as long as it with its last padding.
+/// Messages that are a datagram's layout can be written, and are as long as it with its last
+/// padding.
 pub fn layout_is_proper()
-    ensures proper { (s : Shape) (ms : List MessageVal) (d : List ℕ) → Layout s ms d → length d ≤ 1048576 → IsProper ms s.depth }
-    ensures len { (s : Shape) (ms : List MessageVal) (d : List ℕ) → Layout s ms d → written_len ms ≡ aligned (length d) }
-    ensures ranged { (s : Shape) (ms : List MessageVal) (d : List ℕ) → AreBytes d → Layout s ms d → IsRanged ms }
+    ensures proper { (s : Shape) (ms : List MessageVal) (d : List ℕ)
+        → Layout s ms d → length d ≤ 1048576 → IsProper ms s.depth }
+    ensures len { (s : Shape) (ms : List MessageVal) (d : List ℕ)
+        → Layout s ms d → written_len ms ≡ aligned (length d) }
+    ensures ranged { (s : Shape) (ms : List MessageVal) (d : List ℕ)
+        → AreBytes d → Layout s ms d → IsRanged ms }
 {}

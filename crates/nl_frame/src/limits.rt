@@ -37,15 +37,22 @@ impl Model for Limits {
 
     ghost invariant = { λ l. AreLimits (bounds_of l.order l.depth l.datagram l.total l.entries) };
 
-    ghost inverse = { λ b. record { order = b.shape.order; depth = b.shape.depth; datagram = b.datagram; total = b.total; entries = b.entries } };
+    ghost inverse = { λ b. record {
+      order = b.shape.order;
+      depth = b.shape.depth;
+      datagram = b.datagram;
+      total = b.total;
+      entries = b.entries;
+    } };
 }
 
 impl Limits {
     /// These limits, with little-endian numbers; or `LimitFault` where one is out of its range:
-    /// a depth of 0 to 32 levels, a datagram of a multiple of 4 from 16 to 1,048,576 bytes, a total of
-    /// 0 to 2^40 bytes, 0 to 65,536 entries.
+    /// a depth of 0 to 32 levels, a datagram of a multiple of 4 from 16 to 1,048,576 bytes, a total
+    /// of 0 to 2^40 bytes, 0 to 65,536 entries.
     pub fn new(depth: u8, datagram: u32, total: u64, entries: u32) -> Result<Limits, LimitFault>
-        ensures { OkIff result (AreLimits (bounds_of Order.Little depth datagram total entries)) (bounds_of Order.Little depth datagram total entries) }
+        ensures { OkIff result (AreLimits (bounds_of Order.Little depth datagram total entries))
+            (bounds_of Order.Little depth datagram total entries) }
     {
         let depth = Depth::new(depth)?;
         if datagram % 4 != 0

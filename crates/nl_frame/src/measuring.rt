@@ -47,8 +47,8 @@ fn measure_done(status: &Option<i32>, tail: &[u8]) -> Option<Extent>
     }
 }
 
-/// A body in a message of this form; none where it is of another form, a DONE without status has four
-/// bytes or more, or an attribute's value is of the wrong kind.
+/// A body in a message of this form; none where it is of another form, a DONE without status has
+/// four bytes or more, or an attribute's value is of the wrong kind.
 fn measure_body(body: &Body, form: Form, depth: Depth) -> Option<Extent>
     ensures mismatch { (result ≡ None) ↔ IsMismatchedBody (body_view body.now) form }
     ensures deep { IfSome result (λ e. IsTrue e.deep ↔ IsDeepBody (body_view body.now) depth) }
@@ -73,8 +73,10 @@ fn measure_body(body: &Body, form: Form, depth: Depth) -> Option<Extent>
 
 /// A message with its header and its padding.
 fn measure_message(message: &Message, depth: Depth) -> Option<Extent>
-    ensures mismatch { (result ≡ None) ↔ IsMismatchedBody (body_view message.now.body) (form_of message.now.kind) }
-    ensures deep { IfSome result (λ e. IsTrue e.deep ↔ IsDeepBody (body_view message.now.body) depth) }
+    ensures mismatch { (result ≡ None)
+        ↔ IsMismatchedBody (body_view message.now.body) (form_of message.now.kind) }
+    ensures deep { IfSome result
+        (λ e. IsTrue e.deep ↔ IsDeepBody (body_view message.now.body) depth) }
     ensures len { IfSome result (λ e. IsMessageLen (body_view message.now.body) e.len) }
 {
     let inner = measure_body(&message.body, Form::of(message.kind), depth)?;
@@ -92,7 +94,8 @@ fn measure_message(message: &Message, depth: Depth) -> Option<Extent>
 /// value in it is of another kind than its attribute holds.
 pub(crate) fn measure_messages(messages: &[Message], depth: Depth) -> Option<Extent>
     ensures mismatch { (result ≡ None) ↔ IsMismatched (map message_view messages.now) }
-    ensures deep { IfSome result (λ e. IsTrue e.deep ↔ IsDeep (map message_view messages.now) depth) }
+    ensures deep { IfSome result
+        (λ e. IsTrue e.deep ↔ IsDeep (map message_view messages.now) depth) }
     ensures len { IfSome result (λ e. IsLen (map message_view messages.now) e.len) }
 {
     let mut all = Extent {

@@ -1,6 +1,7 @@
 //! Reading a datagram.
 
-ghost use Rattle.std.specs.Prelude.{◌≡◌, ◌≤◌, ◌<◌, ◌+◌, ◌*◌, ◌↔◌, ◌++◌, ◌∷◌, [], IsTrue, length, map, List, IfOk, IfErr, Err};
+ghost use Rattle.std.specs.Prelude.{◌≡◌, ◌≤◌, ◌<◌, ◌+◌, ◌*◌, ◌↔◌, ◌++◌, ◌∷◌, []};
+ghost use Rattle.std.specs.Prelude.{IsTrue, length, map, List, IfOk, IfErr, Err};
 ghost use Rattle.nl_attr.specs.Reading.{map_value};
 ghost use Rattle.nl_attr.specs.Told.{Tells};
 ghost use Rattle.nl_frame.specs.Form.{least_body};
@@ -74,7 +75,8 @@ fn read_message(
     requires least { least_body frame.now.form ≤ length frame.now.payload.now }
     requires size { length frame.now.payload.now ≤ 1048576 }
     requires place { place + 16 + length frame.now.payload.now ≤ 2097152 }
-    ensures told { Tells message_view result (map_value (message_of frame.now.header) (body_at limits.now.shape frame.now.form (place + 16) frame.now.payload.now)) }
+    ensures told { Tells message_view result (map_value (message_of frame.now.header)
+        (body_at limits.now.shape frame.now.form (place + 16) frame.now.payload.now)) }
     ensures bound { result.visits ≤ (limits.now.shape.depth + 1) * length frame.now.payload.now }
 {
     let Tally { result, visits } = Body::read(alloc, frame.payload, frame.form, place + 16, limits);
@@ -106,7 +108,8 @@ fn keep(list: &mut Vec<Message>, message: Message) -> bool
 /// The messages of a datagram.
 fn read_messages(alloc: Global, bytes: &[u8], limits: &Limits) -> Tally<Vec<Message>, ListError>
     requires { length bytes.now ≤ 1048576 }
-    ensures told { Tells (λ v. map message_view v.items) result (messages_of limits.now.shape 0 bytes.now) }
+    ensures told { Tells
+        (λ v. map message_view v.items) result (messages_of limits.now.shape 0 bytes.now) }
     ensures bound { result.visits ≤ (limits.now.shape.depth + 1) * length bytes.now }
 {
     let _limit = limits.depth();
@@ -166,15 +169,20 @@ ghost use Rattle.nl_frame.specs.Heads.{IsFirstFault, whole};
 /// later parts hold; or for memory. Padding may hold anything, and that of the last message may be
 /// cut short.
 pub fn read_datagram(alloc: Global, bytes: &[u8], limits: &Limits) -> Tally<Vec<Message>, ReadError>
-    ensures large { result.result ≡ Err ReadError.TooLarge ↔ limits.now.datagram < length bytes.now }
+    ensures large { result.result ≡ Err ReadError.TooLarge
+        ↔ limits.now.datagram < length bytes.now }
     // What is read is the layout of the datagram.
-    ensures fits { IfOk result.result (λ v. Layout limits.now.shape (map message_view v.items) bytes.now) }
+    ensures fits { IfOk result.result
+        (λ v. Layout limits.now.shape (map message_view v.items) bytes.now) }
     // No other list is.
-    ensures only { IfOk result.result (λ v. (ms : List MessageVal) → Layout limits.now.shape ms bytes.now → ms ≡ map message_view v.items) }
+    ensures only { IfOk result.result (λ v. (ms : List MessageVal)
+        → Layout limits.now.shape ms bytes.now → ms ≡ map message_view v.items) }
     // A fault is the one at the least place.
-    ensures first { IfErr result.result (λ e. IfFault e (λ f. IsFirstFault limits.now.shape (whole bytes.now) f.place f.reason)) }
+    ensures first { IfErr result.result
+        (λ e. IfFault e (λ f. IsFirstFault limits.now.shape (whole bytes.now) f.place f.reason)) }
     // Then no list is the layout.
-    ensures none { IfErr result.result (λ e. IfFault e (λ _. (ms : List MessageVal) → Layout limits.now.shape ms bytes.now → ⊥)) }
+    ensures none { IfErr result.result
+        (λ e. IfFault e (λ _. (ms : List MessageVal) → Layout limits.now.shape ms bytes.now → ⊥)) }
     // The visits are those of all heads, or of those up to the fault.
     ensures visits { VisitsUpTo limits.now.shape bytes.now result.result result.visits }
     ensures bound { result.visits ≤ (limits.now.shape.depth + 1) * length bytes.now }

@@ -1,6 +1,7 @@
 //! Scanning a datagram: reading that keeps nothing and takes no memory.
 
-ghost use Rattle.std.specs.Prelude.{◌≡◌, ◌≤◌, ◌<◌, ◌+◌, ◌*◌, ◌↔◌, drop, length, List, IfOk, IfErr, Err};
+ghost use Rattle.std.specs.Prelude.{◌≡◌, ◌≤◌, ◌<◌, ◌+◌, ◌*◌, ◌↔◌, drop};
+ghost use Rattle.std.specs.Prelude.{length, List, IfOk, IfErr, Err};
 ghost use Rattle.nl_attr.specs.Trail.{put_from};
 ghost use Rattle.nl_frame.specs.Heads.{IsFirstFault, whole};
 ghost use Rattle.nl_frame.specs.Layout.{Layout};
@@ -60,7 +61,8 @@ fn answer(fault: Option<Fault>, count: usize) -> Result<usize, ScanError>
 /// datagram is above the datagram limit; at the first fault the heads up to it have been put.
 #[inline(always)]
 pub fn tape_datagram(bytes: &[u8], limits: &Limits, out: &mut [Event]) -> Tally<usize, ScanError>
-    ensures large { result.result ≡ Err ScanError.TooLarge ↔ limits.now.datagram < length bytes.now }
+    ensures large { result.result ≡ Err ScanError.TooLarge
+        ↔ limits.now.datagram < length bytes.now }
     ensures untouched { limits.now.datagram < length bytes.now → out.new ≡ out.old }
     // Else whether it is accepted, the fault and the visits are those of a reading.
     ensures told { length bytes.now ≤ limits.now.datagram
@@ -102,7 +104,8 @@ pub fn tape_datagram(bytes: &[u8], limits: &Limits, out: &mut [Event]) -> Tally<
 ///
 /// It refuses a datagram above the datagram limit, then at the first fault over all heads.
 pub fn scan_datagram(bytes: &[u8], limits: &Limits) -> Tally<(), ScanError>
-    ensures large { result.result ≡ Err ScanError.TooLarge ↔ limits.now.datagram < length bytes.now }
+    ensures large { result.result ≡ Err ScanError.TooLarge
+        ↔ limits.now.datagram < length bytes.now }
     // Else whether it is accepted, the fault and the visits are those of a reading.
     ensures told { length bytes.now ≤ limits.now.datagram
         → SaysEnd result.result result.visits (messages_of limits.now.shape 0 bytes.now) }

@@ -14,11 +14,12 @@ use crate::measuring::measure_messages;
 use std::alloc::{AllocError, Global};
 use thiserror::Error;
 
-/// Why messages were not written. The first that applies is told, in the order of the variants, each
-/// over all messages.
+/// Why messages were not written. The first that applies is told, in the order of the variants,
+/// each over all messages.
 #[derive(Clone, Copy, Debug, PartialEq, Eq, Error)]
 pub enum WriteError {
-    /// A body isn't of its message's type, or a value in it is of another kind than its attribute holds.
+    /// A body isn't of its message's type, or a value in it is of another kind than its attribute
+    /// holds.
     #[error("mismatch")]
     Mismatch,
     /// A container opens a level above the depth limit.
@@ -95,28 +96,40 @@ fn check(messages: &[Message], limits: &Limits) -> Result<usize, WriteError>
 /// order of the limits. Payloads stay the bytes that they are: messages that were read in the other
 /// order are written with heads in this one and the numbers in their payloads in that one.
 ///
-/// It refuses, in this order: `Mismatch` for a body that isn't of its message's type, a DONE without
-/// status that has four bytes or more, and an attribute whose number is 16,384 or more or whose value
-/// is of another kind than its context, number and flags say; `TooDeep` for a container that opens a
-/// level above the depth limit; `TooLong` for an attribute or a next hop of more than 65,535 bytes, or
-/// a region or a datagram of more than 1,048,576; `TooLarge` for a datagram above the datagram limit;
-/// `Memory` where the one growth, which comes after all that, is refused. Of the limits, it reads the
-/// order, the depth and the size of a datagram.
+/// It refuses, in this order: `Mismatch` for a body that isn't of its message's type, a DONE
+/// without status that has four bytes or more, and an attribute whose number is 16,384 or more or
+/// whose value is of another kind than its context, number and flags say; `TooDeep` for a container
+/// that opens a level above the depth limit; `TooLong` for an attribute or a next hop of more than
+/// 65,535 bytes, or a region or a datagram of more than 1,048,576; `TooLarge` for a datagram above
+/// the datagram limit; `Memory` where the one growth, which comes after all that, is refused. Of
+/// the limits, it reads the order, the depth and the size of a datagram.
 pub fn write_datagram(
     alloc: Global,
     messages: &[Message],
     limits: &Limits,
 ) -> Result<Vec<u8>, WriteError>
-    ensures mismatch { (result ≡ Err WriteError.Mismatch) ↔ IsMismatched (map message_view messages.now) }
-    ensures deep { (result ≡ Err WriteError.TooDeep) ↔ ((IsMismatched (map message_view messages.now) → ⊥) × IsDeep (map message_view messages.now) limits.now.shape.depth) }
-    ensures long { (result ≡ Err WriteError.TooLong) ↔ ((IsMismatched (map message_view messages.now) → ⊥) × (IsDeep (map message_view messages.now) limits.now.shape.depth → ⊥) × IsLong (map message_view messages.now)) }
-    ensures large { (result ≡ Err WriteError.TooLarge) ↔ ((IsMismatched (map message_view messages.now) → ⊥) × (IsDeep (map message_view messages.now) limits.now.shape.depth → ⊥) × (IsLong (map message_view messages.now) → ⊥) × (limits.now.datagram < written_len (map message_view messages.now))) }
+    ensures mismatch { (result ≡ Err WriteError.Mismatch)
+        ↔ IsMismatched (map message_view messages.now) }
+    ensures deep { (result ≡ Err WriteError.TooDeep)
+        ↔ ((IsMismatched (map message_view messages.now) → ⊥)
+        × IsDeep (map message_view messages.now) limits.now.shape.depth) }
+    ensures long { (result ≡ Err WriteError.TooLong)
+        ↔ ((IsMismatched (map message_view messages.now) → ⊥)
+        × (IsDeep (map message_view messages.now) limits.now.shape.depth → ⊥)
+        × IsLong (map message_view messages.now)) }
+    ensures large { (result ≡ Err WriteError.TooLarge)
+        ↔ ((IsMismatched (map message_view messages.now) → ⊥)
+        × (IsDeep (map message_view messages.now) limits.now.shape.depth → ⊥)
+        × (IsLong (map message_view messages.now) → ⊥)
+        × (limits.now.datagram < written_len (map message_view messages.now))) }
     // Otherwise they are written, unless memory runs out.
-    ensures written { IfOk result (λ v. v.items ≡ written limits.now.shape.order (map message_view messages.now)) }
+    ensures written { IfOk result
+        (λ v. v.items ≡ written limits.now.shape.order (map message_view messages.now)) }
     // What messages of the program hold is in the range of its types.
     ensures ranged { IfOk result (λ v. IsRanged (map message_view messages.now)) }
     // They are the layout of what is written: it is read as them again.
-    ensures again { IfOk result (λ v. Layout limits.now.shape (map message_view messages.now) v.items) }
+    ensures again { IfOk result
+        (λ v. Layout limits.now.shape (map message_view messages.now) v.items) }
 {
     let len = match check(messages, limits) {
         Ok(len) => len,
