@@ -8,7 +8,8 @@ use Rattle.nl_table.specs.Keys.{KeyField, byte, number, bytes}
 use Rattle.nl_table.specs.Attributes.{table_id, number_at}
 
 module _ (o : Order) where
-  -- a rule: family, dst_len, FRA_DST (1), src_len, FRA_SRC (2), tos, its table, FRA_PRIORITY (6), action, FRA_GOTO (4), FRA_FWMARK (10), FRA_FWMASK (16), FRA_IIFNAME (3), FRA_OIFNAME (17)
+  -- a rule: family, dst_len, FRA_DST (1), src_len, FRA_SRC (2), tos, its table, FRA_PRIORITY (6), action, FRA_GOTO (4), FRA_FWMARK (10), FRA_FWMASK (16),
+  -- FRA_IIFNAME (3), FRA_OIFNAME (17)
   abbrev pub rule_key_fields : RuleHead → Items → List KeyField
   rule_key_fields h is =
       byte h.family ∷ byte h.dst_len ∷ bytes (bytes_view 1 is) ∷ byte h.src_len ∷ bytes (bytes_view 2 is) ∷ byte h.tos ∷ number 4 (table_id o h.table is)
