@@ -91,7 +91,8 @@ impl TightSink {
     /// How many of so many bytes the next call takes, unless it fails.
     fn count(&mut self, wanted: usize) -> Option<usize>
         ensures fits { IfSome result (λ count. count ≤ wanted) }
-        ensures counts { (self.new.failures ≡ self.old.failures) × (self.new.stalls ≡ self.old.stalls) }
+        ensures counts { (self.new.failures ≡ self.old.failures)
+            × (self.new.stalls ≡ self.old.stalls) }
     {
         if self.calls > 0 {
             self.calls -= 1;
@@ -143,8 +144,8 @@ impl Sink for TightSink {
     }
 }
 
-/// A file with room for `left` bytes, or as many blanks, in calls of up to three bytes, whose device
-/// fails at the end where it is broken.
+/// A file with room for `left` bytes, or as many blanks, in calls of up to three bytes, whose
+/// device fails at the end where it is broken.
 #[derive(Drop)]
 pub struct ShortFile {
     pub left: usize,

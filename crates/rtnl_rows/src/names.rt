@@ -297,8 +297,8 @@ message 32 newrule flags 0x0002 MULTI seq 1 port 12345
     is_shown(rt.alloc(), input, text)
 }
 
-/// Texts, numbers and addresses of other sizes than their forms have, empty ones, and ones in network
-/// order.
+/// Texts, numbers and addresses of other sizes than their forms have, empty ones, and ones in
+/// network order.
 #[test]
 fn forms_at_their_bounds(rt: HostRuntime) -> Result<(), Fail> {
     let alloc = rt.alloc();

@@ -5,8 +5,8 @@ use nl_attr::{Attr, Ctx, Depth, Fault, ListError, Order, Reason, Tally, read_lis
 use std::alloc::Global;
 use std::test::Fail;
 
-/// A region to read from level 0 on, and what reading must answer: how many attributes, or the place
-/// and the reason of the fault; and the visits.
+/// A region to read from level 0 on, and what reading must answer: how many attributes, or the
+/// place and the reason of the fault; and the visits.
 #[derive(Drop)]
 struct Case {
     little: &'static str,
