@@ -52,7 +52,8 @@ FrontOfInput Of from_old from_new to_old to_new =
 abbrev pub HasBadLine : Option (List ℕ) → Option (List ℕ) → ℕ → Type 0
 HasBadLine from_old from_new number = (input : List ℕ) × Consumes from_old from_new input × (datagrams input ≡ Err number)
 
--- how a run over a recording ends, by what its source and its sink tell of themselves (the bytes left, the end, the failed calls; the bytes taken, a call that took none, those calls, the failed calls), by what is said of datagrams, and by source, sink and answer
+-- how a run over a recording ends, by what its source and its sink tell of themselves (the bytes left, the end, the failed calls; the bytes taken, a call that
+-- took none, those calls, the failed calls), by what is said of datagrams, and by source, sink and answer
 pub record Runs {S W : Type 0} (left : S → Option (List ℕ)) (is_ended : S → Type 0) (failed_reads : S → ℕ)
     (taken : W → Option (List ℕ)) (is_stalled : W → Type 0) (stalls : W → ℕ) (failed_writes : W → ℕ)
     (Says : List (List ℕ) → List ℕ → Verdict → Type 0) (from_old from_new : S) (to_old to_new : W) (result : Result Verdict RunError) : Type 0 where
@@ -61,7 +62,8 @@ pub record Runs {S W : Type 0} (left : S → Option (List ℕ)) (is_ended : S �
   -- no write failed, or took no byte
   pub sound : OnOk result ((failed_writes to_new ≡ failed_writes to_old) × (stalls to_new ≡ stalls to_old))
   -- the source came to its end, no read failed, and this line of its input is the first that is bad
-  pub bad_line : (number : ℕ) → result ≡ Err (BadLine number) → IsRead left is_ended failed_reads from_old from_new × HasBadLine (left from_old) (left from_new) number
+  pub bad_line : (number : ℕ) → result ≡ Err (BadLine number)
+      → IsRead left is_ended failed_reads from_old from_new × HasBadLine (left from_old) (left from_new) number
   -- one read failed; or none did, and the input is too long
   pub read_fault : result ≡ Err ReadFault → (failed_reads from_new ≡ one_more (failed_reads from_old))
       ⊎ ((failed_reads from_new ≡ failed_reads from_old) × ConsumesMoreThan longest_input (left from_old) (left from_new))

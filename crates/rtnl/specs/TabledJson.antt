@@ -85,7 +85,8 @@ sum_fields v = (codes "received", number v.received) ∷ (codes "visits", number
 -- the line of how a session's dump ended
 unfoldable pub ending_json : Dump → ℕ → View → List ℕ
 ending_json d unfed v =
-    json_line (object (dump_fields d ++ (end_fields v.state ++ (count_fields d unfed v ++ (loss_fields v ++ (sum_fields v ++ (codes "complete", boolean (complete_of v)) ∷ []))))))
+    json_line (object (dump_fields d ++ (end_fields v.state ++ (count_fields d unfed v
+    ++ (loss_fields v ++ (sum_fields v ++ (codes "complete", boolean (complete_of v)) ∷ []))))))
 
 -- a dump told in lines of JSON: the datagrams that were refused, the entries, and how it ended
 abbrev pub in_json : Telling

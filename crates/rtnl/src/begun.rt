@@ -15,7 +15,8 @@ pub(crate) fn begun(
     dump: &Dump,
     limits: &Limits,
 ) -> Result<(Session, Vec<u8>), AllocError>
-    ensures { IfOk result (λ p. (new : View) × IsNew limits.now new × Began new dump.now (Ok p.1) p.0) }
+    ensures { IfOk result
+        (λ p. (new : View) × IsNew limits.now new × Began new dump.now (Ok p.1) p.0) }
 {
     let mut session = Session::new(alloc, *limits)?;
     match session.begin(dump.kind, dump.family, dump.seq, dump.port) {

@@ -1,7 +1,8 @@
 //! Checking a recording.
 
 ghost use Rattle.std.specs.Prelude.{◌≡◌, ◌+◌, ◌++◌, Ok, OnOk, IfOk};
-ghost use Rattle.rtnl.specs.Checked.{Checks, ChecksInput, ChecksInputJson, ChecksJson, finding_text};
+ghost use Rattle.rtnl.specs.Checked.{Checks, ChecksInput, ChecksInputJson};
+ghost use Rattle.rtnl.specs.Checked.{ChecksJson, finding_text};
 ghost use Rattle.rtnl.specs.Lines.{longest_input};
 ghost use Rattle.rtnl.specs.Runs.{Runs};
 ghost use Rattle.rtnl.specs.Streams.{ConsumesAtMost};
@@ -154,7 +155,8 @@ pub fn run_check<S: Source, W: Sink>(
 ) -> Result<Verdict, RunError>
     // What was written is what a check says of the datagrams of what was read, and the verdict is
     // theirs.
-    ensures checked { IfOk result (ChecksInput limits.now (S.remaining source.old) (S.remaining source.new)
+    ensures checked { IfOk result
+        (ChecksInput limits.now (S.remaining source.old) (S.remaining source.new)
         (W.contents sink.old) (W.contents sink.new)) }
     // It ends as every run over a recording does.
     ensures runs { Runs S.remaining S.is_ended S.failure_count
@@ -179,7 +181,8 @@ pub fn run_check_json<S: Source, W: Sink>(
     limits: &Limits,
 ) -> Result<Verdict, RunError>
     // What was written is the objects of the datagrams of what was read, and the verdict is theirs.
-    ensures checked { IfOk result (ChecksInputJson limits.now (S.remaining source.old) (S.remaining source.new)
+    ensures checked { IfOk result
+        (ChecksInputJson limits.now (S.remaining source.old) (S.remaining source.new)
         (W.contents sink.old) (W.contents sink.new)) }
     // It ends as every run over a recording does.
     ensures runs { Runs S.remaining S.is_ended S.failure_count

@@ -46,7 +46,8 @@ pub(crate) fn push_table<F: Telling>(
 ) -> Result<Size, AllocError>
     ensures text { OnOk result (out.new.items ≡ out.old.items
         ++ entries_text F.told order 1 (table_at kind session.now.tables).entries) }
-    ensures size { IfOk result (λ size. (size.entries ≡ length (table_at kind session.now.tables).entries)
+    ensures size { IfOk result
+        (λ size. (size.entries ≡ length (table_at kind session.now.tables).entries)
         × (size.missed ≡ (table_at kind session.now.tables).missed)) }
 {
     match_table!(kind, session, table => push_entries::<F, _>(alloc, out, order, table))

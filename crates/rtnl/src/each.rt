@@ -23,7 +23,8 @@ pub(crate) trait Each {
     // Whether the datagram is taken.
     ghost takes: { Found → Bool };
 
-    /// Writes the text of the datagram of this number, counted from 1, and says whether it is taken.
+    /// Writes the text of the datagram of this number, counted from 1, and says whether it is
+    /// taken.
     fn push(
         &self,
         alloc: Global,

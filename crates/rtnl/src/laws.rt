@@ -13,7 +13,8 @@ pub fn one_answer()
     ensures some { (b : Bounds) (d : List ℕ) → AreBytes d → (a : Answer) × Answers b d a }
     ensures only { (b : Bounds) (d : List ℕ) (x y : Answer)
         → Answers b d x → Answers b d y → x ≡ y }
-    ensures checked { (b : Bounds) (d : List ℕ) (x y : Finding) → Finds b d x → Finds b d y → x ≡ y }
+    ensures checked { (b : Bounds) (d : List ℕ) (x y : Finding)
+        → Finds b d x → Finds b d y → x ≡ y }
 {}
 
 /// Datagrams have one text and one verdict, shown or checked, and so they have in JSON.

@@ -38,7 +38,8 @@ pub(crate) fn run<S: Source, W: Sink, C: Command>(
     sink: &mut W,
     command: &C,
 ) -> Result<Verdict, RunError>
-    ensures said { IfOk result (OfInput (C.says command.now) (S.remaining source.old) (S.remaining source.new)
+    ensures said { IfOk result
+        (OfInput (C.says command.now) (S.remaining source.old) (S.remaining source.new)
         (W.contents sink.old) (W.contents sink.new)) }
     ensures runs { Runs S.remaining S.is_ended S.failure_count
         W.contents W.is_stalled W.stall_count W.failure_count

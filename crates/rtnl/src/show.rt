@@ -161,7 +161,8 @@ pub fn run_show<S: Source, W: Sink>(
     limits: &Limits,
 ) -> Result<Verdict, RunError>
     // What was written is the text of the datagrams of what was read, and the verdict is theirs.
-    ensures shown { IfOk result (ShowsInput limits.now (S.remaining source.old) (S.remaining source.new)
+    ensures shown { IfOk result
+        (ShowsInput limits.now (S.remaining source.old) (S.remaining source.new)
         (W.contents sink.old) (W.contents sink.new)) }
     // It ends as every run over a recording does.
     ensures runs { Runs S.remaining S.is_ended S.failure_count
@@ -185,7 +186,8 @@ pub fn run_show_json<S: Source, W: Sink>(
     limits: &Limits,
 ) -> Result<Verdict, RunError>
     // What was written is the objects of the datagrams of what was read, and the verdict is theirs.
-    ensures shown { IfOk result (ShowsInputJson limits.now (S.remaining source.old) (S.remaining source.new)
+    ensures shown { IfOk result
+        (ShowsInputJson limits.now (S.remaining source.old) (S.remaining source.new)
         (W.contents sink.old) (W.contents sink.new)) }
     // It ends as every run over a recording does.
     ensures runs { Runs S.remaining S.is_ended S.failure_count

@@ -1,6 +1,7 @@
 //! Where bytes go.
 
-ghost use Rattle.std.specs.Prelude.{◌≡◌, ℕ, ◌≤◌, ◌↔◌, List, [], length, Option, Some, OnOk, OnErr, IfOk, IfErr, IsTrue};
+ghost use Rattle.std.specs.Prelude.{◌≡◌, ℕ, ◌≤◌, ◌↔◌, List, [], length, Option};
+ghost use Rattle.std.specs.Prelude.{Some, OnOk, OnErr, IfOk, IfErr, IsTrue};
 ghost use Rattle.std.specs.Io.KnownBytes.{Appends, WriteAppends};
 ghost use Rattle.rtnl.specs.Streams.{AppendsPrefix, MovesNone, StopsOnce, one_more};
 
@@ -36,10 +37,12 @@ pub trait Sink {
         ensures fits { IfOk result (λ count. count ≤ length bytes.now) }
         ensures bytes { WriteAppends (contents self.old) (contents self.new) result bytes.now }
         ensures stalled { is_stalled self.new ↔ MovesNone result (length bytes.now) }
-        ensures once { is_stalled self.new → stall_count self.new ≡ one_more (stall_count self.old) }
+        ensures once { is_stalled self.new
+            → stall_count self.new ≡ one_more (stall_count self.old) }
         ensures others { (is_stalled self.new → ⊥) → stall_count self.new ≡ stall_count self.old }
         ensures sound { OnOk result (failure_count self.new ≡ failure_count self.old) }
-        ensures failed { OnErr result (failure_count self.new ≡ one_more (failure_count self.old)) };
+        ensures failed { OnErr result
+            (failure_count self.new ≡ one_more (failure_count self.old)) };
 }
 
 /// Keeps all bytes in a vector. A call fails where memory runs out.
@@ -161,8 +164,10 @@ pub(crate) fn give_all<W: Sink>(sink: &mut W, text: &[u8]) -> Result<(), RunErro
     ensures sound { OnOk result (W.failure_count sink.new ≡ W.failure_count sink.old) }
     ensures steady { OnOk result (W.stall_count sink.new ≡ W.stall_count sink.old) }
 
-    ensures part { OnErr result (AppendsPrefix (W.contents sink.old) (W.contents sink.new) text.now) }
-    ensures once { OnErr result (StopsOnce W.is_stalled W.stall_count W.failure_count sink.old sink.new) }
+    ensures part { OnErr result
+        (AppendsPrefix (W.contents sink.old) (W.contents sink.new) text.now) }
+    ensures once { OnErr result
+        (StopsOnce W.is_stalled W.stall_count W.failure_count sink.old sink.new) }
     ensures error { IfErr result (λ e. e ≡ RunError.WriteFault) }
 {
     let mut done = 0;

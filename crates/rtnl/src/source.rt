@@ -1,6 +1,7 @@
 //! Where bytes come from.
 
-ghost use Rattle.std.specs.Prelude.{◌≡◌, ℕ, ◌+◌, ◌≤◌, ◌↔◌, ◌⊎◌, List, length, Option, Some, OnOk, OnErr, IfOk, IfErr, IsTrue};
+ghost use Rattle.std.specs.Prelude.{◌≡◌, ℕ, ◌+◌, ◌≤◌, ◌↔◌, ◌⊎◌, List, length};
+ghost use Rattle.std.specs.Prelude.{Option, Some, OnOk, OnErr, IfOk, IfErr, IsTrue};
 ghost use Rattle.std.specs.Io.KnownBytes.{Consumes, ReadConsumes};
 ghost use Rattle.rtnl.specs.Lines.{longest_input};
 ghost use Rattle.rtnl.specs.Streams.{ConsumesAtMost, ConsumesMoreThan, IsRead, MovesNone, one_more};
@@ -32,7 +33,8 @@ pub trait Source {
         ensures bytes { ReadConsumes (remaining self.old) (remaining self.new) result buffer.new }
         ensures end { is_ended self.new ↔ MovesNone result (length buffer.old) }
         ensures sound { OnOk result (failure_count self.new ≡ failure_count self.old) }
-        ensures failed { OnErr result (failure_count self.new ≡ one_more (failure_count self.old)) };
+        ensures failed { OnErr result
+            (failure_count self.new ≡ one_more (failure_count self.old)) };
 }
 
 /// Gives the bytes of a slice, from the first on.
@@ -134,17 +136,21 @@ pub const LONGEST_INPUT: usize = 16_777_216;
 /// taken. It stops at the first call that fails.
 #[tactic(auto, using(crate::proofs::Streams::consumes_more))]
 pub(crate) fn read_input<S: Source>(alloc: Global, source: &mut S) -> Result<Vec<u8>, RunError>
-    ensures all { IfOk result (λ input. Consumes (S.remaining source.old) (S.remaining source.new) input.items) }
+    ensures all { IfOk result
+        (λ input. Consumes (S.remaining source.old) (S.remaining source.new) input.items) }
     ensures fits { IfOk result (λ input. length input.items ≤ longest_input) }
-    ensures read { OnOk result (IsRead S.remaining S.is_ended S.failure_count source.old source.new) }
+    ensures read { OnOk result
+        (IsRead S.remaining S.is_ended S.failure_count source.old source.new) }
 
     ensures fault { result ≡ Err RunError.ReadFault →
         (S.failure_count source.new ≡ one_more (S.failure_count source.old))
         ⊎ ((S.failure_count source.new ≡ S.failure_count source.old)
         × ConsumesMoreThan longest_input (S.remaining source.old) (S.remaining source.new)) }
-    ensures memory { result ≡ Err RunError.Memory → S.failure_count source.new ≡ S.failure_count source.old }
+    ensures memory { result ≡ Err RunError.Memory
+        → S.failure_count source.new ≡ S.failure_count source.old }
     ensures errors { IfErr result (λ e. (e ≡ RunError.ReadFault) ⊎ (e ≡ RunError.Memory)) }
-    ensures bounded { ConsumesAtMost (longest_input + 1) (S.remaining source.old) (S.remaining source.new) }
+    ensures bounded { ConsumesAtMost (longest_input + 1)
+        (S.remaining source.old) (S.remaining source.new) }
 {
     let mut input = Vec::new(alloc);
     let mut buffer = [0u8; 8192];

@@ -1,6 +1,7 @@
 //! Reading a recording as the answers to a dump.
 
-ghost use Rattle.std.specs.Prelude.{◌≡◌, ◌≤◌, ◌+◌, ◌++◌, ◌↔◌, IsTrue, List, length, drop, Result, OnOk, IfOk};
+ghost use Rattle.std.specs.Prelude.{◌≡◌, ◌≤◌, ◌+◌, ◌++◌, ◌↔◌, IsTrue};
+ghost use Rattle.std.specs.Prelude.{List, length, drop, Result, OnOk, IfOk};
 ghost use Rattle.nl_dump.specs.Steps.{Fed, IsWaiting};
 ghost use Rattle.nl_dump.specs.declared.dump.Progress.{Progress as AnyProgress};
 ghost use Rattle.nl_dump.specs.declared.errors.FeedError.{FeedError as AnyFeedError};
@@ -8,7 +9,8 @@ ghost use Rattle.rtnl.specs.Lines.{longest_input};
 ghost use Rattle.rtnl.specs.Runs.{Runs};
 ghost use Rattle.rtnl.specs.Streams.{ConsumesAtMost};
 ghost use Rattle.rtnl.specs.TabledJson.{TablesInputJson, TablesJson};
-ghost use Rattle.rtnl.specs.Tabled.{Answered, FeedsSome, IsTold, Tables, TablesInput, answer_text, refusals_text, verdict_of};
+ghost use Rattle.rtnl.specs.Tabled.{Answered, FeedsSome, IsTold, Tables, TablesInput};
+ghost use Rattle.rtnl.specs.Tabled.{answer_text, refusals_text, verdict_of};
 
 use crate::begun::begun;
 use crate::contents::push_table;
@@ -40,7 +42,8 @@ fn feed_one<F: Telling>(
     bytes: &[u8],
 ) -> Result<(), AllocError>
     requires { IsWaiting session.old.state }
-    ensures { IfOk result (λ _. (r : Result AnyProgress AnyFeedError) × Fed session.old bytes.now r session.new × IsTold r
+    ensures { IfOk result (λ _. (r : Result AnyProgress AnyFeedError)
+        × Fed session.old bytes.now r session.new × IsTold r
         × (out.new.items ≡ out.old.items ++ answer_text F.told number r)) }
 {
     match session.feed(bytes) {
@@ -57,8 +60,10 @@ fn feed_all<F: Telling>(
     out: &mut Vec<u8>,
     datagrams: &Datagrams,
 ) -> Result<usize, AllocError>
-    ensures { IfOk result (λ count. (count ≤ length datagrams.now) × (IsWaiting session.new.state → count ≡ length datagrams.now)
-        × ((fed : List Answered) × FeedsSome session.old datagrams.now fed (drop count datagrams.now) session.new
+    ensures { IfOk result (λ count. (count ≤ length datagrams.now)
+        × (IsWaiting session.new.state → count ≡ length datagrams.now)
+        × ((fed : List Answered)
+        × FeedsSome session.old datagrams.now fed (drop count datagrams.now) session.new
         × (out.new.items ≡ out.old.items ++ refusals_text F.told fed))) }
 {
     for index in 0..datagrams.len() {
@@ -131,7 +136,8 @@ pub fn run_table<S: Source, W: Sink>(
 ) -> Result<Verdict, RunError>
     // What was written is the text of the session that the datagrams of what was read end in, and
     // the verdict is its.
-    ensures tabled { IfOk result (TablesInput limits.now dump (S.remaining source.old) (S.remaining source.new)
+    ensures tabled { IfOk result
+        (TablesInput limits.now dump (S.remaining source.old) (S.remaining source.new)
         (W.contents sink.old) (W.contents sink.new)) }
     // It ends as every run over a recording does.
     ensures runs { Runs S.remaining S.is_ended S.failure_count
@@ -167,7 +173,8 @@ pub fn run_table_json<S: Source, W: Sink>(
 ) -> Result<Verdict, RunError>
     // What was written is the objects of the session that the datagrams of what was read end in,
     // and the verdict is its.
-    ensures tabled { IfOk result (TablesInputJson limits.now dump (S.remaining source.old) (S.remaining source.new)
+    ensures tabled { IfOk result
+        (TablesInputJson limits.now dump (S.remaining source.old) (S.remaining source.new)
         (W.contents sink.old) (W.contents sink.new)) }
     // It ends as every run over a recording does.
     ensures runs { Runs S.remaining S.is_ended S.failure_count

@@ -56,7 +56,8 @@ pub(crate) trait Telling {
         size: Size,
         unfed: usize,
     ) -> Result<(), AllocError>
-        requires entries { size.entries ≡ length (table_at dump.now.kind session.now.tables).entries }
+        requires entries { size.entries
+            ≡ length (table_at dump.now.kind session.now.tables).entries }
         requires missed { size.missed ≡ (table_at dump.now.kind session.now.tables).missed }
         ensures { OnOk result (out.new.items
             ≡ out.old.items ++ told.ending dump.now unfed session.now) };

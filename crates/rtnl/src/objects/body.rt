@@ -3,7 +3,8 @@
 ghost use Rattle.std.specs.Prelude.{◌≡◌, ◌∷◌, [], OnOk, codes};
 ghost use Rattle.nl_frame.specs.View.{body_view};
 ghost use Rattle.rtnl.specs.Json.{◌⊕◌, fields_tokens};
-ghost use Rattle.rtnl.specs.Objects.{answered_json, body_field, bytes_field, done_field, error_field, get_field};
+ghost use Rattle.rtnl.specs.Objects.{answered_json, body_field, bytes_field};
+ghost use Rattle.rtnl.specs.Objects.{done_field, error_field, get_field};
 
 use crate::objects::line::Line;
 use crate::text::families::Shown;
@@ -14,7 +15,8 @@ use std::alloc::{AllocError, Global};
 
 /// Writes the header that an answer with a code tells of.
 fn push_answered(line: &mut Line, answered: &Header) -> Result<(), AllocError>
-    ensures { OnOk result (line.new ≡ line.old ⊕ fields_tokens ((codes "answers", answered_json answered.now) ∷ [])) }
+    ensures { OnOk result
+        (line.new ≡ line.old ⊕ fields_tokens ((codes "answers", answered_json answered.now) ∷ [])) }
 {
     line.key("answers")?;
     line.begin_object()?;
@@ -35,7 +37,8 @@ fn push_error(
     answered: &Header,
     tail: &[u8],
 ) -> Result<(), AllocError>
-    ensures { OnOk result (line.new ≡ line.old ⊕ fields_tokens (error_field code answered.now tail.now ∷ [])) }
+    ensures { OnOk result
+        (line.new ≡ line.old ⊕ fields_tokens (error_field code answered.now tail.now ∷ [])) }
 {
     line.key("error")?;
     line.begin_object()?;
@@ -73,7 +76,8 @@ pub(crate) fn push_body(
     order: Order,
     body: &Body,
 ) -> Result<(), AllocError>
-    ensures { OnOk result (line.new ≡ line.old ⊕ fields_tokens (body_field order (body_view body.now) ∷ [])) }
+    ensures { OnOk result
+        (line.new ≡ line.old ⊕ fields_tokens (body_field order (body_view body.now) ∷ [])) }
 {
     match_family!(body, Body, family => family.push_field(alloc, line, order), {
         Body::Noop(payload) | Body::Overrun(payload) | Body::Other(payload) => {

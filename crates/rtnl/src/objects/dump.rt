@@ -5,7 +5,9 @@ ghost use Rattle.nl_dump.specs.View.{table_at};
 ghost use Rattle.nl_frame.specs.declared.reading.ReadError.{ReadError as AnyReadError};
 ghost use Rattle.rtnl.specs.Json.{Field, ◌⊕◌, fields_tokens, json_line};
 ghost use Rattle.rtnl.specs.Shown.{datagram_object, refusal_fields};
-ghost use Rattle.rtnl.specs.TabledJson.{code_fields, count_fields, dump_fields, end_code, end_fields, end_word, loss_fields, sum_fields, total_fields};
+ghost use Rattle.rtnl.specs.TabledJson.{code_fields, count_fields, dump_fields};
+ghost use Rattle.rtnl.specs.TabledJson.{end_code, end_fields, end_word};
+ghost use Rattle.rtnl.specs.TabledJson.{loss_fields, sum_fields, total_fields};
 
 use crate::objects::datagram::push_refusal;
 use crate::objects::line::Line;
@@ -95,7 +97,8 @@ fn push_counts(
 ) -> Result<(), AllocError>
     requires entries { size.entries ≡ length (table_at dump.now.kind session.now.tables).entries }
     requires missed { size.missed ≡ (table_at dump.now.kind session.now.tables).missed }
-    ensures { OnOk result (line.new ≡ line.old ⊕ fields_tokens (count_fields dump.now unfed session.now)) }
+    ensures { OnOk result
+        (line.new ≡ line.old ⊕ fields_tokens (count_fields dump.now unfed session.now)) }
 {
     let _kind = dump.kind;
     line.numbers(&[

@@ -6,7 +6,8 @@ ghost use Rattle.json.specs.Print.{IsPrintable};
 ghost use Rattle.json.specs.Reads.{token_of};
 ghost use Rattle.json.specs.Token.{begin_array, begin_object, end_array, end_object, key};
 ghost use Rattle.json.specs.Tree.{json_tokens};
-ghost use Rattle.rtnl.specs.Json.{Field, ◌⊕◌, boolean, digits, fields_tokens, json_line, number, object, object_behind, signed, string};
+ghost use Rattle.rtnl.specs.Json.{Field, ◌⊕◌, boolean, digits, fields_tokens, json_line};
+ghost use Rattle.rtnl.specs.Json.{number, object, object_behind, signed, string};
 
 use json::{Token, Writer};
 use std::alloc::{AllocError, Global};
@@ -134,7 +135,8 @@ impl Line {
     /// Fields with numbers.
     #[tactic(auto, using(crate::proofs::Json::more_fields, crate::proofs::Json::no_field))]
     pub(crate) fn numbers(&mut self, fields: &[(&str, u64)]) -> Result<(), AllocError>
-        ensures { OnOk result (self.new ≡ self.old ⊕ fields_tokens (map (λ f. (f.0.now, number f.1)) fields.now)) }
+        ensures { OnOk result
+            (self.new ≡ self.old ⊕ fields_tokens (map (λ f. (f.0.now, number f.1)) fields.now)) }
     {
         for (name, n) in fields {
             self.number(name, *n)?;
@@ -163,7 +165,8 @@ impl Line {
     /// A field with a string.
     #[tactic(auto, using(crate::proofs::Json::more, crate::proofs::Json::one_field))]
     pub(crate) fn text(&mut self, name: &str, text: &str) -> Result<(), AllocError>
-        ensures { OnOk result (self.new ≡ self.old ⊕ fields_tokens ((name.now, string text.now) ∷ [])) }
+        ensures { OnOk result
+            (self.new ≡ self.old ⊕ fields_tokens ((name.now, string text.now) ∷ [])) }
     {
         self.key(name)?;
         self.token(Token::String(text))
@@ -176,7 +179,8 @@ impl Line {
         name: &str,
         bytes: &[u8],
     ) -> Result<(), AllocError>
-        ensures { OnOk result (self.new ≡ self.old ⊕ fields_tokens ((name.now, digits bytes.now) ∷ [])) }
+        ensures { OnOk result
+            (self.new ≡ self.old ⊕ fields_tokens ((name.now, digits bytes.now) ∷ [])) }
     {
         let text = hex::encode(alloc, bytes)?;
         self.text(name, text.as_str())

@@ -33,7 +33,8 @@ fn push_flag_names(line: &mut Line, names: FlagNames, flags: u16) -> Result<(), 
 /// Writes what a message's header says.
 fn push_header(alloc: Global, line: &mut Line, message: &Message) -> Result<(), AllocError>
     ensures { OnOk result (line.new ≡ line.old
-        ⊕ fields_tokens (header_fields message.now.kind message.now.flags message.now.seq message.now.port)) }
+        ⊕ fields_tokens
+        (header_fields message.now.kind message.now.flags message.now.seq message.now.port)) }
 {
     let (verb, name, names) = message_type(message.kind);
     let type_name = format!(in alloc; "{verb}{name}")?;
@@ -51,7 +52,8 @@ fn push_message(
     order: Order,
     message: &Message,
 ) -> Result<(), AllocError>
-    ensures { OnOk result (line.new ≡ line.old ⊕ json_tokens (message_json order (message_view message.now))) }
+    ensures { OnOk result
+        (line.new ≡ line.old ⊕ json_tokens (message_json order (message_view message.now))) }
 {
     line.begin_object()?;
     push_header(alloc, line, message)?;
@@ -65,7 +67,8 @@ fn push_each(
     order: Order,
     messages: &[Message],
 ) -> Result<(), AllocError>
-    ensures { OnOk result (line.new ≡ line.old ⊕ values_tokens (messages_json order (map message_view messages.now))) }
+    ensures { OnOk result (line.new
+        ≡ line.old ⊕ values_tokens (messages_json order (map message_view messages.now))) }
 {
     for message in messages {
         push_message(alloc, line, order, message)?;
@@ -81,7 +84,8 @@ pub(crate) fn push_messages(
     messages: &[Message],
 ) -> Result<(), AllocError>
     ensures { OnOk result (line.new ≡ line.old
-        ⊕ fields_tokens ((codes "messages", array (messages_json order (map message_view messages.now))) ∷ [])) }
+        ⊕ fields_tokens
+        ((codes "messages", array (messages_json order (map message_view messages.now))) ∷ [])) }
 {
     line.key("messages")?;
     line.begin_array()?;

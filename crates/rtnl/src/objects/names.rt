@@ -14,7 +14,8 @@ use std::alloc::AllocError;
 fn push_flag<F: Flags>(line: &mut Line, flag: &Flag<F>, value: &F) -> Result<(), AllocError>
     ensures { F.exact → OnOk result ((rows : List Row)
         → line.new ⊕ values_tokens (map string (names_set rows (F.set_of value.now)))
-        ≡ line.old ⊕ values_tokens (map string (names_set ((flag.now.name.now, F.set_of flag.now.value) ∷ rows) (F.set_of value.now)))) }
+        ≡ line.old ⊕ values_tokens (map string
+        (names_set ((flag.now.name.now, F.set_of flag.now.value) ∷ rows) (F.set_of value.now)))) }
 {
     if !value.contains(F::from_bits_retain(flag.value().bits())) {
         return Ok(());
@@ -25,7 +26,8 @@ fn push_flag<F: Flags>(line: &mut Line, flag: &Flag<F>, value: &F) -> Result<(),
 #[tactic(auto, using(crate::proofs::Json::no_more))]
 fn push_flags<F: Flags>(line: &mut Line, table: &[Flag<F>], value: &F) -> Result<(), AllocError>
     ensures { F.exact → OnOk result (line.new ≡ line.old
-        ⊕ values_tokens (map string (names_set (map (λ f. (f.name.now, F.set_of f.value)) table.now) (F.set_of value.now)))) }
+        ⊕ values_tokens (map string
+        (names_set (map (λ f. (f.name.now, F.set_of f.value)) table.now) (F.set_of value.now)))) }
 {
     for flag in table {
         push_flag(line, flag, value)?;

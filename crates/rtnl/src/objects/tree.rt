@@ -4,7 +4,8 @@ ghost use Rattle.std.specs.Prelude.{◌≡◌, ◌∷◌, [], OnOk, codes};
 ghost use Rattle.nl_attr.specs.Tree.{HopItems, Items};
 ghost use Rattle.nl_attr.specs.View.{attr_view, attrs_view, hop_view, hops_view, value_view};
 ghost use Rattle.rtnl.specs.Json.{◌⊕◌, array, fields_tokens, values_tokens};
-ghost use Rattle.rtnl.specs.Objects.{attr_front, attrs_json, flags_json, hop_front, hops_json, name_json, value_fields};
+ghost use Rattle.rtnl.specs.Objects.{attr_front, attrs_json, flags_json};
+ghost use Rattle.rtnl.specs.Objects.{hop_front, hops_json, name_json, value_fields};
 
 use crate::objects::line::Line;
 use crate::objects::names::push_names;
@@ -19,7 +20,8 @@ use std::alloc::{AllocError, Global};
 /// Writes the field of the name of an attribute.
 #[tactic(auto, unfolding(crate::specs::Objects::name_json), using(crate::proofs::Json::more, crate::proofs::Json::one_field))]
 fn push_name(line: &mut Line, ctx: Ctx, number: u16) -> Result<(), AllocError>
-    ensures { OnOk result (line.new ≡ line.old ⊕ fields_tokens ((codes "name", name_json ctx number) ∷ [])) }
+    ensures { OnOk result
+        (line.new ≡ line.old ⊕ fields_tokens ((codes "name", name_json ctx number) ∷ [])) }
 {
     line.key("name")?;
     match find(ctx, number) {
@@ -31,7 +33,8 @@ fn push_name(line: &mut Line, ctx: Ctx, number: u16) -> Result<(), AllocError>
 /// Writes the field of the flags of an attribute.
 #[tactic(auto, unfolding(crate::specs::Objects::flags_json), using(crate::proofs::Json::more, crate::proofs::Json::tokens_array, crate::proofs::Json::one_field))]
 fn push_flags(line: &mut Line, flags: AttrFlags) -> Result<(), AllocError>
-    ensures { OnOk result (line.new ≡ line.old ⊕ fields_tokens ((codes "flags", flags_json flags) ∷ [])) }
+    ensures { OnOk result
+        (line.new ≡ line.old ⊕ fields_tokens ((codes "flags", flags_json flags) ∷ [])) }
 {
     line.key("flags")?;
     line.begin_array()?;
@@ -81,7 +84,8 @@ fn push_held(
     ctx: Ctx,
     value: &Value,
 ) -> Result<(), AllocError>
-    ensures { OnOk result (line.new ≡ line.old ⊕ fields_tokens (value_fields order form net ctx (value_view value.now))) }
+    ensures { OnOk result (line.new
+        ≡ line.old ⊕ fields_tokens (value_fields order form net ctx (value_view value.now))) }
 {
     match value {
         Value::Bytes(payload) => {
@@ -138,7 +142,8 @@ fn push_each_attr(
     ctx: Ctx,
     attrs: &[Attr],
 ) -> Result<(), AllocError>
-    ensures { OnOk result (line.new ≡ line.old ⊕ values_tokens (attrs_json order ctx (attrs_view attrs.now))) }
+    ensures { OnOk result
+        (line.new ≡ line.old ⊕ values_tokens (attrs_json order ctx (attrs_view attrs.now))) }
 {
     for attr in attrs {
         push_attr(alloc, line, order, ctx, attr)?;
@@ -184,7 +189,8 @@ fn push_each_hop(
     order: Order,
     hops: &[Hop],
 ) -> Result<(), AllocError>
-    ensures { OnOk result (line.new ≡ line.old ⊕ values_tokens (hops_json order (hops_view hops.now))) }
+    ensures { OnOk result
+        (line.new ≡ line.old ⊕ values_tokens (hops_json order (hops_view hops.now))) }
 {
     for hop in hops {
         push_hop(alloc, line, order, hop)?;

@@ -12,7 +12,8 @@ use std::alloc::{AllocError, Global};
 
 /// Writes the field of an address of IPv4.
 fn push_ipv4_field(line: &mut Line, address: &[u8; 4]) -> Result<(), AllocError>
-    ensures { OnOk result (line.new ≡ line.old ⊕ fields_tokens ((codes "value", string (ipv4_text address.now)) ∷ [])) }
+    ensures { OnOk result (line.new
+        ≡ line.old ⊕ fields_tokens ((codes "value", string (ipv4_text address.now)) ∷ [])) }
 {
     match str::from_utf8(ipv4(*address).as_bytes()) {
         Ok(text) => line.text("value", text),
@@ -22,7 +23,8 @@ fn push_ipv4_field(line: &mut Line, address: &[u8; 4]) -> Result<(), AllocError>
 
 /// Writes the field of an address of IPv6.
 fn push_ipv6_field(line: &mut Line, address: &[u8; 16]) -> Result<(), AllocError>
-    ensures { OnOk result (line.new ≡ line.old ⊕ fields_tokens ((codes "value", string (ipv6_text address.now)) ∷ [])) }
+    ensures { OnOk result (line.new
+        ≡ line.old ⊕ fields_tokens ((codes "value", string (ipv6_text address.now)) ∷ [])) }
 {
     match str::from_utf8(ipv6(address).as_bytes()) {
         Ok(text) => line.text("value", text),
@@ -33,7 +35,8 @@ fn push_ipv6_field(line: &mut Line, address: &[u8; 16]) -> Result<(), AllocError
 /// Writes the field of what is read.
 #[tactic(auto, unfolding(crate::specs::Objects::reading_json))]
 fn push_value(alloc: Global, line: &mut Line, reading: Reading<'_>) -> Result<(), AllocError>
-    ensures { OnOk result (line.new ≡ line.old ⊕ fields_tokens ((codes "value", reading_json (reading_view reading.entry)) ∷ [])) }
+    ensures { OnOk result (line.new ≡ line.old
+        ⊕ fields_tokens ((codes "value", reading_json (reading_view reading.entry)) ∷ [])) }
 {
     match reading {
         Reading::U8(number) => line.number("value", number.into()),
@@ -53,7 +56,8 @@ pub(crate) fn push_reading(
     line: &mut Line,
     reading: Reading<'_>,
 ) -> Result<(), AllocError>
-    ensures { OnOk result (line.new ≡ line.old ⊕ fields_tokens (reading_fields (reading_view reading.entry))) }
+    ensures { OnOk result
+        (line.new ≡ line.old ⊕ fields_tokens (reading_fields (reading_view reading.entry))) }
 {
     line.text("form", word(reading))?;
     push_value(alloc, line, reading)

@@ -2,7 +2,8 @@
 
 ghost use Rattle.std.specs.Prelude.{◌≡◌, ◌++◌, OnOk};
 ghost use Rattle.nl_frame.specs.View.{body_view};
-ghost use Rattle.rtnl.specs.Messages.{body_text, bytes_line, done_line, error_line, get_line, tail_end};
+ghost use Rattle.rtnl.specs.Messages.{body_text, bytes_line, done_line};
+ghost use Rattle.rtnl.specs.Messages.{error_line, get_line, tail_end};
 
 use crate::text::families::Shown;
 use crate::text::pieces::{push, push_hex};

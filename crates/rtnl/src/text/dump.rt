@@ -2,7 +2,8 @@
 
 ghost use Rattle.std.specs.Prelude.{◌≡◌, ◌≢◌, ◌≤◌, ◌++◌, OnOk, codes, length};
 ghost use Rattle.std.specs.Fmt.{signed_decimal};
-ghost use Rattle.rtnl.specs.Tabled.{complete_line, counts_line, dump_line, end_line, entry_line, refusal_line, sums_line, total_line, yes_no};
+ghost use Rattle.rtnl.specs.Tabled.{complete_line, counts_line, dump_line, end_line};
+ghost use Rattle.rtnl.specs.Tabled.{entry_line, refusal_line, sums_line, total_line, yes_no};
 
 use crate::telling::{Size, Telling};
 use crate::text::datagram::{push_number, push_refusal};
@@ -71,7 +72,8 @@ fn push_feed_error(out: &mut Vec<u8>, number: usize, error: FeedError) -> Result
 
 /// Writes a line of words and a code.
 fn push_coded(out: &mut Vec<u8>, words: &str, code: i32) -> Result<(), AllocError>
-    ensures { OnOk result (out.new.items ≡ out.old.items ++ words.now ++ signed_decimal code ++ codes "\n") }
+    ensures { OnOk result
+        (out.new.items ≡ out.old.items ++ words.now ++ signed_decimal code ++ codes "\n") }
 {
     let mut end = Segment::new();
     end.put("\n");
@@ -110,7 +112,8 @@ struct Counts {
 #[tactic(auto, unfolding(crate::specs::Tabled::counts_line))]
 fn push_counts_line(out: &mut Vec<u8>, counts: Counts) -> Result<(), AllocError>
     ensures { OnOk result (out.new.items ≡ out.old.items
-        ++ counts_line counts.entries counts.missed counts.ignored counts.unfed counts.damaged counts.interrupted) }
+        ++ counts_line counts.entries
+        counts.missed counts.ignored counts.unfed counts.damaged counts.interrupted) }
 {
     let Counts {
         entries,

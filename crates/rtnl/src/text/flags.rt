@@ -1,7 +1,8 @@
 //! The names of bits.
 
 ghost use Rattle.std.specs.Prelude.{⊤};
-ghost use Rattle.rtnl.specs.NamedBits.{error_flags, get_flags, hop_flags, link_flags, message_flags, neigh_flags, neigh_states, new_flags};
+ghost use Rattle.rtnl.specs.NamedBits.{error_flags, get_flags, hop_flags, link_flags};
+ghost use Rattle.rtnl.specs.NamedBits.{message_flags, neigh_flags, neigh_states, new_flags};
 
 use bitflags::{Flag, Flags};
 

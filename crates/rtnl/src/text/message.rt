@@ -51,7 +51,8 @@ pub(crate) fn push_message(
     order: Order,
     message: &Message,
 ) -> Result<(), AllocError>
-    ensures { OnOk result (out.new.items ≡ out.old.items ++ message_text order (message_view message.now)) }
+    ensures { OnOk result
+        (out.new.items ≡ out.old.items ++ message_text order (message_view message.now)) }
 {
     push_message_line(out, message.kind, message.flags, message.seq, message.port)?;
     push_body(alloc, out, order, &message.body)
@@ -64,7 +65,8 @@ pub(crate) fn push_messages(
     order: Order,
     messages: &[Message],
 ) -> Result<(), AllocError>
-    ensures { OnOk result (out.new.items ≡ out.old.items ++ messages_text order (map message_view messages.now)) }
+    ensures { OnOk result
+        (out.new.items ≡ out.old.items ++ messages_text order (map message_view messages.now)) }
 {
     for message in messages {
         push_message(alloc, out, order, message)?;

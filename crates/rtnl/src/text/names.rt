@@ -29,7 +29,8 @@ fn push_flag<F: Flags>(
 ) -> Result<bool, AllocError>
     ensures { F.exact → IfOk result (λ more. (rows : List Row) →
         out.new.items ++ rest_text more (names_set rows (F.set_of value.now))
-        ≡ out.old.items ++ rest_text any (names_set ((flag.now.name.now, F.set_of flag.now.value) ∷ rows) (F.set_of value.now))) }
+        ≡ out.old.items ++ rest_text any
+        (names_set ((flag.now.name.now, F.set_of flag.now.value) ∷ rows) (F.set_of value.now))) }
 {
     if !value.contains(F::from_bits_retain(flag.value().bits())) {
         return Ok(any);

@@ -9,7 +9,8 @@ pub(crate) type Row<T> = (u16, &'static str, T);
 
 /// The first row of a number.
 pub(crate) fn find_row<T: Copy>(rows: &[Row<T>], number: u16) -> Option<(&'static str, T)>
-    ensures { option_map (λ row. (row.0.now, row.1)) result ≡ spec.find_row number (map row_view rows.now) }
+    ensures { option_map (λ row. (row.0.now, row.1)) result
+        ≡ spec.find_row number (map row_view rows.now) }
 {
     for (key, name, rest) in rows {
         if *key == number {

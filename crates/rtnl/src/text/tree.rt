@@ -58,7 +58,8 @@ fn push_inline(
     net: bool,
     value: &Value,
 ) -> Result<(), AllocError>
-    ensures { OnOk result (out.new.items ≡ out.old.items ++ inline_text order form net (value_view value.now)) }
+    ensures { OnOk result
+        (out.new.items ≡ out.old.items ++ inline_text order form net (value_view value.now)) }
 {
     match value {
         Value::Bytes(payload) => push_value(
@@ -86,7 +87,8 @@ fn push_attr_line(
     attr: &Attr,
 ) -> Result<(), AllocError>
     ensures { OnOk result (out.new.items ≡ out.old.items
-        ++ attr_line order (indented indent.now) ctx attr.now.number attr.now.flags (value_view attr.now.value)) }
+        ++ attr_line order
+        (indented indent.now) ctx attr.now.number attr.now.flags (value_view attr.now.value)) }
 {
     let (name, form) = attribute(ctx, attr.number);
     let mut front = Segment::new();
@@ -111,7 +113,8 @@ fn push_hop_line(
     hops: u8,
     index: i32,
 ) -> Result<(), AllocError>
-    ensures { OnOk result (out.new.items ≡ out.old.items ++ hop_line (indented indent.now) flags hops index) }
+    ensures { OnOk result
+        (out.new.items ≡ out.old.items ++ hop_line (indented indent.now) flags hops index) }
 {
     let mut front = Segment::new();
     front.put(" ");
@@ -139,7 +142,8 @@ fn push_attr(
 ) -> Result<(), AllocError>
     ensures text { OnOk result ((more : Items) →
         out.new.items ++ items_text order (indented indent.old.items) ctx more
-        ≡ out.old.items ++ items_text order (indented indent.old.items) ctx (attr_view attr.now more)) }
+        ≡ out.old.items
+        ++ items_text order (indented indent.old.items) ctx (attr_view attr.now more)) }
     ensures same { OnOk result (indent.new.items ≡ indent.old.items) }
 {
     push_attr_line(out, order, indent.as_slice(), ctx, attr)?;

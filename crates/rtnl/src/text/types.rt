@@ -3,7 +3,8 @@
 ghost use Rattle.std.specs.Prelude.{◌≡◌, ◌++◌, OnOk, map};
 ghost use Rattle.rtnl.specs.Names.{names_text};
 ghost use Rattle.rtnl.specs.Rows.{row_view};
-ghost use Rattle.rtnl.specs.Types.{controls, flags_table, type_flags, type_name, verb_flags, verb_name};
+ghost use Rattle.rtnl.specs.Types.{controls, flags_table, type_flags};
+ghost use Rattle.rtnl.specs.Types.{type_name, verb_flags, verb_name};
 
 use crate::text::flags::{ErrorFlags, GetFlags, MessageFlags, NewFlags};
 use crate::text::names::push_names;

@@ -4,7 +4,10 @@ ghost use Rattle.std.specs.Prelude.{◌≡◌, ◌+◌, ◌<◌, ◌≤◌, ◌+
 ghost use Rattle.std.specs.List.{list_all};
 ghost use Rattle.rtnl.specs.Readings.{reading_view};
 ghost use Rattle.rtnl.specs.Text.{padded_hex};
-ghost use Rattle.rtnl.specs.Values.{group_at, groups_text, hex, ip_reading, ipv4_text, ipv6_text, is_plain, is_plain_byte, reading_of, reading_text, reading_word, stem_of, text_reading, u16_reading, u32_reading, u8_reading, value_text};
+ghost use Rattle.rtnl.specs.Values.{group_at, groups_text, hex, ip_reading, ipv4_text};
+ghost use Rattle.rtnl.specs.Values.{ipv6_text, is_plain, is_plain_byte, reading_of};
+ghost use Rattle.rtnl.specs.Values.{reading_text, reading_word, stem_of, text_reading};
+ghost use Rattle.rtnl.specs.Values.{u16_reading, u32_reading, u8_reading, value_text};
 
 use crate::text::attributes::Form;
 use crate::text::pieces::{push, push_decimal, push_hex};
@@ -202,7 +205,8 @@ pub(crate) fn ipv6(address: &[u8; 16]) -> Segment
 /// Writes what is printed behind the word.
 #[tactic(auto, unfolding(crate::specs::Values::reading_text))]
 fn push_reading(out: &mut Vec<u8>, reading: Reading<'_>) -> Result<(), AllocError>
-    ensures { OnOk result (out.new.items ≡ out.old.items ++ reading_text (reading_view reading.entry)) }
+    ensures { OnOk result
+        (out.new.items ≡ out.old.items ++ reading_text (reading_view reading.entry)) }
 {
     match reading {
         Reading::U8(number) => push_decimal(out, number as u64),
@@ -218,7 +222,8 @@ fn push_reading(out: &mut Vec<u8>, reading: Reading<'_>) -> Result<(), AllocErro
 /// Writes the word and what stands behind it.
 #[tactic(auto, unfolding(crate::specs::Values::value_text), using(std::proofs::Common::append_assoc))]
 pub(crate) fn push_value(out: &mut Vec<u8>, reading: Reading<'_>) -> Result<(), AllocError>
-    ensures { OnOk result (out.new.items ≡ out.old.items ++ value_text (reading_view reading.entry)) }
+    ensures { OnOk result
+        (out.new.items ≡ out.old.items ++ value_text (reading_view reading.entry)) }
 {
     push(out, word(reading))?;
     push(out, " ")?;

@@ -30,7 +30,8 @@ pub(crate) trait HeadLine: Head {
 
     /// Writes the fields of the head.
     fn push_fields(&self, line: &mut Line) -> Result<(), AllocError>
-        ensures { OnOk result (line.new ≡ line.old ⊕ fields_tokens (head_fields (as_any self.now))) };
+        ensures { OnOk result
+            (line.new ≡ line.old ⊕ fields_tokens (head_fields (as_any self.now))) };
 
     // It is of its family.
     ghost named: { (h : Self) → group_of (as_any h) ≡ Self.Head.group };
@@ -56,7 +57,8 @@ pub(crate) trait Shown {
 
     /// Writes a field of the family's name, with the fields of the head and the attributes.
     fn push_field(&self, alloc: Global, line: &mut Line, order: Order) -> Result<(), AllocError>
-        ensures { OnOk result (line.new ≡ line.old ⊕ fields_tokens (item_field order (item self.now) ∷ [])) };
+        ensures { OnOk result
+            (line.new ≡ line.old ⊕ fields_tokens (item_field order (item self.now) ∷ [])) };
 }
 
 impl<H: HeadLine> Shown for Family<H> {
