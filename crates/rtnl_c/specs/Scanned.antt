@@ -27,11 +27,14 @@ abbrev pub untaped : ℕ → ℕ → ℕ → Taped
 untaped visits place code = record { count = 0; visits = visits; place = place; code = code }
 
 module _ (b : Bounds) (d : List ℕ) where
-  -- what a scan finds: the datagram is too large; or it has a layout, and these are the visits of all heads; or this is its first fault, and these are the visits up to it
+  -- what a scan finds: the datagram is too large; or it has a layout, and these are the visits of all heads; or this is its first fault, and these are the
+  -- visits up to it
   pub data Scans : Scanned → Type 0 where
     too_large : b.datagram < length d → Scans (refused 0 0 6)
-    accepted : length d ≤ b.datagram → (ms : List MessageVal) → Layout b.shape ms d → (v : ℕ) → Visits b.shape (whole d) (length d) v → Scans (record { visits = v; place = 0; code = 0 })
-    faulty : length d ≤ b.datagram → (place : ℕ) (why : Reason) → IsFirstFault b.shape (whole d) place why → (v : ℕ) → Visits b.shape (whole d) place v → Scans (refused v place (reason_code why))
+    accepted : length d ≤ b.datagram → (ms : List MessageVal) → Layout b.shape ms d → (v : ℕ) → Visits b.shape (whole d) (length d) v
+        → Scans (record { visits = v; place = 0; code = 0 })
+    faulty : length d ≤ b.datagram → (place : ℕ) (why : Reason) → IsFirstFault b.shape (whole d) place why → (v : ℕ) → Visits b.shape (whole d) place v
+        → Scans (refused v place (reason_code why))
 
   -- the same; and what is told of the heads, up to the fault where there is one, stands in the buffer
   pub data Tapes (old : List Event) : List Event → Taped → Type 0 where

@@ -14,5 +14,7 @@ unshown code = record { len = 0; code = code }
 
 -- the text of the datagram's answer stands in the buffer, and this is its length; or memory ran out, and the buffer is as it was
 pub data Shows (b : Bounds) (number : ℕ) (d old : List ℕ) : List ℕ → Shown → Type 0 where
-  shows : (a : Answer) → Answers b d a → Shows b number d old (laid (datagram_text b.shape.order number d a) old) (record { len = length (datagram_text b.shape.order number d a); code = 0 })
+  shows : (a : Answer) → Answers b d a
+      → Shows b number d old (laid (datagram_text b.shape.order number d a) old)
+      (record { len = length (datagram_text b.shape.order number d a); code = 0 })
   no_memory : Shows b number d old old (unshown 13)
