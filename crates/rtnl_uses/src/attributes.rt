@@ -1,6 +1,7 @@
 //! A caller of `nl_attr`.
 
-ghost use Rattle.std.specs.Prelude.{◌≡◌, ◌<◌, ◌≤◌, ◌==◌, ◌∷◌, ◌++◌, [], List, length, map, count_by, IfOk, IfErr, Ok, Err};
+ghost use Rattle.std.specs.Prelude.{◌≡◌, ◌<◌, ◌≤◌, ◌==◌, ◌∷◌, ◌++◌, [], List};
+ghost use Rattle.std.specs.Prelude.{length, map, count_by, IfOk, IfErr, Ok, Err};
 ghost use Rattle.nl_attr.specs.Walk.{IsWalk, IsPart};
 ghost use Rattle.nl_attr.specs.declared.order.Order.{Order};
 ghost use Rattle.nl_attr.specs.declared.walk.attrs.Part.{Part};

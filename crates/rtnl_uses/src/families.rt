@@ -35,7 +35,8 @@ pub fn read_named(alloc: Global, body: &[u8], depth: Depth) -> Result<Named, Lis
         × (n.mtu ≡ number_view Order.Little 4 4 attrs)) }
     // A fault is the one at the least place.
     ensures first { IfErr result (λ e. IfLayout e (λ fault.
-        IsFirstFault (shape_of Order.Little depth) (attrs_of 16 Ctx.Link 0 body.now) fault.place fault.reason)) }
+        IsFirstFault (shape_of Order.Little depth)
+        (attrs_of 16 Ctx.Link 0 body.now) fault.place fault.reason)) }
 {
     let link = Link::read_body(alloc, body, 0, depth).into_result()?;
     let name = match link.name() {
