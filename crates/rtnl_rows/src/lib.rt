@@ -8,6 +8,8 @@ mod bodies;
 #[cfg(test)]
 mod broken_heads;
 #[cfg(test)]
+mod cursors;
+#[cfg(test)]
 mod datagrams;
 #[cfg(test)]
 mod dumps;
@@ -47,6 +49,8 @@ mod refusals;
 mod regions;
 #[cfg(test)]
 mod runs;
+#[cfg(test)]
+mod scans;
 #[cfg(test)]
 mod sessions;
 #[cfg(test)]
