@@ -194,6 +194,7 @@ fn tape_big(bytes: &[u8], depth: Depth, out: &mut [Event]) -> Taped
 }
 
 /// The messages of a datagram, by a loop for each order.
+#[inline(always)]
 pub(crate) fn tape_messages(bytes: &[u8], depth: Depth, order: Order, out: &mut [Event]) -> Taped
     requires { length bytes.now ≤ 1048576 }
     ensures taped { IsTaped (shape_of order depth) (trail_of (shape_of order depth)

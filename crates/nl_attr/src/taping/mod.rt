@@ -107,7 +107,10 @@ fn tape_region<'a>(
                 taped.fault = Some(Fault { place, reason });
                 return taped;
             }
-            Turn::Goes(rest) => top = rest,
+            Turn::Goes(rest) => {
+                top.left = rest.left;
+                top.place = rest.place;
+            }
             Turn::Opens(rest, inner) => {
                 stack.push(rest);
                 top = inner;

@@ -1,6 +1,7 @@
 use Rattle.std.proofs.Common.{◌≡◌, ◌++◌, [], ◌∷◌, length, map, ap, subst, arith, ◌∙◌}
 use Rattle.std.specs.Option.{option_to_list}
 use Rattle.std.proofs.lemmas.List.{map_push}
+use Rattle.nl_attr.specs.Heads.{Head}
 use Rattle.nl_attr.specs.Taped.{head_of}
 use Rattle.nl_attr.proofs.Lemmas.Taping.{begins, pops, goes, opens, small, tells_none, tells_fault, not_empty, empty, none_left, work, work_push, inner_less}
 use Rattle.nl_attr.proofs.taping.tape_region.Goals as goal
@@ -39,7 +40,9 @@ returns-in-Fails c =
 pub heads-preserved-in-Goes : goal.heads-preserved-in-Goes
 heads-preserved-in-Goes c =
     let s = c.in-Goes.ensures in
-    goes c.heads.invariant (head_of c.in-Goes.rest) c.step.new.taped c.step.new.out (not_empty c.heads.top.left.now c.if-is_empty.ensures) s.0 s.1 s.2 s.3
+    let top = head_of c.heads.top in
+    let same = ap (λ (h : Head). record top { place = h.place; left = h.left }) s.2 in
+    goes c.heads.invariant (record top { place = c.in-Goes.rest.place; left = c.in-Goes.rest.left.now }) c.step.new.taped c.step.new.out (not_empty c.heads.top.left.now c.if-is_empty.ensures) s.0 s.1 same s.3
 
 pub heads-smaller : goal.heads-smaller
 heads-smaller c =
