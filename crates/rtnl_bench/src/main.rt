@@ -1,6 +1,6 @@
 //! Measures the libraries over a recording on standard input, all datagrams N times:
-//! `rtnl_bench read N`, `rtnl_bench write N` what was read, `rtnl_bench show N`. It prints a count that
-//! depends on what was done.
+//! `rtnl_bench read N`, `rtnl_bench write N` what was read, `rtnl_bench show N`. It prints a count
+//! that depends on what was done.
 #![tactic(auto)]
 
 use anyhow::{Result, bail};

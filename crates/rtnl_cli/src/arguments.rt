@@ -191,7 +191,8 @@ pub(crate) fn parse(alloc: Global, arguments: &[String]) -> Result<Parsed, Alloc
     }
 }
 
-/// What stands where a command should and names none, with the `--` before it; it may be meant as a file.
+/// What stands where a command should and names none, with the `--` before it; it may be meant as a
+/// file.
 pub(crate) fn unknown_command<'a>(
     error: &Error,
     arguments: &'a [String],

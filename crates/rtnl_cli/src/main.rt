@@ -1,5 +1,5 @@
-//! The command `rtnl`: shows and checks recordings of rtnetlink datagrams, reads them as the answers to a
-//! dump, and prints the request that begins one.
+//! The command `rtnl`: shows and checks recordings of rtnetlink datagrams, reads them as the
+//! answers to a dump, and prints the request that begins one.
 #![tactic(auto)]
 
 mod arguments;
