@@ -1,6 +1,7 @@
 -- What a scan tells of a region, head by head and at its end.
 use Rattle.std.specs.Prelude.{◌≡◌, ◌+◌, ℕ, List, [], ◌∷◌, length, map, drop, Some, None}
 use Rattle.nl_attr.specs.declared.events.Event.{Event}
+use Rattle.nl_attr.specs.declared.events.TheConstants.{SORT_BYTES}
 use Rattle.nl_attr.specs.declared.order.Order.{Order}
 use Rattle.nl_attr.specs.declared.taping.Taped.{Taped}
 use Rattle.nl_attr.specs.declared.taping.fronts.Kind.{Kind}
@@ -13,8 +14,8 @@ use Rattle.nl_attr.specs.declared.taping.steps.Turn.TheVariants as turn
 use Rattle.nl_attr.specs.declared.tree.Ctx.{Ctx}
 use Rattle.nl_attr.specs.declared.tree.Ctx.TheVariants.{Route}
 use Rattle.nl_attr.specs.Shape.{Shape}
-use Rattle.nl_attr.specs.Numbers.{span_of}
-use Rattle.nl_attr.specs.Walk.{payload_of}
+use Rattle.nl_attr.specs.Numbers.{kind_of, span_of}
+use Rattle.nl_attr.specs.Walk.{flags_of, payload_of}
 use Rattle.nl_attr.specs.Heads.{Sort, attr_head, hop_head, Head, content_at, start_of, broken, follower, inner_of}
 use Rattle.nl_attr.specs.Trail.{trail_of, event_of, put_from, stopped, visits_of, fault_of}
 
@@ -38,11 +39,11 @@ hops_start l place left = record { place = place; sort = hop_head; ctx = Route; 
 
 -- ---- what stands at the front of one
 
--- the attribute of this head
+-- the attribute of this head, whose event says that it holds bytes
 pub record IsAttrFront (o : Order) (h : Head) (a : AttrFront) : Type 0 where
-  pub event : a.event ≡ event_of o h
+  pub event : a.event ≡ record (event_of o h) { sort = SORT_BYTES }
+  pub flags : a.flags ≡ flags_of (kind_of o h.left)
   pub span : a.span ≡ span_of o 2 h.left
-  pub content : a.content ≡ content_at o h.ctx h.left
   pub payload : a.payload.now ≡ payload_of o 4 2 h.left
   pub rest : head_of a.rest ≡ start_of h.ctx h.level (h.place + span_of o 2 h.left) (drop (span_of o 2 h.left) h.left)
 

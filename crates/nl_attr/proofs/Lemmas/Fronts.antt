@@ -1,5 +1,5 @@
 -- What stands at the front of a region, part by part, and the step past it.
-use Rattle.std.proofs.Common.{◌≡◌, ℕ, ◌+◌, ◌-◌, ◌%◌, false, List, [], ◌∷◌, take, drop, length, slice_set, Some, None, refl, sym, ap, subst, ◌∙◌, arith, length-drop}
+use Rattle.std.proofs.Common.{◌≡◌, ℕ, zero, suc, ◌+◌, ◌-◌, ◌%◌, false, List, [], ◌∷◌, take, drop, length, slice_set, Some, None, refl, sym, ap, subst, ◌∙◌, arith, length-drop}
 use Rattle.std.proofs.lemmas.List.{take_all}
 use Rattle.nl_attr.specs.declared.fault.Reason.{Reason}
 use Rattle.nl_attr.specs.declared.order.Order.{Order}
@@ -12,7 +12,7 @@ use Rattle.nl_attr.specs.declared.tree.Content.TheVariants as content
 use Rattle.nl_attr.specs.declared.taping.fronts.Kind.{Kind}
 use Rattle.nl_attr.specs.declared.taping.fronts.Kind.TheVariants as kind
 use Rattle.nl_attr.specs.declared.events.Event.{Event}
-use Rattle.nl_attr.specs.declared.events.TheConstants.{SORT_NEXT_HOP}
+use Rattle.nl_attr.specs.declared.events.TheConstants.{SORT_BYTES, SORT_NEXT_HOP}
 use Rattle.nl_attr.specs.Shape.{Shape}
 use Rattle.nl_attr.specs.Numbers.{kind_of, len_of}
 use Rattle.nl_attr.specs.Tree.{holds_of}
@@ -23,14 +23,28 @@ use Rattle.nl_attr.specs.Trail.{event_of, sort_of, stopped}
 use Rattle.nl_attr.proofs.Lemmas.Trail.{container_stops}
 use Rattle.nl_attr.proofs.Lemmas.Putting.{put_one}
 
--- what is told of an attribute
-pub event_so : (o : Order) (ctx : Ctx) (l place : ℕ) (left : List ℕ) (len kind : ℕ) (content : Content) (flags : AttrFlags) (sort : ℕ) → len ≡ length (payload_of o 4 2 left) → kind ≡ kind_of o left → flags ≡ flags_of kind → content ≡ holds_of ctx (kind % 16384) flags → sort ≡ sort_of content
-    → ◌≡◌ {A = Event} (record { place = place; len = len; number = kind % 16384; level = l; sort = sort; nested = flags.nested; net = flags.net }) (event_of o (start_of ctx l place left))
-event_so o ctx l place left len kind content flags sort a b c d e = rw (e, d, c, b, a) refl
+-- the event of an attribute, as of one that holds bytes
+pub bytes_event_so : (o : Order) (ctx : Ctx) (l place : ℕ) (left : List ℕ) (len kind : ℕ) (flags : AttrFlags) → len ≡ length (payload_of o 4 2 left) → kind ≡ kind_of o left → flags ≡ flags_of kind
+    → ◌≡◌ {A = Event} (record { place = place; len = len; number = kind % 16384; level = l; sort = SORT_BYTES; nested = flags.nested; net = flags.net }) (record (event_of o (start_of ctx l place left)) { sort = SORT_BYTES })
+bytes_event_so o ctx l place left len kind flags a b c = rw (c, b, a) refl
 
 -- what it holds
-pub content_so : (o : Order) (ctx : Ctx) (left : List ℕ) (kind : ℕ) (content : Content) (flags : AttrFlags) → kind ≡ kind_of o left → flags ≡ flags_of kind → content ≡ holds_of ctx (kind % 16384) flags → content ≡ content_at o ctx left
-content_so o ctx left kind content flags b c d = rw (d, c, b) refl
+pub content_so : (o : Order) (ctx : Ctx) (left : List ℕ) (number : ℕ) (content : Content) (flags : AttrFlags) → number ≡ kind_of o left % 16384 → flags ≡ flags_of (kind_of o left) → content ≡ holds_of ctx number flags → content ≡ content_at o ctx left
+content_so o ctx left number content flags b c d = rw (d, c, b) refl
+
+-- its event by what it holds
+pub event_so : (o : Order) (ctx : Ctx) (l place : ℕ) (left : List ℕ) (e : Event) (content : Content) (sort : ℕ) → e ≡ record (event_of o (start_of ctx l place left)) { sort = SORT_BYTES } → content ≡ content_at o ctx left → sort ≡ sort_of content → record e { sort = sort } ≡ event_of o (start_of ctx l place left)
+event_so o ctx l place left e content sort a b c = rw (a, c, b) refl
+
+-- that of one that holds bytes
+pub bytes_event : (o : Order) (ctx : Ctx) (l place : ℕ) (left : List ℕ) → content_at o ctx left ≡ content.Bytes → ◌≡◌ {A = Event} (record (event_of o (start_of ctx l place left)) { sort = SORT_BYTES }) (event_of o (start_of ctx l place left))
+bytes_event o ctx l place left e = ap (λ (k : Content). record (event_of o (start_of ctx l place left)) { sort = sort_of k }) (sym e)
+
+-- an event that is put in the place of another
+pub put_again : (xs : List Event) (n : ℕ) (a b : Event) → slice_set (slice_set xs n a) n b ≡ slice_set xs n b
+put_again [] n a b = refl
+put_again (x ∷ xs) zero a b = refl
+put_again (x ∷ xs) (suc n) a b = ap (λ (ys : List Event). x ∷ ys) (put_again xs n a b)
 
 -- what is left behind an item
 left_so : (left : List ℕ) (n m : ℕ) → n ≡ m → take (length left - n) (drop n left) ≡ drop m left

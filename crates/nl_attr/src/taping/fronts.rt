@@ -9,7 +9,7 @@ ghost use Rattle.nl_attr.specs.Walk.{HeadIs};
 
 use crate::events::{Event, SORT_BYTES, SORT_HOPS, SORT_LIST, SORT_NEXT_HOP};
 use crate::order::Order;
-use crate::tree::{Content, Ctx, holds};
+use crate::tree::{AttrFlags, Content, Ctx};
 use crate::walk::{flags_in, kind_at, span_at};
 
 /// What a region is made of.
@@ -46,10 +46,11 @@ impl Default for OpenRegion<'_> {
 /// An attribute at the front of a region.
 #[derive(Clone, Copy)]
 pub(super) struct AttrFront<'a> {
+    /// Its event, which says that it holds bytes.
     pub(super) event: Event,
+    pub(super) flags: AttrFlags,
     /// How many bytes it occupies.
     pub(super) span: u32,
-    pub(super) content: Content,
     pub(super) payload: &'a [u8],
     /// What is left behind it.
     pub(super) rest: OpenRegion<'a>,
@@ -68,7 +69,8 @@ pub(super) struct HopFront<'a> {
 }
 
 /// The sort of an attribute that holds this.
-fn sort(content: Content) -> u8
+#[inline(always)]
+pub(super) fn sort(content: Content) -> u8
     ensures { result ≡ sort_of content }
 {
     match content {
@@ -121,23 +123,21 @@ pub(super) fn attr_front<'a>(
     ensures { IsAttrFront order (start_of ctx level place left.now) result }
 {
     let kind = kind_at(order, left);
-    let number = kind % 16384;
     let flags = flags_in(kind);
-    let content = holds(ctx, number, flags);
     let payload = &left[4..len];
     let span = span_at(left, len);
     AttrFront {
         event: Event {
             place,
             len: payload.len() as u32,
-            number,
+            number: kind % 16384,
             level,
-            sort: sort(content),
+            sort: SORT_BYTES,
             nested: flags.nested,
             net: flags.net,
         },
+        flags,
         span: span as u32,
-        content,
         payload,
         rest: OpenRegion {
             left: &left[span..],

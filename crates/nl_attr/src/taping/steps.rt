@@ -9,8 +9,8 @@ use crate::fault::Reason;
 use crate::limits::Shape;
 use crate::stack::container_fault;
 use crate::taping::Taped;
-use crate::taping::fronts::{Kind, OpenRegion, attr_front, hop_front, inside};
-use crate::tree::{Content, Ctx};
+use crate::taping::fronts::{Kind, OpenRegion, attr_front, hop_front, inside, sort};
+use crate::tree::{Content, Ctx, holds};
 use crate::walk::head_len;
 
 /// Where the head at the front of a region leads.
@@ -49,15 +49,20 @@ fn step_attr<'a>(
         Err(reason) => return Turn::Fails(reason),
     };
     let attr = attr_front(left, len, place, level, ctx, order);
+    let at = taped.count;
     taped.add(out, attr.event, attr.span);
-    if let Some(reason) = container_fault(attr.content, len, level, shape) {
-        return Turn::Fails(reason);
-    }
-    let kind = match attr.content {
+    let content = holds(ctx, attr.event.number, attr.flags);
+    let kind = match content {
         Content::Bytes => return Turn::Goes(attr.rest),
         Content::List(ctx) => Kind::Attrs(ctx),
         Content::Hops => Kind::Hops,
     };
+    // A container's event is put again, with its sort; most attributes hold bytes and are done.
+    let sort = sort(content);
+    Event { sort, ..attr.event }.put(out, at);
+    if let Some(reason) = container_fault(content, len, level, shape) {
+        return Turn::Fails(reason);
+    }
     Turn::Opens(attr.rest, inside(attr.payload, place, 4, level, kind))
 }
 

@@ -1,6 +1,7 @@
-use Rattle.std.proofs.Common.{◌≡◌, ℕ, length, refl, ap}
+use Rattle.std.proofs.Common.{◌≡◌, ℕ, length, refl, ap, ◌∙◌}
 use Rattle.nl_attr.specs.Numbers.{kind_of, span_of}
-use Rattle.nl_attr.proofs.Lemmas.Fronts.{content_so, event_so, rest_so}
+use Rattle.nl_attr.specs.Walk.{flags_of}
+use Rattle.nl_attr.proofs.Lemmas.Fronts.{bytes_event_so, rest_so}
 use Rattle.nl_attr.proofs.Lemmas.Reading.{payload_is}
 use Rattle.nl_attr.proofs.taping.fronts.attr_front.Goals as goal
 
@@ -12,9 +13,9 @@ returns c =
     let kind : c.kind_at-kind.result ≡ kind_of a.order a.left.now = c.kind_at-kind.ensures in
     let span : c.span_at-span.result ≡ span_of a.order 2 a.left.now = rw (c.span_at-span.ensures, s.2) refl in
     record {
-      event = event_so a.order a.ctx a.level a.place a.left.now _ c.kind_at-kind.result c.holds-content.result c.flags_in-flags.result c.sort.result (ap (length {A = ℕ}) body) kind c.flags_in-flags.ensures c.holds-content.ensures c.sort.ensures;
+      event = bytes_event_so a.order a.ctx a.level a.place a.left.now _ c.kind_at-kind.result c.flags_in-flags.result (ap (length {A = ℕ}) body) kind c.flags_in-flags.ensures;
+      flags = c.flags_in-flags.ensures ∙ ap flags_of kind;
       span = span;
-      content = content_so a.order a.ctx a.left.now c.kind_at-kind.result c.holds-content.result c.flags_in-flags.result kind c.flags_in-flags.ensures c.holds-content.ensures;
       payload = body;
       rest = rest_so a.ctx a.level a.place a.left.now _ _ span;
     }
