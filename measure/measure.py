@@ -9,17 +9,17 @@ crates/rtnl_c/out/librtnl_c.a), and valgrind. Beside ours it runs `ip`, and smal
 cc, pkg-config and those libraries are installed, and GNU time for memory; what is missing has a dash.
 
 Instructions are those that callgrind counts: of three passes less one pass, halved, over the bytes of the datagrams;
-of a whole program for N datagrams and for twice as many, one less the other. Times are the shortest of five. Larger
-recordings are made by repeating.
+of a whole program for N datagrams and for twice as many, one less the other. Times are those of the processor, the
+shortest of a hundred. Larger recordings are made by repeating.
 """
 import os
 import re
+import resource
 import shutil
 import struct
 import subprocess
 import sys
 import tempfile
-import time
 
 TOP = os.path.join(os.path.dirname(os.path.abspath(__file__)), "..")
 PROGRAM = os.path.join(TOP, "crates/rtnl_cli/out/rtnl_cli")
@@ -29,8 +29,9 @@ BENCH = os.path.join(TOP, "crates/rtnl_bench/out/rtnl_bench")
 LARGE = 400_000
 LONG = 10_000_000
 
-# How many passes are timed.
-PASSES = 200
+# How many passes are timed, and how often.
+PASSES = 50
+RUNS = 100
 
 # The dumps that `ip` shows from a file, by their message type: what it calls them, and what stands before them.
 DUMPS = {20: ("address", 0x47361222), 24: ("route", 0x45311224)}
@@ -73,16 +74,29 @@ def passes(command, given):
     return None if one is None or three is None else (three - one) / 2
 
 
-def nanoseconds(command, given):
-    """How long a pass of such a program takes: of many passes less one, each the shortest of five runs."""
-    def shortest(count):
-        times = []
-        for _ in range(5):
-            begun = time.perf_counter_ns()
-            subprocess.run([*command, str(count)], input=given, stdout=subprocess.DEVNULL, check=True)
-            times.append(time.perf_counter_ns() - begun)
-        return min(times)
-    return (shortest(1 + PASSES) - shortest(1)) / PASSES
+def seconds(command, given):
+    """The processor time of a program."""
+    begun = resource.getrusage(resource.RUSAGE_CHILDREN)
+    subprocess.run(command, input=given, stdout=subprocess.DEVNULL, check=True)
+    ended = resource.getrusage(resource.RUSAGE_CHILDREN)
+    return ended.ru_utime + ended.ru_stime - begun.ru_utime - begun.ru_stime
+
+
+def nanoseconds(commands, given):
+    """The processor time of one pass of each such program: of many passes less one, each the shortest of many runs,
+    which are made in turn."""
+    shortest = {}
+    for _ in range(RUNS):
+        for command in filter(None, commands):
+            for count in (1, 1 + PASSES):
+                key = *command, count
+                shortest[key] = min(shortest.get(key, 1e9), seconds([*command, str(count)], given))
+    return [command and (shortest[*command, 1 + PASSES] - shortest[*command, 1]) / PASSES * 1e9 for command in commands]
+
+
+def passes_of_each(commands, given):
+    """The instructions of one pass of each such program."""
+    return [command and passes(command, given) for command in commands]
 
 
 def whole(command, files):
@@ -170,17 +184,18 @@ def small(folder, recordings):
     table(*rows)
 
 
-def library(folder, recordings, cost):
+def library(folder, recordings, costs):
     """What the calls of our C library and those of others take of a byte, by instructions or by time."""
     ours, mnl = over_ours(folder), compiled(folder, "libmnl", "libmnl")
     nl = compiled(folder, "libnl", "libnl-route-3.0")
-    ways = [(ours, "scan"), (ours, "tape"), (ours, "cursors"), (mnl, "loops"), (mnl, "callbacks")]
+    ways = [(ours, "scan"), (ours, "tape"), (ours, "cursors"), (mnl, "loops"), (mnl, "callbacks"), (nl,)]
+    commands = [list(way) if way[0] else None for way in ways]
     heads = ["`rtnl_scan`", "`rtnl_tape`", "cursors", "libmnl, loops", "libmnl, callbacks", "libnl"]
     rows = [("recording", "bytes", *heads)]
     for name, datagrams in recordings:
-        size, binary = sum(map(len, datagrams)), sized(datagrams)
-        costs = [program and cost([program, way], binary) for program, way in ways] + [nl and cost([nl], binary)]
-        rows.append((name, f"{size:,}", *(shown(each, size, "{:.2f}") for each in costs)))
+        size = sum(map(len, datagrams))
+        found = costs(commands, sized(datagrams))
+        rows.append((name, f"{size:,}", *(shown(each, size, "{:.2f}") for each in found)))
     table(*rows)
 
 
@@ -275,7 +290,7 @@ def main():
     with tempfile.TemporaryDirectory() as made:
         print("Instructions a byte of datagrams:\n")
         small(made, recordings)
-        library(made, recordings, passes)
+        library(made, recordings, passes_of_each)
         large(made, recordings)
         hostile(made)
         tables(made)
