@@ -1,6 +1,6 @@
 #!/usr/bin/env bash
-# Records dumps of a live kernel for measure.py, one NAME.hex a kind: of 223 links, some 5,000 routes and
-# 1,200 neighbours, which it makes in a network namespace of its own. It needs `ip`, unshare, python3, the right to
+# Records dumps of a live kernel for measure.py, one NAME.hex a kind: of 223 links, some 6,000 routes and
+# 1,700 neighbours, which it makes in a network namespace of its own. It needs `ip`, unshare, python3, the right to
 # make a namespace, and the program that the gate builds.
 # usage: measure/record.sh FOLDER
 set -eu
