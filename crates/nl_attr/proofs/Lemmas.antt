@@ -12,6 +12,8 @@ pub mod Nested
 pub mod Outcomes
 pub mod Hops
 pub mod Kept
+pub mod Reads
+pub mod Writes
 pub mod Numbers
 pub mod Fitting
 pub mod Scan
@@ -20,7 +22,7 @@ pub mod Visited
 pub mod Pieces
 pub mod Walk
 pub mod Sound
-pub mod Told
+pub mod Regions
 pub mod Every
 pub mod Exact
 pub mod Texts

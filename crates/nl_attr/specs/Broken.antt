@@ -1,4 +1,4 @@
--- The head that a fault is about, and what is told of it.
+-- The head that a fault is about.
 use Rattle.std.specs.Prelude.{◌≡◌, ℕ, nat_lt, if◌then◌else◌, List, length, Option, Some, None}
 use Rattle.nl_attr.specs.declared.order.Order.{Order}
 use Rattle.nl_attr.specs.declared.fault.Fault.{Fault}
@@ -17,10 +17,10 @@ abbrev pub head_kind : Sort → HeadKind
 head_kind attr_head = Attribute
 head_kind hop_head = NextHop
 
--- what is told of a head
+-- the kind of a head, its level, its length, and the bytes that are left
 abbrev pub facts_of : Order → Head → BrokenHead
 facts_of o h = record { kind = head_kind h.sort; level = h.level; len = length_said o (least h.sort) 2 h.left; left = length h.left }
 
--- a head of the region that begins at start stands at the fault's place and breaks its rule, and this is told of it
+-- a head of the region that begins at start stands at the fault's place and breaks its rule, and these are its facts
 abbrev pub IsBrokenHead : Shape → Head → Fault → BrokenHead → Type 0
 IsBrokenHead S start f b = (h : Head) × HeadAt S start h × (h.place ≡ f.place) × (broken S h ≡ Some f.reason) × (b ≡ facts_of S.order h)

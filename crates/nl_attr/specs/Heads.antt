@@ -1,5 +1,7 @@
 -- Which heads stand where, what each breaks, and what a walk over them visits.
 use Rattle.std.specs.Prelude.{◌≡◌, ◌≢◌, ◌<◌, ◌≤◌, ◌+◌, ◌%◌, ℕ, nat_lt, if◌then◌else◌, List, [], length, drop, Option, Some, None}
+use Rattle.nl_attr.specs.declared.limits.TheConstants.{LONGEST_CONTAINER}
+use Rattle.nl_attr.specs.declared.tree.TheConstants.{NUMBERS}
 use Rattle.nl_attr.specs.declared.fault.Reason.{Reason}
 use Rattle.nl_attr.specs.declared.fault.Reason.TheVariants.{TooLong, TooDeep}
 use Rattle.nl_attr.specs.declared.tree.Ctx.{Ctx}
@@ -35,7 +37,7 @@ opens (content.List c) = 1
 opens content.Hops = 2
 
 abbrev pub content_at : Order → Ctx → List ℕ → Content
-content_at o ctx left = holds_of ctx (kind_of o left % 16384) (flags_of (kind_of o left))
+content_at o ctx left = holds_of ctx (kind_of o left % NUMBERS) (flags_of (kind_of o left))
 
 abbrev pub or_else : Option Reason → Option Reason → Option Reason
 or_else None s = s
@@ -54,8 +56,8 @@ module _ (S : Shape) where
   -- the rules of containers, in their order
   abbrev pub broken_container : ℕ → Content → ℕ → Option Reason
   broken_container l content.Bytes len = None
-  broken_container l (content.List c) len = if nat_lt 65532 len then Some TooLong else (if nat_lt S.depth (l + 1) then Some TooDeep else None)
-  broken_container l content.Hops len = if nat_lt 65532 len then Some TooLong else (if nat_lt S.depth (l + 2) then Some TooDeep else None)
+  broken_container l (content.List c) len = if nat_lt LONGEST_CONTAINER len then Some TooLong else (if nat_lt S.depth (l + 1) then Some TooDeep else None)
+  broken_container l content.Hops len = if nat_lt LONGEST_CONTAINER len then Some TooLong else (if nat_lt S.depth (l + 2) then Some TooDeep else None)
 
   abbrev pub broken_in : Ctx → ℕ → Sort → List ℕ → Option Reason
   broken_in ctx l hop_head left = broken_length S.order 8 2 left

@@ -10,12 +10,14 @@ pub mod View
 pub mod Views
 pub mod Stored
 pub mod Codes
-pub mod Told
+pub mod Outcomes
 pub mod Open
 pub mod Kept
+pub mod Reads
 pub mod Written
 pub mod Proper
 pub mod Measured
+pub mod Writes
 pub mod Compared
 pub mod Broken
 pub mod Towards

@@ -1,4 +1,4 @@
--- The events of a list: what a scan of the region that it fits tells of each head, in their order.
+-- The events of a list: those of a scan of the region that it fits, in the order of its heads.
 use Rattle.std.specs.Prelude.{◌+◌, ◌==◌, ℕ, if◌then◌else◌, List, [], ◌∷◌, ◌++◌}
 use Rattle.nl_attr.specs.declared.events.Event.{Event}
 use Rattle.nl_attr.specs.declared.events.TheConstants.{SORT_BYTES, SORT_LIST, SORT_HOPS}

@@ -1,7 +1,9 @@
 -- What one walk over a list measures: nothing where it is mismatched, else whether it is too deep, and its length where it is not too long.
-use Rattle.std.specs.Prelude.{ℕ, ◌+◌, ◌-◌, false, ◌||◌, nat_lt, if◌then◌else◌, length, Option, Some, None, Result, Ok, Err}
+use Rattle.std.specs.Prelude.{ℕ, ◌+◌, ◌-◌, false, ◌||◌, nat_lt, if◌then◌else◌, length, Option, Some, None, Result, Err, ok_or}
+use Rattle.nl_attr.specs.declared.limits.TheConstants.{LONGEST_REGION, LONGEST_ITEM}
+use Rattle.nl_attr.specs.declared.tree.TheConstants.{NUMBERS}
 use Rattle.nl_attr.specs.declared.fault.WriteError.{WriteError}
-use Rattle.nl_attr.specs.declared.fault.WriteError.TheVariants.{Mismatch, TooDeep, TooLong, Memory}
+use Rattle.nl_attr.specs.declared.fault.WriteError.TheVariants.{Mismatch, TooDeep, TooLong}
 use Rattle.nl_attr.specs.declared.measuring.Extent.{Extent}
 use Rattle.nl_attr.specs.declared.tree.Ctx.{Ctx}
 use Rattle.nl_attr.specs.declared.tree.Ctx.TheVariants.{Route}
@@ -9,18 +11,17 @@ use Rattle.nl_attr.specs.declared.tree.Content.{Content}
 use Rattle.nl_attr.specs.declared.tree.Content.TheVariants as content
 use Rattle.nl_attr.specs.Numbers.{aligned}
 use Rattle.nl_attr.specs.Tree.{Val, bytes, list, hops, Items, no_items, item, HopItems, no_hops, hop, holds_of}
-use Rattle.nl_attr.specs.Proper.{IsMismatched, IsDeep, IsLong, IsProper}
 
 -- two parts of a region, which has at most 1,048,576 bytes
 abbrev pub region_len : Option ℕ → Option ℕ → Option ℕ
 region_len None b = None
 region_len (Some a) None = None
-region_len (Some a) (Some b) = if nat_lt 1048576 (a + b) then None else Some (a + b)
+region_len (Some a) (Some b) = if nat_lt LONGEST_REGION (a + b) then None else Some (a + b)
 
 -- an item with its head and its padding, whose length field has 16 bits
 abbrev pub item_len : ℕ → Option ℕ → Option ℕ
 item_len h None = None
-item_len h (Some n) = if nat_lt 65535 (h + n) then None else Some (aligned (h + n))
+item_len h (Some n) = if nat_lt LONGEST_ITEM (h + n) then None else Some (aligned (h + n))
 
 abbrev pub empty_extent : Extent
 empty_extent = record { deep = false; len = Some 0 }
@@ -57,16 +58,13 @@ abbrev mutual
   pub extent_of : Items → Ctx → ℕ → Option Extent
   extent_of no_items ctx room = Some empty_extent
   extent_of (item n flags v more) ctx room =
-      join (if nat_lt 16383 n then None else extent_of_item 4 (extent_of_val v (holds_of ctx n flags) room)) (extent_of more ctx room)
+      join (if nat_lt (NUMBERS - 1) n then None else extent_of_item 4 (extent_of_val v (holds_of ctx n flags) room)) (extent_of more ctx room)
 
   pub extent_of_hops : HopItems → ℕ → Option Extent
   extent_of_hops no_hops room = Some empty_extent
   extent_of_hops (hop flags count index attrs more) room = join (extent_of_item 8 (extent_of attrs Route (room - 1))) (extent_of_hops more room)
 
--- what a result says of a list: the first refusal that applies, or that it can be written
-abbrev pub Judges : {X : Type 0} → Items → Ctx → ℕ → Result X WriteError → Type 0
-Judges is ctx D (Ok x) = IsProper is ctx 0 D
-Judges is ctx D (Err Mismatch) = IsMismatched is ctx
-Judges is ctx D (Err TooDeep) = (IsMismatched is ctx → ⊥) × IsDeep is 0 D
-Judges is ctx D (Err TooLong) = (IsMismatched is ctx → ⊥) × (IsDeep is 0 D → ⊥) × IsLong is
-Judges is ctx D (Err Memory) = IsProper is ctx 0 D
+-- the length of what was measured, or the first refusal that applies
+abbrev pub length_of : Option Extent → Result ℕ WriteError
+length_of None = Err Mismatch
+length_of (Some e) = if e.deep then Err TooDeep else ok_or e.len TooLong

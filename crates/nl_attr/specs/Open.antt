@@ -1,5 +1,6 @@
 -- Open regions: what is left to read of them, and how they lie in one another.
 use Rattle.std.specs.Prelude.{◌≡◌, ◌+◌, ◌<◌, ◌≤◌, ℕ, suc, List, [], ◌∷◌, ◌++◌, length, map, Option, Some, None, Result, Ok, Err}
+use Rattle.nl_attr.specs.declared.limits.TheConstants.{LONGEST_REGION, FARTHEST_END}
 use Rattle.nl_attr.specs.declared.fault.ListError.{ListError}
 use Rattle.nl_attr.specs.declared.fault.ListError.TheVariants.{Layout, Memory}
 use Rattle.nl_attr.specs.declared.tree.AttrFlags.{AttrFlags}
@@ -160,8 +161,8 @@ levels_in hop_head = 1
 pub record IsWithinLimits (S : Shape) (s : Spot) : Type 0 where
   pub order : s.region.order ≡ S.order
   pub level : s.level + levels_in s.sort ≤ S.depth
-  pub size : spot_end s ≤ 1048576
-  pub place : s.base + spot_end s ≤ 2097152
+  pub size : spot_end s ≤ LONGEST_REGION
+  pub place : s.base + spot_end s ≤ FARTHEST_END
 
 -- where a region may be opened: at this level, up to this place
 pub record Room : Type 0 where

@@ -1,6 +1,10 @@
 -- Which lists can be written, and why others can't.
 use Rattle.std.specs.Prelude.{◌<◌, ◌≤◌, ◌+◌, ◌⊎◌, ℕ, FitsSigned}
 use Rattle.std.specs.Int.{w32}
+use Rattle.nl_attr.specs.declared.fault.WriteError.{WriteError}
+use Rattle.nl_attr.specs.declared.fault.WriteError.TheVariants.{Mismatch, TooDeep, TooLong, Memory}
+use Rattle.nl_attr.specs.declared.limits.TheConstants.{LONGEST_REGION, LONGEST_ITEM}
+use Rattle.nl_attr.specs.declared.tree.TheConstants.{NUMBERS}
 use Rattle.nl_attr.specs.declared.tree.Ctx.{Ctx}
 use Rattle.nl_attr.specs.declared.tree.Ctx.TheVariants.{Route}
 use Rattle.nl_attr.specs.declared.tree.Content.{Content}
@@ -23,7 +27,7 @@ abbrev mutual
   -- some number has more than 14 bits, or some value is of another kind than its attribute holds
   pub IsMismatched : Items → Ctx → Type 0
   IsMismatched no_items ctx = ⊥
-  IsMismatched (item n flags v more) ctx = (16384 ≤ n) ⊎ (IsMismatchedVal v (holds_of ctx n flags) ⊎ IsMismatched more ctx)
+  IsMismatched (item n flags v more) ctx = (NUMBERS ≤ n) ⊎ (IsMismatchedVal v (holds_of ctx n flags) ⊎ IsMismatched more ctx)
 
   pub IsMismatchedHops : HopItems → Type 0
   IsMismatchedHops no_hops = ⊥
@@ -46,11 +50,11 @@ abbrev mutual
 
 -- a region of so many bytes is too long
 abbrev pub IsLongRegion : ℕ → Type 0
-IsLongRegion len = 1048576 < len
+IsLongRegion len = LONGEST_REGION < len
 
 -- an item of so many bytes is too long for its length field
 abbrev pub IsLongItem : ℕ → Type 0
-IsLongItem len = 65535 < len
+IsLongItem len = LONGEST_ITEM < len
 
 abbrev mutual
   pub HasLongVal : Val → Type 0
@@ -77,6 +81,17 @@ pub record IsProper (is : Items) (ctx : Ctx) (l D : ℕ) : Type 0 where
   pub shallow : IsDeep is l D → ⊥
   pub short : IsLong is → ⊥
 
+-- the refusals of a writing in their order, each where none before it applies, and memory where none of them does
+abbrev pub Refusal : Type 0 → Type 0 → Type 0 → WriteError → Type 0
+Refusal Mismatched Deep Long Mismatch = Mismatched
+Refusal Mismatched Deep Long TooDeep = (Mismatched → ⊥) × Deep
+Refusal Mismatched Deep Long TooLong = (Mismatched → ⊥) × (Deep → ⊥) × Long
+Refusal Mismatched Deep Long Memory = (Mismatched → ⊥) × (Deep → ⊥) × (Long → ⊥)
+
+-- why a list is not written where containers may open D levels
+abbrev pub IsRefused : Items → Ctx → ℕ → WriteError → Type 0
+IsRefused is ctx D = Refusal (IsMismatched is ctx) (IsDeep is 0 D) (IsLong is)
+
 abbrev mutual
   pub IsRangedVal : Val → Type 0
   IsRangedVal (bytes bs) = Unit {0}
@@ -101,8 +116,8 @@ abbrev mutual
   -- each number has 14 bits, and each length 16
   pub IsSized : Items → Type 0
   IsSized no_items = Unit {0}
-  IsSized (item n flags v more) = (n < 16384) × (4 + val_len v ≤ 65535) × IsSizedVal v × IsSized more
+  IsSized (item n flags v more) = (n < NUMBERS) × (4 + val_len v ≤ LONGEST_ITEM) × IsSizedVal v × IsSized more
 
   pub IsSizedHops : HopItems → Type 0
   IsSizedHops no_hops = Unit {0}
-  IsSizedHops (hop flags count index attrs more) = (8 + items_len attrs ≤ 65535) × IsSized attrs × IsSizedHops more
+  IsSizedHops (hop flags count index attrs more) = (8 + items_len attrs ≤ LONGEST_ITEM) × IsSized attrs × IsSizedHops more

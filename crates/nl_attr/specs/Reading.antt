@@ -1,5 +1,6 @@
 -- Reading a region from left to right, with the first fault that is met and the bytes visited until then.
 use Rattle.std.specs.Prelude.{◌+◌, ◌%◌, ℕ, zero, suc, List, [], ◌∷◌, length, drop, slice_index, Option, Some, None, Result, Ok, Err}
+use Rattle.nl_attr.specs.declared.tree.TheConstants.{NUMBERS}
 use Rattle.nl_attr.specs.declared.fault.Reason.{Reason}
 use Rattle.nl_attr.specs.declared.fault.Reason.TheVariants.{Cut, BadLength, ShortBody, TooLong, TooDeep}
 use Rattle.nl_attr.specs.declared.fault.Fault.{Fault}
@@ -58,7 +59,7 @@ module _ (S : Shape) where
         and_then (value_by (content_at S.order ctx (b ∷ bs)) (payload_of S.order 4 2 (b ∷ bs))
         (λ c. items_at n c (l + 1) (place + 4) (payload_of S.order 4 2 (b ∷ bs)))
         (λ _. hops_at n (l + 1) (place + 4) (payload_of S.order 4 2 (b ∷ bs)))) (λ v.
-        map_value (item (kind_of S.order (b ∷ bs) % 16384) (flags_of (kind_of S.order (b ∷ bs))) v)
+        map_value (item (kind_of S.order (b ∷ bs) % NUMBERS) (flags_of (kind_of S.order (b ∷ bs))) v)
         (items_at n ctx l (place + span_of S.order 2 (b ∷ bs)) (drop (span_of S.order 2 (b ∷ bs)) (b ∷ bs)))))
 
     pub hops_at : ℕ → ℕ → ℕ → List ℕ → Outcome HopItems

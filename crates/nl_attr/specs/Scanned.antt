@@ -1,4 +1,4 @@
--- What a scan that keeps nothing tells of the outcome of a reading.
+-- How the answer of a scan, which keeps nothing, stands to the outcome of a reading.
 use Rattle.std.specs.Prelude.{◌≡◌, ℕ, Option, Some, None, Result, Ok, Err}
 use Rattle.nl_attr.specs.declared.fault.Fault.{Fault}
 use Rattle.nl_attr.specs.declared.fault.Tally.{Tally}
@@ -13,13 +13,13 @@ without (Ok x, v) = (Ok tt, v)
 without (Err f, v) = (Err f, v)
 
 -- a result without its value, and the visits, are this outcome without what was read
-abbrev pub SaysEnd : {X Y : Type 0} → Result X Fault → ℕ → Outcome Y → Type 0
-SaysEnd (Ok x) v o = without o ≡ (Ok tt, v)
-SaysEnd (Err f) v o = without o ≡ (Err f, v)
+abbrev pub HasEnd : {X Y : Type 0} → Result X Fault → ℕ → Outcome Y → Type 0
+HasEnd (Ok x) v o = without o ≡ (Ok tt, v)
+HasEnd (Err f) v o = without o ≡ (Err f, v)
 
 -- whether all is accepted or which fault is met, and the visits, are those of this outcome
 abbrev pub Scans : {X Y : Type 0} → Tally X Fault → Outcome Y → Type 0
-Scans t o = SaysEnd t.result t.visits o
+Scans t o = HasEnd t.result t.visits o
 
 -- the visits of the heads from start on: up to this end where all is accepted, else up to the fault
 abbrev pub SeesUpTo : {X : Type 0} → Shape → Head → ℕ → Result X Fault → ℕ → Type 0

@@ -1,4 +1,4 @@
--- What a scan tells of a region, head by head and at its end.
+-- What a scan of a region puts and counts, head by head and at its end.
 use Rattle.std.specs.Prelude.{◌≡◌, ◌+◌, ℕ, List, [], ◌∷◌, length, map, drop, Some, None}
 use Rattle.nl_attr.specs.declared.events.Event.{Event}
 use Rattle.nl_attr.specs.declared.events.TheConstants.{SORT_BYTES}
@@ -56,7 +56,7 @@ pub record IsHopFront (o : Order) (h : Head) (f : HopFront) : Type 0 where
 
 -- ---- one step
 
--- these heads are added to what was found, and what is told of them to the buffer
+-- these heads are added to what was found, and their events to the buffer
 pub record Adds (S : Shape) (hs : List Head) (before after : Taped) (old new : List Event) : Type 0 where
   pub fault : after.fault ≡ before.fault
   pub count : after.count ≡ before.count + length hs
@@ -75,7 +75,7 @@ Steps S h before after old new (turn.Opens rest inner) =
 
 -- ---- a whole scan
 
--- The heads of the region up to its first fault are told of in the buffer from place `count` on, and counted.
+-- The events of the heads of the region up to its first fault stand in the buffer from place `count` on, and are counted.
 pub record IsTaped (S : Shape) (start : Head) (count : ℕ) (old new : List Event) (t : Taped) : Type 0 where
   pub fault : t.fault ≡ fault_of (trail_of S start).1
   pub visits : t.visits ≡ visits_of S (trail_of S start).0

@@ -1,5 +1,6 @@
 -- The way from head to head towards a place.
 use Rattle.std.specs.Prelude.{◌≡◌, ◌≢◌, ◌≤◌, ◌+◌, ◌↔◌, ℕ, List, length, Option, Some, None, Result, Ok, Err}
+use Rattle.nl_attr.specs.declared.limits.TheConstants.{LONGEST_REGION, FARTHEST_END}
 use Rattle.nl_attr.specs.declared.fault.Reason.{Reason}
 use Rattle.nl_attr.specs.declared.tree.Content.{Content}
 use Rattle.nl_attr.specs.declared.tree.Content.TheVariants as content
@@ -46,8 +47,8 @@ GivesItem o h (Err r) = broken_length o (least h.sort) 2 h.left ≡ Some r
 -- its level is within the depth, and its places are within the greatest
 pub record IsNear (S : Shape) (h : Head) : Type 0 where
   pub level : h.level + levels_in h.sort ≤ S.depth
-  pub size : length h.left ≤ 1048576
-  pub place : h.place + length h.left ≤ 2097152
+  pub size : length h.left ≤ LONGEST_REGION
+  pub place : h.place + length h.left ≤ FARTHEST_END
 
 module _ (S : Shape) (place : ℕ) where
   -- what stands at the place from a head on, stands there from the next on; or nothing does

@@ -1,5 +1,6 @@
--- The heads of a region in the order in which a scan comes to them, up to the fault that ends it, and what is told of each.
+-- The heads of a region in the order in which a scan comes to them, up to the fault that ends it, and the event of each.
 use Rattle.std.specs.Prelude.{◌≡◌, ◌<◌, ◌⊎◌, ◌+◌, ◌-◌, ◌%◌, ℕ, zero, suc, false, List, [], ◌∷◌, ◌++◌, length, map, take, drop, Option, Some, None}
+use Rattle.nl_attr.specs.declared.tree.TheConstants.{NUMBERS}
 use Rattle.nl_attr.specs.declared.fault.Fault.{Fault}
 use Rattle.nl_attr.specs.declared.fault.Reason.{Reason}
 use Rattle.nl_attr.specs.declared.fault.Reason.TheVariants.{Cut, BadLength, ShortBody, TooLong, TooDeep}
@@ -81,7 +82,7 @@ abbrev pub fault_of : Option (ℕ × Reason) → Option Fault
 fault_of None = None
 fault_of (Some f) = Some (record { place = f.0; reason = f.1 })
 
--- ---- what is told of them
+-- ---- their events
 
 -- the sort of an attribute that holds this
 abbrev pub sort_of : Content → ℕ
@@ -100,10 +101,10 @@ hop_event place l len = record { place = place; len = len; number = 0; level = l
 abbrev pub event_at : Order → Sort → Head → Event
 event_at o attr_head h =
     let k = kind_of o h.left in
-    attr_event h.place h.level (k % 16384) (flags_of k) (sort_of (content_at o h.ctx h.left)) (length (payload_of o 4 2 h.left))
+    attr_event h.place h.level (k % NUMBERS) (flags_of k) (sort_of (content_at o h.ctx h.left)) (length (payload_of o 4 2 h.left))
 event_at o hop_head h = hop_event h.place h.level (length (payload_of o 8 2 h.left))
 
--- what is told of the head of an attribute or of a next hop
+-- the event of the head of an attribute or of a next hop
 abbrev pub event_of : Order → Head → Event
 event_of o h = event_at o h.sort h
 

@@ -1,6 +1,8 @@
 -- What a walk over a region gives, one item at a time.
 use Rattle.std.specs.Prelude.{◌≡◌, ◌≢◌, ◌≤◌, ◌<◌, ◌+◌, ◌/◌, ◌%◌, ◌==◌, ◌||◌, ℕ, nat_lt, if◌then◌else◌, List}
 use Rattle.std.specs.Prelude.{[], ◌∷◌, length, slice_index, take, drop, Option, Some, None, Result, Ok, Err}
+use Rattle.nl_attr.specs.declared.tree.TheConstants.{NUMBERS, NLA_F_NESTED, NLA_F_NET_BYTEORDER}
+use Rattle.std.specs.Iterator.{Yields, Drains}
 use Rattle.nl_attr.specs.declared.fault.Reason.{Reason}
 use Rattle.nl_attr.specs.declared.fault.Reason.TheVariants.{Cut, BadLength}
 use Rattle.nl_attr.specs.declared.fault.Fault.{Fault}
@@ -40,11 +42,11 @@ module _ (o : Order) where
   payload_of h w left = drop h (take (len_of o w left) left)
 
 abbrev pub flags_of : ℕ → AttrFlags
-flags_of kind = record { nested = kind / 32768 == 1; net = kind / 16384 % 2 == 1 }
+flags_of kind = record { nested = kind / NLA_F_NESTED == 1; net = kind / NLA_F_NET_BYTEORDER % 2 == 1 }
 
 -- the part is the attribute at the front
 pub record IsPart (p : Part) (r : Region) : Type 0 where
-  pub number : p.number ≡ kind_of r.order r.left % 16384
+  pub number : p.number ≡ kind_of r.order r.left % NUMBERS
   pub flags : p.flags ≡ flags_of (kind_of r.order r.left)
   pub place : p.place ≡ r.place
   pub span : p.span ≡ span_of r.order 2 r.left
@@ -117,6 +119,22 @@ abbrev pub EachLies : {P : Type 0} → (P → Type 0) → List (Result P Fault) 
 EachLies Lies [] = Unit {0}
 EachLies Lies (Ok p ∷ ps) = Lies p × EachLies Lies ps
 EachLies Lies (Err f ∷ ps) = EachLies Lies ps
+
+-- a walk over these bytes by parts with a place, a span and a payload
+pub record IsWalkOver {P : Type 0} (h : ℕ) (Is : P → Region → Type 0) (place_of spanned : P → ℕ) (payload : P → List ℕ) (o : Order) (bytes : List ℕ) (w : Region) : Type 0 where
+  pub start : w ≡ record { order = o; place = 0; left = bytes }
+  -- what comes is the pieces of the bytes in their order, then the fault of what is no piece
+  pub walk : (parts : List (Result P Fault)) → Drains (Gives h Is) w parts → IsWalk h Is o 0 bytes parts
+  -- they lie in the bytes, and so do their payloads
+  pub inside : (parts : List (Result P Fault)) (rest : Region) → Yields (Gives h Is) w parts rest → EachLies (λ p. LiesIn bytes h (place_of p) (spanned p) (payload p)) parts
+  -- where the walk stands then is the sum of their spans
+  pub seen : (parts : List (Result P Fault)) (rest : Region) → Yields (Gives h Is) w parts rest → rest.place ≡ spans_of spanned parts
+
+abbrev pub IsAttrsOver : Order → List ℕ → Region → Type 0
+IsAttrsOver = IsWalkOver 4 IsPart (λ p. p.place) (λ p. p.span) (λ p. p.payload.now)
+
+abbrev pub IsHopsOver : Order → List ℕ → Region → Type 0
+IsHopsOver = IsWalkOver 8 IsHopPart (λ p. p.place) (λ p. p.span) (λ p. p.rest.now)
 
 -- the bytes that one item occupies, if there is one
 abbrev pub span_given : {P : Type 0} → (P → ℕ) → Option (Result P Fault) → ℕ

@@ -11,7 +11,7 @@ ghost use Rattle.nl_attr.specs.Towards.{head_of, placed, sort_of};
 ghost use Rattle.nl_attr.specs.declared.broken.BrokenHead.{BrokenHead};
 
 use crate::fault::{Fault, Reason};
-use crate::limits::{Depth, Shape};
+use crate::limits::{Depth, FARTHEST_END, LONGEST_REGION, MOST_LEVELS, Shape};
 use crate::order::Order;
 use crate::stack::container_fault;
 use crate::tree::{Content, Ctx, holds};
@@ -93,7 +93,7 @@ impl<'a> PlacedHead<'a> {
     fn attr_item(self, order: Order) -> Result<Item<'a>, Reason>
         requires sort { self.sort ≡ HeadSort.Attr }
         requires some { self.left.now ≢ [] }
-        requires size { length self.left.now ≤ 1048576 }
+        requires size { length self.left.now ≤ LONGEST_REGION }
         ensures { GivesItem order (head_of self.entry) result }
     {
         match Attrs::of_ordered(self.left, order).next() {
@@ -111,7 +111,7 @@ impl<'a> PlacedHead<'a> {
     fn hop_item(self, order: Order) -> Result<Item<'a>, Reason>
         requires sort { self.sort ≡ HeadSort.Hop }
         requires some { self.left.now ≢ [] }
-        requires size { length self.left.now ≤ 1048576 }
+        requires size { length self.left.now ≤ LONGEST_REGION }
         ensures { GivesItem order (head_of self.entry) result }
     {
         match HopParts::of_ordered(self.left, order).next() {
@@ -128,7 +128,7 @@ impl<'a> PlacedHead<'a> {
     /// The item at the front, or what is wrong with its length.
     fn item(self, order: Order) -> Result<Item<'a>, Reason>
         requires some { self.left.now ≢ [] }
-        requires size { length self.left.now ≤ 1048576 }
+        requires size { length self.left.now ≤ LONGEST_REGION }
         ensures { GivesItem order (head_of self.entry) result }
     {
         match self.sort {
@@ -139,7 +139,7 @@ impl<'a> PlacedHead<'a> {
 
     /// The rule of containers that its item breaks.
     fn container_rule(self, item: Item, shape: Shape) -> Option<Reason>
-        requires level { self.level ≤ 32 }
+        requires level { self.level ≤ MOST_LEVELS }
         requires item { IsItem shape.order (head_of self) item }
         ensures { result ≡ broken shape (head_of self.entry) }
     {
@@ -157,7 +157,6 @@ impl<'a> PlacedHead<'a> {
         requires near { IsNear shape (head_of self) }
         ensures { result ≡ broken shape (head_of self.entry) }
     {
-        let _limit = shape.depth();
         match self.item(shape.order()) {
             Err(reason) => Some(reason),
             Ok(item) => self.container_rule(item, shape),
@@ -171,7 +170,6 @@ impl<'a> PlacedHead<'a> {
         requires sound { broken shape (head_of self) ≡ None }
         ensures { placed result ≡ inner_of shape (head_of self.entry) }
     {
-        let _limit = shape.depth();
         let (sort, ctx) = match item.content {
             Content::Bytes => return None,
             Content::List(ctx) => (HeadSort::Attr, ctx),
@@ -196,7 +194,6 @@ impl<'a> PlacedHead<'a> {
         ensures near { IfSome result (λ j. IsNear shape (head_of j)) }
         ensures less { IfSome result (λ j. length j.left.now < length self.entry.left.now) }
     {
-        let _limit = shape.depth();
         let Ok(item) = self.item(shape.order()) else {
             return None;
         };
@@ -213,9 +210,9 @@ impl<'a> PlacedHead<'a> {
         }
     }
 
-    /// What is told of it.
+    /// Its kind, its level, its length, and the bytes that are left.
     fn facts(self, order: Order) -> BrokenHead
-        requires { length self.left.now ≤ 1048576 }
+        requires { length self.left.now ≤ LONGEST_REGION }
         ensures { result ≡ facts_of order (head_of self.entry) }
     {
         let len = if self.left.len() < self.sort.least() {
@@ -267,10 +264,10 @@ pub fn broken_head(
     fault: Fault,
 ) -> Option<BrokenHead>
     requires level { level ≤ depth }
-    requires size { length bytes.now ≤ 1048576 }
-    requires place { base + length bytes.now ≤ 2097152 }
-    // It is what is told of that head, and nothing else is.
-    ensures told { (b : BrokenHead) → (result ≡ Some b)
+    requires size { length bytes.now ≤ LONGEST_REGION }
+    requires place { base + length bytes.now ≤ FARTHEST_END }
+    // It is that head, and no other answer is.
+    ensures facts { (b : BrokenHead) → (result ≡ Some b)
         ↔ IsBrokenHead (shape_of order depth) (start_of ctx level base bytes.now) fault b }
     // There is one for each fault of the region, so also for its first.
     ensures found { IsSome result ↔ FaultAt (shape_of order depth)

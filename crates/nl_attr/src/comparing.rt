@@ -12,8 +12,9 @@ ghost use Rattle.nl_attr.specs.Proper.{IsSized, IsSizedVal, IsSizedHops};
 ghost use Rattle.nl_attr.specs.Compared.{Begins};
 
 use crate::appending::kind_field;
+use crate::limits::LONGEST_ITEM;
 use crate::order::Order;
-use crate::tree::{Attr, Hop, Value};
+use crate::tree::{Attr, Hop, NUMBERS, Value};
 
 /// How long a text is with which bytes begin; none where they don't begin with it.
 pub fn begins_with_bytes(text: &[u8], bytes: &[u8]) -> Option<usize>
@@ -39,7 +40,7 @@ pub fn begins_with_zeros(count: usize, bytes: &[u8]) -> Option<usize>
 /// How long an item of `len` bytes is with its padding, where its length stands in its first two
 /// bytes and zeros behind it. Its other bytes have been compared.
 fn closes_item(len: usize, order: Order, bytes: &[u8]) -> Option<usize>
-    requires short { len ≤ 65535 }
+    requires short { len ≤ LONGEST_ITEM }
     requires inside { len ≤ length bytes.now }
     ensures begins { (body : List ℕ)
         → length body + 2 ≡ len → take (length body) (drop 2 bytes.now) ≡ body
@@ -85,8 +86,8 @@ fn begins_with_value(value: &Value, order: Order, bytes: &[u8]) -> Option<usize>
 /// An attribute with its padding.
 #[cycle(comparing)]
 fn begins_with_attr(attr: &Attr, order: Order, bytes: &[u8]) -> Option<usize>
-    requires number { attr.now.number < 16384 }
-    requires short { 4 + val_len (value_view attr.now.value) ≤ 65535 }
+    requires number { attr.now.number < NUMBERS }
+    requires short { 4 + val_len (value_view attr.now.value) ≤ LONGEST_ITEM }
     requires sized { IsSizedVal (value_view attr.now.value) }
     ensures begins { Begins (padded (attr_item order attr.now.number attr.now.flags
         (written_val order (value_view attr.now.value)))) bytes.now result }
@@ -124,7 +125,7 @@ pub fn begins_with(attrs: &[Attr], order: Order, bytes: &[u8]) -> Option<usize>
 /// A next hop with its padding.
 #[cycle(comparing)]
 fn begins_with_hop(hop: &Hop, order: Order, bytes: &[u8]) -> Option<usize>
-    requires short { 8 + items_len (attrs_view (out-Hop hop.now).attrs.items) ≤ 65535 }
+    requires short { 8 + items_len (attrs_view (out-Hop hop.now).attrs.items) ≤ LONGEST_ITEM }
     requires sized { IsSized (attrs_view (out-Hop hop.now).attrs.items) }
     ensures begins { Begins (padded (hop_item order (out-Hop hop.now).flags (out-Hop hop.now).hops
         (out-Hop hop.now).ifindex (written order (attrs_view (out-Hop hop.now).attrs.items))))

@@ -1,4 +1,4 @@
-//! What is told of one head of a datagram.
+//! The event of a head: what a scan puts into a buffer.
 
 ghost use Rattle.std.specs.Prelude.{◌≡◌, slice_set};
 
@@ -13,7 +13,7 @@ pub const SORT_HOPS: u8 = 3;
 /// The sort of a next hop.
 pub const SORT_NEXT_HOP: u8 = 4;
 
-/// What is told of a head: the header of a message, `nlmsghdr` of netlink(7), or the head of an
+/// A head that a scan came to: the header of a message, `nlmsghdr` of netlink(7), or the head of an
 /// attribute, `rtattr` of rtnetlink(7), or of a next hop, `rtnexthop`. It has 16 bytes.
 #[repr(C)]
 #[derive(Clone, Copy, Debug, PartialEq, Eq)]

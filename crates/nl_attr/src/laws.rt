@@ -19,6 +19,8 @@ ghost use Rattle.nl_attr.specs.Visits.{Visits};
 ghost use Rattle.nl_attr.specs.Written.{written, items_len};
 ghost use Rattle.nl_attr.specs.Proper.{IsProper, IsRanged};
 
+use crate::limits::LONGEST_REGION;
+
 /// Bytes are the form of the number that is read of them, and of no other number of so many bytes.
 pub fn one_number()
     ensures below { (o : Order) (bytes : List ℕ)
@@ -111,7 +113,7 @@ pub fn written_fits()
 /// A list that fits a region can be written, and is as long as the region with its last padding.
 pub fn fitting_is_proper()
     ensures proper { (s : Shape) (ctx : Ctx) (l : ℕ) (bytes : List ℕ) (is : Items)
-        → Fits s is bytes ctx l → length bytes ≤ 1048576 → IsProper is ctx l s.depth }
+        → Fits s is bytes ctx l → length bytes ≤ LONGEST_REGION → IsProper is ctx l s.depth }
     ensures len { (s : Shape) (ctx : Ctx) (l : ℕ) (bytes : List ℕ) (is : Items)
         → Fits s is bytes ctx l → items_len is ≡ aligned (length bytes) }
     ensures ranged { (s : Shape) (ctx : Ctx) (l : ℕ) (bytes : List ℕ) (is : Items)

@@ -26,14 +26,18 @@ pub use broken::{BrokenHead, HeadKind, broken_head};
 pub use comparing::{begins_with, begins_with_bytes, begins_with_zeros};
 pub use events::{Event, SORT_BYTES, SORT_HOPS, SORT_LIST, SORT_MESSAGE, SORT_NEXT_HOP};
 pub use fault::{Fault, LimitFault, ListError, Reason, Tally, WriteError};
-pub use limits::Depth;
+pub use limits::{
+    Depth, FARTHEST_END, LONGEST_CONTAINER, LONGEST_ITEM, LONGEST_REGION, MOST_LEVELS, MOST_VISITS,
+};
 pub use measuring::{Extent, measure};
 pub use order::Order;
 pub use payload::Payload;
 pub use reading::{read_list, read_list_ordered};
 pub use scanning::scan_list_ordered;
 pub use taping::{OpenRegions, Taped, tape_list};
-pub use tree::{Attr, AttrFlags, Content, Ctx, Hop, Value, holds};
+pub use tree::{
+    Attr, AttrFlags, Content, Ctx, Hop, NLA_F_NESTED, NLA_F_NET_BYTEORDER, NUMBERS, Value, holds,
+};
 pub use views::find;
 pub use walk::{Attrs, HopPart, HopParts, Part, align4, attr_at, hop_at};
 pub use writing::{list_len, write_list, write_list_ordered};

@@ -7,6 +7,26 @@ use crate::fault::LimitFault;
 use crate::order::Order;
 use std::marker::Model;
 
+/// The most bytes of a region, and of a datagram.
+pub const LONGEST_REGION: usize = 1_048_576;
+
+/// The most bytes of an attribute or a next hop: its length field has 16 bits.
+pub const LONGEST_ITEM: usize = 65_535;
+
+/// The most bytes of an attribute that holds attributes or next hops: a length field of 16 bits
+/// that is a multiple of 4 (`RTA_ALIGN`).
+pub const LONGEST_CONTAINER: usize = 65_532;
+
+/// The farthest place at which a region ends: two of the longest datagrams behind the first byte.
+pub const FARTHEST_END: u32 = 2_097_152;
+
+/// The most levels that a depth limit allows.
+pub const MOST_LEVELS: u8 = 32;
+
+/// The most bytes that reading a region visits: the longest region once for each level below the
+/// greatest depth, and once more.
+pub const MOST_VISITS: u64 = 34_603_008;
+
 /// How many levels containers may open below a message's attributes: 0 to 32.
 #[derive(Clone, Copy, Debug, PartialEq, Eq)]
 pub struct Depth {
@@ -15,12 +35,13 @@ pub struct Depth {
 
 impl Model for Depth {
     ghost use Rattle.std.specs.Prelude.{ℕ, ◌≤◌};
+    ghost use Rattle.nl_attr.specs.declared.limits.TheConstants.{MOST_LEVELS};
 
     ghost Value = { ℕ };
 
     ghost view = { λ d. d.levels };
 
-    ghost invariant = { λ d. d.levels ≤ 32 };
+    ghost invariant = { λ d. d.levels ≤ MOST_LEVELS };
 
     ghost inverse = { λ n. record { levels = n } };
 }
@@ -28,9 +49,9 @@ impl Model for Depth {
 impl Depth {
     /// So many levels, or `LimitFault` above 32.
     pub fn new(levels: u8) -> Result<Depth, LimitFault>
-        ensures { OkIff result (levels ≤ 32) levels }
+        ensures { OkIff result (levels ≤ MOST_LEVELS) levels }
     {
-        if levels > 32 {
+        if levels > MOST_LEVELS {
             return Err(LimitFault);
         }
         Ok(Depth { levels })
@@ -46,7 +67,7 @@ impl Depth {
     /// How many levels.
     pub fn get(self) -> u8
         ensures value { result ≡ self }
-        ensures limit { result ≤ 32 }
+        ensures limit { result ≤ MOST_LEVELS }
     {
         self.levels
     }
@@ -60,11 +81,15 @@ pub(crate) struct Shape {
 }
 
 impl Model for Shape {
+    ghost use Rattle.std.specs.Prelude.{◌≤◌};
     ghost use Rattle.nl_attr.specs.Shape.{Shape};
+    ghost use Rattle.nl_attr.specs.declared.limits.TheConstants.{MOST_LEVELS};
 
     ghost Value = { Shape };
 
     ghost view = { λ s. record { order = s.order; depth = s.depth } };
+
+    ghost invariant = { λ s. s.depth ≤ MOST_LEVELS };
 
     ghost inverse = { λ v. record { order = v.order; depth = v.depth } };
 }
@@ -84,7 +109,7 @@ impl Shape {
 
     pub(crate) fn depth(self) -> u8
         ensures value { result ≡ self.depth }
-        ensures limit { result ≤ 32 }
+        ensures limit { result ≤ MOST_LEVELS }
     {
         self.depth.get()
     }

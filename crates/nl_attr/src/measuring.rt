@@ -6,15 +6,12 @@ ghost use Rattle.nl_attr.specs.View.{attrs_view, hops_view, attr_view, hop_view,
 ghost use Rattle.nl_attr.specs.Written.{items_len};
 ghost use Rattle.nl_attr.specs.Proper.{IsMismatched, IsDeep, IsLong, IsSized};
 ghost use Rattle.nl_attr.specs.Measured.{extent_of, extent_of_val, extent_of_hops, item_len, join};
+ghost use Rattle.nl_attr.specs.Measured.{length_of};
 
-use crate::limits::Depth;
-use crate::tree::{Attr, Content, Ctx, Hop, Value, holds};
-
-/// The most bytes that an item may have, since its length field has 16 bits.
-const LONGEST_ITEM: usize = 65535;
-
-/// The most bytes that a region may have.
-const LONGEST_REGION: usize = 1048576;
+use crate::fault::WriteError;
+use crate::limits::{Depth, LONGEST_ITEM, LONGEST_REGION};
+use crate::tree::{Attr, Content, Ctx, Hop, NUMBERS, Value, holds};
+use crate::walk::align4;
 
 /// What a list comes to when it is written.
 #[derive(Clone, Copy, Debug, PartialEq, Eq)]
@@ -34,7 +31,7 @@ fn item_size(head: usize, payload: Option<usize>) -> Option<usize>
     if len > LONGEST_ITEM - head {
         return None;
     }
-    Some((head + len + 3) / 4 * 4)
+    Some(align4((head + len) as u32) as usize)
 }
 
 /// The extent of an item with its head.
@@ -64,6 +61,18 @@ impl Extent {
             deep: self.deep || other.deep,
             len,
         }
+    }
+
+    /// The length of what was measured, or the first refusal that applies: `Mismatch` where there
+    /// is none, `TooDeep`, or `TooLong`.
+    pub fn length(measured: Option<Extent>) -> Result<usize, WriteError>
+        ensures { result ≡ length_of measured }
+    {
+        let extent = measured.ok_or(WriteError::Mismatch)?;
+        if extent.deep {
+            return Err(WriteError::TooDeep);
+        }
+        extent.len.ok_or(WriteError::TooLong)
     }
 }
 
@@ -101,7 +110,7 @@ fn measure_attr(attr: &Attr, ctx: Ctx, room: u8) -> Option<Extent>
     ensures { (more : Items)
         → extent_of (attr_view attr.now more) ctx room ≡ join result (extent_of more ctx room) }
 {
-    if attr.number > 16383 {
+    if attr.number >= NUMBERS {
         return None;
     }
     let content = holds(ctx, attr.number, attr.flags);
@@ -157,7 +166,7 @@ pub fn measure(attrs: &[Attr], ctx: Ctx, depth: Depth) -> Option<Extent>
     ensures deep { IfSome result (λ e. IsTrue e.deep ↔ IsDeep (attrs_view attrs.now) 0 depth) }
     ensures long { IfSome result (λ e. (e.len ≡ None) ↔ IsLong (attrs_view attrs.now)) }
     ensures len { IfSome result (λ e. IfSome e.len (λ n. n ≡ items_len (attrs_view attrs.now))) }
-    ensures limit { IfSome result (λ e. IfSome e.len (λ n. n ≤ 1048576)) }
+    ensures limit { IfSome result (λ e. IfSome e.len (λ n. n ≤ LONGEST_REGION)) }
     // Then it may be appended.
     ensures sized { IfSome result (λ e. IfSome e.len (λ n. IsSized (attrs_view attrs.now))) }
 {

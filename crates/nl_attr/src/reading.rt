@@ -1,17 +1,11 @@
 //! Reading a region of attributes.
 
-ghost use Rattle.std.specs.Prelude.{◌≡◌, ◌≤◌, ◌+◌, ◌-◌, ◌*◌, length, IfOk, IfErr};
-ghost use Rattle.nl_attr.specs.Reading.{items_of_region};
-ghost use Rattle.nl_attr.specs.View.{attrs_view};
-ghost use Rattle.nl_attr.specs.Told.{Tells, IfLayout, VisitsUpTo};
-ghost use Rattle.nl_attr.specs.Layout.{Fits};
-ghost use Rattle.nl_attr.specs.Tree.{Items};
+ghost use Rattle.std.specs.Prelude.{◌≤◌, ◌+◌, length};
 ghost use Rattle.nl_attr.specs.Shape.{shape_of};
-ghost use Rattle.nl_attr.specs.Heads.{IsFirstFault, start_of};
-ghost use Rattle.nl_attr.specs.Kept.{kept};
+ghost use Rattle.nl_attr.specs.Reads.{ReadsList};
 
 use crate::fault::{ListError, Tally};
-use crate::limits::{Depth, Shape};
+use crate::limits::{Depth, FARTHEST_END, LONGEST_REGION, Shape};
 use crate::order::Order;
 use crate::stack::read_region;
 use crate::tree::{Attr, Ctx};
@@ -32,29 +26,9 @@ pub fn read_list(
     depth: Depth,
 ) -> Tally<Vec<Attr>, ListError>
     requires level { level ≤ depth }
-    requires size { length bytes.now ≤ 1048576 }
-    requires place { base + length bytes.now ≤ 2097152 }
-    // What is read, or the fault, and the visits are those of a reading from left to right.
-    ensures told { Tells (λ v. attrs_view v.items) result
-        (items_of_region (shape_of Order.Little depth) ctx level base bytes.now) }
-    // What is read fits the region.
-    ensures fits { IfOk result.result
-        (λ v. Fits (shape_of Order.Little depth) (attrs_view v.items) bytes.now ctx level) }
-    // No other list does.
-    ensures only { IfOk result.result (λ v. (is : Items)
-        → Fits (shape_of Order.Little depth) is bytes.now ctx level → is ≡ attrs_view v.items) }
-    // A fault is the one at the least place.
-    ensures first { IfErr result.result (λ e. IfLayout e (λ f. IsFirstFault
-        (shape_of Order.Little depth) (start_of ctx level base bytes.now) f.place f.reason)) }
-    // Then no list fits.
-    ensures none { IfErr result.result (λ e. IfLayout e
-        (λ _. (is : Items) → Fits (shape_of Order.Little depth) is bytes.now ctx level → ⊥)) }
-    // The visits are those of all heads, or of those up to the fault.
-    ensures visits { VisitsUpTo (shape_of Order.Little depth)
-        (start_of ctx level base bytes.now) (base + length bytes.now) result.result result.visits }
-    ensures bound { result.visits ≤ (depth - level + 1) * length bytes.now }
-    // What is read keeps no more bytes than the region has.
-    ensures kept { IfOk result.result (λ v. kept (attrs_view v.items) ≤ length bytes.now) }
+    requires size { length bytes.now ≤ LONGEST_REGION }
+    requires place { base + length bytes.now ≤ FARTHEST_END }
+    ensures { ReadsList (shape_of Order.Little depth) ctx level base bytes.now result }
 {
     read_list_ordered(alloc, bytes, base, ctx, level, depth, Order::Little)
 }
@@ -70,32 +44,11 @@ pub fn read_list_ordered(
     order: Order,
 ) -> Tally<Vec<Attr>, ListError>
     requires level { level ≤ depth }
-    requires size { length bytes.now ≤ 1048576 }
-    requires place { base + length bytes.now ≤ 2097152 }
-    // What is read, or the fault, and the visits are those of a reading from left to right.
-    ensures told { Tells (λ v. attrs_view v.items) result
-        (items_of_region (shape_of order depth) ctx level base bytes.now) }
-    // What is read fits the region.
-    ensures fits { IfOk result.result
-        (λ v. Fits (shape_of order depth) (attrs_view v.items) bytes.now ctx level) }
-    // No other list does.
-    ensures only { IfOk result.result (λ v. (is : Items)
-        → Fits (shape_of order depth) is bytes.now ctx level → is ≡ attrs_view v.items) }
-    // A fault is the one at the least place.
-    ensures first { IfErr result.result (λ e. IfLayout e (λ f.
-        IsFirstFault (shape_of order depth) (start_of ctx level base bytes.now) f.place f.reason)) }
-    // Then no list fits.
-    ensures none { IfErr result.result (λ e. IfLayout e
-        (λ _. (is : Items) → Fits (shape_of order depth) is bytes.now ctx level → ⊥)) }
-    // The visits are those of all heads, or of those up to the fault.
-    ensures visits { VisitsUpTo (shape_of order depth)
-        (start_of ctx level base bytes.now) (base + length bytes.now) result.result result.visits }
-    ensures bound { result.visits ≤ (depth - level + 1) * length bytes.now }
-    // What is read keeps no more bytes than the region has.
-    ensures kept { IfOk result.result (λ v. kept (attrs_view v.items) ≤ length bytes.now) }
+    requires size { length bytes.now ≤ LONGEST_REGION }
+    requires place { base + length bytes.now ≤ FARTHEST_END }
+    ensures { ReadsList (shape_of order depth) ctx level base bytes.now result }
 {
     let shape = Shape::of(depth, order);
-    let _limit = shape.depth();
     let mut visits: u64 = 0;
     let result = read_region(alloc, bytes, base, ctx, level, shape, &mut visits);
     Tally { result, visits }

@@ -10,7 +10,7 @@ ghost use Rattle.nl_attr.specs.Tree.{Items};
 
 use crate::events::Event;
 use crate::fault::{Fault, Tally};
-use crate::limits::Depth;
+use crate::limits::{Depth, FARTHEST_END, LONGEST_REGION};
 use crate::order::Order;
 use crate::taping::{OpenRegions, tape_list};
 use crate::tree::Ctx;
@@ -39,10 +39,10 @@ pub fn scan_list_ordered(
     order: Order,
 ) -> Tally<(), Fault>
     requires level { level ≤ depth }
-    requires size { length bytes.now ≤ 1048576 }
-    requires place { base + length bytes.now ≤ 2097152 }
+    requires size { length bytes.now ≤ LONGEST_REGION }
+    requires place { base + length bytes.now ≤ FARTHEST_END }
     // Whether it is accepted, the fault and the visits are those of a reading from left to right.
-    ensures told { Scans result
+    ensures outcome { Scans result
         (items_of_region (shape_of order depth) ctx level base bytes.now) }
     // Where it is accepted some list fits the region.
     ensures fits { IfOk result.result

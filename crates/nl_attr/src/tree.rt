@@ -5,6 +5,17 @@ ghost use Rattle.nl_attr.specs.Tree.{holds_of};
 
 use crate::payload::Payload;
 
+/// How many numbers an attribute's type has room for beside its two flag bits: `NLA_TYPE_MASK` of
+/// linux/netlink.h and one.
+pub const NUMBERS: u16 = 16_384;
+
+/// The flag bit of an attribute that holds attributes.
+pub const NLA_F_NESTED: u16 = 32_768;
+
+/// The flag bit of an attribute whose payload is in network order. It is kept and changes nothing
+/// that is read.
+pub const NLA_F_NET_BYTEORDER: u16 = 16_384;
+
 /// The two flag bits of an attribute's type.
 #[derive(Clone, Copy, Debug, PartialEq, Eq)]
 pub struct AttrFlags {

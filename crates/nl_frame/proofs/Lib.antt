@@ -19,7 +19,7 @@ pub mod Scanned
 pub mod Steps
 pub mod Sums
 pub mod Tapes
-pub mod Told
+pub mod Outcomes
 pub mod Towards
 pub mod Trails
 pub mod Within

@@ -7,7 +7,7 @@ use Rattle.nl_attr.specs.declared.fault.ListError.TheVariants.{Layout, Memory}
 use Rattle.nl_attr.specs.declared.fault.Reason.{Reason}
 use Rattle.nl_attr.specs.Shape.{Shape}
 use Rattle.nl_attr.specs.Reading.{Outcome, map_value}
-use Rattle.nl_attr.specs.Told.{Says}
+use Rattle.nl_attr.specs.Outcomes.{IsOutcome}
 use Rattle.nl_frame.specs.declared.front.Frame.{Frame}
 use Rattle.nl_frame.specs.declared.header.Header.{Header}
 use Rattle.nl_frame.specs.declared.form.Form.{Form}
@@ -40,7 +40,7 @@ module _ (S : Shape) (place : ℕ) (left : List ℕ) (f : Frame) (some : left �
       ap (λ (x : List MessageVal × ℕ × List ℕ). resumed x.0 (n + v) (messages_of S (place + x.1) x.2)) (all new is.span is.rest)
       ∙ goes_on S place left ms n whole so_far m v some is.sound (sym frame_message ∙ read)
 
-  pub fails_told : {X Y : Type 0} (view : X → MessageVal) (views : Y → List MessageVal) (e : ListError) (v : ℕ) → Says view (Err e) v (map_value (message_of f.header) (body_at S f.form (place + 16) f.payload.now)) → Says views (Err e) (n + v) whole
+  pub fails_told : {X Y : Type 0} (view : X → MessageVal) (views : Y → List MessageVal) (e : ListError) (v : ℕ) → IsOutcome view (Err e) v (map_value (message_of f.header) (body_at S f.form (place + 16) f.payload.now)) → IsOutcome views (Err e) (n + v) whole
   fails_told view views (Layout d) v read = body_fails S place left ms n whole so_far d v some is.sound (sym frame_message ∙ read)
   fails_told view views Memory v read = tt
 

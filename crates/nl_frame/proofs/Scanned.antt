@@ -18,15 +18,15 @@ use Rattle.nl_frame.specs.Heads.{IsFirstFault, Visits, whole}
 use Rattle.nl_frame.specs.Layout.{Layout}
 use Rattle.nl_frame.specs.Message.{MessageVal}
 use Rattle.nl_frame.specs.Reading.{messages_of}
-use Rattle.nl_frame.specs.Taped.{IsTaped, Ends, SaysEnd, as_read}
-use Rattle.nl_frame.specs.Told.{IfFault, VisitsUpTo}
+use Rattle.nl_frame.specs.Taped.{IsTaped, Ends, HasEnd, as_read}
+use Rattle.nl_frame.specs.Outcomes.{IfFault, VisitsUpTo}
 use Rattle.nl_frame.specs.Trail.{events_of, event_of, trail_of, visits_of}
 use Rattle.nl_frame.proofs.Firsts.{err_first, err_visits, ok_visits}
 use Rattle.nl_frame.proofs.Layouts.{messages_fit}
-use Rattle.nl_frame.proofs.Told.{ok_fits}
+use Rattle.nl_frame.proofs.Outcomes.{ok_fits}
 use Rattle.nl_frame.proofs.Trails.{reads}
 
-says : {Y : Type 0} (S : Shape) (r : Result ℕ ScanError) (v n m : ℕ) (e : Option (ℕ × Reason)) (o : Outcome Y) → without o ≡ (end_of S e, m) → Ends n (fault_of e) r → v ≡ m → SaysEnd r v o
+says : {Y : Type 0} (S : Shape) (r : Result ℕ ScanError) (v n m : ℕ) (e : Option (ℕ × Reason)) (o : Outcome Y) → without o ≡ (end_of S e, m) → Ends n (fault_of e) r → v ≡ m → HasEnd r v o
 says S (Ok x) v n m None o w i j = w ∙ ap (λ (k : ℕ). (Ok tt, k)) (sym j)
 says S (Ok x) v n m (Some f) o w i j = absurd i
 says S (Err x) v n m None o w i j = absurd i
@@ -40,7 +40,7 @@ counts (Err x) f n m e i = tt
 
 module _ (S : Shape) (d : List ℕ) where
   -- an answer of what was told of the heads ends as a reading does
-  pub says_so : (old new : List Event) (t : Taped) (r : Result ℕ ScanError) → IsTaped S (trail_of S (whole d)) 0 old new t → Ends t.count t.fault r → SaysEnd r t.visits (messages_of S 0 d)
+  pub says_so : (old new : List Event) (t : Taped) (r : Result ℕ ScanError) → IsTaped S (trail_of S (whole d)) 0 old new t → Ends t.count t.fault r → HasEnd r t.visits (messages_of S 0 d)
   says_so old new t r is ends = says S r t.visits t.count (visits_of S (trail_of S (whole d)).0) (trail_of S (whole d)).1 (messages_of S 0 d) (reads S d) (subst (λ f. Ends t.count f r) is.fault ends) is.visits
 
   -- and counts them
@@ -49,7 +49,7 @@ module _ (S : Shape) (d : List ℕ) where
 
   module _ {X : Type 0} where
     -- some list is the layout
-    pub fits_of : (r : Result X ScanError) (v : ℕ) → AreBytes d → SaysEnd r v (messages_of S 0 d) → IfOk r (λ _. (ms : List MessageVal) × Layout S ms d)
+    pub fits_of : (r : Result X ScanError) (v : ℕ) → AreBytes d → HasEnd r v (messages_of S 0 d) → IfOk r (λ _. (ms : List MessageVal) × Layout S ms d)
     fits_of (Err f) v b w = tt
     fits_of (Ok x) v b w = split (messages_of S 0 d) refl w where
       split : (o : Outcome (List MessageVal)) → messages_of S 0 d ≡ o → without o ≡ (Ok tt, v) → (ms : List MessageVal) × Layout S ms d
@@ -57,7 +57,7 @@ module _ (S : Shape) (d : List ℕ) where
       split (Err f, n) e w = not_ok f n v w
 
     -- the fault is the first
-    pub first_of : (r : Result X ScanError) (v : ℕ) → SaysEnd r v (messages_of S 0 d) → IfErr (as_read r) (λ e. IfFault e (λ f. IsFirstFault S (whole d) f.place f.reason))
+    pub first_of : (r : Result X ScanError) (v : ℕ) → HasEnd r v (messages_of S 0 d) → IfErr (as_read r) (λ e. IfFault e (λ f. IsFirstFault S (whole d) f.place f.reason))
     first_of (Ok x) v w = tt
     first_of (Err TooLarge) v w = tt
     first_of (Err (Fails f)) v w = split (messages_of S 0 d) refl w where
@@ -66,13 +66,13 @@ module _ (S : Shape) (d : List ℕ) where
       split (Err g, n) e w = subst (λ (x : Fault). IsFirstFault S (whole d) x.place x.reason) (same_fault g f n v w) (err_first S d g n e)
 
     -- no list is the layout
-    pub none_of : (r : Result X ScanError) (v : ℕ) → SaysEnd r v (messages_of S 0 d) → IfErr (as_read r) (λ e. IfFault e (λ _. (ms : List MessageVal) → Layout S ms d → ⊥))
+    pub none_of : (r : Result X ScanError) (v : ℕ) → HasEnd r v (messages_of S 0 d) → IfErr (as_read r) (λ e. IfFault e (λ _. (ms : List MessageVal) → Layout S ms d → ⊥))
     none_of (Ok x) v w = tt
     none_of (Err TooLarge) v w = tt
     none_of (Err (Fails f)) v w = λ ms l. let h = messages_fit S ms 0 d l in not_err f h.0 v (sym (ap without h.1) ∙ w)
 
     -- the visits are those up to the end
-    pub visits_of_scan : (r : Result X ScanError) (v : ℕ) → SaysEnd r v (messages_of S 0 d) → VisitsUpTo S d (as_read r) v
+    pub visits_of_scan : (r : Result X ScanError) (v : ℕ) → HasEnd r v (messages_of S 0 d) → VisitsUpTo S d (as_read r) v
     visits_of_scan (Ok x) v w = split (messages_of S 0 d) refl w where
       split : (o : Outcome (List MessageVal)) → messages_of S 0 d ≡ o → without o ≡ (Ok tt, v) → Visits S (whole d) (length d) v
       split (Ok ms, n) e w = subst (Visits S (whole d) (length d)) (same_sum (Ok tt, n) (Ok tt, v) w) (ok_visits S d ms n e)
@@ -84,8 +84,8 @@ module _ (S : Shape) (d : List ℕ) where
       split (Err g, n) e w = subst (λ (x : Fault). Visits S (whole d) x.place v) (same_fault g f n v w) (subst (Visits S (whole d) g.place) (same_sum (Err g, n) (Err f, v) w) (err_visits S d g n e))
 
   -- it isn't refused for its size
-  not_large : (r : Result ℕ ScanError) (v : ℕ) → SaysEnd r v (messages_of S 0 d) → r ≡ Err TooLarge → ⊥
-  not_large r v w e = subst (λ (x : Result ℕ ScanError). SaysEnd x v (messages_of S 0 d)) e w
+  not_large : (r : Result ℕ ScanError) (v : ℕ) → HasEnd r v (messages_of S 0 d) → r ≡ Err TooLarge → ⊥
+  not_large r v w e = subst (λ (x : Result ℕ ScanError). HasEnd x v (messages_of S 0 d)) e w
 
-  pub large_of : (r : Result ℕ ScanError) (v n : ℕ) → SaysEnd r v (messages_of S 0 d) → (n < length d → ⊥) → r ≡ Err TooLarge ↔ n < length d
+  pub large_of : (r : Result ℕ ScanError) (v n : ℕ) → HasEnd r v (messages_of S 0 d) → (n < length d → ⊥) → r ≡ Err TooLarge ↔ n < length d
   large_of r v n w f = (λ e. absurd (not_large r v w e), λ h. absurd (f h))

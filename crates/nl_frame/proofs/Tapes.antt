@@ -97,12 +97,12 @@ module _ {S : Shape} {d : List ℕ} {old : List Event} {count visits place : ℕ
     onward : Rest
     onward = record { place = place + f.span; left = f.rest.now }
 
-    told : Event
-    told = header_event place f.header.kind (length f.payload.now)
+    outcome : Event
+    outcome = header_event place f.header.kind (length f.payload.now)
 
-    told_is : told ≡ event_of S.order (header rest)
-    unfolding told rest
-    told_is = rw (is.header, is.payload) refl
+    outcome_is : outcome ≡ event_of S.order (header rest)
+    unfolding outcome rest
+    outcome_is = rw (is.header, is.payload) refl
 
     -- the heads that were found, and the header
     found : List AnyHead
@@ -118,19 +118,19 @@ module _ {S : Shape} {d : List ℕ} {old : List Event} {count visits place : ℕ
     found_length = omega (arith, now.counted, length-append now.hs (header rest ∷ []))
 
     -- the buffer, once the header was told of
-    put_is : slice_set out count told ≡ put_from 0 (map (event_of S.order) found) old
+    put_is : slice_set out count outcome ≡ put_from 0 (map (event_of S.order) found) old
     unfolding found
     put_is =
         let e = event_of S.order in
-        sym (put_one count told out)
-        ∙ ap (λ (x : Event). put_from count (x ∷ []) out) told_is
+        sym (put_one count outcome out)
+        ∙ ap (λ (x : Event). put_from count (x ∷ []) out) outcome_is
         ∙ ap (put_from count (e (header rest) ∷ [])) now.events
         ∙ ap (λ (n : ℕ). put_from n (e (header rest) ∷ []) (put_from 0 (map e now.hs) old)) (omega (arith, now.counted, length-map now.hs e))
         ∙ put_on 0 (map e now.hs) (e (header rest) ∷ []) old
         ∙ ap (λ (es : List Event). put_from 0 es old) (sym (map-append e now.hs (header rest ∷ [])))
 
     -- and once these were
-    put_more : (hs : List AnyHead) → put_from (count + 1) (map (event_of S.order) hs) (slice_set out count told) ≡ put_from 0 (map (event_of S.order) (found ++ hs)) old
+    put_more : (hs : List AnyHead) → put_from (count + 1) (map (event_of S.order) hs) (slice_set out count outcome) ≡ put_from 0 (map (event_of S.order) (found ++ hs)) old
     put_more hs =
         let e = event_of S.order in
         ap (put_from (count + 1) (map e hs)) put_is
@@ -164,7 +164,7 @@ module _ {S : Shape} {d : List ℕ} {old : List Event} {count visits place : ℕ
     module _ (new : List Event) (t : Taped) (taped : IsFrameTaped S f place count out new t) where
       -- a head in it breaks a rule
       pub tells_fault : (g : Fault) → t.fault ≡ Some g → IsTaped S (trail_of S (whole d)) 0 old new (record { fault = Some g; count = t.count; visits = visits + t.visits })
-      unfolding told body
+      unfolding outcome body
       tells_fault g e =
           ends_so (found ++ body.0) (Some (g.place, g.reason)) t.count (visits + t.visits) new
           (goes ∙ ap (front found) (stops_at body (trail_of S onward) (g.place, g.reason) (fault_some body.1 g (sym e ∙ taped.fault))))
@@ -174,7 +174,7 @@ module _ {S : Shape} {d : List ℕ} {old : List Event} {count visits place : ℕ
 
       -- none does
       pub goes_on : t.fault ≡ None → t.visits ≤ (S.depth + 1) * length f.payload.now → t.count ≤ count + 1 + t.visits → IsTaping S d old t.count (visits + t.visits) (place + f.span) f.rest.now new
-      unfolding told body onward
+      unfolding outcome body onward
       goes_on e b c = record {
         hs = found ++ body.0;
         same = goes ∙ ap (front found) (passes_at body (trail_of S onward) (fault_none body.1 (sym e ∙ taped.fault))) ∙ front_front found body.0 (trail_of S onward);

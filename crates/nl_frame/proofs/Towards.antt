@@ -142,9 +142,9 @@ module _ (S : Shape) (f : Fault) (d : List ℕ) (place : ℕ) (left : List ℕ) 
 
   module _ (some : false ≡ eqb (length left) 0) where
     pub at_header : (o : Option BrokenHead) → place ≡ f.place → ((b : BrokenHead) → (o ≡ Some b) ↔ ((broken_message S.order left ≡ Some f.reason) × (b ≡ message_facts S.order left))) → Answers o
-    at_header o at told b =
+    at_header o at outcome b =
         let here = at_front S f (record { place = place; left = left }) b (not_empty left some) at in
-        along (told b) (along (here.1, here.0) (now.same b))
+        along (outcome b) (along (here.1, here.0) (now.same b))
 
     module _ (apart : place ≢ f.place) where
       pub length_breaks : (r : Reason) → broken_frame S.order left ≡ Some r → Answers None
@@ -155,9 +155,9 @@ module _ (S : Shape) (f : Fault) (d : List ℕ) (place : ℕ) (left : List ℕ) 
         span_is = long ∙ ap (λ (n : ℕ). min (aligned n) (length left)) is.2
 
         pub in_item : (o : Option BrokenHead) → f.place - place < span → ((b : BrokenHead) → (o ≡ Some b) ↔ IsBrokenWithin S (record { place = place; left = left }) f b) → Answers o
-        in_item o lt told b =
+        in_item o lt outcome b =
             let here = in_message S f (record { place = place; left = left }) b (not_empty left some) (omega (arith, now.ahead)) (omega (arith, span_is)) in
-            along (told b) (along (here.1, here.0) (now.same b))
+            along (outcome b) (along (here.1, here.0) (now.same b))
 
         pub goes_on : span ≤ f.place - place → IsSeeking S f d (place + span) (take (length left - span) (drop span left))
         goes_on le =
@@ -175,11 +175,11 @@ module _ (S : Shape) (f : Fault) (d : List ℕ) (place : ℕ) (left : List ℕ) 
 pub within_family : (S : Shape) (place : ℕ) (left : List ℕ) (f : Fault) (frame : Frame) (g : Group) (o : Option BrokenHead) (order : Order) (depth size : ℕ) (ctx : Ctx) → IsFrame S.order left frame → frame.form ≡ form.Family g → order ≡ S.order → depth ≡ S.depth → size ≡ head_size g → ctx ≡ context_of g
     → ((b : BrokenHead) → (o ≡ Some b) ↔ region.IsBrokenHead (shape_of order depth) (start_of ctx 0 (place + 16 + size) (take (length frame.payload.now - size) (drop size frame.payload.now))) f b)
     → (b : BrokenHead) → (o ≡ Some b) ↔ IsBrokenWithin S (record { place = place; left = left }) f b
-within_family S place left f frame g o order depth size ctx is family a d n c told b =
+within_family S place left f frame g o order depth size ctx is family a d n c outcome b =
     let bytes = frame.payload.now in
     let start : Head = start_of (context_of g) 0 (place + 16 + head_size g) (drop (head_size g) bytes) in
     let rest : take (length bytes - head_size g) (drop (head_size g) bytes) ≡ drop (head_size g) bytes = take_all (length bytes - head_size g) (drop (head_size g) bytes) (omega (arith, length-drop (head_size g) bytes)) in
-    let here : (o ≡ Some b) ↔ region.IsBrokenHead S start f b = rw (a, d, n, c, rest) at (told b) in
+    let here : (o ≡ Some b) ↔ region.IsBrokenHead S start f b = rw (a, d, n, c, rest) at (outcome b) in
     let at : region_of S (record { place = place; left = left }) ≡ Some start = ap (λ (x : Form × List ℕ). region_in x.0 (place + 16) x.1) (both (sym is.form ∙ family) (sym is.payload)) in
     along here (λ x. (start, is.sound, at, x), λ y. subst (λ h. region.IsBrokenHead S h f b) (same_region S (record { place = place; left = left }) start y.0 at y.2) y.3) where
       both : {x y : Form} {xs ys : List ℕ} → x ≡ y → xs ≡ ys → ◌≡◌ {A = Form × List ℕ} (x, xs) (y, ys)
@@ -188,5 +188,5 @@ within_family S place left f frame g o order depth size ctx is family a d n c to
 -- ---- where there is one
 
 pub found : (S : Shape) (s : Rest) (f : Fault) (o : Option BrokenHead) → ((b : BrokenHead) → (o ≡ Some b) ↔ IsBrokenHead S s f b) → IsSome o ↔ FaultAt S s f.place f.reason
-found S s f None told = (λ x. absurd cc, λ x. let h = head_of S f s x in absurd (let e : ◌≡◌ {A = Option BrokenHead} None (Some h.0) = (told h.0).1 h.1 in cc))
-found S s f (Some b) told = (λ x. fault_of S f s b ((told b).0 refl), λ x. refl)
+found S s f None outcome = (λ x. absurd cc, λ x. let h = head_of S f s x in absurd (let e : ◌≡◌ {A = Option BrokenHead} None (Some h.0) = (outcome h.0).1 h.1 in cc))
+found S s f (Some b) outcome = (λ x. fault_of S f s b ((outcome b).0 refl), λ x. refl)

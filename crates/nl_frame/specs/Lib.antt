@@ -7,7 +7,7 @@ pub mod Front
 pub mod Reading
 pub mod Layout
 pub mod Heads
-pub mod Told
+pub mod Outcomes
 pub mod Kept
 pub mod Written
 pub mod Proper

@@ -46,7 +46,7 @@ as_read (Ok x) = Ok x
 as_read (Err e) = Err (refusal e)
 
 -- whether all is accepted or which fault is met, and the visits, are those of this outcome of a reading
-abbrev pub SaysEnd : {X Y : Type 0} → Result X ScanError → ℕ → Outcome Y → Type 0
-SaysEnd (Ok x) v o = without o ≡ (Ok tt, v)
-SaysEnd (Err TooLarge) v o = ⊥
-SaysEnd (Err (Layout f)) v o = without o ≡ (Err f, v)
+abbrev pub HasEnd : {X Y : Type 0} → Result X ScanError → ℕ → Outcome Y → Type 0
+HasEnd (Ok x) v o = without o ≡ (Ok tt, v)
+HasEnd (Err TooLarge) v o = ⊥
+HasEnd (Err (Layout f)) v o = without o ≡ (Err f, v)

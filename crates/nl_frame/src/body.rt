@@ -2,7 +2,7 @@
 
 ghost use Rattle.std.specs.Prelude.{◌≡◌, ◌≤◌, ◌+◌, ◌*◌, length, drop};
 ghost use Rattle.std.specs.Prelude.{slice_index, IfSome, MatchOption};
-ghost use Rattle.nl_attr.specs.Told.{Tells};
+ghost use Rattle.nl_attr.specs.Outcomes.{HasOutcome};
 ghost use Rattle.nl_route.specs.Families.{head_size};
 ghost use Rattle.nl_frame.specs.Form.{least_body};
 ghost use Rattle.nl_frame.specs.Header.{header_of};
@@ -128,7 +128,7 @@ fn read_family(
     requires least { head_size group ≤ length bytes.now }
     requires size { length bytes.now ≤ 1048576 }
     requires place { base + length bytes.now ≤ 2097152 }
-    ensures told { Tells body_view result (family_body_at limits.now.shape group base bytes.now) }
+    ensures outcome { HasOutcome body_view result (family_body_at limits.now.shape group base bytes.now) }
     ensures bound { result.visits ≤ (limits.now.shape.depth + 1) * length bytes.now }
 {
     let depth = limits.depth();
@@ -148,7 +148,7 @@ impl Body {
         requires least { least_body form ≤ length bytes.now }
         requires size { length bytes.now ≤ 1048576 }
         requires place { base + length bytes.now ≤ 2097152 }
-        ensures told { Tells body_view result (body_at limits.now.shape form base bytes.now) }
+        ensures outcome { HasOutcome body_view result (body_at limits.now.shape form base bytes.now) }
         ensures bound { result.visits ≤ (limits.now.shape.depth + 1) * length bytes.now }
     {
         let order = limits.order();

@@ -102,7 +102,7 @@ fn broken_in(datagram: &[u8], limits: &Limits, fault: Fault) -> Option<BrokenHea
 /// where the place lies in it: it explains a refusal, and counts no visits.
 pub fn broken_head(datagram: &[u8], limits: &Limits, fault: Fault) -> Option<BrokenHead>
     // It is what is told of that head, and nothing else is.
-    ensures told { (b : BrokenHead) → (result ≡ Some b)
+    ensures facts { (b : BrokenHead) → (result ≡ Some b)
         ↔ ((length datagram.now ≤ limits.now.datagram)
         × IsBrokenHead limits.now.shape (whole datagram.now) fault b) }
     // There is one for each fault of a datagram within the limit, so also for its first.

@@ -4,7 +4,7 @@ ghost use Rattle.std.specs.Prelude.{◌≡◌, ◌<◌, ◌↔◌, IsTrue, lengt
 ghost use Rattle.nl_frame.specs.Message.{MessageVal};
 ghost use Rattle.nl_frame.specs.Layout.{Layout};
 ghost use Rattle.nl_frame.specs.Heads.{IsFirstFault, whole};
-ghost use Rattle.nl_frame.specs.Told.{IfFault};
+ghost use Rattle.nl_frame.specs.Outcomes.{IfFault};
 ghost use Rattle.nl_frame.specs.Written.{written};
 
 use crate::comparing::are_written;

@@ -3,7 +3,7 @@
 ghost use Rattle.std.specs.Prelude.{◌≡◌, ◌≤◌, ◌<◌, ◌+◌, ◌*◌, ◌↔◌, ◌++◌, ◌∷◌, []};
 ghost use Rattle.std.specs.Prelude.{IsTrue, length, map, List, IfOk, IfErr, Err};
 ghost use Rattle.nl_attr.specs.Reading.{map_value};
-ghost use Rattle.nl_attr.specs.Told.{Tells};
+ghost use Rattle.nl_attr.specs.Outcomes.{HasOutcome};
 ghost use Rattle.nl_frame.specs.Form.{least_body};
 ghost use Rattle.nl_frame.specs.Reading.{message_of, body_at, messages_of};
 ghost use Rattle.nl_frame.specs.View.{message_view};
@@ -31,7 +31,7 @@ pub enum ReadError {
 }
 
 impl ReadError {
-    ghost use Rattle.nl_frame.specs.Told.{read_code};
+    ghost use Rattle.nl_frame.specs.Outcomes.{read_code};
 
     /// The number of this refusal: that of the fault's reason, 6 for too large, 13 for memory.
     pub fn code(self) -> u8
@@ -75,7 +75,7 @@ fn read_message(
     requires least { least_body frame.now.form ≤ length frame.now.payload.now }
     requires size { length frame.now.payload.now ≤ 1048576 }
     requires place { place + 16 + length frame.now.payload.now ≤ 2097152 }
-    ensures told { Tells message_view result (map_value (message_of frame.now.header)
+    ensures outcome { HasOutcome message_view result (map_value (message_of frame.now.header)
         (body_at limits.now.shape frame.now.form (place + 16) frame.now.payload.now)) }
     ensures bound { result.visits ≤ (limits.now.shape.depth + 1) * length frame.now.payload.now }
 {
@@ -108,7 +108,7 @@ fn keep(list: &mut Vec<Message>, message: Message) -> bool
 /// The messages of a datagram.
 fn read_messages(alloc: Global, bytes: &[u8], limits: &Limits) -> Tally<Vec<Message>, ListError>
     requires { length bytes.now ≤ 1048576 }
-    ensures told { Tells
+    ensures outcome { HasOutcome
         (λ v. map message_view v.items) result (messages_of limits.now.shape 0 bytes.now) }
     ensures bound { result.visits ≤ (limits.now.shape.depth + 1) * length bytes.now }
 {
@@ -159,7 +159,7 @@ fn read_messages(alloc: Global, bytes: &[u8], limits: &Limits) -> Tally<Vec<Mess
 }
 
 ghost use Rattle.nl_frame.specs.Layout.{Layout};
-ghost use Rattle.nl_frame.specs.Told.{IfFault, VisitsUpTo};
+ghost use Rattle.nl_frame.specs.Outcomes.{IfFault, VisitsUpTo};
 ghost use Rattle.nl_frame.specs.Kept.{kept};
 ghost use Rattle.nl_frame.specs.Heads.{IsFirstFault, whole};
 

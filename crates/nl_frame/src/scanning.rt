@@ -7,8 +7,8 @@ ghost use Rattle.nl_frame.specs.Heads.{IsFirstFault, whole};
 ghost use Rattle.nl_frame.specs.Layout.{Layout};
 ghost use Rattle.nl_frame.specs.Message.{MessageVal};
 ghost use Rattle.nl_frame.specs.Reading.{messages_of};
-ghost use Rattle.nl_frame.specs.Taped.{Ends, SaysEnd, as_read};
-ghost use Rattle.nl_frame.specs.Told.{IfFault, VisitsUpTo};
+ghost use Rattle.nl_frame.specs.Taped.{Ends, HasEnd, as_read};
+ghost use Rattle.nl_frame.specs.Outcomes.{IfFault, VisitsUpTo};
 ghost use Rattle.nl_frame.specs.Trail.{events_of};
 
 use crate::limits::Limits;
@@ -29,7 +29,7 @@ pub enum ScanError {
 
 impl ScanError {
     ghost use Rattle.nl_frame.specs.Taped.{refusal};
-    ghost use Rattle.nl_frame.specs.Told.{read_code};
+    ghost use Rattle.nl_frame.specs.Outcomes.{read_code};
 
     /// The number of this refusal: that of the fault's reason, or 6 for too large.
     pub fn code(self) -> u8
@@ -65,8 +65,8 @@ pub fn tape_datagram(bytes: &[u8], limits: &Limits, out: &mut [Event]) -> Tally<
         ↔ limits.now.datagram < length bytes.now }
     ensures untouched { limits.now.datagram < length bytes.now → out.new ≡ out.old }
     // Else whether it is accepted, the fault and the visits are those of a reading.
-    ensures told { length bytes.now ≤ limits.now.datagram
-        → SaysEnd result.result result.visits (messages_of limits.now.shape 0 bytes.now) }
+    ensures outcome { length bytes.now ≤ limits.now.datagram
+        → HasEnd result.result result.visits (messages_of limits.now.shape 0 bytes.now) }
     // What is told of the heads up to the fault stands in the buffer, and the rest is as it was.
     ensures events { length bytes.now ≤ limits.now.datagram
         → out.new ≡ put_from 0 (events_of limits.now.shape (whole bytes.now)) out.old }
@@ -107,8 +107,8 @@ pub fn scan_datagram(bytes: &[u8], limits: &Limits) -> Tally<(), ScanError>
     ensures large { result.result ≡ Err ScanError.TooLarge
         ↔ limits.now.datagram < length bytes.now }
     // Else whether it is accepted, the fault and the visits are those of a reading.
-    ensures told { length bytes.now ≤ limits.now.datagram
-        → SaysEnd result.result result.visits (messages_of limits.now.shape 0 bytes.now) }
+    ensures outcome { length bytes.now ≤ limits.now.datagram
+        → HasEnd result.result result.visits (messages_of limits.now.shape 0 bytes.now) }
     // Where it is accepted some list of messages is the layout.
     ensures fits { IfOk result.result
         (λ _. (ms : List MessageVal) × Layout limits.now.shape ms bytes.now) }

@@ -38,7 +38,7 @@ pub enum WriteError {
 }
 
 impl WriteError {
-    ghost use Rattle.nl_frame.specs.Told.{write_code};
+    ghost use Rattle.nl_frame.specs.Outcomes.{write_code};
 
     /// The number of this refusal: 11, 5, 4, 6 or 13, in the order of the variants.
     pub fn code(self) -> u8
@@ -66,7 +66,7 @@ impl From<AllocError> for WriteError {
 
 /// The length of messages that can be written, or why they can't.
 fn check(messages: &[Message], limits: &Limits) -> Result<usize, WriteError>
-    ensures told { Judges (map message_view messages.now) limits.now result }
+    ensures outcome { Judges (map message_view messages.now) limits.now result }
     ensures known { result ≡ Err WriteError.Memory → ⊥ }
     ensures len { IfOk result (λ n. n ≡ written_len (map message_view messages.now)) }
     ensures limit { IfOk result (λ n. n ≤ 1048576) }

@@ -18,7 +18,7 @@ pub use Rattle.nl_attr.specs.Visits
 pub use Rattle.nl_attr.specs.Reading
 pub use Rattle.nl_attr.specs.View
 pub use Rattle.nl_attr.specs.Views as AttrViews
-pub use Rattle.nl_attr.specs.Told
+pub use Rattle.nl_attr.specs.Outcomes
 pub use Rattle.nl_attr.specs.Kept
 pub use Rattle.nl_attr.specs.Written
 pub use Rattle.nl_attr.specs.Proper

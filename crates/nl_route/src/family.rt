@@ -5,7 +5,7 @@ ghost use Rattle.nl_attr.specs.Tree.{Items};
 ghost use Rattle.nl_attr.specs.View.{attrs_view};
 ghost use Rattle.nl_attr.specs.Shape.{shape_of};
 ghost use Rattle.nl_attr.specs.Heads.{IsFirstFault};
-ghost use Rattle.nl_attr.specs.Told.{Tells, IfLayout, VisitsUpTo};
+ghost use Rattle.nl_attr.specs.Outcomes.{HasOutcome, IfLayout, VisitsUpTo};
 ghost use Rattle.nl_attr.specs.Kept.{kept};
 ghost use Rattle.nl_route.specs.Body.{IsFamilyBody, family_at, attrs_of};
 
@@ -39,7 +39,7 @@ impl<H: Head> Family<H> {
         requires size { length bytes.now ≤ 1048576 }
         requires place { base + length bytes.now ≤ 2097152 }
         // What is read, or the fault, and the visits are those of a reading from left to right.
-        ensures told { Tells (λ b. (b.head, attrs_view b.attrs.items)) result
+        ensures outcome { HasOutcome (λ b. (b.head, attrs_view b.attrs.items)) result
             (family_at (shape_of Order.Little depth) H.SIZE H.ctx H.of base bytes.now) }
         // What is read is the body.
         ensures fits { IfOk result.result (λ b. IsFamilyBody (shape_of Order.Little depth) H.SIZE
@@ -79,7 +79,7 @@ impl<H: Head> Family<H> {
         requires size { length bytes.now ≤ 1048576 }
         requires place { base + length bytes.now ≤ 2097152 }
         // What is read, or the fault, and the visits are those of a reading from left to right.
-        ensures told { Tells (λ b. (b.head, attrs_view b.attrs.items)) result
+        ensures outcome { HasOutcome (λ b. (b.head, attrs_view b.attrs.items)) result
             (family_at (shape_of order depth) H.SIZE H.ctx H.of base bytes.now) }
         // What is read is the body.
         ensures fits { IfOk result.result (λ b. IsFamilyBody (shape_of order depth) H.SIZE

@@ -84,7 +84,7 @@ impl<H: Head> Family<H> {
 
     /// The length of a body that can be written, or why it can't.
     fn check(&self, depth: Depth) -> Result<usize, WriteError>
-        ensures told { Judges (attrs_view self.now.attrs.items) H.ctx depth result }
+        ensures outcome { Judges (attrs_view self.now.attrs.items) H.ctx depth result }
         ensures known { result ≡ Err WriteError.Memory → ⊥ }
         ensures len { IfOk result
             (λ n. n ≡ H.SIZE + attrs.items_len (attrs_view self.now.attrs.items)) }

@@ -26,7 +26,7 @@ pub feeds_more : (u v w : View) (ds rest : List (List ℕ)) (fed : List Answered
 feeds_more u v w ds rest fed d r h step told =
     record {
       order = h.order ∙ sym (append_assoc (datagrams_of fed) (d ∷ []) rest);
-      told = (told, h.told);
+      told = (told, h.outcome);
       calls = λ b before calls. (v, h.calls b before calls, step);
     }
 
@@ -41,7 +41,7 @@ pub run_is : (b : Bounds) (d : Dump) (ds : List (List ℕ)) (request : Vec ℕ) 
     → IsRun b d ds request fed unfed v
 run_is b d ds request fed unfed new begun v is_new began h all =
     let calls = h.calls b (begins d (Ok request) ∷ []) (new, is_new, began) in
-    record { calls = calls; session = calls_end b (calls_of d request fed) v calls; order = h.order; told = h.told; all = all }
+    record { calls = calls; session = calls_end b (calls_of d request fed) v calls; order = h.order; told = h.outcome; all = all }
 
 -- what is told of a run
 pub run_text : (t : Telling) (d : Dump) (fed : List Answered) (unfed : List (List ℕ)) (v : View) (b : Bounds) (o : Order) (n : ℕ) (first second third all : List ℕ) → first ≡ [] → second ≡ first ++ t.front d → third ≡ second ++ refusals_text t fed

@@ -4,7 +4,7 @@ use Rattle.nl_frame.specs.declared.reading.ReadError.{ReadError}
 use Rattle.nl_frame.specs.declared.reading.ReadError.TheVariants.{TooLarge, Layout as Fails, Memory}
 use Rattle.nl_frame.specs.Heads.{IsFirstFault, whole}
 use Rattle.nl_frame.specs.Limits.{Bounds}
-use Rattle.nl_frame.specs.Told.{IfFault}
+use Rattle.nl_frame.specs.Outcomes.{IfFault}
 use Rattle.nl_frame.proofs.Within.{within}
 use Rattle.rtnl.specs.Shown.{Refuses}
 

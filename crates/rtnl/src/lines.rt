@@ -168,7 +168,7 @@ pub(crate) fn read_datagrams(alloc: Global, input: &[u8]) -> Result<Datagrams, R
 pub fn datagrams(alloc: Global, recording: &[u8]) -> Result<Vec<Vec<u8>>, RunError>
     ensures large { (result ≡ Err RunError.ReadFault) ↔ (longest_input < length recording.now) }
     // Else they are those of its lines, or the first line that is bad, or memory ran out.
-    ensures told { length recording.now ≤ longest_input
+    ensures outcome { length recording.now ≤ longest_input
         → Gives (λ v. map (λ d. d.items) v.items) result (datagrams recording.now) }
 {
     if recording.len() > LONGEST_INPUT {

@@ -6,7 +6,7 @@ use Rattle.nl_frame.specs.Heads.{IsFirstFault, whole}
 use Rattle.nl_frame.specs.Layout.{Layout}
 use Rattle.nl_frame.specs.Limits.{Bounds}
 use Rattle.nl_frame.specs.Message.{MessageVal}
-use Rattle.nl_frame.specs.Told.{IfFault}
+use Rattle.nl_frame.specs.Outcomes.{IfFault}
 use Rattle.nl_frame.specs.Written.{written}
 use Rattle.nl_frame.proofs.Within.{within}
 use Rattle.rtnl_c.specs.Checked.{Checks, finds, no_memory, found}

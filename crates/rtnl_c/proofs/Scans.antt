@@ -9,7 +9,7 @@ use Rattle.nl_frame.specs.Layout.{Layout}
 use Rattle.nl_frame.specs.Limits.{Bounds}
 use Rattle.nl_frame.specs.Message.{MessageVal}
 use Rattle.nl_frame.specs.Taped.{as_read, refusal}
-use Rattle.nl_frame.specs.Told.{IfFault, VisitsUpTo, read_code}
+use Rattle.nl_frame.specs.Outcomes.{IfFault, VisitsUpTo, read_code}
 use Rattle.nl_frame.specs.Trail.{events_of}
 use Rattle.rtnl_c.specs.Scanned.{Scans, Tapes, place_of, refused, untaped}
 use Rattle.rtnl_c.specs.Scanned as found

@@ -3,7 +3,7 @@ use Rattle.std.specs.Prelude.{ℕ, List, false, Ok, Err}
 use Rattle.nl_frame.specs.declared.reading.ReadError.{ReadError}
 use Rattle.nl_frame.specs.declared.reading.ReadError.TheVariants.{TooLarge, Layout, Memory}
 use Rattle.nl_frame.specs.Limits.{Bounds}
-use Rattle.nl_frame.specs.Told.{read_code}
+use Rattle.nl_frame.specs.Outcomes.{read_code}
 use Rattle.rtnl.specs.Checked.{Finding, Finds}
 use Rattle.rtnl_c.specs.declared.check.Checked.{Checked}
 

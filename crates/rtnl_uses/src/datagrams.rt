@@ -6,7 +6,7 @@ ghost use Rattle.nl_route.specs.Views.{number_view};
 ghost use Rattle.nl_frame.specs.Message.{MessageVal};
 ghost use Rattle.nl_frame.specs.Layout.{Layout};
 ghost use Rattle.nl_frame.specs.Heads.{IsFirstFault, whole};
-ghost use Rattle.nl_frame.specs.Told.{IfFault};
+ghost use Rattle.nl_frame.specs.Outcomes.{IfFault};
 
 use nl_frame::{Limits, ReadError, read_datagram};
 use nl_route::Link;

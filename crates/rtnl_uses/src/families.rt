@@ -5,7 +5,7 @@ ghost use Rattle.std.specs.Option.{option_map};
 ghost use Rattle.nl_attr.specs.Shape.{shape_of};
 ghost use Rattle.nl_attr.specs.Heads.{IsFirstFault};
 ghost use Rattle.nl_attr.specs.Tree.{Items};
-ghost use Rattle.nl_attr.specs.Told.{IfLayout};
+ghost use Rattle.nl_attr.specs.Outcomes.{IfLayout};
 ghost use Rattle.nl_attr.specs.declared.order.Order.{Order};
 ghost use Rattle.nl_attr.specs.declared.tree.Ctx.{Ctx};
 ghost use Rattle.nl_route.specs.Body.{IsFamilyBody, attrs_of};

@@ -54,7 +54,7 @@ left_so left n m e = take_all (length left - n) (drop n left) (omega (arith, len
 pub rest_so : (ctx : Ctx) (l place : ℕ) (left : List ℕ) (n m : ℕ) → n ≡ m → start_of ctx l (place + n) (take (length left - n) (drop n left)) ≡ start_of ctx l (place + m) (drop m left)
 rest_so ctx l place left n m e = ap (λ (xs : List ℕ). start_of ctx l (place + n) xs) (left_so left n m e) ∙ ap (λ (k : ℕ). start_of ctx l (place + k) (drop m left)) e
 
--- what is told of a next hop
+-- the event of a next hop
 pub hop_event_so : (o : Order) (l place : ℕ) (left : List ℕ) (len : ℕ) → len ≡ length (payload_of o 8 2 left)
     → ◌≡◌ {A = Event} (record { place = place; len = len; number = 0; level = l; sort = SORT_NEXT_HOP; nested = false; net = false }) (event_of o (hops_start l place left))
 hop_event_so o l place left len e = rw e refl

@@ -16,11 +16,11 @@ use Rattle.nl_attr.specs.Numbers.{AreBytes, num}
 use Rattle.nl_attr.specs.Tree.{Val, bytes, list, hops, Items, no_items, item, HopItems, no_hops, hop, holds_of}
 use Rattle.nl_attr.specs.Layout.{IsPiece, kind_number, FitsVal, Fits, FitsHops}
 use Rattle.nl_attr.specs.Reading.{items_of_region}
-use Rattle.nl_attr.specs.Told.{Tells}
+use Rattle.nl_attr.specs.Outcomes.{HasOutcome}
 use Rattle.nl_attr.specs.View.{attrs_view}
 use Rattle.nl_attr.specs.Kept.{value_kept, kept, hops_kept}
 use Rattle.nl_attr.proofs.Lemmas.Numbers.{length-num}
-use Rattle.nl_attr.proofs.Lemmas.Told.{told_fits}
+use Rattle.nl_attr.proofs.Lemmas.Regions.{region_fits}
 
 -- an item and what comes after it
 apart : (o : Order) (h w : ℕ) (region it pad rest : List ℕ) → IsPiece o h w region it pad rest → length it + length rest ≤ length region
@@ -60,5 +60,5 @@ kept_of : (S : Shape) (ctx : Ctx) (l : ℕ) (left : List ℕ) (r : Result (Vec A
 kept_of S ctx l left (Ok x) f = items_kept S (attrs_view x.items) left ctx l f
 kept_of S ctx l left (Err d) f = tt
 
-pub told_kept : (S : Shape) (ctx : Ctx) (l place : ℕ) (left : List ℕ) (t : Tally (Vec Attr) ListError) → AreBytes left → Tells (λ (x : Vec Attr). attrs_view x.items) t (items_of_region S ctx l place left) → IfOk t.result (λ x. kept (attrs_view x.items) ≤ length left)
-told_kept S ctx l place left t fits e = kept_of S ctx l left t.result (told_fits S ctx l place left t fits e)
+pub region_kept : (S : Shape) (ctx : Ctx) (l place : ℕ) (left : List ℕ) (t : Tally (Vec Attr) ListError) → AreBytes left → HasOutcome (λ (x : Vec Attr). attrs_view x.items) t (items_of_region S ctx l place left) → IfOk t.result (λ x. kept (attrs_view x.items) ≤ length left)
+region_kept S ctx l place left t fits e = kept_of S ctx l left t.result (region_fits S ctx l place left t fits e)

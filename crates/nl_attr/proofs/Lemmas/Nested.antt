@@ -13,7 +13,7 @@ use Rattle.nl_attr.specs.declared.stack.nested.Next.TheVariants as next
 use Rattle.nl_attr.specs.Shape.{Shape}
 use Rattle.nl_attr.specs.Tree.{Items}
 use Rattle.nl_attr.specs.Heads.{Sort}
-use Rattle.nl_attr.specs.Told.{Says}
+use Rattle.nl_attr.specs.Outcomes.{IsOutcome}
 use Rattle.nl_attr.specs.Reading.{Outcome, and_then, more_visits, items_of_region}
 use Rattle.nl_attr.specs.Open.{list_rest, goes_on, next_rest, NextGoes, FailsAs, Spot, list_spot, frame_spot, frame_room, Holds, levels_in, IsWithinLimits, Room, IsIn, spot_end, frame_work, next_work, Advances, NextMoves, LiesUnder, PutsOn}
 use Rattle.nl_attr.proofs.Lemmas.Reading.{more_then}
@@ -146,9 +146,9 @@ module _ {S : Shape} {start : Room} {whole : Outcome Items} {n : ℕ} {fs : List
   pub between_fault : (m : ℕ) (f : Fault) → IsBetween S start whole n fs o s → more_visits n o ≡ (Err f, m) → whole ≡ (Err f, m)
   between_fault m f i e = sym i.same ∙ sym (resume-more S fs n o) ∙ ap (resume S fs) e ∙ resume-fault S fs f m
 
-  pub fails_told : {X : Type 0} (view : X → Items) (m : ℕ) (e : ListError) → IsBetween S start whole n fs o s → FailsAs n o m e → Says view (Err e) m whole
-  fails_told view m (Layout f) i e = between_fault m f i e
-  fails_told view m Memory i e = tt
+  pub fails_outcome : {X : Type 0} (view : X → Items) (m : ℕ) (e : ListError) → IsBetween S start whole n fs o s → FailsAs n o m e → IsOutcome view (Err e) m whole
+  fails_outcome view m (Layout f) i e = between_fault m f i e
+  fails_outcome view m Memory i e = tt
 
   pub fails_visits : (m : ℕ) (e : ListError) → IsBetween S start whole n fs o s → FailsAs n o m e → m ≤ whole.1
   fails_visits m (Layout f) i e = omega (arith, ap (λ (p : Outcome Items). p.1) (between_fault m f i e))

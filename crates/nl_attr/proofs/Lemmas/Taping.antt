@@ -217,7 +217,7 @@ module _ {S : Shape} {start : Head} {count : ℕ} {old : List Event} {fs : List 
         at : (s : Sort) → s ≡ attr_head → ◌≡◌ {A = Head} (record { place = start.place; sort = attr_head; ctx = start.ctx; level = start.level; left = start.left }) (record { place = start.place; sort = s; ctx = start.ctx; level = start.level; left = start.left })
         at s e = ap (λ (x : Sort). record { place = start.place; sort = x; ctx = start.ctx; level = start.level; left = start.left }) (sym e)
 
-  -- ---- what is told
+  -- ---- the events
 
   -- all is accepted
   pub tells_none : top.left ≡ [] → fs ≡ [] → IsTaped S start count old out t
@@ -253,7 +253,7 @@ pub none_left : {A : Type 0} (xs : List A) → (0 < length xs → ⊥) → xs �
 none_left [] f = refl
 none_left (x ∷ xs) f = absurd (f (omega arith))
 
--- ---- what follows of what is told
+-- ---- what follows of the events
 
 module _ {S : Shape} {start : Head} {count : ℕ} {old new : List Event} {t : Taped} (is : IsTaped S start count old new t) where
   -- there are no more events than bytes that were visited

@@ -9,7 +9,7 @@ use Rattle.nl_attr.specs.declared.order.Order.{Order}
 use Rattle.nl_attr.specs.Numbers.{AreBytes, len_of, span_of}
 use Rattle.nl_attr.specs.Walk.{Region}
 use Rattle.nl_attr.specs.Walk.{Gives, broken_length, payload_of, after, IsPart, IsHopPart, spans_of, LiesIn, EachLies}
-use Rattle.nl_attr.specs.Walk.{IsWalk}
+use Rattle.nl_attr.specs.Walk.{IsWalk, IsWalkOver}
 use Rattle.nl_attr.proofs.Lemmas.Numbers.{bytes_drop}
 use Rattle.nl_attr.proofs.Lemmas.Reading.{sound_within, span_at_least, payload_length}
 use Rattle.nl_attr.proofs.Lemmas.Scan.{span_within}
@@ -97,6 +97,14 @@ part_placed = record { place_is = λ p r i. i.place; span_is = λ p r i. i.span;
 pub hop_placed : Placed 8 IsHopPart (λ (p : HopPart). p.place) (λ p. p.span) (λ p. p.rest.now)
 hop_placed = record { place_is = λ p r i. i.place; span_is = λ p r i. i.span; payload_is = λ p r i. i.rest }
 
--- a walk that begins stands at the bytes
-pub begins_at : (o : Order) (bytes : List ℕ) → Stands bytes (record { order = o; place = 0; left = bytes })
-begins_at o bytes = (omega arith, inr refl)
+-- a walk that begins with these bytes
+pub walks_over : {P : Type 0} {h : ℕ} {Is : P → Region → Type 0} {place span : P → ℕ} {payload : P → List ℕ} → Placed h Is place span payload → 2 ≤ h → (o : Order) (bytes : List ℕ) → AreBytes bytes
+    → IsWalkOver h Is place span payload o bytes (record { order = o; place = 0; left = bytes })
+walks_over {h = h} {Is = Is} placed two o bytes fits =
+    let r : Region = record { order = o; place = 0; left = bytes } in
+    record {
+      start = refl;
+      walk = λ parts d. walk_is h Is r parts two fits d;
+      inside = λ parts rest y. each_lies placed bytes r rest parts (omega arith, inr refl) y;
+      seen = λ parts rest y. omega (arith, seen_is placed r rest parts y);
+    }

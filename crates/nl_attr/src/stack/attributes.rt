@@ -1,12 +1,12 @@
 //! Reading a region of attributes where it stands.
 
-ghost use Rattle.std.specs.Prelude.{◌≡◌, ◌≤◌, ◌<◌, ◌+◌, length};
+ghost use Rattle.std.specs.Prelude.{◌^◌, ◌≡◌, ◌≤◌, ◌<◌, ◌+◌, length};
 ghost use Rattle.nl_attr.specs.Tree.{holds_of};
 ghost use Rattle.nl_attr.specs.Open.{content_in, HasInner, TurnsAt, list_rest};
 ghost use Rattle.nl_attr.specs.Open.{list_spot, Goes, Moves, IsWithinLimits};
 
 use crate::fault::{Fault, ListError};
-use crate::limits::Shape;
+use crate::limits::{LONGEST_REGION, MOST_LEVELS, MOST_VISITS, Shape};
 use crate::stack::regions::{ListRegion, container_fault, keep_bytes, layout};
 use crate::tree::{AttrFlags, Content, Ctx, holds};
 use crate::walk::Part;
@@ -68,9 +68,9 @@ fn inner_of(ctx: Ctx, number: u16, flags: AttrFlags) -> Option<Inner>
 
 /// The turn at an attribute that holds a region: it opens, or breaks a rule.
 fn turn_at<'a>(part: Part<'a>, inner: Inner, base: u32, level: u8, shape: Shape) -> Turn<'a>
-    requires level { level ≤ 32 }
-    requires place { base + part.place + 4 < 4294967296 }
-    requires size { length part.payload.now ≤ 1048576 }
+    requires level { level ≤ MOST_LEVELS }
+    requires place { base + part.place + 4 < 2 ^ 32 }
+    requires size { length part.payload.now ≤ LONGEST_REGION }
     ensures { TurnsAt shape level base part.entry inner result }
 {
     let (place, payload) = (part.place, part.payload);
@@ -94,9 +94,9 @@ pub(super) fn read_attrs<'a>(
     shape: Shape,
     visits: &mut u64,
 ) -> Turn<'a>
-    requires limit { shape.depth ≤ 32 }
+    requires limit { shape.depth ≤ MOST_LEVELS }
     requires limits { IsWithinLimits shape (list_spot region.old) }
-    requires room { visits.old + (list_rest shape region.old).1 ≤ 34603008 }
+    requires room { visits.old + (list_rest shape region.old).1 ≤ MOST_VISITS }
     ensures goes { Goes shape visits.old (list_rest shape region.old) visits.new region.new result }
     ensures moves { Moves shape (list_spot region.old) region.new result }
 {

@@ -3,7 +3,7 @@
 ghost use Rattle.std.specs.Prelude.{◌≡◌, ◌≤◌, ◌+◌, ◌-◌, ◌*◌, length};
 ghost use Rattle.nl_attr.specs.Reading.{items_of_region};
 ghost use Rattle.nl_attr.specs.View.{attrs_view};
-ghost use Rattle.nl_attr.specs.Told.{Says};
+ghost use Rattle.nl_attr.specs.Outcomes.{IsOutcome};
 
 mod attributes;
 mod nested;
@@ -11,7 +11,7 @@ mod next_hops;
 mod regions;
 
 use crate::fault::ListError;
-use crate::limits::Shape;
+use crate::limits::{FARTHEST_END, LONGEST_REGION, MOST_LEVELS, Shape};
 use crate::stack::attributes::{Inner, Turn, read_attrs};
 use crate::stack::nested::{Frame, HopsWaits, read_nested, waits_for};
 use crate::stack::next_hops::{HopsTurn, read_hops};
@@ -32,11 +32,11 @@ pub(crate) fn read_region(
     visits: &mut u64,
 ) -> Result<Vec<Attr>, ListError>
     requires level { level ≤ shape.depth }
-    requires limit { shape.depth ≤ 32 }
+    requires limit { shape.depth ≤ MOST_LEVELS }
     requires none { visits.old ≡ 0 }
-    requires size { length bytes.now ≤ 1048576 }
-    requires place { base + length bytes.now ≤ 2097152 }
-    ensures told { Says (λ v. attrs_view v.items) result visits.new
+    requires size { length bytes.now ≤ LONGEST_REGION }
+    requires place { base + length bytes.now ≤ FARTHEST_END }
+    ensures outcome { IsOutcome (λ v. attrs_view v.items) result visits.new
         (items_of_region shape ctx level base bytes.now) }
     ensures bound { visits.new ≤ (shape.depth - level + 1) * length bytes.now }
 {

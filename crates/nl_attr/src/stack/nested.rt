@@ -3,7 +3,7 @@
 ghost use Rattle.std.specs.Prelude.{◌≡◌, ◌≤◌, ◌+◌, suc, length, IfOk};
 ghost use Rattle.nl_attr.specs.Shape.{Shape as ShapeOf};
 ghost use Rattle.nl_attr.specs.View.{value_view, attrs_view};
-ghost use Rattle.nl_attr.specs.Told.{Says};
+ghost use Rattle.nl_attr.specs.Outcomes.{IsOutcome};
 ghost use Rattle.nl_attr.specs.Reading.{and_then, more_visits};
 ghost use Rattle.nl_attr.specs.Open.{list_rest, hops_rest, opening_rest, waiting_goes_on};
 ghost use Rattle.nl_attr.specs.Open.{hops_then, goes_on, next_rest, NextGoes, list_spot, hops_spot};
@@ -12,7 +12,7 @@ ghost use Rattle.nl_attr.specs.Open.{IsWithinLimits, frame_work, NextMoves, Lies
 ghost use Rattle.arrayvec.specs.ArrayVec.{array_vec_len};
 
 use crate::fault::ListError;
-use crate::limits::Shape;
+use crate::limits::{MOST_LEVELS, MOST_VISITS, Shape};
 use crate::order::Order;
 use crate::stack::attributes::{Inner, Opening, Turn, read_attrs};
 use crate::stack::next_hops::{HopTurn, next_hop};
@@ -114,9 +114,9 @@ fn go_on_hops<'a>(
     shape: Shape,
     visits: &mut u64,
 ) -> Result<Next<'a>, ListError>
-    requires limit { shape.depth ≤ 32 }
+    requires limit { shape.depth ≤ MOST_LEVELS }
     requires inside { IsIn shape (room_in (list_spot waits.region)) (hops_spot hops) }
-    requires room { visits.old + (hops_then shape waits (hops_rest shape hops)).1 ≤ 34603008 }
+    requires room { visits.old + (hops_then shape waits (hops_rest shape hops)).1 ≤ MOST_VISITS }
     ensures goes { NextGoes shape visits.old
         (hops_then shape waits.entry (hops_rest shape hops.entry)) visits.new result }
     ensures moves { NextMoves shape (list_spot waits.entry.region)
@@ -140,9 +140,9 @@ fn open<'a>(
     shape: Shape,
     visits: &mut u64,
 ) -> Result<Next<'a>, ListError>
-    requires limit { shape.depth ≤ 32 }
+    requires limit { shape.depth ≤ MOST_LEVELS }
     requires inside { IsIn shape (room_in (list_spot region)) (opening_spot shape region opening) }
-    requires room { visits.old + (opening_rest shape region opening).1 ≤ 34603008 }
+    requires room { visits.old + (opening_rest shape region opening).1 ≤ MOST_VISITS }
     ensures goes { NextGoes shape visits.old
         (opening_rest shape region.entry opening.entry) visits.new result }
     ensures moves { NextMoves shape (list_spot region.entry)
@@ -170,9 +170,9 @@ fn close<'a>(
     shape: Shape,
     visits: &mut u64,
 ) -> Result<Next<'a>, ListError>
-    requires limit { shape.depth ≤ 32 }
+    requires limit { shape.depth ≤ MOST_LEVELS }
     requires holds { Holds shape frame }
-    requires room { visits.old + (goes_on shape frame (attrs_view attrs.items)).1 ≤ 34603008 }
+    requires room { visits.old + (goes_on shape frame (attrs_view attrs.items)).1 ≤ MOST_VISITS }
     ensures goes { NextGoes shape visits.old
         (goes_on shape frame.entry (attrs_view attrs.items)) visits.new result }
     ensures moves { NextMoves shape (frame_spot frame.entry) (frame_work frame.entry) result }
@@ -211,12 +211,12 @@ pub(super) fn read_nested<'a>(
     shape: Shape,
     visits: &mut u64,
 ) -> Result<Vec<Attr>, ListError>
-    requires limit { shape.depth ≤ 32 }
+    requires limit { shape.depth ≤ MOST_LEVELS }
     requires lies { LiesUnder shape outermost region }
     requires inside { IsIn shape (room_in (list_spot region)) (opening_spot shape region opening) }
     requires room { visits.old
-        + (and_then (opening_rest shape region opening) (goes_on shape outermost)).1 ≤ 34603008 }
-    ensures told { Says (λ v. attrs_view v.items) result visits.new
+        + (and_then (opening_rest shape region opening) (goes_on shape outermost)).1 ≤ MOST_VISITS }
+    ensures outcome { IsOutcome (λ v. attrs_view v.items) result visits.new
         (more_visits visits.old (and_then (opening_rest shape region.entry opening.entry)
         (goes_on shape outermost.entry))) }
     ensures bound { visits.new

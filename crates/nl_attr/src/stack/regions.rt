@@ -1,6 +1,6 @@
 //! Open regions, and what is collected in them.
 
-ghost use Rattle.std.specs.Prelude.{◌≡◌, ◌≤◌, ◌<◌, ◌+◌, [], ◌∷◌, ◌++◌, length, map, IfOk};
+ghost use Rattle.std.specs.Prelude.{◌^◌, ◌≡◌, ◌≤◌, ◌<◌, ◌+◌, [], ◌∷◌, ◌++◌, length, map, IfOk};
 ghost use Rattle.nl_attr.specs.Heads.{broken_container, attr_head, hop_head};
 ghost use Rattle.nl_attr.specs.Reading.{items_of_region, hops_of_region};
 ghost use Rattle.nl_attr.specs.Tree.{bytes as held, item, hop};
@@ -8,7 +8,7 @@ ghost use Rattle.nl_attr.specs.View.{attr_view, hop_view, value_view, attrs_view
 ghost use Rattle.nl_attr.specs.Open.{list_rest, hops_rest, spot_of, list_spot, hops_spot};
 
 use crate::fault::{Fault, ListError, Reason};
-use crate::limits::Shape;
+use crate::limits::{LONGEST_CONTAINER, LONGEST_REGION, MOST_LEVELS, Shape};
 use crate::payload::{INLINE, Payload};
 use crate::tree::{Attr, AttrFlags, Content, Ctx, Hop, Value};
 use crate::walk::{CountedAttrs, CountedHopParts};
@@ -48,7 +48,7 @@ pub(crate) fn container_fault(
     level: u8,
     shape: Shape,
 ) -> Option<Reason>
-    requires { level ≤ 32 }
+    requires { level ≤ MOST_LEVELS }
     ensures { result ≡ broken_container shape level content len }
 {
     let opens = match content {
@@ -56,7 +56,7 @@ pub(crate) fn container_fault(
         Content::List(_) => 1,
         Content::Hops => 2,
     };
-    if len > 65532 {
+    if len > LONGEST_CONTAINER {
         Some(Reason::TooLong)
     } else if level + opens > shape.depth() {
         Some(Reason::TooDeep)
@@ -67,7 +67,7 @@ pub(crate) fn container_fault(
 
 /// A fault whose place counts from the base.
 pub(super) fn layout(base: u32, fault: Fault) -> ListError
-    requires { base + fault.place < 4294967296 }
+    requires { base + fault.place < 2 ^ 32 }
     ensures { result
         ≡ ListError.Layout (record { place = base + fault.place; reason = fault.reason }) }
 {
@@ -90,7 +90,7 @@ pub(super) fn list_of<'a>(
     level: u8,
     shape: Shape,
 ) -> Result<ListRegion<'a>, AllocError>
-    requires { length bytes.now ≤ 1048576 }
+    requires { length bytes.now ≤ LONGEST_REGION }
     ensures rest { IfOk result
         (λ r. list_rest shape r ≡ items_of_region shape ctx level base bytes.now) }
     ensures spot { IfOk result (λ r. list_spot r ≡ spot_of shape attr_head base level bytes.now) }
@@ -113,7 +113,7 @@ pub(super) fn hops_of<'a>(
     level: u8,
     shape: Shape,
 ) -> Result<HopsRegion<'a>, AllocError>
-    requires { length bytes.now ≤ 1048576 }
+    requires { length bytes.now ≤ LONGEST_REGION }
     ensures rest { IfOk result
         (λ r. hops_rest shape r ≡ hops_of_region shape level base bytes.now) }
     ensures spot { IfOk result (λ r. hops_spot r ≡ spot_of shape hop_head base level bytes.now) }

@@ -1,6 +1,6 @@
 //! Open regions, and what stands at the front of one.
 
-ghost use Rattle.std.specs.Prelude.{◌≡◌, ◌≤◌, ◌<◌, ◌+◌, length, Ok};
+ghost use Rattle.std.specs.Prelude.{◌^◌, ◌≡◌, ◌≤◌, ◌<◌, ◌+◌, length, Ok};
 ghost use Rattle.nl_attr.specs.Heads.{start_of};
 ghost use Rattle.nl_attr.specs.Taped.{IsAttrFront, IsHopFront};
 ghost use Rattle.nl_attr.specs.Taped.{ctx_in, head_of, hops_start, sort_in};
@@ -8,8 +8,9 @@ ghost use Rattle.nl_attr.specs.Trail.{sort_of};
 ghost use Rattle.nl_attr.specs.Walk.{HeadIs};
 
 use crate::events::{Event, SORT_BYTES, SORT_HOPS, SORT_LIST, SORT_NEXT_HOP};
+use crate::limits::{FARTHEST_END, LONGEST_REGION, MOST_LEVELS};
 use crate::order::Order;
-use crate::tree::{AttrFlags, Content, Ctx};
+use crate::tree::{AttrFlags, Content, Ctx, NUMBERS};
 use crate::walk::{flags_in, kind_at, span_at};
 
 /// What a region is made of.
@@ -89,8 +90,8 @@ pub(super) fn inside<'a>(
     level: u8,
     kind: Kind,
 ) -> OpenRegion<'a>
-    requires place { place + head < 4294967296 }
-    requires level { level ≤ 32 }
+    requires place { place + head < 2 ^ 32 }
+    requires level { level ≤ MOST_LEVELS }
     ensures { head_of result ≡ record {
       place = place + head;
       sort = sort_in kind;
@@ -117,8 +118,8 @@ pub(super) fn attr_front<'a>(
     ctx: Ctx,
     order: Order,
 ) -> AttrFront<'a>
-    requires size { length left.now ≤ 1048576 }
-    requires place { place + length left.now ≤ 2097152 }
+    requires size { length left.now ≤ LONGEST_REGION }
+    requires place { place + length left.now ≤ FARTHEST_END }
     requires sound { HeadIs order 4 2 left.now (Ok len) }
     ensures { IsAttrFront order (start_of ctx level place left.now) result }
 {
@@ -130,7 +131,7 @@ pub(super) fn attr_front<'a>(
         event: Event {
             place,
             len: payload.len() as u32,
-            number: kind % 16384,
+            number: kind % NUMBERS,
             level,
             sort: SORT_BYTES,
             nested: flags.nested,
@@ -157,9 +158,9 @@ pub(super) fn hop_front<'a>(
     level: u8,
     order: Order,
 ) -> HopFront<'a>
-    requires size { length left.now ≤ 1048576 }
-    requires place { place + length left.now ≤ 2097152 }
-    requires level { level ≤ 32 }
+    requires size { length left.now ≤ LONGEST_REGION }
+    requires place { place + length left.now ≤ FARTHEST_END }
+    requires level { level ≤ MOST_LEVELS }
     requires sound { HeadIs order 8 2 left.now (Ok len) }
     ensures { IsHopFront order (hops_start level place left.now) result }
 {

@@ -1,7 +1,7 @@
 //! Scanning a region by one loop over a stack of open regions, which takes no memory and no call
-//! stack: each head is checked, and what is told of it is put into a buffer.
+//! stack: each head is checked, and its event is put into a buffer.
 
-ghost use Rattle.std.specs.Prelude.{◌≡◌, ◌≤◌, ◌+◌, ◌-◌, ◌*◌, drop, length, slice_set};
+ghost use Rattle.std.specs.Prelude.{◌^◌, ◌≡◌, ◌≤◌, ◌+◌, ◌-◌, ◌*◌, drop, length, slice_set};
 ghost use Rattle.nl_attr.specs.Heads.{attr_head, start_of};
 ghost use Rattle.nl_attr.specs.Shape.{shape_of};
 ghost use Rattle.nl_attr.specs.Taped.{IsTaped, head_of, sort_in};
@@ -11,7 +11,7 @@ mod steps;
 
 use crate::events::Event;
 use crate::fault::Fault;
-use crate::limits::{Depth, Shape};
+use crate::limits::{Depth, FARTHEST_END, LONGEST_REGION, MOST_LEVELS, MOST_VISITS, Shape};
 use crate::order::Order;
 use crate::taping::fronts::{Kind, OpenRegion};
 use crate::taping::steps::{Turn, step};
@@ -30,11 +30,11 @@ pub struct Taped {
 }
 
 impl Taped {
-    /// Adds a head that is visited: puts what is told of it into a buffer, where that goes so far.
+    /// Adds a head that is visited: puts its event into a buffer, where that goes so far.
     #[inline(always)]
     fn add(&mut self, out: &mut [Event], event: Event, span: u32)
-        requires count { self.old.count ≤ 4329570304 }
-        requires visits { self.old.visits ≤ 34603008 }
+        requires count { self.old.count ≤ 2 ^ 32 + MOST_VISITS }
+        requires visits { self.old.visits ≤ MOST_VISITS }
         ensures event { out.new ≡ slice_set out.old self.old.count event }
         ensures counts { self.new ≡ record self.old {
           count = self.old.count + 1;
@@ -76,12 +76,12 @@ fn tape_region<'a>(
     out: &mut [Event],
     count: usize,
 ) -> Taped
-    requires limit { shape.depth ≤ 32 }
+    requires limit { shape.depth ≤ MOST_LEVELS }
     requires kind { sort_in start.kind ≡ attr_head }
     requires level { start.level ≤ shape.depth }
-    requires size { length start.left.now ≤ 1048576 }
-    requires place { start.place + length start.left.now ≤ 2097152 }
-    requires count { count ≤ 4294967296 }
+    requires size { length start.left.now ≤ LONGEST_REGION }
+    requires place { start.place + length start.left.now ≤ FARTHEST_END }
+    requires count { count ≤ 2 ^ 32 }
     ensures { IsTaped shape (head_of start.entry) count out.old out.new result }
 {
     stack.clear();
@@ -119,13 +119,13 @@ fn tape_region<'a>(
     }
 }
 
-/// Scans a region of attributes, as `read_list_ordered` reads it, and puts what is told of each
-/// head into `out`, in the order of their places: the first at `count`, as far as `out` goes. It
-/// takes no memory.
+/// Scans a region of attributes, as `read_list_ordered` reads it, and puts the event of each head
+/// into `out`, in the order of their places: the first at `count`, as far as `out` goes. It takes
+/// no memory.
 ///
 /// `base` is the place of the first byte, `level` that of the region, `order` that of its numbers.
-/// It ends at the first fault: cut, bad length, too long or too deep; the heads up to that one are
-/// told of all the same. The answer's `count` is the place behind the last event, at which a next
+/// It ends at the first fault: cut, bad length, too long or too deep; the events of the heads up to
+/// that one have been put. The answer's `count` is the place behind the last event, at which a next
 /// scan goes on. Where it is above the length of `out`, the last events had no room.
 #[inline(always)]
 pub fn tape_list<'a>(
@@ -140,9 +140,9 @@ pub fn tape_list<'a>(
     count: usize,
 ) -> Taped
     requires level { level ≤ depth }
-    requires size { length bytes.now ≤ 1048576 }
-    requires place { base + length bytes.now ≤ 2097152 }
-    requires count { count ≤ 4294967296 }
+    requires size { length bytes.now ≤ LONGEST_REGION }
+    requires place { base + length bytes.now ≤ FARTHEST_END }
+    requires count { count ≤ 2 ^ 32 }
     // The heads are those of the region up to its first fault, and so are the visits.
     ensures taped { IsTaped (shape_of order depth) (start_of ctx level base bytes.now)
         count out.old out.new result }
@@ -152,7 +152,6 @@ pub fn tape_list<'a>(
     ensures untouched { drop result.count out.new ≡ drop result.count out.old }
 {
     let shape = Shape::of(depth, order);
-    let _limit = shape.depth();
     let start = OpenRegion {
         left: bytes,
         place: base,

@@ -1,12 +1,12 @@
 //! One step of a scan: past the head at the front of a region.
 
-ghost use Rattle.std.specs.Prelude.{◌≡◌, ◌≤◌, ◌+◌, length};
+ghost use Rattle.std.specs.Prelude.{◌^◌, ◌≡◌, ◌≤◌, ◌+◌, length};
 ghost use Rattle.nl_attr.specs.Heads.{start_of};
 ghost use Rattle.nl_attr.specs.Taped.{Steps, head_of, hops_start};
 
 use crate::events::Event;
 use crate::fault::Reason;
-use crate::limits::Shape;
+use crate::limits::{FARTHEST_END, LONGEST_REGION, MOST_LEVELS, MOST_VISITS, Shape};
 use crate::stack::container_fault;
 use crate::taping::Taped;
 use crate::taping::fronts::{Kind, OpenRegion, attr_front, hop_front, inside, sort};
@@ -33,11 +33,11 @@ fn step_attr<'a>(
     out: &mut [Event],
     taped: &mut Taped,
 ) -> Turn<'a>
-    requires size { length region.left.now ≤ 1048576 }
-    requires place { region.place + length region.left.now ≤ 2097152 }
-    requires level { region.level ≤ 32 }
-    requires count { taped.old.count ≤ 4329570304 }
-    requires visits { taped.old.visits ≤ 34603008 }
+    requires size { length region.left.now ≤ LONGEST_REGION }
+    requires place { region.place + length region.left.now ≤ FARTHEST_END }
+    requires level { region.level ≤ MOST_LEVELS }
+    requires count { taped.old.count ≤ 2 ^ 32 + MOST_VISITS }
+    requires visits { taped.old.visits ≤ MOST_VISITS }
     ensures { Steps shape
         (start_of ctx region.entry.level region.entry.place region.entry.left.now)
         taped.old taped.new out.old out.new result }
@@ -74,11 +74,11 @@ fn step_hop<'a>(
     out: &mut [Event],
     taped: &mut Taped,
 ) -> Turn<'a>
-    requires size { length region.left.now ≤ 1048576 }
-    requires place { region.place + length region.left.now ≤ 2097152 }
-    requires level { region.level ≤ 32 }
-    requires count { taped.old.count ≤ 4329570304 }
-    requires visits { taped.old.visits ≤ 34603008 }
+    requires size { length region.left.now ≤ LONGEST_REGION }
+    requires place { region.place + length region.left.now ≤ FARTHEST_END }
+    requires level { region.level ≤ MOST_LEVELS }
+    requires count { taped.old.count ≤ 2 ^ 32 + MOST_VISITS }
+    requires visits { taped.old.visits ≤ MOST_VISITS }
     ensures { Steps shape (hops_start region.entry.level region.entry.place region.entry.left.now)
         taped.old taped.new out.old out.new result }
 {
@@ -100,11 +100,11 @@ pub(super) fn step<'a>(
     out: &mut [Event],
     taped: &mut Taped,
 ) -> Turn<'a>
-    requires size { length region.left.now ≤ 1048576 }
-    requires place { region.place + length region.left.now ≤ 2097152 }
-    requires level { region.level ≤ 32 }
-    requires count { taped.old.count ≤ 4329570304 }
-    requires visits { taped.old.visits ≤ 34603008 }
+    requires size { length region.left.now ≤ LONGEST_REGION }
+    requires place { region.place + length region.left.now ≤ FARTHEST_END }
+    requires level { region.level ≤ MOST_LEVELS }
+    requires count { taped.old.count ≤ 2 ^ 32 + MOST_VISITS }
+    requires visits { taped.old.visits ≤ MOST_VISITS }
     ensures { Steps shape (head_of region.entry) taped.old taped.new out.old out.new result }
 {
     match region.kind {

@@ -4,8 +4,9 @@ ghost use Rattle.std.specs.Prelude.{◌≡◌, ◌+◌, ◌≤◌, length};
 ghost use Rattle.nl_attr.specs.Walk.{IsInFront, IsPart};
 
 use crate::fault::Fault;
+use crate::limits::LONGEST_REGION;
 use crate::order::Order;
-use crate::tree::AttrFlags;
+use crate::tree::{AttrFlags, NUMBERS};
 use crate::walk::{flags_in, head_len, kind_at, span_at};
 use std::marker::Model;
 
@@ -25,7 +26,7 @@ pub struct Part<'a> {
 /// The attribute at the front of what is left of a region from this place on.
 #[inline(always)]
 pub(super) fn attr_in_front(order: Order, left: &[u8], place: u32) -> Result<Part<'_>, Fault>
-    requires { length left.now ≤ 1048576 }
+    requires { length left.now ≤ LONGEST_REGION }
     ensures { IsInFront 4 IsPart
         (record { order = order; place = place; left = left.now }) result }
 {
@@ -34,7 +35,7 @@ pub(super) fn attr_in_front(order: Order, left: &[u8], place: u32) -> Result<Par
         Ok(len) => {
             let kind = kind_at(order, left);
             Ok(Part {
-                number: kind % 16384,
+                number: kind % NUMBERS,
                 flags: flags_in(kind),
                 place,
                 span: span_at(left, len) as u32,
@@ -56,54 +57,30 @@ pub struct Attrs<'a> {
 impl<'a> Model for Attrs<'a> {
     ghost use Rattle.std.specs.Prelude.{◌+◌, ◌≤◌, length};
     ghost use Rattle.nl_attr.specs.Walk.{Region};
+    ghost use Rattle.nl_attr.specs.declared.limits.TheConstants.{LONGEST_REGION};
 
     ghost Value = { Region };
 
     ghost view = { λ a. record { order = a.order; place = a.place; left = a.left.now } };
 
-    ghost invariant = { λ a. a.place + length a.left.now ≤ 1048576 };
+    ghost invariant = { λ a. a.place + length a.left.now ≤ LONGEST_REGION };
 }
 
 impl<'a> Attrs<'a> {
-    ghost use Rattle.std.specs.Prelude.{List, Result};
-    ghost use Rattle.std.specs.Iterator.{Yields, Drains};
-    ghost use Rattle.nl_attr.specs.declared.fault.Fault.{Fault};
-    ghost use Rattle.nl_attr.specs.declared.walk.attrs.Part.{Part};
-    ghost use Rattle.nl_attr.specs.Walk.{GivesPart, IsPart};
-    ghost use Rattle.nl_attr.specs.Walk.{Region, IsWalk, EachLies, LiesIn, spans_of};
+    ghost use Rattle.nl_attr.specs.Walk.{IsAttrsOver};
 
     /// A walk over a region whose numbers have their lowest byte first.
     pub fn of(bytes: &'a [u8]) -> Self
-        requires { length bytes.now ≤ 1048576 }
-        ensures start { result ≡ record { order = Order.Little; place = 0; left = bytes.now } }
-        // What comes is the pieces of the bytes in their order, then the fault of what is no piece.
-        ensures walk { (parts : List (Result Part Fault))
-            → Drains GivesPart result parts → IsWalk 4 IsPart Order.Little 0 bytes.now parts }
-        // They lie in the bytes, and so do their payloads.
-        ensures inside { (parts : List (Result Part Fault)) (walk : Region)
-            → Yields GivesPart result parts walk
-            → EachLies (λ p. LiesIn bytes.now 4 p.place p.span p.payload.now) parts }
-        // Where the walk stands then is the sum of their spans.
-        ensures seen { (parts : List (Result Part Fault)) (walk : Region)
-            → Yields GivesPart result parts walk → walk.place ≡ spans_of (λ p. p.span) parts }
+        requires { length bytes.now ≤ LONGEST_REGION }
+        ensures { IsAttrsOver Order.Little bytes.now result }
     {
         Attrs::of_ordered(bytes, Order::Little)
     }
 
     /// A walk over a region whose numbers are in this order.
     pub fn of_ordered(bytes: &'a [u8], order: Order) -> Self
-        requires { length bytes.now ≤ 1048576 }
-        ensures start { result ≡ record { order = order; place = 0; left = bytes.now } }
-        // What comes is the pieces of the bytes in their order, then the fault of what is no piece.
-        ensures walk { (parts : List (Result Part Fault))
-            → Drains GivesPart result parts → IsWalk 4 IsPart order 0 bytes.now parts }
-        // They lie in the bytes, and so do their payloads.
-        ensures inside { (parts : List (Result Part Fault)) (walk : Region)
-            → Yields GivesPart result parts walk
-            → EachLies (λ p. LiesIn bytes.now 4 p.place p.span p.payload.now) parts }
-        // Where the walk stands then is the sum of their spans.
-        ensures seen { (parts : List (Result Part Fault)) (walk : Region)
-            → Yields GivesPart result parts walk → walk.place ≡ spans_of (λ p. p.span) parts }
+        requires { length bytes.now ≤ LONGEST_REGION }
+        ensures { IsAttrsOver order bytes.now result }
     {
         Attrs {
             order,

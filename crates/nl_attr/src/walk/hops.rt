@@ -5,6 +5,7 @@ ghost use Rattle.nl_attr.specs.Numbers.{span_of};
 ghost use Rattle.nl_attr.specs.Walk.{HeadIs, IsHopPart, IsInFront, index_of};
 
 use crate::fault::Fault;
+use crate::limits::LONGEST_REGION;
 use crate::order::Order;
 use crate::walk::{head_len, span_at};
 use std::marker::Model;
@@ -51,7 +52,7 @@ fn hop_part(order: Order, left: &[u8], len: usize, place: u32, span: u32) -> Hop
 /// The next hop at the front of what is left of a region from this place on.
 #[inline(always)]
 pub(super) fn hop_in_front(order: Order, left: &[u8], place: u32) -> Result<HopPart<'_>, Fault>
-    requires { length left.now ≤ 1048576 }
+    requires { length left.now ≤ LONGEST_REGION }
     ensures { IsInFront 8 IsHopPart
         (record { order = order; place = place; left = left.now }) result }
 {
@@ -72,54 +73,30 @@ pub struct HopParts<'a> {
 impl<'a> Model for HopParts<'a> {
     ghost use Rattle.std.specs.Prelude.{◌+◌, ◌≤◌, length};
     ghost use Rattle.nl_attr.specs.Walk.{Region};
+    ghost use Rattle.nl_attr.specs.declared.limits.TheConstants.{LONGEST_REGION};
 
     ghost Value = { Region };
 
     ghost view = { λ a. record { order = a.order; place = a.place; left = a.left.now } };
 
-    ghost invariant = { λ a. a.place + length a.left.now ≤ 1048576 };
+    ghost invariant = { λ a. a.place + length a.left.now ≤ LONGEST_REGION };
 }
 
 impl<'a> HopParts<'a> {
-    ghost use Rattle.std.specs.Prelude.{List, Result};
-    ghost use Rattle.std.specs.Iterator.{Yields, Drains};
-    ghost use Rattle.nl_attr.specs.declared.fault.Fault.{Fault};
-    ghost use Rattle.nl_attr.specs.declared.walk.hops.HopPart.{HopPart};
-    ghost use Rattle.nl_attr.specs.Walk.{GivesHop};
-    ghost use Rattle.nl_attr.specs.Walk.{Region, IsWalk, EachLies, LiesIn, spans_of};
+    ghost use Rattle.nl_attr.specs.Walk.{IsHopsOver};
 
     /// A walk over a region whose numbers have their lowest byte first.
     pub fn of(bytes: &'a [u8]) -> Self
-        requires { length bytes.now ≤ 1048576 }
-        ensures start { result ≡ record { order = Order.Little; place = 0; left = bytes.now } }
-        // What comes is the pieces of the bytes in their order, then the fault of what is no piece.
-        ensures walk { (parts : List (Result HopPart Fault))
-            → Drains GivesHop result parts → IsWalk 8 IsHopPart Order.Little 0 bytes.now parts }
-        // They lie in the bytes, and so do their payloads.
-        ensures inside { (parts : List (Result HopPart Fault)) (walk : Region)
-            → Yields GivesHop result parts walk
-            → EachLies (λ p. LiesIn bytes.now 8 p.place p.span p.rest.now) parts }
-        // Where the walk stands then is the sum of their spans.
-        ensures seen { (parts : List (Result HopPart Fault)) (walk : Region)
-            → Yields GivesHop result parts walk → walk.place ≡ spans_of (λ p. p.span) parts }
+        requires { length bytes.now ≤ LONGEST_REGION }
+        ensures { IsHopsOver Order.Little bytes.now result }
     {
         HopParts::of_ordered(bytes, Order::Little)
     }
 
     /// A walk over a region whose numbers are in this order.
     pub fn of_ordered(bytes: &'a [u8], order: Order) -> Self
-        requires { length bytes.now ≤ 1048576 }
-        ensures start { result ≡ record { order = order; place = 0; left = bytes.now } }
-        // What comes is the pieces of the bytes in their order, then the fault of what is no piece.
-        ensures walk { (parts : List (Result HopPart Fault))
-            → Drains GivesHop result parts → IsWalk 8 IsHopPart order 0 bytes.now parts }
-        // They lie in the bytes, and so do their payloads.
-        ensures inside { (parts : List (Result HopPart Fault)) (walk : Region)
-            → Yields GivesHop result parts walk
-            → EachLies (λ p. LiesIn bytes.now 8 p.place p.span p.rest.now) parts }
-        // Where the walk stands then is the sum of their spans.
-        ensures seen { (parts : List (Result HopPart Fault)) (walk : Region)
-            → Yields GivesHop result parts walk → walk.place ≡ spans_of (λ p. p.span) parts }
+        requires { length bytes.now ≤ LONGEST_REGION }
+        ensures { IsHopsOver order bytes.now result }
     {
         HopParts {
             order,

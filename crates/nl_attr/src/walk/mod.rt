@@ -10,8 +10,9 @@ mod cursors;
 mod hops;
 
 use crate::fault::Reason;
+use crate::limits::LONGEST_REGION;
 use crate::order::Order;
-use crate::tree::AttrFlags;
+use crate::tree::{AttrFlags, NLA_F_NESTED, NLA_F_NET_BYTEORDER};
 pub use attrs::{Attrs, Part};
 pub(crate) use counted::{CountedAttrs, CountedHopParts};
 pub use cursors::{attr_at, hop_at};
@@ -55,15 +56,15 @@ pub(crate) fn flags_in(kind: u16) -> AttrFlags
     ensures { result ≡ flags_of kind }
 {
     AttrFlags {
-        nested: kind / 32768 == 1,
-        net: kind / 16384 % 2 == 1,
+        nested: kind / NLA_F_NESTED == 1,
+        net: kind / NLA_F_NET_BYTEORDER % 2 == 1,
     }
 }
 
 /// How many bytes an item of `len` bytes at the front occupies, with padding as far as present.
 #[inline(always)]
 pub(crate) fn span_at(left: &[u8], len: usize) -> usize
-    requires { len ≤ 1048576 }
+    requires { len ≤ LONGEST_REGION }
     ensures { result ≡ min (aligned len) (length left.now) }
 {
     (align4(len as u32) as usize).min(left.len())

@@ -5,8 +5,8 @@ use Rattle.nl_attr.specs.Towards.{head_of}
 use Rattle.nl_attr.proofs.Lemmas.Towards.{one_there}
 use Rattle.nl_attr.proofs.broken.broken_head.Goals as goal
 
-pub returns-in-Some-clause-told : goal.returns-in-Some-clause-told
-returns-in-Some-clause-told c =
+pub returns-in-Some-clause-facts : goal.returns-in-Some-clause-facts
+returns-in-Some-clause-facts c =
     let S = shape_of c.args.order c.args.depth in
     let h = c.in_ok-head.head in
     let same : c.in-Some.reason ≡ c.args.fault.reason = search rules in
@@ -14,4 +14,4 @@ returns-in-Some-clause-told c =
     rw c.facts.ensures (one_there S (start_of c.args.ctx c.args.level c.args.base c.args.bytes.now) c.args.fault h (rw c.of-shape.ensures at c.in_ok-head.ensures.stands) breaks)
 
 pub returns-in-Some-clause-found : goal.returns-in-Some-clause-found
-returns-in-Some-clause-found c = (λ x. let t = (returns-in-Some-clause-told c c.facts.result).0 refl in (t.0, t.1, t.2, t.3), λ x. refl)
+returns-in-Some-clause-found c = (λ x. let t = (returns-in-Some-clause-facts c c.facts.result).0 refl in (t.0, t.1, t.2, t.3), λ x. refl)

@@ -3,8 +3,8 @@ use Rattle.nl_frame.specs.Heads.{whole}
 use Rattle.nl_frame.proofs.Towards.{found}
 use Rattle.nl_frame.proofs.broken.broken_head.Goals as goal
 
-pub returns-clause-told : goal.returns-clause-told
-returns-clause-told c =
+pub returns-clause-facts : goal.returns-clause-facts
+returns-clause-facts c =
     let within : length c.args.datagram.now ≤ c.args.limits.now.datagram = omega (arith, c.datagram.ensures.value) in
     λ b. (λ e. (within, (c.broken_in.ensures b).0 e), λ x. (c.broken_in.ensures b).1 x.1)
 

@@ -2,15 +2,15 @@ use Rattle.std.proofs.Common.{◌≡◌, ◌+◌, ◌++◌, ◌∷◌, [], map, 
 use Rattle.std.proofs.lemmas.List.{map_push}
 use Rattle.std.specs.Global.{Vec}
 use Rattle.nl_attr.specs.Reading.{map_value}
-use Rattle.nl_attr.specs.Told.{Says}
+use Rattle.nl_attr.specs.Outcomes.{IsOutcome}
 use Rattle.nl_frame.specs.declared.body.Message.{Message}
 use Rattle.nl_frame.specs.Reading.{message_of, body_at, messages_of}
 use Rattle.nl_frame.specs.View.{message_view}
 use Rattle.nl_frame.proofs.Loop.{not_empty, fails_told, nothing_left, head_breaks, sum_is_small, whole_is_bound, next}
 use Rattle.nl_frame.proofs.reading.read_messages.Goals as goal
 
-pub returns-in-Err-clause-told : goal.returns-in-Err-clause-told
-returns-in-Err-clause-told c = head_breaks c.loop-left.invariant c.in-Err.reason c.loop-left-test.ensures (rw c.order-order.ensures at c.in-Err.ensures)
+pub returns-in-Err-clause-outcome : goal.returns-in-Err-clause-outcome
+returns-in-Err-clause-outcome c = head_breaks c.loop-left.invariant c.in-Err.reason c.loop-left-test.ensures (rw c.order-order.ensures at c.in-Err.ensures)
 
 pub overflow_add-visits : goal.overflow_add-visits
 overflow_add-visits c =
@@ -22,11 +22,11 @@ returns-then-not-keep-clause-bound c = whole_is_bound c.loop-left.invariant c.in
 pub returns-in-Err-result-clause-bound : goal.returns-in-Err-result-clause-bound
 returns-in-Err-result-clause-bound c = whole_is_bound c.loop-left.invariant c.in-Ok.frame (rw c.order-order.ensures at c.in-Ok.ensures) c.read_message-result.result.visits c.read_message-result.ensures.bound
 
-pub returns-in-Err-result-clause-told : goal.returns-in-Err-result-clause-told
-returns-in-Err-result-clause-told c =
+pub returns-in-Err-result-clause-outcome : goal.returns-in-Err-result-clause-outcome
+returns-in-Err-result-clause-outcome c =
     let f = c.in-Ok.frame in
     let s = c.args.limits.now.shape in
-    let gave = subst (λ x. Says message_view x c.read_message-result.result.visits (map_value (message_of f.header) (body_at s f.form (c.loop-left.place + 16) f.payload.now))) c.in-Err-result.is c.read_message-result.ensures.told in
+    let gave = subst (λ x. IsOutcome message_view x c.read_message-result.result.visits (map_value (message_of f.header) (body_at s f.form (c.loop-left.place + 16) f.payload.now))) c.in-Err-result.is c.read_message-result.ensures.outcome in
     fails_told s c.loop-left.place c.loop-left.left.now f (not_empty c.loop-left.left.now c.loop-left-test.ensures) (rw c.order-order.ensures at c.in-Ok.ensures) (map message_view c.loop-left.list.items) c.loop-left.visits (messages_of s 0 c.args.bytes.now) c.loop-left.invariant.same
     message_view (λ (v : Vec Message). map message_view v.items) c.in-Err-result.error c.read_message-result.result.visits gave
 
@@ -34,10 +34,10 @@ pub loop-left-preserved : goal.loop-left-preserved
 loop-left-preserved c =
     let f = c.in-Ok.frame in
     let m = c.in-Ok-result.message in
-    let gave = subst (λ x. Says message_view x c.read_message-result.result.visits (map_value (message_of f.header) (body_at c.args.limits.now.shape f.form (c.loop-left.place + 16) f.payload.now))) c.in-Ok-result.is c.read_message-result.ensures.told in
+    let gave = subst (λ x. IsOutcome message_view x c.read_message-result.result.visits (map_value (message_of f.header) (body_at c.args.limits.now.shape f.form (c.loop-left.place + 16) f.payload.now))) c.in-Ok-result.is c.read_message-result.ensures.outcome in
     let pushed : map message_view c.keep.new.list.items ≡ map message_view c.loop-left.list.items ++ message_view m ∷ [] =
     ap (map message_view) (c.keep.ensures c.if-not-keep.false) ∙ map_push message_view c.loop-left.list.items m in
     next c.loop-left.invariant f (rw c.order-order.ensures at c.in-Ok.ensures) c.read_message-result.result.visits c.read_message-result.ensures.bound (map message_view c.keep.new.list.items) (message_view m) c.loop-left-test.ensures gave pushed
 
-pub returns-clause-told : goal.returns-clause-told
-returns-clause-told c = nothing_left c.loop-left.invariant c.loop-left-test.ensures
+pub returns-clause-outcome : goal.returns-clause-outcome
+returns-clause-outcome c = nothing_left c.loop-left.invariant c.loop-left-test.ensures

@@ -10,4 +10,4 @@ returns-clause-again c =
     let S = c.args.limits.now.shape in
     let ms = map message_view c.args.messages.now in
     let is : c.append_messages.new.out.items ≡ written S.order ms = search rules in
-    subst (λ d. Layout S ms d) (sym is) (written_has_layout S ms c.in-Ok.ensures.told.0 c.append_messages.ensures.ranged)
+    subst (λ d. Layout S ms d) (sym is) (written_has_layout S ms c.in-Ok.ensures.outcome.0 c.append_messages.ensures.ranged)

@@ -5,7 +5,7 @@ use Rattle.rtnl.proofs.Feeding.{feeds_none, refused_none, feeds_more, refused_mo
 use Rattle.rtnl.proofs.table.feed_all.Goals as goal
 
 pub loop-index-init : goal.loop-index-init
-loop-index-init g c = (search rules, ([], feeds_none c.args.session.now c.args.datagrams.now, refl, refused_none g.F.Telling.told (c.args.out.now.items)))
+loop-index-init g c = (search rules, ([], feeds_none c.args.session.now c.args.datagrams.now, refl, refused_none g.F.Telling.outcome (c.args.out.now.items)))
 
 pub loop-index-preserved : goal.loop-index-preserved
 loop-index-preserved g c =
@@ -23,6 +23,6 @@ loop-index-preserved g c =
         (d, told.0) ∷ i.0,
         feeds_more c.args.session.now c.loop-index.session c.feed_one.new.session ds rest i.0 d told.0 before told.1 told.2,
         omega (arith, i.2),
-        refused_more g.F.Telling.told (c.args.out.now.items) (c.loop-index.out.items) (c.feed_one.new.out.items) i.0 d told.0 k i.3 i.2 told.3,
+        refused_more g.F.Telling.outcome (c.args.out.now.items) (c.loop-index.out.items) (c.feed_one.new.out.items) i.0 d told.0 k i.3 i.2 told.3,
       ),
     )

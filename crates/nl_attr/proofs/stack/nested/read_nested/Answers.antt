@@ -5,7 +5,7 @@ use Rattle.nl_attr.specs.declared.tree.Attr.{Attr}
 use Rattle.nl_attr.specs.declared.stack.nested.Frame.{Frame}
 use Rattle.nl_attr.specs.View.{attrs_view}
 use Rattle.nl_attr.specs.Open.{opening_rest, list_spot, PutsOn}
-use Rattle.nl_attr.proofs.Lemmas.Nested.{within, has_room, is_low, puts, between_room, fails_told, fails_visits, opens, ends, ends_all, still, nested_begins, next_moves_work, work_closes, work_opens}
+use Rattle.nl_attr.proofs.Lemmas.Nested.{within, has_room, is_low, puts, between_room, fails_outcome, fails_visits, opens, ends, ends_all, still, nested_begins, next_moves_work, work_closes, work_opens}
 use Rattle.nl_attr.proofs.stack.nested.read_nested.Goals as goal
 
 pub regions-init : goal.regions-init
@@ -22,8 +22,8 @@ read_attrs-requires-clause-limits c = within c.regions.invariant
 pub read_attrs-requires-clause-room : goal.read_attrs-requires-clause-room
 read_attrs-requires-clause-room c = omega (arith, has_room c.regions.invariant, c.requires.room)
 
-pub returns-in-None-clause-told : goal.returns-in-None-clause-told
-returns-in-None-clause-told c =
+pub returns-in-None-clause-outcome : goal.returns-in-None-clause-outcome
+returns-in-None-clause-outcome c =
     let none : c.regions.stack.items ≡ [] = search rules in
     ends_all c.read_attrs.new.visits (attrs_view c.read_attrs.new.region.list.items) c.regions.invariant none c.in-Ends.ensures.goes
 
@@ -54,10 +54,10 @@ regions-preserved-in-Ok-close c =
     let b = ends c.read_attrs.new.visits (attrs_view c.read_attrs.new.region.list.items) c.pop.new.self.items c.in-Some.frame c.regions.invariant (subst (λ x. c.regions.stack.items ≡ c.pop.new.self.items ++ option_to_list x) c.in-Some.is c.pop.ensures.items) c.in-Ends.ensures.goes in
     puts c.close.new.visits _ c.in-Ok-close.next c.put_on-top-in-Ok-close.new.stack.items c.put_on-top-in-Ok-close.result b.0 c.in-Ok-close.ensures.goes c.in-Ok-close.ensures.moves c.put_on-top-in-Ok-close.ensures
 
-pub returns-in-Err-close-clause-told : goal.returns-in-Err-close-clause-told
-returns-in-Err-close-clause-told c =
+pub returns-in-Err-close-clause-outcome : goal.returns-in-Err-close-clause-outcome
+returns-in-Err-close-clause-outcome c =
     let b = ends c.read_attrs.new.visits (attrs_view c.read_attrs.new.region.list.items) c.pop.new.self.items c.in-Some.frame c.regions.invariant (subst (λ x. c.regions.stack.items ≡ c.pop.new.self.items ++ option_to_list x) c.in-Some.is c.pop.ensures.items) c.in-Ends.ensures.goes in
-    fails_told (λ (v : Vec Attr). attrs_view v.items) c.close.new.visits c.in-Err-close.error b.0 c.in-Err-close.ensures.goes
+    fails_outcome (λ (v : Vec Attr). attrs_view v.items) c.close.new.visits c.in-Err-close.error b.0 c.in-Err-close.ensures.goes
 
 pub returns-in-Err-close-clause-bound : goal.returns-in-Err-close-clause-bound
 returns-in-Err-close-clause-bound c =
@@ -83,11 +83,11 @@ regions-preserved c =
     let b = opens c.read_attrs.new.visits (opening_rest c.args.shape r c.in-Opens.opening) (list_spot r) c.regions.invariant c.in-Opens.ensures.goes c.in-Opens.ensures.moves.0 in
     puts c.open-in-Opens.new.visits _ c.in-Ok-open.next c.put_on-top-in-Ok-open.new.stack.items c.put_on-top-in-Ok-open.result b c.in-Ok-open.ensures.goes c.in-Ok-open.ensures.moves c.put_on-top-in-Ok-open.ensures
 
-pub returns-in-Err-open-clause-told : goal.returns-in-Err-open-clause-told
-returns-in-Err-open-clause-told c =
+pub returns-in-Err-open-clause-outcome : goal.returns-in-Err-open-clause-outcome
+returns-in-Err-open-clause-outcome c =
     let r = c.read_attrs.new.region in
     let b = opens c.read_attrs.new.visits (opening_rest c.args.shape r c.in-Opens.opening) (list_spot r) c.regions.invariant c.in-Opens.ensures.goes c.in-Opens.ensures.moves.0 in
-    fails_told (λ (v : Vec Attr). attrs_view v.items) c.open-in-Opens.new.visits c.in-Err-open.error b c.in-Err-open.ensures.goes
+    fails_outcome (λ (v : Vec Attr). attrs_view v.items) c.open-in-Opens.new.visits c.in-Err-open.error b c.in-Err-open.ensures.goes
 
 pub returns-in-Err-open-clause-bound : goal.returns-in-Err-open-clause-bound
 returns-in-Err-open-clause-bound c =
@@ -95,9 +95,9 @@ returns-in-Err-open-clause-bound c =
     let b = opens c.read_attrs.new.visits (opening_rest c.args.shape r c.in-Opens.opening) (list_spot r) c.regions.invariant c.in-Opens.ensures.goes c.in-Opens.ensures.moves.0 in
     fails_visits c.open-in-Opens.new.visits c.in-Err-open.error b c.in-Err-open.ensures.goes
 
-pub returns-in-Fails-clause-told : goal.returns-in-Fails-clause-told
-returns-in-Fails-clause-told c =
-    fails_told (λ (v : Vec Attr). attrs_view v.items) c.read_attrs.new.visits c.in-Fails.error (still c.regions.invariant) c.in-Fails.ensures.goes
+pub returns-in-Fails-clause-outcome : goal.returns-in-Fails-clause-outcome
+returns-in-Fails-clause-outcome c =
+    fails_outcome (λ (v : Vec Attr). attrs_view v.items) c.read_attrs.new.visits c.in-Fails.error (still c.regions.invariant) c.in-Fails.ensures.goes
 
 pub returns-in-Fails-clause-bound : goal.returns-in-Fails-clause-bound
 returns-in-Fails-clause-bound c = fails_visits c.read_attrs.new.visits c.in-Fails.error (still c.regions.invariant) c.in-Fails.ensures.goes

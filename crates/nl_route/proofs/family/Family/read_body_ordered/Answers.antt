@@ -3,7 +3,7 @@ use Rattle.std.specs.Prelude.{IsOkAnd, MatchResult}
 use Rattle.std.proofs.lemmas.List.{take_all}
 use Rattle.nl_attr.specs.declared.fault.ListError.{ListError}
 use Rattle.nl_attr.specs.Shape.{shape_of}
-use Rattle.nl_attr.specs.Told.{IfLayout}
+use Rattle.nl_attr.specs.Outcomes.{IfLayout}
 use Rattle.nl_attr.specs.Heads.{IsFirstFault}
 use Rattle.nl_route.specs.Body.{attrs_of}
 use Rattle.nl_route.proofs.family.Family.read_body_ordered.Goals as goal

@@ -12,4 +12,4 @@ returns-clause-again g c =
     let head = g.H.Head in
     let fs = head.fields body.head in
     let len = head_length c.args.order fs is c.reserve.new.self.items c.append_body.new.out.items _ _ head.SIZE c.append_body.ensures.items c.reserve.new.self.ok.0 c.append_body.new.out.ok.0 c.append_body.ensures.len in
-    body_written s head.SIZE fs head.ctx is len c.append_body.ensures.ranged.0 (written_fits s head.ctx 0 is c.in-Ok.ensures.told c.append_body.ensures.ranged.1)
+    body_written s head.SIZE fs head.ctx is len c.append_body.ensures.ranged.0 (written_fits s head.ctx 0 is c.in-Ok.ensures.outcome c.append_body.ensures.ranged.1)

@@ -11,7 +11,7 @@ returns-clause-value c = search rules
 
 pub returns-clause-fields : goal.returns-clause-fields
 returns-clause-fields c =
-    subst (λ (v : AddrHead). AreFields c.args.order (addr_fields v) c.args.bytes.now) (sym (returns-clause-value c)) (fields_of_read addr_known c.args.order c.args.bytes.now c.fits-bytes c.told-bytes)
+    subst (λ (v : AddrHead). AreFields c.args.order (addr_fields v) c.args.bytes.now) (sym (returns-clause-value c)) (fields_of_read addr_known c.args.order c.args.bytes.now c.fits-bytes c.outcome-bytes)
 
 pub returns-clause-only : goal.returns-clause-only
 returns-clause-only c = λ h are. read_of_fields addr_known c.args.order h c.args.bytes.now are ∙ sym (returns-clause-value c)

@@ -15,7 +15,7 @@ returns-clause-value c =
 
 pub returns-clause-fields : goal.returns-clause-fields
 returns-clause-fields c =
-    subst (λ (v : RouteHead). AreFields c.args.order (route_fields v) c.args.bytes.now) (sym (returns-clause-value c)) (fields_of_read route_known c.args.order c.args.bytes.now c.fits-bytes c.told-bytes)
+    subst (λ (v : RouteHead). AreFields c.args.order (route_fields v) c.args.bytes.now) (sym (returns-clause-value c)) (fields_of_read route_known c.args.order c.args.bytes.now c.fits-bytes c.outcome-bytes)
 
 pub returns-clause-only : goal.returns-clause-only
 returns-clause-only c = λ h are. read_of_fields route_known c.args.order h c.args.bytes.now are ∙ sym (returns-clause-value c)

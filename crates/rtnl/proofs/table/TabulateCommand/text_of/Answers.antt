@@ -6,7 +6,7 @@ use Rattle.rtnl.proofs.table.TabulateCommand.text_of.Goals as goal
 
 pub returns : goal.returns
 returns g c =
-    let t = g.F.Telling.told in
+    let t = g.F.Telling.outcome in
     let ds = c.args.datagrams.now in
     let b = c.args.self.now.limits in
     let d = c.args.self.now.dump in

@@ -1,4 +1,4 @@
--- What a call tells of the outcome.
+-- How the answer of a call stands to the outcome of a reading.
 use Rattle.std.specs.Prelude.{◌≡◌, ℕ, Result, Ok, Err}
 use Rattle.nl_attr.specs.declared.fault.ListError.{ListError}
 use Rattle.nl_attr.specs.declared.fault.ListError.TheVariants.{Layout, Memory}
@@ -10,13 +10,13 @@ use Rattle.nl_attr.specs.Visits.{Visits}
 use Rattle.nl_attr.specs.Reading.{Outcome}
 
 -- a result, seen by view, and the visits are this outcome, unless memory ran out
-abbrev pub Says : {X Y : Type 0} → (X → Y) → Result X ListError → ℕ → Outcome Y → Type 0
-Says view (Ok x) v o = o ≡ (Ok (view x), v)
-Says view (Err (Layout f)) v o = o ≡ (Err f, v)
-Says view (Err Memory) v o = Unit {0}
+abbrev pub IsOutcome : {X Y : Type 0} → (X → Y) → Result X ListError → ℕ → Outcome Y → Type 0
+IsOutcome view (Ok x) v o = o ≡ (Ok (view x), v)
+IsOutcome view (Err (Layout f)) v o = o ≡ (Err f, v)
+IsOutcome view (Err Memory) v o = Unit {0}
 
-abbrev pub Tells : {X Y : Type 0} → (X → Y) → Tally X ListError → Outcome Y → Type 0
-Tells view t o = Says view t.result t.visits o
+abbrev pub HasOutcome : {X Y : Type 0} → (X → Y) → Tally X ListError → Outcome Y → Type 0
+HasOutcome view t o = IsOutcome view t.result t.visits o
 
 -- a fault of the layout, unless memory ran out
 abbrev pub IfLayout : ListError → (Fault → Type 0) → Type 0

@@ -7,7 +7,7 @@ use Rattle.nl_attr.specs.declared.fault.ListError.TheVariants.{Layout}
 use Rattle.nl_attr.specs.Shape.{Shape}
 use Rattle.nl_attr.specs.Numbers.{AreBytes}
 use Rattle.nl_attr.specs.Reading.{Outcome}
-use Rattle.nl_attr.specs.Told.{Says}
+use Rattle.nl_attr.specs.Outcomes.{IsOutcome}
 use Rattle.nl_frame.specs.declared.body.Message.{Message}
 use Rattle.nl_frame.specs.View.{message_view}
 use Rattle.nl_frame.specs.Message.{MessageVal}
@@ -17,13 +17,13 @@ use Rattle.nl_frame.proofs.Layouts.{messages_fit, messages_sound}
 
 module _ (S : Shape) (d : List ℕ) where
   -- the outcome of a call, by what it answered
-  pub told_ok : (r : Result (Vec Message) ListError) (list : Vec Message) (v : ℕ) → r ≡ Ok list → Says (λ (x : Vec Message). map message_view x.items) r v (messages_of S 0 d)
+  pub outcome_ok : (r : Result (Vec Message) ListError) (list : Vec Message) (v : ℕ) → r ≡ Ok list → IsOutcome (λ (x : Vec Message). map message_view x.items) r v (messages_of S 0 d)
       → messages_of S 0 d ≡ (Ok (map message_view list.items), v)
-  told_ok r list v is told = subst (λ x. Says (λ (x : Vec Message). map message_view x.items) x v (messages_of S 0 d)) is told
+  outcome_ok r list v is outcome = subst (λ x. IsOutcome (λ (x : Vec Message). map message_view x.items) x v (messages_of S 0 d)) is outcome
 
-  pub told_err : (r : Result (Vec Message) ListError) (l : ListError) (f : Fault) (v : ℕ) → r ≡ Err l → l ≡ Layout f → Says (λ (x : Vec Message). map message_view x.items) r v (messages_of S 0 d)
+  pub outcome_err : (r : Result (Vec Message) ListError) (l : ListError) (f : Fault) (v : ℕ) → r ≡ Err l → l ≡ Layout f → IsOutcome (λ (x : Vec Message). map message_view x.items) r v (messages_of S 0 d)
       → messages_of S 0 d ≡ (Err f, v)
-  told_err r l f v is is_layout told = subst (λ x. Says (λ (x : Vec Message). map message_view x.items) x v (messages_of S 0 d)) (is ∙ ap Err is_layout) told
+  outcome_err r l f v is is_layout outcome = subst (λ x. IsOutcome (λ (x : Vec Message). map message_view x.items) x v (messages_of S 0 d)) (is ∙ ap Err is_layout) outcome
 
   pub ok_fits : (ms : List MessageVal) (v : ℕ) → AreBytes d → messages_of S 0 d ≡ (Ok ms, v) → layout.Layout S ms d
   ok_fits ms v fits e = messages_sound S (length d) 0 d ms v (omega arith) fits e
