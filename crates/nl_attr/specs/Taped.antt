@@ -16,7 +16,7 @@ use Rattle.nl_attr.specs.declared.tree.Ctx.TheVariants.{Route}
 use Rattle.nl_attr.specs.Shape.{Shape}
 use Rattle.nl_attr.specs.Numbers.{kind_of, span_of}
 use Rattle.nl_attr.specs.Walk.{flags_of, payload_of}
-use Rattle.nl_attr.specs.Heads.{Sort, attr_head, hop_head, Head, content_at, start_of, broken, follower, inner_of}
+use Rattle.nl_attr.specs.Heads.{Sort, attr_head, hop_head, Head, start_of, broken, follower, inner_of}
 use Rattle.nl_attr.specs.Trail.{trail_of, event_of, put_from, stopped, visits_of, fault_of}
 
 -- ---- regions

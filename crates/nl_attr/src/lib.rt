@@ -36,7 +36,8 @@ pub use reading::{read_list, read_list_ordered};
 pub use scanning::scan_list_ordered;
 pub use taping::{OpenRegions, Taped, tape_list};
 pub use tree::{
-    Attr, AttrFlags, Content, Ctx, Hop, NLA_F_NESTED, NLA_F_NET_BYTEORDER, NUMBERS, Value, holds,
+    Attr, AttrFlags, Content, Ctx, Hop, IFLA_LINKINFO, NLA_F_NESTED, NLA_F_NET_BYTEORDER, NUMBERS,
+    RTA_METRICS, RTA_MULTIPATH, Value, holds,
 };
 pub use views::find;
 pub use walk::{Attrs, HopPart, HopParts, Part, align4, attr_at, hop_at};

@@ -16,6 +16,15 @@ pub const NLA_F_NESTED: u16 = 32_768;
 /// that is read.
 pub const NLA_F_NET_BYTEORDER: u16 = 16_384;
 
+/// The attribute of a link that holds `IFLA_INFO_*`, of linux/if_link.h.
+pub const IFLA_LINKINFO: u16 = 18;
+
+/// The attribute of a route that holds `RTAX_*`, of linux/rtnetlink.h.
+pub const RTA_METRICS: u16 = 8;
+
+/// The attribute of a route that holds next hops.
+pub const RTA_MULTIPATH: u16 = 9;
+
 /// The two flag bits of an attribute's type.
 #[derive(Clone, Copy, Debug, PartialEq, Eq)]
 pub struct AttrFlags {
@@ -92,9 +101,9 @@ pub fn holds(ctx: Ctx, number: u16, flags: AttrFlags) -> Content
     ensures { result ≡ holds_of ctx number flags }
 {
     match (ctx, number) {
-        (Ctx::Route, 9) => Content::Hops,
-        (Ctx::Link, 18) => Content::List(Ctx::LinkInfo),
-        (Ctx::Route, 8) => Content::List(Ctx::Metrics),
+        (Ctx::Route, RTA_MULTIPATH) => Content::Hops,
+        (Ctx::Link, IFLA_LINKINFO) => Content::List(Ctx::LinkInfo),
+        (Ctx::Route, RTA_METRICS) => Content::List(Ctx::Metrics),
         _ => {
             if flags.nested {
                 Content::List(Ctx::Plain)

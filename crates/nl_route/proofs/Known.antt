@@ -3,7 +3,7 @@ use Rattle.std.proofs.Common.{◌≡◌, ℕ, ℤ, zero, suc, List, [], ◌∷�
 use Rattle.std.specs.Prelude.{pos}
 use Rattle.nl_attr.specs.declared.order.Order.{Order}
 use Rattle.nl_attr.specs.Numbers.{AreBytes}
-use Rattle.nl_route.specs.Fields.{Field, byte, number, signed, pad, AreFields, written}
+use Rattle.nl_route.specs.Fields.{Field, byte, number, signed, pad, AreFields, AreRanged, IsHeadOf, IsWrittenHead, written}
 use Rattle.nl_route.proofs.Fields.{size_of, read_at, read_sound, read_only, DoFit, read_written}
 
 -- what is read of bytes has the fields that are read of them, and a head is made of its fields, of so many bytes
@@ -28,8 +28,18 @@ module _ {H : Type 0} {size : ℕ} {fields : H → List Field} {of : Order → L
   read_of_fields o v bytes h = one v (of o bytes) (read_only o (fields v) 0 bytes h ∙ sym (known.is o v bytes))
 
   -- what is written of a head is read as it again
-  pub read_of_written : (o : Order) (v : H) → DoFit (fields v) → of o (written o (fields v)) ≡ v
+  read_of_written : (o : Order) (v : H) → DoFit (fields v) → of o (written o (fields v)) ≡ v
   read_of_written o v h = one (of o (written o (fields v))) v (known.is o v (written o (fields v)) ∙ read_written o (fields v) [] h)
+
+  pub head_read : (o : Order) (bytes : List ℕ) (v : H) → AreBytes bytes → length bytes ≡ size → v ≡ of o bytes → IsHeadOf of fields o bytes v
+  head_read o bytes v h e value = record {
+    value = value;
+    fields = subst (λ (w : H). AreFields o (fields w) bytes) (sym value) (fields_of_read o bytes h e);
+    only = λ w are. read_of_fields o w bytes are ∙ sym value;
+  }
+
+  pub head_written : (o : Order) (v : H) (image : List ℕ) → DoFit (fields v) → AreRanged (fields v) → image ≡ written o (fields v) → IsWrittenHead of fields o v image
+  head_written o v image fit ranged e = record { bytes = e; back = ap (of o) e ∙ read_of_written o v fit; ranged = ranged }
 
 -- the field at a place, as the number or the signed number that it holds
 abbrev pub value_in : Field → ℕ

@@ -39,3 +39,19 @@ AreRanged (byte n ∷ fs) = (n < 256) × AreRanged fs
 AreRanged (number w n ∷ fs) = (n < 256 ^ w) × AreRanged fs
 AreRanged (signed z ∷ fs) = FitsSigned w32 z × AreRanged fs
 AreRanged (pad w ∷ fs) = AreRanged fs
+
+-- a head that is read of these bytes
+pub record IsHeadOf {H : Type 0} (of : Order → List ℕ → H) (fields_of : H → List Field) (o : Order) (bytes : List ℕ) (h : H) : Type 0 where
+  pub value : h ≡ of o bytes
+  -- it has the fields of the bytes
+  pub fields : AreFields o (fields_of h) bytes
+  -- no other head has
+  pub only : (k : H) → AreFields o (fields_of k) bytes → k ≡ h
+
+-- the bytes that a head is written as
+pub record IsWrittenHead {H : Type 0} (of : Order → List ℕ → H) (fields_of : H → List Field) (o : Order) (h : H) (image : List ℕ) : Type 0 where
+  pub bytes : image ≡ written o (fields_of h)
+  -- they are read as this head again
+  pub back : of o image ≡ h
+  -- each number is in the range of its field
+  pub ranged : AreRanged (fields_of h)

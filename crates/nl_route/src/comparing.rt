@@ -1,11 +1,10 @@
 //! A family's body compared with the bytes that it would be written as.
 
-ghost use Rattle.std.specs.Prelude.{◌≤◌, ◌++◌, length, IfSome};
-ghost use Rattle.nl_attr.specs.View.{attrs_view};
-ghost use Rattle.nl_attr.specs.Written as attrs;
+ghost use Rattle.std.specs.Prelude.{◌≤◌, length, IfSome};
 ghost use Rattle.nl_attr.specs.Proper.{IsSized};
 ghost use Rattle.nl_attr.specs.Compared.{Begins};
-ghost use Rattle.nl_route.specs.Fields.{written};
+ghost use Rattle.nl_route.specs.Body.{body_written};
+ghost use Rattle.nl_route.specs.Views.{attrs_in};
 
 use crate::family::Family;
 use crate::head::Head;
@@ -17,9 +16,9 @@ impl<H: Head> Family<H> {
     ///
     /// So callers decide whether bytes are canonical, with no second copy of them.
     pub fn begins_with_body(&self, order: Order, bytes: &[u8]) -> Option<usize>
-        requires sized { IsSized (attrs_view self.now.attrs.items) }
-        ensures begins { Begins (written order (H.fields self.now.head)
-            ++ attrs.written order (attrs_view self.now.attrs.items)) bytes.now result }
+        requires sized { IsSized (attrs_in self.now) }
+        ensures begins { Begins (body_written order (H.fields self.now.head) (attrs_in self.now))
+            bytes.now result }
         ensures within { IfSome result (λ n. n ≤ length bytes.now) }
     {
         let head = self.head.begins_with_front(order, bytes)?;

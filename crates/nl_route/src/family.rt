@@ -1,17 +1,14 @@
 //! The body of a family's message, whatever the family.
 
-ghost use Rattle.std.specs.Prelude.{◌≡◌, ◌≤◌, ◌+◌, ◌*◌, ◌-◌, List, length, IfOk, IfErr};
-ghost use Rattle.nl_attr.specs.Tree.{Items};
-ghost use Rattle.nl_attr.specs.View.{attrs_view};
+ghost use Rattle.std.specs.Prelude.{◌≡◌, ◌≤◌, ◌+◌, length};
 ghost use Rattle.nl_attr.specs.Shape.{shape_of};
-ghost use Rattle.nl_attr.specs.Heads.{IsFirstFault};
-ghost use Rattle.nl_attr.specs.Outcomes.{HasOutcome, IfLayout, VisitsUpTo};
-ghost use Rattle.nl_attr.specs.Kept.{kept};
-ghost use Rattle.nl_route.specs.Body.{IsFamilyBody, family_at, attrs_of};
+ghost use Rattle.nl_route.specs.Body.{ReadsBody};
 
 use crate::group::Group;
 use crate::head::Head;
-use nl_attr::{Attr, Depth, ListError, Order, Tally, read_list_ordered};
+use nl_attr::{
+    Attr, Depth, FARTHEST_END, LONGEST_REGION, ListError, Order, Tally, read_list_ordered,
+};
 use std::alloc::Global;
 
 /// The body of a family's message: its head, and the attributes behind it.
@@ -36,33 +33,10 @@ impl<H: Head> Family<H> {
     /// the bytes of the head have no fault.
     pub fn read_body(alloc: Global, bytes: &[u8], base: u32, depth: Depth) -> Tally<Self, ListError>
         requires head { H.SIZE ≤ length bytes.now }
-        requires size { length bytes.now ≤ 1048576 }
-        requires place { base + length bytes.now ≤ 2097152 }
-        // What is read, or the fault, and the visits are those of a reading from left to right.
-        ensures outcome { HasOutcome (λ b. (b.head, attrs_view b.attrs.items)) result
-            (family_at (shape_of Order.Little depth) H.SIZE H.ctx H.of base bytes.now) }
-        // What is read is the body.
-        ensures fits { IfOk result.result (λ b. IsFamilyBody (shape_of Order.Little depth) H.SIZE
-            (H.fields b.head) H.ctx (attrs_view b.attrs.items) bytes.now) }
-        // No other is.
-        ensures only { IfOk result.result (λ b. (h : H) (is : Items)
-            → IsFamilyBody (shape_of Order.Little depth) H.SIZE (H.fields h) H.ctx is bytes.now
-            → (h ≡ b.head) × (is ≡ attrs_view b.attrs.items)) }
-        // A fault is the one at the least place.
-        ensures first { IfErr result.result
-            (λ e. IfLayout e (λ f. IsFirstFault (shape_of Order.Little depth)
-            (attrs_of H.SIZE H.ctx base bytes.now) f.place f.reason)) }
-        // Then no body is there.
-        ensures none { IfErr result.result
-            (λ e. IfLayout e (λ _. (h : H) (is : Items) → IsFamilyBody (shape_of Order.Little depth)
-            H.SIZE (H.fields h) H.ctx is bytes.now → ⊥)) }
-        // The visits are those of all heads, or of those up to the fault.
-        ensures visits { VisitsUpTo (shape_of Order.Little depth) (attrs_of H.SIZE
-            H.ctx base bytes.now) (base + length bytes.now) result.result result.visits }
-        ensures bound { result.visits ≤ (depth + 1) * length bytes.now }
-        // What is read keeps no more bytes than there are behind the head.
-        ensures kept { IfOk result.result
-            (λ b. H.SIZE + kept (attrs_view b.attrs.items) ≤ length bytes.now) }
+        requires size { length bytes.now ≤ LONGEST_REGION }
+        requires place { base + length bytes.now ≤ FARTHEST_END }
+        ensures { ReadsBody (shape_of Order.Little depth)
+            H.SIZE H.ctx H.of H.fields base bytes.now result }
     {
         Self::read_body_ordered(alloc, bytes, base, depth, Order::Little)
     }
@@ -76,31 +50,10 @@ impl<H: Head> Family<H> {
         order: Order,
     ) -> Tally<Self, ListError>
         requires head { H.SIZE ≤ length bytes.now }
-        requires size { length bytes.now ≤ 1048576 }
-        requires place { base + length bytes.now ≤ 2097152 }
-        // What is read, or the fault, and the visits are those of a reading from left to right.
-        ensures outcome { HasOutcome (λ b. (b.head, attrs_view b.attrs.items)) result
-            (family_at (shape_of order depth) H.SIZE H.ctx H.of base bytes.now) }
-        // What is read is the body.
-        ensures fits { IfOk result.result (λ b. IsFamilyBody (shape_of order depth) H.SIZE
-            (H.fields b.head) H.ctx (attrs_view b.attrs.items) bytes.now) }
-        // No other is.
-        ensures only { IfOk result.result (λ b. (h : H) (is : Items)
-            → IsFamilyBody (shape_of order depth) H.SIZE (H.fields h) H.ctx is bytes.now
-            → (h ≡ b.head) × (is ≡ attrs_view b.attrs.items)) }
-        // A fault is the one at the least place.
-        ensures first { IfErr result.result (λ e. IfLayout e (λ f. IsFirstFault
-            (shape_of order depth) (attrs_of H.SIZE H.ctx base bytes.now) f.place f.reason)) }
-        // Then no body is there.
-        ensures none { IfErr result.result (λ e. IfLayout e (λ _. (h : H) (is : Items)
-            → IsFamilyBody (shape_of order depth) H.SIZE (H.fields h) H.ctx is bytes.now → ⊥)) }
-        // The visits are those of all heads, or of those up to the fault.
-        ensures visits { VisitsUpTo (shape_of order depth) (attrs_of H.SIZE H.ctx base bytes.now)
-            (base + length bytes.now) result.result result.visits }
-        ensures bound { result.visits ≤ (depth + 1) * length bytes.now }
-        // What is read keeps no more bytes than there are behind the head.
-        ensures kept { IfOk result.result
-            (λ b. H.SIZE + kept (attrs_view b.attrs.items) ≤ length bytes.now) }
+        requires size { length bytes.now ≤ LONGEST_REGION }
+        requires place { base + length bytes.now ≤ FARTHEST_END }
+        ensures { ReadsBody (shape_of order depth)
+            H.SIZE H.ctx H.of H.fields base bytes.now result }
     {
         let head = H::read_front(bytes, order);
         read_list_ordered(

@@ -2,10 +2,9 @@
 
 ghost use Rattle.std.specs.Prelude.{◌≡◌, unwrap_or};
 ghost use Rattle.std.specs.Option.{option_copied};
-ghost use Rattle.nl_attr.specs.View.{attrs_view};
-ghost use Rattle.nl_route.specs.Fields.{AreFields, AreRanged, written};
+ghost use Rattle.nl_route.specs.Fields.{AreRanged, IsHeadOf, IsWrittenHead};
 ghost use Rattle.nl_route.specs.Rule.{rule_fields, rule_of};
-ghost use Rattle.nl_route.specs.Views.{number_view, text_view, bytes_view};
+ghost use Rattle.nl_route.specs.Views.{number_view, text_view, bytes_view, attrs_in};
 
 use crate::family::Family;
 use crate::group::Group;
@@ -13,24 +12,24 @@ use crate::head::Head;
 use crate::views::{bytes_of, text_of, u32_view};
 use nl_attr::{Ctx, Order, append_bytes, begins_with_bytes};
 
-/// `FRA_DST`.
-const DESTINATION: u16 = 1;
-/// `FRA_SRC`.
-const SOURCE: u16 = 2;
-/// `FRA_IIFNAME`.
-const INPUT_INTERFACE: u16 = 3;
-/// `FRA_GOTO`.
-const TARGET: u16 = 4;
-/// `FRA_PRIORITY`.
-const PRIORITY: u16 = 6;
-/// `FRA_FWMARK`.
-const FIREWALL_MARK: u16 = 10;
-/// `FRA_TABLE`.
-const TABLE: u16 = 15;
-/// `FRA_FWMASK`.
-const FIREWALL_MASK: u16 = 16;
-/// `FRA_OIFNAME`.
-const OUTPUT_INTERFACE: u16 = 17;
+/// A rule's destination.
+pub const FRA_DST: u16 = 1;
+/// A rule's source.
+pub const FRA_SRC: u16 = 2;
+/// The name of the input interface.
+pub const FRA_IIFNAME: u16 = 3;
+/// The priority of the rule to go on with.
+pub const FRA_GOTO: u16 = 4;
+/// The priority of a rule.
+pub const FRA_PRIORITY: u16 = 6;
+/// The firewall mark.
+pub const FRA_FWMARK: u16 = 10;
+/// The routing table, all 32 bits.
+pub const FRA_TABLE: u16 = 15;
+/// The mask of the firewall mark.
+pub const FRA_FWMASK: u16 = 16;
+/// The name of the output interface.
+pub const FRA_OIFNAME: u16 = 17;
 
 /// The head of a routing rule, `fib_rule_hdr`: 12 bytes, of which the sixth and seventh are not
 /// kept.
@@ -61,23 +60,14 @@ pub type Rule = Family<RuleHead>;
 impl RuleHead {
     /// The head in these bytes, the lowest byte of a number first.
     pub fn read(bytes: &[u8; 12]) -> Self
-        ensures value { result ≡ rule_of Order.Little bytes.now }
-        // It has the fields of the bytes.
-        ensures fields { AreFields Order.Little (rule_fields result) bytes.now }
-        // No other head has.
-        ensures only { (h : RuleHead)
-            → AreFields Order.Little (rule_fields h) bytes.now → h ≡ result }
+        ensures { IsHeadOf rule_of rule_fields Order.Little bytes.now result }
     {
         RuleHead::read_ordered(bytes, Order::Little)
     }
 
     /// The head in these bytes, its numbers in this order.
     pub fn read_ordered(bytes: &[u8; 12], order: Order) -> Self
-        ensures value { result ≡ rule_of order bytes.now }
-        // It has the fields of the bytes.
-        ensures fields { AreFields order (rule_fields result) bytes.now }
-        // No other head has.
-        ensures only { (h : RuleHead) → AreFields order (rule_fields h) bytes.now → h ≡ result }
+        ensures { IsHeadOf rule_of rule_fields order bytes.now result }
     {
         RuleHead {
             family: bytes[0],
@@ -100,22 +90,14 @@ impl RuleHead {
 
     /// The bytes of the head, the lowest byte of a number first; what is not kept is zero.
     pub fn write(&self) -> [u8; 12]
-        ensures bytes { result ≡ written Order.Little (rule_fields self.now) }
-        // They are read as this head again.
-        ensures back { rule_of Order.Little result ≡ self.now }
-        // Each number is in the range of its field.
-        ensures ranged { AreRanged (rule_fields self.now) }
+        ensures { IsWrittenHead rule_of rule_fields Order.Little self.now result }
     {
         self.write_ordered(Order::Little)
     }
 
     /// The bytes of the head, its numbers in this order; what is not kept is zero.
     pub fn write_ordered(&self, order: Order) -> [u8; 12]
-        ensures bytes { result ≡ written order (rule_fields self.now) }
-        // They are read as this head again.
-        ensures back { rule_of order result ≡ self.now }
-        // Each number is in the range of its field.
-        ensures ranged { AreRanged (rule_fields self.now) }
+        ensures { IsWrittenHead rule_of rule_fields order self.now result }
     {
         let RuleHead {
             family,
@@ -184,94 +166,94 @@ impl Head for RuleHead {
 impl Rule {
     /// The network address of the destination, `FRA_DST`.
     pub fn dst(&self) -> Option<&[u8]>
-        ensures { option_copied result ≡ bytes_view 1 (attrs_view self.now.attrs.items) }
+        ensures { option_copied result ≡ bytes_view FRA_DST (attrs_in self.now) }
     {
-        bytes_of(&self.attrs, DESTINATION)
+        bytes_of(&self.attrs, FRA_DST)
     }
 
     /// The network address of the source, `FRA_SRC`.
     pub fn src(&self) -> Option<&[u8]>
-        ensures { option_copied result ≡ bytes_view 2 (attrs_view self.now.attrs.items) }
+        ensures { option_copied result ≡ bytes_view FRA_SRC (attrs_in self.now) }
     {
-        bytes_of(&self.attrs, SOURCE)
+        bytes_of(&self.attrs, FRA_SRC)
     }
 
     /// The name of the interface that packets come from, `FRA_IIFNAME`.
     pub fn iifname(&self) -> Option<&[u8]>
-        ensures { option_copied result ≡ text_view 3 (attrs_view self.now.attrs.items) }
+        ensures { option_copied result ≡ text_view FRA_IIFNAME (attrs_in self.now) }
     {
-        text_of(&self.attrs, INPUT_INTERFACE)
+        text_of(&self.attrs, FRA_IIFNAME)
     }
 
     /// The name of the interface that packets leave by, `FRA_OIFNAME`.
     pub fn oifname(&self) -> Option<&[u8]>
-        ensures { option_copied result ≡ text_view 17 (attrs_view self.now.attrs.items) }
+        ensures { option_copied result ≡ text_view FRA_OIFNAME (attrs_in self.now) }
     {
-        text_of(&self.attrs, OUTPUT_INTERFACE)
+        text_of(&self.attrs, FRA_OIFNAME)
     }
 
     /// The rule that is gone to, `FRA_GOTO`, its lowest byte first.
     ///
     /// For a body that was read in the other order, call `target_ordered`.
     pub fn target(&self) -> Option<u32>
-        ensures { result ≡ number_view Order.Little 4 4 (attrs_view self.now.attrs.items) }
+        ensures { result ≡ number_view Order.Little 4 FRA_GOTO (attrs_in self.now) }
     {
         self.target_ordered(Order::Little)
     }
 
     /// The rule that is gone to, `FRA_GOTO`, its bytes in this order.
     pub fn target_ordered(&self, order: Order) -> Option<u32>
-        ensures { result ≡ number_view order 4 4 (attrs_view self.now.attrs.items) }
+        ensures { result ≡ number_view order 4 FRA_GOTO (attrs_in self.now) }
     {
-        u32_view(&self.attrs, TARGET, order)
+        u32_view(&self.attrs, FRA_GOTO, order)
     }
 
     /// The place among rules, `FRA_PRIORITY`, its lowest byte first.
     ///
     /// For a body that was read in the other order, call `priority_ordered`.
     pub fn priority(&self) -> Option<u32>
-        ensures { result ≡ number_view Order.Little 4 6 (attrs_view self.now.attrs.items) }
+        ensures { result ≡ number_view Order.Little 4 FRA_PRIORITY (attrs_in self.now) }
     {
         self.priority_ordered(Order::Little)
     }
 
     /// The place among rules, `FRA_PRIORITY`, its bytes in this order.
     pub fn priority_ordered(&self, order: Order) -> Option<u32>
-        ensures { result ≡ number_view order 4 6 (attrs_view self.now.attrs.items) }
+        ensures { result ≡ number_view order 4 FRA_PRIORITY (attrs_in self.now) }
     {
-        u32_view(&self.attrs, PRIORITY, order)
+        u32_view(&self.attrs, FRA_PRIORITY, order)
     }
 
     /// The mark of packets, `FRA_FWMARK`, its lowest byte first.
     ///
     /// For a body that was read in the other order, call `fwmark_ordered`.
     pub fn fwmark(&self) -> Option<u32>
-        ensures { result ≡ number_view Order.Little 4 10 (attrs_view self.now.attrs.items) }
+        ensures { result ≡ number_view Order.Little 4 FRA_FWMARK (attrs_in self.now) }
     {
         self.fwmark_ordered(Order::Little)
     }
 
     /// The mark of packets, `FRA_FWMARK`, its bytes in this order.
     pub fn fwmark_ordered(&self, order: Order) -> Option<u32>
-        ensures { result ≡ number_view order 4 10 (attrs_view self.now.attrs.items) }
+        ensures { result ≡ number_view order 4 FRA_FWMARK (attrs_in self.now) }
     {
-        u32_view(&self.attrs, FIREWALL_MARK, order)
+        u32_view(&self.attrs, FRA_FWMARK, order)
     }
 
     /// The bits of the mark that count, `FRA_FWMASK`, its lowest byte first.
     ///
     /// For a body that was read in the other order, call `fwmask_ordered`.
     pub fn fwmask(&self) -> Option<u32>
-        ensures { result ≡ number_view Order.Little 4 16 (attrs_view self.now.attrs.items) }
+        ensures { result ≡ number_view Order.Little 4 FRA_FWMASK (attrs_in self.now) }
     {
         self.fwmask_ordered(Order::Little)
     }
 
     /// The bits of the mark that count, `FRA_FWMASK`, its bytes in this order.
     pub fn fwmask_ordered(&self, order: Order) -> Option<u32>
-        ensures { result ≡ number_view order 4 16 (attrs_view self.now.attrs.items) }
+        ensures { result ≡ number_view order 4 FRA_FWMASK (attrs_in self.now) }
     {
-        u32_view(&self.attrs, FIREWALL_MASK, order)
+        u32_view(&self.attrs, FRA_FWMASK, order)
     }
 
     /// The routing table: `FRA_TABLE`, its lowest byte first, or the head's where there is no such
@@ -280,7 +262,7 @@ impl Rule {
     /// For a body that was read in the other order, call `table_id_ordered`.
     pub fn table_id(&self) -> u32
         ensures { result ≡ unwrap_or
-            (number_view Order.Little 4 15 (attrs_view self.now.attrs.items)) self.now.head.table }
+            (number_view Order.Little 4 FRA_TABLE (attrs_in self.now)) self.now.head.table }
     {
         self.table_id_ordered(Order::Little)
     }
@@ -289,8 +271,8 @@ impl Rule {
     /// such number.
     pub fn table_id_ordered(&self, order: Order) -> u32
         ensures { result ≡ unwrap_or
-            (number_view order 4 15 (attrs_view self.now.attrs.items)) self.now.head.table }
+            (number_view order 4 FRA_TABLE (attrs_in self.now)) self.now.head.table }
     {
-        u32_view(&self.attrs, TABLE, order).unwrap_or(u32::from(self.head.table))
+        u32_view(&self.attrs, FRA_TABLE, order).unwrap_or(u32::from(self.head.table))
     }
 }

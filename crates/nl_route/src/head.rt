@@ -6,7 +6,7 @@ ghost use Rattle.nl_attr.specs.declared.order.Order.{Order};
 ghost use Rattle.nl_attr.specs.declared.tree.Ctx.{Ctx};
 ghost use Rattle.nl_attr.specs.Compared.{Begins};
 ghost use Rattle.nl_route.specs.declared.group.Group.{Group};
-ghost use Rattle.nl_route.specs.Fields.{Field, AreFields, AreRanged, written};
+ghost use Rattle.nl_route.specs.Fields.{Field, AreRanged, IsHeadOf, written};
 
 use crate::group::Group;
 use nl_attr::{Ctx, Order};
@@ -38,11 +38,7 @@ pub trait Head: Sized + Drop {
     /// The head at the front of a body, its numbers in this order.
     fn read_front(bytes: &[u8], order: Order) -> Self
         requires { SIZE ≤ length bytes.now }
-        ensures value { result ≡ of order (take SIZE bytes.now) }
-        // It has the fields of the front.
-        ensures fields { AreFields order (fields result) (take SIZE bytes.now) }
-        // No other head has.
-        ensures only { (h : Self) → AreFields order (fields h) (take SIZE bytes.now) → h ≡ result };
+        ensures { IsHeadOf of fields order (take SIZE bytes.now) result };
 
     /// Appends the bytes of the head, its numbers in this order. It takes no memory.
     fn put_front(&self, order: Order, out: &mut Vec<u8>)

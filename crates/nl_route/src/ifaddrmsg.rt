@@ -2,10 +2,9 @@
 
 ghost use Rattle.std.specs.Prelude.{◌≡◌, unwrap_or};
 ghost use Rattle.std.specs.Option.{option_copied};
-ghost use Rattle.nl_attr.specs.View.{attrs_view};
-ghost use Rattle.nl_route.specs.Fields.{AreFields, AreRanged, written};
+ghost use Rattle.nl_route.specs.Fields.{AreRanged, IsHeadOf, IsWrittenHead};
 ghost use Rattle.nl_route.specs.Addr.{addr_fields, addr_of};
-ghost use Rattle.nl_route.specs.Views.{number_view, text_view, bytes_view};
+ghost use Rattle.nl_route.specs.Views.{number_view, text_view, bytes_view, attrs_in};
 
 use crate::family::Family;
 use crate::group::Group;
@@ -13,16 +12,16 @@ use crate::head::Head;
 use crate::views::{bytes_of, text_of, u32_view};
 use nl_attr::{Ctx, Order, append_bytes, begins_with_bytes};
 
-/// `IFA_ADDRESS`.
-const ADDRESS: u16 = 1;
-/// `IFA_LOCAL`.
-const LOCAL: u16 = 2;
-/// `IFA_LABEL`.
-const LABEL: u16 = 3;
-/// `IFA_BROADCAST`.
-const BROADCAST: u16 = 4;
-/// `IFA_FLAGS`.
-const FLAGS: u16 = 8;
+/// The address, or the peer's on a point-to-point link.
+pub const IFA_ADDRESS: u16 = 1;
+/// The local address.
+pub const IFA_LOCAL: u16 = 2;
+/// The label of an address.
+pub const IFA_LABEL: u16 = 3;
+/// The broadcast address.
+pub const IFA_BROADCAST: u16 = 4;
+/// The flags of an address, all 32.
+pub const IFA_FLAGS: u16 = 8;
 
 /// The head of an address, `ifaddrmsg`: 8 bytes.
 #[derive(Clone, Copy, Debug, PartialEq, Eq)]
@@ -48,23 +47,14 @@ pub type Addr = Family<AddrHead>;
 impl AddrHead {
     /// The head in these bytes, the lowest byte of a number first.
     pub fn read(bytes: &[u8; 8]) -> Self
-        ensures value { result ≡ addr_of Order.Little bytes.now }
-        // It has the fields of the bytes.
-        ensures fields { AreFields Order.Little (addr_fields result) bytes.now }
-        // No other head has.
-        ensures only { (h : AddrHead)
-            → AreFields Order.Little (addr_fields h) bytes.now → h ≡ result }
+        ensures { IsHeadOf addr_of addr_fields Order.Little bytes.now result }
     {
         AddrHead::read_ordered(bytes, Order::Little)
     }
 
     /// The head in these bytes, its numbers in this order.
     pub fn read_ordered(bytes: &[u8; 8], order: Order) -> Self
-        ensures value { result ≡ addr_of order bytes.now }
-        // It has the fields of the bytes.
-        ensures fields { AreFields order (addr_fields result) bytes.now }
-        // No other head has.
-        ensures only { (h : AddrHead) → AreFields order (addr_fields h) bytes.now → h ≡ result }
+        ensures { IsHeadOf addr_of addr_fields order bytes.now result }
     {
         AddrHead {
             family: bytes[0],
@@ -85,22 +75,14 @@ impl AddrHead {
 
     /// The bytes of the head, the lowest byte of a number first.
     pub fn write(&self) -> [u8; 8]
-        ensures bytes { result ≡ written Order.Little (addr_fields self.now) }
-        // They are read as this head again.
-        ensures back { addr_of Order.Little result ≡ self.now }
-        // Each number is in the range of its field.
-        ensures ranged { AreRanged (addr_fields self.now) }
+        ensures { IsWrittenHead addr_of addr_fields Order.Little self.now result }
     {
         self.write_ordered(Order::Little)
     }
 
     /// The bytes of the head, its numbers in this order.
     pub fn write_ordered(&self, order: Order) -> [u8; 8]
-        ensures bytes { result ≡ written order (addr_fields self.now) }
-        // They are read as this head again.
-        ensures back { addr_of order result ≡ self.now }
-        // Each number is in the range of its field.
-        ensures ranged { AreRanged (addr_fields self.now) }
+        ensures { IsWrittenHead addr_of addr_fields order self.now result }
     {
         let AddrHead {
             family,
@@ -165,30 +147,30 @@ impl Head for AddrHead {
 impl Addr {
     /// The address, or that of the other end of a point-to-point link, `IFA_ADDRESS`.
     pub fn address(&self) -> Option<&[u8]>
-        ensures { option_copied result ≡ bytes_view 1 (attrs_view self.now.attrs.items) }
+        ensures { option_copied result ≡ bytes_view IFA_ADDRESS (attrs_in self.now) }
     {
-        bytes_of(&self.attrs, ADDRESS)
+        bytes_of(&self.attrs, IFA_ADDRESS)
     }
 
     /// The local address, `IFA_LOCAL`.
     pub fn local(&self) -> Option<&[u8]>
-        ensures { option_copied result ≡ bytes_view 2 (attrs_view self.now.attrs.items) }
+        ensures { option_copied result ≡ bytes_view IFA_LOCAL (attrs_in self.now) }
     {
-        bytes_of(&self.attrs, LOCAL)
+        bytes_of(&self.attrs, IFA_LOCAL)
     }
 
     /// The label of the address, `IFA_LABEL`.
     pub fn label(&self) -> Option<&[u8]>
-        ensures { option_copied result ≡ text_view 3 (attrs_view self.now.attrs.items) }
+        ensures { option_copied result ≡ text_view IFA_LABEL (attrs_in self.now) }
     {
-        text_of(&self.attrs, LABEL)
+        text_of(&self.attrs, IFA_LABEL)
     }
 
     /// The broadcast address, `IFA_BROADCAST`.
     pub fn broadcast(&self) -> Option<&[u8]>
-        ensures { option_copied result ≡ bytes_view 4 (attrs_view self.now.attrs.items) }
+        ensures { option_copied result ≡ bytes_view IFA_BROADCAST (attrs_in self.now) }
     {
-        bytes_of(&self.attrs, BROADCAST)
+        bytes_of(&self.attrs, IFA_BROADCAST)
     }
 
     /// All flags: `IFA_FLAGS`, its lowest byte first, or the head's where there is no such number.
@@ -196,7 +178,7 @@ impl Addr {
     /// For a body that was read in the other order, call `flags_full_ordered`.
     pub fn flags_full(&self) -> u32
         ensures { result ≡ unwrap_or
-            (number_view Order.Little 4 8 (attrs_view self.now.attrs.items)) self.now.head.flags }
+            (number_view Order.Little 4 IFA_FLAGS (attrs_in self.now)) self.now.head.flags }
     {
         self.flags_full_ordered(Order::Little)
     }
@@ -205,8 +187,8 @@ impl Addr {
     /// number.
     pub fn flags_full_ordered(&self, order: Order) -> u32
         ensures { result ≡ unwrap_or
-            (number_view order 4 8 (attrs_view self.now.attrs.items)) self.now.head.flags }
+            (number_view order 4 IFA_FLAGS (attrs_in self.now)) self.now.head.flags }
     {
-        u32_view(&self.attrs, FLAGS, order).unwrap_or(u32::from(self.head.flags))
+        u32_view(&self.attrs, IFA_FLAGS, order).unwrap_or(u32::from(self.head.flags))
     }
 }

@@ -2,29 +2,26 @@
 
 ghost use Rattle.std.specs.Prelude.{◌≡◌};
 ghost use Rattle.std.specs.Option.{option_copied};
-ghost use Rattle.nl_attr.specs.View.{attrs_view};
-ghost use Rattle.nl_route.specs.Fields.{AreFields, AreRanged, written};
+ghost use Rattle.nl_route.specs.Fields.{AreRanged, IsHeadOf, IsWrittenHead};
 ghost use Rattle.nl_route.specs.Link.{link_fields, link_of};
-ghost use Rattle.nl_route.specs.Views.{number_view, text_view, items_view};
+ghost use Rattle.nl_route.specs.Views.{number_view, text_view, items_view, attrs_in};
 
 use crate::family::Family;
 use crate::group::Group;
 use crate::head::Head;
 use crate::views::{list_of, text_of, u8_view, u32_view};
-use nl_attr::{Ctx, Order, append_bytes, begins_with_bytes};
+use nl_attr::{Ctx, IFLA_LINKINFO, Order, append_bytes, begins_with_bytes};
 
-/// `IFLA_IFNAME`.
-const INTERFACE_NAME: u16 = 3;
-/// `IFLA_MTU`.
-const MTU: u16 = 4;
-/// `IFLA_MASTER`.
-const MASTER: u16 = 10;
-/// `IFLA_OPERSTATE`.
-const OPERATIONAL_STATE: u16 = 16;
-/// `IFLA_LINKINFO`.
-const LINK_INFO: u16 = 18;
-/// `IFLA_INFO_KIND`, inside `IFLA_LINKINFO`.
-const INFO_KIND: u16 = 1;
+/// The name of an interface.
+pub const IFLA_IFNAME: u16 = 3;
+/// The greatest packet of an interface.
+pub const IFLA_MTU: u16 = 4;
+/// The index of the interface that a port belongs to.
+pub const IFLA_MASTER: u16 = 10;
+/// The operational state of an interface.
+pub const IFLA_OPERSTATE: u16 = 16;
+/// The kind of a virtual interface, inside `IFLA_LINKINFO`.
+pub const IFLA_INFO_KIND: u16 = 1;
 
 /// The head of a link, `ifinfomsg`: 16 bytes, of which the second is not kept.
 #[derive(Clone, Copy, Debug, PartialEq, Eq)]
@@ -50,23 +47,14 @@ pub type Link = Family<LinkHead>;
 impl LinkHead {
     /// The head in these bytes, the lowest byte of a number first.
     pub fn read(bytes: &[u8; 16]) -> Self
-        ensures value { result ≡ link_of Order.Little bytes.now }
-        // It has the fields of the bytes.
-        ensures fields { AreFields Order.Little (link_fields result) bytes.now }
-        // No other head has.
-        ensures only { (h : LinkHead)
-            → AreFields Order.Little (link_fields h) bytes.now → h ≡ result }
+        ensures { IsHeadOf link_of link_fields Order.Little bytes.now result }
     {
         LinkHead::read_ordered(bytes, Order::Little)
     }
 
     /// The head in these bytes, its numbers in this order.
     pub fn read_ordered(bytes: &[u8; 16], order: Order) -> Self
-        ensures value { result ≡ link_of order bytes.now }
-        // It has the fields of the bytes.
-        ensures fields { AreFields order (link_fields result) bytes.now }
-        // No other head has.
-        ensures only { (h : LinkHead) → AreFields order (link_fields h) bytes.now → h ≡ result }
+        ensures { IsHeadOf link_of link_fields order bytes.now result }
     {
         LinkHead {
             family: bytes[0],
@@ -87,22 +75,14 @@ impl LinkHead {
 
     /// The bytes of the head, the lowest byte of a number first; the second byte is zero.
     pub fn write(&self) -> [u8; 16]
-        ensures bytes { result ≡ written Order.Little (link_fields self.now) }
-        // They are read as this head again.
-        ensures back { link_of Order.Little result ≡ self.now }
-        // Each number is in the range of its field.
-        ensures ranged { AreRanged (link_fields self.now) }
+        ensures { IsWrittenHead link_of link_fields Order.Little self.now result }
     {
         self.write_ordered(Order::Little)
     }
 
     /// The bytes of the head, its numbers in this order; the second byte is zero.
     pub fn write_ordered(&self, order: Order) -> [u8; 16]
-        ensures bytes { result ≡ written order (link_fields self.now) }
-        // They are read as this head again.
-        ensures back { link_of order result ≡ self.now }
-        // Each number is in the range of its field.
-        ensures ranged { AreRanged (link_fields self.now) }
+        ensures { IsWrittenHead link_of link_fields order self.now result }
     {
         let LinkHead {
             family,
@@ -167,32 +147,32 @@ impl Head for LinkHead {
 impl Link {
     /// The name of the interface, `IFLA_IFNAME`.
     pub fn name(&self) -> Option<&[u8]>
-        ensures { option_copied result ≡ text_view 3 (attrs_view self.now.attrs.items) }
+        ensures { option_copied result ≡ text_view IFLA_IFNAME (attrs_in self.now) }
     {
-        text_of(&self.attrs, INTERFACE_NAME)
+        text_of(&self.attrs, IFLA_IFNAME)
     }
 
     /// The greatest packet in bytes, `IFLA_MTU`, its lowest byte first.
     ///
     /// For a body that was read in the other order, call `mtu_ordered`.
     pub fn mtu(&self) -> Option<u32>
-        ensures { result ≡ number_view Order.Little 4 4 (attrs_view self.now.attrs.items) }
+        ensures { result ≡ number_view Order.Little 4 IFLA_MTU (attrs_in self.now) }
     {
         self.mtu_ordered(Order::Little)
     }
 
     /// The greatest packet in bytes, `IFLA_MTU`, its bytes in this order.
     pub fn mtu_ordered(&self, order: Order) -> Option<u32>
-        ensures { result ≡ number_view order 4 4 (attrs_view self.now.attrs.items) }
+        ensures { result ≡ number_view order 4 IFLA_MTU (attrs_in self.now) }
     {
-        u32_view(&self.attrs, MTU, order)
+        u32_view(&self.attrs, IFLA_MTU, order)
     }
 
     /// The index of the interface that this one is a port of, `IFLA_MASTER`, its lowest byte first.
     ///
     /// For a body that was read in the other order, call `master_ordered`.
     pub fn master(&self) -> Option<u32>
-        ensures { result ≡ number_view Order.Little 4 10 (attrs_view self.now.attrs.items) }
+        ensures { result ≡ number_view Order.Little 4 IFLA_MASTER (attrs_in self.now) }
     {
         self.master_ordered(Order::Little)
     }
@@ -200,23 +180,23 @@ impl Link {
     /// The index of the interface that this one is a port of, `IFLA_MASTER`, its bytes in this
     /// order.
     pub fn master_ordered(&self, order: Order) -> Option<u32>
-        ensures { result ≡ number_view order 4 10 (attrs_view self.now.attrs.items) }
+        ensures { result ≡ number_view order 4 IFLA_MASTER (attrs_in self.now) }
     {
-        u32_view(&self.attrs, MASTER, order)
+        u32_view(&self.attrs, IFLA_MASTER, order)
     }
 
     /// The operational state, `IFLA_OPERSTATE`: a number of RFC 2863.
     pub fn operstate(&self) -> Option<u8>
-        ensures { result ≡ number_view Order.Little 1 16 (attrs_view self.now.attrs.items) }
+        ensures { result ≡ number_view Order.Little 1 IFLA_OPERSTATE (attrs_in self.now) }
     {
-        u8_view(&self.attrs, OPERATIONAL_STATE)
+        u8_view(&self.attrs, IFLA_OPERSTATE)
     }
 
     /// The kind of a virtual interface, as `vlan`: `IFLA_INFO_KIND` in the list of `IFLA_LINKINFO`.
     pub fn kind(&self) -> Option<&[u8]>
         ensures { option_copied result
-            ≡ text_view 1 (items_view 18 (attrs_view self.now.attrs.items)) }
+            ≡ text_view IFLA_INFO_KIND (items_view IFLA_LINKINFO (attrs_in self.now)) }
     {
-        text_of(list_of(&self.attrs, LINK_INFO), INFO_KIND)
+        text_of(list_of(&self.attrs, IFLA_LINKINFO), IFLA_INFO_KIND)
     }
 }

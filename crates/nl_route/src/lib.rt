@@ -19,10 +19,18 @@ mod views;
 mod writing;
 
 pub use family::Family;
-pub use fib_rule_hdr::{Rule, RuleHead};
+pub use fib_rule_hdr::{
+    FRA_DST, FRA_FWMARK, FRA_FWMASK, FRA_GOTO, FRA_IIFNAME, FRA_OIFNAME, FRA_PRIORITY, FRA_SRC,
+    FRA_TABLE, Rule, RuleHead,
+};
 pub use group::{Group, RouteType, Row, Verb};
 pub use head::Head;
-pub use ifaddrmsg::{Addr, AddrHead};
-pub use ifinfomsg::{Link, LinkHead};
-pub use ndmsg::{Neigh, NeighHead};
-pub use rtmsg::{Route, RouteHead};
+pub use ifaddrmsg::{Addr, AddrHead, IFA_ADDRESS, IFA_BROADCAST, IFA_FLAGS, IFA_LABEL, IFA_LOCAL};
+pub use ifinfomsg::{
+    IFLA_IFNAME, IFLA_INFO_KIND, IFLA_MASTER, IFLA_MTU, IFLA_OPERSTATE, Link, LinkHead,
+};
+pub use ndmsg::{NDA_DST, NDA_LLADDR, NDA_PORT, NDA_VLAN, NDA_VNI, Neigh, NeighHead};
+pub use rtmsg::{
+    RTA_DST, RTA_GATEWAY, RTA_IIF, RTA_OIF, RTA_PREFSRC, RTA_PRIORITY, RTA_SRC, RTA_TABLE, Route,
+    RouteHead,
+};

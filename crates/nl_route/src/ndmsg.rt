@@ -2,10 +2,9 @@
 
 ghost use Rattle.std.specs.Prelude.{◌≡◌};
 ghost use Rattle.std.specs.Option.{option_copied};
-ghost use Rattle.nl_attr.specs.View.{attrs_view};
-ghost use Rattle.nl_route.specs.Fields.{AreFields, AreRanged, written};
+ghost use Rattle.nl_route.specs.Fields.{AreRanged, IsHeadOf, IsWrittenHead};
 ghost use Rattle.nl_route.specs.Neigh.{neigh_fields, neigh_of};
-ghost use Rattle.nl_route.specs.Views.{number_view, bytes_view};
+ghost use Rattle.nl_route.specs.Views.{number_view, bytes_view, attrs_in};
 
 use crate::family::Family;
 use crate::group::Group;
@@ -13,16 +12,16 @@ use crate::head::Head;
 use crate::views::{bytes_of, u16_view, u32_view};
 use nl_attr::{Ctx, Order, append_bytes, begins_with_bytes};
 
-/// `NDA_DST`.
-const DESTINATION: u16 = 1;
-/// `NDA_LLADDR`.
-const LINK_LAYER_ADDRESS: u16 = 2;
-/// `NDA_VLAN`.
-const VLAN: u16 = 5;
-/// `NDA_PORT`.
-const PORT: u16 = 6;
-/// `NDA_VNI`.
-const NETWORK_IDENTIFIER: u16 = 7;
+/// A neighbour's network address.
+pub const NDA_DST: u16 = 1;
+/// A neighbour's link-layer address.
+pub const NDA_LLADDR: u16 = 2;
+/// The VLAN of a bridge's entry.
+pub const NDA_VLAN: u16 = 5;
+/// The UDP port of a VXLAN entry.
+pub const NDA_PORT: u16 = 6;
+/// The VXLAN network identifier.
+pub const NDA_VNI: u16 = 7;
 
 /// The head of a neighbour, `ndmsg`: 12 bytes, of which the second to fourth are not kept.
 #[derive(Clone, Copy, Debug, PartialEq, Eq)]
@@ -48,23 +47,14 @@ pub type Neigh = Family<NeighHead>;
 impl NeighHead {
     /// The head in these bytes, the lowest byte of a number first.
     pub fn read(bytes: &[u8; 12]) -> Self
-        ensures value { result ≡ neigh_of Order.Little bytes.now }
-        // It has the fields of the bytes.
-        ensures fields { AreFields Order.Little (neigh_fields result) bytes.now }
-        // No other head has.
-        ensures only { (h : NeighHead)
-            → AreFields Order.Little (neigh_fields h) bytes.now → h ≡ result }
+        ensures { IsHeadOf neigh_of neigh_fields Order.Little bytes.now result }
     {
         NeighHead::read_ordered(bytes, Order::Little)
     }
 
     /// The head in these bytes, its numbers in this order.
     pub fn read_ordered(bytes: &[u8; 12], order: Order) -> Self
-        ensures value { result ≡ neigh_of order bytes.now }
-        // It has the fields of the bytes.
-        ensures fields { AreFields order (neigh_fields result) bytes.now }
-        // No other head has.
-        ensures only { (h : NeighHead) → AreFields order (neigh_fields h) bytes.now → h ≡ result }
+        ensures { IsHeadOf neigh_of neigh_fields order bytes.now result }
     {
         NeighHead {
             family: bytes[0],
@@ -85,22 +75,14 @@ impl NeighHead {
 
     /// The bytes of the head, the lowest byte of a number first; what is not kept is zero.
     pub fn write(&self) -> [u8; 12]
-        ensures bytes { result ≡ written Order.Little (neigh_fields self.now) }
-        // They are read as this head again.
-        ensures back { neigh_of Order.Little result ≡ self.now }
-        // Each number is in the range of its field.
-        ensures ranged { AreRanged (neigh_fields self.now) }
+        ensures { IsWrittenHead neigh_of neigh_fields Order.Little self.now result }
     {
         self.write_ordered(Order::Little)
     }
 
     /// The bytes of the head, its numbers in this order; what is not kept is zero.
     pub fn write_ordered(&self, order: Order) -> [u8; 12]
-        ensures bytes { result ≡ written order (neigh_fields self.now) }
-        // They are read as this head again.
-        ensures back { neigh_of order result ≡ self.now }
-        // Each number is in the range of its field.
-        ensures ranged { AreRanged (neigh_fields self.now) }
+        ensures { IsWrittenHead neigh_of neigh_fields order self.now result }
     {
         let NeighHead {
             family,
@@ -165,56 +147,56 @@ impl Head for NeighHead {
 impl Neigh {
     /// The neighbour's network address, `NDA_DST`.
     pub fn dst(&self) -> Option<&[u8]>
-        ensures { option_copied result ≡ bytes_view 1 (attrs_view self.now.attrs.items) }
+        ensures { option_copied result ≡ bytes_view NDA_DST (attrs_in self.now) }
     {
-        bytes_of(&self.attrs, DESTINATION)
+        bytes_of(&self.attrs, NDA_DST)
     }
 
     /// The neighbour's link-layer address, `NDA_LLADDR`.
     pub fn lladdr(&self) -> Option<&[u8]>
-        ensures { option_copied result ≡ bytes_view 2 (attrs_view self.now.attrs.items) }
+        ensures { option_copied result ≡ bytes_view NDA_LLADDR (attrs_in self.now) }
     {
-        bytes_of(&self.attrs, LINK_LAYER_ADDRESS)
+        bytes_of(&self.attrs, NDA_LLADDR)
     }
 
-    /// The VLAN of a bridge's entry, `NDA_VLAN`, its lowest byte first.
+    /// The NDA_VLAN of a bridge's entry, `NDA_VLAN`, its lowest byte first.
     ///
     /// For a body that was read in the other order, call `vlan_ordered`.
     pub fn vlan(&self) -> Option<u16>
-        ensures { result ≡ number_view Order.Little 2 5 (attrs_view self.now.attrs.items) }
+        ensures { result ≡ number_view Order.Little 2 NDA_VLAN (attrs_in self.now) }
     {
         self.vlan_ordered(Order::Little)
     }
 
-    /// The VLAN of a bridge's entry, `NDA_VLAN`, its bytes in this order.
+    /// The NDA_VLAN of a bridge's entry, `NDA_VLAN`, its bytes in this order.
     pub fn vlan_ordered(&self, order: Order) -> Option<u16>
-        ensures { result ≡ number_view order 2 5 (attrs_view self.now.attrs.items) }
+        ensures { result ≡ number_view order 2 NDA_VLAN (attrs_in self.now) }
     {
-        u16_view(&self.attrs, VLAN, order)
+        u16_view(&self.attrs, NDA_VLAN, order)
     }
 
     /// The VXLAN network identifier, `NDA_VNI`, its lowest byte first.
     ///
     /// For a body that was read in the other order, call `vni_ordered`.
     pub fn vni(&self) -> Option<u32>
-        ensures { result ≡ number_view Order.Little 4 7 (attrs_view self.now.attrs.items) }
+        ensures { result ≡ number_view Order.Little 4 NDA_VNI (attrs_in self.now) }
     {
         self.vni_ordered(Order::Little)
     }
 
     /// The VXLAN network identifier, `NDA_VNI`, its bytes in this order.
     pub fn vni_ordered(&self, order: Order) -> Option<u32>
-        ensures { result ≡ number_view order 4 7 (attrs_view self.now.attrs.items) }
+        ensures { result ≡ number_view order 4 NDA_VNI (attrs_in self.now) }
     {
-        u32_view(&self.attrs, NETWORK_IDENTIFIER, order)
+        u32_view(&self.attrs, NDA_VNI, order)
     }
 
     /// The UDP port of a VXLAN entry, `NDA_PORT`: in network order, whatever the order of other
     /// numbers.
     pub fn port(&self) -> Option<u16>
-        ensures { result ≡ number_view Order.Big 2 6 (attrs_view self.now.attrs.items) }
+        ensures { result ≡ number_view Order.Big 2 NDA_PORT (attrs_in self.now) }
     {
-        u16_view(&self.attrs, PORT, Order::Big)
+        u16_view(&self.attrs, NDA_PORT, Order::Big)
     }
 
     /// The state, the head's `NUD` bits.

@@ -3,36 +3,33 @@
 ghost use Rattle.std.specs.Prelude.{◌≡◌, unwrap_or};
 ghost use Rattle.std.specs.Option.{option_copied};
 ghost use Rattle.nl_attr.specs.View.{attrs_view, hops_view};
-ghost use Rattle.nl_route.specs.Fields.{AreFields, AreRanged, written};
+ghost use Rattle.nl_route.specs.Fields.{AreRanged, IsHeadOf, IsWrittenHead};
 ghost use Rattle.nl_route.specs.Route.{route_fields, route_of};
-ghost use Rattle.nl_route.specs.Views.{number_view, bytes_view, items_view, hop_items_view};
+ghost use Rattle.nl_route.specs.Views.{attrs_in, number_view, bytes_view};
+ghost use Rattle.nl_route.specs.Views.{items_view, hop_items_view};
 
 use crate::family::Family;
 use crate::group::Group;
 use crate::head::Head;
 use crate::views::{bytes_of, hops_of, list_of, u32_view};
-use nl_attr::{Attr, Ctx, Hop, Order, append_bytes, begins_with_bytes};
+use nl_attr::{Attr, Ctx, Hop, Order, RTA_METRICS, RTA_MULTIPATH, append_bytes, begins_with_bytes};
 
-/// `RTA_DST`.
-const DESTINATION: u16 = 1;
-/// `RTA_SRC`.
-const SOURCE: u16 = 2;
-/// `RTA_IIF`.
-const INPUT_INTERFACE: u16 = 3;
-/// `RTA_OIF`.
-const OUTPUT_INTERFACE: u16 = 4;
-/// `RTA_GATEWAY`.
-const GATEWAY: u16 = 5;
-/// `RTA_PRIORITY`.
-const PRIORITY: u16 = 6;
-/// `RTA_PREFSRC`.
-const PREFERRED_SOURCE: u16 = 7;
-/// `RTA_METRICS`.
-const METRICS: u16 = 8;
-/// `RTA_MULTIPATH`.
-const MULTIPATH: u16 = 9;
-/// `RTA_TABLE`.
-const TABLE: u16 = 15;
+/// A route's destination.
+pub const RTA_DST: u16 = 1;
+/// A route's source.
+pub const RTA_SRC: u16 = 2;
+/// The index of the input interface.
+pub const RTA_IIF: u16 = 3;
+/// The index of the output interface.
+pub const RTA_OIF: u16 = 4;
+/// The gateway.
+pub const RTA_GATEWAY: u16 = 5;
+/// The priority of a route.
+pub const RTA_PRIORITY: u16 = 6;
+/// The preferred source address.
+pub const RTA_PREFSRC: u16 = 7;
+/// The routing table, all 32 bits.
+pub const RTA_TABLE: u16 = 15;
 
 /// The head of a route, `rtmsg`: 12 bytes.
 #[derive(Clone, Copy, Debug, PartialEq, Eq)]
@@ -66,23 +63,14 @@ pub type Route = Family<RouteHead>;
 impl RouteHead {
     /// The head in these bytes, the lowest byte of a number first.
     pub fn read(bytes: &[u8; 12]) -> Self
-        ensures value { result ≡ route_of Order.Little bytes.now }
-        // It has the fields of the bytes.
-        ensures fields { AreFields Order.Little (route_fields result) bytes.now }
-        // No other head has.
-        ensures only { (h : RouteHead)
-            → AreFields Order.Little (route_fields h) bytes.now → h ≡ result }
+        ensures { IsHeadOf route_of route_fields Order.Little bytes.now result }
     {
         RouteHead::read_ordered(bytes, Order::Little)
     }
 
     /// The head in these bytes, its numbers in this order.
     pub fn read_ordered(bytes: &[u8; 12], order: Order) -> Self
-        ensures value { result ≡ route_of order bytes.now }
-        // It has the fields of the bytes.
-        ensures fields { AreFields order (route_fields result) bytes.now }
-        // No other head has.
-        ensures only { (h : RouteHead) → AreFields order (route_fields h) bytes.now → h ≡ result }
+        ensures { IsHeadOf route_of route_fields order bytes.now result }
     {
         RouteHead {
             family: bytes[0],
@@ -107,22 +95,14 @@ impl RouteHead {
 
     /// The bytes of the head, the lowest byte of a number first.
     pub fn write(&self) -> [u8; 12]
-        ensures bytes { result ≡ written Order.Little (route_fields self.now) }
-        // They are read as this head again.
-        ensures back { route_of Order.Little result ≡ self.now }
-        // Each number is in the range of its field.
-        ensures ranged { AreRanged (route_fields self.now) }
+        ensures { IsWrittenHead route_of route_fields Order.Little self.now result }
     {
         self.write_ordered(Order::Little)
     }
 
     /// The bytes of the head, its numbers in this order.
     pub fn write_ordered(&self, order: Order) -> [u8; 12]
-        ensures bytes { result ≡ written order (route_fields self.now) }
-        // They are read as this head again.
-        ensures back { route_of order result ≡ self.now }
-        // Each number is in the range of its field.
-        ensures ranged { AreRanged (route_fields self.now) }
+        ensures { IsWrittenHead route_of route_fields order self.now result }
     {
         let RouteHead {
             family,
@@ -195,78 +175,78 @@ impl Head for RouteHead {
 impl Route {
     /// The destination, `RTA_DST`.
     pub fn dst(&self) -> Option<&[u8]>
-        ensures { option_copied result ≡ bytes_view 1 (attrs_view self.now.attrs.items) }
+        ensures { option_copied result ≡ bytes_view RTA_DST (attrs_in self.now) }
     {
-        bytes_of(&self.attrs, DESTINATION)
+        bytes_of(&self.attrs, RTA_DST)
     }
 
     /// The source, `RTA_SRC`.
     pub fn src(&self) -> Option<&[u8]>
-        ensures { option_copied result ≡ bytes_view 2 (attrs_view self.now.attrs.items) }
+        ensures { option_copied result ≡ bytes_view RTA_SRC (attrs_in self.now) }
     {
-        bytes_of(&self.attrs, SOURCE)
+        bytes_of(&self.attrs, RTA_SRC)
     }
 
     /// The gateway, `RTA_GATEWAY`.
     pub fn gateway(&self) -> Option<&[u8]>
-        ensures { option_copied result ≡ bytes_view 5 (attrs_view self.now.attrs.items) }
+        ensures { option_copied result ≡ bytes_view RTA_GATEWAY (attrs_in self.now) }
     {
-        bytes_of(&self.attrs, GATEWAY)
+        bytes_of(&self.attrs, RTA_GATEWAY)
     }
 
     /// The preferred source address, `RTA_PREFSRC`.
     pub fn prefsrc(&self) -> Option<&[u8]>
-        ensures { option_copied result ≡ bytes_view 7 (attrs_view self.now.attrs.items) }
+        ensures { option_copied result ≡ bytes_view RTA_PREFSRC (attrs_in self.now) }
     {
-        bytes_of(&self.attrs, PREFERRED_SOURCE)
+        bytes_of(&self.attrs, RTA_PREFSRC)
     }
 
     /// The index of the output interface, `RTA_OIF`, its lowest byte first.
     ///
     /// For a body that was read in the other order, call `oif_ordered`.
     pub fn oif(&self) -> Option<u32>
-        ensures { result ≡ number_view Order.Little 4 4 (attrs_view self.now.attrs.items) }
+        ensures { result ≡ number_view Order.Little 4 RTA_OIF (attrs_in self.now) }
     {
         self.oif_ordered(Order::Little)
     }
 
     /// The index of the output interface, `RTA_OIF`, its bytes in this order.
     pub fn oif_ordered(&self, order: Order) -> Option<u32>
-        ensures { result ≡ number_view order 4 4 (attrs_view self.now.attrs.items) }
+        ensures { result ≡ number_view order 4 RTA_OIF (attrs_in self.now) }
     {
-        u32_view(&self.attrs, OUTPUT_INTERFACE, order)
+        u32_view(&self.attrs, RTA_OIF, order)
     }
 
     /// The index of the input interface, `RTA_IIF`, its lowest byte first.
     ///
     /// For a body that was read in the other order, call `iif_ordered`.
     pub fn iif(&self) -> Option<u32>
-        ensures { result ≡ number_view Order.Little 4 3 (attrs_view self.now.attrs.items) }
+        ensures { result ≡ number_view Order.Little 4 RTA_IIF (attrs_in self.now) }
     {
         self.iif_ordered(Order::Little)
     }
 
     /// The index of the input interface, `RTA_IIF`, its bytes in this order.
     pub fn iif_ordered(&self, order: Order) -> Option<u32>
-        ensures { result ≡ number_view order 4 3 (attrs_view self.now.attrs.items) }
+        ensures { result ≡ number_view order 4 RTA_IIF (attrs_in self.now) }
     {
-        u32_view(&self.attrs, INPUT_INTERFACE, order)
+        u32_view(&self.attrs, RTA_IIF, order)
     }
 
     /// The priority of the route, `RTA_PRIORITY`, its lowest byte first.
     ///
     /// For a body that was read in the other order, call `priority_ordered`.
     pub fn priority(&self) -> Option<u32>
-        ensures { result ≡ number_view Order.Little 4 6 (attrs_view self.now.attrs.items) }
+        ensures { result ≡ number_view Order.Little 4 RTA_PRIORITY (attrs_in self.now) }
     {
         self.priority_ordered(Order::Little)
     }
 
     /// The priority of the route, `RTA_PRIORITY`, its bytes in this order.
     pub fn priority_ordered(&self, order: Order) -> Option<u32>
-        ensures { result ≡ number_view order 4 6 (attrs_view self.now.attrs.items) }
+        ensures { result ≡ number_view order 4 RTA_PRIORITY (attrs_in self.now) }
     {
-        u32_view(&self.attrs, PRIORITY, order)
+        u32_view(&self.attrs, RTA_PRIORITY, order)
     }
 
     /// The routing table: `RTA_TABLE`, its lowest byte first, or the head's where there is no such
@@ -275,7 +255,7 @@ impl Route {
     /// For a body that was read in the other order, call `table_id_ordered`.
     pub fn table_id(&self) -> u32
         ensures { result ≡ unwrap_or
-            (number_view Order.Little 4 15 (attrs_view self.now.attrs.items)) self.now.head.table }
+            (number_view Order.Little 4 RTA_TABLE (attrs_in self.now)) self.now.head.table }
     {
         self.table_id_ordered(Order::Little)
     }
@@ -284,22 +264,22 @@ impl Route {
     /// such number.
     pub fn table_id_ordered(&self, order: Order) -> u32
         ensures { result ≡ unwrap_or
-            (number_view order 4 15 (attrs_view self.now.attrs.items)) self.now.head.table }
+            (number_view order 4 RTA_TABLE (attrs_in self.now)) self.now.head.table }
     {
-        u32_view(&self.attrs, TABLE, order).unwrap_or(u32::from(self.head.table))
+        u32_view(&self.attrs, RTA_TABLE, order).unwrap_or(u32::from(self.head.table))
     }
 
     /// The metrics: the list of `RTA_METRICS`, empty where there is none.
     pub fn metrics(&self) -> &[Attr]
-        ensures { attrs_view result.now ≡ items_view 8 (attrs_view self.now.attrs.items) }
+        ensures { attrs_view result.now ≡ items_view RTA_METRICS (attrs_in self.now) }
     {
-        list_of(&self.attrs, METRICS)
+        list_of(&self.attrs, RTA_METRICS)
     }
 
     /// The next hops of `RTA_MULTIPATH`, empty where there are none.
     pub fn hops(&self) -> &[Hop]
-        ensures { hops_view result.now ≡ hop_items_view 9 (attrs_view self.now.attrs.items) }
+        ensures { hops_view result.now ≡ hop_items_view RTA_MULTIPATH (attrs_in self.now) }
     {
-        hops_of(&self.attrs, MULTIPATH)
+        hops_of(&self.attrs, RTA_MULTIPATH)
     }
 }

@@ -9,9 +9,9 @@ abbrev pub or_zero : Option ℕ → ℕ
 or_zero n = unwrap_or n 0
 
 module _ (o : Order) where
-  -- the table of a route or a rule: RTA_TABLE or FRA_TABLE (both 15), or that of the head where it is absent
-  abbrev pub table_id : ℕ → Items → ℕ
-  table_id of_head is = unwrap_or (number_view o 4 15 is) of_head
+  -- the table of a route or a rule: that of an attribute, or that of the head where it is absent
+  abbrev pub table_id : ℕ → ℕ → Items → ℕ
+  table_id n of_head is = unwrap_or (number_view o 4 n is) of_head
 
   -- the number in the four bytes of an attribute, 0 where there is none
   abbrev pub number_at : ℕ → Items → ℕ

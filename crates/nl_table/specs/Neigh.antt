@@ -3,17 +3,22 @@ use Rattle.std.specs.Prelude.{◌==◌, if◌then◌else◌, List, [], ◌∷◌
 use Rattle.std.specs.Int.{w32, cast_unsigned}
 use Rattle.nl_attr.specs.declared.order.Order.{Order}
 use Rattle.nl_attr.specs.Tree.{Items}
+use Rattle.nl_route.specs.declared.ndmsg.TheConstants.{NDA_DST, NDA_LLADDR, NDA_VLAN, NDA_VNI}
 use Rattle.nl_route.specs.declared.ndmsg.NeighHead.{NeighHead}
 use Rattle.nl_route.specs.Views.{number_view, bytes_view}
+use Rattle.nl_table.specs.declared.families.neigh.TheConstants.{AF_BRIDGE, IDENTIFYING_FLAGS}
 use Rattle.nl_table.specs.Keys.{KeyField, byte, number, bytes}
 use Rattle.nl_table.specs.Attributes.{or_zero, number_at}
 
 module _ (o : Order) where
-  -- a neighbour of the family AF_BRIDGE (7), beside what all have: NDA_LLADDR (2), NDA_VLAN (5), NDA_VNI (7)
+  -- a neighbour of the family AF_BRIDGE, beside what all have: NDA_LLADDR, NDA_VLAN, NDA_VNI
   abbrev pub bridge_key_fields : NeighHead → Items → List KeyField
   bridge_key_fields h is =
-      if h.family == 7 then bytes (bytes_view 2 is) ∷ number 2 (or_zero (number_view o 2 5 is)) ∷ number 4 (number_at o 7 is) ∷ [] else []
+      if h.family == AF_BRIDGE
+      then bytes (bytes_view NDA_LLADDR is) ∷ number 2 (or_zero (number_view o 2 NDA_VLAN is)) ∷ number 4 (number_at o NDA_VNI is) ∷ []
+      else []
 
-  -- a neighbour: ndm_family, ndm_ifindex, of its flags NTF_SELF, NTF_MASTER and NTF_PROXY (2, 4, 8), NDA_DST (1)
+  -- a neighbour: ndm_family, ndm_ifindex, of its flags NTF_SELF, NTF_MASTER and NTF_PROXY, NDA_DST
   abbrev pub neigh_key_fields : NeighHead → Items → List KeyField
-  neigh_key_fields h is = byte h.family ∷ number 4 (cast_unsigned w32 h.ifindex) ∷ byte (bit_and h.flags 14) ∷ bytes (bytes_view 1 is) ∷ bridge_key_fields h is
+  neigh_key_fields h is =
+      byte h.family ∷ number 4 (cast_unsigned w32 h.ifindex) ∷ byte (bit_and h.flags IDENTIFYING_FLAGS) ∷ bytes (bytes_view NDA_DST is) ∷ bridge_key_fields h is

@@ -1,5 +1,5 @@
 -- What a call answers that writes, from what was measured before.
-use Rattle.std.proofs.Common.{◌≡◌, ◌+◌, ◌<◌, ◌++◌, ℕ, List, Bool, true, false, Option, Some, None, Result, Ok, Err, refl, ap, subst}
+use Rattle.std.proofs.Common.{◌≡◌, ◌+◌, ◌<◌, ◌++◌, ℕ, List, Bool, true, false, Option, Some, None, Result, Ok, Err, refl}
 use Rattle.std.specs.Prelude.{◌↔◌, IsTrue, IfSome, vec_len, vec_capacity}
 use Rattle.std.specs.Global.{Vec}
 use Rattle.nl_attr.specs.declared.fault.WriteError.{WriteError}

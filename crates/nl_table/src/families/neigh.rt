@@ -7,10 +7,10 @@ use nl_route::Neigh;
 use std::alloc::{AllocError, Global};
 
 /// The family of the entries of a bridge's forwarding table: `AF_BRIDGE` of linux/socket.h.
-const BRIDGE: u8 = 7;
+pub(crate) const AF_BRIDGE: u8 = 7;
 
-/// The flags that tell neighbours apart: `NTF_SELF`, `NTF_MASTER` and `NTF_PROXY`.
-const TELLING_FLAGS: u8 = 0x0e;
+/// The flags that are part of a key: `NTF_SELF`, `NTF_MASTER` and `NTF_PROXY`.
+pub(crate) const IDENTIFYING_FLAGS: u8 = 0x0e;
 
 impl Entry for Neigh {
     ghost use Rattle.nl_route.specs.declared.group.Group.TheVariants as group;
@@ -26,9 +26,9 @@ impl Entry for Neigh {
     fn key_ordered(&self, alloc: Global, order: Order) -> Result<Vec<u8>, AllocError> {
         let family = Part::Byte(self.head.family);
         let interface = interface(&self.head.ifindex);
-        let flags = Part::Byte(self.head.flags & TELLING_FLAGS);
+        let flags = Part::Byte(self.head.flags & IDENTIFYING_FLAGS);
         let address = Part::Bytes(self.dst());
-        if self.head.family != BRIDGE {
+        if self.head.family != AF_BRIDGE {
             return key_of_parts(alloc, &[family, interface, flags, address]);
         }
         key_of_parts(

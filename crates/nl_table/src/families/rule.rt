@@ -2,24 +2,17 @@
 
 ghost use Rattle.std.specs.Prelude.{◌≡◌};
 ghost use Rattle.std.specs.Option.{option_copied};
-ghost use Rattle.nl_attr.specs.View.{attrs_view};
-ghost use Rattle.nl_route.specs.Views.{bytes_view};
+ghost use Rattle.nl_route.specs.Views.{attrs_in, bytes_view};
 
 use crate::entry::Entry;
 use crate::key::{Part, key_of_parts};
 use nl_attr::{Order, find};
-use nl_route::Rule;
+use nl_route::{FRA_IIFNAME, FRA_OIFNAME, Rule};
 use std::alloc::{AllocError, Global};
-
-/// `FRA_IIFNAME`.
-const INPUT_INTERFACE: u16 = 3;
-
-/// `FRA_OIFNAME`.
-const OUTPUT_INTERFACE: u16 = 17;
 
 /// All bytes of the first attribute of a number.
 fn bytes_of(rule: &Rule, number: u16) -> Option<&[u8]>
-    ensures { option_copied result ≡ bytes_view number (attrs_view rule.now.attrs.items) }
+    ensures { option_copied result ≡ bytes_view number (attrs_in rule.now) }
 {
     find(&rule.attrs, number)?.bytes()
 }
@@ -52,8 +45,8 @@ impl Entry for Rule {
                 Part::Four(self.target_ordered(order).unwrap_or(0)),
                 Part::Four(self.fwmark_ordered(order).unwrap_or(0)),
                 Part::Four(self.fwmask_ordered(order).unwrap_or(0)),
-                Part::Bytes(bytes_of(self, INPUT_INTERFACE)),
-                Part::Bytes(bytes_of(self, OUTPUT_INTERFACE)),
+                Part::Bytes(bytes_of(self, FRA_IIFNAME)),
+                Part::Bytes(bytes_of(self, FRA_OIFNAME)),
             ],
         )
     }

@@ -1,17 +1,7 @@
-use Rattle.std.proofs.Common.{rules, sym, subst, ◌∙◌}
-use Rattle.nl_route.specs.declared.ifaddrmsg.AddrHead.{AddrHead}
-use Rattle.nl_route.specs.Fields.{AreFields}
-use Rattle.nl_route.specs.Addr.{addr_fields}
-use Rattle.nl_route.proofs.Known.{fields_of_read, read_of_fields}
+use Rattle.std.proofs.Common.{rules}
+use Rattle.nl_route.proofs.Known.{head_read}
 use Rattle.nl_route.proofs.Addr.{addr_known}
 use Rattle.nl_route.proofs.ifaddrmsg.AddrHead.read_ordered.Goals as goal
 
-pub returns-clause-value : goal.returns-clause-value
-returns-clause-value c = search rules
-
-pub returns-clause-fields : goal.returns-clause-fields
-returns-clause-fields c =
-    subst (λ (v : AddrHead). AreFields c.args.order (addr_fields v) c.args.bytes.now) (sym (returns-clause-value c)) (fields_of_read addr_known c.args.order c.args.bytes.now c.fits-bytes c.outcome-bytes)
-
-pub returns-clause-only : goal.returns-clause-only
-returns-clause-only c = λ h are. read_of_fields addr_known c.args.order h c.args.bytes.now are ∙ sym (returns-clause-value c)
+pub returns : goal.returns
+returns c = head_read addr_known c.args.order c.args.bytes.now _ c.fits-bytes c.told-bytes (search rules)

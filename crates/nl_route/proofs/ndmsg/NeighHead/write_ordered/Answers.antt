@@ -1,14 +1,7 @@
-use Rattle.std.proofs.Common.{rules, ap, ◌∙◌}
-use Rattle.nl_route.specs.Neigh.{neigh_fields, neigh_of}
-use Rattle.nl_route.proofs.Fields.{DoFit}
-use Rattle.nl_route.proofs.Known.{read_of_written}
+use Rattle.std.proofs.Common.{rules}
+use Rattle.nl_route.proofs.Known.{head_written}
 use Rattle.nl_route.proofs.Neigh.{neigh_known}
 use Rattle.nl_route.proofs.ndmsg.NeighHead.write_ordered.Goals as goal
 
-pub returns-clause-bytes : goal.returns-clause-bytes
-returns-clause-bytes c = search rules
-
-pub returns-clause-back : goal.returns-clause-back
-returns-clause-back c =
-    let fit : DoFit (neigh_fields c.args.self.now) = search rules in
-    ap (neigh_of c.args.order) (returns-clause-bytes c) ∙ read_of_written neigh_known c.args.order c.args.self.now fit
+pub returns : goal.returns
+returns c = head_written neigh_known c.args.order c.args.self.now _ (search rules) (search rules) (search rules)

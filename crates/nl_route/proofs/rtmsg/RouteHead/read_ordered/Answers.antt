@@ -1,21 +1,11 @@
-use Rattle.std.proofs.Common.{◌≡◌, drop, arith, sym, subst, ◌∙◌}
+use Rattle.std.proofs.Common.{◌≡◌, drop, arith}
 use Rattle.std.proofs.lemmas.Grind.{common_steps}
 use Rattle.nl_attr.specs.Numbers.{number_of}
-use Rattle.nl_route.specs.declared.rtmsg.RouteHead.{RouteHead}
-use Rattle.nl_route.specs.Fields.{AreFields}
-use Rattle.nl_route.specs.Route.{route_fields}
-use Rattle.nl_route.proofs.Known.{fields_of_read, read_of_fields}
+use Rattle.nl_route.proofs.Known.{head_read}
 use Rattle.nl_route.proofs.Route.{route_known}
 use Rattle.nl_route.proofs.rtmsg.RouteHead.read_ordered.Goals as goal
 
-pub returns-clause-value : goal.returns-clause-value
-returns-clause-value c =
+pub returns : goal.returns
+returns c =
     let flags : c.read_u32.result ≡ number_of c.args.order 4 (drop 8 c.args.bytes.now) = grind (arith, common_steps) in
-    rw flags
-
-pub returns-clause-fields : goal.returns-clause-fields
-returns-clause-fields c =
-    subst (λ (v : RouteHead). AreFields c.args.order (route_fields v) c.args.bytes.now) (sym (returns-clause-value c)) (fields_of_read route_known c.args.order c.args.bytes.now c.fits-bytes c.outcome-bytes)
-
-pub returns-clause-only : goal.returns-clause-only
-returns-clause-only c = λ h are. read_of_fields route_known c.args.order h c.args.bytes.now are ∙ sym (returns-clause-value c)
+    head_read route_known c.args.order c.args.bytes.now _ c.fits-bytes c.told-bytes (rw flags)
