@@ -1,7 +1,7 @@
 //! What reading and writing refuse, and what they answer beside their results.
 
-ghost use Rattle.std.specs.Prelude.{◌≡◌, IsOkAnd, MatchResult, Err};
-ghost use Rattle.std.specs.Result.{ForOk};
+ghost use Rattle.std.specs.Prelude.{◌≡◌, IsOkAnd, IsErrAnd, MatchResult, Ok, Err};
+ghost use Rattle.std.specs.Result.{ForErr, ForOk};
 
 use std::alloc::{AllocError, AllocFailed};
 use thiserror::Error;
@@ -194,6 +194,20 @@ impl<T, E> Tally<T, E> {
         let Tally { result, visits } = self;
         Tally {
             result: result.map(make),
+            visits,
+        }
+    }
+
+    /// The refusal made into another one, with the same visits. What was read stays as it is.
+    pub fn map_err<O, F: FnOnce(E) -> O>(self, make: F) -> Tally<T, O>
+        requires { ForErr self.result (F.pre make) }
+        ensures cases { MatchResult self.result (λ x. result.result ≡ Ok x)
+            (λ e. IsErrAnd result.result (F.post make e)) }
+        ensures visits { result.visits ≡ self.visits }
+    {
+        let Tally { visits, result } = self;
+        Tally {
+            result: result.map_err(make),
             visits,
         }
     }

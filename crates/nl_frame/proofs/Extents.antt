@@ -1,5 +1,5 @@
 -- What is measured of messages, one after the other.
-use Rattle.std.proofs.Common.{◌≡◌, ℕ, ◌+◌, ◌≤◌, Bool, true, false, cond, ltb, ◌||◌, List, [], ◌∷◌, Option, Some, None, refl, subst, arith, inl, inr}
+use Rattle.std.proofs.Common.{◌≡◌, ℕ, ◌+◌, ◌≤◌, Bool, true, false, cond, ltb, ◌||◌, List, [], ◌∷◌, Option, Some, None, IfSome, refl, subst, arith, inl, inr}
 use Rattle.std.proofs.lemmas.Bool.{ltb-true, ltb-false}
 use Rattle.std.specs.Prelude.{◌⊎◌, ◌↔◌, IsTrue}
 use Rattle.nl_attr.specs.declared.measuring.Extent.{Extent}
@@ -74,3 +74,15 @@ all_len whole (Some n) p = (omega (arith, p.0), p.1, p.2, p.4 tt)
 
 pub whole_len : (D : ℕ) (whole : List MessageVal) (all : Extent) → IsMeasuring D whole [] all → IsLen whole all.len
 whole_len D whole all h = all_len whole all.len h.part
+
+-- there is no length exactly where something is too long
+len_is_long : (ms : List MessageVal) (o : Option ℕ) → IsLen ms o → (o ≡ None) ↔ IsLong ms
+len_is_long ms None l = (λ e. l, λ long. refl)
+len_is_long ms (Some n) l = (λ e. absurd (cc), λ long. absurd (short long)) where
+  short : IsLong ms → ⊥
+  short (inl above) = omega (arith, above, l.0, l.1)
+  short (inr long) = l.2 long
+
+pub lens_are_long : (ms : List MessageVal) (o : Option Extent) → IfSome o (λ e. IsLen ms e.len) → IfSome o (λ e. (e.len ≡ None) ↔ IsLong ms)
+lens_are_long ms None l = tt
+lens_are_long ms (Some e) l = len_is_long ms e.len l

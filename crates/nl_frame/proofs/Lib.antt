@@ -20,6 +20,7 @@ pub mod Steps
 pub mod Sums
 pub mod Tapes
 pub mod Outcomes
+mod Datagrams
 pub mod Towards
 pub mod Trails
 pub mod Within

@@ -40,9 +40,9 @@ module _ (S : Shape) (place : ℕ) (left : List ℕ) (f : Frame) (some : left �
       ap (λ (x : List MessageVal × ℕ × List ℕ). resumed x.0 (n + v) (messages_of S (place + x.1) x.2)) (all new is.span is.rest)
       ∙ goes_on S place left ms n whole so_far m v some is.sound (sym frame_message ∙ read)
 
-  pub fails_told : {X Y : Type 0} (view : X → MessageVal) (views : Y → List MessageVal) (e : ListError) (v : ℕ) → IsOutcome view (Err e) v (map_value (message_of f.header) (body_at S f.form (place + 16) f.payload.now)) → IsOutcome views (Err e) (n + v) whole
-  fails_told view views (Layout d) v read = body_fails S place left ms n whole so_far d v some is.sound (sym frame_message ∙ read)
-  fails_told view views Memory v read = tt
+  pub fails_outcome : {X Y : Type 0} (view : X → MessageVal) (views : Y → List MessageVal) (e : ListError) (v : ℕ) → IsOutcome view (Err e) v (map_value (message_of f.header) (body_at S f.form (place + 16) f.payload.now)) → IsOutcome views (Err e) (n + v) whole
+  fails_outcome view views (Layout d) v read = body_fails S place left ms n whole so_far d v some is.sound (sym frame_message ∙ read)
+  fails_outcome view views Memory v read = tt
 
 -- the state between two messages: what is left to read gives the whole, and the visits have their bound
 pub record IsReading (S : Shape) (d : List ℕ) (ms : List MessageVal) (n place : ℕ) (left : List ℕ) : Type 0 where

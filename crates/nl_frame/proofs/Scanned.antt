@@ -1,9 +1,11 @@
--- What a scan that keeps nothing tells of a datagram, in the words of the layout.
-use Rattle.std.proofs.Common.{◌≡◌, ◌<◌, ◌↔◌, ℕ, List, length, Option, Some, None, Result, Ok, Err, IfOk, IfErr, refl, sym, ap, subst, ◌∙◌, arith}
+-- What the answer of a scan says in the words of the layout.
+use Rattle.std.proofs.Common.{◌≡◌, ◌<◌, ◌≤◌, ◌+◌, ◌*◌, ◌↔◌, ℕ, List, length, Option, Some, None, Result, Ok, Err, IfOk, IfErr, refl, sym, ap, subst, ◌∙◌, arith}
+use Rattle.std.specs.Prelude.{IsOkAnd, MatchResult}
 use Rattle.std.proofs.lemmas.List.{length-map}
 use Rattle.nl_attr.specs.declared.events.Event.{Event}
 use Rattle.nl_attr.specs.declared.fault.Fault.{Fault}
 use Rattle.nl_attr.specs.declared.fault.Reason.{Reason}
+use Rattle.nl_attr.specs.declared.fault.Tally.{Tally}
 use Rattle.nl_attr.specs.declared.taping.Taped.{Taped}
 use Rattle.nl_attr.specs.Shape.{Shape}
 use Rattle.nl_attr.specs.Numbers.{AreBytes}
@@ -16,6 +18,8 @@ use Rattle.nl_frame.specs.declared.scanning.ScanError.{ScanError}
 use Rattle.nl_frame.specs.declared.scanning.ScanError.TheVariants.{TooLarge, Layout as Fails}
 use Rattle.nl_frame.specs.Heads.{IsFirstFault, Visits, whole}
 use Rattle.nl_frame.specs.Layout.{Layout}
+use Rattle.nl_frame.specs.Limits.{Bounds}
+use Rattle.nl_frame.specs.Scans.{ScansDatagram}
 use Rattle.nl_frame.specs.Message.{MessageVal}
 use Rattle.nl_frame.specs.Reading.{messages_of}
 use Rattle.nl_frame.specs.Taped.{IsTaped, Ends, HasEnd, as_read}
@@ -39,7 +43,7 @@ counts (Ok k) (Some g) n m e i = absurd i
 counts (Err x) f n m e i = tt
 
 module _ (S : Shape) (d : List ℕ) where
-  -- an answer of what was told of the heads ends as a reading does
+  -- an answer of the events of the heads ends as a reading does
   pub says_so : (old new : List Event) (t : Taped) (r : Result ℕ ScanError) → IsTaped S (trail_of S (whole d)) 0 old new t → Ends t.count t.fault r → HasEnd r t.visits (messages_of S 0 d)
   says_so old new t r is ends = says S r t.visits t.count (visits_of S (trail_of S (whole d)).0) (trail_of S (whole d)).1 (messages_of S 0 d) (reads S d) (subst (λ f. Ends t.count f r) is.fault ends) is.visits
 
@@ -83,9 +87,74 @@ module _ (S : Shape) (d : List ℕ) where
       split (Ok is, n) e w = not_err f n v w
       split (Err g, n) e w = subst (λ (x : Fault). Visits S (whole d) x.place v) (same_fault g f n v w) (subst (Visits S (whole d) g.place) (same_sum (Err g, n) (Err f, v) w) (err_visits S d g n e))
 
-  -- it isn't refused for its size
-  not_large : (r : Result ℕ ScanError) (v : ℕ) → HasEnd r v (messages_of S 0 d) → r ≡ Err TooLarge → ⊥
-  not_large r v w e = subst (λ (x : Result ℕ ScanError). HasEnd x v (messages_of S 0 d)) e w
+    -- it isn't refused for its size
+    not_large : (r : Result X ScanError) (v : ℕ) → HasEnd r v (messages_of S 0 d) → r ≡ Err TooLarge → ⊥
+    not_large r v w e = subst (λ (x : Result X ScanError). HasEnd x v (messages_of S 0 d)) e w
 
-  pub large_of : (r : Result ℕ ScanError) (v n : ℕ) → HasEnd r v (messages_of S 0 d) → (n < length d → ⊥) → r ≡ Err TooLarge ↔ n < length d
-  large_of r v n w f = (λ e. absurd (not_large r v w e), λ h. absurd (f h))
+    pub large_of : (r : Result X ScanError) (v n : ℕ) → HasEnd r v (messages_of S 0 d) → (n < length d → ⊥) → r ≡ Err TooLarge ↔ n < length d
+    large_of r v n w f = (λ e. absurd (not_large r v w e), λ h. absurd (f h))
+
+module _ (b : Bounds) (d : List ℕ) where
+  -- what a scan answers of a datagram within the limit that ends as a reading does
+  pub scans : {X : Type 0} (t : Tally X ScanError) → AreBytes d → (b.datagram < length d → ⊥) → HasEnd t.result t.visits (messages_of b.shape 0 d) → t.visits ≤ (b.shape.depth + 1) * length d → ScansDatagram b d t
+  scans t fits small e bound = record {
+    large = large_of b.shape d t.result t.visits b.datagram e small;
+    outcome = λ _. e;
+    fits = fits_of b.shape d t.result t.visits fits e;
+    first = first_of b.shape d t.result t.visits e;
+    none = none_of b.shape d t.result t.visits e;
+    visits = visits_of_scan b.shape d t.result t.visits e;
+    bound = bound;
+  }
+
+  -- and one that is too large
+  pub scans_none : {X : Type 0} → b.datagram < length d → ScansDatagram {X = X} b d (record { result = Err TooLarge; visits = 0 })
+  scans_none large = record {
+    large = (λ _. large, λ _. refl);
+    outcome = λ small. absurd (omega (arith, large, small));
+    fits = tt;
+    first = tt;
+    none = tt;
+    visits = refl;
+    bound = omega arith;
+  }
+
+  -- the same answer without its value
+  pub scans_alike : {X Y : Type 0} (Is : X → Y → Type 0) (x : Result X ScanError) (y : Result Y ScanError) (v w : ℕ) → MatchResult x (λ a. IsOkAnd y (Is a)) (λ e. y ≡ Err e) → w ≡ v
+      → ScansDatagram b d (record { result = x; visits = v }) → ScansDatagram b d (record { result = y; visits = w })
+  scans_alike {X = X} {Y = Y} Is (Ok a) (Ok c) v w m e s = record {
+    large = (λ f. absurd (cc), λ h. absurd (let f : ◌≡◌ {A = Result X ScanError} (Ok a) (Err TooLarge) = s.large.1 h in cc));
+    outcome = λ small. subst (λ n. HasEnd {X = Y} (Ok c) n (messages_of b.shape 0 d)) (sym e) (s.outcome small);
+    fits = s.fits;
+    first = tt;
+    none = tt;
+    visits = subst (VisitsUpTo {X = Y} b.shape d (Ok c)) (sym e) s.visits;
+    bound = omega (arith, e, s.bound);
+  }
+  scans_alike Is (Ok a) (Err f) v w m e s = absurd m
+  scans_alike {X = X} {Y = Y} Is (Err f) y v w m e s = subst (λ (r : Result Y ScanError). ScansDatagram b d (record { result = r; visits = w })) (sym m) (refused f s) where
+    same : {A B : Type 0} {g h : ScanError} → ◌≡◌ {A = Result A ScanError} (Err g) (Err h) → ◌≡◌ {A = Result B ScanError} (Err g) (Err h)
+    same {A = A} {B = B} {g = g} {h = h} i =
+        let j : g ≡ h = cc in
+        let refuse : ScanError → Result B ScanError = λ x. Err x in
+        ap refuse j
+
+    refused : (f : ScanError) → ScansDatagram {X = X} b d (record { result = Err f; visits = v }) → ScansDatagram {X = Y} b d (record { result = Err f; visits = w })
+    refused TooLarge s = record {
+      large = (λ i. s.large.0 (same i), λ h. same (s.large.1 h));
+      outcome = λ small. absurd (s.outcome small);
+      fits = tt;
+      first = tt;
+      none = tt;
+      visits = e ∙ s.visits;
+      bound = omega (arith, e, s.bound);
+    }
+    refused (Fails g) s = record {
+      large = (λ i. s.large.0 (same i), λ h. same (s.large.1 h));
+      outcome = λ small. subst (λ n. HasEnd {X = Y} (Err (Fails g)) n (messages_of b.shape 0 d)) (sym e) (s.outcome small);
+      fits = tt;
+      first = s.first;
+      none = s.none;
+      visits = subst (Visits b.shape (whole d) g.place) (sym e) s.visits;
+      bound = omega (arith, e, s.bound);
+    }

@@ -117,7 +117,7 @@ module _ {S : Shape} {d : List ℕ} {old : List Event} {count visits place : ℕ
     unfolding found
     found_length = omega (arith, now.counted, length-append now.hs (header rest ∷ []))
 
-    -- the buffer, once the header was told of
+    -- the buffer, once the event of the header stands in it
     put_is : slice_set out count outcome ≡ put_from 0 (map (event_of S.order) found) old
     unfolding found
     put_is =

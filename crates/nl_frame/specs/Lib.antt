@@ -18,6 +18,7 @@ pub mod Broken
 pub mod Towards
 pub mod Trail
 pub mod Taped
+pub mod Scans
 pub mod Listed
 pub use Rattle.nl_attr.specs.Numbers
 pub use Rattle.nl_attr.specs.Shape

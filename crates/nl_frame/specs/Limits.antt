@@ -1,5 +1,6 @@
 -- The limits of reading.
 use Rattle.std.specs.Prelude.{◌≡◌, ◌≤◌, ◌%◌, ◌^◌, ℕ}
+use Rattle.nl_attr.specs.declared.limits.TheConstants.{MOST_LEVELS, LONGEST_REGION}
 use Rattle.nl_attr.specs.declared.order.Order.{Order}
 use Rattle.nl_attr.specs.Shape.{Shape, shape_of}
 
@@ -15,4 +16,4 @@ bounds_of order depth datagram total entries = record { shape = shape_of order d
 
 -- each is in its range
 abbrev pub AreLimits : Bounds → Type 0
-AreLimits b = (b.shape.depth ≤ 32) × (b.datagram % 4 ≡ 0) × (16 ≤ b.datagram) × (b.datagram ≤ 1048576) × (b.total ≤ 2 ^ 40) × (b.entries ≤ 65536)
+AreLimits b = (b.shape.depth ≤ MOST_LEVELS) × (b.datagram % 4 ≡ 0) × (16 ≤ b.datagram) × (b.datagram ≤ LONGEST_REGION) × (b.total ≤ 2 ^ 40) × (b.entries ≤ 65536)

@@ -1,4 +1,4 @@
--- The events of messages: what a scan of the datagram whose layout they are tells of each head, in their order.
+-- The events of messages: those of a scan of the datagram whose layout they are, in the order of its heads.
 use Rattle.std.specs.Prelude.{◌+◌, ℕ, List, [], ◌∷◌, ◌++◌}
 use Rattle.nl_attr.specs.declared.events.Event.{Event}
 use Rattle.nl_attr.specs.Numbers.{aligned}

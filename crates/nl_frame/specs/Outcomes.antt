@@ -1,6 +1,10 @@
--- What reading and writing a datagram tell.
+-- What a call answers that reads a datagram, and the numbers of refusals.
 use Rattle.std.specs.Prelude.{◌≡◌, ℕ, List, length, Result, Ok, Err}
 use Rattle.nl_attr.specs.declared.fault.Fault.{Fault}
+use Rattle.nl_attr.specs.declared.fault.ListError.{ListError}
+use Rattle.nl_attr.specs.declared.fault.ListError.TheVariants as unlisted
+use Rattle.nl_attr.specs.declared.fault.WriteError.{WriteError as FirstRefusal}
+use Rattle.nl_attr.specs.declared.fault.WriteError.TheVariants as first
 use Rattle.nl_attr.specs.Shape.{Shape}
 use Rattle.nl_attr.specs.Codes.{fault_code}
 use Rattle.nl_frame.specs.declared.reading.ReadError.{ReadError}
@@ -22,11 +26,23 @@ VisitsUpTo S d (Err TooLarge) v = v ≡ 0
 VisitsUpTo S d (Err (Layout f)) v = Visits S (whole d) f.place v
 VisitsUpTo S d (Err Memory) v = Unit {0}
 
+-- a refusal of attributes, as one of a datagram
+abbrev pub read_error : ListError → ReadError
+read_error (unlisted.Layout f) = Layout f
+read_error unlisted.Memory = Memory
+
 -- the numbers of the refusals
 abbrev pub read_code : ReadError → ℕ
 read_code (Layout f) = fault_code f
 read_code TooLarge = 6
 read_code Memory = 13
+
+-- a refusal of attributes, as one of messages
+abbrev pub write_error : FirstRefusal → WriteError
+write_error first.Mismatch = unwritten.Mismatch
+write_error first.TooDeep = unwritten.TooDeep
+write_error first.TooLong = unwritten.TooLong
+write_error first.Memory = unwritten.Memory
 
 abbrev pub write_code : WriteError → ℕ
 write_code unwritten.Mismatch = 11

@@ -1,11 +1,17 @@
 -- Which messages can be written, and why others can't.
 use Rattle.std.specs.Prelude.{◌≢◌, ◌<◌, ◌≤◌, ◌^◌, ◌⊎◌, ℕ, List, [], ◌∷◌, length, Some, None, FitsSigned}
 use Rattle.std.specs.Int.{w32}
+use Rattle.nl_attr.specs.declared.limits.TheConstants.{LONGEST_REGION}
+use Rattle.nl_attr.specs.declared.fault.WriteError.{WriteError as FirstRefusal}
+use Rattle.nl_attr.specs.declared.fault.WriteError.TheVariants as first
 use Rattle.nl_attr.specs.Proper as attrs
 use Rattle.nl_route.specs.Fields.{AreRanged}
 use Rattle.nl_route.specs.Families.{context_of, group_of, fields_of}
 use Rattle.nl_frame.specs.declared.form.Form.{Form}
 use Rattle.nl_frame.specs.declared.form.Form.TheVariants as form
+use Rattle.nl_frame.specs.declared.writing.WriteError.{WriteError}
+use Rattle.nl_frame.specs.declared.writing.WriteError.TheVariants.{Mismatch, TooDeep, TooLong, TooLarge, Memory}
+use Rattle.nl_frame.specs.Limits.{Bounds}
 use Rattle.nl_frame.specs.Header.{header_fields}
 use Rattle.nl_frame.specs.Form.{form_of}
 use Rattle.nl_frame.specs.Message.{BodyVal, noop, error, done, overrun, family, get, other, MessageVal}
@@ -57,7 +63,19 @@ HasLong (m ∷ ms) = IsLongBody m.body ⊎ HasLong ms
 
 -- the datagram, or something in it, is too long
 abbrev pub IsLong : List MessageVal → Type 0
-IsLong ms = (1048576 < written_len ms) ⊎ HasLong ms
+IsLong ms = (LONGEST_REGION < written_len ms) ⊎ HasLong ms
+
+-- messages that are mismatched, too deep or too long are not written, and the first of these counts
+abbrev pub refusal : List MessageVal → ℕ → FirstRefusal → Type 0
+refusal ms D = attrs.Refusal (IsMismatched ms) (IsDeep ms D) (IsLong ms)
+
+-- why messages are not written; memory where nothing else is the reason
+abbrev pub IsRefused : List MessageVal → Bounds → WriteError → Type 0
+IsRefused ms b Mismatch = refusal ms b.shape.depth first.Mismatch
+IsRefused ms b TooDeep = refusal ms b.shape.depth first.TooDeep
+IsRefused ms b TooLong = refusal ms b.shape.depth first.TooLong
+IsRefused ms b TooLarge = refusal ms b.shape.depth first.Memory × (b.datagram < written_len ms)
+IsRefused ms b Memory = refusal ms b.shape.depth first.Memory × (written_len ms ≤ b.datagram)
 
 -- messages that can be written where containers may open D levels
 pub record IsProper (ms : List MessageVal) (D : ℕ) : Type 0 where

@@ -1,4 +1,4 @@
--- What a scan of a datagram tells, head by head and at its end.
+-- What a scan of a datagram puts and counts, head by head and at its end.
 use Rattle.std.specs.Prelude.{◌≡◌, ◌+◌, ℕ, List, length, map, slice_set, Option, Some, None, Result, Ok, Err}
 use Rattle.nl_attr.specs.declared.events.Event.{Event}
 use Rattle.nl_attr.specs.declared.fault.Fault.{Fault}
@@ -15,14 +15,14 @@ use Rattle.nl_frame.specs.declared.scanning.ScanError.TheVariants.{TooLarge, Lay
 use Rattle.nl_frame.specs.Heads.{region_in}
 use Rattle.nl_frame.specs.Trail.{Trail, region_trail, visits_of, event_of, header_event}
 
--- these heads are told of in the buffer from place `count` on, and counted
+-- the events of these heads stand in the buffer from place `count` on, and are counted
 pub record IsTaped (S : Shape) (trail : Trail) (count : ℕ) (old new : List Event) (t : Taped) : Type 0 where
   pub fault : t.fault ≡ fault_of trail.1
   pub visits : t.visits ≡ visits_of S trail.0
   pub counted : t.count ≡ count + length trail.0
   pub events : new ≡ put_from count (map (event_of S.order) trail.0) old
 
--- a message's header is told of, and the heads in its body behind it
+-- the event of a message's header, and those of the heads in its body behind it
 abbrev pub IsFrameTaped : Shape → Frame → ℕ → ℕ → List Event → List Event → Taped → Type 0
 IsFrameTaped S f place count old new t =
     IsTaped S (region_trail S (region_in f.form (place + 16) f.payload.now)) (count + 1)

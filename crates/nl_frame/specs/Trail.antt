@@ -1,4 +1,4 @@
--- The heads of a datagram in the order in which a scan comes to them, up to the fault that ends it, and what is told of each.
+-- The heads of a datagram in the order in which a scan comes to them, up to the fault that ends it, and the event of each.
 use Rattle.std.specs.Prelude.{◌≡◌, ◌≤◌, ℕ, zero, suc, false, List, [], ◌∷◌, length, map, Option, Some, None}
 use Rattle.nl_attr.specs.declared.events.Event.{Event}
 use Rattle.nl_attr.specs.declared.events.TheConstants.{SORT_MESSAGE}
@@ -74,9 +74,9 @@ abbrev pub ComesUpTo : Option (ℕ × Reason) → AnyHead → Type 0
 ComesUpTo None h = Unit {0}
 ComesUpTo (Some f) h = place_of h ≤ f.0
 
--- ---- what is told of them
+-- ---- their events
 
--- what is told of a message's header: its place, its type, and how many bytes stand behind it
+-- the event of a message's header: its place, its type, and how many bytes stand behind it
 abbrev pub header_event : ℕ → ℕ → ℕ → Event
 header_event place kind len = record { place = place; len = len; number = kind; level = 0; sort = SORT_MESSAGE; nested = false; net = false }
 
@@ -84,6 +84,6 @@ abbrev pub event_of : Order → AnyHead → Event
 event_of o (header r) = header_event r.place (header_of o r.left).kind (length (payload_at o r.left))
 event_of o (inner h) = region.event_of o h
 
--- what is told of the heads from the bytes that are left on
+-- the events of the heads from the bytes that are left on
 abbrev pub events_of : Shape → Rest → List Event
 events_of S r = map (event_of S.order) (trail_of S r).0

@@ -16,7 +16,7 @@ ghost use Rattle.nl_frame.specs.Measured.{IsSizedBody, IsSized};
 
 use crate::body::{Body, Message};
 use crate::header::Header;
-use nl_attr::{Order, append_bytes};
+use nl_attr::{LONGEST_REGION, Order, align4, append_bytes};
 use nl_route::match_family;
 
 /// Appends a signed number.
@@ -100,7 +100,7 @@ fn append_body(body: &Body, order: Order, out: &mut Vec<u8>)
 /// (`NLMSG_ALIGN`).
 fn close_message(out: &mut Vec<u8>, order: Order, start: usize)
     requires begun { start + 4 ≤ vec_len out.old }
-    requires short { vec_len out.old - start ≤ 1048592 }
+    requires short { vec_len out.old - start ≤ LONGEST_REGION + 16 }
     requires space { start + aligned (vec_len out.old - start) ≤ vec_capacity out.old }
     ensures items { out.new.items ≡ take start out.old.items
         ++ padded (num (vec_len out.old - start) 4 order ++ drop (start + 4) out.old.items) }
@@ -109,13 +109,13 @@ fn close_message(out: &mut Vec<u8>, order: Order, start: usize)
 {
     let len = out.len() - start;
     out[start..start + 4].copy_from_slice(&order.u32_bytes(len as u32));
-    let _done = out.resize(start + (len + 3) / 4 * 4, 0);
+    let _done = out.resize(start + align4(len as u32) as usize, 0);
 }
 
 /// Appends a message with its padding.
 fn append_message(message: &Message, order: Order, out: &mut Vec<u8>)
     requires sized { IsSizedBody (body_view message.now.body) }
-    requires short { body_len (body_view message.now.body) ≤ 1048576 }
+    requires short { body_len (body_view message.now.body) ≤ LONGEST_REGION }
     requires space { vec_len out.old + aligned (16 + body_len (body_view message.now.body))
         ≤ vec_capacity out.old }
     ensures items { out.new.items
@@ -142,7 +142,7 @@ fn append_message(message: &Message, order: Order, out: &mut Vec<u8>)
 /// have been measured, and there is room for their length.
 pub(crate) fn append_messages(messages: &[Message], order: Order, out: &mut Vec<u8>)
     requires sized { IsSized (map message_view messages.now) }
-    requires short { written_len (map message_view messages.now) ≤ 1048576 }
+    requires short { written_len (map message_view messages.now) ≤ LONGEST_REGION }
     requires space { vec_len out.old + written_len (map message_view messages.now)
         ≤ vec_capacity out.old }
     ensures items { out.new.items ≡ out.old.items ++ written order (map message_view messages.now) }

@@ -11,11 +11,11 @@ ghost use Rattle.nl_frame.specs.Towards.{IsBrokenWithin};
 use crate::form::Form;
 use crate::front::{frame_len, frame_span, front};
 use crate::limits::Limits;
-use nl_attr::{BrokenHead, Fault, HeadKind, Order, Reason};
+use nl_attr::{BrokenHead, Fault, HeadKind, LONGEST_REGION, Order, Reason};
 
-/// What is told of the header at the front.
+/// The facts of the header at the front.
 fn facts(left: &[u8], order: Order) -> BrokenHead
-    requires { length left.now ≤ 1048576 }
+    requires { length left.now ≤ LONGEST_REGION }
     ensures { result ≡ message_facts order left.now }
 {
     let len = if left.len() < 16 {
@@ -33,7 +33,7 @@ fn facts(left: &[u8], order: Order) -> BrokenHead
 
 /// The header at the front, where it breaks this rule.
 fn broken_header(left: &[u8], order: Order, reason: Reason) -> Option<BrokenHead>
-    requires { length left.now ≤ 1048576 }
+    requires { length left.now ≤ LONGEST_REGION }
     ensures { (b : BrokenHead) → (result ≡ Some b)
         ↔ ((broken_message order left.now ≡ Some reason) × (b ≡ message_facts order left.now)) }
 {
@@ -45,7 +45,7 @@ fn broken_header(left: &[u8], order: Order, reason: Reason) -> Option<BrokenHead
 
 /// The head in the message at the front that stands at the place of a fault and breaks its rule.
 fn broken_within(left: &[u8], place: u32, limits: &Limits, fault: Fault) -> Option<BrokenHead>
-    requires { place + length left.now ≤ 1048576 }
+    requires { place + length left.now ≤ LONGEST_REGION }
     ensures { (b : BrokenHead) → (result ≡ Some b)
         ↔ IsBrokenWithin limits.now.shape (record { place = place; left = left.now }) fault b }
 {
@@ -71,7 +71,7 @@ fn broken_within(left: &[u8], place: u32, limits: &Limits, fault: Fault) -> Opti
 
 /// The head of a datagram that stands at the place of a fault and breaks its rule.
 fn broken_in(datagram: &[u8], limits: &Limits, fault: Fault) -> Option<BrokenHead>
-    requires { length datagram.now ≤ 1048576 }
+    requires { length datagram.now ≤ LONGEST_REGION }
     ensures { (b : BrokenHead) → (result ≡ Some b)
         ↔ IsBrokenHead limits.now.shape (whole datagram.now) fault b }
 {
@@ -101,7 +101,7 @@ fn broken_in(datagram: &[u8], limits: &Limits, fault: Fault) -> Option<BrokenHea
 /// The way goes from head to head, also behind a fault, and into a message or an attribute only
 /// where the place lies in it: it explains a refusal, and counts no visits.
 pub fn broken_head(datagram: &[u8], limits: &Limits, fault: Fault) -> Option<BrokenHead>
-    // It is what is told of that head, and nothing else is.
+    // It is that head, and no other answer is.
     ensures facts { (b : BrokenHead) → (result ≡ Some b)
         ↔ ((length datagram.now ≤ limits.now.datagram)
         × IsBrokenHead limits.now.shape (whole datagram.now) fault b) }

@@ -30,10 +30,8 @@ pub fn is_canonical(alloc: Global, bytes: &[u8], limits: &Limits) -> Result<bool
     ensures none { IfErr result
         (λ e. IfFault e (λ _. (ms : List MessageVal) → Layout limits.now.shape ms bytes.now → ⊥)) }
 {
+    // A datagram within the limit is within the longest, so its messages can be written.
     let _limit = limits.datagram();
-    let messages = match read_datagram(alloc, bytes, limits).into_result() {
-        Ok(messages) => messages,
-        Err(error) => return Err(error),
-    };
+    let messages = read_datagram(alloc, bytes, limits).into_result()?;
     Ok(are_written(messages.as_slice(), limits.order(), bytes))
 }

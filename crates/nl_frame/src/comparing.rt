@@ -14,7 +14,7 @@ ghost use Rattle.nl_frame.specs.Measured.{IsSizedBody};
 
 use crate::body::{Body, Message};
 use crate::header::Header;
-use nl_attr::{Order, begins_with_bytes, begins_with_zeros};
+use nl_attr::{LONGEST_REGION, Order, begins_with_bytes, begins_with_zeros};
 use nl_route::match_family;
 
 /// A front, and the bytes behind it.
@@ -79,7 +79,7 @@ fn begins_with_body(body: &Body, order: Order, bytes: &[u8]) -> Option<usize>
 
 /// A message with its padding. The length in its header is compared once its body has been.
 fn begins_with_message(message: &Message, order: Order, bytes: &[u8]) -> Option<usize>
-    requires short { 16 + body_len (body_view message.now.body) ≤ 1048576 }
+    requires short { 16 + body_len (body_view message.now.body) ≤ LONGEST_REGION }
     requires sized { IsSizedBody (body_view message.now.body) }
     ensures begins { Begins
         (padded (message_item order (message_view message.now))) bytes.now result }

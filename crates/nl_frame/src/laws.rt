@@ -19,6 +19,8 @@ ghost use Rattle.nl_frame.specs.OneList.{IsTheList};
 ghost use Rattle.nl_frame.specs.Written.{written, written_len};
 ghost use Rattle.nl_frame.specs.Proper.{IsProper, IsRanged};
 
+use nl_attr::LONGEST_REGION;
+
 /// At most one list of messages is the layout of a datagram.
 pub fn one_layout()
     ensures { (s : Shape) (d : List ℕ) (ms ns : List MessageVal)
@@ -96,7 +98,7 @@ pub fn written_has_layout()
 /// padding.
 pub fn layout_is_proper()
     ensures proper { (s : Shape) (ms : List MessageVal) (d : List ℕ)
-        → Layout s ms d → length d ≤ 1048576 → IsProper ms s.depth }
+        → Layout s ms d → length d ≤ LONGEST_REGION → IsProper ms s.depth }
     ensures len { (s : Shape) (ms : List MessageVal) (d : List ℕ)
         → Layout s ms d → written_len ms ≡ aligned (length d) }
     ensures ranged { (s : Shape) (ms : List MessageVal) (d : List ℕ)

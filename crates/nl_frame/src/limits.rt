@@ -5,11 +5,8 @@ ghost use Rattle.std.specs.Result.{OkIff};
 ghost use Rattle.nl_attr.specs.Shape.{shape_of};
 ghost use Rattle.nl_frame.specs.Limits.{AreLimits, bounds_of};
 
-use nl_attr::{Depth, LimitFault, Order};
+use nl_attr::{Depth, LONGEST_REGION, LimitFault, Order};
 use std::marker::Model;
-
-/// The greatest datagram that any limits allow, in bytes.
-const GREATEST_DATAGRAM: u32 = 1_048_576;
 
 /// The greatest total of a session's datagrams that any limits allow, in bytes.
 const GREATEST_TOTAL: u64 = 1_099_511_627_776;
@@ -57,7 +54,7 @@ impl Limits {
         let depth = Depth::new(depth)?;
         if datagram % 4 != 0
             || datagram < 16
-            || datagram > GREATEST_DATAGRAM
+            || datagram as usize > LONGEST_REGION
             || total > GREATEST_TOTAL
             || entries > MOST_ENTRIES
         {
@@ -87,7 +84,7 @@ impl Limits {
 
     /// The same limits with numbers in this order: those of heads, lengths and types. A payload is
     /// bytes and has no order of its own, so the numbers in what was read under these limits are
-    /// told by the views that are handed the order, as `link.mtu_ordered(limits.order())`; the
+    /// read by the views that take the order, as `link.mtu_ordered(limits.order())`; the
     /// plain views take the lowest byte first.
     pub fn with_order(self, order: Order) -> Limits
         ensures { result ≡ record self { shape = shape_of order self.shape.depth } }

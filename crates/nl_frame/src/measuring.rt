@@ -9,19 +9,16 @@ ghost use Rattle.nl_frame.specs.Measured.{IsLenOf, IsBodyLen, IsMessageLen, IsLe
 
 use crate::body::{Body, Message};
 use crate::form::Form;
-use nl_attr::{Depth, Extent};
+use nl_attr::{Depth, Extent, LONGEST_REGION, align4};
 use nl_route::match_family;
-
-/// The most bytes that a datagram may have.
-const LONGEST: usize = 1_048_576;
 
 /// Bytes behind so many others, without attributes.
 fn plain(head: usize, tail: usize) -> Extent
     requires { head ≤ 20 }
     ensures deep { IsTrue result.deep → ⊥ }
-    ensures len { IsLenOf 1048640 ⊥ (Unit {0}) (head + tail) result.len }
+    ensures len { IsLenOf (LONGEST_REGION + 64) ⊥ (Unit {0}) (head + tail) result.len }
 {
-    let len = if tail > LONGEST {
+    let len = if tail > LONGEST_REGION {
         None
     } else {
         Some(head + tail)
@@ -82,7 +79,7 @@ fn measure_message(message: &Message, depth: Depth) -> Option<Extent>
     let inner = measure_body(&message.body, Form::of(message.kind), depth)?;
     let len = match inner.len {
         None => None,
-        Some(len) => Some((16 + len + 3) / 4 * 4),
+        Some(len) => Some(align4((16 + len) as u32) as usize),
     };
     Some(Extent {
         deep: inner.deep,

@@ -11,8 +11,9 @@ ghost use Rattle.nl_frame.specs.Message.{MessageVal};
 
 use crate::body::{Body, Message};
 use crate::front::{Frame, front};
+use crate::header::Header;
 use crate::limits::Limits;
-use nl_attr::{Fault, ListError, Tally};
+use nl_attr::{FARTHEST_END, Fault, LONGEST_REGION, ListError, Tally};
 use std::alloc::{AllocError, AllocFailed, Global};
 use thiserror::Error;
 
@@ -45,6 +46,19 @@ impl ReadError {
     }
 }
 
+impl From<ListError> for ReadError {
+    ghost use Rattle.nl_frame.specs.Outcomes.{read_error};
+
+    ghost from_gives = { λ refusal e. e ≡ read_error refusal };
+
+    fn from(refusal: ListError) -> ReadError {
+        match refusal {
+            ListError::Layout(fault) => ReadError::Layout(fault),
+            ListError::Memory => ReadError::Memory,
+        }
+    }
+}
+
 impl From<AllocError> for ReadError {
     ghost use Rattle.nl_frame.specs.declared.reading.ReadError.TheVariants.{Memory};
 
@@ -73,29 +87,26 @@ fn read_message(
     limits: &Limits,
 ) -> Tally<Message, ListError>
     requires least { least_body frame.now.form ≤ length frame.now.payload.now }
-    requires size { length frame.now.payload.now ≤ 1048576 }
-    requires place { place + 16 + length frame.now.payload.now ≤ 2097152 }
+    requires size { length frame.now.payload.now ≤ LONGEST_REGION }
+    requires place { place + 16 + length frame.now.payload.now ≤ FARTHEST_END }
     ensures outcome { HasOutcome message_view result (map_value (message_of frame.now.header)
         (body_at limits.now.shape frame.now.form (place + 16) frame.now.payload.now)) }
     ensures bound { result.visits ≤ (limits.now.shape.depth + 1) * length frame.now.payload.now }
 {
-    let Tally { result, visits } = Body::read(alloc, frame.payload, frame.form, place + 16, limits);
-    match result {
-        Ok(body) => Tally {
-            result: Ok(Message {
-                kind: frame.header.kind,
-                flags: frame.header.flags,
-                seq: frame.header.seq,
-                port: frame.header.port,
-                body,
-            }),
-            visits,
-        },
-        Err(error) => Tally {
-            result: Err(error),
-            visits,
-        },
-    }
+    let Header {
+        kind,
+        flags,
+        seq,
+        port,
+        ..
+    } = frame.header;
+    Body::read(alloc, frame.payload, frame.form, place + 16, limits).map(|body| Message {
+        kind,
+        flags,
+        seq,
+        port,
+        body,
+    })
 }
 
 /// Adds a message, where there is memory.
@@ -107,11 +118,12 @@ fn keep(list: &mut Vec<Message>, message: Message) -> bool
 
 /// The messages of a datagram.
 fn read_messages(alloc: Global, bytes: &[u8], limits: &Limits) -> Tally<Vec<Message>, ListError>
-    requires { length bytes.now ≤ 1048576 }
+    requires { length bytes.now ≤ LONGEST_REGION }
     ensures outcome { HasOutcome
         (λ v. map message_view v.items) result (messages_of limits.now.shape 0 bytes.now) }
     ensures bound { result.visits ≤ (limits.now.shape.depth + 1) * length bytes.now }
 {
+    // The depth is at most 32, so the visits fit their number.
     let _limit = limits.depth();
     let order = limits.order();
     let mut list = Vec::new(alloc);
@@ -195,21 +207,5 @@ pub fn read_datagram(alloc: Global, bytes: &[u8], limits: &Limits) -> Tally<Vec<
             visits: 0,
         };
     }
-    let Tally { result, visits } = read_messages(alloc, bytes, limits);
-    match result {
-        Ok(list) => Tally {
-            result: Ok(list),
-            visits,
-        },
-        Err(error) => match error {
-            ListError::Layout(fault) => Tally {
-                result: Err(ReadError::Layout(fault)),
-                visits,
-            },
-            ListError::Memory => Tally {
-                result: Err(ReadError::Memory),
-                visits,
-            },
-        },
-    }
+    read_messages(alloc, bytes, limits).map_err(ReadError::from)
 }

@@ -1,14 +1,10 @@
 //! Scanning a datagram: reading that keeps nothing and takes no memory.
 
-ghost use Rattle.std.specs.Prelude.{◌≡◌, ◌≤◌, ◌<◌, ◌+◌, ◌*◌, ◌↔◌, drop};
-ghost use Rattle.std.specs.Prelude.{length, List, IfOk, IfErr, Err};
+ghost use Rattle.std.specs.Prelude.{◌≡◌, ◌≤◌, ◌<◌, length, IfOk};
 ghost use Rattle.nl_attr.specs.Trail.{put_from};
-ghost use Rattle.nl_frame.specs.Heads.{IsFirstFault, whole};
-ghost use Rattle.nl_frame.specs.Layout.{Layout};
-ghost use Rattle.nl_frame.specs.Message.{MessageVal};
-ghost use Rattle.nl_frame.specs.Reading.{messages_of};
-ghost use Rattle.nl_frame.specs.Taped.{Ends, HasEnd, as_read};
-ghost use Rattle.nl_frame.specs.Outcomes.{IfFault, VisitsUpTo};
+ghost use Rattle.nl_frame.specs.Heads.{whole};
+ghost use Rattle.nl_frame.specs.Scans.{ScansDatagram};
+ghost use Rattle.nl_frame.specs.Taped.{Ends};
 ghost use Rattle.nl_frame.specs.Trail.{events_of};
 
 use crate::limits::Limits;
@@ -52,8 +48,8 @@ fn answer(fault: Option<Fault>, count: usize) -> Result<usize, ScanError>
     }
 }
 
-/// Scans a datagram, as `read_datagram` reads it, and puts what is told of each head into `out`, in
-/// the order of their places and as far as `out` goes: each message's header, and behind it the
+/// Scans a datagram, as `read_datagram` reads it, and puts the event of each head into `out`, in the
+/// order of their places and as far as `out` goes: each message's header, and behind it the
 /// heads of its attributes and next hops. It takes no memory.
 ///
 /// It answers how many heads there are, which may be more than `out` has room for, and how many
@@ -61,30 +57,13 @@ fn answer(fault: Option<Fault>, count: usize) -> Result<usize, ScanError>
 /// datagram is above the datagram limit; at the first fault the heads up to it have been put.
 #[inline(always)]
 pub fn tape_datagram(bytes: &[u8], limits: &Limits, out: &mut [Event]) -> Tally<usize, ScanError>
-    ensures large { result.result ≡ Err ScanError.TooLarge
-        ↔ limits.now.datagram < length bytes.now }
+    ensures scans { ScansDatagram limits.now bytes.now result }
     ensures untouched { limits.now.datagram < length bytes.now → out.new ≡ out.old }
-    // Else whether it is accepted, the fault and the visits are those of a reading.
-    ensures outcome { length bytes.now ≤ limits.now.datagram
-        → HasEnd result.result result.visits (messages_of limits.now.shape 0 bytes.now) }
-    // What is told of the heads up to the fault stands in the buffer, and the rest is as it was.
+    // The events of the heads up to the fault stand in the buffer, and the rest is as it was.
     ensures events { length bytes.now ≤ limits.now.datagram
         → out.new ≡ put_from 0 (events_of limits.now.shape (whole bytes.now)) out.old }
     ensures count { IfOk result.result
         (λ n. n ≡ length (events_of limits.now.shape (whole bytes.now))) }
-    // Where it is accepted some list of messages is the layout.
-    ensures fits { IfOk result.result
-        (λ _. (ms : List MessageVal) × Layout limits.now.shape ms bytes.now) }
-    // A fault is the one at the least place.
-    ensures first { IfErr (as_read result.result) (λ e. IfFault e
-        (λ f. IsFirstFault limits.now.shape (whole bytes.now) f.place f.reason)) }
-    // Then no list is the layout.
-    ensures none { IfErr (as_read result.result) (λ e. IfFault e
-        (λ _. (ms : List MessageVal) → Layout limits.now.shape ms bytes.now → ⊥)) }
-    // The visits are those of all heads, or of those up to the fault.
-    ensures visits { VisitsUpTo limits.now.shape bytes.now
-        (as_read result.result) result.visits }
-    ensures bound { result.visits ≤ (limits.now.shape.depth + 1) * length bytes.now }
 {
     if bytes.len() > limits.datagram() as usize {
         return Tally {
@@ -104,24 +83,7 @@ pub fn tape_datagram(bytes: &[u8], limits: &Limits, out: &mut [Event]) -> Tally<
 ///
 /// It refuses a datagram above the datagram limit, then at the first fault over all heads.
 pub fn scan_datagram(bytes: &[u8], limits: &Limits) -> Tally<(), ScanError>
-    ensures large { result.result ≡ Err ScanError.TooLarge
-        ↔ limits.now.datagram < length bytes.now }
-    // Else whether it is accepted, the fault and the visits are those of a reading.
-    ensures outcome { length bytes.now ≤ limits.now.datagram
-        → HasEnd result.result result.visits (messages_of limits.now.shape 0 bytes.now) }
-    // Where it is accepted some list of messages is the layout.
-    ensures fits { IfOk result.result
-        (λ _. (ms : List MessageVal) × Layout limits.now.shape ms bytes.now) }
-    // A fault is the one at the least place.
-    ensures first { IfErr (as_read result.result) (λ e. IfFault e
-        (λ f. IsFirstFault limits.now.shape (whole bytes.now) f.place f.reason)) }
-    // Then no list is the layout.
-    ensures none { IfErr (as_read result.result) (λ e. IfFault e
-        (λ _. (ms : List MessageVal) → Layout limits.now.shape ms bytes.now → ⊥)) }
-    // The visits are those of all heads, or of those up to the fault.
-    ensures visits { VisitsUpTo limits.now.shape bytes.now
-        (as_read result.result) result.visits }
-    ensures bound { result.visits ≤ (limits.now.shape.depth + 1) * length bytes.now }
+    ensures { ScansDatagram limits.now bytes.now result }
 {
     let out: &mut [Event] = &mut [];
     tape_datagram(bytes, limits, out).map(|_| ())

@@ -1,5 +1,5 @@
 //! Scanning the messages of a datagram in one pass, which takes no memory and no call stack: each
-//! head is checked, and what is told of it is put into a buffer.
+//! head is checked, and its event is put into a buffer.
 
 ghost use Rattle.std.specs.Prelude.{◌≡◌, ◌≤◌, ◌+◌, ◌*◌, length, None};
 ghost use Rattle.nl_attr.specs.Shape.{shape_of};
@@ -11,13 +11,16 @@ ghost use Rattle.nl_frame.specs.Trail.{header_event, region_trail, trail_of};
 
 use crate::form::Form;
 use crate::front::{Frame, front};
-use nl_attr::{Depth, Event, Fault, OpenRegions, Order, SORT_MESSAGE, Taped, tape_list};
+use nl_attr::{
+    Depth, Event, FARTHEST_END, Fault, LONGEST_REGION, OpenRegions, Order, SORT_MESSAGE, Taped,
+    tape_list,
+};
 use nl_route::Group;
 
-/// What is told of a message's header.
+/// The event of a message's header.
 #[inline(always)]
 fn event_of(frame: &Frame, place: u32) -> Event
-    requires { length frame.now.payload.now ≤ 1048576 }
+    requires { length frame.now.payload.now ≤ LONGEST_REGION }
     ensures { result ≡ header_event place frame.now.header.kind (length frame.now.payload.now) }
 {
     let payload = frame.payload;
@@ -45,8 +48,8 @@ fn tape_family<'a>(
     count: usize,
 ) -> Taped
     requires least { head_size group ≤ length payload.now }
-    requires size { length payload.now ≤ 1048576 }
-    requires place { place + length payload.now ≤ 2097152 }
+    requires size { length payload.now ≤ LONGEST_REGION }
+    requires place { place + length payload.now ≤ FARTHEST_END }
     requires count { count ≤ 4294967296 }
     ensures taped { IsTaped (shape_of order depth) (region_trail (shape_of order depth)
         (region_in (Form.Family group) place payload.now)) count out.old out.new result }
@@ -82,8 +85,8 @@ fn tape_body<'a>(
     count: usize,
 ) -> Taped
     requires least { least_body form ≤ length payload.now }
-    requires size { length payload.now ≤ 1048576 }
-    requires place { place + length payload.now ≤ 2097152 }
+    requires size { length payload.now ≤ LONGEST_REGION }
+    requires place { place + length payload.now ≤ FARTHEST_END }
     requires count { count ≤ 4294967296 }
     ensures taped { IsTaped (shape_of order depth) (region_trail (shape_of order depth)
         (region_in form place payload.now)) count out.old out.new result }
@@ -114,8 +117,8 @@ fn tape_frame<'a>(
     count: usize,
 ) -> Taped
     requires least { least_body frame.now.form ≤ length frame.now.payload.now }
-    requires size { length frame.now.payload.now ≤ 1048576 }
-    requires place { place + 16 + length frame.now.payload.now ≤ 2097152 }
+    requires size { length frame.now.payload.now ≤ LONGEST_REGION }
+    requires place { place + 16 + length frame.now.payload.now ≤ FARTHEST_END }
     requires count { count + 1 ≤ 4294967296 }
     ensures taped { IsFrameTaped (shape_of order depth) frame.now place count
         out.old out.new result }
@@ -138,7 +141,7 @@ fn tape_frame<'a>(
 /// The messages of a datagram, in an order that the caller writes as a constant.
 #[inline(always)]
 fn tape_ordered(bytes: &[u8], depth: Depth, order: Order, out: &mut [Event]) -> Taped
-    requires { length bytes.now ≤ 1048576 }
+    requires { length bytes.now ≤ LONGEST_REGION }
     ensures taped { IsTaped (shape_of order depth) (trail_of (shape_of order depth)
         (whole bytes.now)) 0 out.old out.new result }
     ensures bound { result.visits ≤ (depth + 1) * length bytes.now }
@@ -185,7 +188,7 @@ fn tape_ordered(bytes: &[u8], depth: Depth, order: Order, out: &mut [Event]) -> 
 /// other loop free.
 #[inline(never)]
 fn tape_big(bytes: &[u8], depth: Depth, out: &mut [Event]) -> Taped
-    requires { length bytes.now ≤ 1048576 }
+    requires { length bytes.now ≤ LONGEST_REGION }
     ensures taped { IsTaped (shape_of Order.Big depth) (trail_of (shape_of Order.Big depth)
         (whole bytes.now)) 0 out.old out.new result }
     ensures bound { result.visits ≤ (depth + 1) * length bytes.now }
@@ -196,7 +199,7 @@ fn tape_big(bytes: &[u8], depth: Depth, out: &mut [Event]) -> Taped
 /// The messages of a datagram, by a loop for each order.
 #[inline(always)]
 pub(crate) fn tape_messages(bytes: &[u8], depth: Depth, order: Order, out: &mut [Event]) -> Taped
-    requires { length bytes.now ≤ 1048576 }
+    requires { length bytes.now ≤ LONGEST_REGION }
     ensures taped { IsTaped (shape_of order depth) (trail_of (shape_of order depth)
         (whole bytes.now)) 0 out.old out.new result }
     ensures bound { result.visits ≤ (depth + 1) * length bytes.now }

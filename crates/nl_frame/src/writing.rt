@@ -1,20 +1,20 @@
 //! Writing a datagram.
 
-ghost use Rattle.std.specs.Prelude.{◌≡◌, ◌≤◌, ◌<◌, ◌↔◌, Err, IfOk, map};
+ghost use Rattle.std.specs.Prelude.{◌≡◌, ◌↔◌, Err, IfOk, map};
 ghost use Rattle.nl_frame.specs.View.{message_view};
 ghost use Rattle.nl_frame.specs.Layout.{Layout};
-ghost use Rattle.nl_frame.specs.Written.{written, written_len};
-ghost use Rattle.nl_frame.specs.Proper.{IsMismatched, IsDeep, IsLong, IsRanged};
-ghost use Rattle.nl_frame.specs.Measured.{IsSized, Judges};
+ghost use Rattle.nl_frame.specs.Written.{written};
+ghost use Rattle.nl_frame.specs.Proper.{IsRanged, IsRefused};
 
 use crate::appending::append_messages;
 use crate::body::Message;
 use crate::limits::Limits;
 use crate::measuring::measure_messages;
+use nl_attr::Extent;
 use std::alloc::{AllocError, Global};
 use thiserror::Error;
 
-/// Why messages were not written. The first that applies is told, in the order of the variants,
+/// Why messages were not written. The first that applies is answered, in the order of the variants,
 /// each over all messages.
 #[derive(Clone, Copy, Debug, PartialEq, Eq, Error)]
 pub enum WriteError {
@@ -54,6 +54,21 @@ impl WriteError {
     }
 }
 
+impl From<nl_attr::WriteError> for WriteError {
+    ghost use Rattle.nl_frame.specs.Outcomes.{write_error};
+
+    ghost from_gives = { λ refusal e. e ≡ write_error refusal };
+
+    fn from(refusal: nl_attr::WriteError) -> WriteError {
+        match refusal {
+            nl_attr::WriteError::Mismatch => WriteError::Mismatch,
+            nl_attr::WriteError::TooDeep => WriteError::TooDeep,
+            nl_attr::WriteError::TooLong => WriteError::TooLong,
+            nl_attr::WriteError::Memory => WriteError::Memory,
+        }
+    }
+}
+
 impl From<AllocError> for WriteError {
     ghost use Rattle.nl_frame.specs.declared.writing.WriteError.TheVariants.{Memory};
 
@@ -61,33 +76,6 @@ impl From<AllocError> for WriteError {
 
     fn from(_error: AllocError) -> WriteError {
         WriteError::Memory
-    }
-}
-
-/// The length of messages that can be written, or why they can't.
-fn check(messages: &[Message], limits: &Limits) -> Result<usize, WriteError>
-    ensures outcome { Judges (map message_view messages.now) limits.now result }
-    ensures known { result ≡ Err WriteError.Memory → ⊥ }
-    ensures len { IfOk result (λ n. n ≡ written_len (map message_view messages.now)) }
-    ensures limit { IfOk result (λ n. n ≤ 1048576) }
-    ensures sized { IfOk result (λ n. IsSized (map message_view messages.now)) }
-{
-    let extent = match measure_messages(messages, limits.depth()) {
-        None => return Err(WriteError::Mismatch),
-        Some(extent) => extent,
-    };
-    if extent.deep {
-        return Err(WriteError::TooDeep);
-    }
-    match extent.len {
-        None => Err(WriteError::TooLong),
-        Some(len) => {
-            if len > limits.datagram() as usize {
-                Err(WriteError::TooLarge)
-            } else {
-                Ok(len)
-            }
-        }
     }
 }
 
@@ -109,19 +97,13 @@ pub fn write_datagram(
     limits: &Limits,
 ) -> Result<Vec<u8>, WriteError>
     ensures mismatch { (result ≡ Err WriteError.Mismatch)
-        ↔ IsMismatched (map message_view messages.now) }
+        ↔ IsRefused (map message_view messages.now) limits.now WriteError.Mismatch }
     ensures deep { (result ≡ Err WriteError.TooDeep)
-        ↔ ((IsMismatched (map message_view messages.now) → ⊥)
-        × IsDeep (map message_view messages.now) limits.now.shape.depth) }
+        ↔ IsRefused (map message_view messages.now) limits.now WriteError.TooDeep }
     ensures long { (result ≡ Err WriteError.TooLong)
-        ↔ ((IsMismatched (map message_view messages.now) → ⊥)
-        × (IsDeep (map message_view messages.now) limits.now.shape.depth → ⊥)
-        × IsLong (map message_view messages.now)) }
+        ↔ IsRefused (map message_view messages.now) limits.now WriteError.TooLong }
     ensures large { (result ≡ Err WriteError.TooLarge)
-        ↔ ((IsMismatched (map message_view messages.now) → ⊥)
-        × (IsDeep (map message_view messages.now) limits.now.shape.depth → ⊥)
-        × (IsLong (map message_view messages.now) → ⊥)
-        × (limits.now.datagram < written_len (map message_view messages.now))) }
+        ↔ IsRefused (map message_view messages.now) limits.now WriteError.TooLarge }
     // Otherwise they are written, unless memory runs out.
     ensures written { IfOk result
         (λ v. v.items ≡ written limits.now.shape.order (map message_view messages.now)) }
@@ -131,10 +113,10 @@ pub fn write_datagram(
     ensures again { IfOk result
         (λ v. Layout limits.now.shape (map message_view messages.now) v.items) }
 {
-    let len = match check(messages, limits) {
-        Ok(len) => len,
-        Err(error) => return Err(error),
-    };
+    let len = Extent::length(measure_messages(messages, limits.depth()))?;
+    if len > limits.datagram() as usize {
+        return Err(WriteError::TooLarge);
+    }
     let mut out = Vec::with_capacity(alloc, len)?;
     append_messages(messages, limits.order(), &mut out);
     Ok(out)
