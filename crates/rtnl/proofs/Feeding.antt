@@ -10,28 +10,28 @@ use Rattle.nl_dump.specs.View.{View, table_at}
 use Rattle.nl_dump.specs.Steps.{IsWaiting, IsNew, Began, Fed}
 use Rattle.nl_dump.specs.Whole.{begins}
 use Rattle.nl_dump.proofs.Courses.{calls_end}
-use Rattle.rtnl.specs.Tabled.{Telling, answer_text, entries_text, Answered, datagrams_of, IsTold, FeedsSome, refusals_text, tabled, calls_of, IsRun}
+use Rattle.rtnl.specs.Tabled.{Report, answer_text, entries_text, Answered, datagrams_of, IsReported, FeedsSome, refusals_text, tabled, calls_of, IsRun}
 
 -- nothing is fed yet
 pub feeds_none : (u : View) (ds : List (List ℕ)) → FeedsSome u ds [] ds u
-feeds_none u ds = record { order = refl; told = tt; calls = λ b before calls. calls }
+feeds_none u ds = record { order = refl; reported = tt; calls = λ b before calls. calls }
 
 -- no line yet
-pub refused_none : (t : Telling) (out : List ℕ) → out ≡ out ++ refusals_text t []
+pub refused_none : (t : Report) (out : List ℕ) → out ≡ out ++ refusals_text t []
 unfolding refusals_text
 refused_none t out = sym (append-nil out)
 
 -- one datagram more
-pub feeds_more : (u v w : View) (ds rest : List (List ℕ)) (fed : List Answered) (d : List ℕ) (r : Result Progress FeedError) → FeedsSome u ds fed (d ∷ rest) v → Fed v d r w → IsTold r → FeedsSome u ds ((d, r) ∷ fed) rest w
-feeds_more u v w ds rest fed d r h step told =
+pub feeds_more : (u v w : View) (ds rest : List (List ℕ)) (fed : List Answered) (d : List ℕ) (r : Result Progress FeedError) → FeedsSome u ds fed (d ∷ rest) v → Fed v d r w → IsReported r → FeedsSome u ds ((d, r) ∷ fed) rest w
+feeds_more u v w ds rest fed d r h step reported =
     record {
       order = h.order ∙ sym (append_assoc (datagrams_of fed) (d ∷ []) rest);
-      told = (told, h.outcome);
+      reported = (reported, h.reported);
       calls = λ b before calls. (v, h.calls b before calls, step);
     }
 
 -- and its line
-pub refused_more : (t : Telling) (old mid new : List ℕ) (fed : List Answered) (d : List ℕ) (r : Result Progress FeedError) (n : ℕ) → mid ≡ old ++ refusals_text t fed → length fed ≡ n → new ≡ mid ++ answer_text t (n + 1) r → new ≡ old ++ refusals_text t ((d, r) ∷ fed)
+pub refused_more : (t : Report) (old mid new : List ℕ) (fed : List Answered) (d : List ℕ) (r : Result Progress FeedError) (n : ℕ) → mid ≡ old ++ refusals_text t fed → length fed ≡ n → new ≡ mid ++ answer_text t (n + 1) r → new ≡ old ++ refusals_text t ((d, r) ∷ fed)
 unfolding refusals_text
 refused_more t old mid new fed d r n h size line =
     line ∙ ap (λ x. x ++ answer_text t (n + 1) r) h ∙ append_assoc old (refusals_text t fed) (answer_text t (n + 1) r) ∙ ap (λ k. old ++ (refusals_text t fed ++ answer_text t (k + 1) r)) (sym size)
@@ -41,10 +41,10 @@ pub run_is : (b : Bounds) (d : Dump) (ds : List (List ℕ)) (request : Vec ℕ) 
     → IsRun b d ds request fed unfed v
 run_is b d ds request fed unfed new begun v is_new began h all =
     let calls = h.calls b (begins d (Ok request) ∷ []) (new, is_new, began) in
-    record { calls = calls; session = calls_end b (calls_of d request fed) v calls; order = h.order; told = h.outcome; all = all }
+    record { calls = calls; session = calls_end b (calls_of d request fed) v calls; order = h.order; reported = h.reported; all = all }
 
--- what is told of a run
-pub run_text : (t : Telling) (d : Dump) (fed : List Answered) (unfed : List (List ℕ)) (v : View) (b : Bounds) (o : Order) (n : ℕ) (first second third all : List ℕ) → first ≡ [] → second ≡ first ++ t.front d → third ≡ second ++ refusals_text t fed
+-- the report of a run
+pub run_text : (t : Report) (d : Dump) (fed : List Answered) (unfed : List (List ℕ)) (v : View) (b : Bounds) (o : Order) (n : ℕ) (first second third all : List ℕ) → first ≡ [] → second ≡ first ++ t.front d → third ≡ second ++ refusals_text t fed
     → all ≡ (third ++ entries_text t o 1 (table_at d.kind v.tables).entries) ++ t.ending d n v → o ≡ b.shape.order → v.limits ≡ b → n ≡ length unfed → all ≡ tabled t d fed (length unfed) v
 run_text t d fed unfed v b o n first second third all none line refusals rest order limits left =
     let front : second ≡ t.front d = line ∙ ap (λ x. x ++ t.front d) none in

@@ -30,7 +30,7 @@ hop_count_lem : (items : List Hop) → hop_count (hops_view items) ≡ length it
 hop_count_lem [] = refl
 hop_count_lem (one ∷ more) = ap (λ (f : HopFront). hop_count (f (hops_view more))) (hop_is one) ∙ omega (arith, hop_count_lem more)
 
--- a list tells the number of its attributes
+-- a list says the number of its attributes
 pub inline_list : (o : Order) (form : Form) (net : Bool) (attrs : Vec Attr Global) →
     inline_text o form net (value_view (value.List attrs)) ≡ codes "list " ++ decimal (length attrs.items)
 unfolding inline_text

@@ -10,10 +10,6 @@ use Rattle.rtnl.specs.declared.lines.LineFault.TheVariants.{Character, Odd}
 use Rattle.rtnl.specs.declared.error.RunError.{RunError}
 use Rattle.rtnl.specs.declared.error.RunError.TheVariants.{BadLine, ReadFault, WriteFault, Memory}
 
--- the most bytes of a recording: 2^24
-abbrev pub longest_input : ℕ
-longest_input = 16777216
-
 -- the byte that ends a line
 abbrev pub is_newline : ℕ → Bool
 is_newline byte = byte == 10

@@ -19,7 +19,7 @@ get_flags =
     ∷ (codes "MATCH", 0x200)
     ∷ (codes "ATOMIC", 0x400) ∷ []
 
--- the flags of all types and those of a message that tells of something new
+-- the flags of all types and those of a message of something new
 abbrev pub new_flags : List Row
 new_flags =
     message_flags ++ (codes "REPLACE", 0x100)

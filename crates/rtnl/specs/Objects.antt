@@ -119,7 +119,7 @@ family_field o h items =
 abbrev pub item_field : Order → Item → Field
 item_field o entry = family_field o entry.0 entry.1
 
--- the header that an answer with a code tells of
+-- the header that an answer with a code is about
 unfoldable pub answered_json : Header → json.Json
 answered_json h =
     object ((codes "len", number h.len)

@@ -1,7 +1,8 @@
 -- A run over the datagrams of an input: what is found of each, what is printed of it, and the verdict.
 use Rattle.std.specs.Prelude.{◌≡◌, ◌≢◌, ◌+◌, ◌⊎◌, ℕ, List, [], ◌∷◌, ◌++◌, Bool, true, false, Option, Result, Ok, Err, OnOk, OnErr, IfErr}
 use Rattle.std.specs.Io.KnownBytes.{Appends, Consumes}
-use Rattle.rtnl.specs.Lines.{datagrams, longest_input}
+use Rattle.rtnl.specs.declared.source.TheConstants.{LONGEST_INPUT}
+use Rattle.rtnl.specs.Lines.{datagrams}
 use Rattle.rtnl.specs.Streams.{AppendsPrefix, ConsumesMoreThan, IsRead, StopsOnce, one_more}
 use Rattle.rtnl.specs.declared.error.RunError.{RunError}
 use Rattle.rtnl.specs.declared.error.RunError.TheVariants.{BadLine, ReadFault, WriteFault, Memory}
@@ -66,7 +67,7 @@ pub record Runs {S W : Type 0} (left : S → Option (List ℕ)) (is_ended : S �
       → IsRead left is_ended failed_reads from_old from_new × HasBadLine (left from_old) (left from_new) number
   -- one read failed; or none did, and the input is too long
   pub read_fault : result ≡ Err ReadFault → (failed_reads from_new ≡ one_more (failed_reads from_old))
-      ⊎ ((failed_reads from_new ≡ failed_reads from_old) × ConsumesMoreThan longest_input (left from_old) (left from_new))
+      ⊎ ((failed_reads from_new ≡ failed_reads from_old) × ConsumesMoreThan LONGEST_INPUT (left from_old) (left from_new))
   -- the source came to its end, no read failed, and one write failed or took no byte
   pub write_fault : result ≡ Err WriteFault → IsRead left is_ended failed_reads from_old from_new × StopsOnce is_stalled stalls failed_writes to_old to_new
   -- no read failed
@@ -76,7 +77,7 @@ pub record Runs {S W : Type 0} (left : S → Option (List ℕ)) (is_ended : S �
   -- and then a front of the text
   pub part : result ≡ Err WriteFault → FrontOfInput Says (left from_old) (left from_new) (taken to_old) (taken to_new)
 
--- how a run that reads nothing ends, by what its sink tells of itself, its whole text, and sink and answer
+-- how a run that reads nothing ends, by what its sink says of itself, its whole text, and sink and answer
 pub record Writes {W : Type 0} (taken : W → Option (List ℕ)) (is_stalled : W → Type 0) (stalls : W → ℕ) (failed_writes : W → ℕ)
     (text : List ℕ) (to_old to_new : W) (result : Result Verdict RunError) : Type 0 where
   -- the text was written

@@ -45,20 +45,20 @@ refusal_line number feed.Memory = []
 abbrev pub Answered : Type 0
 Answered = List ℕ × Result Progress FeedError
 
--- how a dump is told: as it begins, of each datagram that was refused, of each entry, and of how it ended with so many datagrams left
-pub record Telling : Type 0 where
+-- the report of a dump: which dump is read, each datagram that was refused, each entry, and how the dump ended with so many datagrams left
+pub record Report : Type 0 where
   pub front : Dump → List ℕ
   pub refusal : ℕ → FeedError → List ℕ
   pub entry : Order → ℕ → Item → List ℕ
   pub ending : Dump → ℕ → View → List ℕ
 
--- what is told of a datagram that was answered so
-abbrev pub answer_text : Telling → ℕ → Result Progress FeedError → List ℕ
+-- the report of a datagram that was answered so
+abbrev pub answer_text : Report → ℕ → Result Progress FeedError → List ℕ
 answer_text t number (Ok progress) = []
 answer_text t number (Err e) = t.refusal number e
 
--- what is told of the datagrams that were fed, the newest first; their numbers count from 1
-unfoldable pub refusals_text : Telling → List Answered → List ℕ
+-- the report of the datagrams that were fed, the newest first; their numbers count from 1
+unfoldable pub refusals_text : Report → List Answered → List ℕ
 refusals_text t [] = []
 refusals_text t (f ∷ fed) = refusals_text t fed ++ answer_text t (length fed + 1) f.1
 
@@ -75,7 +75,7 @@ abbrev pub entry_text : Order → ℕ → Item → List ℕ
 entry_text o number item = entry_line number ++ item_text o item
 
 -- the entries of a table from this number on, each of which stands behind its key
-unfoldable pub entries_text : Telling → Order → ℕ → List (List ℕ × Item) → List ℕ
+unfoldable pub entries_text : Report → Order → ℕ → List (List ℕ × Item) → List ℕ
 entries_text t o number [] = []
 entries_text t o number (e ∷ es) = t.entry o number e.1 ++ entries_text t o (number + 1) es
 
@@ -114,12 +114,12 @@ ending_text d unfed v =
     ⨟ sums_line v.received v.visits
     ⨟ complete_line (complete_of v)
 
--- a dump told in lines of text
-abbrev pub in_text : Telling
+-- a report in lines of text
+abbrev pub in_text : Report
 in_text = record { front = dump_line; refusal = refusal_line; entry = entry_text; ending = ending_text }
 
--- what is told of a session's dump: the datagrams that were fed, and how many were not
-abbrev pub tabled : Telling → Dump → List Answered → ℕ → View → List ℕ
+-- the report of a session's dump: the datagrams that were fed, and how many were not
+abbrev pub tabled : Report → Dump → List Answered → ℕ → View → List ℕ
 tabled t d fed unfed v =
     ((t.front d ++ refusals_text t fed) ++ entries_text t v.limits.shape.order 1 (table_at d.kind v.tables).entries) ++ t.ending d unfed v
 
@@ -134,22 +134,22 @@ feeds_after before [] = before
 feeds_after before (f ∷ fed) = feeds f.0 f.1 ∷ feeds_after before fed
 
 -- the dump waited, and memory did not run out
-abbrev pub IsTold : Result Progress FeedError → Type 0
-IsTold (Ok progress) = Unit {0}
-IsTold (Err feed.NotWaiting) = ⊥
-IsTold (Err feed.Total) = Unit {0}
-IsTold (Err feed.TooLarge) = Unit {0}
-IsTold (Err (feed.Layout f)) = Unit {0}
-IsTold (Err feed.Memory) = ⊥
+abbrev pub IsReported : Result Progress FeedError → Type 0
+IsReported (Ok progress) = Unit {0}
+IsReported (Err feed.NotWaiting) = ⊥
+IsReported (Err feed.Total) = Unit {0}
+IsReported (Err feed.TooLarge) = Unit {0}
+IsReported (Err (feed.Layout f)) = Unit {0}
+IsReported (Err feed.Memory) = ⊥
 
-abbrev pub AreTold : List Answered → Type 0
-AreTold [] = Unit {0}
-AreTold (f ∷ fed) = IsTold f.1 × AreTold fed
+abbrev pub AreReported : List Answered → Type 0
+AreReported [] = Unit {0}
+AreReported (f ∷ fed) = IsReported f.1 × AreReported fed
 
 -- a session is fed the first of these datagrams, which are answered so, and others are left
 pub record FeedsSome (u : View) (ds : List (List ℕ)) (fed : List Answered) (rest : List (List ℕ)) (v : View) : Type 0 where
   pub order : ds ≡ datagrams_of fed ++ rest
-  pub told : AreTold fed
+  pub reported : AreReported fed
   pub calls : (b : Bounds) (before : List Call) → Calls b before u → Calls b (feeds_after before fed) v
 
 -- the calls of a run: it begins the dump, and then feeds these datagrams
@@ -164,7 +164,7 @@ pub record IsRun (b : Bounds) (d : Dump) (ds : List (List ℕ)) (request : Vec �
   pub session : SessionOf b (calls_of d request fed) v
   -- the first datagrams were fed, in order, each of them while the dump waited
   pub order : ds ≡ datagrams_of fed ++ unfed
-  pub told : AreTold fed
+  pub reported : AreReported fed
   -- and none is left while the dump waits
   pub all : IsWaiting v.state → unfed ≡ []
 
@@ -172,8 +172,8 @@ abbrev pub verdict_of : Bool → Verdict
 verdict_of true = Clean
 verdict_of false = Blemished
 
--- what is told of the session in which the run over these datagrams ends, and whether its dump is complete
-pub record TablesBy (t : Telling) (b : Bounds) (d : Dump) (ds : List (List ℕ)) (text : List ℕ) (verdict : Verdict) : Type 0 where
+-- the report of the session in which the run over these datagrams ends, and whether its dump is complete
+pub record TablesBy (t : Report) (b : Bounds) (d : Dump) (ds : List (List ℕ)) (text : List ℕ) (verdict : Verdict) : Type 0 where
   pub request : Vec ℕ
   pub fed : List Answered
   pub unfed : List (List ℕ)

@@ -1,4 +1,4 @@
--- What is told of a dump as lines of JSON.
+-- The report of a dump as lines of JSON.
 use Rattle.std.specs.Prelude.{ℕ, ℤ, List, [], ◌∷◌, ◌++◌, length, codes, Option, Some, None}
 use Rattle.nl_attr.specs.declared.order.Order.{Order}
 use Rattle.nl_frame.specs.Limits.{Bounds}
@@ -16,7 +16,7 @@ use Rattle.rtnl.specs.Json.{Field, boolean, json_line, number, object, signed, s
 use Rattle.rtnl.specs.Objects.{item_field}
 use Rattle.rtnl.specs.Runs.{OfInput}
 use Rattle.rtnl.specs.Shown.{datagram_object, refusal_fields}
-use Rattle.rtnl.specs.Tabled.{Telling, TablesBy}
+use Rattle.rtnl.specs.Tabled.{Report, TablesBy}
 use Rattle.rtnl.specs.declared.error.Verdict.{Verdict}
 
 -- a datagram was refused, since all datagrams would be too large
@@ -88,11 +88,11 @@ ending_json d unfed v =
     json_line (object (dump_fields d ++ (end_fields v.state ++ (count_fields d unfed v
     ++ (loss_fields v ++ (sum_fields v ++ (codes "complete", boolean (complete_of v)) ∷ []))))))
 
--- a dump told in lines of JSON: the datagrams that were refused, the entries, and how it ended
-abbrev pub in_json : Telling
+-- a report in lines of JSON: the datagrams that were refused, the entries, and how it ended
+abbrev pub in_json : Report
 in_json = record { front = λ _. []; refusal = refusal_json; entry = entry_json; ending = ending_json }
 
--- what is told of the session in which the run over these datagrams ends, and whether its dump is complete
+-- the report of the session in which the run over these datagrams ends, and whether its dump is complete
 abbrev pub TablesJson : Bounds → Dump → List (List ℕ) → List ℕ → Verdict → Type 0
 TablesJson = TablesBy in_json
 

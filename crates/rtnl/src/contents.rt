@@ -5,7 +5,7 @@ ghost use Rattle.nl_dump.specs.Items.{seen};
 ghost use Rattle.nl_dump.specs.View.{table_at};
 ghost use Rattle.rtnl.specs.Tabled.{entries_text};
 
-use crate::telling::{Size, Telling};
+use crate::report::{Report, Size};
 use crate::text::families::Shown;
 use nl_attr::Order;
 use nl_dump::{Kind, Session, match_table};
@@ -13,14 +13,14 @@ use nl_table::{Entry, Table};
 use std::alloc::{AllocError, Global};
 
 /// Tells of the entries of a table, and answers its size.
-fn push_entries<F: Telling, T: Entry + Shown>(
+fn push_entries<F: Report, T: Entry + Shown>(
     alloc: Global,
     out: &mut Vec<u8>,
     order: Order,
     table: &Table<T>,
 ) -> Result<Size, AllocError>
     ensures text { OnOk result (out.new.items ≡ out.old.items
-        ++ entries_text F.told order 1 (seen T.item table.now).entries) }
+        ++ entries_text F.report order 1 (seen T.item table.now).entries) }
     ensures size { IfOk result (λ size. (size.entries ≡ length (seen T.item table.now).entries)
         × (size.missed ≡ table.now.missed)) }
 {
@@ -37,7 +37,7 @@ fn push_entries<F: Telling, T: Entry + Shown>(
 }
 
 /// Tells of the entries of the table of a family, and answers its size.
-pub(crate) fn push_table<F: Telling>(
+pub(crate) fn push_table<F: Report>(
     alloc: Global,
     out: &mut Vec<u8>,
     order: Order,
@@ -45,7 +45,7 @@ pub(crate) fn push_table<F: Telling>(
     kind: Kind,
 ) -> Result<Size, AllocError>
     ensures text { OnOk result (out.new.items ≡ out.old.items
-        ++ entries_text F.told order 1 (table_at kind session.now.tables).entries) }
+        ++ entries_text F.report order 1 (table_at kind session.now.tables).entries) }
     ensures size { IfOk result
         (λ size. (size.entries ≡ length (table_at kind session.now.tables).entries)
         × (size.missed ≡ (table_at kind session.now.tables).missed)) }

@@ -13,13 +13,13 @@ pub mod laws;
 mod lines;
 mod objects;
 mod recording;
+mod report;
 mod request;
 mod run;
 mod show;
 mod sink;
 mod source;
 mod table;
-mod telling;
 mod text;
 
 pub use broken::Broken;

@@ -75,8 +75,6 @@ pub fn run_request_ordered<W: Sink>(
         port: 0,
     };
     let text = text_of(alloc, &dump, order)?;
-    match give_all(sink, text.as_slice()) {
-        Ok(()) => Ok(Verdict::Clean),
-        Err(_) => Err(RunError::WriteFault),
-    }
+    give_all(sink, text.as_slice())?;
+    Ok(Verdict::Clean)
 }

@@ -2,7 +2,6 @@
 //! datagrams, and the sink.
 
 ghost use Rattle.std.specs.Prelude.{◌+◌, IfOk};
-ghost use Rattle.rtnl.specs.Lines.{longest_input};
 ghost use Rattle.rtnl.specs.Streams.{ConsumesAtMost};
 ghost use Rattle.rtnl.specs.Runs.{OfInput, Runs};
 
@@ -10,7 +9,7 @@ use crate::error::{RunError, Verdict};
 use crate::lines::read_datagrams;
 use crate::recording::Datagrams;
 use crate::sink::{Sink, give_all};
-use crate::source::{Source, read_input};
+use crate::source::{LONGEST_INPUT, Source, read_input};
 use std::alloc::{AllocError, Global};
 
 /// What is said of the datagrams of a recording.
@@ -44,15 +43,13 @@ pub(crate) fn run<S: Source, W: Sink, C: Command>(
     ensures runs { Runs S.remaining S.is_ended S.failure_count
         W.contents W.is_stalled W.stall_count W.failure_count
         (C.says command.now) source.old source.new sink.old sink.new result }
-    ensures bounded { ConsumesAtMost (longest_input + 1)
+    ensures bounded { ConsumesAtMost (LONGEST_INPUT + 1)
         (S.remaining source.old) (S.remaining source.new) }
 {
     let input = read_input(alloc, source)?;
     let datagrams = read_datagrams(alloc, input.as_slice())?;
     drop(input);
     let (text, verdict) = command.text_of(alloc, &datagrams)?;
-    match give_all(sink, text.as_slice()) {
-        Ok(()) => Ok(verdict),
-        Err(_) => Err(RunError::WriteFault),
-    }
+    give_all(sink, text.as_slice())?;
+    Ok(verdict)
 }

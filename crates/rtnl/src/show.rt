@@ -1,7 +1,6 @@
 //! Showing a recording.
 
 ghost use Rattle.std.specs.Prelude.{◌≡◌, ◌+◌, ◌++◌, IfOk};
-ghost use Rattle.rtnl.specs.Lines.{longest_input};
 ghost use Rattle.rtnl.specs.Streams.{ConsumesAtMost};
 ghost use Rattle.rtnl.specs.Runs.{Runs};
 ghost use Rattle.rtnl.specs.Shown.{Answer, Answers, datagram_text, is_taken};
@@ -14,7 +13,7 @@ use crate::objects::line::Line;
 use crate::recording::Datagrams;
 use crate::run::{Command, run};
 use crate::sink::Sink;
-use crate::source::Source;
+use crate::source::{LONGEST_INPUT, Source};
 use crate::text::datagram::{push_datagram_line, push_refusal};
 use crate::text::message::push_messages;
 use nl_frame::{Limits, read_datagram};
@@ -169,7 +168,7 @@ pub fn run_show<S: Source, W: Sink>(
         W.contents W.is_stalled W.stall_count W.failure_count
         (Shows limits.now) source.old source.new sink.old sink.new result }
     // It takes at most one byte more than the longest input.
-    ensures bounded { ConsumesAtMost (longest_input + 1)
+    ensures bounded { ConsumesAtMost (LONGEST_INPUT + 1)
         (S.remaining source.old) (S.remaining source.new) }
 {
     run(alloc, source, sink, &Show { limits: *limits })
@@ -194,7 +193,7 @@ pub fn run_show_json<S: Source, W: Sink>(
         W.contents W.is_stalled W.stall_count W.failure_count
         (ShowsJson limits.now) source.old source.new sink.old sink.new result }
     // It takes at most one byte more than the longest input.
-    ensures bounded { ConsumesAtMost (longest_input + 1)
+    ensures bounded { ConsumesAtMost (LONGEST_INPUT + 1)
         (S.remaining source.old) (S.remaining source.new) }
 {
     run(alloc, source, sink, &ShowJson { limits: *limits })

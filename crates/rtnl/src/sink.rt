@@ -12,7 +12,7 @@ use std::io::Write;
 
 /// Where bytes go.
 pub trait Sink {
-    /// The bytes that it took so far, where it tells them.
+    /// The bytes that it took so far, where it says them.
     ghost contents: { Self → Option (List ℕ) };
 
     /// Its last call took no byte of some.

@@ -5,11 +5,10 @@ ghost use Rattle.std.specs.Prelude.{List, length, drop, Result, OnOk, IfOk};
 ghost use Rattle.nl_dump.specs.Steps.{Fed, IsWaiting};
 ghost use Rattle.nl_dump.specs.declared.dump.Progress.{Progress as AnyProgress};
 ghost use Rattle.nl_dump.specs.declared.errors.FeedError.{FeedError as AnyFeedError};
-ghost use Rattle.rtnl.specs.Lines.{longest_input};
 ghost use Rattle.rtnl.specs.Runs.{Runs};
 ghost use Rattle.rtnl.specs.Streams.{ConsumesAtMost};
 ghost use Rattle.rtnl.specs.TabledJson.{TablesInputJson, TablesJson};
-ghost use Rattle.rtnl.specs.Tabled.{Answered, FeedsSome, IsTold, Tables, TablesInput};
+ghost use Rattle.rtnl.specs.Tabled.{Answered, FeedsSome, IsReported, Tables, TablesInput};
 ghost use Rattle.rtnl.specs.Tabled.{answer_text, refusals_text, verdict_of};
 
 use crate::begun::begun;
@@ -17,10 +16,10 @@ use crate::contents::push_table;
 use crate::error::{RunError, Verdict};
 use crate::objects::dump::InJson;
 use crate::recording::Datagrams;
+use crate::report::Report;
 use crate::run::{Command, run};
 use crate::sink::Sink;
-use crate::source::Source;
-use crate::telling::Telling;
+use crate::source::{LONGEST_INPUT, Source};
 use crate::text::dump::InText;
 use nl_dump::{Dump, Session, State};
 use nl_frame::Limits;
@@ -33,8 +32,8 @@ fn is_waiting(state: State) -> bool
     matches!(state, State::Waiting(_))
 }
 
-/// Feeds a datagram to a dump that waits, and tells where it is refused.
-fn feed_one<F: Telling>(
+/// Feeds a datagram to a dump that waits, and writes why it is refused, where it is.
+fn feed_one<F: Report>(
     alloc: Global,
     session: &mut Session,
     out: &mut Vec<u8>,
@@ -43,8 +42,8 @@ fn feed_one<F: Telling>(
 ) -> Result<(), AllocError>
     requires { IsWaiting session.old.state }
     ensures { IfOk result (λ _. (r : Result AnyProgress AnyFeedError)
-        × Fed session.old bytes.now r session.new × IsTold r
-        × (out.new.items ≡ out.old.items ++ answer_text F.told number r)) }
+        × Fed session.old bytes.now r session.new × IsReported r
+        × (out.new.items ≡ out.old.items ++ answer_text F.report number r)) }
 {
     match session.feed(bytes) {
         Ok(_) => Ok(()),
@@ -52,9 +51,9 @@ fn feed_one<F: Telling>(
     }
 }
 
-/// Feeds datagrams in order until the dump has ended, tells of each that is refused, and answers
+/// Feeds datagrams in order until the dump has ended, writes of each that is refused, and answers
 /// how many were fed.
-fn feed_all<F: Telling>(
+fn feed_all<F: Report>(
     alloc: Global,
     session: &mut Session,
     out: &mut Vec<u8>,
@@ -64,7 +63,7 @@ fn feed_all<F: Telling>(
         × (IsWaiting session.new.state → count ≡ length datagrams.now)
         × ((fed : List Answered)
         × FeedsSome session.old datagrams.now fed (drop count datagrams.now) session.new
-        × (out.new.items ≡ out.old.items ++ refusals_text F.told fed))) }
+        × (out.new.items ≡ out.old.items ++ refusals_text F.report fed))) }
 {
     for index in 0..datagrams.len() {
         if !is_waiting(session.state()) {
@@ -93,10 +92,10 @@ struct Tabulate<F> {
     form: PhantomData<F>,
 }
 
-impl<F: Telling> Command for Tabulate<F> {
+impl<F: Report> Command for Tabulate<F> {
     ghost use Rattle.rtnl.specs.Tabled.{TablesBy};
 
-    ghost says = { λ t. TablesBy F.told t.limits t.dump };
+    ghost says = { λ t. TablesBy F.report t.limits t.dump };
 
     fn text_of(
         &self,
@@ -144,7 +143,7 @@ pub fn run_table<S: Source, W: Sink>(
         W.contents W.is_stalled W.stall_count W.failure_count
         (Tables limits.now dump) source.old source.new sink.old sink.new result }
     // It takes at most one byte more than the longest input.
-    ensures bounded { ConsumesAtMost (longest_input + 1)
+    ensures bounded { ConsumesAtMost (LONGEST_INPUT + 1)
         (S.remaining source.old) (S.remaining source.new) }
 {
     run(
@@ -159,7 +158,7 @@ pub fn run_table<S: Source, W: Sink>(
     )
 }
 
-/// Reads the datagrams as `run_table` does, and tells of the dump as lines of JSON (RFC 8259) in
+/// Reads the datagrams as `run_table` does, and writes the dump as lines of JSON (RFC 8259) in
 /// place of text: an object of each datagram that was refused, of each entry, and of how the dump
 /// ended.
 ///
@@ -181,7 +180,7 @@ pub fn run_table_json<S: Source, W: Sink>(
         W.contents W.is_stalled W.stall_count W.failure_count
         (TablesJson limits.now dump) source.old source.new sink.old sink.new result }
     // It takes at most one byte more than the longest input.
-    ensures bounded { ConsumesAtMost (longest_input + 1)
+    ensures bounded { ConsumesAtMost (LONGEST_INPUT + 1)
         (S.remaining source.old) (S.remaining source.new) }
 {
     run(

@@ -1,4 +1,4 @@
--- What C is told of a check.
+-- The answer to C of a check.
 use Rattle.std.specs.Prelude.{ℕ, List, false, Ok, Err}
 use Rattle.nl_frame.specs.declared.reading.ReadError.{ReadError}
 use Rattle.nl_frame.specs.declared.reading.ReadError.TheVariants.{TooLarge, Layout, Memory}
@@ -13,7 +13,7 @@ place_of TooLarge = 0
 place_of (Layout f) = f.place
 place_of Memory = 0
 
--- what C is told of a finding
+-- the answer to C of a finding
 abbrev pub found : Finding → Checked
 found (Ok canonical) = record { place = 0; code = 0; canonical = canonical }
 found (Err e) = record { place = place_of e; code = read_code e; canonical = false }

@@ -1,4 +1,4 @@
--- What C is told of the message, the attribute or the next hop at a place.
+-- The answer to C of the message, the attribute or the next hop at a place.
 use Rattle.std.specs.Prelude.{◌≡◌, ◌+◌, ℕ, List, length, pos, false, Option, Some, None, Result, Ok, Err}
 use Rattle.nl_attr.specs.declared.fault.Fault.{Fault}
 use Rattle.nl_attr.specs.declared.order.Order.{Order}
@@ -12,17 +12,13 @@ use Rattle.rtnl_c.specs.declared.cursors.AttrAt.{AttrAt}
 use Rattle.rtnl_c.specs.declared.cursors.HopAt.{HopAt}
 use Rattle.rtnl_c.specs.declared.cursors.MessageAt.{MessageAt}
 
--- the most bytes in which a place is looked at: 2^20
-abbrev pub longest_region : ℕ
-longest_region = 1048576
-
 -- ---- messages
 
 -- no message stands at this place, for this reason
 abbrev pub no_message : ℕ → ℕ → MessageAt
 no_message place code = record { place = place; next = place; len = 0; seq = 0; port = 0; kind = 0; flags = 0; code = code }
 
--- what C is told of what stands there: 255 of nothing, the number of the rule that is broken, or the message
+-- the answer to C of what stands there: 255 of nothing, the number of the rule that is broken, or the message
 abbrev pub message_found : ℕ → Option (Result Frame Fault) → MessageAt
 message_found place None = no_message place 255
 message_found place (Some (Err f)) = no_message place (fault_code f)
@@ -37,7 +33,7 @@ message_found place (Some (Ok f)) = record {
   code = 0;
 }
 
--- this is what C is told of what stands at a place of these bytes
+-- this is the answer to C of what stands at a place of these bytes
 abbrev pub MessageStands : Order → List ℕ → ℕ → MessageAt → Type 0
 MessageStands o bytes place m = (found : Option (Result Frame Fault)) × Front.StandsAt o bytes place found × (m ≡ message_found place found)
 

@@ -1,4 +1,4 @@
--- The numbers that C has for contexts, and what C is told of bodies and of payloads.
+-- The numbers that C has for contexts, and the answers to C of bodies and of payloads.
 use Rattle.std.specs.Prelude.{ℕ, ◌==◌, if◌then◌else◌, Bool, false, Option, Some, None}
 use Rattle.nl_attr.specs.declared.events.TheConstants.{SORT_BYTES, SORT_LIST, SORT_HOPS}
 use Rattle.nl_attr.specs.declared.tree.Content.{Content}
@@ -36,14 +36,14 @@ context_in n =
     if n == 8 then Some Plain else None)))))))
 
 -- the size of a family's head and the context behind it; nothing of other bodies
-abbrev pub family_told : Form → Family
-family_told (form.Family g) = record { head_size = head_size g; context = context_number (context_of g) }
-family_told form.Noop = record { head_size = 0; context = 0 }
-family_told form.Error = record { head_size = 0; context = 0 }
-family_told form.Done = record { head_size = 0; context = 0 }
-family_told form.Overrun = record { head_size = 0; context = 0 }
-family_told form.Get = record { head_size = 0; context = 0 }
-family_told form.Other = record { head_size = 0; context = 0 }
+abbrev pub family_answer : Form → Family
+family_answer (form.Family g) = record { head_size = head_size g; context = context_number (context_of g) }
+family_answer form.Noop = record { head_size = 0; context = 0 }
+family_answer form.Error = record { head_size = 0; context = 0 }
+family_answer form.Done = record { head_size = 0; context = 0 }
+family_answer form.Overrun = record { head_size = 0; context = 0 }
+family_answer form.Get = record { head_size = 0; context = 0 }
+family_answer form.Other = record { head_size = 0; context = 0 }
 
 -- the sort of what is held, and the context of the attributes in it
 abbrev pub held : Content → Holds
@@ -52,6 +52,6 @@ held (content.List c) = record { sort = SORT_LIST; context = context_number c }
 held content.Hops = record { sort = SORT_HOPS; context = context_number Route }
 
 -- what an attribute of this number holds in a context; nothing in none
-abbrev pub holds_told : Option Ctx → ℕ → Bool → Holds
-holds_told None number nested = record { sort = 0; context = 0 }
-holds_told (Some c) number nested = held (holds_of c number (record { nested = nested; net = false }))
+abbrev pub holds_answer : Option Ctx → ℕ → Bool → Holds
+holds_answer None number nested = record { sort = 0; context = 0 }
+holds_answer (Some c) number nested = held (holds_of c number (record { nested = nested; net = false }))

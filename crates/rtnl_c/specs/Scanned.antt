@@ -1,4 +1,4 @@
--- What C is told of a scan.
+-- The answer to C of a scan.
 use Rattle.std.specs.Prelude.{◌<◌, ◌≤◌, ℕ, List, length}
 use Rattle.nl_attr.specs.declared.events.Event.{Event}
 use Rattle.nl_attr.specs.declared.fault.Reason.{Reason}
@@ -36,7 +36,7 @@ module _ (b : Bounds) (d : List ℕ) where
     faulty : length d ≤ b.datagram → (place : ℕ) (why : Reason) → IsFirstFault b.shape (whole d) place why → (v : ℕ) → Visits b.shape (whole d) place v
         → Scans (refused v place (reason_code why))
 
-  -- the same; and what is told of the heads, up to the fault where there is one, stands in the buffer
+  -- the same; and the events of the heads, up to the fault where there is one, stand in the buffer
   pub data Tapes (old : List Event) : List Event → Taped → Type 0 where
     too_large : b.datagram < length d → Tapes old old (untaped 0 0 6)
     accepted : length d ≤ b.datagram → (ms : List MessageVal) → Layout b.shape ms d → (v : ℕ) → Visits b.shape (whole d) (length d) v

@@ -1,4 +1,4 @@
--- What C is told of a text, and where it stands.
+-- The answer to C of a text, and where it stands.
 use Rattle.std.specs.Prelude.{◌++◌, ℕ, List, length, take, drop}
 use Rattle.nl_frame.specs.Limits.{Bounds}
 use Rattle.rtnl.specs.Shown.{Answer, Answers, datagram_text}

@@ -21,7 +21,7 @@ pub struct Checked {
     pub canonical: bool,
 }
 
-/// What C is told of a refusal.
+/// A refusal, as C is answered.
 fn refused(error: ReadError) -> Checked
     ensures { result ≡ found (Err error) }
 {

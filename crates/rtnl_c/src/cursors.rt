@@ -3,15 +3,12 @@
 
 ghost use Rattle.std.specs.Prelude.{◌≡◌, ◌≤◌, ◌<◌, length};
 ghost use Rattle.rtnl_c.specs.Cursors.{AttrStands, HopStands, MessageStands};
-ghost use Rattle.rtnl_c.specs.Cursors.{longest_region, no_attr, no_hop, no_message};
+ghost use Rattle.rtnl_c.specs.Cursors.{no_attr, no_hop, no_message};
 ghost use Rattle.rtnl_c.specs.Options.{order_in};
 
 use crate::options::order;
-use nl_attr::{attr_at, hop_at};
+use nl_attr::{LONGEST_REGION, attr_at, hop_at};
 use nl_frame::message_at;
-
-/// The most bytes in which a place is looked at.
-const LONGEST_REGION: usize = 1_048_576;
 
 /// The code where the bytes are above `LONGEST_REGION`.
 const TOO_LARGE: u8 = 6;
@@ -122,9 +119,9 @@ fn hop_none(place: u32, code: u8) -> HopAt
 /// the datagram is above 1,048,576 bytes.
 #[unsafe(no_mangle)]
 pub extern "C" fn rtnl_message_at(bytes: &[u8], place: u32, big: bool) -> MessageAt
-    ensures stands { length bytes.now ≤ longest_region
+    ensures stands { length bytes.now ≤ LONGEST_REGION
         → MessageStands (order_in big) bytes.now place result }
-    ensures large { longest_region < length bytes.now → result ≡ no_message place 6 }
+    ensures large { LONGEST_REGION < length bytes.now → result ≡ no_message place 6 }
 {
     if bytes.len() > LONGEST_REGION {
         return message_none(place, TOO_LARGE);
@@ -149,9 +146,9 @@ pub extern "C" fn rtnl_message_at(bytes: &[u8], place: u32, big: bool) -> Messag
 /// the region is above 1,048,576 bytes.
 #[unsafe(no_mangle)]
 pub extern "C" fn rtnl_attr_at(bytes: &[u8], place: u32, big: bool) -> AttrAt
-    ensures stands { length bytes.now ≤ longest_region
+    ensures stands { length bytes.now ≤ LONGEST_REGION
         → AttrStands (order_in big) bytes.now place result }
-    ensures large { longest_region < length bytes.now → result ≡ no_attr place 6 }
+    ensures large { LONGEST_REGION < length bytes.now → result ≡ no_attr place 6 }
 {
     if bytes.len() > LONGEST_REGION {
         return attr_none(place, TOO_LARGE);
@@ -175,9 +172,9 @@ pub extern "C" fn rtnl_attr_at(bytes: &[u8], place: u32, big: bool) -> AttrAt
 /// region is above 1,048,576 bytes.
 #[unsafe(no_mangle)]
 pub extern "C" fn rtnl_hop_at(bytes: &[u8], place: u32, big: bool) -> HopAt
-    ensures stands { length bytes.now ≤ longest_region
+    ensures stands { length bytes.now ≤ LONGEST_REGION
         → HopStands (order_in big) bytes.now place result }
-    ensures large { longest_region < length bytes.now → result ≡ no_hop place 6 }
+    ensures large { LONGEST_REGION < length bytes.now → result ≡ no_hop place 6 }
 {
     if bytes.len() > LONGEST_REGION {
         return hop_none(place, TOO_LARGE);

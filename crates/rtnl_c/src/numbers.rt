@@ -2,7 +2,7 @@
 
 ghost use Rattle.std.specs.Prelude.{◌≡◌};
 ghost use Rattle.nl_frame.specs.Form.{form_of};
-ghost use Rattle.rtnl_c.specs.Numbers.{context_in, context_number, family_told, holds_told, held};
+ghost use Rattle.rtnl_c.specs.Numbers.{context_in, context_number, family_answer, holds_answer, held};
 
 use nl_attr::{AttrFlags, Content, Ctx, SORT_BYTES, SORT_HOPS, SORT_LIST, holds};
 use nl_frame::Form;
@@ -61,8 +61,8 @@ fn context(number: u8) -> Option<Ctx>
     }
 }
 
-/// What C is told of what an attribute holds.
-fn told(content: Content) -> Holds
+/// What an attribute holds, in the numbers of C.
+fn answer(content: Content) -> Holds
     ensures { result ≡ held content }
 {
     match content {
@@ -84,7 +84,7 @@ fn told(content: Content) -> Holds
 /// What the body of a message of this type begins with.
 #[unsafe(no_mangle)]
 pub extern "C" fn rtnl_family_of(kind: u16) -> Family
-    ensures { result ≡ family_told (form_of kind) }
+    ensures { result ≡ family_answer (form_of kind) }
 {
     match Form::of(kind) {
         Form::Family(group) => {
@@ -105,7 +105,7 @@ pub extern "C" fn rtnl_family_of(kind: u16) -> Family
 /// `NLA_F_NESTED`.
 #[unsafe(no_mangle)]
 pub extern "C" fn rtnl_holds(context_number: u8, number: u16, nested: bool) -> Holds
-    ensures { result ≡ holds_told (context_in context_number) number nested }
+    ensures { result ≡ holds_answer (context_in context_number) number nested }
 {
     match context(context_number) {
         None => Holds {
@@ -114,7 +114,7 @@ pub extern "C" fn rtnl_holds(context_number: u8, number: u16, nested: bool) -> H
         },
         Some(ctx) => {
             let net = false;
-            told(holds(ctx, number, AttrFlags { nested, net }))
+            answer(holds(ctx, number, AttrFlags { nested, net }))
         }
     }
 }

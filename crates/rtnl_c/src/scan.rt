@@ -103,7 +103,7 @@ pub extern "C" fn rtnl_scan(bytes: &[u8], options: &Options) -> Scanned
     }
 }
 
-/// Scans a datagram as `rtnl_scan` does, and puts what is told of each head into `out`, in the
+/// Scans a datagram as `rtnl_scan` does, and puts the event of each head into `out`, in the
 /// order of their places and as far as `out` goes.
 #[unsafe(no_mangle)]
 pub extern "C" fn rtnl_tape(bytes: &[u8], options: &Options, out: &mut [Event]) -> Taped

@@ -50,7 +50,7 @@ fn label<H: Head>(call: &'static str, order: Order) -> Label {
     Label::of(call, order, H::group().row().name)
 }
 
-/// Reads a body, and tells how much was visited, and what the body is written as.
+/// Reads a body, and writes how much was visited, and what the body is written as.
 fn read<H: Head>(rt: &HostRuntime, row: Row, order: Order) -> Result<(), Stop> {
     let label = label::<H>("read_body", order);
     let depth = Depth::standard();

@@ -16,7 +16,7 @@ pub(crate) fn limits_in(order: Order) -> Limits {
     Limits::standard().with_order(order)
 }
 
-/// Reads a datagram, and tells how much was visited, and what its messages are written as.
+/// Reads a datagram, and writes how much was visited, and what its messages are written as.
 fn read(rt: &HostRuntime, row: Row, order: Order) -> Result<(), Stop> {
     let label = Label::of("read_datagram", order, row.name);
     let bytes = Bytes::of(&[row], order)?;

@@ -27,7 +27,7 @@ where
     Ok(())
 }
 
-/// Appends all that a table tells.
+/// Appends all that a table answers.
 fn push_table<H: Head>(out: &mut Vec<u8>, table: &Table<Family<H>>) -> Result<(), Stop>
 where
     Family<H>: Entry,

@@ -1,11 +1,11 @@
 //! Datagrams fed to sessions.
 
+use crate::answers::{Answers, word_of};
 use crate::dumps::{begun, fed, first_of, in_session, last_of};
 use crate::entries::entries_in;
 use crate::rows::Bytes;
 use crate::said::{Hex, Label, as_before, say, yes_or_no};
 use crate::stop::Stop;
-use crate::told::{Told, word_of};
 use nl_attr::Order;
 use nl_dump::{FeedError, Kind, Progress, Session};
 
@@ -23,11 +23,11 @@ fn say_taken(
     let (damaged, complete) = (yes_or_no(session.damaged()), yes_or_no(session.complete()));
     let entries = entries_in(rt.alloc(), session, kind)?;
     let entries = Hex(entries.as_slice());
-    let told = format_args!(
+    let answer = format_args!(
         "items {items} ignored {ignored} ended {ended}, {state}, received {received} \
         visits {visits}, damaged {damaged} complete {complete}, entries {entries}"
     );
-    say(rt, label, told)
+    say(rt, label, answer)
 }
 
 /// Tells what stands after a datagram for which there was no memory.
@@ -39,14 +39,14 @@ fn say_refused(
     label: Label,
 ) -> Result<(), Stop> {
     let (kept, damaged) = (as_before(is_as_before), yes_or_no(damaged));
-    let told = format_args!(
+    let answer = format_args!(
         "memory, answer and tables {kept}, received {received} visits {visits}, \
         damaged {damaged}"
     );
-    say(rt, label, told)
+    say(rt, label, answer)
 }
 
-/// Feeds a datagram, and tells what became of it.
+/// Feeds a datagram, and writes what became of it.
 fn feed(
     rt: &HostRuntime,
     session: &mut Session,
@@ -54,9 +54,9 @@ fn feed(
     bytes: &[u8],
     label: Label,
 ) -> Result<Result<Progress, FeedError>, Stop> {
-    let before = Told::of(rt.alloc(), session)?;
+    let before = Answers::of(rt.alloc(), session)?;
     let answer = session.feed(bytes);
-    let after = Told::of(rt.alloc(), session)?;
+    let after = Answers::of(rt.alloc(), session)?;
     let sums = after.since(&before);
     let kept = after.answers_as(&before);
     match answer {

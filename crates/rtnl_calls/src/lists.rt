@@ -6,14 +6,14 @@ use crate::regions::{REGIONS, Region};
 use crate::said::{Hex, Label, ORDERS, say};
 use crate::stop::Stop;
 use nl_attr::{
-    Attr, AttrFlags, Ctx, Depth, ListError, Order, Payload, Tally, Value, WriteError, read_list,
-    read_list_ordered, write_list, write_list_ordered,
+    Attr, AttrFlags, Ctx, Depth, LONGEST_REGION, ListError, Order, Payload, Tally, Value,
+    WriteError, read_list, read_list_ordered, write_list, write_list_ordered,
 };
 use std::alloc::{AllocError, AllocFailed, Global};
 
 /// What the call for the order answers over a region.
 fn tally_of(alloc: Global, bytes: &[u8], depth: Depth, order: Order) -> Tally<Vec<Attr>, ListError>
-    requires { length bytes.now ≤ 1048576 }
+    requires { length bytes.now ≤ LONGEST_REGION }
 {
     match order {
         Order::Little => read_list(alloc, bytes, 0, Ctx::Plain, 0, depth),
@@ -21,7 +21,7 @@ fn tally_of(alloc: Global, bytes: &[u8], depth: Depth, order: Order) -> Tally<Ve
     }
 }
 
-/// Reads a list, and tells how much was visited, and what the list is written as.
+/// Reads a list, and writes how much was visited, and what the list is written as.
 fn read(rt: &HostRuntime, region: &Region, order: Order) -> Result<(), Stop> {
     let label = Label::of("read_list", order, region.row.name);
     let bytes = region.bytes(rt.alloc(), order)?;

@@ -1,9 +1,10 @@
 //! Calls each library call that takes memory over rows whose answers are known, for tests alone:
-//! `rtnl_calls CALL`, or `rtnl_calls all`. A line for each row tells what the call answered, and
+//! `rtnl_calls CALL`, or `rtnl_calls all`. A line for each row says what the call answered, and
 //! what stands after it. tests/refuse.sh runs it with each of its growths refused in turn; it ends
-//! with status 4 where memory runs out before a row is tried, or while its answer is told.
+//! with status 4 where memory runs out before a row is tried, or while its answer is written.
 #![tactic(auto)]
 
+mod answers;
 mod bodies;
 mod datagrams;
 mod dumps;
@@ -17,7 +18,6 @@ mod said;
 mod sessions;
 mod stop;
 mod tables;
-mod told;
 
 use std::io;
 use std::process::ExitCode;

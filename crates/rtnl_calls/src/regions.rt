@@ -4,11 +4,8 @@ ghost use Rattle.std.specs.Prelude.{◌≤◌, IfOk, vec_len};
 
 use crate::rows::Row;
 use crate::stop::Stop;
-use nl_attr::Order;
+use nl_attr::{LONGEST_REGION, Order};
 use std::alloc::Global;
-
-/// The longest region that is read.
-const LONGEST: usize = 1_048_576;
 
 /// A region: a row, zeros behind it, and the depth that it is read by.
 #[derive(Clone, Copy)]
@@ -21,12 +18,12 @@ pub(crate) struct Region {
 impl Region {
     /// Its bytes in this order.
     pub(crate) fn bytes(&self, alloc: Global, order: Order) -> Result<Vec<u8>, Stop>
-        ensures { IfOk result (λ v. vec_len v ≤ LONGEST) }
+        ensures { IfOk result (λ v. vec_len v ≤ LONGEST_REGION) }
     {
         let text = self.row.text(order);
         let count = text.len() / 2;
         let mut bytes: Vec<u8> = vec![in alloc; 0; count.saturating_add(self.zeros)]?;
-        if bytes.len() < count || bytes.len() > LONGEST {
+        if bytes.len() < count || bytes.len() > LONGEST_REGION {
             return Err(Stop::Fault);
         }
         let (front, _) = bytes.as_mut_slice().split_at_mut(count);

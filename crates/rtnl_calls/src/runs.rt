@@ -112,7 +112,7 @@ fn table(rt: &HostRuntime, order: Order) -> Result<(), Stop> {
     say_run(rt, label, answer, &sink)
 }
 
-/// Reads the same two lines, and tells of the dump as lines of JSON.
+/// Reads the same two lines, and writes the dump as lines of JSON.
 fn table_json(rt: &HostRuntime, order: Order) -> Result<(), Stop> {
     let input = two_links(rt.alloc(), order)?;
     let mut source = SliceSource::new(input.as_bytes());
@@ -194,7 +194,7 @@ pub(crate) fn check_end(rt: &HostRuntime) -> Result<(), Stop> {
     Ok(())
 }
 
-/// The end of a dump, checked and told as lines of JSON in both orders.
+/// The end of a dump, checked and written as lines of JSON in both orders.
 pub(crate) fn check_end_json(rt: &HostRuntime) -> Result<(), Stop> {
     for order in ORDERS {
         check_json(rt, order)?;

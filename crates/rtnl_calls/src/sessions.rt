@@ -1,19 +1,19 @@
 //! Sessions made, and dumps begun.
 
+use crate::answers::{Answers, word_of};
 use crate::dumps::{begun, fed, in_session, last_of};
 use crate::entries::entries_in;
 use crate::said::{Hex, Label, ORDERS, as_before, say};
 use crate::stop::Stop;
-use crate::told::{Told, word_of};
 use nl_attr::Order;
 use nl_dump::{BeginError, Kind, Session};
 
-/// Makes a session. What is told of it takes no memory.
+/// Makes a session. What is written of it takes no memory.
 fn make(rt: &HostRuntime, order: Order) -> Result<(), Stop> {
     let label = Label::of("new_session", order, "the standard limits");
     match in_session(rt.alloc(), order, |session| say_new(rt, session, label)) {
         Err(Stop::Memory) => say(rt, label, "memory"),
-        told => told,
+        answer => answer,
     }
 }
 
@@ -27,7 +27,7 @@ fn say_new(rt: &HostRuntime, session: &Session, label: Label) -> Result<(), Stop
     )
 }
 
-/// Begins a dump, and tells its request and what its table holds.
+/// Begins a dump, and writes its request and what its table holds.
 fn begin(
     rt: &HostRuntime,
     session: &mut Session,
@@ -35,9 +35,9 @@ fn begin(
     (family, seq, port): (u8, u32, u32),
     label: Label,
 ) -> Result<(), Stop> {
-    let before = Told::of(rt.alloc(), session)?;
+    let before = Answers::of(rt.alloc(), session)?;
     let answer = session.begin(kind, family, seq, port);
-    let after = Told::of(rt.alloc(), session)?;
+    let after = Answers::of(rt.alloc(), session)?;
     let kept = as_before(after.is_as(&before));
     match answer {
         Ok(request) => say_begun(rt, session, kind, request.as_slice(), label),

@@ -7,7 +7,7 @@ use thiserror::Error;
 /// Why a run ends before its last call.
 #[derive(Clone, Copy, Debug, PartialEq, Eq, Error)]
 pub(crate) enum Stop {
-    /// Memory ran out outside of the calls, where a row was prepared or its answer told.
+    /// Memory ran out outside of the calls, where a row was prepared or its answer written.
     #[error("out of memory")]
     Memory,
     /// No call has this name.

@@ -31,12 +31,12 @@ fn in_table<F: FnOnce(&mut Table<Link>) -> Result<(), Stop>>(
     steps(&mut table)
 }
 
-/// Makes a table. What is told of it takes no memory.
+/// Makes a table. What is written of it takes no memory.
 fn make(rt: &HostRuntime, order: Order) -> Result<(), Stop> {
     let label = Label::of("new_table", order, "one place");
     match in_table(rt.alloc(), 1, order, |table| say_new(rt, table, label)) {
         Err(Stop::Memory) => say(rt, label, "memory"),
-        told => told,
+        answer => answer,
     }
 }
 
@@ -49,7 +49,7 @@ fn say_new(rt: &HostRuntime, table: &Table<Link>, label: Label) -> Result<(), St
     )
 }
 
-/// Reserves places, and tells how many there are, and what the table holds.
+/// Reserves places, and writes how many there are, and what the table holds.
 fn reserve(
     rt: &HostRuntime,
     table: &mut Table<Link>,
@@ -64,13 +64,13 @@ fn reserve(
     let entries = Hex(entries.as_slice());
     match answer {
         Ok(()) => {
-            let told = format_args!("spare {spare}, missed {missed}, entries {entries}");
-            say(rt, label, told)
+            let answer = format_args!("spare {spare}, missed {missed}, entries {entries}");
+            say(rt, label, answer)
         }
         Err(AllocError) => {
             let spare = as_before(spare == before);
-            let told = format_args!("memory, spare {spare}, missed {missed}, entries {entries}");
-            say(rt, label, told)
+            let answer = format_args!("memory, spare {spare}, missed {missed}, entries {entries}");
+            say(rt, label, answer)
         }
     }
 }
@@ -85,7 +85,7 @@ fn put(alloc: Global, table: &mut Table<Link>, row: Row) -> Result<Put, Stop> {
     Err(Stop::Fault)
 }
 
-/// Puts a link, and tells what the table holds.
+/// Puts a link, and writes what the table holds.
 fn put_one(rt: &HostRuntime, table: &mut Table<Link>, row: Row) -> Result<(), Stop> {
     let label = Label::of("put", table.order(), row.name);
     let answer = match put(rt.alloc(), table, row)? {

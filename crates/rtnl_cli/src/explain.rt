@@ -55,7 +55,7 @@ fn explain_line(rt: &HostRuntime, name: &str, input: &[u8], number: u32) -> io::
     }
 }
 
-/// Tells why a run failed. The reason of a read or a write that failed is told by who made it.
+/// Writes why a run failed. The reason of a failed read or write has been written by the caller.
 pub(crate) fn explain_failure(
     rt: &HostRuntime,
     name: &str,

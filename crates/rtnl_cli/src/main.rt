@@ -43,8 +43,8 @@ fn followed(_printed: io::Result<()>, status: ExitCode) -> ExitCode {
 }
 
 /// The exit status of a run that was explained, or could not be.
-fn after(rt: &HostRuntime, told: io::Result<()>, status: ExitCode) -> ExitCode {
-    match told {
+fn after(rt: &HostRuntime, written: io::Result<()>, status: ExitCode) -> ExitCode {
+    match written {
         Ok(()) => status,
         Err(error) => followed(eprintln!(rt; "rtnl: not explained: {error}"), status),
     }
@@ -167,14 +167,14 @@ fn run_explained(rt: &HostRuntime, file: Option<&str>, work: &Work) -> ExitCode 
         }
     }
     let status = outcome(rt, answer);
-    let told = match answer {
+    let written = match answer {
         Ok(Verdict::Clean) => Ok(()),
         Ok(Verdict::Blemished) => {
             explain_refusals(rt, input.as_slice(), work.engine, &work.limits)
         }
         Err(error) => explain_failure(rt, name, input.as_slice(), error),
     };
-    after(rt, told, status)
+    after(rt, written, status)
 }
 
 /// Does what the arguments ask for.

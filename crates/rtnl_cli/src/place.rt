@@ -2,7 +2,7 @@
 
 use std::fmt;
 
-/// How many bytes are told.
+/// How many bytes are shown.
 const WINDOW: usize = 16;
 
 /// The bytes around a place in hexadecimal, up to sixteen, that at the place in brackets.

@@ -17,7 +17,7 @@ fn odd(digits: usize) -> Option<LineFault> {
 }
 
 /// What is wrong with each line, and that a recording of it is refused for that line alone.
-fn are_told(alloc: Global, cases: &[Case]) -> Result<(), Fail> {
+fn are_found(alloc: Global, cases: &[Case]) -> Result<(), Fail> {
     for (line, fault) in cases {
         ensure(line_fault(line) == *fault, "what is wrong")?;
         let is_bad = datagrams(alloc, line).err() == Some(RunError::BadLine(1));
@@ -37,13 +37,13 @@ fn bytes_that_are_no_digits(rt: HostRuntime) -> Result<(), Fail> {
         (b"0x14", stray(2, b'x')),
         (b"14\x0014", stray(3, 0)),
     ];
-    are_told(rt.alloc(), &cases)
+    are_found(rt.alloc(), &cases)
 }
 
 #[test]
 fn digits_of_an_odd_number(rt: HostRuntime) -> Result<(), Fail> {
     let cases: [Case; 3] = [(b"1", odd(1)), (b"123", odd(3)), (b" 1 2\t3\r", odd(3))];
-    are_told(rt.alloc(), &cases)
+    are_found(rt.alloc(), &cases)
 }
 
 #[test]
@@ -55,7 +55,7 @@ fn lines_with_nothing_wrong(rt: HostRuntime) -> Result<(), Fail> {
         (b"0aFf", None),
         (b"0 a\tF f\r", None),
     ];
-    are_told(rt.alloc(), &cases)
+    are_found(rt.alloc(), &cases)
 }
 
 #[test]

@@ -78,7 +78,7 @@ fn look(
 }
 
 /// The first fault of a datagram is this one, and about this head.
-fn tells(alloc: Global, case: Case, fault: Fault, head: BrokenHead) -> Result<(), Fail> {
+fn answers(alloc: Global, case: Case, fault: Fault, head: BrokenHead) -> Result<(), Fail> {
     for order in [Order::Little, Order::Big] {
         let (is_first, found) = look(alloc, case, order, fault)?;
         ensure(is_first && found == Some(head), case.text(order))?;
@@ -112,14 +112,14 @@ fn headers(rt: HostRuntime) -> Result<(), Fail> {
         ..LONG_MESSAGE
     };
     let header = |len, left| head(HeadKind::Message, 0, len, left);
-    tells(rt.alloc(), cut, at(20, Reason::Cut), header(None, 8))?;
-    tells(
+    answers(rt.alloc(), cut, at(20, Reason::Cut), header(None, 8))?;
+    answers(
         rt.alloc(),
         LONG_MESSAGE,
         at(0, Reason::BadLength),
         header(Some(24), 20),
     )?;
-    tells(
+    answers(
         rt.alloc(),
         short,
         at(0, Reason::ShortBody),
@@ -130,13 +130,13 @@ fn headers(rt: HostRuntime) -> Result<(), Fail> {
 #[test]
 fn attributes(rt: HostRuntime) -> Result<(), Fail> {
     let attr = |level, len, left| head(HeadKind::Attribute, level, Some(len), left);
-    tells(
+    answers(
         rt.alloc(),
         SHORT_ATTRIBUTE,
         at(32, Reason::BadLength),
         attr(0, 3, 4),
     )?;
-    tells(
+    answers(
         rt.alloc(),
         LONG_IN_A_LIST,
         at(36, Reason::BadLength),
@@ -157,8 +157,8 @@ fn containers(rt: HostRuntime) -> Result<(), Fail> {
         depth: 8,
     };
     let attr = |len, left| head(HeadKind::Attribute, 0, Some(len), left);
-    tells(rt.alloc(), deep, at(32, Reason::TooDeep), attr(12, 12))?;
-    tells(
+    answers(rt.alloc(), deep, at(32, Reason::TooDeep), attr(12, 12))?;
+    answers(
         rt.alloc(),
         long,
         at(32, Reason::TooLong),
@@ -182,8 +182,8 @@ fn next_hops(rt: HostRuntime) -> Result<(), Fail> {
     };
     let hop = head(HeadKind::NextHop, 1, None, 4);
     let attr = head(HeadKind::Attribute, 2, Some(2), 4);
-    tells(rt.alloc(), cut, at(32, Reason::Cut), hop)?;
-    tells(rt.alloc(), inside, at(40, Reason::BadLength), attr)
+    answers(rt.alloc(), cut, at(32, Reason::Cut), hop)?;
+    answers(rt.alloc(), inside, at(40, Reason::BadLength), attr)
 }
 
 #[test]
@@ -225,7 +225,7 @@ fn in_a_list_that_is_too_deep_no_head_stands(rt: HostRuntime) -> Result<(), Fail
 }
 
 #[test]
-fn nothing_is_told_of_a_datagram_above_the_limit(rt: HostRuntime) -> Result<(), Fail> {
+fn a_datagram_above_the_limit_has_no_broken_head(rt: HostRuntime) -> Result<(), Fail> {
     let alloc = rt.alloc();
     let bytes = bytes_and_zeros(alloc, LONG_MESSAGE.little, 0)?;
     let fault = at(0, Reason::BadLength);
@@ -242,7 +242,7 @@ fn nothing_is_told_of_a_datagram_above_the_limit(rt: HostRuntime) -> Result<(), 
 }
 
 /// The attribute of a region that is read from this place and level on.
-fn told_of_region(bytes: &[u8; 8], order: Order) -> Option<BrokenHead> {
+fn head_of_region(bytes: &[u8; 8], order: Order) -> Option<BrokenHead> {
     let fault = at(104, Reason::Cut);
     nl_attr::broken_head(
         &bytes[..6],
@@ -258,7 +258,7 @@ fn told_of_region(bytes: &[u8; 8], order: Order) -> Option<BrokenHead> {
 #[test]
 fn a_region_alone(rt: HostRuntime) -> Result<(), Fail> {
     let cut = Some(head(HeadKind::Attribute, 3, None, 2));
-    let little = told_of_region(&[4, 0, 1, 0, 4, 0, 1, 0], Order::Little);
-    let big = told_of_region(&[0, 4, 0, 1, 0, 4, 0, 1], Order::Big);
+    let little = head_of_region(&[4, 0, 1, 0, 4, 0, 1, 0], Order::Little);
+    let big = head_of_region(&[0, 4, 0, 1, 0, 4, 0, 1], Order::Big);
     ensure(little == cut && big == cut, "an attribute that is cut")
 }

@@ -27,7 +27,7 @@ fn frame_at(bytes: &[u8], place: u32, order: Order) -> Result<Frame<'_>, Fail>
     Ok(message_at(bytes, place, order).ok_or("a message")??)
 }
 
-/// The fault that is told of a place, if one is.
+/// The fault at a place, where there is one.
 fn fault_in<T: Drop>(found: Option<Result<T, Fault>>) -> Option<Fault> {
     found?.err()
 }

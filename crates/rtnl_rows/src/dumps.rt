@@ -1,7 +1,7 @@
 //! Dumps, from their first datagram to their end.
 
 use crate::feeding::{
-    LINKS, Told, holds, in_dump, in_state, refuses_text, takes_text, tells, waiting,
+    Counts, LINKS, answers, holds, in_dump, in_state, refuses_text, takes_text, waiting,
 };
 use crate::vectors::{DONE, DONE_BIG, ETHERNET, LOOPBACK, LOOPBACK_BIG, RULE, RULE_BIG, ensure};
 use nl_attr::{Fault, Order, Reason};
@@ -10,9 +10,9 @@ use nl_frame::Limits;
 use std::alloc::Global;
 use std::test::Fail;
 
-/// What a session tells whose dump was ended by DONE with status 0 and lost nothing.
-fn whole(received: u64, visits: u64) -> Told {
-    Told {
+/// What a session answers whose dump was ended by DONE with status 0 and lost nothing.
+fn whole(received: u64, visits: u64) -> Counts {
+    Counts {
         received,
         visits,
         complete: true,
@@ -22,7 +22,7 @@ fn whole(received: u64, visits: u64) -> Told {
 
 /// Both links and the end have come, and all is held.
 fn is_whole(session: &Session) -> Result<(), Fail> {
-    tells(session, whole(112, 28), "the end")?;
+    answers(session, whole(112, 28), "the end")?;
     let links = session.links();
     let has_keys = links.key_at(0) == Some([1, 0, 0, 0].as_slice())
         && links.key_at(1) == Some([2, 0, 0, 0].as_slice());
@@ -75,11 +75,11 @@ fn leaves(
     missed: u64,
 ) -> Result<(), Fail> {
     takes_three(alloc, session, "0200")?;
-    let told = Told {
+    let wanted = Counts {
         complete: missed == 0,
         ..whole(160, 44)
     };
-    tells(session, told, "an end")?;
+    answers(session, wanted, "an end")?;
     holds(session, links, missed, "its links")
 }
 
@@ -105,12 +105,12 @@ fn a_table_that_is_full_misses_links(rt: HostRuntime) -> Result<(), Fail> {
 
 fn is_interrupted_by_an_item(alloc: Global, session: &mut Session) -> Result<(), Fail> {
     takes_three(alloc, session, "1200")?;
-    let told = Told {
+    let wanted = Counts {
         interrupted: true,
         complete: false,
         ..whole(160, 44)
     };
-    tells(session, told, "interrupted")?;
+    answers(session, wanted, "interrupted")?;
     holds(session, &[(1, Some(1500)), (2, None)], 0, "its links")
 }
 
@@ -131,13 +131,13 @@ fn is_interrupted_by_its_end(alloc: Global, session: &mut Session) -> Result<(),
     ensure(!session.interrupted(), "not yet")?;
     let end = "14000000 0300 1200 01000000 39300000 00000000";
     takes_text(alloc, session, &[end], (0, 0, true), end)?;
-    let told = Told {
+    let wanted = Counts {
         ignored: 1,
         interrupted: true,
         complete: false,
         ..whole(40, 0)
     };
-    tells(session, told, "interrupted")
+    answers(session, wanted, "interrupted")
 }
 
 #[test]
@@ -156,22 +156,22 @@ fn leads_to(
     session: &mut Session,
     text: &str,
     (ignored, ended): (u32, bool),
-    told: Told,
+    wanted: Counts,
 ) -> Result<(), Fail> {
     takes_text(alloc, session, &[text], (0, ignored, ended), text)?;
-    tells(session, told, text)?;
+    answers(session, wanted, text)?;
     holds(session, &[], 0, text)
 }
 
 /// A fresh dump is ended by a datagram of so many bytes in this way.
 fn ends(alloc: Global, text: &str, received: u64, end: End, complete: bool) -> Result<(), Fail> {
-    let told = Told {
+    let wanted = Counts {
         received,
         complete,
         ..in_state(State::Ended(LINKS, end))
     };
     in_dump(alloc, Kind::Link, Limits::standard(), |alloc, session| {
-        leads_to(alloc, session, text, (0, true), told)
+        leads_to(alloc, session, text, (0, true), wanted)
     })
 }
 
@@ -192,7 +192,7 @@ fn ends_of_a_dump(rt: HostRuntime) -> Result<(), Fail> {
 #[test]
 fn an_acknowledgement_does_not_end_it(rt: HostRuntime) -> Result<(), Fail> {
     let text = "24000000 0200 0000 01000000 39300000 00000000 20000000 1200 0103 01000000 00000000";
-    let told = Told {
+    let wanted = Counts {
         received: 36,
         ignored: 1,
         ..in_state(State::Waiting(LINKS))
@@ -201,7 +201,7 @@ fn an_acknowledgement_does_not_end_it(rt: HostRuntime) -> Result<(), Fail> {
         rt.alloc(),
         Kind::Link,
         Limits::standard(),
-        |alloc, session| { leads_to(alloc, session, text, (1, false), told) },
+        |alloc, session| { leads_to(alloc, session, text, (1, false), wanted) },
     )
 }
 
@@ -213,12 +213,12 @@ fn refuses_a_short_error(alloc: Global, session: &mut Session) -> Result<(), Fai
     };
     let text = "10000000 0200 0000 01000000 39300000";
     refuses_text(alloc, session, &[text], FeedError::Layout(fault))?;
-    let told = Told {
+    let wanted = Counts {
         received: 16,
         damaged: true,
         ..in_state(State::Waiting(LINKS))
     };
-    tells(session, told, "waiting")
+    answers(session, wanted, "waiting")
 }
 
 #[test]
@@ -239,13 +239,13 @@ fn refuses_a_cut_head(alloc: Global, session: &mut Session) -> Result<(), Fail> 
     };
     let texts = [LOOPBACK, "14000000 0300 0200 0100"];
     refuses_text(alloc, session, &texts, FeedError::Layout(fault))?;
-    let told = Told {
+    let wanted = Counts {
         received: 58,
         visits: 16,
         damaged: true,
         ..in_state(State::Waiting(LINKS))
     };
-    tells(session, told, "damaged")?;
+    answers(session, wanted, "damaged")?;
     holds(session, &[], 0, "no link")
 }
 
@@ -264,11 +264,11 @@ fn nothing_of_a_refused_datagram_is_kept(rt: HostRuntime) -> Result<(), Fail> {
 
 fn ignores_what_comes_behind(alloc: Global, session: &mut Session) -> Result<(), Fail> {
     takes_text(alloc, session, &[DONE, LOOPBACK], (0, 1, true), "the end")?;
-    let told = Told {
+    let wanted = Counts {
         ignored: 1,
         ..whole(68, 16)
     };
-    tells(session, told, "complete")?;
+    answers(session, wanted, "complete")?;
     holds(session, &[], 0, "no link")
 }
 
@@ -285,7 +285,7 @@ fn what_comes_behind_the_end_is_ignored(rt: HostRuntime) -> Result<(), Fail> {
 fn takes_the_other_order(alloc: Global, session: &mut Session) -> Result<(), Fail> {
     takes_text(alloc, session, &[LOOPBACK_BIG], (1, 0, false), "a link")?;
     takes_text(alloc, session, &[DONE_BIG], (0, 0, true), "the end")?;
-    tells(session, whole(68, 16), "complete")?;
+    answers(session, whole(68, 16), "complete")?;
     holds(session, &[(1, Some(65_536))], 0, "its link")?;
     let key = session.links().key_at(0) == Some([1, 0, 0, 0].as_slice());
     ensure(key && session.links().order() == Order::Big, "its key")
@@ -305,9 +305,9 @@ const RULES: Dump = Dump {
     port: 12345,
 };
 
-/// What a session tells whose dump of rules was ended by DONE with status 0 and lost nothing.
-fn whole_rules(received: u64, visits: u64, ignored: u64) -> Told {
-    Told {
+/// What a session answers whose dump of rules was ended by DONE with status 0 and lost nothing.
+fn whole_rules(received: u64, visits: u64, ignored: u64) -> Counts {
+    Counts {
         received,
         visits,
         ignored,
@@ -328,7 +328,7 @@ fn holds_the_rule(session: &Session) -> Result<(), Fail> {
 
 fn takes_the_rule(alloc: Global, session: &mut Session) -> Result<(), Fail> {
     takes_text(alloc, session, &[RULE, DONE], (1, 0, true), "a rule")?;
-    tells(session, whole_rules(48, 0, 0), "complete")?;
+    answers(session, whole_rules(48, 0, 0), "complete")?;
     holds_the_rule(session)
 }
 
@@ -340,7 +340,7 @@ fn a_dump_of_rules(rt: HostRuntime) -> Result<(), Fail> {
 fn ignores_a_link(alloc: Global, session: &mut Session) -> Result<(), Fail> {
     let all = [LOOPBACK, RULE, DONE];
     takes_text(alloc, session, &all, (1, 1, true), "a link and a rule")?;
-    tells(session, whole_rules(96, 16, 1), "complete")?;
+    answers(session, whole_rules(96, 16, 1), "complete")?;
     holds_the_rule(session)
 }
 
@@ -349,7 +349,7 @@ fn ignores_a_link_alone(alloc: Global, session: &mut Session) -> Result<(), Fail
     takes_text(alloc, session, &[LOOPBACK], (0, 1, false), "a link")?;
     takes_text(alloc, session, &[RULE], (1, 0, false), "a rule")?;
     takes_text(alloc, session, &[DONE], (0, 0, true), "the end")?;
-    tells(session, whole_rules(96, 16, 1), "complete")?;
+    answers(session, whole_rules(96, 16, 1), "complete")?;
     holds_the_rule(session)
 }
 
@@ -368,7 +368,7 @@ fn ignores_other_types_of_rules(alloc: Global, session: &mut Session) -> Result<
     takes_text(alloc, session, &[request], (0, 1, false), request)?;
     ensure(session.rules().is_empty(), "no rule")?;
     takes_text(alloc, session, &[RULE, DONE], (1, 0, true), "a rule")?;
-    tells(session, whole_rules(104, 0, 2), "complete")?;
+    answers(session, whole_rules(104, 0, 2), "complete")?;
     holds_the_rule(session)
 }
 
@@ -376,11 +376,11 @@ fn ignores_other_types_of_rules(alloc: Global, session: &mut Session) -> Result<
 fn ignores_a_rule(alloc: Global, session: &mut Session) -> Result<(), Fail> {
     takes_text(alloc, session, &[RULE], (0, 1, false), "a rule")?;
     takes_text(alloc, session, &[LOOPBACK, DONE], (1, 0, true), "a link")?;
-    let told = Told {
+    let wanted = Counts {
         ignored: 1,
         ..whole(96, 16)
     };
-    tells(session, told, "complete")?;
+    answers(session, wanted, "complete")?;
     ensure(session.rules().is_empty(), "no rule")?;
     holds(session, &[(1, Some(65_536))], 0, "its link")
 }
@@ -400,7 +400,7 @@ fn new_rules_alone_are_items_of_their_dump(rt: HostRuntime) -> Result<(), Fail> 
 fn takes_the_rule_in_the_other_order(alloc: Global, session: &mut Session) -> Result<(), Fail> {
     let all = [RULE_BIG, DONE_BIG];
     takes_text(alloc, session, &all, (1, 0, true), "a rule")?;
-    tells(session, whole_rules(48, 0, 0), "complete")?;
+    answers(session, whole_rules(48, 0, 0), "complete")?;
     holds_the_rule(session)
 }
 

@@ -88,9 +88,9 @@ pub(crate) fn refuses_text(
     ensure(fed == Err(error), "a refusal")
 }
 
-/// All that a session tells beside its tables.
+/// All that a session answers beside its tables.
 #[derive(Clone, Copy, Debug, PartialEq, Eq)]
-pub(crate) struct Told {
+pub(crate) struct Counts {
     pub(crate) state: State,
     pub(crate) received: u64,
     pub(crate) visits: u64,
@@ -100,9 +100,9 @@ pub(crate) struct Told {
     pub(crate) complete: bool,
 }
 
-/// What a session in this state tells to which nothing was fed.
-pub(crate) fn in_state(state: State) -> Told {
-    Told {
+/// What a session in this state answers to which nothing was fed.
+pub(crate) fn in_state(state: State) -> Counts {
+    Counts {
         state,
         received: 0,
         visits: 0,
@@ -113,9 +113,9 @@ pub(crate) fn in_state(state: State) -> Told {
     }
 }
 
-/// A session tells this.
-pub(crate) fn tells(session: &Session, told: Told, what: &str) -> Result<(), Fail> {
-    let found = Told {
+/// A session answers this.
+pub(crate) fn answers(session: &Session, wanted: Counts, what: &str) -> Result<(), Fail> {
+    let found = Counts {
         state: session.state(),
         received: session.received(),
         visits: session.visits(),
@@ -124,7 +124,7 @@ pub(crate) fn tells(session: &Session, told: Told, what: &str) -> Result<(), Fai
         interrupted: session.interrupted(),
         complete: session.complete(),
     };
-    ensure(found == told, what)
+    ensure(found == wanted, what)
 }
 
 /// A table holds these links alone, of these indices and MTUs.

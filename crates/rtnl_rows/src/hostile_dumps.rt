@@ -1,6 +1,6 @@
 //! Datagrams that are cut, changed in one length or nested deep, fed to sessions.
 
-use crate::feeding::{LINKS, Told, are_links, in_dump, in_state, takes, tells};
+use crate::feeding::{Counts, LINKS, answers, are_links, in_dump, in_state, takes};
 use crate::trials::{AT_DEPTH_8, AT_DEPTH_32, Trial, push_lengths, push_nests, push_prefixes};
 use crate::vectors::{LOOPBACK, changed, ensure};
 use nl_dump::{Dump, FeedError, Kind, Session, State};
@@ -141,14 +141,14 @@ fn ends_the_row(alloc: Global, session: &mut Session) -> Result<(), Fail> {
     push_lengths(alloc, &mut trials)?;
     push_nests(alloc, &mut trials, &AT_DEPTH_8)?;
     answers_all(session, trials.as_slice())?;
-    let told = Told {
+    let wanted = Counts {
         received: 9_336,
         visits: 4_384,
         ignored: 2,
         damaged: true,
         ..in_state(State::Waiting(Dump { seq: 2, ..LINKS }))
     };
-    tells(session, told, "the second dump")?;
+    answers(session, wanted, "the second dump")?;
     ensure(is_empty(session), "no link")
 }
 

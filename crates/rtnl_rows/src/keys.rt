@@ -111,7 +111,7 @@ fn link_has_key(alloc: Global, text: &str, key: &str) -> Result<(), Fail> {
 }
 
 #[test]
-fn a_link_is_told_by_its_index_alone(rt: HostRuntime) -> Result<(), Fail> {
+fn a_link_is_known_by_its_index_alone(rt: HostRuntime) -> Result<(), Fail> {
     let alloc = rt.alloc();
     let loopback = "00000403 01000000 49000100 00000000 07000300 6c6f0000 08000400 00000100";
     link_has_key(alloc, loopback, "01000000")?;
@@ -141,7 +141,7 @@ fn a_bridge_entry_has_its_station_and_networks(rt: HostRuntime) -> Result<(), Fa
 
 /// Of the flags `SELF`, `MASTER` and `PROXY` count, and the networks of a bridge's entries alone.
 #[test]
-fn what_tells_other_neighbours(rt: HostRuntime) -> Result<(), Fail> {
+fn what_tells_neighbours_apart(rt: HostRuntime) -> Result<(), Fail> {
     let alloc = rt.alloc();
     let attrs = "0a000200 02000000 00010000 06000500 64000000 08000700 88130000";
     let all = format!(in alloc; "02000000 02000000 8000ff01 {attrs}")?;

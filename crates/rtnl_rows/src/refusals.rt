@@ -22,7 +22,7 @@ const REASONS: [(Reason, &str, &str); 5] = [
     (Reason::TooDeep, "too deep", "too deep at 48"),
 ];
 
-/// A fault says the same wherever it is told.
+/// A fault is written alike wherever it stands.
 #[test]
 fn faults_have_texts(rt: HostRuntime) -> Result<(), Fail> {
     let alloc = rt.alloc();

@@ -1,4 +1,4 @@
-//! Scans of datagrams, and what a tape tells of each head, in both byte orders.
+//! Scans of datagrams, and the events of a tape, in both byte orders.
 
 use crate::vectors::{
     DONE, DONE_BIG, LOOPBACK, LOOPBACK_BIG, NESTED, PLAIN, RULE, RULE_BIG, TABLE_RULE,
@@ -54,7 +54,7 @@ const METRIC_AND_HOP: Pair = [
 ];
 
 /// A scan and a tape without room answer so, with so many visits.
-fn is_told(
+fn is_scanned(
     bytes: &[u8],
     limits: &Limits,
     scan: Result<(), ScanError>,
@@ -110,7 +110,7 @@ fn accepts_all(alloc: Global, order: Order) -> Result<(), Fail> {
     for (texts, visits, heads) in ACCEPTED {
         let text = text_in(order, texts);
         let bytes = bytes_of(alloc, text)?;
-        let is_so = is_told(bytes.as_slice(), &limits, Ok(()), Ok(heads), visits);
+        let is_so = is_scanned(bytes.as_slice(), &limits, Ok(()), Ok(heads), visits);
         ensure(is_so, text)?;
     }
     Ok(())
@@ -181,7 +181,7 @@ fn refuses(
     visits: u64,
 ) -> bool {
     let read = read_datagram(alloc, bytes, limits).into_result().err();
-    is_told(bytes, limits, Err(error), Err(error), visits)
+    is_scanned(bytes, limits, Err(error), Err(error), visits)
         && read == Some(same)
         && error.code() == code
         && same.code() == code
@@ -217,7 +217,7 @@ const UNTOUCHED: Event = Event {
     net: true,
 };
 
-/// What is told of a head, with the flag bits of its type.
+/// The event of a head, with the flag bits of its type.
 fn event(place: u32, len: u32, number: u16, level: u8, sort: u8, flags: AttrFlags) -> Event {
     let AttrFlags { nested, net } = flags;
     Event {
@@ -231,7 +231,7 @@ fn event(place: u32, len: u32, number: u16, level: u8, sort: u8, flags: AttrFlag
     }
 }
 
-/// What is told of a head without flags.
+/// The event of a head without flags.
 fn plain(place: u32, len: u32, number: u16, level: u8, sort: u8) -> Event {
     event(place, len, number, level, sort, PLAIN)
 }
@@ -262,7 +262,7 @@ fn tapes(
 }
 
 /// A datagram has these heads, of which a buffer of this room takes the first.
-fn tells(alloc: Global, texts: Pair, room: usize, events: &[Event]) -> Result<(), Fail> {
+fn puts(alloc: Global, texts: Pair, room: usize, events: &[Event]) -> Result<(), Fail> {
     for order in ORDERS {
         let bytes = bytes_of(alloc, text_in(order, texts))?;
         let limits = Limits::standard().with_order(order);
@@ -283,7 +283,7 @@ const NET: AttrFlags = AttrFlags {
 };
 
 #[test]
-fn tells_of_two_messages(rt: HostRuntime) -> Result<(), Fail> {
+fn events_of_two_messages(rt: HostRuntime) -> Result<(), Fail> {
     let events = [
         plain(0, 52, 16, 0, SORT_MESSAGE),
         plain(32, 3, 3, 0, SORT_BYTES),
@@ -296,13 +296,13 @@ fn tells_of_two_messages(rt: HostRuntime) -> Result<(), Fail> {
         plain(96, 4, 15, 0, SORT_BYTES),
         plain(104, 4, 6, 0, SORT_BYTES),
     ];
-    tells(rt.alloc(), TWO_MESSAGES, 12, &events)?;
+    puts(rt.alloc(), TWO_MESSAGES, 12, &events)?;
     // Padding is no part of a length.
     let events = [
         plain(0, 1, 18, 0, SORT_MESSAGE),
         plain(20, 4, 3, 0, SORT_MESSAGE),
     ];
-    tells(rt.alloc(), PADDED, 3, &events)
+    puts(rt.alloc(), PADDED, 3, &events)
 }
 
 fn two_hops_events() -> [Event; 6] {
@@ -317,8 +317,8 @@ fn two_hops_events() -> [Event; 6] {
 }
 
 #[test]
-fn tells_of_next_hops(rt: HostRuntime) -> Result<(), Fail> {
-    tells(rt.alloc(), TWO_HOPS, 8, &two_hops_events())?;
+fn events_of_next_hops(rt: HostRuntime) -> Result<(), Fail> {
+    puts(rt.alloc(), TWO_HOPS, 8, &two_hops_events())?;
     let events = [
         plain(0, 36, 24, 0, SORT_MESSAGE),
         plain(28, 8, 8, 0, SORT_LIST),
@@ -326,19 +326,19 @@ fn tells_of_next_hops(rt: HostRuntime) -> Result<(), Fail> {
         event(40, 8, 9, 0, SORT_HOPS, NESTED),
         plain(44, 0, 0, 1, SORT_NEXT_HOP),
     ];
-    tells(rt.alloc(), METRIC_AND_HOP, 6, &events)
+    puts(rt.alloc(), METRIC_AND_HOP, 6, &events)
 }
 
 #[test]
 fn a_short_buffer_takes_the_first_heads(rt: HostRuntime) -> Result<(), Fail> {
     for room in 0..6 {
-        tells(rt.alloc(), TWO_HOPS, room, &two_hops_events())?;
+        puts(rt.alloc(), TWO_HOPS, room, &two_hops_events())?;
     }
     Ok(())
 }
 
-/// A tape is refused so, and tells of these heads.
-fn tells_up_to(
+/// A tape is refused so, and has these events.
+fn puts_up_to(
     alloc: Global,
     texts: Pair,
     depth: u8,
@@ -359,19 +359,19 @@ pub(crate) fn at(place: u32, reason: Reason) -> Fault {
 }
 
 #[test]
-fn a_refused_tape_tells_of_heads_up_to_the_fault(rt: HostRuntime) -> Result<(), Fail> {
+fn a_refused_tape_has_the_events_up_to_the_fault(rt: HostRuntime) -> Result<(), Fail> {
     let alloc = rt.alloc();
-    // The list that is too deep is visited, and told of.
+    // The list that is too deep is visited, and has its event.
     let events = &two_hops_events()[..2];
-    tells_up_to(alloc, TWO_HOPS, 1, at(28, Reason::TooDeep), events)?;
+    puts_up_to(alloc, TWO_HOPS, 1, at(28, Reason::TooDeep), events)?;
     let link = [
         plain(0, 28, 16, 0, SORT_MESSAGE),
         plain(32, 8, 18, 0, SORT_LIST),
     ];
     let fault = at(36, Reason::BadLength);
-    tells_up_to(alloc, LONG_IN_A_LIST, 8, fault, &link)?;
+    puts_up_to(alloc, LONG_IN_A_LIST, 8, fault, &link)?;
     let done = [plain(0, 4, 3, 0, SORT_MESSAGE)];
-    tells_up_to(alloc, NO_FAMILY, 8, at(20, Reason::ShortBody), &done)
+    puts_up_to(alloc, NO_FAMILY, 8, at(20, Reason::ShortBody), &done)
 }
 
 /// The bytes are above the limit: a tape puts nothing.

@@ -1,7 +1,7 @@
 //! Sessions: one dump after another, requests, refusals, and limits.
 
 use crate::feeding::{
-    LINKS, Told, holds, in_dump, in_session, in_state, refuses_text, takes, takes_text, tells,
+    Counts, LINKS, answers, holds, in_dump, in_session, in_state, refuses_text, takes, takes_text,
 };
 use crate::vectors::{
     DONE, ETHERNET, LOOPBACK, LOOPBACK_ADDRESS, NEIGHBOUR, RULE, TABLE_RULE, TWO_HOPS_ROUTE,
@@ -74,10 +74,10 @@ fn a_request_in_the_other_order(rt: HostRuntime) -> Result<(), Fail> {
 }
 
 fn stays_idle(alloc: Global, session: &mut Session) -> Result<(), Fail> {
-    tells(session, in_state(State::Idle), "idle")?;
+    answers(session, in_state(State::Idle), "idle")?;
     refuses_text(alloc, session, &[LOOPBACK], FeedError::NotWaiting)?;
     ensure(session.abandon() == Err(NotWaiting), "nothing to abandon")?;
-    tells(session, in_state(State::Idle), "idle still")?;
+    answers(session, in_state(State::Idle), "idle still")?;
     ensure(lens(session) == (0, 0, 0, 0, 0), "no entries")
 }
 
@@ -103,16 +103,16 @@ fn ignores_others(alloc: Global, session: &mut Session) -> Result<(), Fail> {
 
 fn begins_no_other(alloc: Global, session: &mut Session) -> Result<(), Fail> {
     ignores_others(alloc, session)?;
-    let told = Told {
+    let wanted = Counts {
         received: 144,
         visits: 48,
         ignored: 3,
         ..in_state(State::Waiting(LINKS))
     };
-    tells(session, told, "three ignored")?;
+    answers(session, wanted, "three ignored")?;
     let begun = session.begin(Kind::Route, 2, 7, 0).err();
     ensure(begun == Some(BeginError::Busy), "busy")?;
-    tells(session, told, "unchanged")
+    answers(session, wanted, "unchanged")
 }
 
 #[test]
@@ -132,16 +132,16 @@ fn refuses_all(alloc: Global, session: &mut Session) -> Result<(), Fail> {
 fn has_ended(alloc: Global, session: &mut Session) -> Result<(), Fail> {
     ignores_others(alloc, session)?;
     takes_text(alloc, session, &[DONE], (0, 0, true), "the end")?;
-    let told = Told {
+    let wanted = Counts {
         received: 164,
         visits: 48,
         ignored: 3,
         complete: true,
         ..in_state(State::Ended(LINKS, End::Done(0)))
     };
-    tells(session, told, "ended")?;
+    answers(session, wanted, "ended")?;
     refuses_all(alloc, session)?;
-    tells(session, told, "unchanged")
+    answers(session, wanted, "unchanged")
 }
 
 fn asks_anew(alloc: Global, session: &mut Session) -> Result<(), Fail> {
@@ -153,12 +153,12 @@ fn asks_anew(alloc: Global, session: &mut Session) -> Result<(), Fail> {
         port: 0,
     };
     asks(alloc, session, dump, ROUTES)?;
-    let told = Told {
+    let wanted = Counts {
         received: 164,
         visits: 48,
         ..in_state(State::Waiting(dump))
     };
-    tells(session, told, "the next")
+    answers(session, wanted, "the next")
 }
 
 #[test]
@@ -170,14 +170,14 @@ fn a_dump_that_ended_and_the_next(rt: HostRuntime) -> Result<(), Fail> {
 fn abandons(alloc: Global, session: &mut Session) -> Result<(), Fail> {
     takes_text(alloc, session, &[LOOPBACK], (1, 0, false), "a link")?;
     ensure(session.abandon() == Ok(()), "abandoned")?;
-    let told = Told {
+    let wanted = Counts {
         received: 48,
         visits: 16,
         ..in_state(State::Ended(LINKS, End::Abandoned))
     };
-    tells(session, told, "its end")?;
+    answers(session, wanted, "its end")?;
     refuses_all(alloc, session)?;
-    tells(session, told, "unchanged")?;
+    answers(session, wanted, "unchanged")?;
     holds(session, &[(1, Some(65_536))], 0, "its link still")
 }
 
@@ -190,13 +190,13 @@ fn a_dump_that_is_abandoned_keeps_its_table(rt: HostRuntime) -> Result<(), Fail>
 fn takes_no_more(alloc: Global, session: &mut Session) -> Result<(), Fail> {
     takes_text(alloc, session, &[TAKEN], (0, 1, false), "once")?;
     refuses_text(alloc, session, &[TAKEN], FeedError::Total)?;
-    let told = Told {
+    let wanted = Counts {
         received: 36,
         ignored: 1,
         damaged: true,
         ..in_state(State::Waiting(LINKS))
     };
-    tells(session, told, "damaged")
+    answers(session, wanted, "damaged")
 }
 
 #[test]
@@ -208,12 +208,12 @@ fn more_bytes_than_the_total(rt: HostRuntime) -> Result<(), Fail> {
 /// The end is refused, since it is above the datagram limit.
 fn refuses_the_end(alloc: Global, session: &mut Session) -> Result<(), Fail> {
     refuses_text(alloc, session, &[DONE], FeedError::TooLarge)?;
-    let told = Told {
+    let wanted = Counts {
         received: 20,
         damaged: true,
         ..in_state(State::Waiting(LINKS))
     };
-    tells(session, told, "damaged")
+    answers(session, wanted, "damaged")
 }
 
 #[test]
@@ -237,12 +237,12 @@ fn has_losses(alloc: Global, session: &mut Session) -> Result<(), Fail> {
 fn starts_clean(alloc: Global, session: &mut Session) -> Result<(), Fail> {
     has_losses(alloc, session)?;
     let _request = session.begin(Kind::Link, 0, 2, 12345)?;
-    let told = Told {
+    let wanted = Counts {
         received: 63,
         visits: 16,
         ..in_state(State::Waiting(Dump { seq: 2, ..LINKS }))
     };
-    tells(session, told, "clean")?;
+    answers(session, wanted, "clean")?;
     holds(session, &[], 0, "no link")
 }
 

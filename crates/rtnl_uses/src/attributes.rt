@@ -6,11 +6,11 @@ ghost use Rattle.nl_attr.specs.Walk.{IsWalk, IsPart};
 ghost use Rattle.nl_attr.specs.declared.order.Order.{Order};
 ghost use Rattle.nl_attr.specs.declared.walk.attrs.Part.{Part};
 
-use nl_attr::{Attrs, Fault};
+use nl_attr::{Attrs, Fault, LONGEST_REGION};
 
 /// How many attributes of a region have this number, or the region's fault. It takes no memory.
 pub fn count_of(region: &[u8], number: u16) -> Result<usize, Fault>
-    requires { length region.now ≤ 1048576 }
+    requires { length region.now ≤ LONGEST_REGION }
     // The region is these attributes, from its first byte to its last.
     ensures counted { IfOk result (λ count. (parts : List Part)
         × IsWalk 4 IsPart Order.Little 0 region.now (map (λ p. Ok p) parts)

@@ -13,7 +13,7 @@ ghost use Rattle.nl_route.specs.Link.{link_fields};
 ghost use Rattle.nl_route.specs.Views.{number_view, text_view};
 ghost use Rattle.nl_route.specs.declared.ifinfomsg.LinkHead.{LinkHead};
 
-use nl_attr::{Depth, ListError};
+use nl_attr::{Depth, LONGEST_REGION, ListError};
 use nl_route::Link;
 use std::alloc::Global;
 
@@ -24,10 +24,10 @@ pub struct Named {
     pub mtu: Option<u32>,
 }
 
-/// The name and the greatest packet that the body of a link tells.
+/// The name and the greatest packet of a link, by its body.
 pub fn read_named(alloc: Global, body: &[u8], depth: Depth) -> Result<Named, ListError>
     requires head { 16 ≤ length body.now }
-    requires size { length body.now ≤ 1048576 }
+    requires size { length body.now ≤ LONGEST_REGION }
     // They are those of the first `IFLA_IFNAME` and the first `IFLA_MTU` of the body.
     ensures named { IfOk result (λ n. (head : LinkHead) × (attrs : Items)
         × IsFamilyBody (shape_of Order.Little depth) 16 (link_fields head) Ctx.Link attrs body.now

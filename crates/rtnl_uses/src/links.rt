@@ -9,7 +9,7 @@ use rtnl::{RunError, datagrams};
 use std::alloc::{AllocError, Global};
 use thiserror::Error;
 
-/// Why the links of a recording are not told.
+/// Why the links of a recording are not answered.
 #[derive(Clone, Copy, Debug, PartialEq, Eq, Error)]
 pub enum LinksError {
     /// The recording has a bad line, or is too long.
@@ -49,7 +49,7 @@ fn push_links(
     Ok(())
 }
 
-/// The names and the MTUs of the links that a recording in memory tells of, in order.
+/// The names and the MTUs of the links in a recording in memory, in order.
 pub fn links_of(
     alloc: Global,
     recording: &[u8],

@@ -13,7 +13,7 @@ use nl_frame::{Body, Header};
 use nl_route::match_family;
 use std::alloc::{AllocError, Global};
 
-/// Writes the header that an answer with a code tells of.
+/// Writes the header that an answer with a code is about.
 fn push_answered(line: &mut Line, answered: &Header) -> Result<(), AllocError>
     ensures { OnOk result
         (line.new ≡ line.old ⊕ fields_tokens ((codes "answers", answered_json answered.now) ∷ [])) }

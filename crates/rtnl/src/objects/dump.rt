@@ -1,4 +1,4 @@
-//! A dump told in lines of JSON.
+//! The report of a dump in lines of JSON.
 
 ghost use Rattle.std.specs.Prelude.{◌≡◌, ◌∷◌, ◌++◌, [], OnOk, codes, length};
 ghost use Rattle.nl_dump.specs.View.{table_at};
@@ -11,7 +11,7 @@ ghost use Rattle.rtnl.specs.TabledJson.{loss_fields, sum_fields, total_fields};
 
 use crate::objects::datagram::push_refusal;
 use crate::objects::line::Line;
-use crate::telling::{Size, Telling};
+use crate::report::{Report, Size};
 use crate::text::families::Shown;
 use nl_attr::Order;
 use nl_dump::{Dump, End, FeedError, Session, State};
@@ -129,13 +129,13 @@ fn push_sums(line: &mut Line, session: &Session) -> Result<(), AllocError>
     ])
 }
 
-/// A dump that is told in lines of JSON.
+/// A report in lines of JSON.
 pub(crate) struct InJson;
 
-impl Telling for InJson {
+impl Report for InJson {
     ghost use Rattle.rtnl.specs.TabledJson.{in_json};
 
-    ghost told = { in_json };
+    ghost report = { in_json };
 
     fn push_front(_alloc: Global, _out: &mut Vec<u8>, _dump: &Dump) -> Result<(), AllocError> {
         Ok(())

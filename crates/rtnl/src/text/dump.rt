@@ -5,7 +5,7 @@ ghost use Rattle.std.specs.Fmt.{signed_decimal};
 ghost use Rattle.rtnl.specs.Tabled.{complete_line, counts_line, dump_line, end_line};
 ghost use Rattle.rtnl.specs.Tabled.{entry_line, refusal_line, sums_line, total_line, yes_no};
 
-use crate::telling::{Size, Telling};
+use crate::report::{Report, Size};
 use crate::text::datagram::{push_number, push_refusal};
 use crate::text::families::Shown;
 use crate::text::pieces::push;
@@ -169,13 +169,13 @@ fn push_entry_line(out: &mut Vec<u8>, number: u32) -> Result<(), AllocError>
     line.push_to(out)
 }
 
-/// A dump that is told in lines of text.
+/// A report in lines of text.
 pub(crate) struct InText;
 
-impl Telling for InText {
+impl Report for InText {
     ghost use Rattle.rtnl.specs.Tabled.{in_text};
 
-    ghost told = { in_text };
+    ghost report = { in_text };
 
     fn push_front(_alloc: Global, out: &mut Vec<u8>, dump: &Dump) -> Result<(), AllocError> {
         push_dump_line(out, dump)

@@ -86,7 +86,7 @@ impl Flags for GetFlags {
     }
 }
 
-/// The flags of a message that tells of something new.
+/// The flags of a message of something new.
 #[derive(Clone, Copy)]
 pub(crate) struct NewFlags(pub u16);
 

@@ -4,9 +4,9 @@ use Rattle.rtnl.proofs.contents.push_entries.Goals as goal
 
 pub loop-index-preserved : goal.loop-index-preserved
 loop-index-preserved g c =
-    one_entry g.T.Shown.item g.F.Telling.outcome c.args.order c.args.table.now.entries c.loop-index.index c.in-Some.entry.now (c.loop-index.out.items) (c.push_entry.new.out.items) _ c.loop-index.invariant c.in-Some.ensures
+    one_entry g.T.Shown.item g.F.Report.report c.args.order c.args.table.now.entries c.loop-index.index c.in-Some.entry.now (c.loop-index.out.items) (c.push_entry.new.out.items) _ c.loop-index.invariant c.in-Some.ensures
     c.in_ok-push_entry.ensures
 
 pub returns-clause-text : goal.returns-clause-text
 returns-clause-text g c =
-    no_more g.T.Shown.item g.F.Telling.outcome c.args.order c.args.table.now.entries c.loop-index.index (c.loop-index.out.items) _ c.loop-index.invariant (omega (arith, c.loop-index-test.false, c.len-index-end.ensures.value))
+    no_more g.T.Shown.item g.F.Report.report c.args.order c.args.table.now.entries c.loop-index.index (c.loop-index.out.items) _ c.loop-index.invariant (omega (arith, c.loop-index-test.false, c.len-index-end.ensures.value))

@@ -3,8 +3,8 @@ use Rattle.nl_dump.specs.Items.{seen}
 use Rattle.rtnl.specs.Tabled.{entries_text}
 use Rattle.rtnl.proofs.contents.push_entries.Given as goal
 
--- what is told and what is left give the whole
+-- what is written and what is left give the whole
 abbrev pub invariant-loop-index : goal.invariant-loop-index
 invariant-loop-index g l =
-    l.out.items ++ entries_text g.F.Telling.outcome l.order (l.index + 1) (drop l.index (seen g.T.Shown.item l.table).entries)
-    ≡ l.initial.out.items ++ entries_text g.F.Telling.outcome l.order 1 (seen g.T.Shown.item l.table).entries
+    l.out.items ++ entries_text g.F.Report.report l.order (l.index + 1) (drop l.index (seen g.T.Shown.item l.table).entries)
+    ≡ l.initial.out.items ++ entries_text g.F.Report.report l.order 1 (seen g.T.Shown.item l.table).entries

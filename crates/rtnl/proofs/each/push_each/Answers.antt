@@ -19,9 +19,9 @@ loop-index-preserved g c =
     let below : k < length ds = search rules in
     let e : drop k ds ≡ d ∷ rest = drop_more ds k [] below ∙ ap (λ x. x ∷ rest) (sym c.get.ensures) in
     let here = subst (λ left. Continues Is text takes ds old (k + 1) left out c.loop-index.verdict) e c.loop-index.invariant in
-    let told = c.in_ok-taken.ensures in
-    let next = goes_on Is text takes ds old (k + 1) d rest out (c.push.new.out.items) c.loop-index.verdict told.0 here told.1 told.2 in
-    subst (λ v. Continues Is text takes ds old (k + 1 + 1) rest (c.push.new.out.items) v) (sym (c.and-verdict.ensures ∙ ap (with_one c.loop-index.verdict) told.3)) next
+    let ensured = c.in_ok-taken.ensures in
+    let next = goes_on Is text takes ds old (k + 1) d rest out (c.push.new.out.items) c.loop-index.verdict ensured.0 here ensured.1 ensured.2 in
+    subst (λ v. Continues Is text takes ds old (k + 1 + 1) rest (c.push.new.out.items) v) (sym (c.and-verdict.ensures ∙ ap (with_one c.loop-index.verdict) ensured.3)) next
 
 pub returns : goal.returns
 returns g c =

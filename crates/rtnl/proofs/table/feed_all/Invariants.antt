@@ -7,4 +7,4 @@ abbrev pub invariant-loop-index : goal.invariant-loop-index
 invariant-loop-index g l =
     (l.index ≤ length l.datagrams)
     × ((fed : List Answered) × FeedsSome l.initial.session l.datagrams fed (drop l.index l.datagrams) l.session
-    × (length fed ≡ l.index) × (l.out.items ≡ l.initial.out.items ++ refusals_text g.F.Telling.outcome fed))
+    × (length fed ≡ l.index) × (l.out.items ≡ l.initial.out.items ++ refusals_text g.F.Report.report fed))

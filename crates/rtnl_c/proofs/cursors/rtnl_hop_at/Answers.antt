@@ -5,10 +5,11 @@ use Rattle.nl_attr.specs.declared.walk.hops.HopPart.{HopPart}
 use Rattle.nl_attr.specs.Numbers.{len_of}
 use Rattle.nl_attr.specs.Walk.{IsHopPart, StandsAt}
 use Rattle.rtnl_c.proofs.cursors.rtnl_hop_at.Goals as goal
+use Rattle.nl_attr.specs.declared.limits.TheConstants.{LONGEST_REGION}
 
 -- the attributes of a next hop lie in the region
 rest_small : (o : Order) (bytes : List ℕ) (place : ℕ) (found : Option (Result HopPart Fault)) (x : Result HopPart Fault) (p : HopPart) → StandsAt 8 IsHopPart o bytes place found → found ≡ Some x → x ≡ Ok p
-    → length bytes ≤ 1048576 → length p.rest.now < 2 ^ 32
+    → length bytes ≤ LONGEST_REGION → length p.rest.now < 2 ^ 32
 rest_small o bytes place found x p stands is part small =
     let s = subst (StandsAt 8 IsHopPart o bytes place) (is ∙ ap Some part) stands in
     let left = drop place bytes in

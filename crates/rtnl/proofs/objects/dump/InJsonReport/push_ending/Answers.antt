@@ -4,7 +4,7 @@ use Rattle.nl_dump.specs.View.{complete_of}
 use Rattle.rtnl.specs.Json.{Field, ◌⊕◌, boolean, fields_tokens, json_line, object, object_behind}
 use Rattle.rtnl.specs.TabledJson.{count_fields, dump_fields, end_fields, ending_json, loss_fields, sum_fields}
 use Rattle.rtnl.proofs.Json.{then_fields}
-use Rattle.rtnl.proofs.objects.dump.InJsonTelling.push_ending.Goals as goal
+use Rattle.rtnl.proofs.objects.dump.InJsonReport.push_ending.Goals as goal
 
 pub returns : goal.returns
 unfolding ending_json

@@ -3,7 +3,7 @@ use Rattle.std.proofs.lemmas.Result.{IfOk-weaker}
 use Rattle.nl_dump.specs.View.{table_at, complete_of}
 use Rattle.rtnl.specs.Tabled.{complete_line, counts_line, end_line, ending_text, sums_line}
 use Rattle.rtnl.proofs.Feeding.{four_parts}
-use Rattle.rtnl.proofs.text.dump.InTextTelling.push_ending.Goals as goal
+use Rattle.rtnl.proofs.text.dump.InTextReport.push_ending.Goals as goal
 
 pub returns : goal.returns
 unfolding ending_text

@@ -1,13 +1,13 @@
-//! What a session tells.
+//! What a session answers.
 
 use crate::entries::tables_of;
 use crate::stop::Stop;
 use nl_dump::{End, Session, State};
 use std::alloc::Global;
 
-/// All that a session tells.
+/// All that a session answers.
 #[derive(Drop)]
-pub(crate) struct Told {
+pub(crate) struct Answers {
     pub(crate) state: State,
     pub(crate) damaged: bool,
     received: u64,
@@ -17,9 +17,9 @@ pub(crate) struct Told {
     tables: Vec<u8>,
 }
 
-impl Told {
-    pub(crate) fn of(alloc: Global, session: &Session) -> Result<Told, Stop> {
-        Ok(Told {
+impl Answers {
+    pub(crate) fn of(alloc: Global, session: &Session) -> Result<Answers, Stop> {
+        Ok(Answers {
             state: session.state(),
             damaged: session.damaged(),
             received: session.received(),
@@ -31,14 +31,14 @@ impl Told {
     }
 
     /// How many bytes were received and visited since another time.
-    pub(crate) fn since(&self, before: &Told) -> (u64, u64) {
+    pub(crate) fn since(&self, before: &Answers) -> (u64, u64) {
         let received = self.received.saturating_sub(before.received);
         let visits = self.visits.saturating_sub(before.visits);
         (received, visits)
     }
 
     /// Whether the dump's answer and all tables are those of another time.
-    pub(crate) fn answers_as(&self, other: &Told) -> bool {
+    pub(crate) fn answers_as(&self, other: &Answers) -> bool {
         self.state == other.state
             && self.ignored == other.ignored
             && self.interrupted == other.interrupted
@@ -46,7 +46,7 @@ impl Told {
     }
 
     /// Whether all is as at another time.
-    pub(crate) fn is_as(&self, other: &Told) -> bool {
+    pub(crate) fn is_as(&self, other: &Answers) -> bool {
         self.answers_as(other)
             && self.damaged == other.damaged
             && self.received == other.received

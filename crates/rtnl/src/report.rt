@@ -1,4 +1,4 @@
-//! How a dump is told.
+//! The report of a dump.
 
 use crate::text::families::Shown;
 use nl_attr::Order;
@@ -12,20 +12,20 @@ pub(crate) struct Size {
     pub missed: u64,
 }
 
-/// How a dump is told: as it begins, of the datagrams that it refused, of its entries, and of how
-/// it ended.
-pub(crate) trait Telling {
+/// The report of a dump: which dump is read, the datagrams that were refused, the entries, and how
+/// the dump ended.
+pub(crate) trait Report {
     ghost use Rattle.std.specs.Prelude.{◌≡◌, ◌≢◌, ◌++◌, OnOk, length};
     ghost use Rattle.nl_dump.specs.View.{table_at};
-    ghost use Rattle.rtnl.specs.Tabled.{Telling as AnyTelling};
+    ghost use Rattle.rtnl.specs.Tabled.{Report as AnyReport};
 
-    ghost told: { AnyTelling };
+    ghost report: { AnyReport };
 
-    /// Tells which dump is read.
+    /// Writes which dump is read.
     fn push_front(alloc: Global, out: &mut Vec<u8>, dump: &Dump) -> Result<(), AllocError>
-        ensures { OnOk result (out.new.items ≡ out.old.items ++ told.front dump.now) };
+        ensures { OnOk result (out.new.items ≡ out.old.items ++ report.front dump.now) };
 
-    /// Tells why the datagram of this number was refused. It fails where that was for memory.
+    /// Writes why the datagram of this number was refused. It fails where that was for memory.
     fn push_refusal(
         alloc: Global,
         out: &mut Vec<u8>,
@@ -34,9 +34,9 @@ pub(crate) trait Telling {
     ) -> Result<(), AllocError>
         ensures refusal { OnOk result (error ≢ FeedError.Memory) }
         ensures text { OnOk result (out.new.items
-            ≡ out.old.items ++ told.refusal number error) };
+            ≡ out.old.items ++ report.refusal number error) };
 
-    /// Tells of the entry of this number, counted from 1.
+    /// Writes the entry of this number, counted from 1.
     fn push_entry<T: Shown>(
         alloc: Global,
         out: &mut Vec<u8>,
@@ -45,9 +45,9 @@ pub(crate) trait Telling {
         entry: &T,
     ) -> Result<(), AllocError>
         ensures { OnOk result (out.new.items
-            ≡ out.old.items ++ told.entry order number (T.item entry.now)) };
+            ≡ out.old.items ++ report.entry order number (T.item entry.now)) };
 
-    /// Tells how the dump ended, whose table has this size, with so many datagrams left.
+    /// Writes how the dump ended, whose table has this size, with so many datagrams left.
     fn push_ending(
         alloc: Global,
         out: &mut Vec<u8>,
@@ -60,5 +60,5 @@ pub(crate) trait Telling {
             ≡ length (table_at dump.now.kind session.now.tables).entries }
         requires missed { size.missed ≡ (table_at dump.now.kind session.now.tables).missed }
         ensures { OnOk result (out.new.items
-            ≡ out.old.items ++ told.ending dump.now unfed session.now) };
+            ≡ out.old.items ++ report.ending dump.now unfed session.now) };
 }

@@ -4,7 +4,7 @@ use Rattle.rtnl.specs.Json.{Field, ◌⊕◌, fields_tokens, number, object_behi
 use Rattle.rtnl.specs.Objects.{item_field}
 use Rattle.rtnl.specs.TabledJson.{entry_json}
 use Rattle.rtnl.proofs.Json.{then_fields}
-use Rattle.rtnl.proofs.objects.dump.InJsonTelling.push_entry.Goals as goal
+use Rattle.rtnl.proofs.objects.dump.InJsonReport.push_entry.Goals as goal
 
 pub returns : goal.returns
 unfolding entry_json
