@@ -172,7 +172,7 @@ same 'numbers are made of bytes by their order alone' \
   'crates/nl_table/src/table.rt:        entry.head.index == i32::from_le_bytes(key)'
 
 same 'calls that answer a tally' "$(counts '-> Tally<')" \
-  'crates/nl_attr/src/fault.rt 1
+  'crates/nl_attr/src/fault.rt 2
 crates/nl_attr/src/reading.rt 2
 crates/nl_attr/src/scanning.rt 1
 crates/nl_dump/src/reading.rt 1

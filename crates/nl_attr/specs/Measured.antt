@@ -38,9 +38,9 @@ extent_of_item h None = None
 extent_of_item h (Some e) = Some (record { deep = e.deep; len = item_len h e.len })
 
 -- a container that opens n levels, where there is room for so many
-abbrev pub opened : ℕ → ℕ → Option Extent → Option Extent
-opened n room None = None
-opened n room (Some e) = Some (record { deep = nat_lt room n || e.deep; len = e.len })
+abbrev pub container_extent : ℕ → ℕ → Option Extent → Option Extent
+container_extent n room None = None
+container_extent n room (Some e) = Some (record { deep = nat_lt room n || e.deep; len = e.len })
 
 abbrev mutual
   pub extent_of_val : Val → Content → ℕ → Option Extent
@@ -48,11 +48,11 @@ abbrev mutual
   extent_of_val (bytes bs) (content.List c) room = None
   extent_of_val (bytes bs) content.Hops room = None
   extent_of_val (list is) content.Bytes room = None
-  extent_of_val (list is) (content.List c) room = opened 1 room (extent_of is c (room - 1))
+  extent_of_val (list is) (content.List c) room = container_extent 1 room (extent_of is c (room - 1))
   extent_of_val (list is) content.Hops room = None
   extent_of_val (hops hs) content.Bytes room = None
   extent_of_val (hops hs) (content.List c) room = None
-  extent_of_val (hops hs) content.Hops room = opened 2 room (extent_of_hops hs (room - 1))
+  extent_of_val (hops hs) content.Hops room = container_extent 2 room (extent_of_hops hs (room - 1))
 
   -- a list of which containers may open so many levels
   pub extent_of : Items → Ctx → ℕ → Option Extent

@@ -20,8 +20,8 @@ use Rattle.nl_attr.specs.declared.stack.next_hops.HopTurn.TheVariants as hop_tur
 use Rattle.nl_attr.specs.declared.stack.next_hops.HopsTurn.{HopsTurn}
 use Rattle.nl_attr.specs.declared.stack.next_hops.HopsTurn.TheVariants as hops_turn
 use Rattle.nl_attr.specs.declared.stack.nested.ListWaits.{ListWaits}
-use Rattle.nl_attr.specs.declared.stack.nested.Frame.{Frame}
-use Rattle.nl_attr.specs.declared.stack.nested.Frame.TheVariants as frame
+use Rattle.nl_attr.specs.declared.stack.nested.Outer.{Outer}
+use Rattle.nl_attr.specs.declared.stack.nested.Outer.TheVariants as outer
 use Rattle.nl_attr.specs.declared.stack.nested.Next.{Next}
 use Rattle.nl_attr.specs.declared.stack.nested.Next.TheVariants as next
 use Rattle.nl_attr.specs.Shape.{Shape}
@@ -90,9 +90,9 @@ module _ (S : Shape) where
   hops_then w o = and_then o (λ hs. waiting_goes_on w (hops hs))
 
   -- those that wait go on with the attributes that they wait for
-  abbrev pub goes_on : Frame → Items → Outcome Items
-  goes_on (frame.List w) is = waiting_goes_on w (list is)
-  goes_on (frame.Hops w h) is = hops_then w (hops_go_on h.region h.head is)
+  abbrev pub goes_on : Outer → Items → Outcome Items
+  goes_on (outer.List w) is = waiting_goes_on w (list is)
+  goes_on (outer.Hops w h) is = hops_then w (hops_go_on h.region h.head is)
 
   abbrev pub next_rest : Next → Outcome Items
   next_rest (next.Opens f r) = and_then (list_rest r) (goes_on f)
@@ -164,7 +164,7 @@ pub record IsWithinLimits (S : Shape) (s : Spot) : Type 0 where
   pub size : spot_end s ≤ LONGEST_REGION
   pub place : s.base + spot_end s ≤ FARTHEST_END
 
--- where a region may be opened: at this level, up to this place
+-- where a region may be container_extent: at this level, up to this place
 pub record Room : Type 0 where
   pub level : ℕ
   pub to : ℕ
@@ -178,28 +178,28 @@ pub record IsIn (S : Shape) (r : Room) (s : Spot) : Type 0 where
 abbrev pub room_in : Spot → Room
 room_in s = record { level = s.level + 1; to = s.base + s.region.place }
 
--- the region of attributes that waits in a frame
-abbrev pub frame_spot : Frame → Spot
-frame_spot (frame.List w) = list_spot w.region
-frame_spot (frame.Hops w h) = list_spot w.region
+-- the region of attributes that waits in a outer
+abbrev pub outer_spot : Outer → Spot
+outer_spot (outer.List w) = list_spot w.region
+outer_spot (outer.Hops w h) = list_spot w.region
 
 -- next hops that wait lie in the region that waits for them
-abbrev pub Holds : Shape → Frame → Type 0
-Holds S (frame.List w) = Unit {0}
-Holds S (frame.Hops w h) = IsIn S (room_in (list_spot w.region)) (hops_spot h.region)
+abbrev pub Holds : Shape → Outer → Type 0
+Holds S (outer.List w) = Unit {0}
+Holds S (outer.Hops w h) = IsIn S (room_in (list_spot w.region)) (hops_spot h.region)
 
--- where the region lies for which a frame waits
-abbrev pub frame_room : Frame → Room
-frame_room (frame.List w) = room_in (list_spot w.region)
-frame_room (frame.Hops w h) = room_in (hops_spot h.region)
+-- where the region lies for which a outer waits
+abbrev pub outer_room : Outer → Room
+outer_room (outer.List w) = room_in (list_spot w.region)
+outer_room (outer.Hops w h) = room_in (hops_spot h.region)
 
 -- the bytes that are left in those that wait, with one for each
-abbrev pub frame_work : Frame → ℕ
-frame_work (frame.List w) = suc (length w.region.walk.left)
-frame_work (frame.Hops w h) = suc (length w.region.walk.left) + suc (length h.region.walk.left)
+abbrev pub outer_work : Outer → ℕ
+outer_work (outer.List w) = suc (length w.region.walk.left)
+outer_work (outer.Hops w h) = suc (length w.region.walk.left) + suc (length h.region.walk.left)
 
 abbrev pub next_work : Next → ℕ
-next_work (next.Opens f r) = frame_work f + suc (length r.walk.left)
+next_work (next.Opens f r) = outer_work f + suc (length r.walk.left)
 next_work (next.Goes r) = suc (length r.walk.left)
 
 -- the same region, read further
@@ -234,17 +234,17 @@ HopsMove S s r (hops_turn.Fails e) = Unit {0}
 
 -- what comes next stands where this region does, or lies in it, and no more than so much is left
 abbrev pub NextMoves : Shape → Spot → ℕ → Result Next ListError → Type 0
-NextMoves S s most (Ok (next.Opens f r)) = (frame_spot f ≡ s) × Holds S f × IsIn S (frame_room f) (list_spot r) × (next_work (next.Opens f r) ≤ most)
+NextMoves S s most (Ok (next.Opens f r)) = (outer_spot f ≡ s) × Holds S f × IsIn S (outer_room f) (list_spot r) × (next_work (next.Opens f r) ≤ most)
 NextMoves S s most (Ok (next.Goes r)) = (list_spot r ≡ s) × (next_work (next.Goes r) ≤ most)
 NextMoves S s most (Err e) = Unit {0}
 
 -- a region of attributes lies in those that wait for it
-pub record LiesUnder (S : Shape) (f : Frame) (r : ListRegion) : Type 0 where
-  pub limits : IsWithinLimits S (frame_spot f)
+pub record LiesUnder (S : Shape) (f : Outer) (r : ListRegion) : Type 0 where
+  pub limits : IsWithinLimits S (outer_spot f)
   pub holds : Holds S f
-  pub inside : IsIn S (frame_room f) (list_spot r)
+  pub inside : IsIn S (outer_room f) (list_spot r)
 
--- the frame is on the stack where there is one, and this region is read next
-abbrev pub PutsOn : List Frame → Next → List Frame → ListRegion → Type 0
+-- the outer is on the stack where there is one, and this region is read next
+abbrev pub PutsOn : List Outer → Next → List Outer → ListRegion → Type 0
 PutsOn fs (next.Opens f r) gs top = (gs ≡ fs ++ f ∷ []) × (top ≡ r)
 PutsOn fs (next.Goes r) gs top = (gs ≡ fs) × (top ≡ r)

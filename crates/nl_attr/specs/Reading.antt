@@ -11,7 +11,7 @@ use Rattle.nl_attr.specs.declared.tree.Content.TheVariants as content
 use Rattle.nl_attr.specs.declared.tree.AttrFlags.{AttrFlags}
 use Rattle.nl_attr.specs.Shape.{Shape}
 use Rattle.nl_attr.specs.Numbers.{kind_of, span_of}
-use Rattle.nl_attr.specs.Walk.{flags_of, index_of, payload_of}
+use Rattle.nl_attr.specs.Walk.{flags_of, ifindex_of, payload_of}
 use Rattle.nl_attr.specs.Tree.{Val, bytes, list, hops, Items, no_items, item, HopItems, no_hops, hop, holds_of}
 use Rattle.nl_attr.specs.Heads.{attr_head, hop_head, broken_in, broken_container, content_at}
 
@@ -68,7 +68,7 @@ module _ (S : Shape) where
     hops_at (suc n) l place (b ∷ bs) =
         and_then (checked place (span_of S.order 2 (b ∷ bs)) (broken_in S Route l hop_head (b ∷ bs))) (λ _.
         and_then (items_at n Route (l + 1) (place + 8) (payload_of S.order 8 2 (b ∷ bs))) (λ is.
-        map_value (hop (slice_index (b ∷ bs) 2) (slice_index (b ∷ bs) 3) (index_of S.order (b ∷ bs)) is)
+        map_value (hop (slice_index (b ∷ bs) 2) (slice_index (b ∷ bs) 3) (ifindex_of S.order (b ∷ bs)) is)
         (hops_at n l (place + span_of S.order 2 (b ∷ bs)) (drop (span_of S.order 2 (b ∷ bs)) (b ∷ bs)))))
 
   -- the whole region

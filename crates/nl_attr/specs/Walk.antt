@@ -34,8 +34,8 @@ module _ (o : Order) where
   HeadIs h w left (Err r) = broken_length h w left ≡ Some r
 
   -- the signed number in the four bytes from place 4 on
-  abbrev pub index_of : List ℕ → ℤ
-  index_of left = cast_signed w32 (number_of o 4 (drop 4 left))
+  abbrev pub ifindex_of : List ℕ → ℤ
+  ifindex_of left = cast_signed w32 (number_of o 4 (drop 4 left))
 
   -- the bytes of an item behind its head of h bytes
   abbrev pub payload_of : ℕ → ℕ → List ℕ → List ℕ
@@ -62,7 +62,7 @@ ended r = record r { left = [] }
 pub record IsHopPart (p : HopPart) (r : Region) : Type 0 where
   pub flags : p.flags ≡ slice_index r.left 2
   pub hops : p.hops ≡ slice_index r.left 3
-  pub ifindex : p.ifindex ≡ index_of r.order r.left
+  pub ifindex : p.ifindex ≡ ifindex_of r.order r.left
   pub place : p.place ≡ r.place
   pub span : p.span ≡ span_of r.order 2 r.left
   pub rest : p.rest.now ≡ payload_of r.order 8 2 r.left

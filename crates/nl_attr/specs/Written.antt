@@ -8,8 +8,8 @@ use Rattle.nl_attr.specs.Layout.{kind_number}
 use Rattle.nl_attr.specs.Tree.{Val, bytes, list, hops, Items, no_items, item, HopItems, no_hops, hop}
 
 -- an item and zeros up to the aligned length
-abbrev pub padded : List ℕ → List ℕ
-padded it = it ++ replicate (aligned (length it) - length it) 0
+abbrev pub with_padding : List ℕ → List ℕ
+with_padding it = it ++ replicate (aligned (length it) - length it) 0
 
 module _ (o : Order) where
   -- an attribute: its length, its type, its payload
@@ -29,11 +29,11 @@ module _ (o : Order) where
     -- each attribute with its padding, the last one too
     pub written : Items → List ℕ
     written no_items = []
-    written (item n flags v more) = padded (attr_item n flags (written_val v)) ++ written more
+    written (item n flags v more) = with_padding (attr_item n flags (written_val v)) ++ written more
 
     pub written_hops : HopItems → List ℕ
     written_hops no_hops = []
-    written_hops (hop flags count index attrs more) = padded (hop_item flags count index (written attrs)) ++ written_hops more
+    written_hops (hop flags count index attrs more) = with_padding (hop_item flags count index (written attrs)) ++ written_hops more
 
 abbrev mutual
   -- how many bytes are written, in either order

@@ -7,7 +7,7 @@ ghost use Rattle.nl_attr.specs.declared.tree.Hop.{out-Hop};
 ghost use Rattle.nl_attr.specs.Numbers.{aligned, num};
 ghost use Rattle.nl_attr.specs.Layout.{kind_number};
 ghost use Rattle.nl_attr.specs.View.{attrs_view, hops_view, value_view};
-ghost use Rattle.nl_attr.specs.Written.{padded, attr_item, hop_item, written, written_val};
+ghost use Rattle.nl_attr.specs.Written.{with_padding, attr_item, hop_item, written, written_val};
 ghost use Rattle.nl_attr.specs.Written.{written_hops, val_len, items_len, hops_len};
 ghost use Rattle.nl_attr.specs.Proper.{IsSized, IsSizedVal, IsSizedHops};
 ghost use Rattle.nl_attr.specs.Proper.{IsRanged, IsRangedVal, IsRangedHops};
@@ -71,7 +71,7 @@ fn close_item(out: &mut Vec<u8>, order: Order, start: usize)
     requires short { vec_len out.old - start ≤ LONGEST_ITEM }
     requires space { start + aligned (vec_len out.old - start) ≤ vec_capacity out.old }
     ensures items { out.new.items ≡ take start out.old.items
-        ++ padded (num (vec_len out.old - start) 2 order ++ drop (start + 2) out.old.items) }
+        ++ with_padding (num (vec_len out.old - start) 2 order ++ drop (start + 2) out.old.items) }
     ensures room { vec_capacity out.old ≤ vec_capacity out.new }
 {
     let len = out.len() - start;
@@ -103,7 +103,7 @@ fn append_attr(attr: &Attr, order: Order, out: &mut Vec<u8>)
     requires sized { IsSizedVal (value_view attr.now.value) }
     requires space { vec_len out.old + aligned (4 + val_len (value_view attr.now.value))
         ≤ vec_capacity out.old }
-    ensures items { out.new.items ≡ out.old.items ++ padded (attr_item order
+    ensures items { out.new.items ≡ out.old.items ++ with_padding (attr_item order
         attr.now.number attr.now.flags (written_val order (value_view attr.now.value))) }
     ensures room { vec_capacity out.old ≤ vec_capacity out.new }
     ensures ranged { IsRangedVal (value_view attr.now.value) }
@@ -140,7 +140,7 @@ fn append_hop(hop: &Hop, order: Order, out: &mut Vec<u8>)
     requires space { vec_len out.old + aligned
         (8 + items_len (attrs_view (out-Hop hop.now).attrs.items)) ≤ vec_capacity out.old }
     ensures items { out.new.items
-        ≡ out.old.items ++ padded (hop_item order (out-Hop hop.now).flags (out-Hop hop.now).hops
+        ≡ out.old.items ++ with_padding (hop_item order (out-Hop hop.now).flags (out-Hop hop.now).hops
         (out-Hop hop.now).ifindex (written order (attrs_view (out-Hop hop.now).attrs.items))) }
     ensures room { vec_capacity out.old ≤ vec_capacity out.new }
     ensures ranged { FitsSigned w32 (out-Hop hop.now).ifindex

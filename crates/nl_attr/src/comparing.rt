@@ -6,7 +6,7 @@ ghost use Rattle.std.specs.Int.{w32, cast_unsigned};
 ghost use Rattle.nl_attr.specs.declared.tree.Hop.{out-Hop};
 ghost use Rattle.nl_attr.specs.Numbers.{num};
 ghost use Rattle.nl_attr.specs.View.{attrs_view, hops_view, value_view};
-ghost use Rattle.nl_attr.specs.Written.{padded, attr_item, hop_item, written};
+ghost use Rattle.nl_attr.specs.Written.{with_padding, attr_item, hop_item, written};
 ghost use Rattle.nl_attr.specs.Written.{written_val, written_hops, val_len, items_len};
 ghost use Rattle.nl_attr.specs.Proper.{IsSized, IsSizedVal, IsSizedHops};
 ghost use Rattle.nl_attr.specs.Compared.{Begins};
@@ -44,7 +44,7 @@ fn closes_item(len: usize, order: Order, bytes: &[u8]) -> Option<usize>
     requires inside { len ≤ length bytes.now }
     ensures begins { (body : List ℕ)
         → length body + 2 ≡ len → take (length body) (drop 2 bytes.now) ≡ body
-        → Begins (padded (num len 2 order ++ body)) bytes.now result }
+        → Begins (with_padding (num len 2 order ++ body)) bytes.now result }
     ensures within { IfSome result (λ n. n ≤ length bytes.now) }
 {
     begins_with_bytes(&order.u16_bytes(len as u16), bytes)?;
@@ -89,7 +89,7 @@ fn begins_with_attr(attr: &Attr, order: Order, bytes: &[u8]) -> Option<usize>
     requires number { attr.now.number < NUMBERS }
     requires short { 4 + val_len (value_view attr.now.value) ≤ LONGEST_ITEM }
     requires sized { IsSizedVal (value_view attr.now.value) }
-    ensures begins { Begins (padded (attr_item order attr.now.number attr.now.flags
+    ensures begins { Begins (with_padding (attr_item order attr.now.number attr.now.flags
         (written_val order (value_view attr.now.value)))) bytes.now result }
     ensures within { IfSome result (λ n. n ≤ length bytes.now) }
 {
@@ -127,7 +127,7 @@ pub fn begins_with(attrs: &[Attr], order: Order, bytes: &[u8]) -> Option<usize>
 fn begins_with_hop(hop: &Hop, order: Order, bytes: &[u8]) -> Option<usize>
     requires short { 8 + items_len (attrs_view (out-Hop hop.now).attrs.items) ≤ LONGEST_ITEM }
     requires sized { IsSized (attrs_view (out-Hop hop.now).attrs.items) }
-    ensures begins { Begins (padded (hop_item order (out-Hop hop.now).flags (out-Hop hop.now).hops
+    ensures begins { Begins (with_padding (hop_item order (out-Hop hop.now).flags (out-Hop hop.now).hops
         (out-Hop hop.now).ifindex (written order (attrs_view (out-Hop hop.now).attrs.items))))
         bytes.now result }
     ensures within { IfSome result (λ n. n ≤ length bytes.now) }

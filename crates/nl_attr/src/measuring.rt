@@ -63,8 +63,8 @@ impl Extent {
         }
     }
 
-    /// The length of what was measured, or the first refusal that applies: `Mismatch` where there
-    /// is none, `TooDeep`, or `TooLong`.
+    /// The length of what was measured, or the first refusal that applies: `Mismatch` where
+    /// nothing was measured, `TooDeep`, or `TooLong`.
     pub fn length(measured: Option<Extent>) -> Result<usize, WriteError>
         ensures { result ≡ length_of measured }
     {

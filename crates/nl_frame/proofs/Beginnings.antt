@@ -1,8 +1,9 @@
 -- Bytes that begin with messages.
 use Rattle.std.proofs.Common.{◌≡◌, ℕ, ◌+◌, ◌-◌, ◌<◌, ◌≤◌, List, [], ◌∷◌, length, drop, replicate, Option, Some, None, ap, subst, ◌∙◌, arith, inl, inr}
+use Rattle.nl_attr.specs.declared.limits.TheConstants.{LONGEST_REGION}
 use Rattle.nl_attr.specs.declared.order.Order.{Order}
 use Rattle.nl_attr.specs.Numbers.{aligned}
-use Rattle.nl_attr.specs.Written.{padded}
+use Rattle.nl_attr.specs.Written.{with_padding}
 use Rattle.nl_attr.specs.Compared.{Begins}
 use Rattle.nl_attr.proofs.Lemmas.Comparing.{behind, two, not_first, not_second, padded_item, not_padded}
 use Rattle.nl_attr.proofs.Lemmas.Sized.{list_is_sized}
@@ -28,14 +29,14 @@ module _ (o : Order) (m : MessageVal) where
   header_is n e = ap (λ k. fields.written o (header_fields (record { len = 16 + k; kind = m.kind; flags = m.flags; seq = m.seq; port = m.port }))) (e ∙ length-body o m.body)
 
   module _ (bytes : List ℕ) where
-    pub no_body : Begins (body_written o m.body) (drop 16 bytes) None → Begins (padded (message_item o m)) bytes None
+    pub no_body : Begins (body_written o m.body) (drop 16 bytes) None → Begins (with_padding (message_item o m)) bytes None
     no_body p = not_padded (message_item o m) bytes (not_second front (body_written o m.body) bytes 16 (length-written o (header_fields (header_for m))) p)
 
-    pub no_header : Begins front bytes None → Begins (padded (message_item o m)) bytes None
+    pub no_header : Begins front bytes None → Begins (with_padding (message_item o m)) bytes None
     no_header p = not_padded (message_item o m) bytes (not_first front (body_written o m.body) bytes p)
 
     pub whole_message : (n k : ℕ) (r : Option ℕ) → Begins (body_written o m.body) (drop 16 bytes) (Some n) → Begins front bytes (Some k) → Begins (replicate (aligned (16 + n) - (16 + n)) 0) (drop (16 + n) bytes) r
-        → Begins (padded (message_item o m)) bytes (behind (16 + n) r)
+        → Begins (with_padding (message_item o m)) bytes (behind (16 + n) r)
     whole_message n k r p q gap =
         let size : k ≡ 16 = q.0 ∙ length-written o (header_fields (header_for m)) in
         let head : Begins front bytes (Some 16) = subst (λ (j : ℕ). Begins front bytes (Some j)) size q in
@@ -55,9 +56,9 @@ body_is_sized (family h is) f m s = list_is_sized is (context_of (group_of h)) (
 body_is_sized (get n tail) f m s = tt
 body_is_sized (other bs) f m s = tt
 
-all_are_sized : (ms : List MessageVal) → (IsMismatched ms → ⊥) → (HasLong ms → ⊥) → written_len ms ≤ 1048576 → AreSized ms
+all_are_sized : (ms : List MessageVal) → (IsMismatched ms → ⊥) → (HasLong ms → ⊥) → written_len ms ≤ LONGEST_REGION → AreSized ms
 all_are_sized [] m s top = tt
 all_are_sized (x ∷ ms) m s top = (omega (arith, top), body_is_sized x.body (form_of x.kind) (λ y. m (inl y)) (λ y. s (inl y)), all_are_sized ms (λ y. m (inr y)) (λ y. s (inr y)) (omega (arith, top)))
 
 pub messages_are_sized : (ms : List MessageVal) → (IsMismatched ms → ⊥) → (IsLong ms → ⊥) → AreSized ms
-messages_are_sized ms m s = all_are_sized ms m (λ x. s (inr x)) (not_above 1048576 (written_len ms) (λ x. s (inl x)))
+messages_are_sized ms m s = all_are_sized ms m (λ x. s (inr x)) (not_above LONGEST_REGION (written_len ms) (λ x. s (inl x)))

@@ -2,6 +2,7 @@
 use Rattle.std.proofs.Common.{◌≡◌, ℕ, ◌+◌, ◌≤◌, Bool, true, false, cond, ltb, ◌||◌, List, [], ◌∷◌, Option, Some, None, IfSome, refl, subst, arith, inl, inr}
 use Rattle.std.proofs.lemmas.Bool.{ltb-true, ltb-false}
 use Rattle.std.specs.Prelude.{◌⊎◌, ◌↔◌, IsTrue}
+use Rattle.nl_attr.specs.declared.limits.TheConstants.{LONGEST_REGION}
 use Rattle.nl_attr.specs.declared.measuring.Extent.{Extent}
 use Rattle.nl_attr.specs.Measured.{region_len, empty_extent, join}
 use Rattle.nl_frame.specs.Form.{form_of}
@@ -13,7 +14,7 @@ use Rattle.nl_frame.specs.Measured.{IsMessageLen, IsSized, IsLen}
 -- what is measured of whole, where rest is left
 abbrev pub IsPart : List MessageVal → List MessageVal → Option ℕ → Type 0
 IsPart whole rest None = IsLong whole
-IsPart whole rest (Some n) = (written_len whole ≡ n + written_len rest) × (n ≤ 1048576) × (HasLong whole → HasLong rest) × (HasLong rest → HasLong whole) × (IsSized rest → IsSized whole)
+IsPart whole rest (Some n) = (written_len whole ≡ n + written_len rest) × (n ≤ LONGEST_REGION) × (HasLong whole → HasLong rest) × (HasLong rest → HasLong whole) × (IsSized rest → IsSized whole)
 
 pub record IsMeasuring (D : ℕ) (whole rest : List MessageVal) (all : Extent) : Type 0 where
   pub mismatch : IsMismatched whole → IsMismatched rest
@@ -36,7 +37,7 @@ part_on : (m : MessageVal) (whole rest : List MessageVal) (a b : Option ℕ) →
 part_on m whole rest None b p q = p
 part_on m whole rest (Some a) None p q = elim q [ inl long ↦ inr (p.3 (inl long)) | inr big ↦ inl (omega (arith, p.0, big)) ]
 part_on m whole rest (Some a) (Some b) p q =
-    elim (ltb 1048576 (a + b)) as (λ t. ltb 1048576 (a + b) ≡ t → IsPart whole rest (cond t None (Some (a + b)))) [
+    elim (ltb LONGEST_REGION (a + b)) as (λ t. ltb LONGEST_REGION (a + b) ≡ t → IsPart whole rest (cond t None (Some (a + b)))) [
       | true ↦ λ e. inl (omega (arith, ltb-true _ _ e, p.0, q.0))
       | false ↦ λ e. (omega (arith, p.0, q.0), ltb-false _ _ e, λ h. elim (p.2 h) [ inl x ↦ absurd (q.2 x) | inr y ↦ y ], λ h. p.3 (inr h), λ s. p.4 (q.3, s))
     ] refl

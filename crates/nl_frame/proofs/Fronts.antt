@@ -3,6 +3,7 @@ use Rattle.std.proofs.Common.{◌≡◌, ℕ, ◌+◌, ◌-◌, ◌*◌, ◌^◌
 use Rattle.std.proofs.lemmas.Bool.{le-ltb, lt-ltb, ltb-false}
 use Rattle.std.proofs.lemmas.List.{take_all}
 use Rattle.std.proofs.Math.Nat.{mul-le-mul_left}
+use Rattle.nl_attr.specs.declared.limits.TheConstants.{LONGEST_REGION}
 use Rattle.nl_attr.specs.declared.order.Order.{Order}
 use Rattle.nl_attr.specs.declared.fault.Reason.{Reason}
 use Rattle.nl_attr.specs.declared.fault.Reason.TheVariants.{ShortBody}
@@ -63,5 +64,5 @@ step_bound k v u place span p a b h = omega (arith, a, b, mul-le-mul_left k h)
 pub whole_bound : (k v m n : ℕ) → v ≤ k * m → m ≤ n → v ≤ k * n
 whole_bound k v m n a h = omega (arith, a, mul-le-mul_left k h)
 
-pub small : (k n x : ℕ) → k ≤ 33 → n ≤ 1048576 → x ≤ k * n → x < 2 ^ 64
+pub small : (k n x : ℕ) → k ≤ 33 → n ≤ LONGEST_REGION → x ≤ k * n → x < 2 ^ 64
 small k n x a b h = omega (arith, mul-le-mul_left k b)

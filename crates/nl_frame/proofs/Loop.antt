@@ -2,6 +2,7 @@
 use Rattle.std.proofs.Common.{◌≡◌, ◌≢◌, ℕ, ◌+◌, ◌*◌, ◌^◌, ◌<◌, ◌≤◌, true, false, eqb, List, [], ◌∷◌, ◌++◌, length, Some, Ok, Err, sym, ap, ◌∙◌, arith, length-drop}
 use Rattle.std.proofs.lemmas.Bool.{eqb-true}
 use Rattle.std.proofs.lemmas.List.{nil_from_length}
+use Rattle.nl_attr.specs.declared.limits.TheConstants.{LONGEST_REGION}
 use Rattle.nl_attr.specs.declared.fault.ListError.{ListError}
 use Rattle.nl_attr.specs.declared.fault.ListError.TheVariants.{Layout, Memory}
 use Rattle.nl_attr.specs.declared.fault.Reason.{Reason}
@@ -62,7 +63,7 @@ module _ {S : Shape} {d : List ℕ} {ms : List MessageVal} {n place : ℕ} {left
     pub sum_bound : n + v ≤ (S.depth + 1) * (place + f.span)
     sum_bound = step_bound (S.depth + 1) n v place f.span (length f.payload.now) now.bound few (omega (arith, is.inside))
 
-    pub sum_is_small : S.depth ≤ 32 → length d ≤ 1048576 → n + v < 2 ^ 64
+    pub sum_is_small : S.depth ≤ 32 → length d ≤ LONGEST_REGION → n + v < 2 ^ 64
     sum_is_small low size = small (S.depth + 1) (place + f.span) (n + v) (omega arith) (omega (arith, is.within, now.size)) sum_bound
 
     pub whole_is_bound : n + v ≤ (S.depth + 1) * length d

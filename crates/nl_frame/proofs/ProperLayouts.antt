@@ -1,5 +1,6 @@
 -- Messages that are a layout can be written, and are as long as the datagram with its last padding.
 use Rattle.std.proofs.Common.{◌≡◌, ℕ, ◌+◌, ◌%◌, ◌<◌, ◌≤◌, List, [], ◌∷◌, ◌++◌, length, take, drop, Some, None, refl, sym, ap, subst, ◌∙◌, arith, inl, inr, length-append, length-drop}
+use Rattle.nl_attr.specs.declared.limits.TheConstants.{LONGEST_REGION}
 use Rattle.nl_attr.specs.declared.order.Order.{Order}
 use Rattle.nl_attr.specs.Shape.{Shape}
 use Rattle.nl_attr.specs.Numbers.{aligned, len_of, span_of, AreBytes}
@@ -76,10 +77,10 @@ module _ (S : Shape) where
 
   -- ---- they can be written
 
-  region_is_proper : (x : AnyHead) (is : Items) (payload : List ℕ) → length payload ≤ 1048576 → Fits S is (drop (head_size (group_of x)) payload) (context_of (group_of x)) 0 → attrs.IsProper is (context_of (group_of x)) 0 S.depth
+  region_is_proper : (x : AnyHead) (is : Items) (payload : List ℕ) → length payload ≤ LONGEST_REGION → Fits S is (drop (head_size (group_of x)) payload) (context_of (group_of x)) 0 → attrs.IsProper is (context_of (group_of x)) 0 S.depth
   region_is_proper x is payload top f = let n = head_size (group_of x) in fitted_is_proper S (context_of (group_of x)) 0 (drop n payload) is f (omega (arith, length-drop n payload))
 
-  body_matched : (c : BodyVal) (f : Form) (payload : List ℕ) → length payload ≤ 1048576 → BodyOf S c f payload → IsMismatchedBody c f → ⊥
+  body_matched : (c : BodyVal) (f : Form) (payload : List ℕ) → length payload ≤ LONGEST_REGION → BodyOf S c f payload → IsMismatchedBody c f → ⊥
   body_matched (noop bs) f payload top b h = h b.0
   body_matched (error z x tail) f payload top b h = h b.0
   body_matched (done None tail) f payload top b (inl h) = h b.0
@@ -91,7 +92,7 @@ module _ (S : Shape) where
   body_matched (get n tail) f payload top b h = h b.0
   body_matched (other bs) f payload top b h = h b.0
 
-  body_shallow : (c : BodyVal) (f : Form) (payload : List ℕ) → length payload ≤ 1048576 → BodyOf S c f payload → IsDeepBody c S.depth → ⊥
+  body_shallow : (c : BodyVal) (f : Form) (payload : List ℕ) → length payload ≤ LONGEST_REGION → BodyOf S c f payload → IsDeepBody c S.depth → ⊥
   body_shallow (noop bs) f payload top b h = h
   body_shallow (error z x tail) f payload top b h = h
   body_shallow (done status tail) f payload top b h = h
@@ -100,7 +101,7 @@ module _ (S : Shape) where
   body_shallow (get n tail) f payload top b h = h
   body_shallow (other bs) f payload top b h = h
 
-  body_short : (c : BodyVal) (f : Form) (payload : List ℕ) → length payload ≤ 1048576 → BodyOf S c f payload → IsLongBody c → ⊥
+  body_short : (c : BodyVal) (f : Form) (payload : List ℕ) → length payload ≤ LONGEST_REGION → BodyOf S c f payload → IsLongBody c → ⊥
   body_short (noop bs) f payload top b h = h
   body_short (error z x tail) f payload top b h = h
   body_short (done status tail) f payload top b h = h
@@ -110,27 +111,27 @@ module _ (S : Shape) where
   body_short (other bs) f payload top b h = h
 
   -- the first payload and the rest are no longer than the datagram
-  parts_low : (m : MessageVal) (ms : List MessageVal) (d : List ℕ) (f : Layout S (m ∷ ms) d) → length d ≤ 1048576 → (length (drop 16 f.0) ≤ 1048576) × (length f.2 ≤ 1048576)
+  parts_low : (m : MessageVal) (ms : List MessageVal) (d : List ℕ) (f : Layout S (m ∷ ms) d) → length d ≤ LONGEST_REGION → (length (drop 16 f.0) ≤ LONGEST_REGION) × (length f.2 ≤ LONGEST_REGION)
   parts_low m ms d f top =
       let low = item_in S.order d f.0 f.1 f.2 f.3 in
       (omega (arith, low, top, length-drop 16 f.0), omega (arith, low, top))
 
-  layout_matched : (ms : List MessageVal) (d : List ℕ) → length d ≤ 1048576 → Layout S ms d → IsMismatched ms → ⊥
+  layout_matched : (ms : List MessageVal) (d : List ℕ) → length d ≤ LONGEST_REGION → Layout S ms d → IsMismatched ms → ⊥
   layout_matched [] d top f h = h
   layout_matched (m ∷ ms) d top f (inl h) = body_matched m.body (form_of m.kind) (drop 16 f.0) (parts_low m ms d f top).0 f.5 h
   layout_matched (m ∷ ms) d top f (inr h) = layout_matched ms f.2 (parts_low m ms d f top).1 f.6 h
 
-  layout_shallow : (ms : List MessageVal) (d : List ℕ) → length d ≤ 1048576 → Layout S ms d → IsDeep ms S.depth → ⊥
+  layout_shallow : (ms : List MessageVal) (d : List ℕ) → length d ≤ LONGEST_REGION → Layout S ms d → IsDeep ms S.depth → ⊥
   layout_shallow [] d top f h = h
   layout_shallow (m ∷ ms) d top f (inl h) = body_shallow m.body (form_of m.kind) (drop 16 f.0) (parts_low m ms d f top).0 f.5 h
   layout_shallow (m ∷ ms) d top f (inr h) = layout_shallow ms f.2 (parts_low m ms d f top).1 f.6 h
 
-  layout_short : (ms : List MessageVal) (d : List ℕ) → length d ≤ 1048576 → Layout S ms d → HasLong ms → ⊥
+  layout_short : (ms : List MessageVal) (d : List ℕ) → length d ≤ LONGEST_REGION → Layout S ms d → HasLong ms → ⊥
   layout_short [] d top f h = h
   layout_short (m ∷ ms) d top f (inl h) = body_short m.body (form_of m.kind) (drop 16 f.0) (parts_low m ms d f top).0 f.5 h
   layout_short (m ∷ ms) d top f (inr h) = layout_short ms f.2 (parts_low m ms d f top).1 f.6 h
 
-  pub layout_proper : (ms : List MessageVal) (d : List ℕ) → Layout S ms d → length d ≤ 1048576 → IsProper ms S.depth
+  pub layout_proper : (ms : List MessageVal) (d : List ℕ) → Layout S ms d → length d ≤ LONGEST_REGION → IsProper ms S.depth
   layout_proper ms d f top = record { matched = layout_matched ms d top f; shallow = layout_shallow ms d top f; short = short } where
     short : IsLong ms → ⊥
     short (inl h) = omega (arith, layout_len ms d f, top, h)

@@ -1,6 +1,7 @@
 -- The loop that scans the messages of a datagram.
 use Rattle.std.proofs.Common.{◌≡◌, ◌≢◌, ℕ, ◌+◌, ◌*◌, ◌^◌, ◌≤◌, ◌<◌, List, [], ◌∷◌, ◌++◌, length, map, slice_set, Option, Some, None, refl, sym, ap, ◌∙◌, arith, length-append, length-drop}
 use Rattle.std.proofs.lemmas.List.{append-nil, length-map, map-append}
+use Rattle.nl_attr.specs.declared.limits.TheConstants.{LONGEST_REGION}
 use Rattle.nl_attr.specs.declared.events.Event.{Event}
 use Rattle.nl_attr.specs.declared.fault.Fault.{Fault}
 use Rattle.nl_attr.specs.declared.fault.Reason.{Reason}
@@ -190,7 +191,7 @@ module _ {S : Shape} {d : List ℕ} {old : List Event} {count visits place : ℕ
       sum_bound b = step_bound (S.depth + 1) visits t.visits place f.span (length f.payload.now) now.bound b (omega (arith, is.inside))
 
       -- the sum of the visits is small
-      pub sum_small : S.depth ≤ 32 → length d ≤ 1048576 → t.visits ≤ (S.depth + 1) * length f.payload.now → visits + t.visits < 2 ^ 64
+      pub sum_small : S.depth ≤ 32 → length d ≤ LONGEST_REGION → t.visits ≤ (S.depth + 1) * length f.payload.now → visits + t.visits < 2 ^ 64
       sum_small low size b = small (S.depth + 1) (place + f.span) (visits + t.visits) (omega arith) (omega (arith, is.within, now.size)) (sum_bound b)
 
       -- and has the bound of the datagram

@@ -2,11 +2,12 @@
 use Rattle.std.proofs.Common.{◌≡◌, ◌≢◌, ℕ, ◌+◌, ◌-◌, ◌<◌, ◌≤◌, List, [], ◌∷◌, ◌++◌, length, take, drop, replicate, Some, None, refl, sym, ap, subst, ◌∙◌, arith, inl, inr, append_assoc, length-append}
 use Rattle.std.proofs.lemmas.Bool.{cases_eq}
 use Rattle.std.proofs.lemmas.List.{length-replicate, take_at, drop_at}
+use Rattle.nl_attr.specs.declared.limits.TheConstants.{LONGEST_REGION}
 use Rattle.nl_attr.specs.declared.order.Order.{Order}
 use Rattle.nl_attr.specs.Shape.{Shape}
 use Rattle.nl_attr.specs.Numbers.{aligned, num}
 use Rattle.nl_attr.specs.Layout.{IsPiece, Fits}
-use Rattle.nl_attr.specs.Written.{padded}
+use Rattle.nl_attr.specs.Written.{with_padding}
 use Rattle.nl_attr.specs.Written as attrs
 use Rattle.nl_attr.proofs.Lemmas.Writing.{written_fits}
 use Rattle.nl_route.specs.Fields.{Field, number, signed, AreFields, AreRanged}
@@ -99,7 +100,7 @@ gap_after : (n : ℕ) → n + (aligned n - n) ≡ aligned n
 gap_after n = omega arith
 
 -- a message as it is written is a piece
-made : (o : Order) (it body rest : List ℕ) → it ≡ num (length it) 4 o ++ body → 16 ≤ length it → length it ≤ 1048576 → IsPiece o 16 4 (padded it ++ rest) it (replicate (aligned (length it) - length it) 0) rest
+made : (o : Order) (it body rest : List ℕ) → it ≡ num (length it) 4 o ++ body → 16 ≤ length it → length it ≤ LONGEST_REGION → IsPiece o 16 4 (with_padding it ++ rest) it (replicate (aligned (length it) - length it) 0) rest
 made o it body rest says low high =
     record {
       parts = append_assoc it (replicate (aligned (length it) - length it) 0) rest;
@@ -111,7 +112,7 @@ made o it body rest says low high =
     }
 
 module _ (S : Shape) where
-  messages_write : (ms : List MessageVal) → IsRanged ms → (IsMismatched ms → ⊥) → (IsDeep ms S.depth → ⊥) → (HasLong ms → ⊥) → written_len ms ≤ 1048576 → Layout S ms (written S.order ms)
+  messages_write : (ms : List MessageVal) → IsRanged ms → (IsMismatched ms → ⊥) → (IsDeep ms S.depth → ⊥) → (HasLong ms → ⊥) → written_len ms ≤ LONGEST_REGION → Layout S ms (written S.order ms)
   messages_write [] r m d s top = refl
   messages_write (x ∷ ms) r m d s top =
       let o = S.order in
@@ -119,7 +120,7 @@ module _ (S : Shape) where
       let payload = body_written o x.body in
       let h = header_for x in
       let len : length it ≡ 16 + body_len x.body = length-message o x in
-      let high : 16 + body_len x.body ≤ 1048576 = omega (arith, top) in
+      let high : 16 + body_len x.body ≤ LONGEST_REGION = omega (arith, top) in
       let front = front_written o (header_fields h) 16 payload refl (omega (arith, high), (r.0, (r.1, (r.2, (r.3, tt))))) in
       let behind = fields.written o (number 2 x.kind ∷ number 2 x.flags ∷ number 4 x.seq ∷ number 4 x.port ∷ []) in
       let says : it ≡ num (length it) 4 o ++ (behind ++ payload) = append_assoc (num (16 + body_len x.body) 4 o) behind payload ∙ ap (λ k. num k 4 o ++ (behind ++ payload)) (sym len) in (
@@ -134,6 +135,6 @@ module _ (S : Shape) where
 
   -- what is proper is the layout of what it is written as
   pub written_has_layout : (ms : List MessageVal) → IsProper ms S.depth → IsRanged ms → Layout S ms (written S.order ms)
-  written_has_layout ms p r = messages_write ms r p.matched p.shallow (λ x. p.short (inr x)) (not_above 1048576 (written_len ms) (λ x. p.short (inl x))) where
+  written_has_layout ms p r = messages_write ms r p.matched p.shallow (λ x. p.short (inr x)) (not_above LONGEST_REGION (written_len ms) (λ x. p.short (inl x))) where
     not_above : (a b : ℕ) → (a < b → ⊥) → b ≤ a
     not_above a b h = omega (arith, h)

@@ -2,7 +2,7 @@
 use Rattle.std.proofs.Common.{◌≡◌, ℕ, ◌+◌, List, [], ◌∷◌, ◌++◌, length, Some, None, refl, ap, ◌∙◌, arith, length-append}
 use Rattle.nl_attr.specs.declared.order.Order.{Order}
 use Rattle.nl_attr.specs.Numbers.{aligned}
-use Rattle.nl_attr.specs.Written.{padded, items_len}
+use Rattle.nl_attr.specs.Written.{with_padding, items_len}
 use Rattle.nl_attr.specs.Written as attrs
 use Rattle.nl_attr.proofs.Lemmas.Lengths.{length-padded, length-items}
 use Rattle.nl_route.specs.Fields.{Field, signed}
@@ -36,4 +36,4 @@ module _ (o : Order) where
   length-messages [] = refl
   length-messages (m ∷ ms) =
       let it = message_item o m in
-      length-append (padded it) (written o ms) ∙ ap (λ k. k + length (written o ms)) (length-padded it ∙ ap aligned (length-message m)) ∙ ap (λ k. aligned (16 + body_len m.body) + k) (length-messages ms)
+      length-append (with_padding it) (written o ms) ∙ ap (λ k. k + length (written o ms)) (length-padded it ∙ ap aligned (length-message m)) ∙ ap (λ k. aligned (16 + body_len m.body) + k) (length-messages ms)

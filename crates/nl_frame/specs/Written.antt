@@ -2,7 +2,7 @@
 use Rattle.std.specs.Prelude.{◌+◌, ℕ, List, [], ◌∷◌, ◌++◌, length, Some, None}
 use Rattle.nl_attr.specs.declared.order.Order.{Order}
 use Rattle.nl_attr.specs.Numbers.{aligned}
-use Rattle.nl_attr.specs.Written.{padded, items_len}
+use Rattle.nl_attr.specs.Written.{with_padding, items_len}
 use Rattle.nl_attr.specs.Written as attrs
 use Rattle.nl_route.specs.Fields.{signed}
 use Rattle.nl_route.specs.Fields as fields
@@ -43,7 +43,7 @@ module _ (o : Order) where
   -- each message with its padding, the last one too
   abbrev pub written : List MessageVal → List ℕ
   written [] = []
-  written (m ∷ ms) = padded (message_item m) ++ written ms
+  written (m ∷ ms) = with_padding (message_item m) ++ written ms
 
 -- how many bytes are written, in either order
 abbrev pub written_len : List MessageVal → ℕ

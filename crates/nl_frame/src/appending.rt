@@ -4,7 +4,7 @@ ghost use Rattle.std.specs.Prelude.{◌≡◌, ◌≤◌, ◌<◌, ◌+◌, ◌-
 ghost use Rattle.std.specs.Prelude.{map, take, drop, vec_len, vec_capacity, FitsSigned};
 ghost use Rattle.std.specs.Int.{w32};
 ghost use Rattle.nl_attr.specs.Numbers.{aligned, num};
-ghost use Rattle.nl_attr.specs.Written.{padded};
+ghost use Rattle.nl_attr.specs.Written.{with_padding};
 ghost use Rattle.nl_route.specs.Fields.{signed};
 ghost use Rattle.nl_route.specs.Fields as fields;
 ghost use Rattle.nl_frame.specs.Message.{error, done};
@@ -103,7 +103,7 @@ fn close_message(out: &mut Vec<u8>, order: Order, start: usize)
     requires short { vec_len out.old - start ≤ LONGEST_REGION + 16 }
     requires space { start + aligned (vec_len out.old - start) ≤ vec_capacity out.old }
     ensures items { out.new.items ≡ take start out.old.items
-        ++ padded (num (vec_len out.old - start) 4 order ++ drop (start + 4) out.old.items) }
+        ++ with_padding (num (vec_len out.old - start) 4 order ++ drop (start + 4) out.old.items) }
     ensures len { vec_len out.new ≡ start + aligned (vec_len out.old - start) }
     ensures room { vec_capacity out.old ≤ vec_capacity out.new }
 {
@@ -119,7 +119,7 @@ fn append_message(message: &Message, order: Order, out: &mut Vec<u8>)
     requires space { vec_len out.old + aligned (16 + body_len (body_view message.now.body))
         ≤ vec_capacity out.old }
     ensures items { out.new.items
-        ≡ out.old.items ++ padded (message_item order (message_view message.now)) }
+        ≡ out.old.items ++ with_padding (message_item order (message_view message.now)) }
     ensures len { vec_len out.new
         ≡ vec_len out.old + aligned (16 + body_len (body_view message.now.body)) }
     ensures room { vec_capacity out.old ≤ vec_capacity out.new }

@@ -1,7 +1,7 @@
 //! Messages compared with the bytes that they would be written as.
 
 ghost use Rattle.std.specs.Prelude.{◌≡◌, ◌≤◌, ◌+◌, ◌↔◌, ◌++◌, ◌∷◌, [], length, map, IsTrue, IfSome};
-ghost use Rattle.nl_attr.specs.Written.{padded};
+ghost use Rattle.nl_attr.specs.Written.{with_padding};
 ghost use Rattle.nl_attr.specs.Compared.{Begins};
 ghost use Rattle.nl_route.specs.Fields.{signed};
 ghost use Rattle.nl_route.specs.Fields as fields;
@@ -82,7 +82,7 @@ fn begins_with_message(message: &Message, order: Order, bytes: &[u8]) -> Option<
     requires short { 16 + body_len (body_view message.now.body) ≤ LONGEST_REGION }
     requires sized { IsSizedBody (body_view message.now.body) }
     ensures begins { Begins
-        (padded (message_item order (message_view message.now))) bytes.now result }
+        (with_padding (message_item order (message_view message.now))) bytes.now result }
     ensures within { IfSome result (λ n. n ≤ length bytes.now) }
 {
     if bytes.len() < 16 {

@@ -28,31 +28,31 @@ abbrev pub bytes_view : ℕ → Items → Option (List ℕ)
 bytes_view n is = said_by bytes_in (first_of is n)
 
 -- the attributes that a value holds, none where it holds no list
-abbrev pub items_in : Val → Items
-items_in (bytes bs) = no_items
-items_in (list is) = is
-items_in (hops hs) = no_items
+abbrev pub list_in : Val → Items
+list_in (bytes bs) = no_items
+list_in (list is) = is
+list_in (hops hs) = no_items
 
 -- the same of an attribute, where there is one
-abbrev pub items_by : Option Entry → Items
-items_by None = no_items
-items_by (Some e) = items_in e.value
+abbrev pub list_of_entry : Option Entry → Items
+list_of_entry None = no_items
+list_of_entry (Some e) = list_in e.value
 
 -- the next hops that a value holds, none where it holds none
-abbrev pub hops_in : Val → HopItems
-hops_in (bytes bs) = no_hops
-hops_in (list is) = no_hops
-hops_in (hops hs) = hs
+abbrev pub next_hops_in : Val → HopItems
+next_hops_in (bytes bs) = no_hops
+next_hops_in (list is) = no_hops
+next_hops_in (hops hs) = hs
 
 -- the same of an attribute, where there is one
-abbrev pub hops_by : Option Entry → HopItems
-hops_by None = no_hops
-hops_by (Some e) = hops_in e.value
+abbrev pub next_hops_of_entry : Option Entry → HopItems
+next_hops_of_entry None = no_hops
+next_hops_of_entry (Some e) = next_hops_in e.value
 
 -- its list, none where there is none
 abbrev pub items_view : ℕ → Items → Items
-items_view n is = items_by (first_of is n)
+items_view n is = list_of_entry (first_of is n)
 
 -- its next hops, none where there are none
 abbrev pub hop_items_view : ℕ → Items → HopItems
-hop_items_view n is = hops_by (first_of is n)
+hop_items_view n is = next_hops_of_entry (first_of is n)

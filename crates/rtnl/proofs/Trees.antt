@@ -11,7 +11,7 @@ use Rattle.nl_attr.specs.declared.tree.Value.TheVariants as value
 use Rattle.nl_attr.specs.Tree.{Val, Items, item, HopItems, hop}
 use Rattle.nl_attr.specs.View.{Front, HopFront, value_step, attr_step, hop_step, value_view, attr_view, attrs_view, hop_view, hops_view}
 use Rattle.nl_attr.proofs.Lemmas.Opened.{attr_is, hop_is, value_list, value_hops}
-use Rattle.rtnl.specs.declared.text.attributes.Form.{Form}
+use Rattle.rtnl.specs.declared.text.attributes.Style.{Style}
 use Rattle.rtnl.specs.Trees.{deeper, held_text, hop_count, hop_line, hops_text, indented, inline_text, item_count, items_text}
 
 -- an attribute before others
@@ -31,14 +31,14 @@ hop_count_lem [] = refl
 hop_count_lem (one ∷ more) = ap (λ (f : HopFront). hop_count (f (hops_view more))) (hop_is one) ∙ omega (arith, hop_count_lem more)
 
 -- a list says the number of its attributes
-pub inline_list : (o : Order) (form : Form) (net : Bool) (attrs : Vec Attr Global) →
+pub inline_list : (o : Order) (form : Style) (net : Bool) (attrs : Vec Attr Global) →
     inline_text o form net (value_view (value.List attrs)) ≡ codes "list " ++ decimal (length attrs.items)
 unfolding inline_text
 inline_list o form net attrs =
     ap (inline_text o form net) (value_list attrs) ∙ ap (λ n. codes "list " ++ decimal n) (item_count_lem attrs.items)
 
 -- next hops tell their number
-pub inline_hops : (o : Order) (form : Form) (net : Bool) (items : Vec Hop Global) →
+pub inline_hops : (o : Order) (form : Style) (net : Bool) (items : Vec Hop Global) →
     inline_text o form net (value_view (value.Hops items)) ≡ codes "hops " ++ decimal (length items.items)
 unfolding inline_text
 inline_hops o form net items =

@@ -5,11 +5,11 @@ use Rattle.nl_route.specs.declared.ifaddrmsg.AddrHead.{AddrHead}
 use Rattle.rtnl.specs.Json.{Field, number}
 use Rattle.rtnl.specs.Rows.{Row}
 use Rattle.rtnl.specs.Text.{◌⨟◌, padded_hex}
-use Rattle.rtnl.specs.declared.text.attributes.Form.{Form}
-use Rattle.rtnl.specs.declared.text.attributes.Form.TheVariants.{U32, Text, Address, Hex}
+use Rattle.rtnl.specs.declared.text.attributes.Style.{Style}
+use Rattle.rtnl.specs.declared.text.attributes.Style.TheVariants.{U32, Text, Address, Hex}
 
 -- IFA, of an address
-abbrev pub addr_rows : List (Row Form)
+abbrev pub addr_rows : List (Row Style)
 addr_rows =
     (1, codes "ADDRESS", Address)
     ∷ (2, codes "LOCAL", Address)

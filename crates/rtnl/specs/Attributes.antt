@@ -2,8 +2,8 @@
 use Rattle.std.specs.Prelude.{ℕ, List, [], codes, Option, Some, None}
 use Rattle.nl_attr.specs.declared.tree.Ctx.{Ctx}
 use Rattle.nl_attr.specs.declared.tree.Ctx.TheVariants.{Link, LinkInfo, Addr, Route, Metrics, Neigh, Rule, Plain}
-use Rattle.rtnl.specs.declared.text.attributes.Form.{Form}
-use Rattle.rtnl.specs.declared.text.attributes.Form.TheVariants.{Hex}
+use Rattle.rtnl.specs.declared.text.attributes.Style.{Style}
+use Rattle.rtnl.specs.declared.text.attributes.Style.TheVariants.{Hex}
 use Rattle.rtnl.specs.Link.{link_rows, link_info_rows}
 use Rattle.rtnl.specs.Addr.{addr_rows}
 use Rattle.rtnl.specs.Route.{route_rows, metrics_rows}
@@ -12,7 +12,7 @@ use Rattle.rtnl.specs.Rule.{rule_rows}
 use Rattle.rtnl.specs.Rows.{Row, find_row, name_in}
 
 -- the attributes of a context
-abbrev pub attribute_rows : Ctx → List (Row Form)
+abbrev pub attribute_rows : Ctx → List (Row Style)
 attribute_rows Link = link_rows
 attribute_rows LinkInfo = link_info_rows
 attribute_rows Addr = addr_rows
@@ -26,10 +26,10 @@ attribute_rows Plain = []
 unfoldable pub attribute_name : Ctx → ℕ → List ℕ
 attribute_name ctx number = name_in (codes "-") (find_row number (attribute_rows ctx))
 
-abbrev pub form_in : Option (List ℕ × Form) → Form
+abbrev pub form_in : Option (List ℕ × Style) → Style
 form_in None = Hex
 form_in (Some row) = row.1
 
 -- how the payload of an attribute is printed
-unfoldable pub attribute_form : Ctx → ℕ → Form
+unfoldable pub attribute_form : Ctx → ℕ → Style
 attribute_form ctx number = form_in (find_row number (attribute_rows ctx))

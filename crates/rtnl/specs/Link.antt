@@ -7,11 +7,11 @@ use Rattle.rtnl.specs.NamedBits.{link_flags}
 use Rattle.rtnl.specs.Names.{names_json, names_text}
 use Rattle.rtnl.specs.Rows.{Row}
 use Rattle.rtnl.specs.Text.{◌⨟◌, padded_hex}
-use Rattle.rtnl.specs.declared.text.attributes.Form.{Form}
-use Rattle.rtnl.specs.declared.text.attributes.Form.TheVariants.{U8, U32, Text, Hex}
+use Rattle.rtnl.specs.declared.text.attributes.Style.{Style}
+use Rattle.rtnl.specs.declared.text.attributes.Style.TheVariants.{U8, U32, Text, Hex}
 
 -- IFLA, of a link
-abbrev pub link_rows : List (Row Form)
+abbrev pub link_rows : List (Row Style)
 link_rows =
     (1, codes "ADDRESS", Hex)
     ∷ (2, codes "BROADCAST", Hex)
@@ -34,7 +34,7 @@ link_rows =
     ∷ (35, codes "CARRIER_CHANGES", U32) ∷ []
 
 -- IFLA_INFO, inside a link's LINKINFO
-abbrev pub link_info_rows : List (Row Form)
+abbrev pub link_info_rows : List (Row Style)
 link_info_rows =
     (1, codes "KIND", Text)
     ∷ (2, codes "DATA", Hex)

@@ -7,11 +7,11 @@ use Rattle.rtnl.specs.NamedBits.{neigh_flags, neigh_states}
 use Rattle.rtnl.specs.Names.{names_json, names_text}
 use Rattle.rtnl.specs.Rows.{Row}
 use Rattle.rtnl.specs.Text.{◌⨟◌, padded_hex}
-use Rattle.rtnl.specs.declared.text.attributes.Form.{Form}
-use Rattle.rtnl.specs.declared.text.attributes.Form.TheVariants.{U16, U32, NetworkU16, Address, Hex}
+use Rattle.rtnl.specs.declared.text.attributes.Style.{Style}
+use Rattle.rtnl.specs.declared.text.attributes.Style.TheVariants.{U16, U32, NetworkU16, Address, Hex}
 
 -- NDA, of a neighbour
-abbrev pub neigh_rows : List (Row Form)
+abbrev pub neigh_rows : List (Row Style)
 neigh_rows =
     (1, codes "DST", Address)
     ∷ (2, codes "LLADDR", Hex)

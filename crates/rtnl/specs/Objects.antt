@@ -14,7 +14,7 @@ use Rattle.nl_frame.specs.Message.{BodyVal, noop, error, done, overrun, family, 
 use Rattle.nl_dump.specs.Items.{Item}
 use Rattle.rtnl.specs.Attributes.{attribute_form, attribute_rows}
 use Rattle.rtnl.specs.Rows.{find_row}
-use Rattle.rtnl.specs.declared.text.attributes.Form.{Form}
+use Rattle.rtnl.specs.declared.text.attributes.Style.{Style}
 use Rattle.rtnl.specs.Json.{Field, object, array, number, signed, string, strings, digits}
 use Rattle.rtnl.specs.Link.{link_fields}
 use Rattle.rtnl.specs.Addr.{addr_fields}
@@ -38,7 +38,7 @@ reading_json (ipv4 payload) = string (ipv4_text payload)
 reading_json (ipv6 payload) = string (ipv6_text payload)
 reading_json (hex payload) = digits payload
 
-abbrev pub name_found : Option (List ℕ × Form) → json.Json
+abbrev pub name_found : Option (List ℕ × Style) → json.Json
 name_found None = json.null
 name_found (Some row) = string row.0
 
@@ -81,7 +81,7 @@ hop_front flags count index =
 
 abbrev mutual
   -- the form of an attribute of this context, and what it holds: a payload of this form, or items of the context inside
-  pub value_fields : Order → Form → Bool → Ctx → Val → List Field
+  pub value_fields : Order → Style → Bool → Ctx → Val → List Field
   value_fields o form net ctx (bytes payload) = reading_fields (reading_of o form net payload)
   value_fields o form net ctx (list items) = items_fields (codes "list") (attrs_json o ctx items)
   value_fields o form net ctx (hops items) = items_fields (codes "hops") (hops_json o items)

@@ -5,11 +5,11 @@ use Rattle.nl_route.specs.declared.rtmsg.RouteHead.{RouteHead}
 use Rattle.rtnl.specs.Json.{Field, number}
 use Rattle.rtnl.specs.Rows.{Row}
 use Rattle.rtnl.specs.Text.{◌⨟◌, padded_hex}
-use Rattle.rtnl.specs.declared.text.attributes.Form.{Form}
-use Rattle.rtnl.specs.declared.text.attributes.Form.TheVariants.{U8, U16, U32, Text, Address, Hex}
+use Rattle.rtnl.specs.declared.text.attributes.Style.{Style}
+use Rattle.rtnl.specs.declared.text.attributes.Style.TheVariants.{U8, U16, U32, Text, Address, Hex}
 
 -- RTA, of a route
-abbrev pub route_rows : List (Row Form)
+abbrev pub route_rows : List (Row Style)
 route_rows =
     (1, codes "DST", Address)
     ∷ (2, codes "SRC", Address)
@@ -34,7 +34,7 @@ route_rows =
     ∷ (30, codes "NH_ID", U32) ∷ []
 
 -- RTAX, inside a route's METRICS
-abbrev pub metrics_rows : List (Row Form)
+abbrev pub metrics_rows : List (Row Style)
 metrics_rows =
     (1, codes "LOCK", U32)
     ∷ (2, codes "MTU", U32)

@@ -5,11 +5,11 @@ use Rattle.nl_route.specs.declared.fib_rule_hdr.RuleHead.{RuleHead}
 use Rattle.rtnl.specs.Json.{Field, number}
 use Rattle.rtnl.specs.Rows.{Row}
 use Rattle.rtnl.specs.Text.{◌⨟◌, padded_hex}
-use Rattle.rtnl.specs.declared.text.attributes.Form.{Form}
-use Rattle.rtnl.specs.declared.text.attributes.Form.TheVariants.{U32, Text, Address}
+use Rattle.rtnl.specs.declared.text.attributes.Style.{Style}
+use Rattle.rtnl.specs.declared.text.attributes.Style.TheVariants.{U32, Text, Address}
 
 -- FRA, of a routing rule
-abbrev pub rule_rows : List (Row Form)
+abbrev pub rule_rows : List (Row Style)
 rule_rows =
     (1, codes "DST", Address)
     ∷ (2, codes "SRC", Address)

@@ -8,7 +8,7 @@ use Rattle.nl_attr.specs.declared.tree.Ctx.TheVariants.{Route, Plain}
 use Rattle.nl_attr.specs.declared.tree.Content.{Content}
 use Rattle.nl_attr.specs.declared.tree.Content.TheVariants as content
 use Rattle.nl_attr.specs.Tree.{Val, bytes, list, hops, Items, no_items, item, HopItems, no_hops, hop, holds_of}
-use Rattle.rtnl.specs.declared.text.attributes.Form.{Form}
+use Rattle.rtnl.specs.declared.text.attributes.Style.{Style}
 use Rattle.rtnl.specs.Attributes.{attribute_form, attribute_name}
 use Rattle.rtnl.specs.NamedBits.{hop_flags}
 use Rattle.rtnl.specs.Names.{names_text}
@@ -51,7 +51,7 @@ hop_count no_hops = 0
 hop_count (hop flags count index attrs more) = hop_count more + 1
 
 -- what an attribute's own line says of its value
-unfoldable pub inline_text : Order → Form → Bool → Val → List ℕ
+unfoldable pub inline_text : Order → Style → Bool → Val → List ℕ
 inline_text o form net (bytes payload) = value_text (reading_of o form net payload)
 inline_text o form net (list items) = codes "list " ⨟ decimal (item_count items)
 inline_text o form net (hops items) = codes "hops " ⨟ decimal (hop_count items)

@@ -5,8 +5,8 @@ use Rattle.std.specs.Fmt.{decimal}
 use Rattle.nl_attr.specs.declared.order.Order.{Order}
 use Rattle.nl_attr.specs.declared.order.Order.TheVariants.{Big}
 use Rattle.nl_attr.specs.Numbers.{number_of}
-use Rattle.rtnl.specs.declared.text.attributes.Form.{Form}
-use Rattle.rtnl.specs.declared.text.attributes.Form.TheVariants.{U8, U16, U32, NetworkU16, Text, Address, Hex}
+use Rattle.rtnl.specs.declared.text.attributes.Style.{Style}
+use Rattle.rtnl.specs.declared.text.attributes.Style.TheVariants.{U8, U16, U32, NetworkU16, Text, Address, Hex}
 use Rattle.rtnl.specs.Text.{◌⨟◌, hex_text, padded_hex}
 
 -- a number of one, two or four bytes, a text, an address, or bytes of no other form
@@ -55,7 +55,7 @@ ip_reading bytes =
     else hex bytes
 
 -- a payload of a form, in the order of the datagram, where net says that the attribute has the flag of the network's order
-unfoldable pub reading_of : Order → Form → Bool → List ℕ → Reading
+unfoldable pub reading_of : Order → Style → Bool → List ℕ → Reading
 reading_of o U8 net bytes = u8_reading net bytes
 reading_of o U16 net bytes = u16_reading o net bytes
 reading_of o U32 net bytes = u32_reading o net bytes

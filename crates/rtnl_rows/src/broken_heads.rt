@@ -78,7 +78,7 @@ fn look(
 }
 
 /// The first fault of a datagram is this one, and about this head.
-fn answers(alloc: Global, case: Case, fault: Fault, head: BrokenHead) -> Result<(), Fail> {
+fn is_about(alloc: Global, case: Case, fault: Fault, head: BrokenHead) -> Result<(), Fail> {
     for order in [Order::Little, Order::Big] {
         let (is_first, found) = look(alloc, case, order, fault)?;
         ensure(is_first && found == Some(head), case.text(order))?;
@@ -112,14 +112,14 @@ fn headers(rt: HostRuntime) -> Result<(), Fail> {
         ..LONG_MESSAGE
     };
     let header = |len, left| head(HeadKind::Message, 0, len, left);
-    answers(rt.alloc(), cut, at(20, Reason::Cut), header(None, 8))?;
-    answers(
+    is_about(rt.alloc(), cut, at(20, Reason::Cut), header(None, 8))?;
+    is_about(
         rt.alloc(),
         LONG_MESSAGE,
         at(0, Reason::BadLength),
         header(Some(24), 20),
     )?;
-    answers(
+    is_about(
         rt.alloc(),
         short,
         at(0, Reason::ShortBody),
@@ -130,13 +130,13 @@ fn headers(rt: HostRuntime) -> Result<(), Fail> {
 #[test]
 fn attributes(rt: HostRuntime) -> Result<(), Fail> {
     let attr = |level, len, left| head(HeadKind::Attribute, level, Some(len), left);
-    answers(
+    is_about(
         rt.alloc(),
         SHORT_ATTRIBUTE,
         at(32, Reason::BadLength),
         attr(0, 3, 4),
     )?;
-    answers(
+    is_about(
         rt.alloc(),
         LONG_IN_A_LIST,
         at(36, Reason::BadLength),
@@ -157,8 +157,8 @@ fn containers(rt: HostRuntime) -> Result<(), Fail> {
         depth: 8,
     };
     let attr = |len, left| head(HeadKind::Attribute, 0, Some(len), left);
-    answers(rt.alloc(), deep, at(32, Reason::TooDeep), attr(12, 12))?;
-    answers(
+    is_about(rt.alloc(), deep, at(32, Reason::TooDeep), attr(12, 12))?;
+    is_about(
         rt.alloc(),
         long,
         at(32, Reason::TooLong),
@@ -182,8 +182,8 @@ fn next_hops(rt: HostRuntime) -> Result<(), Fail> {
     };
     let hop = head(HeadKind::NextHop, 1, None, 4);
     let attr = head(HeadKind::Attribute, 2, Some(2), 4);
-    answers(rt.alloc(), cut, at(32, Reason::Cut), hop)?;
-    answers(rt.alloc(), inside, at(40, Reason::BadLength), attr)
+    is_about(rt.alloc(), cut, at(32, Reason::Cut), hop)?;
+    is_about(rt.alloc(), inside, at(40, Reason::BadLength), attr)
 }
 
 #[test]

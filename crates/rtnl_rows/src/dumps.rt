@@ -1,7 +1,7 @@
 //! Dumps, from their first datagram to their end.
 
 use crate::feeding::{
-    Counts, LINKS, answers, holds, in_dump, in_state, refuses_text, takes_text, waiting,
+    Counts, LINKS, holds, in_dump, in_state, refuses_text, shows, takes_text, waiting,
 };
 use crate::vectors::{DONE, DONE_BIG, ETHERNET, LOOPBACK, LOOPBACK_BIG, RULE, RULE_BIG, ensure};
 use nl_attr::{Fault, Order, Reason};
@@ -22,7 +22,7 @@ fn whole(received: u64, visits: u64) -> Counts {
 
 /// Both links and the end have come, and all is held.
 fn is_whole(session: &Session) -> Result<(), Fail> {
-    answers(session, whole(112, 28), "the end")?;
+    shows(session, whole(112, 28), "the end")?;
     let links = session.links();
     let has_keys = links.key_at(0) == Some([1, 0, 0, 0].as_slice())
         && links.key_at(1) == Some([2, 0, 0, 0].as_slice());
@@ -79,7 +79,7 @@ fn leaves(
         complete: missed == 0,
         ..whole(160, 44)
     };
-    answers(session, wanted, "an end")?;
+    shows(session, wanted, "an end")?;
     holds(session, links, missed, "its links")
 }
 
@@ -110,7 +110,7 @@ fn is_interrupted_by_an_item(alloc: Global, session: &mut Session) -> Result<(),
         complete: false,
         ..whole(160, 44)
     };
-    answers(session, wanted, "interrupted")?;
+    shows(session, wanted, "interrupted")?;
     holds(session, &[(1, Some(1500)), (2, None)], 0, "its links")
 }
 
@@ -137,7 +137,7 @@ fn is_interrupted_by_its_end(alloc: Global, session: &mut Session) -> Result<(),
         complete: false,
         ..whole(40, 0)
     };
-    answers(session, wanted, "interrupted")
+    shows(session, wanted, "interrupted")
 }
 
 #[test]
@@ -159,7 +159,7 @@ fn leads_to(
     wanted: Counts,
 ) -> Result<(), Fail> {
     takes_text(alloc, session, &[text], (0, ignored, ended), text)?;
-    answers(session, wanted, text)?;
+    shows(session, wanted, text)?;
     holds(session, &[], 0, text)
 }
 
@@ -218,7 +218,7 @@ fn refuses_a_short_error(alloc: Global, session: &mut Session) -> Result<(), Fai
         damaged: true,
         ..in_state(State::Waiting(LINKS))
     };
-    answers(session, wanted, "waiting")
+    shows(session, wanted, "waiting")
 }
 
 #[test]
@@ -245,7 +245,7 @@ fn refuses_a_cut_head(alloc: Global, session: &mut Session) -> Result<(), Fail> 
         damaged: true,
         ..in_state(State::Waiting(LINKS))
     };
-    answers(session, wanted, "damaged")?;
+    shows(session, wanted, "damaged")?;
     holds(session, &[], 0, "no link")
 }
 
@@ -268,7 +268,7 @@ fn ignores_what_comes_behind(alloc: Global, session: &mut Session) -> Result<(),
         ignored: 1,
         ..whole(68, 16)
     };
-    answers(session, wanted, "complete")?;
+    shows(session, wanted, "complete")?;
     holds(session, &[], 0, "no link")
 }
 
@@ -285,7 +285,7 @@ fn what_comes_behind_the_end_is_ignored(rt: HostRuntime) -> Result<(), Fail> {
 fn takes_the_other_order(alloc: Global, session: &mut Session) -> Result<(), Fail> {
     takes_text(alloc, session, &[LOOPBACK_BIG], (1, 0, false), "a link")?;
     takes_text(alloc, session, &[DONE_BIG], (0, 0, true), "the end")?;
-    answers(session, whole(68, 16), "complete")?;
+    shows(session, whole(68, 16), "complete")?;
     holds(session, &[(1, Some(65_536))], 0, "its link")?;
     let key = session.links().key_at(0) == Some([1, 0, 0, 0].as_slice());
     ensure(key && session.links().order() == Order::Big, "its key")
@@ -328,7 +328,7 @@ fn holds_the_rule(session: &Session) -> Result<(), Fail> {
 
 fn takes_the_rule(alloc: Global, session: &mut Session) -> Result<(), Fail> {
     takes_text(alloc, session, &[RULE, DONE], (1, 0, true), "a rule")?;
-    answers(session, whole_rules(48, 0, 0), "complete")?;
+    shows(session, whole_rules(48, 0, 0), "complete")?;
     holds_the_rule(session)
 }
 
@@ -340,7 +340,7 @@ fn a_dump_of_rules(rt: HostRuntime) -> Result<(), Fail> {
 fn ignores_a_link(alloc: Global, session: &mut Session) -> Result<(), Fail> {
     let all = [LOOPBACK, RULE, DONE];
     takes_text(alloc, session, &all, (1, 1, true), "a link and a rule")?;
-    answers(session, whole_rules(96, 16, 1), "complete")?;
+    shows(session, whole_rules(96, 16, 1), "complete")?;
     holds_the_rule(session)
 }
 
@@ -349,7 +349,7 @@ fn ignores_a_link_alone(alloc: Global, session: &mut Session) -> Result<(), Fail
     takes_text(alloc, session, &[LOOPBACK], (0, 1, false), "a link")?;
     takes_text(alloc, session, &[RULE], (1, 0, false), "a rule")?;
     takes_text(alloc, session, &[DONE], (0, 0, true), "the end")?;
-    answers(session, whole_rules(96, 16, 1), "complete")?;
+    shows(session, whole_rules(96, 16, 1), "complete")?;
     holds_the_rule(session)
 }
 
@@ -368,7 +368,7 @@ fn ignores_other_types_of_rules(alloc: Global, session: &mut Session) -> Result<
     takes_text(alloc, session, &[request], (0, 1, false), request)?;
     ensure(session.rules().is_empty(), "no rule")?;
     takes_text(alloc, session, &[RULE, DONE], (1, 0, true), "a rule")?;
-    answers(session, whole_rules(104, 0, 2), "complete")?;
+    shows(session, whole_rules(104, 0, 2), "complete")?;
     holds_the_rule(session)
 }
 
@@ -380,7 +380,7 @@ fn ignores_a_rule(alloc: Global, session: &mut Session) -> Result<(), Fail> {
         ignored: 1,
         ..whole(96, 16)
     };
-    answers(session, wanted, "complete")?;
+    shows(session, wanted, "complete")?;
     ensure(session.rules().is_empty(), "no rule")?;
     holds(session, &[(1, Some(65_536))], 0, "its link")
 }
@@ -400,7 +400,7 @@ fn new_rules_alone_are_items_of_their_dump(rt: HostRuntime) -> Result<(), Fail> 
 fn takes_the_rule_in_the_other_order(alloc: Global, session: &mut Session) -> Result<(), Fail> {
     let all = [RULE_BIG, DONE_BIG];
     takes_text(alloc, session, &all, (1, 0, true), "a rule")?;
-    answers(session, whole_rules(48, 0, 0), "complete")?;
+    shows(session, whole_rules(48, 0, 0), "complete")?;
     holds_the_rule(session)
 }
 

@@ -113,8 +113,8 @@ pub(crate) fn in_state(state: State) -> Counts {
     }
 }
 
-/// A session answers this.
-pub(crate) fn answers(session: &Session, wanted: Counts, what: &str) -> Result<(), Fail> {
+/// A session shows this.
+pub(crate) fn shows(session: &Session, wanted: Counts, what: &str) -> Result<(), Fail> {
     let found = Counts {
         state: session.state(),
         received: session.received(),

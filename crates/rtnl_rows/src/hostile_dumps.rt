@@ -1,6 +1,6 @@
 //! Datagrams that are cut, changed in one length or nested deep, fed to sessions.
 
-use crate::feeding::{Counts, LINKS, answers, are_links, in_dump, in_state, takes};
+use crate::feeding::{Counts, LINKS, are_links, in_dump, in_state, shows, takes};
 use crate::trials::{AT_DEPTH_8, AT_DEPTH_32, Trial, push_lengths, push_nests, push_prefixes};
 use crate::vectors::{LOOPBACK, changed, ensure};
 use nl_dump::{Dump, FeedError, Kind, Session, State};
@@ -148,7 +148,7 @@ fn ends_the_row(alloc: Global, session: &mut Session) -> Result<(), Fail> {
         damaged: true,
         ..in_state(State::Waiting(Dump { seq: 2, ..LINKS }))
     };
-    answers(session, wanted, "the second dump")?;
+    shows(session, wanted, "the second dump")?;
     ensure(is_empty(session), "no link")
 }
 

@@ -1,7 +1,7 @@
 //! Sessions: one dump after another, requests, refusals, and limits.
 
 use crate::feeding::{
-    Counts, LINKS, answers, holds, in_dump, in_session, in_state, refuses_text, takes, takes_text,
+    Counts, LINKS, holds, in_dump, in_session, in_state, refuses_text, shows, takes, takes_text,
 };
 use crate::vectors::{
     DONE, ETHERNET, LOOPBACK, LOOPBACK_ADDRESS, NEIGHBOUR, RULE, TABLE_RULE, TWO_HOPS_ROUTE,
@@ -74,10 +74,10 @@ fn a_request_in_the_other_order(rt: HostRuntime) -> Result<(), Fail> {
 }
 
 fn stays_idle(alloc: Global, session: &mut Session) -> Result<(), Fail> {
-    answers(session, in_state(State::Idle), "idle")?;
+    shows(session, in_state(State::Idle), "idle")?;
     refuses_text(alloc, session, &[LOOPBACK], FeedError::NotWaiting)?;
     ensure(session.abandon() == Err(NotWaiting), "nothing to abandon")?;
-    answers(session, in_state(State::Idle), "idle still")?;
+    shows(session, in_state(State::Idle), "idle still")?;
     ensure(lens(session) == (0, 0, 0, 0, 0), "no entries")
 }
 
@@ -109,10 +109,10 @@ fn begins_no_other(alloc: Global, session: &mut Session) -> Result<(), Fail> {
         ignored: 3,
         ..in_state(State::Waiting(LINKS))
     };
-    answers(session, wanted, "three ignored")?;
+    shows(session, wanted, "three ignored")?;
     let begun = session.begin(Kind::Route, 2, 7, 0).err();
     ensure(begun == Some(BeginError::Busy), "busy")?;
-    answers(session, wanted, "unchanged")
+    shows(session, wanted, "unchanged")
 }
 
 #[test]
@@ -139,9 +139,9 @@ fn has_ended(alloc: Global, session: &mut Session) -> Result<(), Fail> {
         complete: true,
         ..in_state(State::Ended(LINKS, End::Done(0)))
     };
-    answers(session, wanted, "ended")?;
+    shows(session, wanted, "ended")?;
     refuses_all(alloc, session)?;
-    answers(session, wanted, "unchanged")
+    shows(session, wanted, "unchanged")
 }
 
 fn asks_anew(alloc: Global, session: &mut Session) -> Result<(), Fail> {
@@ -158,7 +158,7 @@ fn asks_anew(alloc: Global, session: &mut Session) -> Result<(), Fail> {
         visits: 48,
         ..in_state(State::Waiting(dump))
     };
-    answers(session, wanted, "the next")
+    shows(session, wanted, "the next")
 }
 
 #[test]
@@ -175,9 +175,9 @@ fn abandons(alloc: Global, session: &mut Session) -> Result<(), Fail> {
         visits: 16,
         ..in_state(State::Ended(LINKS, End::Abandoned))
     };
-    answers(session, wanted, "its end")?;
+    shows(session, wanted, "its end")?;
     refuses_all(alloc, session)?;
-    answers(session, wanted, "unchanged")?;
+    shows(session, wanted, "unchanged")?;
     holds(session, &[(1, Some(65_536))], 0, "its link still")
 }
 
@@ -196,7 +196,7 @@ fn takes_no_more(alloc: Global, session: &mut Session) -> Result<(), Fail> {
         damaged: true,
         ..in_state(State::Waiting(LINKS))
     };
-    answers(session, wanted, "damaged")
+    shows(session, wanted, "damaged")
 }
 
 #[test]
@@ -213,7 +213,7 @@ fn refuses_the_end(alloc: Global, session: &mut Session) -> Result<(), Fail> {
         damaged: true,
         ..in_state(State::Waiting(LINKS))
     };
-    answers(session, wanted, "damaged")
+    shows(session, wanted, "damaged")
 }
 
 #[test]
@@ -242,7 +242,7 @@ fn starts_clean(alloc: Global, session: &mut Session) -> Result<(), Fail> {
         visits: 16,
         ..in_state(State::Waiting(Dump { seq: 2, ..LINKS }))
     };
-    answers(session, wanted, "clean")?;
+    shows(session, wanted, "clean")?;
     holds(session, &[], 0, "no link")
 }
 

@@ -2,6 +2,7 @@
 use Rattle.std.proofs.Common.{◌≡◌, ℕ, zero, suc, ◌+◌, ◌-◌, ◌*◌, ◌/◌, ◌≤◌, min, Bool, true, false, cond, ltb, List, [], ◌∷◌, length, drop, Option, Some, None, Ok, Err, refl, subst, arith, length-drop}
 use Rattle.std.proofs.lemmas.Bool.{ltb-false}
 use Rattle.std.proofs.Math.Nat.{mul-le-mul_left}
+use Rattle.nl_attr.specs.declared.limits.TheConstants.{LONGEST_CONTAINER}
 use Rattle.nl_attr.specs.declared.fault.Reason.{Reason}
 use Rattle.nl_attr.specs.declared.fault.Reason.TheVariants.{Cut, BadLength, ShortBody, TooLong, TooDeep}
 use Rattle.nl_attr.specs.declared.tree.Ctx.{Ctx}
@@ -50,8 +51,8 @@ tests_none false false e = refl
 value_bound : (S : Shape) (l : ℕ) (c : Content) (len : ℕ) (payload : List ℕ) (is : Ctx → Outcome Items) (hs : Unit {0} → Outcome HopItems) → broken_container S l c len ≡ None
     → ((k : Ctx) → l + 1 ≤ S.depth → (is k).1 ≤ (S.depth - l) * length payload) → (l + 2 ≤ S.depth → (hs tt).1 ≤ (S.depth - l) * length payload) → (value_by c payload is hs).1 ≤ (S.depth - l) * length payload
 value_bound S l content.Bytes len payload is hs e h k = omega arith
-value_bound S l (content.List c) len payload is hs e h k = map_bound list (is c) _ (h c (ltb-false _ _ (tests_none (ltb 65532 len) (ltb S.depth (l + 1)) e)))
-value_bound S l content.Hops len payload is hs e h k = map_bound hops (hs tt) _ (k (ltb-false _ _ (tests_none (ltb 65532 len) (ltb S.depth (l + 2)) e)))
+value_bound S l (content.List c) len payload is hs e h k = map_bound list (is c) _ (h c (ltb-false _ _ (tests_none (ltb LONGEST_CONTAINER len) (ltb S.depth (l + 1)) e)))
+value_bound S l content.Hops len payload is hs e h k = map_bound hops (hs tt) _ (k (ltb-false _ _ (tests_none (ltb LONGEST_CONTAINER len) (ltb S.depth (l + 2)) e)))
 
 -- a span, what is visited inside it, and what comes after it
 joined_bound : (k p s r n : ℕ) → p ≤ s → s + r ≡ n → s + (k * p + (k + 1) * r) ≤ (k + 1) * n

@@ -3,7 +3,7 @@ use Rattle.std.proofs.Common.{◌≡◌, ℕ, ◌+◌, ◌-◌, ◌<◌, ◌≤�
 use Rattle.std.proofs.lemmas.List.{length-take, take-take, take_at, drop_at, drop-take, take-append-drop, take_rest, drop-drop}
 use Rattle.nl_attr.specs.declared.order.Order.{Order}
 use Rattle.nl_attr.specs.Numbers.{aligned, num}
-use Rattle.nl_attr.specs.Written.{padded}
+use Rattle.nl_attr.specs.Written.{with_padding}
 use Rattle.nl_attr.specs.Compared.{Begins}
 use Rattle.nl_attr.proofs.Lemmas.Numbers.{length-num}
 
@@ -48,11 +48,11 @@ pub is_within : (a bytes : List ℕ) (n : ℕ) → Begins a bytes (Some n) → n
 is_within a bytes n p = omega (arith, p.0, ap (length {A = ℕ}) p.1, length-take n bytes)
 
 -- an item of so many bytes and the zeros behind it
-pub padded_item : (it bytes : List ℕ) (n : ℕ) (r : Option ℕ) → Begins it bytes (Some n) → Begins (replicate (aligned n - n) 0) (drop n bytes) r → Begins (padded it) bytes (behind n r)
+pub padded_item : (it bytes : List ℕ) (n : ℕ) (r : Option ℕ) → Begins it bytes (Some n) → Begins (replicate (aligned n - n) 0) (drop n bytes) r → Begins (with_padding it) bytes (behind n r)
 padded_item it bytes n r p q = two it (replicate (aligned (length it) - length it) 0) bytes n r p (subst (λ k. Begins (replicate (aligned k - k) 0) (drop n bytes) r) p.0 q)
 
 -- an item that isn't there
-pub not_padded : (it bytes : List ℕ) → Begins it bytes None → Begins (padded it) bytes None
+pub not_padded : (it bytes : List ℕ) → Begins it bytes None → Begins (with_padding it) bytes None
 not_padded it bytes p = not_first it (replicate (aligned (length it) - length it) 0) bytes p
 
 -- a length field and what is behind it

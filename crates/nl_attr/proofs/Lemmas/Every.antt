@@ -2,6 +2,7 @@
 use Rattle.std.proofs.Common.{◌≡◌, ℕ, zero, suc, ◌+◌, ◌-◌, ◌*◌, ◌<◌, ◌≤◌, ◌⊎◌, ltb, List, [], ◌∷◌, ◌++◌, length, Option, Some, None, refl, sym, ap, subst, ◌∙◌, arith, inl, inr}
 use Rattle.std.specs.List.{AllByRecursion}
 use Rattle.std.proofs.lemmas.Bool.{ltb-false}
+use Rattle.nl_attr.specs.declared.limits.TheConstants.{LONGEST_CONTAINER}
 use Rattle.nl_attr.specs.declared.fault.Reason.{Reason}
 use Rattle.nl_attr.specs.declared.tree.Ctx.{Ctx}
 use Rattle.nl_attr.specs.declared.tree.Content.{Content}
@@ -108,10 +109,10 @@ some_head j k e = cc
 inner_low : (S : Shape) (c : Content) (place l len : ℕ) (left payload : List ℕ) (k : Head) → broken_container S l c len ≡ None → inner_in c place (l + 1) payload ≡ Some k → payload ≡ payload_of S.order 4 2 left → Inner S attr_head l left k
 inner_low S content.Bytes place l len left payload k e is p = absurd cc
 inner_low S (content.List c) place l len left payload k e is p =
-    let up = ltb-false _ _ (tests_none (ltb 65532 len) (ltb S.depth (l + 1)) e) in
+    let up = ltb-false _ _ (tests_none (ltb LONGEST_CONTAINER len) (ltb S.depth (l + 1)) e) in
     subst (Inner S attr_head l left) (some_head _ k is) (record { level = refl; left_is = p; room = up; low = up })
 inner_low S content.Hops place l len left payload k e is p =
-    let up = ltb-false _ _ (tests_none (ltb 65532 len) (ltb S.depth (l + 2)) e) in
+    let up = ltb-false _ _ (tests_none (ltb LONGEST_CONTAINER len) (ltb S.depth (l + 2)) e) in
     subst (Inner S attr_head l left) (some_head _ k is) (record { level = refl; left_is = p; room = omega (arith, up); low = omega (arith, up) })
 
 pub inner_is : (S : Shape) (s : Sort) (c : Ctx) (place l : ℕ) (left : List ℕ) (k : Head) → IsLow S s l → broken_in S c l s left ≡ None → inner_at S s place c l left ≡ Some k → Inner S s l left k

@@ -3,6 +3,7 @@ use Rattle.std.proofs.Common.{◌≡◌, ℕ, zero, suc, ◌+◌, ◌-◌, ◌<�
 use Rattle.std.proofs.lemmas.Bool.{le-ltb, lt-ltb, ltb-true, ltb-false}
 use Rattle.std.proofs.Math.Seq.{drop-cons, drop-nil}
 use Rattle.std.specs.Prelude.{IfSome}
+use Rattle.nl_attr.specs.declared.limits.TheConstants.{LONGEST_REGION}
 use Rattle.nl_attr.specs.declared.tree.Ctx.{Ctx}
 use Rattle.nl_attr.specs.declared.tree.Ctx.TheVariants.{Route}
 use Rattle.nl_attr.specs.declared.measuring.Extent.{Extent}
@@ -11,10 +12,10 @@ use Rattle.nl_attr.specs.Measured.{region_len, empty_extent, join, extent_of_ite
 
 abbrev pub IsWithin : Option ℕ → Type 0
 IsWithin None = Unit {0}
-IsWithin (Some n) = n ≤ 1048576
+IsWithin (Some n) = n ≤ LONGEST_REGION
 
-lt_cases : (n : ℕ) → IsWithin (cond (ltb 1048576 n) None (Some n))
-lt_cases n = elim (ltb 1048576 n) as (λ b. ltb 1048576 n ≡ b → IsWithin (cond b None (Some n))) [ true ↦ λ e. tt | false ↦ λ e. ltb-false _ _ e ] refl
+lt_cases : (n : ℕ) → IsWithin (cond (ltb LONGEST_REGION n) None (Some n))
+lt_cases n = elim (ltb LONGEST_REGION n) as (λ b. ltb LONGEST_REGION n ≡ b → IsWithin (cond b None (Some n))) [ true ↦ λ e. tt | false ↦ λ e. ltb-false _ _ e ] refl
 
 pub region_within : (a b : Option ℕ) → IsWithin (region_len a b)
 region_within None b = tt
@@ -23,22 +24,22 @@ region_within (Some a) (Some b) = lt_cases (a + b)
 
 pub region_zero : (b : Option ℕ) → IsWithin b → region_len (Some 0) b ≡ b
 region_zero None h = refl
-region_zero (Some b) h = let e : ltb 1048576 (0 + b) ≡ false = le-ltb 1048576 (0 + b) (omega (arith, h)) in rw e (ap (λ n. Some n) (omega arith))
+region_zero (Some b) h = let e : ltb LONGEST_REGION (0 + b) ≡ false = le-ltb LONGEST_REGION (0 + b) (omega (arith, h)) in rw e (ap (λ n. Some n) (omega arith))
 
 pub region_last : (b : Option ℕ) → IsWithin b → region_len b (Some 0) ≡ b
 region_last None h = refl
-region_last (Some b) h = let e : ltb 1048576 (b + 0) ≡ false = le-ltb 1048576 (b + 0) (omega (arith, h)) in rw e (ap (λ n. Some n) (omega arith))
+region_last (Some b) h = let e : ltb LONGEST_REGION (b + 0) ≡ false = le-ltb LONGEST_REGION (b + 0) (omega (arith, h)) in rw e (ap (λ n. Some n) (omega arith))
 
 pub region_assoc : (a b c : Option ℕ) → region_len (region_len a b) c ≡ region_len a (region_len b c)
 region_assoc None b c = refl
 region_assoc (Some a) None c = refl
-region_assoc (Some a) (Some b) None = elim (ltb 1048576 (a + b)) as (λ t. region_len (cond t None (Some (a + b))) None ≡ None) [ true ↦ refl | false ↦ refl ]
-region_assoc (Some a) (Some b) (Some c) = three (ltb 1048576 (a + b)) (ltb 1048576 (b + c)) refl refl where
-  three : (s t : Bool) → ltb 1048576 (a + b) ≡ s → ltb 1048576 (b + c) ≡ t → region_len (cond s None (Some (a + b))) (Some c) ≡ region_len (Some a) (cond t None (Some (b + c)))
+region_assoc (Some a) (Some b) None = elim (ltb LONGEST_REGION (a + b)) as (λ t. region_len (cond t None (Some (a + b))) None ≡ None) [ true ↦ refl | false ↦ refl ]
+region_assoc (Some a) (Some b) (Some c) = three (ltb LONGEST_REGION (a + b)) (ltb LONGEST_REGION (b + c)) refl refl where
+  three : (s t : Bool) → ltb LONGEST_REGION (a + b) ≡ s → ltb LONGEST_REGION (b + c) ≡ t → region_len (cond s None (Some (a + b))) (Some c) ≡ region_len (Some a) (cond t None (Some (b + c)))
   three true true e f = refl
-  three true false e f = let g : ltb 1048576 (a + (b + c)) ≡ true = lt-ltb 1048576 (a + (b + c)) (omega (arith, ltb-true _ _ e)) in rw g refl
-  three false true e f = let g : ltb 1048576 (a + b + c) ≡ true = lt-ltb 1048576 (a + b + c) (omega (arith, ltb-true _ _ f)) in rw g refl
-  three false false e f = ap (λ n. cond (ltb 1048576 n) None (Some n)) (add_assoc a b c)
+  three true false e f = let g : ltb LONGEST_REGION (a + (b + c)) ≡ true = lt-ltb LONGEST_REGION (a + (b + c)) (omega (arith, ltb-true _ _ e)) in rw g refl
+  three false true e f = let g : ltb LONGEST_REGION (a + b + c) ≡ true = lt-ltb LONGEST_REGION (a + b + c) (omega (arith, ltb-true _ _ f)) in rw g refl
+  three false false e f = ap (λ n. cond (ltb LONGEST_REGION n) None (Some n)) (add_assoc a b c)
 
 extent_is : (d f : Bool) (a b : Option ℕ) → d ≡ f → a ≡ b → ◌≡◌ {A = Extent} (record { deep = d; len = a }) (record { deep = f; len = b })
 extent_is d f a b p q = cc

@@ -1,5 +1,6 @@
 -- What fits a region can be written, and is as long as the region with its last padding.
 use Rattle.std.proofs.Common.{◌≡◌, ℕ, ◌+◌, ◌%◌, ◌^◌, ◌<◌, ◌≤◌, List, ◌∷◌, ◌++◌, length, refl, sym, ap, ◌∙◌, arith, inl, inr, length-append}
+use Rattle.nl_attr.specs.declared.limits.TheConstants.{LONGEST_ITEM, LONGEST_REGION}
 use Rattle.nl_attr.specs.declared.order.Order.{Order}
 use Rattle.nl_attr.specs.declared.tree.Ctx.{Ctx}
 use Rattle.nl_attr.specs.declared.tree.Ctx.TheVariants.{Route}
@@ -132,7 +133,7 @@ module _ (S : Shape) where
     items_short (item n flags v more) region ctx l f (inr (inl h)) = val_short v (holds_of ctx n flags) f.3 (length f.0) l (attr_size S.order f.0 f.3 _ _ f.5) f.7 h
     items_short (item n flags v more) region ctx l f (inr (inr h)) = items_short more f.2 ctx l f.8 h
 
-    attr_short : (v : Val) (c : Content) (payload : List ℕ) (len l : ℕ) → len ≡ 4 + length payload → len < 256 ^ 2 → FitsVal S v c payload len l → 65535 < 4 + val_len v → ⊥
+    attr_short : (v : Val) (c : Content) (payload : List ℕ) (len l : ℕ) → len ≡ 4 + length payload → len < 256 ^ 2 → FitsVal S v c payload len l → LONGEST_ITEM < 4 + val_len v → ⊥
     attr_short (bytes bs) content.Bytes payload len l e g f h = omega (arith, e, g, h, ap (length {A = ℕ}) f)
     attr_short (bytes bs) (content.List c) payload len l e g f h = f
     attr_short (bytes bs) content.Hops payload len l e g f h = f
@@ -172,7 +173,7 @@ module _ (S : Shape) where
     hops_ranged no_hops region l f = tt
     hops_ranged (hop flags count index attrs more) region l f = (f.6, items_ranged attrs f.3 Route (l + 1) f.7, hops_ranged more f.2 l f.8)
 
-  pub fitted_is_proper : (ctx : Ctx) (l : ℕ) (region : List ℕ) (is : Items) → Fits S is region ctx l → length region ≤ 1048576 → IsProper is ctx l S.depth
+  pub fitted_is_proper : (ctx : Ctx) (l : ℕ) (region : List ℕ) (is : Items) → Fits S is region ctx l → length region ≤ LONGEST_REGION → IsProper is ctx l S.depth
   fitted_is_proper ctx l region is f top = record { matched = items_matched is region ctx l f; shallow = items_shallow is region ctx l f; short = short } where
     short : IsLong is → ⊥
     short (inl h) = omega (arith, items_len_is is region ctx l f, top, h)

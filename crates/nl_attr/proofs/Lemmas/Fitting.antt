@@ -6,6 +6,7 @@ use Rattle.std.specs.Prelude.{slice_index}
 use Rattle.std.specs.Int.{w32, cast_signed, cast_unsigned}
 use Rattle.std.proofs.lemmas.Int.{to_z-of_z}
 use Rattle.std.proofs.Math.Facts.{Fits-lt-pow, Fits-of_z}
+use Rattle.nl_attr.specs.declared.limits.TheConstants.{LONGEST_CONTAINER}
 use Rattle.nl_attr.specs.declared.fault.Reason.TheVariants.{Cut, BadLength, TooLong, TooDeep}
 use Rattle.nl_attr.specs.declared.fault.Fault.{Fault}
 use Rattle.nl_attr.specs.declared.tree.AttrFlags.{AttrFlags}
@@ -16,7 +17,7 @@ use Rattle.nl_attr.specs.declared.tree.Content.TheVariants as content
 use Rattle.nl_attr.specs.declared.order.Order.{Order}
 use Rattle.nl_attr.specs.Shape.{Shape}
 use Rattle.nl_attr.specs.Numbers.{aligned, num, len_of, kind_of, span_of}
-use Rattle.nl_attr.specs.Walk.{flags_of, index_of, broken_length}
+use Rattle.nl_attr.specs.Walk.{flags_of, ifindex_of, broken_length}
 use Rattle.nl_attr.specs.Tree.{Val, bytes, list, hops, Items, no_items, item, HopItems, no_hops, hop, holds_of}
 use Rattle.nl_attr.specs.Layout.{IsPadded, IsPiece, kind_number, FitsVal, Fits, FitsHops}
 use Rattle.nl_attr.specs.Heads.{broken_container}
@@ -174,7 +175,7 @@ mutual
       let body : payload_of S.order 8 2 left ≡ payload = ap (drop 8) (cut.item ∙ f.5) ∙ past_hop S.order (length it) flags count k payload in
       let flags-is : slice_index left 2 ≡ flags = ap (λ x. slice_index x 2) start ∙ flags_at S.order (length it) flags _ in
       let count-is : slice_index left 3 ≡ count = ap (λ x. slice_index x 3) start ∙ count_at S.order (length it) flags count _ in
-      let index-is : index_of S.order left ≡ index = ap (index_of S.order) start ∙ ap (cast_signed w32) (index_of-num S.order (length it) flags count k (payload ++ (pad ++ rest)) (Fits-lt-pow {w = w32} (Fits-of_z {w = w32} f.6))) ∙ to_z-of_z w32 index f.6 in
+      let index-is : ifindex_of S.order left ≡ index = ap (ifindex_of S.order) start ∙ ap (cast_signed w32) (index_of-num S.order (length it) flags count k (payload ++ (pad ++ rest)) (Fits-lt-pow {w = w32} (Fits-of_z {w = w32} f.6))) ∙ to_z-of_z w32 index f.6 in
       let step : hops_of_region S l place left ≡ more_visits (span_of S.order 2 left) (and_then (items_of_region S Route (l + 1) (place + 8) payload) (λ is. map_value (hop flags count index is) (hops_of_region S l (place + span_of S.order 2 left) rest))) =
       hops_step S l place left cut.sound
       ∙ ap (λ (x : ℕ × ℕ × ℤ × List ℕ × List ℕ). more_visits (span_of S.order 2 left) (and_then (items_of_region S Route (l + 1) (place + 8) x.3) (λ is. map_value (hop x.0 x.1 x.2 is) (hops_of_region S l (place + span_of S.order 2 left) x.4)))) (five flags-is count-is index-is body cut.rest_is) in
@@ -187,11 +188,11 @@ mutual
   val_fit (bytes bs) (content.List c) S l place payload f = absurd f
   val_fit (bytes bs) content.Hops S l place payload f = absurd f
   val_fit (list is) content.Bytes S l place payload f = absurd f
-  val_fit (list is) (content.List c) S l place payload f = (tests_pass (ltb 65532 (length payload + 4)) (ltb S.depth (l + 1)) (le-ltb 65532 (length payload + 4) f.0) (le-ltb S.depth (l + 1) f.1), map_read list _ is (items_fit is S c (l + 1) place payload f.2))
+  val_fit (list is) (content.List c) S l place payload f = (tests_pass (ltb LONGEST_CONTAINER (length payload + 4)) (ltb S.depth (l + 1)) (le-ltb LONGEST_CONTAINER (length payload + 4) f.0) (le-ltb S.depth (l + 1) f.1), map_read list _ is (items_fit is S c (l + 1) place payload f.2))
   val_fit (list is) content.Hops S l place payload f = absurd f
   val_fit (hops hs) content.Bytes S l place payload f = absurd f
   val_fit (hops hs) (content.List c) S l place payload f = absurd f
-  val_fit (hops hs) content.Hops S l place payload f = (tests_pass (ltb 65532 (length payload + 4)) (ltb S.depth (l + 2)) (le-ltb 65532 (length payload + 4) f.0) (le-ltb S.depth (l + 2) f.1), map_read hops _ hs (hops_fit hs S (l + 1) place payload f.2))
+  val_fit (hops hs) content.Hops S l place payload f = (tests_pass (ltb LONGEST_CONTAINER (length payload + 4)) (ltb S.depth (l + 2)) (le-ltb LONGEST_CONTAINER (length payload + 4) f.0) (le-ltb S.depth (l + 2) f.1), map_read hops _ hs (hops_fit hs S (l + 1) place payload f.2))
 
 -- at most one list fits a region
 ok_same : {A : Type 0} (o : Outcome A) (x y : A) → ReadAs o x → ReadAs o y → x ≡ y

@@ -9,14 +9,14 @@ use Rattle.nl_attr.specs.declared.tree.AttrFlags.{AttrFlags}
 use Rattle.nl_attr.specs.Numbers.{aligned, num}
 use Rattle.nl_attr.specs.Layout.{kind_number}
 use Rattle.nl_attr.specs.Tree.{Val, bytes, list, hops, Items, no_items, item, HopItems, no_hops, hop}
-use Rattle.nl_attr.specs.Written.{padded, attr_item, hop_item, written, written_val, written_hops, val_len, items_len, hops_len}
+use Rattle.nl_attr.specs.Written.{with_padding, attr_item, hop_item, written, written_val, written_hops, val_len, items_len, hops_len}
 use Rattle.nl_attr.proofs.Lemmas.Numbers.{head_length, hop_length, length-num}
 
-pub length-padded : (it : List ℕ) → length (padded it) ≡ aligned (length it)
+pub length-padded : (it : List ℕ) → length (with_padding it) ≡ aligned (length it)
 length-padded it = omega (arith, length-append it (replicate (aligned (length it) - length it) 0), length-replicate {A = ℕ} (aligned (length it) - length it) 0)
 
-length-two : (it more : List ℕ) (a n : ℕ) → length it ≡ a → length more ≡ n → length (padded it ++ more) ≡ aligned a + n
-length-two it more a n e f = length-append (padded it) more ∙ ap (λ k. k + length more) (length-padded it ∙ ap aligned e) ∙ ap (λ k. aligned a + k) f
+length-two : (it more : List ℕ) (a n : ℕ) → length it ≡ a → length more ≡ n → length (with_padding it ++ more) ≡ aligned a + n
+length-two it more a n e f = length-append (with_padding it) more ∙ ap (λ k. k + length more) (length-padded it ∙ ap aligned e) ∙ ap (λ k. aligned a + k) f
 
 module _ (o : Order) where
   pub length-attr : (n : ℕ) (flags : AttrFlags) (payload : List ℕ) → length (attr_item o n flags payload) ≡ 4 + length payload
@@ -44,12 +44,12 @@ module _ (o : Order) where
         length-two (hop_item o flags count index (written o attrs)) (written_hops o more) (8 + items_len attrs) (hops_len more) e (length-hops more)
 
   -- an attribute with its padding
-  pub length-padded_attr : (n : ℕ) (flags : AttrFlags) (v : Val) → length (padded (attr_item o n flags (written_val o v))) ≡ aligned (4 + val_len v)
+  pub length-padded_attr : (n : ℕ) (flags : AttrFlags) (v : Val) → length (with_padding (attr_item o n flags (written_val o v))) ≡ aligned (4 + val_len v)
   length-padded_attr n flags v =
       length-padded (attr_item o n flags (written_val o v)) ∙ ap aligned (length-attr n flags (written_val o v)) ∙ ap (λ k. aligned (4 + k)) (length-val v)
 
   -- a next hop with its padding
-  pub length-padded_hop : (flags count : ℕ) (index : ℤ) (is : Items) → length (padded (hop_item o flags count index (written o is))) ≡ aligned (8 + items_len is)
+  pub length-padded_hop : (flags count : ℕ) (index : ℤ) (is : Items) → length (with_padding (hop_item o flags count index (written o is))) ≡ aligned (8 + items_len is)
   length-padded_hop flags count index is =
       length-padded (hop_item o flags count index (written o is)) ∙ ap aligned (length-hop flags count index (written o is)) ∙ ap (λ k. aligned (8 + k)) (length-items is)
 
@@ -72,7 +72,7 @@ two_bytes Big n xs = refl
 
 -- an item whose length is stored, and its padding
 pub closed : (o : Order) (xs field : List ℕ) (s n vlen : ℕ) → field ≡ num n 2 o → s + 2 ≤ vlen → vlen ≡ length xs → vlen ≡ s + n
-    → take (s + (n + 3) / 4 * 4) (set (set xs s (slice_index field 0)) (s + 1) (slice_index field 1)) ++ replicate (s + (n + 3) / 4 * 4 - vlen) 0 ≡ take s xs ++ padded (num n 2 o ++ drop (s + 2) xs)
+    → take (s + (n + 3) / 4 * 4) (set (set xs s (slice_index field 0)) (s + 1) (slice_index field 1)) ++ replicate (s + (n + 3) / 4 * 4 - vlen) 0 ≡ take s xs ++ with_padding (num n 2 o ++ drop (s + 2) xs)
 closed o xs field s n vlen f h len all =
     let one : s + 1 ≡ suc s = omega arith in
     let two : s + 2 ≡ suc (suc s) = omega arith in
@@ -98,13 +98,13 @@ grown m n xs ys zs e f g = g ∙ ap (length {A = ℕ}) e ∙ length-append xs zs
 
 -- what is there behind a head without its length, once the length is stored
 pub item_closed : (o : Order) (old tail payload all : List ℕ) (s vlen n : ℕ) → all ≡ (old ++ (0 ∷ 0 ∷ tail)) ++ payload → s ≡ length old → vlen - s ≡ n
-    → take s all ++ padded (num (vlen - s) 2 o ++ drop (s + 2) all) ≡ old ++ padded (num n 2 o ++ (tail ++ payload))
+    → take s all ++ with_padding (num (vlen - s) 2 o ++ drop (s + 2) all) ≡ old ++ with_padding (num n 2 o ++ (tail ++ payload))
 item_closed o old tail payload all s vlen n e f g =
     let x = tail ++ payload in
     let a : all ≡ old ++ (0 ∷ 0 ∷ x) = e ∙ append_assoc old (0 ∷ 0 ∷ tail) payload in
     let b : all ≡ (old ++ (0 ∷ 0 ∷ [])) ++ x = a ∙ sym (append_assoc old (0 ∷ 0 ∷ []) x) in
     let front : take s all ≡ old = ap (take s) a ∙ take_at old (0 ∷ 0 ∷ x) s (sym f) in
     let back : drop (s + 2) all ≡ x = ap (drop (s + 2)) b ∙ drop_at (old ++ (0 ∷ 0 ∷ [])) x (s + 2) (length-append old (0 ∷ 0 ∷ []) ∙ ap (λ k. k + 2) (sym f)) in
-    ap (λ (p : List ℕ × List ℕ × ℕ). p.0 ++ padded (num p.2 2 o ++ p.1)) (three front back g) where
+    ap (λ (p : List ℕ × List ℕ × ℕ). p.0 ++ with_padding (num p.2 2 o ++ p.1)) (three front back g) where
       three : {a b c d : List ℕ} {m n : ℕ} → a ≡ b → c ≡ d → m ≡ n → ◌≡◌ {A = List ℕ × List ℕ × ℕ} (a, c, m) (b, d, n)
       three p q r = cc

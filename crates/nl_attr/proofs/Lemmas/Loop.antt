@@ -8,7 +8,7 @@ use Rattle.nl_attr.specs.declared.tree.Ctx.{Ctx}
 use Rattle.nl_attr.specs.declared.order.Order.{Order}
 use Rattle.nl_attr.specs.Shape.{Shape}
 use Rattle.nl_attr.specs.Numbers.{kind_of, span_of}
-use Rattle.nl_attr.specs.Walk.{Region, flags_of, broken_length, IsPart, IsHopPart, index_of, payload_of, after}
+use Rattle.nl_attr.specs.Walk.{Region, flags_of, broken_length, IsPart, IsHopPart, ifindex_of, payload_of, after}
 use Rattle.nl_attr.specs.Tree.{Items, no_items, HopItems, no_hops, hop}
 use Rattle.nl_attr.specs.View.{Front, HopFront, items_of, hops_of}
 use Rattle.nl_attr.specs.Reading.{Outcome, and_then, map_value, more_visits, items_of_region, hops_of_region, attr_at}
@@ -49,4 +49,4 @@ module _ (S : Shape) (l base : ℕ) where
   pub hop_step : (p : HopPart) (r : Region) → r.order ≡ S.order → broken_length r.order 8 2 r.left ≡ None → IsHopPart p r → hops_rest r ≡ more_visits (span_of r.order 2 r.left) (and_then (items_of_region S Route (l + 1) (base + p.place + 8) p.rest.now) (λ is. map_value (hop p.flags p.hops p.ifindex is) (hops_rest (after r))))
   hop_step p r o e is =
       hops_step S l (base + r.place) r.left (subst (λ (x : Order). broken_length x 8 2 r.left ≡ None) o e)
-      ∙ rw (is.flags, is.hops, is.ifindex, is.place, is.rest, o) (ap (λ (k : ℕ). more_visits (span_of S.order 2 r.left) (and_then (items_of_region S Route (l + 1) (base + r.place + 8) (payload_of S.order 8 2 r.left)) (λ is. map_value (hop (slice_index r.left 2) (slice_index r.left 3) (index_of S.order r.left) is) (hops_of_region S l k (drop (span_of S.order 2 r.left) r.left))))) (add_assoc base r.place (span_of S.order 2 r.left)))
+      ∙ rw (is.flags, is.hops, is.ifindex, is.place, is.rest, o) (ap (λ (k : ℕ). more_visits (span_of S.order 2 r.left) (and_then (items_of_region S Route (l + 1) (base + r.place + 8) (payload_of S.order 8 2 r.left)) (λ is. map_value (hop (slice_index r.left 2) (slice_index r.left 3) (ifindex_of S.order r.left) is) (hops_of_region S l k (drop (span_of S.order 2 r.left) r.left))))) (add_assoc base r.place (span_of S.order 2 r.left)))

@@ -2,6 +2,7 @@
 use Rattle.std.proofs.Common.{◌≡◌, ℕ, ◌+◌, ◌-◌, ◌<◌, ◌≤◌, Bool, true, false, cond, ltb, ◌||◌, ◌⊎◌, Option, Some, None, refl, sym, ap, subst, arith, inl, inr}
 use Rattle.std.specs.Prelude.{◌↔◌, IsTrue, IfSome}
 use Rattle.std.proofs.lemmas.Bool.{ltb-true, ltb-false}
+use Rattle.nl_attr.specs.declared.limits.TheConstants.{LONGEST_ITEM, LONGEST_REGION}
 use Rattle.nl_attr.specs.declared.tree.Ctx.{Ctx}
 use Rattle.nl_attr.specs.declared.tree.Ctx.TheVariants.{Route}
 use Rattle.nl_attr.specs.declared.tree.Content.{Content}
@@ -11,7 +12,7 @@ use Rattle.nl_attr.specs.Numbers.{aligned}
 use Rattle.nl_attr.specs.Tree.{Val, bytes, list, hops, Items, no_items, item, HopItems, no_hops, hop, holds_of}
 use Rattle.nl_attr.specs.Written.{val_len, items_len, hops_len}
 use Rattle.nl_attr.specs.Proper.{IsMismatched, IsMismatchedVal, IsMismatchedHops, IsDeep, IsDeepVal, IsDeepHops, IsLong, HasLong, HasLongVal, HasLongHops, IsLongRegion, IsSized, IsSizedVal, IsSizedHops}
-use Rattle.nl_attr.specs.Measured.{region_len, item_len, join, extent_of_item, opened, extent_of, extent_of_val, extent_of_hops}
+use Rattle.nl_attr.specs.Measured.{region_len, item_len, join, extent_of_item, container_extent, extent_of, extent_of_val, extent_of_hops}
 
 -- the test is true where P holds
 abbrev pub Says : Bool → Type 0 → Type 0
@@ -40,41 +41,41 @@ room_says : (room n l D : ℕ) → 1 ≤ n → room ≡ D - l → Says (ltb room
 room_says room n l D one e = elim (ltb room n) as (λ b. ltb room n ≡ b → Says b (D < l + n)) [ true ↦ λ f. omega (arith, e, ltb-true room n f) | false ↦ λ f h. omega (arith, e, ltb-false room n f, h) ] refl
 
 -- a region of an item, whose head has h bytes, and others
-len_step : (h nv nr : ℕ) (LV HL SV SR : Type 0) (v r : Option ℕ) → LenSays v LV nv SV → LenSays r ((1048576 < nr) ⊎ HL) nr SR
-    → LenSays (region_len (item_len h v) r) ((1048576 < aligned (h + nv) + nr) ⊎ ((65535 < h + nv) ⊎ (LV ⊎ HL))) (aligned (h + nv) + nr) ((h + nv ≤ 65535) × SV × SR)
+len_step : (h nv nr : ℕ) (LV HL SV SR : Type 0) (v r : Option ℕ) → LenSays v LV nv SV → LenSays r ((LONGEST_REGION < nr) ⊎ HL) nr SR
+    → LenSays (region_len (item_len h v) r) ((LONGEST_REGION < aligned (h + nv) + nr) ⊎ ((LONGEST_ITEM < h + nv) ⊎ (LV ⊎ HL))) (aligned (h + nv) + nr) ((h + nv ≤ LONGEST_ITEM) × SV × SR)
 len_step h nv nr LV HL SV SR None r s t = inr (inr (inl s))
-len_step h nv nr LV HL SV SR (Some m) r s t = short (ltb 65535 (h + m)) refl r t where
-  total : (k : ℕ) (w : Bool) → ltb 1048576 (aligned (h + m) + k) ≡ w → ltb 65535 (h + m) ≡ false → ((1048576 < nr) ⊎ HL → ⊥) → k ≡ nr → SR
-      → LenSays (cond w None (Some (aligned (h + m) + k))) ((1048576 < aligned (h + nv) + nr) ⊎ ((65535 < h + nv) ⊎ (LV ⊎ HL))) (aligned (h + nv) + nr) ((h + nv ≤ 65535) × SV × SR)
-  total k true f g others q sr = let big : 1048576 < aligned (h + m) + k = ltb-true _ _ f in inl (omega (arith, big, s.1, q))
+len_step h nv nr LV HL SV SR (Some m) r s t = short (ltb LONGEST_ITEM (h + m)) refl r t where
+  total : (k : ℕ) (w : Bool) → ltb LONGEST_REGION (aligned (h + m) + k) ≡ w → ltb LONGEST_ITEM (h + m) ≡ false → ((LONGEST_REGION < nr) ⊎ HL → ⊥) → k ≡ nr → SR
+      → LenSays (cond w None (Some (aligned (h + m) + k))) ((LONGEST_REGION < aligned (h + nv) + nr) ⊎ ((LONGEST_ITEM < h + nv) ⊎ (LV ⊎ HL))) (aligned (h + nv) + nr) ((h + nv ≤ LONGEST_ITEM) × SV × SR)
+  total k true f g others q sr = let big : LONGEST_REGION < aligned (h + m) + k = ltb-true _ _ f in inl (omega (arith, big, s.1, q))
   total k false f g others q sr =
-      let small : aligned (h + m) + k ≤ 1048576 = ltb-false _ _ f in
+      let small : aligned (h + m) + k ≤ LONGEST_REGION = ltb-false _ _ f in
       let same : aligned (h + m) + k ≡ aligned (h + nv) + nr = ap (λ (x : ℕ × ℕ). aligned (h + x.0) + x.1) (two s.1 q) in
-      let low : h + m ≤ 65535 = ltb-false _ _ g in
+      let low : h + m ≤ LONGEST_ITEM = ltb-false _ _ g in
       (none (omega (arith, small, same)) (omega (arith, low, s.1)), same, (omega (arith, low, s.1), s.2, sr)) where
         two : {a b c d : ℕ} → a ≡ b → c ≡ d → ◌≡◌ {A = ℕ × ℕ} (a, c) (b, d)
         two p r = cc
 
-        none : aligned (h + nv) + nr ≤ 1048576 → h + nv ≤ 65535 → (1048576 < aligned (h + nv) + nr) ⊎ ((65535 < h + nv) ⊎ (LV ⊎ HL)) → ⊥
+        none : aligned (h + nv) + nr ≤ LONGEST_REGION → h + nv ≤ LONGEST_ITEM → (LONGEST_REGION < aligned (h + nv) + nr) ⊎ ((LONGEST_ITEM < h + nv) ⊎ (LV ⊎ HL)) → ⊥
         none x y (inl z) = omega (arith, x, z)
         none x y (inr (inl z)) = omega (arith, y, z)
         none x y (inr (inr (inl z))) = s.0 z
         none x y (inr (inr (inr z))) = others (inr z)
 
-  behind : ltb 65535 (h + m) ≡ false → (r : Option ℕ) → LenSays r ((1048576 < nr) ⊎ HL) nr SR
-      → LenSays (region_len (Some (aligned (h + m))) r) ((1048576 < aligned (h + nv) + nr) ⊎ ((65535 < h + nv) ⊎ (LV ⊎ HL))) (aligned (h + nv) + nr) ((h + nv ≤ 65535) × SV × SR)
+  behind : ltb LONGEST_ITEM (h + m) ≡ false → (r : Option ℕ) → LenSays r ((LONGEST_REGION < nr) ⊎ HL) nr SR
+      → LenSays (region_len (Some (aligned (h + m))) r) ((LONGEST_REGION < aligned (h + nv) + nr) ⊎ ((LONGEST_ITEM < h + nv) ⊎ (LV ⊎ HL))) (aligned (h + nv) + nr) ((h + nv ≤ LONGEST_ITEM) × SV × SR)
   behind g None (inl z) = inl (omega (arith, z))
   behind g None (inr z) = inr (inr (inr z))
-  behind g (Some k) z = total k (ltb 1048576 (aligned (h + m) + k)) refl g z.0 z.1 z.2
+  behind g (Some k) z = total k (ltb LONGEST_REGION (aligned (h + m) + k)) refl g z.0 z.1 z.2
 
-  short : (w : Bool) → ltb 65535 (h + m) ≡ w → (r : Option ℕ) → LenSays r ((1048576 < nr) ⊎ HL) nr SR
-      → LenSays (region_len (cond w None (Some (aligned (h + m)))) r) ((1048576 < aligned (h + nv) + nr) ⊎ ((65535 < h + nv) ⊎ (LV ⊎ HL))) (aligned (h + nv) + nr) ((h + nv ≤ 65535) × SV × SR)
-  short true f r z = let big : 65535 < h + m = ltb-true _ _ f in inr (inl (omega (arith, big, s.1)))
+  short : (w : Bool) → ltb LONGEST_ITEM (h + m) ≡ w → (r : Option ℕ) → LenSays r ((LONGEST_REGION < nr) ⊎ HL) nr SR
+      → LenSays (region_len (cond w None (Some (aligned (h + m)))) r) ((LONGEST_REGION < aligned (h + nv) + nr) ⊎ ((LONGEST_ITEM < h + nv) ⊎ (LV ⊎ HL))) (aligned (h + nv) + nr) ((h + nv ≤ LONGEST_ITEM) × SV × SR)
+  short true f r z = let big : LONGEST_ITEM < h + m = ltb-true _ _ f in inr (inl (omega (arith, big, s.1)))
   short false f r z = behind f r z
 
 -- an item and others, as a value inside means and the others mean
-means_item : (h nv nr : ℕ) (MV MR PV PR LV HL SV SR : Type 0) (v r : Option Extent) → Means MV PV LV nv SV v → Means MR PR ((1048576 < nr) ⊎ HL) nr SR r
-    → Means (MV ⊎ MR) (PV ⊎ PR) ((1048576 < aligned (h + nv) + nr) ⊎ ((65535 < h + nv) ⊎ (LV ⊎ HL))) (aligned (h + nv) + nr) ((h + nv ≤ 65535) × SV × SR) (join (extent_of_item h v) r)
+means_item : (h nv nr : ℕ) (MV MR PV PR LV HL SV SR : Type 0) (v r : Option Extent) → Means MV PV LV nv SV v → Means MR PR ((LONGEST_REGION < nr) ⊎ HL) nr SR r
+    → Means (MV ⊎ MR) (PV ⊎ PR) ((LONGEST_REGION < aligned (h + nv) + nr) ⊎ ((LONGEST_ITEM < h + nv) ⊎ (LV ⊎ HL))) (aligned (h + nv) + nr) ((h + nv ≤ LONGEST_ITEM) × SV × SR) (join (extent_of_item h v) r)
 means_item h nv nr MV MR PV PR LV HL SV SR None r s t = inl s
 means_item h nv nr MV MR PV PR LV HL SV SR (Some v) None s t = inr t
 means_item h nv nr MV MR PV PR LV HL SV SR (Some v) (Some r) s t = (neither, either_says v.deep r.deep PV PR s.1 t.1, len_step h nv nr LV HL SV SR v.len r.len s.2 t.2) where
@@ -83,7 +84,7 @@ means_item h nv nr MV MR PV PR LV HL SV SR (Some v) (Some r) s t = (neither, eit
   neither (inr x) = t.0 x
 
 -- a container that opens n levels
-opened_means : (n room l D : ℕ) (M P L : Type 0) (k : ℕ) (S : Type 0) (o : Option Extent) → 1 ≤ n → room ≡ D - l → Means M P L k S o → Means M ((D < l + n) ⊎ P) L k S (opened n room o)
+opened_means : (n room l D : ℕ) (M P L : Type 0) (k : ℕ) (S : Type 0) (o : Option Extent) → 1 ≤ n → room ≡ D - l → Means M P L k S o → Means M ((D < l + n) ⊎ P) L k S (container_extent n room o)
 opened_means n room l D M P L k S None one e h = h
 opened_means n room l D M P L k S (Some x) one e h = (h.0, either_says (ltb room n) x.deep (D < l + n) P (room_says room n l D one e) h.1, h.2)
 
@@ -120,7 +121,7 @@ mutual
 
   pub list_means : (is : Items) (ctx : Ctx) (room l D : ℕ) → room ≡ D - l → Means (IsMismatched is ctx) (IsDeep is l D) (IsLong is) (items_len is) (IsSized is) (extent_of is ctx room)
   list_means no_items ctx room l D e = (λ h. h, λ h. h, (none, refl, tt)) where
-    none : (1048576 < 0) ⊎ ⊥ → ⊥
+    none : (LONGEST_REGION < 0) ⊎ ⊥ → ⊥
     none (inl h) = omega arith
     none (inr h) = h
   list_means (item n flags v more) ctx room l D e =
@@ -131,7 +132,7 @@ mutual
 
   hops_mean : (hs : HopItems) (room l D : ℕ) → room ≡ D - l → Means (IsMismatchedHops hs) (IsDeepHops hs l D) (IsLongRegion (hops_len hs) ⊎ HasLongHops hs) (hops_len hs) (IsSizedHops hs) (extent_of_hops hs room)
   hops_mean no_hops room l D e = (λ h. h, λ h. h, (none, refl, tt)) where
-    none : (1048576 < 0) ⊎ ⊥ → ⊥
+    none : (LONGEST_REGION < 0) ⊎ ⊥ → ⊥
     none (inl h) = omega arith
     none (inr h) = h
   hops_mean (hop flags count index attrs more) room l D e =
@@ -155,9 +156,9 @@ len_fits : (o : Option ℕ) (L : Type 0) (n : ℕ) (S : Type 0) → LenSays o L 
 len_fits None L n S h = tt
 len_fits (Some m) L n S h = h.2
 
-len_below : (o : Option ℕ) (H : Type 0) (n : ℕ) (S : Type 0) → LenSays o ((1048576 < n) ⊎ H) n S → IfSome o (λ m. m ≤ 1048576)
+len_below : (o : Option ℕ) (H : Type 0) (n : ℕ) (S : Type 0) → LenSays o ((LONGEST_REGION < n) ⊎ H) n S → IfSome o (λ m. m ≤ LONGEST_REGION)
 len_below None H n S h = tt
-len_below (Some m) H n S h = let short : 1048576 < n → ⊥ = λ x. h.0 (inl x) in omega (arith, short, h.1)
+len_below (Some m) H n S h = let short : LONGEST_REGION < n → ⊥ = λ x. h.0 (inl x) in omega (arith, short, h.1)
 
 module _ (is : Items) (ctx : Ctx) (D : ℕ) where
   abbrev pub MeansList : Option Extent → Type 0
@@ -183,7 +184,7 @@ module _ (is : Items) (ctx : Ctx) (D : ℕ) where
   means_len None m = tt
   means_len (Some x) m = len_is x.len (IsLong is) (items_len is) (IsSized is) m.2
 
-  pub means_limit : (o : Option Extent) → MeansList o → IfSome o (λ e. IfSome e.len (λ n. n ≤ 1048576))
+  pub means_limit : (o : Option Extent) → MeansList o → IfSome o (λ e. IfSome e.len (λ n. n ≤ LONGEST_REGION))
   means_limit None m = tt
   means_limit (Some x) m = len_below x.len (HasLong is) (items_len is) (IsSized is) m.2
 

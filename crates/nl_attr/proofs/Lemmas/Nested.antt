@@ -1,13 +1,14 @@
 -- Reading with a stack of open regions, one turn after the other.
 use Rattle.std.proofs.Common.{◌≡◌, ℕ, suc, ◌+◌, ◌-◌, ◌*◌, ◌<◌, ◌≤◌, List, [], ◌∷◌, ◌++◌, length, Ok, Err, refl, sym, ap, subst, ◌∙◌, arith}
 use Rattle.std.proofs.Math.Nat.{mul-le-mul_left}
+use Rattle.nl_attr.specs.declared.limits.TheConstants.{LONGEST_REGION, MOST_VISITS}
 use Rattle.nl_attr.specs.declared.fault.Fault.{Fault}
 use Rattle.nl_attr.specs.declared.fault.ListError.{ListError}
 use Rattle.nl_attr.specs.declared.fault.ListError.TheVariants.{Layout, Memory}
 use Rattle.nl_attr.specs.declared.tree.Ctx.{Ctx}
 use Rattle.nl_attr.specs.declared.stack.regions.ListRegion.{ListRegion}
-use Rattle.nl_attr.specs.declared.stack.nested.Frame.{Frame}
-use Rattle.nl_attr.specs.declared.stack.nested.Frame.TheVariants as frame
+use Rattle.nl_attr.specs.declared.stack.nested.Outer.{Outer}
+use Rattle.nl_attr.specs.declared.stack.nested.Outer.TheVariants as outer
 use Rattle.nl_attr.specs.declared.stack.nested.Next.{Next}
 use Rattle.nl_attr.specs.declared.stack.nested.Next.TheVariants as next
 use Rattle.nl_attr.specs.Shape.{Shape}
@@ -15,7 +16,7 @@ use Rattle.nl_attr.specs.Tree.{Items}
 use Rattle.nl_attr.specs.Heads.{Sort}
 use Rattle.nl_attr.specs.Outcomes.{IsOutcome}
 use Rattle.nl_attr.specs.Reading.{Outcome, and_then, more_visits, items_of_region}
-use Rattle.nl_attr.specs.Open.{list_rest, goes_on, next_rest, NextGoes, FailsAs, Spot, list_spot, frame_spot, frame_room, Holds, levels_in, IsWithinLimits, Room, IsIn, spot_end, frame_work, next_work, Advances, NextMoves, LiesUnder, PutsOn}
+use Rattle.nl_attr.specs.Open.{list_rest, goes_on, next_rest, NextGoes, FailsAs, Spot, list_spot, outer_spot, outer_room, Holds, levels_in, IsWithinLimits, Room, IsIn, spot_end, outer_work, next_work, Advances, NextMoves, LiesUnder, PutsOn}
 use Rattle.nl_attr.proofs.Lemmas.Reading.{more_then}
 use Rattle.nl_attr.proofs.Lemmas.Outcomes.{then_more}
 use Rattle.nl_attr.proofs.Lemmas.Bounds.{items_bound}
@@ -23,58 +24,58 @@ use Rattle.nl_attr.proofs.Lemmas.Bounds.{items_bound}
 -- ---- outcomes
 
 -- all that wait go on, the last of the list first
-abbrev pub resume : Shape → List Frame → Outcome Items → Outcome Items
+abbrev pub resume : Shape → List Outer → Outcome Items → Outcome Items
 resume S [] o = o
 resume S (f ∷ fs) o = and_then (resume S fs o) (goes_on S f)
 
-resume-push : (S : Shape) (fs : List Frame) (f : Frame) (o : Outcome Items) → resume S (fs ++ f ∷ []) o ≡ resume S fs (and_then o (goes_on S f))
+resume-push : (S : Shape) (fs : List Outer) (f : Outer) (o : Outcome Items) → resume S (fs ++ f ∷ []) o ≡ resume S fs (and_then o (goes_on S f))
 resume-push S [] f o = refl
 resume-push S (g ∷ fs) f o = ap (λ p. and_then p (goes_on S g)) (resume-push S fs f o)
 
 -- a fault ends all of them
-resume-fault : (S : Shape) (fs : List Frame) (e : Fault) (v : ℕ) → resume S fs (Err e, v) ≡ (Err e, v)
+resume-fault : (S : Shape) (fs : List Outer) (e : Fault) (v : ℕ) → resume S fs (Err e, v) ≡ (Err e, v)
 resume-fault S [] e v = refl
 resume-fault S (f ∷ fs) e v = ap (λ p. and_then p (goes_on S f)) (resume-fault S fs e v)
 
 -- visits are counted wherever they are made
-resume-more : (S : Shape) (fs : List Frame) (n : ℕ) (o : Outcome Items) → resume S fs (more_visits n o) ≡ more_visits n (resume S fs o)
+resume-more : (S : Shape) (fs : List Outer) (n : ℕ) (o : Outcome Items) → resume S fs (more_visits n o) ≡ more_visits n (resume S fs o)
 resume-more S [] n o = refl
 resume-more S (f ∷ fs) n o = ap (λ p. and_then p (goes_on S f)) (resume-more S fs n o) ∙ more_then n (resume S fs o) (goes_on S f)
 
-resume_visits : (S : Shape) (fs : List Frame) (o : Outcome Items) → o.1 ≤ (resume S fs o).1
+resume_visits : (S : Shape) (fs : List Outer) (o : Outcome Items) → o.1 ≤ (resume S fs o).1
 resume_visits S [] o = omega arith
 resume_visits S (f ∷ fs) o = omega (arith, resume_visits S fs o, then_more (resume S fs o) (goes_on S f))
 
-resume_same : (S : Shape) (fs : List Frame) (n m : ℕ) (o p : Outcome Items) → more_visits n o ≡ more_visits m p → more_visits n (resume S fs o) ≡ more_visits m (resume S fs p)
+resume_same : (S : Shape) (fs : List Outer) (n m : ℕ) (o p : Outcome Items) → more_visits n o ≡ more_visits m p → more_visits n (resume S fs o) ≡ more_visits m (resume S fs p)
 resume_same S fs n m o p e = sym (resume-more S fs n o) ∙ ap (resume S fs) e ∙ resume-more S fs m p
 
 -- ---- regions in one another
 
 -- each region lies in the one below it, one level higher
-abbrev pub Nests : Shape → Room → List Frame → Spot → Type 0
+abbrev pub Nests : Shape → Room → List Outer → Spot → Type 0
 Nests S r [] t = IsIn S r t
-Nests S r (f ∷ fs) t = IsIn S r (frame_spot f) × Holds S f × Nests S (frame_room f) fs t
+Nests S r (f ∷ fs) t = IsIn S r (outer_spot f) × Holds S f × Nests S (outer_room f) fs t
 
--- a frame takes a level at least
-room_level : (S : Shape) (r : Room) (f : Frame) → IsIn S r (frame_spot f) → Holds S f → r.level + 1 ≤ (frame_room f).level
-room_level S r (frame.List w) i h = omega (arith, i.level)
-room_level S r (frame.Hops w k) i h = omega (arith, i.level, h.level)
+-- a outer takes a level at least
+room_level : (S : Shape) (r : Room) (f : Outer) → IsIn S r (outer_spot f) → Holds S f → r.level + 1 ≤ (outer_room f).level
+room_level S r (outer.List w) i h = omega (arith, i.level)
+room_level S r (outer.Hops w k) i h = omega (arith, i.level, h.level)
 
-nests_last : (S : Shape) (r : Room) (fs : List Frame) (t : Spot) → Nests S r fs t → (q : Room) × IsIn S q t × (r.level + length fs ≤ q.level)
+nests_last : (S : Shape) (r : Room) (fs : List Outer) (t : Spot) → Nests S r fs t → (q : Room) × IsIn S q t × (r.level + length fs ≤ q.level)
 nests_last S r [] t n = (r, n, omega arith)
-nests_last S r (f ∷ fs) t n = let k = nests_last S (frame_room f) fs t n.2 in (k.0, k.1, omega (arith, k.2, room_level S r f n.0 n.1))
+nests_last S r (f ∷ fs) t n = let k = nests_last S (outer_room f) fs t n.2 in (k.0, k.1, omega (arith, k.2, room_level S r f n.0 n.1))
 
-nests_push : (S : Shape) (r : Room) (fs : List Frame) (f : Frame) (t : Spot) → Nests S r fs (frame_spot f) → Holds S f → IsIn S (frame_room f) t → Nests S r (fs ++ f ∷ []) t
+nests_push : (S : Shape) (r : Room) (fs : List Outer) (f : Outer) (t : Spot) → Nests S r fs (outer_spot f) → Holds S f → IsIn S (outer_room f) t → Nests S r (fs ++ f ∷ []) t
 nests_push S r [] f t n h i = (n, h, i)
-nests_push S r (g ∷ fs) f t n h i = (n.0, n.1, nests_push S (frame_room g) fs f t n.2 h i)
+nests_push S r (g ∷ fs) f t n h i = (n.0, n.1, nests_push S (outer_room g) fs f t n.2 h i)
 
-nests_pop : (S : Shape) (r : Room) (fs : List Frame) (f : Frame) (t : Spot) → Nests S r (fs ++ f ∷ []) t → Nests S r fs (frame_spot f) × Holds S f
+nests_pop : (S : Shape) (r : Room) (fs : List Outer) (f : Outer) (t : Spot) → Nests S r (fs ++ f ∷ []) t → Nests S r fs (outer_spot f) × Holds S f
 nests_pop S r [] f t n = (n.0, n.1)
-nests_pop S r (g ∷ fs) f t n = let k = nests_pop S (frame_room g) fs f t n.2 in ((n.0, n.1, k.0), k.1)
+nests_pop S r (g ∷ fs) f t n = let k = nests_pop S (outer_room g) fs f t n.2 in ((n.0, n.1, k.0), k.1)
 
-nests_swap : (S : Shape) (r : Room) (fs : List Frame) (s t : Spot) → Nests S r fs s → ((q : Room) → IsIn S q s → IsIn S q t) → Nests S r fs t
+nests_swap : (S : Shape) (r : Room) (fs : List Outer) (s t : Spot) → Nests S r fs s → ((q : Room) → IsIn S q s → IsIn S q t) → Nests S r fs t
 nests_swap S r [] s t n h = h r n
-nests_swap S r (f ∷ fs) s t n h = (n.0, n.1, nests_swap S (frame_room f) fs s t n.2 h)
+nests_swap S r (f ∷ fs) s t n h = (n.0, n.1, nests_swap S (outer_room f) fs s t n.2 h)
 
 pub advances_in : (S : Shape) (s t : Spot) → Advances s t → (q : Room) → IsIn S q s → IsIn S q t
 advances_in S s t a q i = record {
@@ -90,19 +91,19 @@ advances_in S s t a q i = record {
 
 -- ---- the work that is left
 
-abbrev pub waiting_work : List Frame → ℕ
+abbrev pub waiting_work : List Outer → ℕ
 waiting_work [] = 0
-waiting_work (f ∷ fs) = frame_work f + waiting_work fs
+waiting_work (f ∷ fs) = outer_work f + waiting_work fs
 
 -- the bytes that are left in all of them, with one for each
-abbrev pub work : List Frame → ListRegion → ℕ
+abbrev pub work : List Outer → ListRegion → ℕ
 work fs top = waiting_work fs + suc (length top.walk.left)
 
-work_push : (fs : List Frame) (f : Frame) → waiting_work (fs ++ f ∷ []) ≡ waiting_work fs + frame_work f
+work_push : (fs : List Outer) (f : Outer) → waiting_work (fs ++ f ∷ []) ≡ waiting_work fs + outer_work f
 work_push [] f = omega arith
 work_push (g ∷ fs) f = omega (arith, work_push fs f)
 
-pub work_next : (fs gs : List Frame) (x : Next) (top : ListRegion) → PutsOn fs x gs top → work gs top ≡ waiting_work fs + next_work x
+pub work_next : (fs gs : List Outer) (x : Next) (top : ListRegion) → PutsOn fs x gs top → work gs top ≡ waiting_work fs + next_work x
 work_next fs gs (next.Opens f r) top p = rw (p.0, p.1) (omega (arith, work_push fs f))
 work_next fs gs (next.Goes r) top p = rw (p.0, p.1) refl
 
@@ -110,27 +111,27 @@ pub next_moves_work : (S : Shape) (s : Spot) (most : ℕ) (x : Next) → NextMov
 next_moves_work S s most (next.Opens f r) v = v.3
 next_moves_work S s most (next.Goes r) v = v.1
 
-pub work_closes : (fs gs : List Frame) (top : ListRegion) (f : Frame) (x : Next) (hs : List Frame) (t : ListRegion) → fs ≡ gs ++ f ∷ [] → PutsOn gs x hs t → next_work x ≤ frame_work f → work hs t < work fs top
+pub work_closes : (fs gs : List Outer) (top : ListRegion) (f : Outer) (x : Next) (hs : List Outer) (t : ListRegion) → fs ≡ gs ++ f ∷ [] → PutsOn gs x hs t → next_work x ≤ outer_work f → work hs t < work fs top
 work_closes fs gs top f x hs t e p le = rw e (omega (arith, work_next gs hs x t p, work_push gs f, le))
 
-pub work_opens : (fs : List Frame) (top : ListRegion) (a b : ℕ) (x : Next) (hs : List Frame) (t : ListRegion) → a + suc b < length top.walk.left → PutsOn fs x hs t → next_work x ≤ suc a + suc b → work hs t < work fs top
+pub work_opens : (fs : List Outer) (top : ListRegion) (a b : ℕ) (x : Next) (hs : List Outer) (t : ListRegion) → a + suc b < length top.walk.left → PutsOn fs x hs t → next_work x ≤ suc a + suc b → work hs t < work fs top
 work_opens fs top a b x hs t less p le = omega (arith, work_next fs hs x t p, less, le)
 
 -- ---- the state between two turns
 
 -- what is left to do gives the whole, and each region lies in the one below it
-pub record IsReading (S : Shape) (start : Room) (whole : Outcome Items) (n : ℕ) (fs : List Frame) (top : ListRegion) : Type 0 where
+pub record IsReading (S : Shape) (start : Room) (whole : Outcome Items) (n : ℕ) (fs : List Outer) (top : ListRegion) : Type 0 where
   pub same : more_visits n (resume S fs (list_rest S top)) ≡ whole
   pub nests : Nests S start fs (list_spot top)
 
 -- the same, with a region that has this spot and this outcome left
-pub record IsBetween (S : Shape) (start : Room) (whole : Outcome Items) (n : ℕ) (fs : List Frame) (o : Outcome Items) (s : Spot) : Type 0 where
+pub record IsBetween (S : Shape) (start : Room) (whole : Outcome Items) (n : ℕ) (fs : List Outer) (o : Outcome Items) (s : Spot) : Type 0 where
   pub same : more_visits n (resume S fs o) ≡ whole
   pub nests : Nests S start fs s
 
-module _ {S : Shape} {start : Room} {whole : Outcome Items} {n : ℕ} {fs : List Frame} {o : Outcome Items} {s : Spot} where
+module _ {S : Shape} {start : Room} {whole : Outcome Items} {n : ℕ} {fs : List Outer} {o : Outcome Items} {s : Spot} where
   -- the next region is put on
-  pub puts : (m : ℕ) (most : ℕ) (x : Next) (gs : List Frame) (top : ListRegion) → IsBetween S start whole n fs o s → NextGoes S n o m (Ok x) → NextMoves S s most (Ok x) → PutsOn fs x gs top → IsReading S start whole m gs top
+  pub puts : (m : ℕ) (most : ℕ) (x : Next) (gs : List Outer) (top : ListRegion) → IsBetween S start whole n fs o s → NextGoes S n o m (Ok x) → NextMoves S s most (Ok x) → PutsOn fs x gs top → IsReading S start whole m gs top
   puts m most (next.Opens f r) gs top i g v p = rw (p.0, p.1) (record {
     same = ap (more_visits m) (resume-push S fs f (list_rest S r)) ∙ sym (resume_same S fs n m o (next_rest S (next.Opens f r)) g) ∙ i.same;
     nests = nests_push S start fs f (list_spot r) (subst (λ (x : Spot). Nests S start fs x) (sym v.0) i.nests) v.1 v.2;
@@ -154,7 +155,7 @@ module _ {S : Shape} {start : Room} {whole : Outcome Items} {n : ℕ} {fs : List
   fails_visits m (Layout f) i e = omega (arith, ap (λ (p : Outcome Items). p.1) (between_fault m f i e))
   fails_visits m Memory i e = omega (arith, e, between_room i)
 
-module _ {S : Shape} {start : Room} {whole : Outcome Items} {n : ℕ} {fs : List Frame} {top : ListRegion} where
+module _ {S : Shape} {start : Room} {whole : Outcome Items} {n : ℕ} {fs : List Outer} {top : ListRegion} where
   pub within : IsReading S start whole n fs top → IsWithinLimits S (list_spot top)
   within i = (nests_last S start fs (list_spot top) i.nests).1.limits
 
@@ -173,9 +174,9 @@ module _ {S : Shape} {start : Room} {whole : Outcome Items} {n : ℕ} {fs : List
   }
 
   -- a region that was read to its end
-  pub ends : (m : ℕ) (is : Items) (gs : List Frame) (f : Frame) → IsReading S start whole n fs top → fs ≡ gs ++ f ∷ [] → more_visits n (list_rest S top) ≡ (Ok is, m) → IsBetween S start whole m gs (goes_on S f is) (frame_spot f) × Holds S f
+  pub ends : (m : ℕ) (is : Items) (gs : List Outer) (f : Outer) → IsReading S start whole n fs top → fs ≡ gs ++ f ∷ [] → more_visits n (list_rest S top) ≡ (Ok is, m) → IsBetween S start whole m gs (goes_on S f is) (outer_spot f) × Holds S f
   ends m is gs f i e done =
-      let j : IsReading S start whole n (gs ++ f ∷ []) top = subst (λ (hs : List Frame). IsReading S start whole n hs top) e i in
+      let j : IsReading S start whole n (gs ++ f ∷ []) top = subst (λ (hs : List Outer). IsReading S start whole n hs top) e i in
       let k = nests_pop S start gs f (list_spot top) j.nests in (
         record {
           same = sym (resume-more S gs m (goes_on S f is)) ∙ sym (resume-push S gs f (Ok is, m)) ∙ sym (ap (resume S (gs ++ f ∷ [])) done) ∙ resume-more S (gs ++ f ∷ []) n (list_rest S top) ∙ j.same;
@@ -185,7 +186,7 @@ module _ {S : Shape} {start : Room} {whole : Outcome Items} {n : ℕ} {fs : List
       )
 
   pub ends_all : (m : ℕ) (is : Items) → IsReading S start whole n fs top → fs ≡ [] → more_visits n (list_rest S top) ≡ (Ok is, m) → whole ≡ (Ok is, m)
-  ends_all m is i none e = sym i.same ∙ ap (λ (hs : List Frame). more_visits n (resume S hs (list_rest S top))) none ∙ e
+  ends_all m is i none e = sym i.same ∙ ap (λ (hs : List Outer). more_visits n (resume S hs (list_rest S top))) none ∙ e
 
   pub still : IsReading S start whole n fs top → IsBetween S start whole n fs (list_rest S top) (list_spot top)
   still i = record { same = i.same; nests = i.nests }
@@ -199,12 +200,12 @@ room_of s = record { level = s.level; to = s.base + spot_end s }
 pub lies_first : (S : Shape) (s : Spot) → IsWithinLimits S s → IsIn S (room_of s) s
 lies_first S s limits = record { level = refl; inside = omega arith; limits = limits }
 
--- the region that waits for this one was read to where it opened
-pub nested_begins : (S : Shape) (n : ℕ) (f : Frame) (r : ListRegion) (o : Outcome Items) → LiesUnder S f r → IsBetween S (room_of (frame_spot f)) (more_visits n (and_then o (goes_on S f))) n (f ∷ []) o (list_spot r)
-nested_begins S n f r o l = record { same = refl; nests = (lies_first S (frame_spot f) l.limits, l.holds, l.inside) }
+-- the region that waits for this one was read to where it container_extent
+pub nested_begins : (S : Shape) (n : ℕ) (f : Outer) (r : ListRegion) (o : Outcome Items) → LiesUnder S f r → IsBetween S (room_of (outer_spot f)) (more_visits n (and_then o (goes_on S f))) n (f ∷ []) o (list_spot r)
+nested_begins S n f r o l = record { same = refl; nests = (lies_first S (outer_spot f) l.limits, l.holds, l.inside) }
 
 pub whole_bound : (S : Shape) (ctx : Ctx) (l base : ℕ) (left : List ℕ) → (items_of_region S ctx l base left).1 ≤ (S.depth - l + 1) * length left
 whole_bound S ctx l base left = items_bound (length left) S ctx l base left (omega arith)
 
-pub whole_fits : (k n x : ℕ) → k ≤ 33 → n ≤ 1048576 → x ≤ k * n → x ≤ 34603008
+pub whole_fits : (k n x : ℕ) → k ≤ 33 → n ≤ LONGEST_REGION → x ≤ k * n → x ≤ MOST_VISITS
 whole_fits k n x a b le = omega (arith, mul-le-mul_left k b)

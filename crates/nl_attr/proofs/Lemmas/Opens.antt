@@ -2,6 +2,7 @@
 use Rattle.std.proofs.Common.{◌≡◌, ℕ, ◌+◌, ◌≤◌, [], ◌∷◌, ◌++◌, ltb, length, map, None, refl, sym, ap, ◌∙◌, arith}
 use Rattle.std.specs.Global.{Vec}
 use Rattle.std.proofs.lemmas.Bool.{ltb-false}
+use Rattle.nl_attr.specs.declared.limits.TheConstants.{LONGEST_CONTAINER}
 use Rattle.nl_attr.specs.declared.fault.ListError.TheVariants.{Layout, Memory}
 use Rattle.nl_attr.specs.declared.walk.attrs.Part.{Part}
 use Rattle.nl_attr.specs.declared.tree.Content.{Content}
@@ -30,8 +31,8 @@ use Rattle.nl_attr.proofs.Lemmas.Steps.{collected, list_breaks, list_opens, pass
 
 -- the levels that a sound container opens are there
 levels_are : (S : Shape) (level len : ℕ) (i : Inner) → broken_container S level (content_in i) len ≡ None → level + 1 + levels_in (sort_in i) ≤ S.depth
-levels_are S level len (inner.List c) e = omega (arith, ltb-false _ _ (tests_none (ltb 65532 len) (ltb S.depth (level + 1)) e))
-levels_are S level len inner.Hops e = omega (arith, ltb-false _ _ (tests_none (ltb 65532 len) (ltb S.depth (level + 2)) e))
+levels_are S level len (inner.List c) e = omega (arith, ltb-false _ _ (tests_none (ltb LONGEST_CONTAINER len) (ltb S.depth (level + 1)) e))
+levels_are S level len inner.Hops e = omega (arith, ltb-false _ _ (tests_none (ltb LONGEST_CONTAINER len) (ltb S.depth (level + 2)) e))
 
 module _ (S : Shape) (p : Part) (r s : ListRegion) (i : Inner) where
   pub turn_goes : (n : ℕ) (t : Turn) → IsWithinLimits S (list_spot r) → Turns 4 r.walk s.walk p.payload.now → IsPart p r.walk → holds_of r.ctx p.number p.flags ≡ content_in i → TurnsAt S r.level r.base p i t → s.ctx ≡ r.ctx → s.base ≡ r.base → s.level ≡ r.level → s.list ≡ r.list → Goes S n (list_rest S r) (n + p.span) s t
@@ -65,7 +66,7 @@ module _ (S : Shape) (p : Part) (r s : ListRegion) (i : Inner) where
       )
   turn_moves (turn.Fails e) w g is t b l = tt
 
--- what opened is a region of attributes, or one of next hops
+-- what container_extent is a region of attributes, or one of next hops
 pub opening_list : (S : Shape) (r : ListRegion) (p : Opening) (c : Ctx) (a : ListRegion) → p.inner ≡ inner.List c → list_rest S a ≡ items_of_region S c (r.level + 1) p.place p.payload.now → opening_rest S r p ≡ and_then (list_rest S a) (λ is. list_goes_on S r p.number p.flags (list is))
 opening_list S r p c a e rest =
     ap (λ (i : Inner). and_then (value_at S (content_in i) r.level p.place p.payload.now) (list_goes_on S r p.number p.flags)) e

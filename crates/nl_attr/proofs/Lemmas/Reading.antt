@@ -2,6 +2,7 @@
 use Rattle.std.proofs.Common.{◌≡◌, ℕ, zero, suc, ◌+◌, ◌-◌, ◌*◌, ◌/◌, ◌%◌, ◌<◌, ◌≤◌, ◌≢◌, min, Bool, true, false, cond, ltb, ◌||◌, List, [], ◌∷◌, length, take, drop, Option, Some, None, Ok, Err, refl, sym, ap, ◌∙◌, arith, length-drop, add_assoc}
 use Rattle.std.proofs.lemmas.Bool.{ltb-false}
 use Rattle.std.proofs.lemmas.List.{length-take, drop-take}
+use Rattle.nl_attr.specs.declared.limits.TheConstants.{LONGEST_CONTAINER}
 use Rattle.nl_attr.specs.declared.fault.Reason.{Reason}
 use Rattle.nl_attr.specs.declared.fault.Reason.TheVariants.{Cut, BadLength, TooLong, TooDeep}
 use Rattle.nl_attr.specs.declared.tree.Ctx.{Ctx}
@@ -11,7 +12,7 @@ use Rattle.nl_attr.specs.declared.tree.Content.TheVariants as content
 use Rattle.nl_attr.specs.declared.order.Order.{Order}
 use Rattle.nl_attr.specs.Shape.{Shape}
 use Rattle.nl_attr.specs.Numbers.{len_of, kind_of, span_of}
-use Rattle.nl_attr.specs.Walk.{flags_of, index_of, broken_length}
+use Rattle.nl_attr.specs.Walk.{flags_of, ifindex_of, broken_length}
 use Rattle.nl_attr.specs.Tree.{Val, list, hops, Items, item, HopItems, hop}
 use Rattle.nl_attr.specs.Heads.{attr_head, broken_container, broken_in, or_else, content_at}
 use Rattle.nl_attr.specs.Reading.{Outcome, and_then, map_value, more_visits, counted, checked, value_by, items_at, hops_at, items_of_region, hops_of_region, value_at, attr_at}
@@ -108,7 +109,7 @@ mutual
       let w = sound_within S.order 8 2 left sound in
       and_then_both _ _ _ _
       (items_enough n m S Route (l + 1) (place + 8) (payload_of S.order 8 2 left) (payload_shorter S.order 8 2 n left (omega arith) h) (payload_shorter S.order 8 2 m left (omega arith) k))
-      (λ is. ap (map_value (hop (slice_index left 2) (slice_index left 3) (index_of S.order left) is)) (hops_enough n m S l (place + span_of S.order 2 left) (drop (span_of S.order 2 left) left) (rest_shorter S.order 8 2 n left (omega arith) w h) (rest_shorter S.order 8 2 m left (omega arith) w k))))
+      (λ is. ap (map_value (hop (slice_index left 2) (slice_index left 3) (ifindex_of S.order left) is)) (hops_enough n m S l (place + span_of S.order 2 left) (drop (span_of S.order 2 left) left) (rest_shorter S.order 8 2 n left (omega arith) w h) (rest_shorter S.order 8 2 m left (omega arith) w k))))
 
 -- ---- one item after the other
 
@@ -132,8 +133,8 @@ tests_count false false t n e = absurd cc
 
 pub container_counts : (S : Shape) (l : ℕ) (c : Content) (len : ℕ) (t : Reason) (n : ℕ) → broken_container S l c len ≡ Some t → counted t n ≡ n
 container_counts S l content.Bytes len t n e = absurd cc
-container_counts S l (content.List c) len t n e = tests_count (ltb 65532 len) (ltb S.depth (l + 1)) t n e
-container_counts S l content.Hops len t n e = tests_count (ltb 65532 len) (ltb S.depth (l + 2)) t n e
+container_counts S l (content.List c) len t n e = tests_count (ltb LONGEST_CONTAINER len) (ltb S.depth (l + 1)) t n e
+container_counts S l content.Hops len t n e = tests_count (ltb LONGEST_CONTAINER len) (ltb S.depth (l + 2)) t n e
 
 pub more_then : {A B : Type 0} (v : ℕ) (o : Outcome A) (g : A → Outcome B) → and_then (more_visits v o) g ≡ more_visits v (and_then o g)
 more_then v (Ok y, u) g = ap (λ (n : ℕ). ((g y).0, n)) (add_assoc v u (g y).1)
@@ -201,7 +202,7 @@ items_cut S ctx l place (b ∷ bs) t full e =
 hops_open : (n : ℕ) (S : Shape) (l place : ℕ) (left : List ℕ) → 0 < length left → hops_at S (suc n) l place left
     ≡ and_then (checked place (span_of S.order 2 left) (broken_length S.order 8 2 left)) (λ _.
     and_then (items_at S n Route (l + 1) (place + 8) (payload_of S.order 8 2 left)) (λ is.
-    map_value (hop (slice_index left 2) (slice_index left 3) (index_of S.order left) is) (hops_at S n l (place + span_of S.order 2 left) (drop (span_of S.order 2 left) left))))
+    map_value (hop (slice_index left 2) (slice_index left 3) (ifindex_of S.order left) is) (hops_at S n l (place + span_of S.order 2 left) (drop (span_of S.order 2 left) left))))
 unfolding items_at
 hops_open n S l place [] h = absurd (omega arith)
 hops_open n S l place (b ∷ bs) h = refl
@@ -209,7 +210,7 @@ hops_open n S l place (b ∷ bs) h = refl
 pub hops_step : (S : Shape) (l place : ℕ) (left : List ℕ) → broken_length S.order 8 2 left ≡ None →
     hops_of_region S l place left
     ≡ more_visits (span_of S.order 2 left) (and_then (items_of_region S Route (l + 1) (place + 8) (payload_of S.order 8 2 left))
-    (λ is. map_value (hop (slice_index left 2) (slice_index left 3) (index_of S.order left) is) (hops_of_region S l (place + span_of S.order 2 left) (drop (span_of S.order 2 left) left))))
+    (λ is. map_value (hop (slice_index left 2) (slice_index left 3) (ifindex_of S.order left) is) (hops_of_region S l (place + span_of S.order 2 left) (drop (span_of S.order 2 left) left))))
 hops_step S l place left e =
     let w = sound_within S.order 8 2 left e in
     let n = length left in
@@ -217,7 +218,7 @@ hops_step S l place left e =
     hops_enough n (suc n) S l place left (omega arith) (omega arith)
     ∙ hops_open n S l place left (omega (arith, w.head))
     ∙ rw e (ap (more_visits (span_of S.order 2 left)) (and_then_both _ _ _ _ (items_enough n (length payload) S Route (l + 1) (place + 8) payload (payload_shorter S.order 8 2 n left (omega arith) (omega arith)) (omega arith))
-    (λ is. ap (map_value (hop (slice_index left 2) (slice_index left 3) (index_of S.order left) is)) (hops_enough n (length (drop (span_of S.order 2 left) left)) S l (place + span_of S.order 2 left) (drop (span_of S.order 2 left) left) (rest_shorter S.order 8 2 n left (omega arith) w (omega arith)) (omega arith)))))
+    (λ is. ap (map_value (hop (slice_index left 2) (slice_index left 3) (ifindex_of S.order left) is)) (hops_enough n (length (drop (span_of S.order 2 left) left)) S l (place + span_of S.order 2 left) (drop (span_of S.order 2 left) left) (rest_shorter S.order 8 2 n left (omega arith) w (omega arith)) (omega arith)))))
 
 pub hops_cut : (S : Shape) (l place : ℕ) (left : List ℕ) (t : Reason) → left ≢ [] → broken_length S.order 8 2 left ≡ Some t → hops_of_region S l place left ≡ (Err (record { place = place; reason = t }), 0)
 hops_cut S l place [] t full e = absurd (full refl)

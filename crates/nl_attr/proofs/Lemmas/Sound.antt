@@ -4,6 +4,7 @@ use Rattle.std.specs.Prelude.{slice_index}
 use Rattle.std.specs.Int.{w32, cast_unsigned}
 use Rattle.std.proofs.lemmas.Int.{of_z-to_z}
 use Rattle.std.proofs.Math.Facts.{sfits_to_z, Fits-of_lt}
+use Rattle.nl_attr.specs.declared.limits.TheConstants.{LONGEST_CONTAINER}
 use Rattle.nl_attr.proofs.Lemmas.Numbers.{two_bytes, four_bytes, two_fit, four_fit, bytes_take, bytes_drop}
 use Rattle.std.proofs.lemmas.Bool.{ltb-false}
 use Rattle.std.proofs.lemmas.List.{take-append-drop, length-take, nil_from_length}
@@ -17,7 +18,7 @@ use Rattle.nl_attr.specs.declared.tree.Content.TheVariants as content
 use Rattle.nl_attr.specs.declared.order.Order.{Order}
 use Rattle.nl_attr.specs.Shape.{Shape}
 use Rattle.nl_attr.specs.Numbers.{AreBytes, num, number_of, len_of, kind_of, span_of}
-use Rattle.nl_attr.specs.Walk.{flags_of, index_of, broken_length}
+use Rattle.nl_attr.specs.Walk.{flags_of, ifindex_of, broken_length}
 use Rattle.nl_attr.specs.Tree.{Val, bytes, list, hops, Items, no_items, item, HopItems, no_hops, hop}
 use Rattle.nl_attr.specs.Layout.{kind_number, FitsVal, Fits, FitsHops}
 use Rattle.nl_attr.specs.Heads.{attr_head, broken_in, broken_container, content_at}
@@ -75,11 +76,11 @@ value_sound : (c : Content) (S : Shape) (l len : ℕ) (payload : List ℕ) (is :
 value_sound content.Bytes S l len payload is hs v u e f g h = subst (λ (x : Val). FitsVal S x content.Bytes payload len l) (let i : ◌≡◌ {A = Result Val Fault} (Ok (bytes payload)) (Ok v) = ap (λ (p : Outcome Val). p.0) f in let j : bytes payload ≡ v = cc in j) refl
 value_sound (content.List c) S l len payload is hs v u e f g h =
     let m = map_ok list (is c) v u f in
-    let b = both_pass (ltb 65532 len) (ltb S.depth (l + 1)) e in
+    let b = both_pass (ltb LONGEST_CONTAINER len) (ltb S.depth (l + 1)) e in
     subst (λ (x : Val). FitsVal S x (content.List c) payload len l) m.3 (ltb-false _ _ b.0, ltb-false _ _ b.1, g c m.0 m.1 m.2)
 value_sound content.Hops S l len payload is hs v u e f g h =
     let m = map_ok hops (hs tt) v u f in
-    let b = both_pass (ltb 65532 len) (ltb S.depth (l + 2)) e in
+    let b = both_pass (ltb LONGEST_CONTAINER len) (ltb S.depth (l + 2)) e in
     subst (λ (x : Val). FitsVal S x content.Hops payload len l) m.3 (ltb-false _ _ b.0, ltb-false _ _ b.1, h m.0 m.1 m.2)
 
 empty_fits : (is : Items) (v w : ℕ) (left : List ℕ) (ctx : Ctx) (l : ℕ) (S : Shape) → left ≡ [] → ◌≡◌ {A = Outcome Items} (Ok no_items, w) (Ok is, v) → Fits S is left ctx l
@@ -126,14 +127,14 @@ index_fits o (a ∷ b ∷ c ∷ d ∷ e ∷ f ∷ g ∷ h ∷ xs) fits w = four_
 index_fits _ _ fits w = absurd (omega arith)
 
 hop_fits : (left : List ℕ) (l : ℕ) (S : Shape) (is : Items) (more : HopItems) → AreBytes left → broken_length S.order 8 2 left ≡ None → Fits S is (payload_of S.order 8 2 left) Route (l + 1)
-    → FitsHops S more (drop (span_of S.order 2 left) left) l → FitsHops S (hop (slice_index left 2) (slice_index left 3) (index_of S.order left) is more) left l
+    → FitsHops S more (drop (span_of S.order 2 left) left) l → FitsHops S (hop (slice_index left 2) (slice_index left 3) (ifindex_of S.order left) is more) left l
 hop_fits left l S is more fits e inner others =
     let w = sound_within S.order 8 2 left e in
     let it = take (len_of S.order 2 left) left in
     let len : length it ≡ len_of S.order 2 left = omega (arith, length-take (len_of S.order 2 left) left, w.high) in
     let n = number_of S.order 4 (drop 4 left) in
     let small : n < 2 ^ 32 = index_fits S.order left fits w.head in
-    let says : it ≡ num (length it) 2 S.order ++ (slice_index left 2 ∷ slice_index left 3 ∷ (num (cast_unsigned w32 (index_of S.order left)) 4 S.order ++ payload_of S.order 8 2 left)) =
+    let says : it ≡ num (length it) 2 S.order ++ (slice_index left 2 ∷ slice_index left 3 ∷ (num (cast_unsigned w32 (ifindex_of S.order left)) 4 S.order ++ payload_of S.order 8 2 left)) =
     hop_says S.order left fits w ∙ ap (λ (x : ℕ × ℕ). num x.0 2 S.order ++ (slice_index left 2 ∷ slice_index left 3 ∷ (num x.1 4 S.order ++ payload_of S.order 8 2 left))) (two (sym len) (sym (of_z-to_z w32 n small))) in
     (it, drop (len_of S.order 2 left) (take (span_of S.order 2 left) left), drop (span_of S.order 2 left) left, payload_of S.order 8 2 left, piece_at S.order 8 2 left (omega arith) fits e, says, sfits_to_z {w = w32} (Fits-of_lt {w = w32} small), inner, others) where
       two : {a b c d : ℕ} → a ≡ b → c ≡ d → ◌≡◌ {A = ℕ × ℕ} (a, c) (b, d)

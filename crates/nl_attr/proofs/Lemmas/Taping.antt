@@ -2,6 +2,7 @@
 use Rattle.std.proofs.Common.{◌≡◌, ◌≢◌, ℕ, suc, ◌+◌, ◌-◌, ◌*◌, ◌≤◌, ◌<◌, true, false, List, [], ◌∷◌, ◌++◌, length, drop, map, Option, Some, None, refl, sym, ap, subst, ◌∙◌, arith, append_assoc, length-drop, length-append, eqb}
 use Rattle.std.proofs.lemmas.Bool.{eqb-true}
 use Rattle.std.proofs.lemmas.List.{append-nil, length-map, map-append, nil_from_length}
+use Rattle.nl_attr.specs.declared.limits.TheConstants.{FARTHEST_END, LONGEST_REGION, MOST_VISITS}
 use Rattle.nl_attr.specs.declared.fault.Reason.{Reason}
 use Rattle.nl_attr.specs.declared.events.Event.{Event}
 use Rattle.nl_attr.specs.declared.taping.Taped.{Taped}
@@ -73,8 +74,8 @@ module _ (S : Shape) where
   pub record IsAtLevel (l : ℕ) (h : Head) : Type 0 where
     pub level : h.level ≡ l
     pub low : IsLow S h.sort h.level
-    pub size : length h.left ≤ 1048576
-    pub place : h.place + length h.left ≤ 2097152
+    pub size : length h.left ≤ LONGEST_REGION
+    pub place : h.place + length h.left ≤ FARTHEST_END
 
   -- each of these is a level above the one before it
   abbrev pub AllAtLevels : ℕ → List Head → Type 0
@@ -154,7 +155,7 @@ pub record IsTaping (S : Shape) (start : Head) (count : ℕ) (old : List Event) 
   pub stands : IsAtLevel S (start.level + length fs) top
 
 -- the whole region is left, and none waits
-pub begins : (S : Shape) (start : Head) (count : ℕ) (old : List Event) (fs : List Head) → fs ≡ [] → start.sort ≡ attr_head → start.level ≤ S.depth → length start.left ≤ 1048576 → start.place + length start.left ≤ 2097152 → IsTaping S start count old fs start (begun count) old
+pub begins : (S : Shape) (start : Head) (count : ℕ) (old : List Event) (fs : List Head) → fs ≡ [] → start.sort ≡ attr_head → start.level ≤ S.depth → length start.left ≤ LONGEST_REGION → start.place + length start.left ≤ FARTHEST_END → IsTaping S start count old fs start (begun count) old
 begins S start count old fs none kind level size place = subst (λ (xs : List Head). IsTaping S start count old xs start (begun count) old) (sym none) (record {
   hs = [];
   same = refl;
@@ -205,7 +206,7 @@ module _ {S : Shape} {start : Head} {count : ℕ} {old : List Event} {fs : List 
       })
 
   -- the sums are small
-  pub small : start.sort ≡ attr_head → start.level ≤ S.depth → S.depth ≤ 32 → length start.left ≤ 1048576 → (t.visits ≤ 34603008) × (t.count ≤ count + 34603008)
+  pub small : start.sort ≡ attr_head → start.level ≤ S.depth → S.depth ≤ 32 → length start.left ≤ LONGEST_REGION → (t.visits ≤ MOST_VISITS) × (t.count ≤ count + MOST_VISITS)
   small kind l d size =
       let same : start_of start.ctx start.level start.place start.left ≡ start = at start.sort kind in
       let bound = subst (λ (h : Head). visits_of S (trail_of S h).0 ≤ (S.depth - start.level + 1) * length start.left) same (visits_bound S start.ctx start.level start.place start.left) in

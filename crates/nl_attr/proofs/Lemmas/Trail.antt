@@ -1,6 +1,7 @@
 -- The heads of a region in the order in which a scan comes to them, head by head, and what reading has to do with them.
 use Rattle.std.proofs.Common.{◌≡◌, ◌≢◌, ℕ, zero, suc, ◌+◌, ◌≤◌, Bool, true, false, cond, ltb, List, [], ◌∷◌, length, map, Option, Some, None, Result, Ok, Err, refl, sym, ap, ◌∙◌, arith}
 use Rattle.std.proofs.lemmas.List.{nil_from_length, map-append}
+use Rattle.nl_attr.specs.declared.limits.TheConstants.{LONGEST_CONTAINER}
 use Rattle.nl_attr.specs.declared.fault.Reason.{Reason}
 use Rattle.nl_attr.specs.declared.fault.Reason.TheVariants.{Cut, BadLength, ShortBody, TooLong, TooDeep}
 use Rattle.nl_attr.specs.declared.fault.Fault.{Fault}
@@ -82,8 +83,8 @@ module _ (S : Shape) where
   -- one whose container breaks a rule
   pub container_stops : (l : ℕ) (c : Content) (len : ℕ) (r : Reason) (h : Head) → broken_container S l c len ≡ Some r → stopped r h ≡ h ∷ []
   container_stops l content.Bytes len r h e = absurd cc
-  container_stops l (content.List c) len r h e = tests_stop (ltb 65532 len) (ltb S.depth (l + 1)) r h e
-  container_stops l content.Hops len r h e = tests_stop (ltb 65532 len) (ltb S.depth (l + 2)) r h e
+  container_stops l (content.List c) len r h e = tests_stop (ltb LONGEST_CONTAINER len) (ltb S.depth (l + 1)) r h e
+  container_stops l content.Hops len r h e = tests_stop (ltb LONGEST_CONTAINER len) (ltb S.depth (l + 2)) r h e
 
   -- ---- reading
 

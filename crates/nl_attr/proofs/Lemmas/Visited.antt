@@ -2,6 +2,7 @@
 use Rattle.std.proofs.Common.{Bool, true, false, cond, ltb, ◌||◌, ◌≡◌, ◌≢◌, ℕ, zero, suc, ◌+◌, ◌<◌, ◌≤◌, List, [], ◌∷◌, ◌++◌, length, Option, Some, None, refl, sym, ap, subst, ◌∙◌, arith, inl, inr, length-drop}
 use Rattle.std.proofs.lemmas.List.{nil_from_length}
 use Rattle.std.specs.List.{AllByRecursion}
+use Rattle.nl_attr.specs.declared.limits.TheConstants.{LONGEST_CONTAINER}
 use Rattle.nl_attr.specs.declared.fault.Reason.{Reason}
 use Rattle.nl_attr.specs.declared.fault.Reason.TheVariants.{Cut, BadLength, ShortBody, TooLong, TooDeep}
 use Rattle.nl_attr.specs.declared.fault.Fault.{Fault}
@@ -195,8 +196,8 @@ by_container S s r false false e n = absurd cc
 
 in_container : (S : Shape) (s : Head) (r : Reason) (l : ℕ) (c : Content) (len : ℕ) → broken_container S l c len ≡ Some r → IsSound S s → StopsAt S r s
 in_container S s r l content.Bytes len e n = absurd cc
-in_container S s r l (content.List c) len e n = by_container S s r (ltb 65532 len) (ltb S.depth (l + 1)) e n
-in_container S s r l content.Hops len e n = by_container S s r (ltb 65532 len) (ltb S.depth (l + 2)) e n
+in_container S s r l (content.List c) len e n = by_container S s r (ltb LONGEST_CONTAINER len) (ltb S.depth (l + 1)) e n
+in_container S s r l content.Hops len e n = by_container S s r (ltb LONGEST_CONTAINER len) (ltb S.depth (l + 2)) e n
 
 stops_length : (S : Shape) (s : Head) (h : ℕ) (r : Reason) → broken_length S.order h 2 s.left ≡ Some r → least s.sort ≡ h → StopsAt S r s
 stops_length S s h r e is = by_length S s r (ltb (length s.left) h) (ltb (len_of S.order 2 s.left) h || ltb (length s.left) (len_of S.order 2 s.left)) e (λ n. clash (subst (λ x. broken_length S.order x 2 s.left ≡ None) is n)) where

@@ -2,6 +2,7 @@
 use Rattle.std.proofs.Common.{◌≡◌, ℕ, ◌+◌, ◌-◌, ◌%◌, ◌<◌, ◌≤◌, List, ◌∷◌, ◌++◌, length, replicate, refl, sym, ap, ◌∙◌, arith, inl, inr, append_assoc}
 use Rattle.std.proofs.lemmas.List.{length-replicate}
 use Rattle.std.specs.Int.{w32, cast_unsigned}
+use Rattle.nl_attr.specs.declared.limits.TheConstants.{LONGEST_ITEM}
 use Rattle.nl_attr.specs.declared.order.Order.{Order}
 use Rattle.nl_attr.specs.declared.tree.Ctx.{Ctx}
 use Rattle.nl_attr.specs.declared.tree.Ctx.TheVariants.{Route}
@@ -11,7 +12,7 @@ use Rattle.nl_attr.specs.Shape.{Shape}
 use Rattle.nl_attr.specs.Numbers.{aligned, num}
 use Rattle.nl_attr.specs.Tree.{Val, bytes, list, hops, Items, no_items, item, HopItems, no_hops, hop, holds_of}
 use Rattle.nl_attr.specs.Layout.{IsPiece, kind_number, FitsVal, Fits, FitsHops}
-use Rattle.nl_attr.specs.Written.{padded, attr_item, hop_item, written, written_val, written_hops, val_len, items_len, hops_len}
+use Rattle.nl_attr.specs.Written.{with_padding, attr_item, hop_item, written, written_val, written_hops, val_len, items_len, hops_len}
 use Rattle.nl_attr.specs.Proper.{IsMismatched, IsMismatchedVal, IsMismatchedHops, IsDeep, IsDeepVal, IsDeepHops, HasLong, HasLongVal, HasLongHops, IsProper, IsRanged, IsRangedVal, IsRangedHops}
 use Rattle.nl_attr.proofs.Lemmas.Lengths.{length-val, length-items, length-attr, length-hop}
 
@@ -19,7 +20,7 @@ gap_after : (n : ℕ) → n + (aligned n - n) ≡ aligned n
 gap_after n = omega arith
 
 -- an item as it is written is a piece
-made : (o : Order) (h : ℕ) (it body rest : List ℕ) → it ≡ num (length it) 2 o ++ body → h ≤ length it → length it ≤ 65535 → IsPiece o h 2 (padded it ++ rest) it (replicate (aligned (length it) - length it) 0) rest
+made : (o : Order) (h : ℕ) (it body rest : List ℕ) → it ≡ num (length it) 2 o ++ body → h ≤ length it → length it ≤ LONGEST_ITEM → IsPiece o h 2 (with_padding it ++ rest) it (replicate (aligned (length it) - length it) 0) rest
 made o h it body rest says low high =
     record {
       parts = append_assoc it (replicate (aligned (length it) - length it) 0) rest;
@@ -48,7 +49,7 @@ under k h = omega (arith, h)
 
 module _ (S : Shape) where
   mutual
-    writes_val : (v : Val) (c : Content) (l len : ℕ) → len ≡ 4 + val_len v → len ≤ 65535 → (IsMismatchedVal v c → ⊥) → (IsDeepVal v l S.depth → ⊥) → (HasLongVal v → ⊥) → IsRangedVal v → FitsVal S v c (written_val S.order v) len l
+    writes_val : (v : Val) (c : Content) (l len : ℕ) → len ≡ 4 + val_len v → len ≤ LONGEST_ITEM → (IsMismatchedVal v c → ⊥) → (IsDeepVal v l S.depth → ⊥) → (HasLongVal v → ⊥) → IsRangedVal v → FitsVal S v c (written_val S.order v) len l
     writes_val (bytes bs) content.Bytes l len e f m d s r = refl
     writes_val (bytes bs) (content.List c) l len e f m d s r = absurd (m tt)
     writes_val (bytes bs) content.Hops l len e f m d s r = absurd (m tt)
@@ -69,7 +70,7 @@ module _ (S : Shape) where
         let body = num (kind_number n flags) 2 S.order ++ payload in
         let len : length it ≡ 4 + length payload = length-attr S.order n flags payload in
         let size : length it ≡ 4 + val_len v = omega (arith, len, length-val S.order v) in
-        let high : length it ≤ 65535 = omega (arith, size, not_above 65535 (4 + val_len v) (λ x. s (inl x))) in
+        let high : length it ≤ LONGEST_ITEM = omega (arith, size, not_above LONGEST_ITEM (4 + val_len v) (λ x. s (inl x))) in
         let says : it ≡ num (length it) 2 S.order ++ body = ap (λ k. num k 2 S.order ++ body) (sym len) in (
           it,
           replicate (aligned (length it) - length it) 0,
@@ -90,7 +91,7 @@ module _ (S : Shape) where
         let body = flags ∷ count ∷ (num (cast_unsigned w32 index) 4 S.order ++ payload) in
         let len : length it ≡ 8 + length payload = length-hop S.order flags count index payload in
         let size : length it ≡ 8 + items_len attrs = omega (arith, len, length-items S.order attrs) in
-        let high : length it ≤ 65535 = omega (arith, size, not_above 65535 (8 + items_len attrs) (λ x. s (inl x))) in
+        let high : length it ≤ LONGEST_ITEM = omega (arith, size, not_above LONGEST_ITEM (8 + items_len attrs) (λ x. s (inl x))) in
         let says : it ≡ num (length it) 2 S.order ++ body = ap (λ k. num k 2 S.order ++ body) (sym len) in (
           it,
           replicate (aligned (length it) - length it) 0,

@@ -13,7 +13,7 @@ mod regions;
 use crate::fault::ListError;
 use crate::limits::{FARTHEST_END, LONGEST_REGION, MOST_LEVELS, Shape};
 use crate::stack::attributes::{Inner, Turn, read_attrs};
-use crate::stack::nested::{Frame, HopsWaits, read_nested, waits_for};
+use crate::stack::nested::{HopsWaits, Outer, read_nested, waits_for};
 use crate::stack::next_hops::{HopsTurn, read_hops};
 pub(crate) use crate::stack::regions::container_fault;
 use crate::stack::regions::{hops_of, keep_attr, list_of};
@@ -57,8 +57,8 @@ pub(crate) fn read_region(
                         keep_attr(&mut region.list, number, flags, Value::List(inner.list))?;
                     }
                     Turn::Opens(second) => {
-                        let frame = Frame::List(waits_for(region, opening));
-                        return read_nested(alloc, frame, inner, second, shape, visits);
+                        let outer = Outer::List(waits_for(region, opening));
+                        return read_nested(alloc, outer, inner, second, shape, visits);
                     }
                     Turn::Fails(error) => return Err(error),
                 }
@@ -71,8 +71,8 @@ pub(crate) fn read_region(
                     }
                     HopsTurn::Opens(head, inner, second) => {
                         let waits = waits_for(region, opening);
-                        let frame = Frame::Hops(waits, HopsWaits { region: hops, head });
-                        return read_nested(alloc, frame, inner, second, shape, visits);
+                        let outer = Outer::Hops(waits, HopsWaits { region: hops, head });
+                        return read_nested(alloc, outer, inner, second, shape, visits);
                     }
                     HopsTurn::Fails(error) => return Err(error),
                 }

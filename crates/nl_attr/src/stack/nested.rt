@@ -1,4 +1,4 @@
-//! Reading where a region opens in one that opened in another: by a stack of those that wait.
+//! Reading where a region opens in one that container_extent in another: by a stack of those that wait.
 
 ghost use Rattle.std.specs.Prelude.{◌≡◌, ◌≤◌, ◌+◌, suc, length, IfOk};
 ghost use Rattle.nl_attr.specs.Shape.{Shape as ShapeOf};
@@ -7,8 +7,8 @@ ghost use Rattle.nl_attr.specs.Outcomes.{IsOutcome};
 ghost use Rattle.nl_attr.specs.Reading.{and_then, more_visits};
 ghost use Rattle.nl_attr.specs.Open.{list_rest, hops_rest, opening_rest, waiting_goes_on};
 ghost use Rattle.nl_attr.specs.Open.{hops_then, goes_on, next_rest, NextGoes, list_spot, hops_spot};
-ghost use Rattle.nl_attr.specs.Open.{opening_spot, frame_spot, Holds, frame_room, room_in, IsIn};
-ghost use Rattle.nl_attr.specs.Open.{IsWithinLimits, frame_work, NextMoves, LiesUnder, PutsOn};
+ghost use Rattle.nl_attr.specs.Open.{opening_spot, outer_spot, Holds, outer_room, room_in, IsIn};
+ghost use Rattle.nl_attr.specs.Open.{IsWithinLimits, outer_work, NextMoves, LiesUnder, PutsOn};
 ghost use Rattle.arrayvec.specs.ArrayVec.{array_vec_len};
 
 use crate::fault::ListError;
@@ -42,15 +42,15 @@ pub(super) struct HopsWaits<'a> {
 
 /// What waits for the attributes of a region: the region below it, or next hops in that one.
 #[derive(Drop)]
-pub(super) enum Frame<'a> {
+pub(super) enum Outer<'a> {
     List(ListWaits<'a>),
     Hops(ListWaits<'a>, HopsWaits<'a>),
 }
 
 /// The blank that an empty place of the stack holds.
-impl<'a> MadeWith<Global> for Frame<'a> {
+impl<'a> MadeWith<Global> for Outer<'a> {
     fn made_with(alloc: Global) -> Self {
-        Frame::List(ListWaits {
+        Outer::List(ListWaits {
             region: ListRegion {
                 walk: CountedAttrs::over(&[], Order::Little),
                 ctx: Ctx::Plain,
@@ -70,8 +70,8 @@ impl<'a> MadeWith<Global> for Frame<'a> {
 /// Which region is read next.
 #[derive(Drop)]
 pub(super) enum Next<'a> {
-    /// One that opened, for which the frame waits.
-    Opens(Frame<'a>, ListRegion<'a>),
+    /// One that container_extent, for which the outer waits.
+    Opens(Outer<'a>, ListRegion<'a>),
     /// One that waited.
     Goes(ListRegion<'a>),
 }
@@ -126,7 +126,7 @@ fn go_on_hops<'a>(
         HopTurn::Ends => Ok(Next::Goes(take_value(waits, Value::Hops(hops.list))?)),
         HopTurn::Opens(head, inner) => {
             let hops = HopsWaits { region: hops, head };
-            Ok(Next::Opens(Frame::Hops(waits, hops), inner))
+            Ok(Next::Opens(Outer::Hops(waits, hops), inner))
         }
         HopTurn::Fails(error) => Err(error),
     }
@@ -153,7 +153,7 @@ fn open<'a>(
     match opening.inner {
         Inner::List(ctx) => {
             let inner = list_of(alloc, opening.payload, opening.place, ctx, level, shape)?;
-            Ok(Next::Opens(Frame::List(waits), inner))
+            Ok(Next::Opens(Outer::List(waits), inner))
         }
         Inner::Hops => {
             let hops = hops_of(alloc, opening.payload, opening.place, level, shape)?;
@@ -165,21 +165,21 @@ fn open<'a>(
 /// Collects attributes where they are waited for.
 fn close<'a>(
     alloc: Global,
-    frame: Frame<'a>,
+    outer: Outer<'a>,
     attrs: Vec<Attr>,
     shape: Shape,
     visits: &mut u64,
 ) -> Result<Next<'a>, ListError>
     requires limit { shape.depth ≤ MOST_LEVELS }
-    requires holds { Holds shape frame }
-    requires room { visits.old + (goes_on shape frame (attrs_view attrs.items)).1 ≤ MOST_VISITS }
+    requires holds { Holds shape outer }
+    requires room { visits.old + (goes_on shape outer (attrs_view attrs.items)).1 ≤ MOST_VISITS }
     ensures goes { NextGoes shape visits.old
-        (goes_on shape frame.entry (attrs_view attrs.items)) visits.new result }
-    ensures moves { NextMoves shape (frame_spot frame.entry) (frame_work frame.entry) result }
+        (goes_on shape outer.entry (attrs_view attrs.items)) visits.new result }
+    ensures moves { NextMoves shape (outer_spot outer.entry) (outer_work outer.entry) result }
 {
-    match frame {
-        Frame::List(waits) => Ok(Next::Goes(take_value(waits, Value::List(attrs))?)),
-        Frame::Hops(waits, hops) => {
+    match outer {
+        Outer::List(waits) => Ok(Next::Goes(take_value(waits, Value::List(attrs))?)),
+        Outer::Hops(waits, hops) => {
             let HopsWaits { mut region, head } = hops;
             keep_hop(&mut region.list, head, attrs)?;
             go_on_hops(alloc, waits, region, shape, visits)
@@ -188,13 +188,13 @@ fn close<'a>(
 }
 
 /// Puts what waits onto the stack, and answers the region that is read next.
-fn put_on<'a>(stack: &mut ArrayVec<Frame<'a>, 33, Global>, next: Next<'a>) -> ListRegion<'a>
+fn put_on<'a>(stack: &mut ArrayVec<Outer<'a>, 33, Global>, next: Next<'a>) -> ListRegion<'a>
     requires { array_vec_len stack.old + 1 ≤ 33 }
     ensures { PutsOn stack.old.items next.entry stack.new.items result }
 {
     match next {
-        Next::Opens(frame, region) => {
-            stack.push(frame);
+        Next::Opens(outer, region) => {
+            stack.push(outer);
             region
         }
         Next::Goes(region) => region,
@@ -205,7 +205,7 @@ fn put_on<'a>(stack: &mut ArrayVec<Frame<'a>, 33, Global>, next: Next<'a>) -> Li
 /// region in which another opens.
 pub(super) fn read_nested<'a>(
     alloc: Global,
-    outermost: Frame<'a>,
+    outermost: Outer<'a>,
     region: ListRegion<'a>,
     opening: Opening<'a>,
     shape: Shape,
@@ -223,7 +223,7 @@ pub(super) fn read_nested<'a>(
         ≤ visits.old + (and_then (opening_rest shape region.entry opening.entry)
         (goes_on shape outermost.entry)).1 }
 {
-    let mut stack: ArrayVec<Frame<'a>, 33, Global> = ArrayVec::new_in(alloc);
+    let mut stack: ArrayVec<Outer<'a>, 33, Global> = ArrayVec::new_in(alloc);
     stack.push(outermost);
     let mut top = match open(alloc, region, opening, shape, visits) {
         Ok(next) => put_on(&mut stack, next),
@@ -233,7 +233,7 @@ pub(super) fn read_nested<'a>(
         match read_attrs(alloc, &mut top, shape, visits) {
             Turn::Ends => match stack.pop() {
                 None => return Ok(top.list),
-                Some(frame) => match close(alloc, frame, top.list, shape, visits) {
+                Some(outer) => match close(alloc, outer, top.list, shape, visits) {
                     Ok(next) => top = put_on(&mut stack, next),
                     Err(error) => return Err(error),
                 },

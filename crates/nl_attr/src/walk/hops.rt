@@ -2,7 +2,7 @@
 
 ghost use Rattle.std.specs.Prelude.{◌≡◌, ◌+◌, ◌≤◌, length, Ok};
 ghost use Rattle.nl_attr.specs.Numbers.{span_of};
-ghost use Rattle.nl_attr.specs.Walk.{HeadIs, IsHopPart, IsInFront, index_of};
+ghost use Rattle.nl_attr.specs.Walk.{HeadIs, IsHopPart, IsInFront, ifindex_of};
 
 use crate::fault::Fault;
 use crate::limits::LONGEST_REGION;
@@ -11,9 +11,9 @@ use crate::walk::{head_len, span_at};
 use std::marker::Model;
 
 /// The index of the interface in the head of a next hop.
-fn index_at(order: Order, left: &[u8]) -> i32
+fn ifindex_at(order: Order, left: &[u8]) -> i32
     requires { 8 ≤ length left.now }
-    ensures { result ≡ index_of order left.now }
+    ensures { result ≡ ifindex_of order left.now }
 {
     order.read_i32(&left[4..])
 }
@@ -42,7 +42,7 @@ fn hop_part(order: Order, left: &[u8], len: usize, place: u32, span: u32) -> Hop
     HopPart {
         flags: left[2],
         hops: left[3],
-        ifindex: index_at(order, left),
+        ifindex: ifindex_at(order, left),
         place,
         span,
         rest: &left[8..len],

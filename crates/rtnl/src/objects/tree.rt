@@ -10,7 +10,7 @@ ghost use Rattle.rtnl.specs.Objects.{hop_front, hops_json, name_json, value_fiel
 use crate::objects::line::Line;
 use crate::objects::names::push_names;
 use crate::objects::values::push_reading;
-use crate::text::attributes::{Form, attribute, find};
+use crate::text::attributes::{Style, attribute, find};
 use crate::text::flags::HopFlags;
 use crate::text::tree::inner;
 use crate::text::values::read_payload;
@@ -79,7 +79,7 @@ fn push_held(
     alloc: Global,
     line: &mut Line,
     order: Order,
-    form: Form,
+    form: Style,
     net: bool,
     ctx: Ctx,
     value: &Value,

@@ -10,7 +10,7 @@ use nl_attr::Ctx;
 
 /// How a payload is printed.
 #[derive(Clone, Copy)]
-pub(crate) enum Form {
+pub(crate) enum Style {
     /// A number of 1, 2 or 4 bytes in the order of the datagram.
     U8,
     U16,
@@ -30,7 +30,7 @@ pub(crate) enum Form {
 }
 
 /// The attributes of a context.
-fn table(ctx: Ctx) -> &'static [Row<Form>]
+fn table(ctx: Ctx) -> &'static [Row<Style>]
     ensures { map row_view result.now ≡ attribute_rows ctx }
 {
     match ctx {
@@ -46,7 +46,7 @@ fn table(ctx: Ctx) -> &'static [Row<Form>]
 }
 
 /// The row of an attribute, if it has one.
-pub(crate) fn find(ctx: Ctx, number: u16) -> Option<(&'static str, Form)>
+pub(crate) fn find(ctx: Ctx, number: u16) -> Option<(&'static str, Style)>
     ensures { option_map (λ row. (row.0.now, row.1)) result ≡ find_row number (attribute_rows ctx) }
 {
     rows::find_row(table(ctx), number)
@@ -54,13 +54,13 @@ pub(crate) fn find(ctx: Ctx, number: u16) -> Option<(&'static str, Form)>
 
 /// The name of an attribute, or a dash, and how its payload is printed.
 #[tactic(auto, unfolding(crate::specs::Attributes::attribute_name, crate::specs::Attributes::attribute_form), using(crate::proofs::Short::short_name))]
-pub(crate) fn attribute(ctx: Ctx, number: u16) -> (&'static str, Form)
+pub(crate) fn attribute(ctx: Ctx, number: u16) -> (&'static str, Style)
     ensures name { result.0.now ≡ attribute_name ctx number }
     ensures form { result.1 ≡ attribute_form ctx number }
     ensures short { length result.0.now ≤ 16 }
 {
     match find(ctx, number) {
         Some(row) => row,
-        None => ("-", Form::Hex),
+        None => ("-", Style::Hex),
     }
 }

@@ -6,7 +6,7 @@ ghost use Rattle.nl_attr.specs.View.{attr_view, attrs_view, hop_view, hops_view,
 ghost use Rattle.rtnl.specs.Trees.{attr_line, deeper, flags_text, held_text, hop_line, hops_text};
 ghost use Rattle.rtnl.specs.Trees.{indented, inline_text, inner_context, items_text};
 
-use crate::text::attributes::{Form, attribute};
+use crate::text::attributes::{Style, attribute};
 use crate::text::flags::HopFlags;
 use crate::text::names::push_names;
 use crate::text::pieces::{push, push_decimal};
@@ -54,7 +54,7 @@ pub(crate) fn inner(ctx: Ctx, number: u16, flags: AttrFlags) -> Ctx
 fn push_inline(
     out: &mut Vec<u8>,
     order: Order,
-    form: Form,
+    form: Style,
     net: bool,
     value: &Value,
 ) -> Result<(), AllocError>

@@ -9,7 +9,7 @@ ghost use Rattle.rtnl.specs.Values.{ipv6_text, is_plain, is_plain_byte, reading_
 ghost use Rattle.rtnl.specs.Values.{reading_text, reading_word, stem_of, text_reading};
 ghost use Rattle.rtnl.specs.Values.{u16_reading, u32_reading, u8_reading, value_text};
 
-use crate::text::attributes::Form;
+use crate::text::attributes::Style;
 use crate::text::pieces::{push, push_decimal, push_hex};
 use crate::text::segment::Segment;
 use nl_attr::Order;
@@ -113,17 +113,17 @@ fn ip_of(bytes: &[u8]) -> Reading<'_>
 /// What a payload of this form is read as. `net` says that the attribute has the flag of the
 /// network's order.
 #[tactic(auto, unfolding(crate::specs::Values::reading_of))]
-pub(crate) fn read_payload(order: Order, form: Form, net: bool, bytes: &[u8]) -> Reading<'_>
+pub(crate) fn read_payload(order: Order, form: Style, net: bool, bytes: &[u8]) -> Reading<'_>
     ensures { reading_view result ≡ reading_of order form net bytes.entry.now }
 {
     match form {
-        Form::U8 => u8_of(net, bytes),
-        Form::U16 => u16_of(order, net, bytes),
-        Form::U32 => u32_of(order, net, bytes),
-        Form::NetworkU16 => u16_of(Order::Big, false, bytes),
-        Form::Text => text_of(bytes),
-        Form::Address => ip_of(bytes),
-        Form::Hex => Reading::Hex(bytes),
+        Style::U8 => u8_of(net, bytes),
+        Style::U16 => u16_of(order, net, bytes),
+        Style::U32 => u32_of(order, net, bytes),
+        Style::NetworkU16 => u16_of(Order::Big, false, bytes),
+        Style::Text => text_of(bytes),
+        Style::Address => ip_of(bytes),
+        Style::Hex => Reading::Hex(bytes),
     }
 }
 

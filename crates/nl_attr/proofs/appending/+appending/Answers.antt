@@ -6,7 +6,7 @@ use Rattle.nl_attr.specs.Numbers.{num}
 use Rattle.nl_attr.specs.Layout.{kind_number}
 use Rattle.nl_attr.specs.Tree.{Items, HopItems}
 use Rattle.nl_attr.specs.View.{HopFront, attrs_view, hops_view, value_view}
-use Rattle.nl_attr.specs.Written.{padded, attr_item, hop_item, written, written_val, written_hops, val_len, items_len, hops_len}
+use Rattle.nl_attr.specs.Written.{with_padding, attr_item, hop_item, written, written_val, written_hops, val_len, items_len, hops_len}
 use Rattle.nl_attr.specs.Proper.{IsSized, IsSizedHops, IsRanged, IsRangedHops}
 use Rattle.nl_attr.proofs.Lemmas.Extents.{from_place}
 use Rattle.nl_attr.proofs.Lemmas.Lengths.{length-val, length-items, length-padded_attr, length-padded_hop, item_closed, grown}
@@ -61,7 +61,7 @@ append_list-loop-attr-preserved t c =
     let xs = c.args.attrs.now in
     let x = c.attr-item.result in
     let rest = attrs_view (drop (c.loop-attr.attr-index + 1) xs) in
-    let one = padded (attr_item o x.number x.flags (written_val o (value_view x.value))) in
+    let one = with_padding (attr_item o x.number x.flags (written_val o (value_view x.value))) in
     let d = ap (λ (ys : List Attr). attrs_view ys) (from_place xs c.loop-attr.attr-index x c.loop-attr-test.true c.attr-item.is) ∙ attr_is x (drop (c.loop-attr.attr-index + 1) xs) in
     let i = c.loop-attr.invariant in
     let sized = subst (λ (ys : Items). IsSized ys) d i.sized in
@@ -84,7 +84,7 @@ append_hops-loop-hop-preserved t c =
     let h = out-Hop x in
     let rest = hops_view (drop (c.loop-hop.hop-index + 1) xs) in
     let inner = attrs_view h.attrs.items in
-    let one = padded (hop_item o h.flags h.hops h.ifindex (written o inner)) in
+    let one = with_padding (hop_item o h.flags h.hops h.ifindex (written o inner)) in
     let d = ap (λ (ys : List Hop). hops_view ys) (from_place xs c.loop-hop.hop-index x c.loop-hop-test.true c.hop-item.is) ∙ ap (λ (f : HopFront). f rest) (hop_is x) in
     let i = c.loop-hop.invariant in
     let sized = subst IsSizedHops d i.sized in

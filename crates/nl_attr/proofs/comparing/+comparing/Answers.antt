@@ -6,7 +6,7 @@ use Rattle.nl_attr.specs.Numbers.{num}
 use Rattle.nl_attr.specs.Layout.{kind_number}
 use Rattle.nl_attr.specs.Tree.{Items, HopItems}
 use Rattle.nl_attr.specs.View.{HopFront, attrs_view, hops_view, value_view}
-use Rattle.nl_attr.specs.Written.{padded, attr_item, hop_item, written, written_val, written_hops, items_len}
+use Rattle.nl_attr.specs.Written.{with_padding, attr_item, hop_item, written, written_val, written_hops, items_len}
 use Rattle.nl_attr.specs.Proper.{IsSized, IsSizedHops}
 use Rattle.nl_attr.specs.Compared.{Begins}
 use Rattle.nl_attr.proofs.Lemmas.Extents.{from_place, past_end}
@@ -21,7 +21,7 @@ begins_with-returns-in_err-len-clause-begins t c =
     let xs = c.args.attrs.now in
     let x = c.attr-item.result in
     let rest = attrs_view (drop (c.loop-attr.attr-index + 1) xs) in
-    let one = padded (attr_item o x.number x.flags (written_val o (value_view x.value))) in
+    let one = with_padding (attr_item o x.number x.flags (written_val o (value_view x.value))) in
     let d = ap (λ (ys : List Attr). attrs_view ys) (from_place xs c.loop-attr.attr-index x c.loop-attr-test.true c.attr-item.is) ∙ attr_is x (drop (c.loop-attr.attr-index + 1) xs) in
     let left = drop c.loop-attr.done c.args.bytes.now in
     let r = not_first one (written o rest) left (from one c.args.bytes.now c.loop-attr.done None c.in_err-len.ensures.begins) in
@@ -34,7 +34,7 @@ begins_with-loop-attr-preserved t c =
     let xs = c.args.attrs.now in
     let x = c.attr-item.result in
     let rest = attrs_view (drop (c.loop-attr.attr-index + 1) xs) in
-    let one = padded (attr_item o x.number x.flags (written_val o (value_view x.value))) in
+    let one = with_padding (attr_item o x.number x.flags (written_val o (value_view x.value))) in
     let d = ap (λ (ys : List Attr). attrs_view ys) (from_place xs c.loop-attr.attr-index x c.loop-attr-test.true c.attr-item.is) ∙ attr_is x (drop (c.loop-attr.attr-index + 1) xs) in
     let i = c.loop-attr.invariant in
     let sized = subst (λ (ys : Items). IsSized ys) d i.sized in
@@ -60,7 +60,7 @@ begins_with_attr-returns-in_err-inner-clause-begins t c =
     let payload = written_val o (value_view x.value) in
     let inner = from payload bytes 4 None c.in_err-inner.ensures.begins in
     let r = not_padded (attr_item o x.number x.flags payload) bytes (not_item o (4 + length payload) (kind_number x.number x.flags) payload bytes inner) in
-    subst (λ (r : Option ℕ). Begins (padded (attr_item o x.number x.flags payload)) bytes r) (sym c.from_residual-in_err-inner.ensures) r
+    subst (λ (r : Option ℕ). Begins (with_padding (attr_item o x.number x.flags payload)) bytes r) (sym c.from_residual-in_err-inner.ensures) r
 
 pub begins_with_attr-closes_item-requires-clause-short : goal.begins_with_attr-closes_item-requires-clause-short
 begins_with_attr-closes_item-requires-clause-short t c =
@@ -75,7 +75,7 @@ begins_with_hop-returns-in_err-inner-clause-begins t c =
     let inner = from payload bytes 8 None (subst (λ (ys : List Attr). Begins (written o (attrs_view ys)) (take (length bytes - 8) (drop 8 bytes)) None) c.deref.ensures.value c.in_err-inner.ensures.begins) in
     let it = hop_item o x.flags x.hops x.ifindex payload in
     let r = not_padded it bytes (not_hop_item o (8 + length payload) x.flags x.hops (cast_unsigned w32 x.ifindex) payload bytes inner) in
-    subst (λ (r : Option ℕ). Begins (padded it) bytes r) (sym c.from_residual-in_err-inner.ensures) r
+    subst (λ (r : Option ℕ). Begins (with_padding it) bytes r) (sym c.from_residual-in_err-inner.ensures) r
 
 pub begins_with_hop-closes_item-requires-clause-short : goal.begins_with_hop-closes_item-requires-clause-short
 begins_with_hop-closes_item-requires-clause-short t c =
@@ -93,7 +93,7 @@ begins_with_hop-returns-clause-begins t c =
     let tail = hop_tail o x.flags x.hops (cast_unsigned w32 x.ifindex) payload bytes c.in_ok-begins_with_hop_head.field-0 n head inner in
     let len : 8 + n ≡ 8 + length payload = ap (λ k. 8 + k) inner.0 in
     let body = x.flags ∷ x.hops ∷ (num (cast_unsigned w32 x.ifindex) 4 o ++ payload) in
-    subst (λ k. Begins (padded (num k 2 o ++ body)) bytes c.closes_item.result) len (c.closes_item.ensures.begins body (omega (arith, tail.0, len)) tail.1)
+    subst (λ k. Begins (with_padding (num k 2 o ++ body)) bytes c.closes_item.result) len (c.closes_item.ensures.begins body (omega (arith, tail.0, len)) tail.1)
 
 pub begins_with_hops-returns-in_err-len-clause-begins : goal.begins_with_hops-returns-in_err-len-clause-begins
 begins_with_hops-returns-in_err-len-clause-begins t c =
@@ -102,7 +102,7 @@ begins_with_hops-returns-in_err-len-clause-begins t c =
     let x = c.hop-item.result in
     let h = out-Hop x in
     let rest = hops_view (drop (c.loop-hop.hop-index + 1) xs) in
-    let one = padded (hop_item o h.flags h.hops h.ifindex (written o (attrs_view h.attrs.items))) in
+    let one = with_padding (hop_item o h.flags h.hops h.ifindex (written o (attrs_view h.attrs.items))) in
     let d = ap (λ (ys : List Hop). hops_view ys) (from_place xs c.loop-hop.hop-index x c.loop-hop-test.true c.hop-item.is) ∙ ap (λ (f : HopFront). f rest) (hop_is x) in
     let left = drop c.loop-hop.done c.args.bytes.now in
     let r = not_first one (written_hops o rest) left (from one c.args.bytes.now c.loop-hop.done None c.in_err-len.ensures.begins) in
@@ -116,7 +116,7 @@ begins_with_hops-loop-hop-preserved t c =
     let x = c.hop-item.result in
     let h = out-Hop x in
     let rest = hops_view (drop (c.loop-hop.hop-index + 1) xs) in
-    let one = padded (hop_item o h.flags h.hops h.ifindex (written o (attrs_view h.attrs.items))) in
+    let one = with_padding (hop_item o h.flags h.hops h.ifindex (written o (attrs_view h.attrs.items))) in
     let d = ap (λ (ys : List Hop). hops_view ys) (from_place xs c.loop-hop.hop-index x c.loop-hop-test.true c.hop-item.is) ∙ ap (λ (f : HopFront). f rest) (hop_is x) in
     let i = c.loop-hop.invariant in
     let sized = subst IsSizedHops d i.sized in

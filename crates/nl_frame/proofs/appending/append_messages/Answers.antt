@@ -1,5 +1,5 @@
 use Rattle.std.proofs.Common.{◌+◌, ◌++◌, List, ℕ, drop, map, ap, sym, subst, ◌∙◌, arith, append_assoc}
-use Rattle.nl_attr.specs.Written.{padded}
+use Rattle.nl_attr.specs.Written.{with_padding}
 use Rattle.nl_attr.proofs.Lemmas.Extents.{from_place}
 use Rattle.nl_frame.specs.Message.{MessageVal}
 use Rattle.nl_frame.specs.View.{message_view}
@@ -30,7 +30,7 @@ loop-message-preserved c =
     let xs = c.args.messages.now in
     let x = c.message-item.result in
     let rest = map message_view (drop (c.loop-message.message-index + 1) xs) in
-    let one = padded (message_item o (message_view x)) in
+    let one = with_padding (message_item o (message_view x)) in
     let d = ap (map message_view) (from_place xs c.loop-message.message-index x c.loop-message-test.true c.message-item.is) in
     let i = c.loop-message.invariant in
     let sized = subst IsSized d i.sized in

@@ -1,4 +1,5 @@
 use Rattle.std.proofs.Common.{◌≡◌, ◌≤◌, ◌+◌, ◌++◌, drop, map, vec_len, vec_capacity}
+use Rattle.nl_attr.specs.declared.limits.TheConstants.{LONGEST_REGION}
 use Rattle.nl_frame.specs.View.{message_view}
 use Rattle.nl_frame.specs.Written.{written, written_len}
 use Rattle.nl_frame.specs.Proper.{IsRanged}
@@ -8,7 +9,7 @@ use Rattle.nl_frame.proofs.appending.append_messages.Given as goal
 abbrev pub invariant-loop-message : goal.invariant-loop-message
 invariant-loop-message l = record {
   sized : IsSized (map message_view (drop l.message-index l.messages));
-  short : written_len (map message_view (drop l.message-index l.messages)) ≤ 1048576;
+  short : written_len (map message_view (drop l.message-index l.messages)) ≤ LONGEST_REGION;
   space : vec_len l.out + written_len (map message_view (drop l.message-index l.messages)) ≤ vec_capacity l.out;
   whole : l.out.items ++ written l.order (map message_view (drop l.message-index l.messages)) ≡ l.fn.out.items ++ written l.order (map message_view l.fn.messages);
   ranged : IsRanged (map message_view (drop l.message-index l.messages)) → IsRanged (map message_view l.fn.messages);

@@ -1,5 +1,5 @@
 use Rattle.std.proofs.Common.{◌+◌, ℕ, List, Option, Some, None, sym, subst, ◌∙◌, arith}
-use Rattle.nl_attr.specs.Written.{padded}
+use Rattle.nl_attr.specs.Written.{with_padding}
 use Rattle.nl_attr.specs.Compared.{Begins}
 use Rattle.nl_attr.proofs.Lemmas.Comparing.{from}
 use Rattle.nl_frame.specs.View.{body_view, message_view}
@@ -14,7 +14,7 @@ returns-in_err-len-clause-begins c =
     let m = message_view c.args.message.now in
     let bytes = c.args.bytes.now in
     let r = no_body o m bytes (from (body_written o m.body) bytes 16 None c.in_err-len.ensures.begins) in
-    subst (λ (r : Option ℕ). Begins (padded (message_item o m)) bytes r) (sym c.from_residual.ensures) r
+    subst (λ (r : Option ℕ). Begins (with_padding (message_item o m)) bytes r) (sym c.from_residual.ensures) r
 
 pub overflow_cast-header : goal.overflow_cast-header
 overflow_cast-header c = omega (arith, c.in_ok-len.ensures.begins.0, length-body c.args.order (body_view c.args.message.now.body), c.requires.short)
@@ -26,7 +26,7 @@ returns-in_err-begins_with_bytes-clause-begins c =
     let bytes = c.args.bytes.now in
     let e = c.bytes.ensures ∙ header_is o m c.in_ok-len.field-0 c.in_ok-len.ensures.begins.0 in
     let r = no_header o m bytes (subst (λ (text : List ℕ). Begins text bytes None) e c.in_err-begins_with_bytes.ensures.begins) in
-    subst (λ (r : Option ℕ). Begins (padded (message_item o m)) bytes r) (sym c.from_residual-in_err-begins_with_bytes.ensures) r
+    subst (λ (r : Option ℕ). Begins (with_padding (message_item o m)) bytes r) (sym c.from_residual-in_err-begins_with_bytes.ensures) r
 
 pub returns-in_err-gap-clause-begins : goal.returns-in_err-gap-clause-begins
 returns-in_err-gap-clause-begins c =
@@ -39,7 +39,7 @@ returns-in_err-gap-clause-begins c =
     let e = c.bytes.ensures ∙ header_is o m n body.0 in
     let head = subst (λ (text : List ℕ). Begins text bytes (Some k)) e c.in_ok-begins_with_bytes.ensures.begins in
     let r = whole_message o m bytes n k None body head (from _ bytes (16 + n) None c.in_err-gap.ensures.begins) in
-    subst (λ (r : Option ℕ). Begins (padded (message_item o m)) bytes r) (sym c.from_residual-in_err-gap.ensures) r
+    subst (λ (r : Option ℕ). Begins (with_padding (message_item o m)) bytes r) (sym c.from_residual-in_err-gap.ensures) r
 
 pub returns-clause-begins : goal.returns-clause-begins
 returns-clause-begins c =

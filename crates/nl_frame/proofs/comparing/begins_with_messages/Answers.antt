@@ -1,5 +1,5 @@
 use Rattle.std.proofs.Common.{◌+◌, drop, map, arith, ap, sym, List, ℕ, Option, Some, None, subst}
-use Rattle.nl_attr.specs.Written.{padded}
+use Rattle.nl_attr.specs.Written.{with_padding}
 use Rattle.nl_attr.specs.Compared.{Begins}
 use Rattle.nl_attr.proofs.Lemmas.Extents.{from_place, past_end}
 use Rattle.nl_attr.proofs.Lemmas.Comparing.{behind, not_first, further, all_done, from, length-from}
@@ -16,7 +16,7 @@ returns-in_err-len-clause-begins c =
     let xs = c.args.messages.now in
     let x = c.message-item.result in
     let rest = map message_view (drop (c.loop-message.message-index + 1) xs) in
-    let one = padded (message_item o (message_view x)) in
+    let one = with_padding (message_item o (message_view x)) in
     let d = ap (λ (ys : List Message). map message_view ys) (from_place xs c.loop-message.message-index x c.loop-message-test.true c.message-item.is) in
     let left = drop c.loop-message.done c.args.bytes.now in
     let r = not_first one (written o rest) left (from one c.args.bytes.now c.loop-message.done None c.in_err-len.ensures.begins) in
@@ -29,7 +29,7 @@ loop-message-preserved c =
     let xs = c.args.messages.now in
     let x = c.message-item.result in
     let rest = map message_view (drop (c.loop-message.message-index + 1) xs) in
-    let one = padded (message_item o (message_view x)) in
+    let one = with_padding (message_item o (message_view x)) in
     let d = ap (λ (ys : List Message). map message_view ys) (from_place xs c.loop-message.message-index x c.loop-message-test.true c.message-item.is) in
     let i = c.loop-message.invariant in
     let sized = subst (λ (ys : List MessageVal). AreSized ys) d i.sized in

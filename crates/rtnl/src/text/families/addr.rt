@@ -1,7 +1,7 @@
 //! The printed text of an address: its attributes, and the line of its head.
 
 use crate::objects::line::Line;
-use crate::text::attributes::Form;
+use crate::text::attributes::Style;
 use crate::text::families::HeadLine;
 use crate::text::rows::Row;
 use crate::text::segment::Segment;
@@ -9,16 +9,16 @@ use nl_route::AddrHead;
 use std::alloc::AllocError;
 
 /// The attributes `IFA` of an address.
-pub(crate) const ATTRIBUTES: &[Row<Form>] = &[
-    (1, "ADDRESS", Form::Address),
-    (2, "LOCAL", Form::Address),
-    (3, "LABEL", Form::Text),
-    (4, "BROADCAST", Form::Address),
-    (5, "ANYCAST", Form::Address),
-    (6, "CACHEINFO", Form::Hex),
-    (7, "MULTICAST", Form::Address),
-    (8, "FLAGS", Form::U32),
-    (9, "RT_PRIORITY", Form::U32),
+pub(crate) const ATTRIBUTES: &[Row<Style>] = &[
+    (1, "ADDRESS", Style::Address),
+    (2, "LOCAL", Style::Address),
+    (3, "LABEL", Style::Text),
+    (4, "BROADCAST", Style::Address),
+    (5, "ANYCAST", Style::Address),
+    (6, "CACHEINFO", Style::Hex),
+    (7, "MULTICAST", Style::Address),
+    (8, "FLAGS", Style::U32),
+    (9, "RT_PRIORITY", Style::U32),
 ];
 
 impl HeadLine for AddrHead {

@@ -2,7 +2,7 @@
 
 use crate::objects::line::Line;
 use crate::objects::names;
-use crate::text::attributes::Form;
+use crate::text::attributes::Style;
 use crate::text::families::HeadLine;
 use crate::text::flags::LinkFlags;
 use crate::text::names::push_names;
@@ -12,35 +12,35 @@ use nl_route::LinkHead;
 use std::alloc::AllocError;
 
 /// The attributes `IFLA` of a link.
-pub(crate) const ATTRIBUTES: &[Row<Form>] = &[
-    (1, "ADDRESS", Form::Hex),
-    (2, "BROADCAST", Form::Hex),
-    (3, "IFNAME", Form::Text),
-    (4, "MTU", Form::U32),
-    (5, "LINK", Form::U32),
-    (6, "QDISC", Form::Text),
-    (10, "MASTER", Form::U32),
-    (13, "TXQLEN", Form::U32),
-    (16, "OPERSTATE", Form::U8),
-    (17, "LINKMODE", Form::U8),
-    (18, "LINKINFO", Form::Hex),
-    (20, "IFALIAS", Form::Text),
-    (27, "GROUP", Form::U32),
-    (29, "EXT_MASK", Form::U32),
-    (30, "PROMISCUITY", Form::U32),
-    (31, "NUM_TX_QUEUES", Form::U32),
-    (32, "NUM_RX_QUEUES", Form::U32),
-    (33, "CARRIER", Form::U8),
-    (35, "CARRIER_CHANGES", Form::U32),
+pub(crate) const ATTRIBUTES: &[Row<Style>] = &[
+    (1, "ADDRESS", Style::Hex),
+    (2, "BROADCAST", Style::Hex),
+    (3, "IFNAME", Style::Text),
+    (4, "MTU", Style::U32),
+    (5, "LINK", Style::U32),
+    (6, "QDISC", Style::Text),
+    (10, "MASTER", Style::U32),
+    (13, "TXQLEN", Style::U32),
+    (16, "OPERSTATE", Style::U8),
+    (17, "LINKMODE", Style::U8),
+    (18, "LINKINFO", Style::Hex),
+    (20, "IFALIAS", Style::Text),
+    (27, "GROUP", Style::U32),
+    (29, "EXT_MASK", Style::U32),
+    (30, "PROMISCUITY", Style::U32),
+    (31, "NUM_TX_QUEUES", Style::U32),
+    (32, "NUM_RX_QUEUES", Style::U32),
+    (33, "CARRIER", Style::U8),
+    (35, "CARRIER_CHANGES", Style::U32),
 ];
 
 /// The attributes `IFLA_INFO` inside a link's LINKINFO.
-pub(crate) const LINK_INFO: &[Row<Form>] = &[
-    (1, "KIND", Form::Text),
-    (2, "DATA", Form::Hex),
-    (3, "XSTATS", Form::Hex),
-    (4, "SLAVE_KIND", Form::Text),
-    (5, "SLAVE_DATA", Form::Hex),
+pub(crate) const LINK_INFO: &[Row<Style>] = &[
+    (1, "KIND", Style::Text),
+    (2, "DATA", Style::Hex),
+    (3, "XSTATS", Style::Hex),
+    (4, "SLAVE_KIND", Style::Text),
+    (5, "SLAVE_DATA", Style::Hex),
 ];
 
 impl HeadLine for LinkHead {

@@ -2,7 +2,7 @@
 
 use crate::objects::line::Line;
 use crate::objects::names;
-use crate::text::attributes::Form;
+use crate::text::attributes::Style;
 use crate::text::families::HeadLine;
 use crate::text::flags::{NeighFlags, NeighState};
 use crate::text::names::push_names;
@@ -12,16 +12,16 @@ use nl_route::NeighHead;
 use std::alloc::AllocError;
 
 /// The attributes `NDA` of a neighbour.
-pub(crate) const ATTRIBUTES: &[Row<Form>] = &[
-    (1, "DST", Form::Address),
-    (2, "LLADDR", Form::Hex),
-    (3, "CACHEINFO", Form::Hex),
-    (4, "PROBES", Form::U32),
-    (5, "VLAN", Form::U16),
-    (6, "PORT", Form::NetworkU16),
-    (7, "VNI", Form::U32),
-    (8, "IFINDEX", Form::U32),
-    (9, "MASTER", Form::U32),
+pub(crate) const ATTRIBUTES: &[Row<Style>] = &[
+    (1, "DST", Style::Address),
+    (2, "LLADDR", Style::Hex),
+    (3, "CACHEINFO", Style::Hex),
+    (4, "PROBES", Style::U32),
+    (5, "VLAN", Style::U16),
+    (6, "PORT", Style::NetworkU16),
+    (7, "VNI", Style::U32),
+    (8, "IFINDEX", Style::U32),
+    (9, "MASTER", Style::U32),
 ];
 
 impl HeadLine for NeighHead {

@@ -1,7 +1,7 @@
 //! The printed text of a route: its attributes, and the line of its head.
 
 use crate::objects::line::Line;
-use crate::text::attributes::Form;
+use crate::text::attributes::Style;
 use crate::text::families::HeadLine;
 use crate::text::rows::Row;
 use crate::text::segment::Segment;
@@ -9,48 +9,48 @@ use nl_route::RouteHead;
 use std::alloc::AllocError;
 
 /// The attributes `RTA` of a route.
-pub(crate) const ATTRIBUTES: &[Row<Form>] = &[
-    (1, "DST", Form::Address),
-    (2, "SRC", Form::Address),
-    (3, "IIF", Form::U32),
-    (4, "OIF", Form::U32),
-    (5, "GATEWAY", Form::Address),
-    (6, "PRIORITY", Form::U32),
-    (7, "PREFSRC", Form::Address),
-    (8, "METRICS", Form::Hex),
-    (9, "MULTIPATH", Form::Hex),
-    (11, "FLOW", Form::U32),
-    (12, "CACHEINFO", Form::Hex),
-    (15, "TABLE", Form::U32),
-    (16, "MARK", Form::U32),
-    (18, "VIA", Form::Hex),
-    (19, "NEWDST", Form::Hex),
-    (20, "PREF", Form::U8),
-    (21, "ENCAP_TYPE", Form::U16),
-    (22, "ENCAP", Form::Hex),
-    (23, "EXPIRES", Form::U32),
-    (25, "UID", Form::U32),
-    (30, "NH_ID", Form::U32),
+pub(crate) const ATTRIBUTES: &[Row<Style>] = &[
+    (1, "DST", Style::Address),
+    (2, "SRC", Style::Address),
+    (3, "IIF", Style::U32),
+    (4, "OIF", Style::U32),
+    (5, "GATEWAY", Style::Address),
+    (6, "PRIORITY", Style::U32),
+    (7, "PREFSRC", Style::Address),
+    (8, "METRICS", Style::Hex),
+    (9, "MULTIPATH", Style::Hex),
+    (11, "FLOW", Style::U32),
+    (12, "CACHEINFO", Style::Hex),
+    (15, "TABLE", Style::U32),
+    (16, "MARK", Style::U32),
+    (18, "VIA", Style::Hex),
+    (19, "NEWDST", Style::Hex),
+    (20, "PREF", Style::U8),
+    (21, "ENCAP_TYPE", Style::U16),
+    (22, "ENCAP", Style::Hex),
+    (23, "EXPIRES", Style::U32),
+    (25, "UID", Style::U32),
+    (30, "NH_ID", Style::U32),
 ];
 
 /// The attributes `RTAX` inside a route's METRICS.
-pub(crate) const METRICS: &[Row<Form>] = &[
-    (1, "LOCK", Form::U32),
-    (2, "MTU", Form::U32),
-    (3, "WINDOW", Form::U32),
-    (4, "RTT", Form::U32),
-    (5, "RTTVAR", Form::U32),
-    (6, "SSTHRESH", Form::U32),
-    (7, "CWND", Form::U32),
-    (8, "ADVMSS", Form::U32),
-    (9, "REORDERING", Form::U32),
-    (10, "HOPLIMIT", Form::U32),
-    (11, "INITCWND", Form::U32),
-    (12, "FEATURES", Form::U32),
-    (13, "RTO_MIN", Form::U32),
-    (14, "INITRWND", Form::U32),
-    (15, "QUICKACK", Form::U32),
-    (16, "CC_ALGO", Form::Text),
+pub(crate) const METRICS: &[Row<Style>] = &[
+    (1, "LOCK", Style::U32),
+    (2, "MTU", Style::U32),
+    (3, "WINDOW", Style::U32),
+    (4, "RTT", Style::U32),
+    (5, "RTTVAR", Style::U32),
+    (6, "SSTHRESH", Style::U32),
+    (7, "CWND", Style::U32),
+    (8, "ADVMSS", Style::U32),
+    (9, "REORDERING", Style::U32),
+    (10, "HOPLIMIT", Style::U32),
+    (11, "INITCWND", Style::U32),
+    (12, "FEATURES", Style::U32),
+    (13, "RTO_MIN", Style::U32),
+    (14, "INITRWND", Style::U32),
+    (15, "QUICKACK", Style::U32),
+    (16, "CC_ALGO", Style::Text),
 ];
 
 impl HeadLine for RouteHead {

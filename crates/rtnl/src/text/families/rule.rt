@@ -1,7 +1,7 @@
 //! The printed text of a routing rule: its attributes, and the line of its head.
 
 use crate::objects::line::Line;
-use crate::text::attributes::Form;
+use crate::text::attributes::Style;
 use crate::text::families::HeadLine;
 use crate::text::rows::Row;
 use crate::text::segment::Segment;
@@ -9,16 +9,16 @@ use nl_route::RuleHead;
 use std::alloc::AllocError;
 
 /// The attributes `FRA` of a routing rule.
-pub(crate) const ATTRIBUTES: &[Row<Form>] = &[
-    (1, "DST", Form::Address),
-    (2, "SRC", Form::Address),
-    (3, "IIFNAME", Form::Text),
-    (4, "GOTO", Form::U32),
-    (6, "PRIORITY", Form::U32),
-    (10, "FWMARK", Form::U32),
-    (15, "TABLE", Form::U32),
-    (16, "FWMASK", Form::U32),
-    (17, "OIFNAME", Form::Text),
+pub(crate) const ATTRIBUTES: &[Row<Style>] = &[
+    (1, "DST", Style::Address),
+    (2, "SRC", Style::Address),
+    (3, "IIFNAME", Style::Text),
+    (4, "GOTO", Style::U32),
+    (6, "PRIORITY", Style::U32),
+    (10, "FWMARK", Style::U32),
+    (15, "TABLE", Style::U32),
+    (16, "FWMASK", Style::U32),
+    (17, "OIFNAME", Style::Text),
 ];
 
 impl HeadLine for RuleHead {

@@ -2,7 +2,7 @@ use Rattle.std.proofs.Common.{◌≡◌, ◌+◌, suc, List, [], ◌∷◌, ◌+
 use Rattle.std.specs.Option.{option_to_list}
 use Rattle.std.specs.Global.{Vec}
 use Rattle.nl_attr.specs.declared.tree.Attr.{Attr}
-use Rattle.nl_attr.specs.declared.stack.nested.Frame.{Frame}
+use Rattle.nl_attr.specs.declared.stack.nested.Outer.{Outer}
 use Rattle.nl_attr.specs.View.{attrs_view}
 use Rattle.nl_attr.specs.Open.{opening_rest, list_spot, PutsOn}
 use Rattle.nl_attr.proofs.Lemmas.Nested.{within, has_room, is_low, puts, between_room, fails_outcome, fails_visits, opens, ends, ends_all, still, nested_begins, next_moves_work, work_closes, work_opens}
@@ -12,7 +12,7 @@ pub regions-init : goal.regions-init
 regions-init c =
     let S = c.args.shape in
     let one : c.push.new.self.items ≡ c.args.outermost ∷ [] = search rules in
-    let p = subst (λ (hs : List Frame). PutsOn hs c.in-Ok.next c.put_on-top.new.stack.items c.put_on-top.result) one c.put_on-top.ensures in
+    let p = subst (λ (hs : List Outer). PutsOn hs c.in-Ok.next c.put_on-top.new.stack.items c.put_on-top.result) one c.put_on-top.ensures in
     puts c.open.new.visits (suc (length c.args.region.walk.left) + suc (length c.args.opening.payload.now)) c.in-Ok.next c.put_on-top.new.stack.items c.put_on-top.result
     (nested_begins S c.args.visits.now c.args.outermost c.args.region (opening_rest S c.args.region c.args.opening) c.requires.lies) c.in-Ok.ensures.goes c.in-Ok.ensures.moves p
 
@@ -32,36 +32,36 @@ returns-in-None-clause-bound c = omega (arith, has_room c.regions.invariant, ap 
 
 pub close-requires-clause-holds : goal.close-requires-clause-holds
 close-requires-clause-holds c =
-    (ends c.read_attrs.new.visits (attrs_view c.read_attrs.new.region.list.items) c.pop.new.self.items c.in-Some.frame c.regions.invariant (subst (λ x. c.regions.stack.items ≡ c.pop.new.self.items ++ option_to_list x) c.in-Some.is c.pop.ensures.items) c.in-Ends.ensures.goes).1
+    (ends c.read_attrs.new.visits (attrs_view c.read_attrs.new.region.list.items) c.pop.new.self.items c.in-Some.outer c.regions.invariant (subst (λ x. c.regions.stack.items ≡ c.pop.new.self.items ++ option_to_list x) c.in-Some.is c.pop.ensures.items) c.in-Ends.ensures.goes).1
 
 pub close-requires-clause-room : goal.close-requires-clause-room
 close-requires-clause-room c =
-    let b = ends c.read_attrs.new.visits (attrs_view c.read_attrs.new.region.list.items) c.pop.new.self.items c.in-Some.frame c.regions.invariant (subst (λ x. c.regions.stack.items ≡ c.pop.new.self.items ++ option_to_list x) c.in-Some.is c.pop.ensures.items) c.in-Ends.ensures.goes in
+    let b = ends c.read_attrs.new.visits (attrs_view c.read_attrs.new.region.list.items) c.pop.new.self.items c.in-Some.outer c.regions.invariant (subst (λ x. c.regions.stack.items ≡ c.pop.new.self.items ++ option_to_list x) c.in-Some.is c.pop.ensures.items) c.in-Ends.ensures.goes in
     omega (arith, between_room b.0, c.requires.room)
 
 pub put_on-top-requires-in-Ok-close : goal.put_on-top-requires-in-Ok-close
 put_on-top-requires-in-Ok-close c =
     let low = is_low c.regions.invariant c.requires.limit in
     let fewer = ap length (subst (λ x. c.regions.stack.items ≡ c.pop.new.self.items ++ option_to_list x) c.in-Some.is c.pop.ensures.items) in
-    omega (arith, low, fewer, length-append c.pop.new.self.items (c.in-Some.frame ∷ []))
+    omega (arith, low, fewer, length-append c.pop.new.self.items (c.in-Some.outer ∷ []))
 
 pub regions-smaller-in-Ok-close : goal.regions-smaller-in-Ok-close
 regions-smaller-in-Ok-close c =
-    work_closes c.regions.stack.items c.pop.new.self.items c.regions.top c.in-Some.frame c.in-Ok-close.next c.put_on-top-in-Ok-close.new.stack.items c.put_on-top-in-Ok-close.result (subst (λ x. c.regions.stack.items ≡ c.pop.new.self.items ++ option_to_list x) c.in-Some.is c.pop.ensures.items) c.put_on-top-in-Ok-close.ensures (next_moves_work _ _ _ c.in-Ok-close.next c.in-Ok-close.ensures.moves)
+    work_closes c.regions.stack.items c.pop.new.self.items c.regions.top c.in-Some.outer c.in-Ok-close.next c.put_on-top-in-Ok-close.new.stack.items c.put_on-top-in-Ok-close.result (subst (λ x. c.regions.stack.items ≡ c.pop.new.self.items ++ option_to_list x) c.in-Some.is c.pop.ensures.items) c.put_on-top-in-Ok-close.ensures (next_moves_work _ _ _ c.in-Ok-close.next c.in-Ok-close.ensures.moves)
 
 pub regions-preserved-in-Ok-close : goal.regions-preserved-in-Ok-close
 regions-preserved-in-Ok-close c =
-    let b = ends c.read_attrs.new.visits (attrs_view c.read_attrs.new.region.list.items) c.pop.new.self.items c.in-Some.frame c.regions.invariant (subst (λ x. c.regions.stack.items ≡ c.pop.new.self.items ++ option_to_list x) c.in-Some.is c.pop.ensures.items) c.in-Ends.ensures.goes in
+    let b = ends c.read_attrs.new.visits (attrs_view c.read_attrs.new.region.list.items) c.pop.new.self.items c.in-Some.outer c.regions.invariant (subst (λ x. c.regions.stack.items ≡ c.pop.new.self.items ++ option_to_list x) c.in-Some.is c.pop.ensures.items) c.in-Ends.ensures.goes in
     puts c.close.new.visits _ c.in-Ok-close.next c.put_on-top-in-Ok-close.new.stack.items c.put_on-top-in-Ok-close.result b.0 c.in-Ok-close.ensures.goes c.in-Ok-close.ensures.moves c.put_on-top-in-Ok-close.ensures
 
 pub returns-in-Err-close-clause-outcome : goal.returns-in-Err-close-clause-outcome
 returns-in-Err-close-clause-outcome c =
-    let b = ends c.read_attrs.new.visits (attrs_view c.read_attrs.new.region.list.items) c.pop.new.self.items c.in-Some.frame c.regions.invariant (subst (λ x. c.regions.stack.items ≡ c.pop.new.self.items ++ option_to_list x) c.in-Some.is c.pop.ensures.items) c.in-Ends.ensures.goes in
+    let b = ends c.read_attrs.new.visits (attrs_view c.read_attrs.new.region.list.items) c.pop.new.self.items c.in-Some.outer c.regions.invariant (subst (λ x. c.regions.stack.items ≡ c.pop.new.self.items ++ option_to_list x) c.in-Some.is c.pop.ensures.items) c.in-Ends.ensures.goes in
     fails_outcome (λ (v : Vec Attr). attrs_view v.items) c.close.new.visits c.in-Err-close.error b.0 c.in-Err-close.ensures.goes
 
 pub returns-in-Err-close-clause-bound : goal.returns-in-Err-close-clause-bound
 returns-in-Err-close-clause-bound c =
-    let b = ends c.read_attrs.new.visits (attrs_view c.read_attrs.new.region.list.items) c.pop.new.self.items c.in-Some.frame c.regions.invariant (subst (λ x. c.regions.stack.items ≡ c.pop.new.self.items ++ option_to_list x) c.in-Some.is c.pop.ensures.items) c.in-Ends.ensures.goes in
+    let b = ends c.read_attrs.new.visits (attrs_view c.read_attrs.new.region.list.items) c.pop.new.self.items c.in-Some.outer c.regions.invariant (subst (λ x. c.regions.stack.items ≡ c.pop.new.self.items ++ option_to_list x) c.in-Some.is c.pop.ensures.items) c.in-Ends.ensures.goes in
     fails_visits c.close.new.visits c.in-Err-close.error b.0 c.in-Err-close.ensures.goes
 
 pub open-requires-in-Opens-clause-room : goal.open-requires-in-Opens-clause-room
