@@ -53,8 +53,9 @@ fn answer(fault: Option<Fault>, count: usize) -> Result<usize, ScanError>
 /// heads of its attributes and next hops. It takes no memory.
 ///
 /// It answers how many heads there are, which may be more than `out` has room for, and how many
-/// attribute bytes were visited. It refuses what `read_datagram` refuses: nothing is put where the
-/// datagram is above the datagram limit; at the first fault the heads up to it have been put.
+/// attribute bytes were visited. It refuses as `read_datagram` does, but never for memory: nothing
+/// is put where the datagram is above the datagram limit; at the first fault the events up to it
+/// have been put.
 #[inline(always)]
 pub fn tape_datagram(bytes: &[u8], limits: &Limits, out: &mut [Event]) -> Tally<usize, ScanError>
     ensures scans { ScansDatagram limits.now bytes.now result }

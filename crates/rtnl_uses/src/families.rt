@@ -14,7 +14,7 @@ ghost use Rattle.nl_route.specs.Views.{number_view, text_view};
 ghost use Rattle.nl_route.specs.declared.ifinfomsg.LinkHead.{LinkHead};
 
 use nl_attr::{Depth, LONGEST_REGION, ListError};
-use nl_route::Link;
+use nl_route::{IFLA_IFNAME, IFLA_MTU, Link};
 use std::alloc::Global;
 
 /// What a link is called, and its greatest packet in bytes.
@@ -31,8 +31,8 @@ pub fn read_named(alloc: Global, body: &[u8], depth: Depth) -> Result<Named, Lis
     // They are those of the first `IFLA_IFNAME` and the first `IFLA_MTU` of the body.
     ensures named { IfOk result (λ n. (head : LinkHead) × (attrs : Items)
         × IsFamilyBody (shape_of Order.Little depth) 16 (link_fields head) Ctx.Link attrs body.now
-        × (option_map (λ v. v.items) n.name ≡ text_view 3 attrs)
-        × (n.mtu ≡ number_view Order.Little 4 4 attrs)) }
+        × (option_map (λ v. v.items) n.name ≡ text_view IFLA_IFNAME attrs)
+        × (n.mtu ≡ number_view Order.Little 4 IFLA_MTU attrs)) }
     // A fault is the one at the least place.
     ensures first { IfErr result (λ e. IfLayout e (λ fault.
         IsFirstFault (shape_of Order.Little depth)

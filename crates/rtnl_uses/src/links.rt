@@ -1,11 +1,11 @@
 //! The first caller: what a recording in memory says of links.
 
 ghost use Rattle.std.specs.Prelude.{◌≡◌, ◌<◌, ℕ, length, Err};
-ghost use Rattle.rtnl.specs.Lines.{datagrams, longest_input};
+ghost use Rattle.rtnl.specs.Lines.{datagrams};
 
 use crate::datagrams::mtu_of;
 use nl_frame::{Body, Limits, Message, ReadError, read_datagram};
-use rtnl::{RunError, datagrams};
+use rtnl::{LONGEST_INPUT, RunError, datagrams};
 use std::alloc::{AllocError, Global};
 use thiserror::Error;
 
@@ -33,7 +33,7 @@ impl From<AllocError> for LinksError {
     }
 }
 
-/// Adds the name and the MTU of each link that messages tell of.
+/// Adds the name and the MTU of each link in messages.
 fn push_links(
     alloc: Global,
     links: &mut Vec<(Vec<u8>, Option<u32>)>,
@@ -60,18 +60,15 @@ pub fn links_of(
         → datagrams recording.now ≡ Err number }
     // It is a read fault only where the recording is too long.
     ensures read_fault { result ≡ Err (LinksError.Recording RunError.ReadFault)
-        → longest_input < length recording.now }
+        → LONGEST_INPUT < length recording.now }
 {
-    let found = match datagrams(alloc, recording) {
-        Ok(found) => found,
-        Err(error) => return Err(LinksError::Recording(error)),
-    };
+    let found = datagrams(alloc, recording).map_err(LinksError::Recording)?;
     let mut links = Vec::new(alloc);
     for datagram in found.iter() {
-        match read_datagram(alloc, datagram, limits).into_result() {
-            Ok(messages) => push_links(alloc, &mut links, messages.as_slice(), limits)?,
-            Err(error) => return Err(LinksError::Datagram(error)),
-        }
+        let messages = read_datagram(alloc, datagram, limits)
+            .into_result()
+            .map_err(LinksError::Datagram)?;
+        push_links(alloc, &mut links, messages.as_slice(), limits)?;
     }
     Ok(links)
 }
