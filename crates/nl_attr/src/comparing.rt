@@ -15,6 +15,7 @@ use crate::appending::kind_field;
 use crate::limits::LONGEST_ITEM;
 use crate::order::Order;
 use crate::tree::{Attr, Hop, NUMBERS, Value};
+use crate::walk::align4;
 
 /// How long a text is with which bytes begin; none where they don't begin with it.
 pub fn begins_with_bytes(text: &[u8], bytes: &[u8]) -> Option<usize>
@@ -48,7 +49,7 @@ fn closes_item(len: usize, order: Order, bytes: &[u8]) -> Option<usize>
     ensures within { IfSome result (λ n. n ≤ length bytes.now) }
 {
     begins_with_bytes(&order.u16_bytes(len as u16), bytes)?;
-    let gap = begins_with_zeros((len + 3) / 4 * 4 - len, &bytes[len..])?;
+    let gap = begins_with_zeros(align4(len as u32) as usize - len, &bytes[len..])?;
     Some(len + gap)
 }
 

@@ -14,7 +14,7 @@ ghost use Rattle.nl_frame.specs.Measured.{IsSizedBody};
 
 use crate::body::{Body, Message};
 use crate::header::Header;
-use nl_attr::{LONGEST_REGION, Order, begins_with_bytes, begins_with_zeros};
+use nl_attr::{LONGEST_REGION, Order, align4, begins_with_bytes, begins_with_zeros};
 use nl_route::match_family;
 
 /// A front, and the bytes behind it.
@@ -97,7 +97,7 @@ fn begins_with_message(message: &Message, order: Order, bytes: &[u8]) -> Option<
         port: message.port,
     };
     begins_with_bytes(&header.bytes(order), bytes)?;
-    let gap = begins_with_zeros((len + 3) / 4 * 4 - len, &bytes[len..])?;
+    let gap = begins_with_zeros(align4(len as u32) as usize - len, &bytes[len..])?;
     Some(len + gap)
 }
 

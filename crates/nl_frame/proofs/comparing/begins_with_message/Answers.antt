@@ -19,6 +19,12 @@ returns-in_err-len-clause-begins c =
 pub overflow_cast-header : goal.overflow_cast-header
 overflow_cast-header c = omega (arith, c.in_ok-len.ensures.begins.0, length-body c.args.order (body_view c.args.message.now.body), c.requires.short)
 
+pub overflow_cast-len : goal.overflow_cast-len
+overflow_cast-len c = omega (arith, c.in_ok-len.ensures.begins.0, length-body c.args.order (body_view c.args.message.now.body), c.requires.short)
+
+pub align4-requires : goal.align4-requires
+align4-requires c = omega (arith, c.in_ok-len.ensures.begins.0, length-body c.args.order (body_view c.args.message.now.body), c.requires.short)
+
 pub returns-in_err-begins_with_bytes-clause-begins : goal.returns-in_err-begins_with_bytes-clause-begins
 returns-in_err-begins_with_bytes-clause-begins c =
     let o = c.args.order in
@@ -38,7 +44,7 @@ returns-in_err-gap-clause-begins c =
     let body = from (body_written o m.body) bytes 16 (Some n) c.in_ok-len.ensures.begins in
     let e = c.bytes.ensures ∙ header_is o m n body.0 in
     let head = subst (λ (text : List ℕ). Begins text bytes (Some k)) e c.in_ok-begins_with_bytes.ensures.begins in
-    let r = whole_message o m bytes n k None body head (from _ bytes (16 + n) None c.in_err-gap.ensures.begins) in
+    let r = whole_message o m bytes n k None body head (from _ bytes (16 + n) None (rw c.align4.ensures at c.in_err-gap.ensures.begins)) in
     subst (λ (r : Option ℕ). Begins (with_padding (message_item o m)) bytes r) (sym c.from_residual-in_err-gap.ensures) r
 
 pub returns-clause-begins : goal.returns-clause-begins
@@ -51,4 +57,4 @@ returns-clause-begins c =
     let body = from (body_written o m.body) bytes 16 (Some n) c.in_ok-len.ensures.begins in
     let e = c.bytes.ensures ∙ header_is o m n body.0 in
     let head = subst (λ (text : List ℕ). Begins text bytes (Some k)) e c.in_ok-begins_with_bytes.ensures.begins in
-    whole_message o m bytes n k (Some c.in_ok-gap.gap) body head (from _ bytes (16 + n) (Some c.in_ok-gap.gap) c.in_ok-gap.ensures.begins)
+    whole_message o m bytes n k (Some c.in_ok-gap.gap) body head (from _ bytes (16 + n) (Some c.in_ok-gap.gap) (rw c.align4.ensures at c.in_ok-gap.ensures.begins))
