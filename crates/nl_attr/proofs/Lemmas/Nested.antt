@@ -1,5 +1,6 @@
 -- Reading with a stack of open regions, one turn after the other.
-use Rattle.std.proofs.Common.{◌≡◌, ℕ, suc, ◌+◌, ◌-◌, ◌*◌, ◌<◌, ◌≤◌, List, [], ◌∷◌, ◌++◌, length, Ok, Err, refl, sym, ap, subst, ◌∙◌, arith}
+use Rattle.std.proofs.Common.{◌≡◌, ℕ, suc, ◌+◌, ◌-◌, ◌*◌, ◌<◌, ◌≤◌, List, [], ◌∷◌, ◌++◌, length, Result, Ok, Err, refl, sym, ap, subst, ◌∙◌, arith}
+use Rattle.std.specs.Prelude.{IsErrAnd}
 use Rattle.std.proofs.Math.Nat.{mul-le-mul_left}
 use Rattle.nl_attr.specs.declared.limits.TheConstants.{LONGEST_REGION, MOST_VISITS}
 use Rattle.nl_attr.specs.declared.fault.Fault.{Fault}
@@ -151,6 +152,11 @@ module _ {S : Shape} {start : Room} {whole : Outcome Items} {n : ℕ} {fs : List
   fails_outcome view m (Layout f) i e = between_fault m f i e
   fails_outcome view m Memory i e = tt
 
+  -- and one that is handed on
+  pub fails_on : {X : Type 0} (view : X → Items) (m : ℕ) (r : Result X ListError) (e : ListError) → IsErrAnd r (λ f. f ≡ e) → IsBetween S start whole n fs o s → FailsAs n o m e → IsOutcome view r m whole
+  fails_on view m (Ok x) e h i f = absurd h
+  fails_on view m (Err d) e h i f = subst (λ g. IsOutcome view (Err g) m whole) (sym h) (fails_outcome view m e i f)
+
   pub fails_visits : (m : ℕ) (e : ListError) → IsBetween S start whole n fs o s → FailsAs n o m e → m ≤ whole.1
   fails_visits m (Layout f) i e = omega (arith, ap (λ (p : Outcome Items). p.1) (between_fault m f i e))
   fails_visits m Memory i e = omega (arith, e, between_room i)
@@ -200,7 +206,7 @@ room_of s = record { level = s.level; to = s.base + spot_end s }
 pub lies_first : (S : Shape) (s : Spot) → IsWithinLimits S s → IsIn S (room_of s) s
 lies_first S s limits = record { level = refl; inside = omega arith; limits = limits }
 
--- the region that waits for this one was read to where it container_extent
+-- the region that waits for this one was read to where it opened
 pub nested_begins : (S : Shape) (n : ℕ) (f : Outer) (r : ListRegion) (o : Outcome Items) → LiesUnder S f r → IsBetween S (room_of (outer_spot f)) (more_visits n (and_then o (goes_on S f))) n (f ∷ []) o (list_spot r)
 nested_begins S n f r o l = record { same = refl; nests = (lies_first S (outer_spot f) l.limits, l.holds, l.inside) }
 

@@ -66,7 +66,7 @@ module _ (S : Shape) (p : Part) (r s : ListRegion) (i : Inner) where
       )
   turn_moves (turn.Fails e) w g is t b l = tt
 
--- what container_extent is a region of attributes, or one of next hops
+-- what opened is a region of attributes, or one of next hops
 pub opening_list : (S : Shape) (r : ListRegion) (p : Opening) (c : Ctx) (a : ListRegion) → p.inner ≡ inner.List c → list_rest S a ≡ items_of_region S c (r.level + 1) p.place p.payload.now → opening_rest S r p ≡ and_then (list_rest S a) (λ is. list_goes_on S r p.number p.flags (list is))
 opening_list S r p c a e rest =
     ap (λ (i : Inner). and_then (value_at S (content_in i) r.level p.place p.payload.now) (list_goes_on S r p.number p.flags)) e

@@ -225,23 +225,21 @@ pub(super) fn read_nested<'a>(
 {
     let mut stack: ArrayVec<Outer<'a>, 33, Global> = ArrayVec::new_in(alloc);
     stack.push(outermost);
-    let mut top = match open(alloc, region, opening, shape, visits) {
-        Ok(next) => put_on(&mut stack, next),
-        Err(error) => return Err(error),
-    };
+    let next = open(alloc, region, opening, shape, visits)?;
+    let mut top = put_on(&mut stack, next);
     'regions: loop {
         match read_attrs(alloc, &mut top, shape, visits) {
             Turn::Ends => match stack.pop() {
                 None => return Ok(top.list),
-                Some(outer) => match close(alloc, outer, top.list, shape, visits) {
-                    Ok(next) => top = put_on(&mut stack, next),
-                    Err(error) => return Err(error),
-                },
+                Some(outer) => {
+                    let next = close(alloc, outer, top.list, shape, visits)?;
+                    top = put_on(&mut stack, next);
+                }
             },
-            Turn::Opens(opening) => match open(alloc, top, opening, shape, visits) {
-                Ok(next) => top = put_on(&mut stack, next),
-                Err(error) => return Err(error),
-            },
+            Turn::Opens(opening) => {
+                let next = open(alloc, top, opening, shape, visits)?;
+                top = put_on(&mut stack, next);
+            }
             Turn::Fails(error) => return Err(error),
         }
     }
