@@ -92,7 +92,7 @@ crates/rtnl_cli/src/explain.rt 1'
 
 same 'the count of a reading is handed on, never made' \
   "$(lines '\b(let|if|for|while)\b.*\bvisits\b' "${stack[@]}" "$reading" |
-    grep -vE ' match (region\.walk\.step\(|[a-z_]+\([^()]*, )visits\) \{$')" \
+    grep -vE ' match (region\.walk\.step\(|[a-z_]+\([^()]*, )visits\) \{$| let next = (open|close)\([^()]*, visits\)\?;$')" \
   "$reading:    let mut visits: u64 = 0;
 $reading:    let result = read_region(alloc, bytes, base, ctx, level, shape, &mut visits);"
 
@@ -104,7 +104,7 @@ same 'those who read regions look at none of their bytes' \
   "$(lines '\b(bytes|payload|rest|left|region)(\[|\.(iter|get|first|last|split|chunks|windows|copied|to_))' \
     "${stack[@]}" "$reading")" ''
 
-same 'lengths and types of attributes and next hops are read by the walkers alone, but for a length that is told' \
+same 'lengths and types of attributes and next hops are read by the walkers alone, but for the length in the head of a fault' \
   "$(counts 'read_u16\(')" \
   'crates/nl_attr/src/broken.rt 1
 crates/nl_attr/src/order.rt 3
