@@ -164,7 +164,7 @@ pub record IsWithinLimits (S : Shape) (s : Spot) : Type 0 where
   pub size : spot_end s ≤ LONGEST_REGION
   pub place : s.base + spot_end s ≤ FARTHEST_END
 
--- where a region may be container_extent: at this level, up to this place
+-- where a region may be opened: at this level, up to this place
 pub record Room : Type 0 where
   pub level : ℕ
   pub to : ℕ
@@ -178,7 +178,7 @@ pub record IsIn (S : Shape) (r : Room) (s : Spot) : Type 0 where
 abbrev pub room_in : Spot → Room
 room_in s = record { level = s.level + 1; to = s.base + s.region.place }
 
--- the region of attributes that waits in a outer
+-- the region of attributes that waits among the outer ones
 abbrev pub outer_spot : Outer → Spot
 outer_spot (outer.List w) = list_spot w.region
 outer_spot (outer.Hops w h) = list_spot w.region
@@ -188,7 +188,7 @@ abbrev pub Holds : Shape → Outer → Type 0
 Holds S (outer.List w) = Unit {0}
 Holds S (outer.Hops w h) = IsIn S (room_in (list_spot w.region)) (hops_spot h.region)
 
--- where the region lies for which a outer waits
+-- where the region lies for which outer ones wait
 abbrev pub outer_room : Outer → Room
 outer_room (outer.List w) = room_in (list_spot w.region)
 outer_room (outer.Hops w h) = room_in (hops_spot h.region)
@@ -244,7 +244,7 @@ pub record LiesUnder (S : Shape) (f : Outer) (r : ListRegion) : Type 0 where
   pub holds : Holds S f
   pub inside : IsIn S (outer_room f) (list_spot r)
 
--- the outer is on the stack where there is one, and this region is read next
+-- the outer ones are on the stack where there are any, and this region is read next
 abbrev pub PutsOn : List Outer → Next → List Outer → ListRegion → Type 0
 PutsOn fs (next.Opens f r) gs top = (gs ≡ fs ++ f ∷ []) × (top ≡ r)
 PutsOn fs (next.Goes r) gs top = (gs ≡ fs) × (top ≡ r)

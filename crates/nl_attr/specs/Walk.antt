@@ -121,12 +121,14 @@ EachLies Lies (Ok p ∷ ps) = Lies p × EachLies Lies ps
 EachLies Lies (Err f ∷ ps) = EachLies Lies ps
 
 -- a walk over these bytes by parts with a place, a span and a payload
-pub record IsWalkOver {P : Type 0} (h : ℕ) (Is : P → Region → Type 0) (place_of spanned : P → ℕ) (payload : P → List ℕ) (o : Order) (bytes : List ℕ) (w : Region) : Type 0 where
+pub record IsWalkOver {P : Type 0} (h : ℕ) (Is : P → Region → Type 0) (place_of spanned : P → ℕ) (payload : P → List ℕ)
+    (o : Order) (bytes : List ℕ) (w : Region) : Type 0 where
   pub start : w ≡ record { order = o; place = 0; left = bytes }
   -- what comes is the pieces of the bytes in their order, then the fault of what is no piece
   pub walk : (parts : List (Result P Fault)) → Drains (Gives h Is) w parts → IsWalk h Is o 0 bytes parts
   -- they lie in the bytes, and so do their payloads
-  pub inside : (parts : List (Result P Fault)) (rest : Region) → Yields (Gives h Is) w parts rest → EachLies (λ p. LiesIn bytes h (place_of p) (spanned p) (payload p)) parts
+  pub inside : (parts : List (Result P Fault)) (rest : Region) → Yields (Gives h Is) w parts rest
+      → EachLies (λ p. LiesIn bytes h (place_of p) (spanned p) (payload p)) parts
   -- where the walk stands then is the sum of their spans
   pub seen : (parts : List (Result P Fault)) (rest : Region) → Yields (Gives h Is) w parts rest → rest.place ≡ spans_of spanned parts
 

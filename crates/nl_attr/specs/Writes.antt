@@ -11,7 +11,8 @@ use Rattle.nl_attr.specs.Written.{written as bytes_of, items_len}
 use Rattle.nl_attr.specs.Proper.{IsRefused}
 
 -- what is refused, how many bytes are written and which, and what holds of them
-pub record Writes (Refused : WriteError → Type 0) (len : ℕ) (bytes : List ℕ) (Again : Type 0) (old new : Vec ℕ) (r : Result (Unit {0}) WriteError) : Type 0 where
+pub record Writes (Refused : WriteError → Type 0) (len : ℕ) (bytes : List ℕ) (Again : Type 0)
+    (old new : Vec ℕ) (r : Result (Unit {0}) WriteError) : Type 0 where
   pub mismatch : (r ≡ Err Mismatch) ↔ Refused Mismatch
   pub deep : (r ≡ Err TooDeep) ↔ Refused TooDeep
   pub long : (r ≡ Err TooLong) ↔ Refused TooLong

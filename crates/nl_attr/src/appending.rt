@@ -139,8 +139,8 @@ fn append_hop(hop: &Hop, order: Order, out: &mut Vec<u8>)
     requires sized { IsSized (attrs_view (out-Hop hop.now).attrs.items) }
     requires space { vec_len out.old + aligned
         (8 + items_len (attrs_view (out-Hop hop.now).attrs.items)) ≤ vec_capacity out.old }
-    ensures items { out.new.items
-        ≡ out.old.items ++ with_padding (hop_item order (out-Hop hop.now).flags (out-Hop hop.now).hops
+    ensures items { out.new.items ≡ out.old.items
+        ++ with_padding (hop_item order (out-Hop hop.now).flags (out-Hop hop.now).hops
         (out-Hop hop.now).ifindex (written order (attrs_view (out-Hop hop.now).attrs.items))) }
     ensures room { vec_capacity out.old ≤ vec_capacity out.new }
     ensures ranged { FitsSigned w32 (out-Hop hop.now).ifindex

@@ -128,9 +128,9 @@ pub fn begins_with(attrs: &[Attr], order: Order, bytes: &[u8]) -> Option<usize>
 fn begins_with_hop(hop: &Hop, order: Order, bytes: &[u8]) -> Option<usize>
     requires short { 8 + items_len (attrs_view (out-Hop hop.now).attrs.items) ≤ LONGEST_ITEM }
     requires sized { IsSized (attrs_view (out-Hop hop.now).attrs.items) }
-    ensures begins { Begins (with_padding (hop_item order (out-Hop hop.now).flags (out-Hop hop.now).hops
-        (out-Hop hop.now).ifindex (written order (attrs_view (out-Hop hop.now).attrs.items))))
-        bytes.now result }
+    ensures begins { Begins (with_padding (hop_item order
+        (out-Hop hop.now).flags (out-Hop hop.now).hops (out-Hop hop.now).ifindex
+        (written order (attrs_view (out-Hop hop.now).attrs.items)))) bytes.now result }
     ensures within { IfSome result (λ n. n ≤ length bytes.now) }
 {
     if bytes.len() < 8 {

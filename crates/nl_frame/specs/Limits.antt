@@ -16,4 +16,5 @@ bounds_of order depth datagram total entries = record { shape = shape_of order d
 
 -- each is in its range
 abbrev pub AreLimits : Bounds → Type 0
-AreLimits b = (b.shape.depth ≤ MOST_LEVELS) × (b.datagram % 4 ≡ 0) × (16 ≤ b.datagram) × (b.datagram ≤ LONGEST_REGION) × (b.total ≤ 2 ^ 40) × (b.entries ≤ 65536)
+AreLimits b = (b.shape.depth ≤ MOST_LEVELS) × (b.datagram % 4 ≡ 0) × (16 ≤ b.datagram) × (b.datagram ≤ LONGEST_REGION)
+    × (b.total ≤ 2 ^ 40) × (b.entries ≤ 65536)

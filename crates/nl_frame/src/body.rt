@@ -128,7 +128,8 @@ fn read_family(
     requires least { head_size group ≤ length bytes.now }
     requires size { length bytes.now ≤ LONGEST_REGION }
     requires place { base + length bytes.now ≤ FARTHEST_END }
-    ensures outcome { HasOutcome body_view result (family_body_at limits.now.shape group base bytes.now) }
+    ensures outcome { HasOutcome body_view result
+        (family_body_at limits.now.shape group base bytes.now) }
     ensures bound { result.visits ≤ (limits.now.shape.depth + 1) * length bytes.now }
 {
     let depth = limits.depth();
@@ -148,7 +149,8 @@ impl Body {
         requires least { least_body form ≤ length bytes.now }
         requires size { length bytes.now ≤ LONGEST_REGION }
         requires place { base + length bytes.now ≤ FARTHEST_END }
-        ensures outcome { HasOutcome body_view result (body_at limits.now.shape form base bytes.now) }
+        ensures outcome { HasOutcome body_view result
+            (body_at limits.now.shape form base bytes.now) }
         ensures bound { result.visits ≤ (limits.now.shape.depth + 1) * length bytes.now }
     {
         let order = limits.order();

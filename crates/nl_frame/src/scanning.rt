@@ -48,8 +48,8 @@ fn answer(fault: Option<Fault>, count: usize) -> Result<usize, ScanError>
     }
 }
 
-/// Scans a datagram, as `read_datagram` reads it, and puts the event of each head into `out`, in the
-/// order of their places and as far as `out` goes: each message's header, and behind it the
+/// Scans a datagram, as `read_datagram` reads it, and puts the event of each head into `out`, in
+/// the order of their places and as far as `out` goes: each message's header, and behind it the
 /// heads of its attributes and next hops. It takes no memory.
 ///
 /// It answers how many heads there are, which may be more than `out` has room for, and how many

@@ -13,4 +13,5 @@ module _ (o : Order) where
   abbrev pub route_key_fields : RouteHead → Items → List KeyField
   route_key_fields h is =
       byte h.family ∷ byte h.dst_len ∷ bytes (bytes_view RTA_DST is) ∷ byte h.src_len ∷ bytes (bytes_view RTA_SRC is) ∷ byte h.tos
-      ∷ number 4 (table_id o RTA_TABLE h.table is) ∷ number 4 (number_at o RTA_PRIORITY is) ∷ byte h.sort ∷ number 4 (number_at o RTA_OIF is) ∷ bytes (bytes_view RTA_GATEWAY is) ∷ []
+      ∷ number 4 (table_id o RTA_TABLE h.table is) ∷ number 4 (number_at o RTA_PRIORITY is) ∷ byte h.sort
+      ∷ number 4 (number_at o RTA_OIF is) ∷ bytes (bytes_view RTA_GATEWAY is) ∷ []

@@ -2,7 +2,8 @@
 
 ghost use Rattle.std.specs.Prelude.{◌≡◌};
 ghost use Rattle.nl_frame.specs.Form.{form_of};
-ghost use Rattle.rtnl_c.specs.Numbers.{context_in, context_number, family_answer, holds_answer, held};
+ghost use Rattle.rtnl_c.specs.Numbers.{context_in, context_number};
+ghost use Rattle.rtnl_c.specs.Numbers.{family_answer, holds_answer, held};
 
 use nl_attr::{AttrFlags, Content, Ctx, SORT_BYTES, SORT_HOPS, SORT_LIST, holds};
 use nl_frame::Form;

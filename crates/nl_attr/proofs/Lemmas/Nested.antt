@@ -57,7 +57,7 @@ abbrev pub Nests : Shape → Room → List Outer → Spot → Type 0
 Nests S r [] t = IsIn S r t
 Nests S r (f ∷ fs) t = IsIn S r (outer_spot f) × Holds S f × Nests S (outer_room f) fs t
 
--- a outer takes a level at least
+-- those that wait take a level at least
 room_level : (S : Shape) (r : Room) (f : Outer) → IsIn S r (outer_spot f) → Holds S f → r.level + 1 ≤ (outer_room f).level
 room_level S r (outer.List w) i h = omega (arith, i.level)
 room_level S r (outer.Hops w k) i h = omega (arith, i.level, h.level)

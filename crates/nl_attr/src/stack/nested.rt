@@ -1,4 +1,4 @@
-//! Reading where a region opens in one that container_extent in another: by a stack of those that wait.
+//! Reading where a region opens in one that opened in another: by a stack of those that wait.
 
 ghost use Rattle.std.specs.Prelude.{◌≡◌, ◌≤◌, ◌+◌, suc, length, IfOk};
 ghost use Rattle.nl_attr.specs.Shape.{Shape as ShapeOf};
@@ -70,7 +70,7 @@ impl<'a> MadeWith<Global> for Outer<'a> {
 /// Which region is read next.
 #[derive(Drop)]
 pub(super) enum Next<'a> {
-    /// One that container_extent, for which the outer waits.
+    /// One that opened, for which the outer ones wait.
     Opens(Outer<'a>, ListRegion<'a>),
     /// One that waited.
     Goes(ListRegion<'a>),
