@@ -13,6 +13,7 @@ use Rattle.nl_attr.specs.Heads.{Sort, attr_head, hop_head, Head, HeadAt, least, 
 abbrev pub length_said : Order → ℕ → ℕ → List ℕ → Option ℕ
 length_said o h w left = if nat_lt (length left) h then None else Some (len_of o w left)
 
+-- what a caller is answered for the sort of a head
 abbrev pub head_kind : Sort → HeadKind
 head_kind attr_head = Attribute
 head_kind hop_head = NextHop

@@ -8,6 +8,7 @@ use Rattle.nl_attr.specs.declared.fault.ListError.TheVariants.{Layout, Memory}
 use Rattle.nl_attr.specs.declared.fault.WriteError.{WriteError}
 use Rattle.nl_attr.specs.declared.fault.WriteError.TheVariants as unwritten
 
+-- of a broken rule
 abbrev pub reason_code : Reason → ℕ
 reason_code Cut = 1
 reason_code BadLength = 2
@@ -19,10 +20,12 @@ reason_code TooDeep = 5
 abbrev pub fault_code : Fault → ℕ
 fault_code f = reason_code f.reason
 
+-- of a list that was not read
 abbrev pub list_code : ListError → ℕ
 list_code (Layout f) = fault_code f
 list_code Memory = 13
 
+-- of a list that was not written
 abbrev pub write_code : WriteError → ℕ
 write_code unwritten.Mismatch = 11
 write_code unwritten.TooDeep = 5

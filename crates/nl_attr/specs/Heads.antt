@@ -14,6 +14,7 @@ use Rattle.nl_attr.specs.Numbers.{aligned, len_of, kind_of, span_of}
 use Rattle.nl_attr.specs.Walk.{flags_of, broken_length, payload_of}
 use Rattle.nl_attr.specs.Tree.{holds_of}
 
+-- the head of an attribute, rtattr of 4 bytes, or of a next hop, rtnexthop of 8
 pub data Sort : Type 0 where
   attr_head : Sort
   hop_head : Sort
@@ -26,6 +27,7 @@ pub record Head : Type 0 where
   pub level : ℕ
   pub left : List ℕ
 
+-- how many bytes a head of this sort has
 abbrev pub least : Sort → ℕ
 least attr_head = 4
 least hop_head = 8
@@ -36,13 +38,16 @@ opens content.Bytes = 0
 opens (content.List c) = 1
 opens content.Hops = 2
 
+-- what the attribute at the front holds, by its context, its number and its flags
 abbrev pub content_at : Order → Ctx → List ℕ → Content
 content_at o ctx left = holds_of ctx (kind_of o left % NUMBERS) (flags_of (kind_of o left))
 
+-- the first rule where it is broken, else the second
 abbrev pub or_else : Option Reason → Option Reason → Option Reason
 or_else None s = s
 or_else (Some r) s = Some r
 
+-- the first head of the region that a payload is, where the attribute holds one
 abbrev pub inner_in : Content → ℕ → ℕ → List ℕ → Option Head
 inner_in content.Bytes place l payload = None
 inner_in (content.List c) place l payload = Some (record { place = place; sort = attr_head; ctx = c; level = l; left = payload })
@@ -59,6 +64,7 @@ module _ (S : Shape) where
   broken_container l (content.List c) len = if nat_lt LONGEST_CONTAINER len then Some TooLong else (if nat_lt S.depth (l + 1) then Some TooDeep else None)
   broken_container l content.Hops len = if nat_lt LONGEST_CONTAINER len then Some TooLong else (if nat_lt S.depth (l + 2) then Some TooDeep else None)
 
+  -- the first rule that the head at the front of a region breaks
   abbrev pub broken_in : Ctx → ℕ → Sort → List ℕ → Option Reason
   broken_in ctx l hop_head left = broken_length S.order 8 2 left
   broken_in ctx l attr_head left = or_else (broken_length S.order 4 2 left) (broken_container l (content_at S.order ctx left) (len_of S.order 2 left))
@@ -71,6 +77,7 @@ module _ (S : Shape) where
   abbrev pub len_at : Head → ℕ
   len_at h = len_of S.order 2 h.left
 
+  -- how many bytes the item of a head occupies, its padding as far as present
   abbrev pub span_at : Head → ℕ
   span_at h = span_of S.order 2 h.left
 
@@ -82,6 +89,7 @@ module _ (S : Shape) where
   abbrev pub follower : Head → Head
   follower h = record h { place = h.place + span_at h; left = drop (span_at h) h.left }
 
+  -- the first head of the region in the item at the front, where there is one
   abbrev pub inner_at : Sort → ℕ → Ctx → ℕ → List ℕ → Option Head
   inner_at attr_head place ctx l left = inner_in (content_at S.order ctx left) (place + 4) (l + 1) (payload_of S.order 4 2 left)
   inner_at hop_head place ctx l left = inner_in (content.List Route) (place + 8) (l + 1) (payload_of S.order 8 2 left)

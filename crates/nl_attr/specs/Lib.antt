@@ -4,6 +4,7 @@ pub mod Walk
 pub mod Tree
 pub mod Layout
 pub mod Heads
+pub mod Region
 pub mod Visits
 pub mod Reading
 pub mod View

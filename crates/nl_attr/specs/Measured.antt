@@ -23,6 +23,7 @@ abbrev pub item_len : ℕ → Option ℕ → Option ℕ
 item_len h None = None
 item_len h (Some n) = if nat_lt LONGEST_ITEM (h + n) then None else Some (aligned (h + n))
 
+-- what an empty list measures
 abbrev pub empty_extent : Extent
 empty_extent = record { deep = false; len = Some 0 }
 
@@ -43,6 +44,7 @@ container_extent n room None = None
 container_extent n room (Some e) = Some (record { deep = nat_lt room n || e.deep; len = e.len })
 
 abbrev mutual
+  -- a value, of an attribute that holds this
   pub extent_of_val : Val → Content → ℕ → Option Extent
   extent_of_val (bytes bs) content.Bytes room = Some (record { deep = false; len = Some (length bs) })
   extent_of_val (bytes bs) (content.List c) room = None
@@ -60,6 +62,7 @@ abbrev mutual
   extent_of (item n flags v more) ctx room =
       join (if nat_lt (NUMBERS - 1) n then None else extent_of_item 4 (extent_of_val v (holds_of ctx n flags) room)) (extent_of more ctx room)
 
+  -- next hops that may open so many levels
   pub extent_of_hops : HopItems → ℕ → Option Extent
   extent_of_hops no_hops room = Some empty_extent
   extent_of_hops (hop flags count index attrs more) room = join (extent_of_item 8 (extent_of attrs Route (room - 1))) (extent_of_hops more room)

@@ -18,6 +18,7 @@ abbrev pub num : ℕ → ℕ → Order → List ℕ
 num n w Little = le n w
 num n w Big = reverse (le n w)
 
+-- each number of the list is below 256
 abbrev pub AreBytes : List ℕ → Type 0
 AreBytes bytes = (i : ℕ) → slice_index bytes i < 256
 

@@ -1,17 +1,14 @@
 -- Open regions: what is left to read of them, and how they lie in one another.
-use Rattle.std.specs.Prelude.{◌≡◌, ◌+◌, ◌<◌, ◌≤◌, ℕ, suc, List, [], ◌∷◌, ◌++◌, length, map, Option, Some, None, Result, Ok, Err}
+use Rattle.std.specs.Prelude.{◌≡◌, ◌+◌, ◌<◌, ◌≤◌, ℕ, suc, List, [], ◌∷◌, ◌++◌, length, map, Some, None, Result, Ok, Err}
 use Rattle.nl_attr.specs.declared.limits.TheConstants.{LONGEST_REGION, FARTHEST_END}
 use Rattle.nl_attr.specs.declared.fault.ListError.{ListError}
 use Rattle.nl_attr.specs.declared.fault.ListError.TheVariants.{Layout, Memory}
 use Rattle.nl_attr.specs.declared.tree.AttrFlags.{AttrFlags}
-use Rattle.nl_attr.specs.declared.tree.Content.{Content}
-use Rattle.nl_attr.specs.declared.tree.Content.TheVariants as content
 use Rattle.nl_attr.specs.declared.walk.attrs.Part.{Part}
 use Rattle.nl_attr.specs.declared.stack.regions.ListRegion.{ListRegion}
 use Rattle.nl_attr.specs.declared.stack.regions.HopsRegion.{HopsRegion}
 use Rattle.nl_attr.specs.declared.stack.regions.HopHead.{HopHead}
-use Rattle.nl_attr.specs.declared.stack.attributes.Inner.{Inner}
-use Rattle.nl_attr.specs.declared.stack.attributes.Inner.TheVariants as inner
+use Rattle.nl_attr.specs.declared.region.Parts.{Parts}
 use Rattle.nl_attr.specs.declared.stack.attributes.Opening.{Opening}
 use Rattle.nl_attr.specs.declared.stack.attributes.Turn.{Turn}
 use Rattle.nl_attr.specs.declared.stack.attributes.Turn.TheVariants as turn
@@ -29,6 +26,7 @@ use Rattle.nl_attr.specs.Walk.{Region}
 use Rattle.nl_attr.specs.Tree.{Val, list, hops, Items, item, HopItems, hop}
 use Rattle.nl_attr.specs.View.{attr_view, hop_view, attrs_view, hops_view}
 use Rattle.nl_attr.specs.Heads.{Sort, attr_head, hop_head, broken_container}
+use Rattle.nl_attr.specs.Region.{content_in, sort_in}
 use Rattle.nl_attr.specs.Reading.{Outcome, and_then, map_value, more_visits, items_of_region, hops_of_region, value_at}
 
 -- ---- what is left to read
@@ -38,29 +36,23 @@ abbrev pub before : {A : Type 0} → List (A → A) → A → A
 before [] is = is
 before (f ∷ fs) is = f (before fs is)
 
-abbrev pub content_in : Inner → Content
-content_in (inner.List c) = content.List c
-content_in inner.Hops = content.Hops
-
-abbrev pub HasInner : Content → Option Inner → Type 0
-HasInner c None = c ≡ content.Bytes
-HasInner c (Some i) = c ≡ content_in i
-
 -- an attribute that holds a region: it opens, or breaks a rule of containers
-abbrev pub TurnsAt : Shape → ℕ → ℕ → Part → Inner → Turn → Type 0
-TurnsAt S level base p i turn.Ends = ⊥
-TurnsAt S level base p i (turn.Opens o) =
-    (o ≡ record { number = p.number; flags = p.flags; place = base + p.place + 4; payload = p.payload; inner = i })
-    × (broken_container S level (content_in i) (length p.payload.now + 4) ≡ None)
-TurnsAt S level base p i (turn.Fails (Layout f)) =
+abbrev pub TurnsAt : Shape → ℕ → ℕ → Part → Parts → Turn → Type 0
+TurnsAt S level base p parts turn.Ends = ⊥
+TurnsAt S level base p parts (turn.Opens o) =
+    (o ≡ record { number = p.number; flags = p.flags; place = base + p.place + 4; payload = p.payload; parts = parts })
+    × (broken_container S level (content_in parts) (length p.payload.now + 4) ≡ None)
+TurnsAt S level base p parts (turn.Fails (Layout f)) =
     (f.place ≡ base + p.place)
-    × (broken_container S level (content_in i) (length p.payload.now + 4) ≡ Some f.reason)
-TurnsAt S level base p i (turn.Fails Memory) = ⊥
+    × (broken_container S level (content_in parts) (length p.payload.now + 4) ≡ Some f.reason)
+TurnsAt S level base p parts (turn.Fails Memory) = ⊥
 
 module _ (S : Shape) where
+  -- what is read of the rest of a region of attributes
   abbrev pub items_left : ListRegion → Outcome Items
   items_left r = items_of_region S r.ctx r.level (r.base + r.walk.place) r.walk.left
 
+  -- of a region of next hops
   abbrev pub hops_left : HopsRegion → Outcome HopItems
   hops_left r = hops_of_region S r.level (r.base + r.walk.place) r.walk.left
 
@@ -68,6 +60,7 @@ module _ (S : Shape) where
   abbrev pub list_rest : ListRegion → Outcome Items
   list_rest r = map_value (before (map attr_view r.list.items)) (items_left r)
 
+  -- the same of an open region of next hops
   abbrev pub hops_rest : HopsRegion → Outcome HopItems
   hops_rest r = map_value (before (map hop_view r.list.items)) (hops_left r)
 
@@ -75,13 +68,15 @@ module _ (S : Shape) where
   abbrev pub list_goes_on : ListRegion → ℕ → AttrFlags → Val → Outcome Items
   list_goes_on r number flags v = map_value (λ is. before (map attr_view r.list.items) (item number flags v is)) (items_left r)
 
+  -- next hops that wait go on with the attributes of the one that they wait for
   abbrev pub hops_go_on : HopsRegion → HopHead → Items → Outcome HopItems
   hops_go_on r h is = map_value (λ hs. before (map hop_view r.list.items) (hop h.flags h.hops h.ifindex is hs)) (hops_left r)
 
   -- what opens in a region is read to its end, and then the region
   abbrev pub opening_rest : ListRegion → Opening → Outcome Items
-  opening_rest r p = and_then (value_at S (content_in p.inner) r.level p.place p.payload.now) (list_goes_on r p.number p.flags)
+  opening_rest r p = and_then (value_at S (content_in p.parts) r.level p.place p.payload.now) (list_goes_on r p.number p.flags)
 
+  -- a region that waits goes on with this value
   abbrev pub waiting_goes_on : ListWaits → Val → Outcome Items
   waiting_goes_on w v = list_goes_on w.region w.number w.flags v
 
@@ -94,6 +89,7 @@ module _ (S : Shape) where
   goes_on (outer.List w) is = waiting_goes_on w (list is)
   goes_on (outer.Hops w h) is = hops_then w (hops_go_on h.region h.head is)
 
+  -- what comes next is read to its end, and then what waits for it
   abbrev pub next_rest : Next → Outcome Items
   next_rest (next.Opens f r) = and_then (list_rest r) (goes_on f)
   next_rest (next.Goes r) = list_rest r
@@ -132,9 +128,11 @@ pub record Spot : Type 0 where
   pub level : ℕ
   pub region : Region
 
+-- where an open region of attributes is
 abbrev pub list_spot : ListRegion → Spot
 list_spot r = record { sort = attr_head; base = r.base; level = r.level; region = r.walk }
 
+-- where one of next hops is
 abbrev pub hops_spot : HopsRegion → Spot
 hops_spot r = record { sort = hop_head; base = r.base; level = r.level; region = r.walk }
 
@@ -142,13 +140,11 @@ hops_spot r = record { sort = hop_head; base = r.base; level = r.level; region =
 abbrev pub spot_of : Shape → Sort → ℕ → ℕ → List ℕ → Spot
 spot_of S sort base level left = record { sort = sort; base = base; level = level; region = record { order = S.order; place = 0; left = left } }
 
-abbrev pub sort_in : Inner → Sort
-sort_in (inner.List c) = attr_head
-sort_in inner.Hops = hop_head
-
+-- where the region in an attribute is, of which nothing is read
 abbrev pub opening_spot : Shape → ListRegion → Opening → Spot
-opening_spot S r p = spot_of S (sort_in p.inner) p.place (r.level + 1) p.payload.now
+opening_spot S r p = spot_of S (sort_in p.parts) p.place (r.level + 1) p.payload.now
 
+-- where a region ends, counted from its base
 abbrev pub spot_end : Spot → ℕ
 spot_end s = s.region.place + length s.region.left
 
@@ -169,6 +165,7 @@ pub record Room : Type 0 where
   pub level : ℕ
   pub to : ℕ
 
+-- a region is opened there, within the limits
 pub record IsIn (S : Shape) (r : Room) (s : Spot) : Type 0 where
   pub level : s.level ≡ r.level
   pub inside : s.base + spot_end s ≤ r.to
@@ -198,6 +195,7 @@ abbrev pub outer_work : Outer → ℕ
 outer_work (outer.List w) = suc (length w.region.walk.left)
 outer_work (outer.Hops w h) = suc (length w.region.walk.left) + suc (length h.region.walk.left)
 
+-- the same of what comes next
 abbrev pub next_work : Next → ℕ
 next_work (next.Opens f r) = outer_work f + suc (length r.walk.left)
 next_work (next.Goes r) = suc (length r.walk.left)

@@ -15,6 +15,7 @@ IsOutcome view (Ok x) v o = o ≡ (Ok (view x), v)
 IsOutcome view (Err (Layout f)) v o = o ≡ (Err f, v)
 IsOutcome view (Err Memory) v o = Unit {0}
 
+-- the same of a result with its visits
 abbrev pub HasOutcome : {X Y : Type 0} → (X → Y) → Tally X ListError → Outcome Y → Type 0
 HasOutcome view t o = IsOutcome view t.result t.visits o
 

@@ -13,6 +13,7 @@ use Rattle.nl_attr.specs.Tree.{Val, bytes, list, hops, Items, no_items, item, Ho
 use Rattle.nl_attr.specs.Written.{val_len, items_len, hops_len}
 
 abbrev mutual
+  -- a value of another kind than its attribute holds, or one with such a value in it
   pub IsMismatchedVal : Val → Content → Type 0
   IsMismatchedVal (bytes bs) content.Bytes = ⊥
   IsMismatchedVal (bytes bs) (content.List c) = Unit {0}
@@ -34,6 +35,7 @@ abbrev mutual
   IsMismatchedHops (hop flags count index attrs more) = IsMismatched attrs Route ⊎ IsMismatchedHops more
 
 abbrev mutual
+  -- a value that opens a level above the depth D, of an attribute at level l
   pub IsDeepVal : Val → ℕ → ℕ → Type 0
   IsDeepVal (bytes bs) l D = ⊥
   IsDeepVal (list is) l D = (D < l + 1) ⊎ IsDeep is (l + 1) D
@@ -57,6 +59,7 @@ abbrev pub IsLongItem : ℕ → Type 0
 IsLongItem len = LONGEST_ITEM < len
 
 abbrev mutual
+  -- something in a value is too long
   pub HasLongVal : Val → Type 0
   HasLongVal (bytes bs) = ⊥
   HasLongVal (list is) = IsLongRegion (items_len is) ⊎ HasLong is
@@ -93,6 +96,7 @@ abbrev pub IsRefused : Items → Ctx → ℕ → WriteError → Type 0
 IsRefused is ctx D = Refusal (IsMismatched is ctx) (IsDeep is 0 D) (IsLong is)
 
 abbrev mutual
+  -- each index of an interface in a value has 32 bits
   pub IsRangedVal : Val → Type 0
   IsRangedVal (bytes bs) = Unit {0}
   IsRangedVal (list is) = IsRanged is
@@ -108,6 +112,7 @@ abbrev mutual
   IsRangedHops (hop flags count index attrs more) = FitsSigned w32 index × IsRanged attrs × IsRangedHops more
 
 abbrev mutual
+  -- each number and each length in a value fits its field
   pub IsSizedVal : Val → Type 0
   IsSizedVal (bytes bs) = Unit {0}
   IsSizedVal (list is) = IsSized is

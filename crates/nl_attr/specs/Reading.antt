@@ -19,10 +19,12 @@ use Rattle.nl_attr.specs.Heads.{attr_head, hop_head, broken_in, broken_container
 abbrev pub Outcome : Type 0 → Type 0
 Outcome A = Result A Fault × ℕ
 
+-- the one and then the other, where the first meets no fault
 abbrev pub and_then : {A B : Type 0} → Outcome A → (A → Outcome B) → Outcome B
 and_then (Ok x, v) f = ((f x).0, v + (f x).1)
 and_then (Err e, v) f = (Err e, v)
 
+-- what was read, made into something else
 abbrev pub map_value : {A B : Type 0} → (A → B) → Outcome A → Outcome B
 map_value f (Ok x, v) = (Ok (f x), v)
 map_value f (Err e, v) = (Err e, v)
@@ -31,18 +33,20 @@ map_value f (Err e, v) = (Err e, v)
 abbrev pub more_visits : {A : Type 0} → ℕ → Outcome A → Outcome A
 more_visits n o = (o.0, n + o.1)
 
--- the span of a head whose length is sound
-abbrev pub counted : Reason → ℕ → ℕ
-counted Cut n = 0
-counted BadLength n = 0
-counted ShortBody n = n
-counted TooLong n = n
-counted TooDeep n = n
+-- how many bytes of an item of this span are visited where its head breaks this rule: none where its length is not sound
+abbrev pub fault_visits : Reason → ℕ → ℕ
+fault_visits Cut n = 0
+fault_visits BadLength n = 0
+fault_visits ShortBody n = n
+fault_visits TooLong n = n
+fault_visits TooDeep n = n
 
-abbrev pub checked : ℕ → ℕ → Option Reason → Outcome (Unit {0})
-checked place span None = (Ok tt, span)
-checked place span (Some r) = (Err (record { place = place; reason = r }), counted r span)
+-- a look at the head of an item of this span: the item is visited, or the head breaks this rule
+abbrev pub look_at : ℕ → ℕ → Option Reason → Outcome (Unit {0})
+look_at place span None = (Ok tt, span)
+look_at place span (Some r) = (Err (record { place = place; reason = r }), fault_visits r span)
 
+-- the value of an attribute that holds this: its payload, or what is read of the region that this is
 abbrev pub value_by : Content → List ℕ → (Ctx → Outcome Items) → (Unit {0} → Outcome HopItems) → Outcome Val
 value_by content.Bytes payload is hs = (Ok (bytes payload), 0)
 value_by (content.List c) payload is hs = map_value list (is c)
@@ -51,22 +55,24 @@ value_by content.Hops payload is hs = map_value hops (hs tt)
 module _ (S : Shape) where
   -- The number bounds the items. The length of the region is enough.
   unfoldable mutual
+    -- the attributes that are read of the bytes that are left of a region, from this place on
     pub items_at : ℕ → Ctx → ℕ → ℕ → List ℕ → Outcome Items
     items_at zero ctx l place left = (Ok no_items, 0)
     items_at (suc n) ctx l place [] = (Ok no_items, 0)
     items_at (suc n) ctx l place (b ∷ bs) =
-        and_then (checked place (span_of S.order 2 (b ∷ bs)) (broken_in S ctx l attr_head (b ∷ bs))) (λ _.
+        and_then (look_at place (span_of S.order 2 (b ∷ bs)) (broken_in S ctx l attr_head (b ∷ bs))) (λ _.
         and_then (value_by (content_at S.order ctx (b ∷ bs)) (payload_of S.order 4 2 (b ∷ bs))
         (λ c. items_at n c (l + 1) (place + 4) (payload_of S.order 4 2 (b ∷ bs)))
         (λ _. hops_at n (l + 1) (place + 4) (payload_of S.order 4 2 (b ∷ bs)))) (λ v.
         map_value (item (kind_of S.order (b ∷ bs) % NUMBERS) (flags_of (kind_of S.order (b ∷ bs))) v)
         (items_at n ctx l (place + span_of S.order 2 (b ∷ bs)) (drop (span_of S.order 2 (b ∷ bs)) (b ∷ bs)))))
 
+    -- the next hops that are read of them
     pub hops_at : ℕ → ℕ → ℕ → List ℕ → Outcome HopItems
     hops_at zero l place left = (Ok no_hops, 0)
     hops_at (suc n) l place [] = (Ok no_hops, 0)
     hops_at (suc n) l place (b ∷ bs) =
-        and_then (checked place (span_of S.order 2 (b ∷ bs)) (broken_in S Route l hop_head (b ∷ bs))) (λ _.
+        and_then (look_at place (span_of S.order 2 (b ∷ bs)) (broken_in S Route l hop_head (b ∷ bs))) (λ _.
         and_then (items_at n Route (l + 1) (place + 8) (payload_of S.order 8 2 (b ∷ bs))) (λ is.
         map_value (hop (slice_index (b ∷ bs) 2) (slice_index (b ∷ bs) 3) (ifindex_of S.order (b ∷ bs)) is)
         (hops_at n l (place + span_of S.order 2 (b ∷ bs)) (drop (span_of S.order 2 (b ∷ bs)) (b ∷ bs)))))
@@ -85,5 +91,5 @@ module _ (S : Shape) where
   -- an attribute behind its head, in front of others
   abbrev pub attr_at : Ctx → ℕ → ℕ → ℕ → AttrFlags → List ℕ → Outcome (Items → Items)
   attr_at ctx l place n flags payload =
-      and_then (checked place 0 (broken_container S l (holds_of ctx n flags) (length payload + 4))) (λ _.
+      and_then (look_at place 0 (broken_container S l (holds_of ctx n flags) (length payload + 4))) (λ _.
       map_value (λ v more. item n flags v more) (value_at (holds_of ctx n flags) l (place + 4) payload))

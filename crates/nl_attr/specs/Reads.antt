@@ -14,6 +14,7 @@ use Rattle.nl_attr.specs.Reading.{items_of_region}
 use Rattle.nl_attr.specs.Outcomes.{HasOutcome, IfLayout, VisitsUpTo}
 use Rattle.nl_attr.specs.Kept.{kept}
 
+-- what was read of a region, or why it was not, and the visits
 pub record ReadsList (S : Shape) (ctx : Ctx) (l place : ℕ) (bytes : List ℕ) (t : Tally (Vec Attr) ListError) : Type 0 where
   -- what is read, or the fault, and the visits are those of a reading from left to right
   pub outcome : HasOutcome (λ v. attrs_view v.items) t (items_of_region S ctx l place bytes)

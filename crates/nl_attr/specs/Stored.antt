@@ -3,6 +3,7 @@ use Rattle.std.specs.Prelude.{ℕ, ◌≤◌, List, take}
 use Rattle.nl_attr.specs.declared.payload.Store.{Store}
 use Rattle.nl_attr.specs.declared.payload.Store.TheVariants.{Inline, Heap}
 
+-- the first bytes of a buffer in place, or those of a vector
 abbrev pub stored : Store → List ℕ
 stored (Inline len buffer) = take len buffer
 stored (Heap v) = v.items

@@ -4,40 +4,23 @@ use Rattle.nl_attr.specs.declared.events.Event.{Event}
 use Rattle.nl_attr.specs.declared.events.TheConstants.{SORT_BYTES}
 use Rattle.nl_attr.specs.declared.order.Order.{Order}
 use Rattle.nl_attr.specs.declared.taping.Taped.{Taped}
-use Rattle.nl_attr.specs.declared.taping.fronts.Kind.{Kind}
-use Rattle.nl_attr.specs.declared.taping.fronts.Kind.TheVariants as kind
-use Rattle.nl_attr.specs.declared.taping.fronts.OpenRegion.{OpenRegion}
 use Rattle.nl_attr.specs.declared.taping.fronts.AttrFront.{AttrFront}
 use Rattle.nl_attr.specs.declared.taping.fronts.HopFront.{HopFront}
 use Rattle.nl_attr.specs.declared.taping.steps.Turn.{Turn}
 use Rattle.nl_attr.specs.declared.taping.steps.Turn.TheVariants as turn
-use Rattle.nl_attr.specs.declared.tree.Ctx.{Ctx}
 use Rattle.nl_attr.specs.declared.tree.Ctx.TheVariants.{Route}
 use Rattle.nl_attr.specs.Shape.{Shape}
 use Rattle.nl_attr.specs.Numbers.{kind_of, span_of}
 use Rattle.nl_attr.specs.Walk.{flags_of, payload_of}
-use Rattle.nl_attr.specs.Heads.{Sort, attr_head, hop_head, Head, start_of, broken, follower, inner_of}
+use Rattle.nl_attr.specs.Heads.{hop_head, Head, start_of, broken, follower, inner_of}
+use Rattle.nl_attr.specs.Region.{head_of}
 use Rattle.nl_attr.specs.Trail.{trail_of, event_of, put_from, stopped, visits_of, fault_of}
-
--- ---- regions
-
-abbrev pub sort_in : Kind → Sort
-sort_in (kind.Attrs c) = attr_head
-sort_in kind.Hops = hop_head
-
-abbrev pub ctx_in : Kind → Ctx
-ctx_in (kind.Attrs c) = c
-ctx_in kind.Hops = Route
-
--- the head with which what is left of a region begins
-abbrev pub head_of : OpenRegion → Head
-head_of r = record { place = r.place; sort = sort_in r.kind; ctx = ctx_in r.kind; level = r.level; left = r.left.now }
 
 -- the head with which a region of next hops begins
 abbrev pub hops_start : ℕ → ℕ → List ℕ → Head
 hops_start l place left = record { place = place; sort = hop_head; ctx = Route; level = l; left = left }
 
--- ---- what stands at the front of one
+-- ---- what stands at the front of a region
 
 -- the attribute of this head, whose event says that it holds bytes
 pub record IsAttrFront (o : Order) (h : Head) (a : AttrFront) : Type 0 where

@@ -22,6 +22,7 @@ use Rattle.nl_attr.specs.Visits.{spans}
 abbrev pub TrailOf : Type 0 → Type 0
 TrailOf H = List H × Option (ℕ × Reason)
 
+-- the heads of a region, and the fault behind them
 abbrev pub Trail : Type 0
 Trail = TrailOf Head
 
@@ -98,6 +99,7 @@ attr_event place l n flags sort len = record { place = place; len = len; number 
 abbrev pub hop_event : ℕ → ℕ → ℕ → Event
 hop_event place l len = record { place = place; len = len; number = 0; level = l; sort = SORT_NEXT_HOP; nested = false; net = false }
 
+-- the event of a head, by its sort
 abbrev pub event_at : Order → Sort → Head → Event
 event_at o attr_head h =
     let k = kind_of o h.left in

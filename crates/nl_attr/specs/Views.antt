@@ -14,6 +14,7 @@ pub record Entry : Type 0 where
   pub flags : AttrFlags
   pub value : Val
 
+-- an attribute of the program, as clauses see it
 abbrev pub entry_of : Attr → Entry
 entry_of a = record { number = a.number; flags = a.flags; value = value_view a.value }
 
@@ -22,6 +23,7 @@ abbrev pub first_of : Items → ℕ → Option Entry
 first_of no_items number = None
 first_of (item n flags v more) number = if n == number then Some (record { number = n; flags = flags; value = v }) else first_of more number
 
+-- the bytes of a value that holds bytes
 abbrev pub bytes_in : Val → Option (List ℕ)
 bytes_in (bytes bs) = Some bs
 bytes_in (list is) = None
@@ -32,6 +34,7 @@ abbrev pub first_number : Order → ℕ → Option (List ℕ) → Option ℕ
 first_number o w None = None
 first_number o w (Some bs) = if nat_lt (length bs) w then None else Some (number_of o w bs)
 
+-- the number in the first w bytes of a value, where it has as many
 abbrev pub number_in : Order → ℕ → Val → Option ℕ
 number_in o w v = first_number o w (bytes_in v)
 
@@ -40,5 +43,6 @@ abbrev pub before_zero : Option (List ℕ) → Option (List ℕ)
 before_zero None = None
 before_zero (Some bs) = Some (before_first (λ b. b == 0) bs)
 
+-- the text of a value that holds bytes
 abbrev pub text_in : Val → Option (List ℕ)
 text_in v = before_zero (bytes_in v)

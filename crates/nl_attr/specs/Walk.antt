@@ -41,6 +41,7 @@ module _ (o : Order) where
   abbrev pub payload_of : ℕ → ℕ → List ℕ → List ℕ
   payload_of h w left = drop h (take (len_of o w left) left)
 
+-- the two flag bits of a type field
 abbrev pub flags_of : ℕ → AttrFlags
 flags_of kind = record { nested = kind / NLA_F_NESTED == 1; net = kind / NLA_F_NET_BYTEORDER % 2 == 1 }
 
@@ -52,9 +53,11 @@ pub record IsPart (p : Part) (r : Region) : Type 0 where
   pub span : p.span ≡ span_of r.order 2 r.left
   pub payload : p.payload.now ≡ payload_of r.order 4 2 r.left
 
+-- behind the item at the front and its padding
 abbrev pub after : Region → Region
 after r = record r { place = r.place + span_of r.order 2 r.left; left = drop (span_of r.order 2 r.left) r.left }
 
+-- at the end, as after a fault
 abbrev pub ended : Region → Region
 ended r = record r { left = [] }
 
@@ -88,9 +91,11 @@ module _ {P : Type 0} (h : ℕ) (Is : P → Region → Type 0) where
       × Is p (record { order = o; place = place; left = drop place bytes })
   StandsAt o bytes place (Some (Err f)) = (place < length bytes) × (broken_length o h 2 (drop place bytes) ≡ Some f.reason) × (f.place ≡ place)
 
+-- one call of a walk over attributes
 abbrev pub GivesPart : Region → Option (Result Part Fault) → Region → Type 0
 GivesPart = Gives 4 IsPart
 
+-- one call of a walk over next hops
 abbrev pub GivesHop : Region → Option (Result HopPart Fault) → Region → Type 0
 GivesHop = Gives 8 IsHopPart
 
@@ -115,6 +120,7 @@ pub record LiesIn (bytes : List ℕ) (h place span : ℕ) (payload : List ℕ) :
   pub holds : h + length payload ≤ span
   pub part : payload ≡ take (length payload) (drop (place + h) bytes)
 
+-- each item that was handed out lies so
 abbrev pub EachLies : {P : Type 0} → (P → Type 0) → List (Result P Fault) → Type 0
 EachLies Lies [] = Unit {0}
 EachLies Lies (Ok p ∷ ps) = Lies p × EachLies Lies ps
@@ -132,9 +138,11 @@ pub record IsWalkOver {P : Type 0} (h : ℕ) (Is : P → Region → Type 0) (pla
   -- where the walk stands then is the sum of their spans
   pub seen : (parts : List (Result P Fault)) (rest : Region) → Yields (Gives h Is) w parts rest → rest.place ≡ spans_of spanned parts
 
+-- a walk over the attributes of these bytes
 abbrev pub IsAttrsOver : Order → List ℕ → Region → Type 0
 IsAttrsOver = IsWalkOver 4 IsPart (λ p. p.place) (λ p. p.span) (λ p. p.payload.now)
 
+-- a walk over the next hops of these bytes
 abbrev pub IsHopsOver : Order → List ℕ → Region → Type 0
 IsHopsOver = IsWalkOver 8 IsHopPart (λ p. p.place) (λ p. p.span) (λ p. p.rest.now)
 

@@ -21,6 +21,7 @@ module _ (o : Order) where
   hop_item flags count index payload = num (8 + length payload) 2 o ++ (flags ∷ count ∷ (num (cast_unsigned w32 index) 4 o ++ payload))
 
   abbrev mutual
+    -- the payload of an attribute with this value
     pub written_val : Val → List ℕ
     written_val (bytes bs) = bs
     written_val (list is) = written is
@@ -42,10 +43,12 @@ abbrev mutual
   val_len (list is) = items_len is
   val_len (hops hs) = hops_len hs
 
+  -- of a list
   pub items_len : Items → ℕ
   items_len no_items = 0
   items_len (item n flags v more) = aligned (4 + val_len v) + items_len more
 
+  -- of next hops
   pub hops_len : HopItems → ℕ
   hops_len no_hops = 0
   hops_len (hop flags count index attrs more) = aligned (8 + items_len attrs) + hops_len more

@@ -6,13 +6,14 @@ ghost use Rattle.std.specs.Prelude.{Some, IfSome, IsSome};
 ghost use Rattle.nl_attr.specs.Heads.{FaultAt, broken, inner_of, least, start_of};
 ghost use Rattle.nl_attr.specs.Shape.{shape_of};
 ghost use Rattle.nl_attr.specs.Broken.{IsBrokenHead, facts_of, head_kind};
-ghost use Rattle.nl_attr.specs.Towards.{GivesItem, IsItem, IsNear, Leads, Stands};
-ghost use Rattle.nl_attr.specs.Towards.{head_of, placed, sort_of};
+ghost use Rattle.nl_attr.specs.Region.{head_of, sort_in};
+ghost use Rattle.nl_attr.specs.Towards.{GivesItem, IsItem, IsNear, Leads, Stands, head_in};
 ghost use Rattle.nl_attr.specs.declared.broken.BrokenHead.{BrokenHead};
 
 use crate::fault::{Fault, Reason};
 use crate::limits::{Depth, FARTHEST_END, LONGEST_REGION, MOST_LEVELS, Shape};
 use crate::order::Order;
+use crate::region::{OpenRegion, Parts};
 use crate::stack::container_fault;
 use crate::tree::{Content, Ctx, holds};
 use crate::walk::{Attrs, HopParts};
@@ -42,42 +43,26 @@ pub struct BrokenHead {
     pub left: u32,
 }
 
-/// What stands in a region.
-#[derive(Clone, Copy)]
-enum HeadSort {
-    Attr,
-    Hop,
-}
-
-impl HeadSort {
-    /// How many bytes such a head has.
-    fn least(self) -> usize
-        ensures { result ≡ least (sort_of self) }
+impl Parts {
+    /// How many bytes each head has.
+    fn head_size(self) -> usize
+        ensures { result ≡ least (sort_in self) }
     {
         match self {
-            HeadSort::Attr => 4,
-            HeadSort::Hop => 8,
+            Parts::Attrs(_) => 4,
+            Parts::Hops => 8,
         }
     }
 
-    fn kind(self) -> HeadKind
-        ensures { result ≡ head_kind (sort_of self) }
+    /// What kind of head each has.
+    fn head_kind(self) -> HeadKind
+        ensures { result ≡ head_kind (sort_in self) }
     {
         match self {
-            HeadSort::Attr => HeadKind::Attribute,
-            HeadSort::Hop => HeadKind::NextHop,
+            Parts::Attrs(_) => HeadKind::Attribute,
+            Parts::Hops => HeadKind::NextHop,
         }
     }
-}
-
-/// A head at a place, with the bytes from there to the end of its region.
-#[derive(Clone, Copy)]
-struct PlacedHead<'a> {
-    place: u32,
-    sort: HeadSort,
-    ctx: Ctx,
-    level: u8,
-    left: &'a [u8],
 }
 
 /// An item: what its payload is, how many bytes it occupies, and its payload.
@@ -88,10 +73,10 @@ struct Item<'a> {
     payload: &'a [u8],
 }
 
-impl<'a> PlacedHead<'a> {
+impl<'a> OpenRegion<'a> {
     /// The attribute at the front, or what is wrong with its length.
-    fn attr_item(self, order: Order) -> Result<Item<'a>, Reason>
-        requires sort { self.sort ≡ HeadSort.Attr }
+    fn attr_item(self, ctx: Ctx, order: Order) -> Result<Item<'a>, Reason>
+        requires parts { self.parts ≡ Parts.Attrs ctx }
         requires some { self.left.now ≢ [] }
         requires size { length self.left.now ≤ LONGEST_REGION }
         ensures { GivesItem order (head_of self.entry) result }
@@ -100,7 +85,7 @@ impl<'a> PlacedHead<'a> {
             None => unreachable!(),
             Some(Err(fault)) => Err(fault.reason),
             Some(Ok(part)) => Ok(Item {
-                content: holds(self.ctx, part.number, part.flags),
+                content: holds(ctx, part.number, part.flags),
                 span: part.span,
                 payload: part.payload,
             }),
@@ -109,7 +94,7 @@ impl<'a> PlacedHead<'a> {
 
     /// The next hop at the front, or what is wrong with its length.
     fn hop_item(self, order: Order) -> Result<Item<'a>, Reason>
-        requires sort { self.sort ≡ HeadSort.Hop }
+        requires parts { self.parts ≡ Parts.Hops }
         requires some { self.left.now ≢ [] }
         requires size { length self.left.now ≤ LONGEST_REGION }
         ensures { GivesItem order (head_of self.entry) result }
@@ -131,27 +116,27 @@ impl<'a> PlacedHead<'a> {
         requires size { length self.left.now ≤ LONGEST_REGION }
         ensures { GivesItem order (head_of self.entry) result }
     {
-        match self.sort {
-            HeadSort::Attr => self.attr_item(order),
-            HeadSort::Hop => self.hop_item(order),
+        match self.parts {
+            Parts::Attrs(ctx) => self.attr_item(ctx, order),
+            Parts::Hops => self.hop_item(order),
         }
     }
 
-    /// The rule of containers that its item breaks.
+    /// The rule of containers that the item at the front breaks.
     fn container_rule(self, item: Item, shape: Shape) -> Option<Reason>
         requires level { self.level ≤ MOST_LEVELS }
         requires item { IsItem shape.order (head_of self) item }
         ensures { result ≡ broken shape (head_of self.entry) }
     {
-        match self.sort {
-            HeadSort::Attr => {
+        match self.parts {
+            Parts::Attrs(_) => {
                 container_fault(item.content, item.payload.len() + 4, self.level, shape)
             }
-            HeadSort::Hop => None,
+            Parts::Hops => None,
         }
     }
 
-    /// The first rule that it breaks.
+    /// The first rule that the head at the front breaks.
     fn broken(self, shape: Shape) -> Option<Reason>
         requires some { self.left.now ≢ [] }
         requires near { IsNear shape (head_of self) }
@@ -163,30 +148,25 @@ impl<'a> PlacedHead<'a> {
         }
     }
 
-    /// The first head in its item, where that holds heads.
-    fn inner(self, item: Item<'a>, shape: Shape) -> Option<PlacedHead<'a>>
+    /// The region in the item at the front, where that holds one.
+    fn inner(self, item: Item<'a>, shape: Shape) -> Option<OpenRegion<'a>>
         requires near { IsNear shape (head_of self) }
         requires item { IsItem shape.order (head_of self) item }
         requires sound { broken shape (head_of self) ≡ None }
-        ensures { placed result ≡ inner_of shape (head_of self.entry) }
+        ensures { head_in result ≡ inner_of shape (head_of self.entry) }
     {
-        let (sort, ctx) = match item.content {
-            Content::Bytes => return None,
-            Content::List(ctx) => (HeadSort::Attr, ctx),
-            Content::Hops => (HeadSort::Hop, Ctx::Route),
-        };
-        Some(PlacedHead {
-            place: self.place + self.sort.least() as u32,
-            sort,
-            ctx,
-            level: self.level + 1,
+        let parts = Parts::of(item.content)?;
+        Some(OpenRegion {
             left: item.payload,
+            place: self.place + self.parts.head_size() as u32,
+            level: self.level + 1,
+            parts,
         })
     }
 
-    /// The next head on the way to a place behind this one: the first in its item where the place
-    /// lies in that, else the one behind it.
-    fn towards(self, place: u32, shape: Shape) -> Option<PlacedHead<'a>>
+    /// Where the way to a place behind the head at the front goes on: in its item where the place
+    /// lies in that, else behind it.
+    fn towards(self, place: u32, shape: Shape) -> Option<OpenRegion<'a>>
         requires some { self.left.now ≢ [] }
         requires near { IsNear shape (head_of self) }
         requires ahead { self.place < place }
@@ -198,7 +178,7 @@ impl<'a> PlacedHead<'a> {
             return None;
         };
         if place - self.place >= item.span {
-            return Some(PlacedHead {
+            return Some(OpenRegion {
                 place: self.place + item.span,
                 left: &self.left[item.span as usize..],
                 ..self
@@ -210,18 +190,18 @@ impl<'a> PlacedHead<'a> {
         }
     }
 
-    /// Its kind, its level, its length, and the bytes that are left.
+    /// The kind of the head at the front, its level, its length, and the bytes that are left.
     fn facts(self, order: Order) -> BrokenHead
         requires { length self.left.now ≤ LONGEST_REGION }
         ensures { result ≡ facts_of order (head_of self.entry) }
     {
-        let len = if self.left.len() < self.sort.least() {
+        let len = if self.left.len() < self.parts.head_size() {
             None
         } else {
             Some(order.read_u16(self.left) as u32)
         };
         BrokenHead {
-            kind: self.sort.kind(),
+            kind: self.parts.head_kind(),
             level: self.level,
             len,
             left: self.left.len() as u32,
@@ -229,8 +209,8 @@ impl<'a> PlacedHead<'a> {
     }
 }
 
-/// The head that stands at a place, from the head of a region on.
-fn head_at(start: PlacedHead<'_>, place: u32, shape: Shape) -> Option<PlacedHead<'_>>
+/// What is left of a region from the head at a place on, on the way from the head of another.
+fn head_at(start: OpenRegion<'_>, place: u32, shape: Shape) -> Option<OpenRegion<'_>>
     requires { IsNear shape (head_of start) }
     ensures stands { Stands shape place (head_of start.entry) result }
     ensures near { IfSome result (λ h. IsNear shape (head_of h)) }
@@ -274,12 +254,11 @@ pub fn broken_head(
         (start_of ctx level base bytes.now) fault.place fault.reason }
 {
     let shape = Shape::of(depth, order);
-    let start = PlacedHead {
-        place: base,
-        sort: HeadSort::Attr,
-        ctx,
-        level,
+    let start = OpenRegion {
         left: bytes,
+        place: base,
+        level,
+        parts: Parts::Attrs(ctx),
     };
     let head = head_at(start, fault.place, shape)?;
     match head.broken(shape) {

@@ -13,6 +13,7 @@ mod measuring;
 mod order;
 mod payload;
 mod reading;
+mod region;
 mod scanning;
 mod stack;
 mod taping;

@@ -1,6 +1,5 @@
 -- What the answer of a scan says in the words of the layout.
 use Rattle.std.proofs.Common.{◌≡◌, ◌<◌, ◌≤◌, ◌+◌, ◌*◌, ◌↔◌, ℕ, List, length, Option, Some, None, Result, Ok, Err, IfOk, IfErr, refl, sym, ap, subst, ◌∙◌, arith}
-use Rattle.std.specs.Prelude.{IsOkAnd, MatchResult}
 use Rattle.std.proofs.lemmas.List.{length-map}
 use Rattle.nl_attr.specs.declared.events.Event.{Event}
 use Rattle.nl_attr.specs.declared.fault.Fault.{Fault}
@@ -106,55 +105,3 @@ module _ (b : Bounds) (d : List ℕ) where
     visits = visits_of_scan b.shape d t.result t.visits e;
     bound = bound;
   }
-
-  -- and one that is too large
-  pub scans_none : {X : Type 0} → b.datagram < length d → ScansDatagram {X = X} b d (record { result = Err TooLarge; visits = 0 })
-  scans_none large = record {
-    large = (λ _. large, λ _. refl);
-    outcome = λ small. absurd (omega (arith, large, small));
-    fits = tt;
-    first = tt;
-    none = tt;
-    visits = refl;
-    bound = omega arith;
-  }
-
-  -- the same answer without its value
-  pub scans_alike : {X Y : Type 0} (Is : X → Y → Type 0) (x : Result X ScanError) (y : Result Y ScanError) (v w : ℕ) → MatchResult x (λ a. IsOkAnd y (Is a)) (λ e. y ≡ Err e) → w ≡ v
-      → ScansDatagram b d (record { result = x; visits = v }) → ScansDatagram b d (record { result = y; visits = w })
-  scans_alike {X = X} {Y = Y} Is (Ok a) (Ok c) v w m e s = record {
-    large = (λ f. absurd (cc), λ h. absurd (let f : ◌≡◌ {A = Result X ScanError} (Ok a) (Err TooLarge) = s.large.1 h in cc));
-    outcome = λ small. subst (λ n. HasEnd {X = Y} (Ok c) n (messages_of b.shape 0 d)) (sym e) (s.outcome small);
-    fits = s.fits;
-    first = tt;
-    none = tt;
-    visits = subst (VisitsUpTo {X = Y} b.shape d (Ok c)) (sym e) s.visits;
-    bound = omega (arith, e, s.bound);
-  }
-  scans_alike Is (Ok a) (Err f) v w m e s = absurd m
-  scans_alike {X = X} {Y = Y} Is (Err f) y v w m e s = subst (λ (r : Result Y ScanError). ScansDatagram b d (record { result = r; visits = w })) (sym m) (refused f s) where
-    same : {A B : Type 0} {g h : ScanError} → ◌≡◌ {A = Result A ScanError} (Err g) (Err h) → ◌≡◌ {A = Result B ScanError} (Err g) (Err h)
-    same {A = A} {B = B} {g = g} {h = h} i =
-        let j : g ≡ h = cc in
-        let refuse : ScanError → Result B ScanError = λ x. Err x in
-        ap refuse j
-
-    refused : (f : ScanError) → ScansDatagram {X = X} b d (record { result = Err f; visits = v }) → ScansDatagram {X = Y} b d (record { result = Err f; visits = w })
-    refused TooLarge s = record {
-      large = (λ i. s.large.0 (same i), λ h. same (s.large.1 h));
-      outcome = λ small. absurd (s.outcome small);
-      fits = tt;
-      first = tt;
-      none = tt;
-      visits = e ∙ s.visits;
-      bound = omega (arith, e, s.bound);
-    }
-    refused (Fails g) s = record {
-      large = (λ i. s.large.0 (same i), λ h. same (s.large.1 h));
-      outcome = λ small. subst (λ n. HasEnd {X = Y} (Err (Fails g)) n (messages_of b.shape 0 d)) (sym e) (s.outcome small);
-      fits = tt;
-      first = s.first;
-      none = s.none;
-      visits = subst (Visits b.shape (whole d) g.place) (sym e) s.visits;
-      bound = omega (arith, e, s.bound);
-    }

@@ -38,10 +38,6 @@ module _ (S : Shape) where
     events = is.events ∙ ap (λ (es : List Event). put_from count es old) (region_events (region.trail_of S h).0);
   }
 
-  -- a body that holds no heads
-  pub nothing_taped : (count : ℕ) (old : List Event) → IsTaped S ([], None) count old old (record { fault = None; count = count; visits = 0 })
-  nothing_taped count old = record { fault = refl; visits = refl; counted = omega arith; events = sym (put_none count old) }
-
   -- ---- the state of the loop
 
   visits_append : (hs gs : List AnyHead) → visits_of S (hs ++ gs) ≡ visits_of S hs + visits_of S gs

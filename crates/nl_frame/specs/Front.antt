@@ -21,6 +21,7 @@ module _ (o : Order) where
   abbrev pub form_at : List ℕ → Form
   form_at left = form_of (number_of o 2 (drop 4 left))
 
+  -- the bytes behind the header, up to the length that it says
   abbrev pub payload_at : List ℕ → List ℕ
   payload_at left = payload_of o 16 4 left
 
@@ -48,6 +49,7 @@ module _ (o : Order) where
     pub inside : length f.payload.now + 16 ≤ f.span
     pub within : f.span ≤ length left
 
+  -- a look at the front gives the message there, or the first rule that it breaks
   abbrev pub GivesFrame : List ℕ → Result Frame Reason → Type 0
   GivesFrame left (Ok f) = IsFrame left f
   GivesFrame left (Err r) = broken_message left ≡ Some r

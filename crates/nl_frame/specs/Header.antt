@@ -9,6 +9,7 @@ use Rattle.nl_frame.specs.declared.header.Header.{Header}
 abbrev pub header_fields : Header → List Field
 header_fields h = number 4 h.len ∷ number 2 h.kind ∷ number 2 h.flags ∷ number 4 h.seq ∷ number 4 h.port ∷ []
 
+-- what is read of the bytes of nlmsghdr
 abbrev pub header_of : Order → List ℕ → Header
 header_of o bytes = record {
   len = number_of o 4 bytes;

@@ -19,6 +19,7 @@ pub record Rest : Type 0 where
 abbrev pub whole : List ℕ → Rest
 whole d = record { place = 0; left = d }
 
+-- the first head of the attributes in a body of this form at a place, where the body is a family's
 abbrev pub region_in : Form → ℕ → List ℕ → Option Head
 region_in form.Noop place payload = None
 region_in form.Error place payload = None

@@ -3,6 +3,7 @@ use Rattle.std.specs.Prelude.{ℕ, ◌+◌, List, [], ◌∷◌, length}
 use Rattle.nl_attr.specs.Kept as attr
 use Rattle.nl_frame.specs.Message.{BodyVal, noop, error, done, overrun, family, get, other, MessageVal}
 
+-- of a body
 abbrev pub body_kept : BodyVal → ℕ
 body_kept (noop bs) = length bs
 body_kept (error code h tail) = length tail
@@ -12,6 +13,7 @@ body_kept (family h is) = attr.kept is
 body_kept (get n tail) = length tail
 body_kept (other bs) = length bs
 
+-- of messages
 abbrev pub kept : List MessageVal → ℕ
 kept [] = 0
 kept (m ∷ ms) = 16 + body_kept m.body + kept ms

@@ -11,6 +11,7 @@ pub record Bounds : Type 0 where
   pub total : ℕ
   pub entries : ℕ
 
+-- limits by their numbers
 abbrev pub bounds_of : Order → ℕ → ℕ → ℕ → ℕ → Bounds
 bounds_of order depth datagram total entries = record { shape = shape_of order depth; datagram = datagram; total = total; entries = entries }
 

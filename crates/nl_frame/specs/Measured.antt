@@ -17,6 +17,7 @@ IsSizedBody (family h is) = attrs.IsSized is
 IsSizedBody (get n tail) = Unit {0}
 IsSizedBody (other bs) = Unit {0}
 
+-- the same of the bodies of all messages
 abbrev pub IsSized : List MessageVal → Type 0
 IsSized [] = Unit {0}
 IsSized (m ∷ ms) = IsSizedBody m.body × IsSized ms

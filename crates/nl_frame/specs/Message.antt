@@ -14,6 +14,7 @@ pub data BodyVal : Type 0 where
   get : ℕ → List ℕ → BodyVal
   other : List ℕ → BodyVal
 
+-- a message: the fields of its header but for the length, and its body
 pub record MessageVal : Type 0 where
   pub kind : ℕ
   pub flags : ℕ

@@ -44,6 +44,7 @@ write_error first.TooDeep = unwritten.TooDeep
 write_error first.TooLong = unwritten.TooLong
 write_error first.Memory = unwritten.Memory
 
+-- of messages that were not written
 abbrev pub write_code : WriteError → ℕ
 write_code unwritten.Mismatch = 11
 write_code unwritten.TooDeep = 5

@@ -33,6 +33,7 @@ abbrev pub IsMismatched : List MessageVal → Type 0
 IsMismatched [] = ⊥
 IsMismatched (m ∷ ms) = IsMismatchedBody m.body (form_of m.kind) ⊎ IsMismatched ms
 
+-- some container in a body opens a level above the depth D
 abbrev pub IsDeepBody : BodyVal → ℕ → Type 0
 IsDeepBody (noop bs) D = ⊥
 IsDeepBody (error code h tail) D = ⊥
@@ -47,6 +48,7 @@ abbrev pub IsDeep : List MessageVal → ℕ → Type 0
 IsDeep [] D = ⊥
 IsDeep (m ∷ ms) D = IsDeepBody m.body D ⊎ IsDeep ms D
 
+-- something in a body is too long
 abbrev pub IsLongBody : BodyVal → Type 0
 IsLongBody (noop bs) = ⊥
 IsLongBody (error code h tail) = ⊥
@@ -66,16 +68,16 @@ abbrev pub IsLong : List MessageVal → Type 0
 IsLong ms = (LONGEST_REGION < written_len ms) ⊎ HasLong ms
 
 -- messages that are mismatched, too deep or too long are not written, and the first of these counts
-abbrev pub refusal : List MessageVal → ℕ → FirstRefusal → Type 0
-refusal ms D = attrs.Refusal (IsMismatched ms) (IsDeep ms D) (IsLong ms)
+abbrev pub IsFirstRefusal : List MessageVal → ℕ → FirstRefusal → Type 0
+IsFirstRefusal ms D = attrs.Refusal (IsMismatched ms) (IsDeep ms D) (IsLong ms)
 
 -- why messages are not written; memory where nothing else is the reason
 abbrev pub IsRefused : List MessageVal → Bounds → WriteError → Type 0
-IsRefused ms b Mismatch = refusal ms b.shape.depth first.Mismatch
-IsRefused ms b TooDeep = refusal ms b.shape.depth first.TooDeep
-IsRefused ms b TooLong = refusal ms b.shape.depth first.TooLong
-IsRefused ms b TooLarge = refusal ms b.shape.depth first.Memory × (b.datagram < written_len ms)
-IsRefused ms b Memory = refusal ms b.shape.depth first.Memory × (written_len ms ≤ b.datagram)
+IsRefused ms b Mismatch = IsFirstRefusal ms b.shape.depth first.Mismatch
+IsRefused ms b TooDeep = IsFirstRefusal ms b.shape.depth first.TooDeep
+IsRefused ms b TooLong = IsFirstRefusal ms b.shape.depth first.TooLong
+IsRefused ms b TooLarge = IsFirstRefusal ms b.shape.depth first.Memory × (b.datagram < written_len ms)
+IsRefused ms b Memory = IsFirstRefusal ms b.shape.depth first.Memory × (written_len ms ≤ b.datagram)
 
 -- messages that can be written where containers may open D levels
 pub record IsProper (ms : List MessageVal) (D : ℕ) : Type 0 where

@@ -11,6 +11,7 @@ use Rattle.nl_frame.specs.Outcomes.{IfFault, VisitsUpTo}
 use Rattle.nl_frame.specs.Reading.{messages_of}
 use Rattle.nl_frame.specs.Taped.{HasEnd, as_read}
 
+-- what was found of a datagram, and the visits
 pub record ScansDatagram {X : Type 0} (b : Bounds) (bytes : List ℕ) (t : Tally X ScanError) : Type 0 where
   pub large : t.result ≡ Err TooLarge ↔ b.datagram < length bytes
   -- else whether it is accepted, the fault and the visits are those of a reading

@@ -36,14 +36,14 @@ Ends count (Some g) (Ok n) = ⊥
 Ends count (Some g) (Err e) = e ≡ Layout g
 
 -- a refusal of a scan, as reading refuses
-abbrev pub refusal : ScanError → ReadError
-refusal TooLarge = unread.TooLarge
-refusal (Layout f) = unread.Layout f
+abbrev pub read_refusal : ScanError → ReadError
+read_refusal TooLarge = unread.TooLarge
+read_refusal (Layout f) = unread.Layout f
 
 -- an answer of a scan, as reading answers
 abbrev pub as_read : {X : Type 0} → Result X ScanError → Result X ReadError
 as_read (Ok x) = Ok x
-as_read (Err e) = Err (refusal e)
+as_read (Err e) = Err (read_refusal e)
 
 -- whether all is accepted or which fault is met, and the visits, are those of this outcome of a reading
 abbrev pub HasEnd : {X Y : Type 0} → Result X ScanError → ℕ → Outcome Y → Type 0

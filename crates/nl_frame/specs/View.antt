@@ -7,6 +7,7 @@ use Rattle.nl_frame.specs.declared.body.Body.TheVariants as body
 use Rattle.nl_frame.specs.declared.body.Message.{Message}
 use Rattle.nl_frame.specs.Message.{BodyVal, noop, error, done, overrun, family, get, other, MessageVal}
 
+-- the body that a body of the program is
 abbrev pub body_view : Body → BodyVal
 body_view (body.Noop v) = noop v.items
 body_view (body.Error code answered tail) = error code answered tail.items
@@ -20,5 +21,6 @@ body_view (body.Rule b) = family (any group.Rule b.head) (attrs_view b.attrs.ite
 body_view (body.Get n tail) = get n tail.items
 body_view (body.Other v) = other v.items
 
+-- the message that one of the program is
 abbrev pub message_view : Message → MessageVal
 message_view m = record { kind = m.kind; flags = m.flags; seq = m.seq; port = m.port; body = body_view m.body }

@@ -27,6 +27,7 @@ abbrev pub header_for : MessageVal → Header
 header_for m = record { len = 16 + body_len m.body; kind = m.kind; flags = m.flags; seq = m.seq; port = m.port }
 
 module _ (o : Order) where
+  -- the bytes of a body
   abbrev pub body_written : BodyVal → List ℕ
   body_written (noop bs) = bs
   body_written (error code h tail) = fields.written o (signed code ∷ header_fields h) ++ tail
@@ -37,6 +38,7 @@ module _ (o : Order) where
   body_written (get n tail) = n ∷ tail
   body_written (other bs) = bs
 
+  -- the bytes of a message: its header, then its body
   abbrev pub message_item : MessageVal → List ℕ
   message_item m = fields.written o (header_fields (header_for m)) ++ body_written m.body
 

@@ -24,12 +24,12 @@ pub enum ScanError {
 }
 
 impl ScanError {
-    ghost use Rattle.nl_frame.specs.Taped.{refusal};
+    ghost use Rattle.nl_frame.specs.Taped.{read_refusal};
     ghost use Rattle.nl_frame.specs.Outcomes.{read_code};
 
     /// The number of this refusal: that of the fault's reason, or 6 for too large.
     pub fn code(self) -> u8
-        ensures { result ≡ read_code (refusal self) }
+        ensures { result ≡ read_code (read_refusal self) }
     {
         match self {
             ScanError::Layout(fault) => fault.code(),

@@ -30,6 +30,7 @@ pub record Row : Type 1 where
   pub new : ℕ
   pub name : List ℕ
 
+-- the row of each family
 abbrev pub row : Group → Row
 row Link = record { Head = LinkHead; size = 16; fields = link_fields; of = link_of; context = ctx.Link; new = 16; name = codes "link" }
 row Addr = record { Head = AddrHead; size = 8; fields = addr_fields; of = addr_of; context = ctx.Addr; new = 20; name = codes "addr" }
@@ -37,12 +38,15 @@ row Route = record { Head = RouteHead; size = 12; fields = route_fields; of = ro
 row Neigh = record { Head = NeighHead; size = 12; fields = neigh_fields; of = neigh_of; context = ctx.Neigh; new = 28; name = codes "neigh" }
 row Rule = record { Head = RuleHead; size = 12; fields = rule_fields; of = rule_of; context = ctx.Rule; new = 32; name = codes "rule" }
 
+-- how many bytes the head of a family has
 abbrev pub head_size : Group → ℕ
 head_size g = (row g).size
 
+-- the context of the attributes of a family
 abbrev pub context_of : Group → Ctx
 context_of g = (row g).context
 
+-- the name of a family
 abbrev pub name_of : Group → List ℕ
 name_of g = (row g).name
 
@@ -57,6 +61,7 @@ place_of Del = 1
 place_of Get = 2
 place_of Set = 3
 
+-- the message type of a family and a verb
 abbrev pub type_of : Group → Verb → ℕ
 type_of g v = (row g).new + place_of v
 
@@ -72,12 +77,15 @@ pub record AnyHead : Type 0 where
   pub group : Group
   pub head : (row group).Head
 
+-- this head, of this family
 abbrev pub any : (g : Group) → (row g).Head → AnyHead
 any g h = record { group = g; head = h }
 
+-- the family of a head
 abbrev pub group_of : AnyHead → Group
 group_of h = h.group
 
+-- the fields of a head
 abbrev pub fields_of : AnyHead → List Field
 fields_of h = (row h.group).fields h.head
 

@@ -20,6 +20,7 @@ group_at n = under n fourths
 abbrev pub verb_at : ℕ → Verb
 verb_at n = if n == 0 then New else (if n == 1 then Del else (if n == 2 then Get else Set))
 
+-- what a family and a verb say together, where the family has the verb
 abbrev pub type_in : Option Group → Verb → Option RouteType
 type_in None v = None
 type_in (Some g) v = if has_verb g v then Some (says v g) else None

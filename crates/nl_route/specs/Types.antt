@@ -6,6 +6,7 @@ use Rattle.nl_route.specs.declared.group.RouteType.{RouteType}
 use Rattle.nl_route.specs.declared.group.Verb.{Verb}
 use Rattle.nl_route.specs.declared.group.Verb.TheVariants.{New, Del, Get, Set}
 
+-- this verb of this family
 abbrev pub says : Verb → Group → RouteType
 says v g = record { group = g; verb = v }
 

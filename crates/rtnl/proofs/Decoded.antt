@@ -92,10 +92,6 @@ decode_of-append front rest even =
 abbrev pub Leads : List ℕ → List ℕ → List ℕ → Type 0
 Leads all done left = found (decode_of all) ≡ joined (Some done) (found (decode_of left))
 
--- none of the digits is decoded yet
-pub leads_none : (all : List ℕ) → Leads all [] all
-leads_none all = joined_empty (found (decode_of all))
-
 joined_more : (done bytes : List ℕ) (rest : Option (List ℕ)) → joined (Some done) (joined (Some bytes) rest) ≡ joined (Some (done ++ bytes)) rest
 joined_more done bytes None = refl
 joined_more done bytes (Some rest) = ap Some (sym (append_assoc done bytes rest))

@@ -1,5 +1,5 @@
 -- The entries of a table, printed one after another.
-use Rattle.std.proofs.Common.{◌≡◌, ℕ, ◌+◌, ◌<◌, ◌≤◌, List, [], ◌∷◌, ◌++◌, Some, None, length, map, drop, slice_get, option_map, sym, ap, ◌∙◌, append_assoc, append-nil, arith, inl, inr}
+use Rattle.std.proofs.Common.{◌≡◌, ℕ, ◌+◌, ◌≤◌, List, [], ◌∷◌, ◌++◌, Some, None, length, map, drop, slice_get, option_map, sym, ap, ◌∙◌, append_assoc, append-nil, inl, inr}
 use Rattle.std.proofs.lemmas.List.{drop_more, drop-map}
 use Rattle.std.proofs.Math.ListN.{drop_of_length-le}
 use Rattle.std.proofs.lemmas.Option.{slice_get_cases}
@@ -21,13 +21,6 @@ module _ {T : Type 0} (item : T → Item) where
         let here : drop i es ≡ w.0 ∷ drop (i + 1) es = drop_more es i w.0 w.1 ∙ ap (λ e. e ∷ drop (i + 1) es) w.3 in
         (w.0.0, drop-map pair i es ∙ ap (map pair) here ∙ ap (λ y. (w.0.0, item y) ∷ map pair (drop (i + 1) es)) (sym same) ∙ ap (λ l. (w.0.0, item x) ∷ l) (sym (drop-map pair (i + 1) es)))
     | inr w ↦ let f : Some x ≡ None = is ∙ ap (option_map (λ e. e.1)) w.1 in cc
-  ]
-
-  -- no place within a table is free
-  pub no_gap : (es : List (List ℕ × T)) (i : ℕ) → None ≡ option_map (λ e. e.1) (slice_get es i) → i < length es → ⊥
-  no_gap es i is low = elim ((slice_get_cases es i).1) [
-    | inl w ↦ let f : None ≡ Some w.0.1 = is ∙ ap (option_map (λ e. e.1)) w.2 in cc
-    | inr w ↦ omega (arith, low, w.0)
   ]
 
   -- one entry more

@@ -10,7 +10,8 @@ use Rattle.nl_dump.specs.View.{View, table_at}
 use Rattle.nl_dump.specs.Steps.{IsWaiting, IsNew, Began, Fed}
 use Rattle.nl_dump.specs.Whole.{begins}
 use Rattle.nl_dump.proofs.Courses.{calls_end}
-use Rattle.rtnl.specs.Tabled.{Report, answer_text, entries_text, Answered, datagrams_of, IsReported, FeedsSome, refusals_text, tabled, calls_of, IsRun}
+use Rattle.rtnl.specs.declared.error.Verdict.{Verdict}
+use Rattle.rtnl.specs.Tabled.{Report, answer_text, entries_text, Answered, datagrams_of, IsReported, FeedsSome, refusals_text, tabled_in, calls_of, IsRun, ReportsFrom, TablesBy}
 
 -- nothing is fed yet
 pub feeds_none : (u : View) (ds : List (List ℕ)) → FeedsSome u ds [] ds u
@@ -43,14 +44,27 @@ run_is b d ds request fed unfed new begun v is_new began h all =
     let calls = h.calls b (begins d (Ok request) ∷ []) (new, is_new, began) in
     record { calls = calls; session = calls_end b (calls_of d request fed) v calls; order = h.order; reported = h.reported; all = all }
 
--- the report of a run
-pub run_text : (t : Report) (d : Dump) (fed : List Answered) (unfed : List (List ℕ)) (v : View) (b : Bounds) (o : Order) (n : ℕ) (first second third all : List ℕ) → first ≡ [] → second ≡ first ++ t.front d → third ≡ second ++ refusals_text t fed
-    → all ≡ (third ++ entries_text t o 1 (table_at d.kind v.tables).entries) ++ t.ending d n v → o ≡ b.shape.order → v.limits ≡ b → n ≡ length unfed → all ≡ tabled t d fed (length unfed) v
-run_text t d fed unfed v b o n first second third all none line refusals rest order limits left =
+-- its report
+pub report_text : (t : Report) (d : Dump) (fed : List Answered) (unfed : List (List ℕ)) (v : View) (o p : Order) (n : ℕ) (first second third all : List ℕ) → first ≡ [] → second ≡ first ++ t.front d → third ≡ second ++ refusals_text t fed
+    → all ≡ (third ++ entries_text t o 1 (table_at d.kind v.tables).entries) ++ t.ending d n v → o ≡ p → n ≡ length unfed → all ≡ tabled_in p t d fed (length unfed) v
+report_text t d fed unfed v o p n first second third all none line refusals rest order left =
     let front : second ≡ t.front d = line ∙ ap (λ x. x ++ t.front d) none in
     let more : third ≡ t.front d ++ refusals_text t fed = refusals ∙ ap (λ x. x ++ refusals_text t fed) front in
-    let same : o ≡ v.limits.shape.order = order ∙ sym (ap (λ (x : Bounds). x.shape.order) limits) in
-    rest ∙ λ i. (more i ++ entries_text t (same i) 1 (table_at d.kind v.tables).entries) ++ t.ending d (left i) v
+    rest ∙ λ i. (more i ++ entries_text t (order i) 1 (table_at d.kind v.tables).entries) ++ t.ending d (left i) v
+
+-- a whole run and its report
+pub tables : (t : Report) (b : Bounds) (d : Dump) (ds : List (List ℕ)) (request : Vec ℕ) (new begun v : View) (text : List ℕ) (verdict : Verdict) → IsNew b new → Began new d (Ok request) begun → ReportsFrom t b.shape.order d begun ds text verdict v → TablesBy t b d ds text verdict
+tables t b d ds request new begun v text verdict is_new began h =
+    let run = run_is b d ds request h.fed h.unfed new begun v is_new began h.feeds h.all in
+    record {
+      request = request;
+      fed = h.fed;
+      unfed = h.unfed;
+      session = v;
+      run = run;
+      text_is = h.text_is ∙ ap (λ (x : Bounds). tabled_in x.shape.order t d h.fed (length h.unfed) v) (sym run.session.limits);
+      verdict_is = h.verdict_is;
+    }
 
 -- four lines behind others
 pub four_parts : (old first second third fourth a b c d : List ℕ) → a ≡ old ++ first → b ≡ a ++ second → c ≡ b ++ third → d ≡ c ++ fourth → d ≡ old ++ (first ++ (second ++ (third ++ fourth)))

@@ -13,6 +13,7 @@ mod Reading
 mod Recordings
 mod Refusing
 mod Running
+mod Sets
 mod Short
 mod Showing
 mod SomeAnswer

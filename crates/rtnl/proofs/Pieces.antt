@@ -68,13 +68,6 @@ cut bytes ends i start end rise below from to =
       rw (from, to0) (sym (piece_at 0 bytes ends i 0 [] below)),
     )
 
--- the piece before a place ends where the one at it begins
-pub start_before : (ends : List ℕ) (i start : ℕ) → i ≤ length ends → (i ≡ 0 → ⊥) → start ≡ get_or ends (i - 1) start → start ≡ get_or (0 ∷ ends) i 0
-start_before ends zero start below not_first is = absurd (not_first refl)
-start_before ends (suc i) start below not_first is =
-    let e : suc i - 1 ≡ i = omega arith in
-    get_or_read ends i start (omega arith) (is ∙ ap (λ k. get_or ends k start) e) 0
-
 -- there is an end for each piece
 pub within : (bytes ends : List ℕ) (i : ℕ) (all : List (List ℕ)) → pieces 0 bytes ends ≡ all → i < length all → i < length ends
 within bytes ends i all is below = omega (arith, length-pieces 0 bytes ends, ap length is, below)

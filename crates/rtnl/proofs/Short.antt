@@ -1,14 +1,13 @@
 -- How long short texts are.
-use Rattle.std.proofs.Common.{◌≡◌, ◌==◌, ◌∷◌, ◌++◌, ◌<◌, ◌≤◌, ◌^◌, ◌&&◌, ℕ, ℤ, pos, negsuc, Bool, true, false, List, [], refl, length, codes, decimal, arith, rules, inl, inr}
+use Rattle.std.proofs.Common.{◌≡◌, ◌==◌, ◌∷◌, ◌<◌, ◌≤◌, ◌^◌, ◌&&◌, ℕ, ℤ, pos, negsuc, Bool, true, false, List, [], refl, length, codes, decimal, arith, rules, inl, inr}
 use Rattle.std.specs.Fmt.{signed_decimal}
-use Rattle.std.specs.List.{list_all}
 use Rattle.std.specs.Prelude.{int_lt, nat_le, unsigned_abs}
 use Rattle.std.proofs.lemmas.Bool.{and_parts, cases_Bool}
 use Rattle.std.proofs.lemmas.Fmt.{length-decimal-le}
 use Rattle.nl_attr.specs.declared.tree.Ctx.{Ctx}
 use Rattle.nl_attr.specs.declared.tree.Ctx.TheVariants as ctx
 use Rattle.rtnl.specs.declared.text.attributes.Style.{Style}
-use Rattle.rtnl.specs.Attributes.{attribute_name, attribute_rows}
+use Rattle.rtnl.specs.Attributes.{attribute_name, attribute_rows, row_of}
 use Rattle.rtnl.specs.Rows.{Row, find_row, name_in}
 
 -- a number of 64 bits has twenty digits or fewer
@@ -51,5 +50,5 @@ all_short ctx.Plain = refl
 
 -- so are those of attributes
 pub short_name : (c : Ctx) (number : ℕ) → length (attribute_name c number) ≤ 16
-unfolding attribute_name
+unfolding row_of
 short_name c number = found_short (attribute_rows c) number (all_short c)

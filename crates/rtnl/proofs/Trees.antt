@@ -31,18 +31,18 @@ hop_count_lem [] = refl
 hop_count_lem (one ∷ more) = ap (λ (f : HopFront). hop_count (f (hops_view more))) (hop_is one) ∙ omega (arith, hop_count_lem more)
 
 -- a list says the number of its attributes
-pub inline_list : (o : Order) (form : Style) (net : Bool) (attrs : Vec Attr Global) →
-    inline_text o form net (value_view (value.List attrs)) ≡ codes "list " ++ decimal (length attrs.items)
+pub inline_list : (o : Order) (style : Style) (net : Bool) (attrs : Vec Attr Global) →
+    inline_text o style net (value_view (value.List attrs)) ≡ codes "list " ++ decimal (length attrs.items)
 unfolding inline_text
-inline_list o form net attrs =
-    ap (inline_text o form net) (value_list attrs) ∙ ap (λ n. codes "list " ++ decimal n) (item_count_lem attrs.items)
+inline_list o style net attrs =
+    ap (inline_text o style net) (value_list attrs) ∙ ap (λ n. codes "list " ++ decimal n) (item_count_lem attrs.items)
 
--- next hops tell their number
-pub inline_hops : (o : Order) (form : Style) (net : Bool) (items : Vec Hop Global) →
-    inline_text o form net (value_view (value.Hops items)) ≡ codes "hops " ++ decimal (length items.items)
+-- next hops, and how many they are
+pub inline_hops : (o : Order) (style : Style) (net : Bool) (items : Vec Hop Global) →
+    inline_text o style net (value_view (value.Hops items)) ≡ codes "hops " ++ decimal (length items.items)
 unfolding inline_text
-inline_hops o form net items =
-    ap (inline_text o form net) (value_hops items) ∙ ap (λ n. codes "hops " ++ decimal n) (hop_count_lem items.items)
+inline_hops o style net items =
+    ap (inline_text o style net) (value_hops items) ∙ ap (λ n. codes "hops " ++ decimal n) (hop_count_lem items.items)
 
 -- what a list holds is indented by two blanks more
 pub held_list : (o : Order) (indent more : List ℕ) (ctx : Ctx) (attrs : Vec Attr Global) → more ≡ indent ++ codes "  " →

@@ -1,4 +1,4 @@
--- The names of attributes, and the forms in which their payloads are printed.
+-- The names of attributes, and the styles in which their payloads are printed.
 use Rattle.std.specs.Prelude.{ℕ, List, [], codes, Option, Some, None}
 use Rattle.nl_attr.specs.declared.tree.Ctx.{Ctx}
 use Rattle.nl_attr.specs.declared.tree.Ctx.TheVariants.{Link, LinkInfo, Addr, Route, Metrics, Neigh, Rule, Plain}
@@ -22,14 +22,19 @@ attribute_rows Neigh = neigh_rows
 attribute_rows Rule = rule_rows
 attribute_rows Plain = []
 
--- the name of an attribute, or a dash
-unfoldable pub attribute_name : Ctx → ℕ → List ℕ
-attribute_name ctx number = name_in (codes "-") (find_row number (attribute_rows ctx))
+-- the row of an attribute, if it has one
+unfoldable pub row_of : Ctx → ℕ → Option (List ℕ × Style)
+row_of ctx number = find_row number (attribute_rows ctx)
 
-abbrev pub form_in : Option (List ℕ × Style) → Style
-form_in None = Hex
-form_in (Some row) = row.1
+-- the name of an attribute, or a dash
+abbrev pub attribute_name : Ctx → ℕ → List ℕ
+attribute_name ctx number = name_in (codes "-") (row_of ctx number)
+
+-- the style of a row, and that of bytes where there is none
+abbrev pub style_in : Option (List ℕ × Style) → Style
+style_in None = Hex
+style_in (Some row) = row.1
 
 -- how the payload of an attribute is printed
-unfoldable pub attribute_form : Ctx → ℕ → Style
-attribute_form ctx number = form_in (find_row number (attribute_rows ctx))
+abbrev pub attribute_style : Ctx → ℕ → Style
+attribute_style ctx number = style_in (row_of ctx number)

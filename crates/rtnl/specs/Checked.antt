@@ -35,6 +35,7 @@ finding_text (Err e) = refusal_text e
 abbrev pub checked_line : ℕ → List ℕ → Finding → List ℕ
 checked_line number d finding = number_front number ++ finding_text finding
 
+-- the datagram was accepted
 abbrev pub is_accepted : Finding → Bool
 is_accepted (Ok _) = true
 is_accepted (Err _) = false
@@ -56,8 +57,10 @@ finding_json n d finding = json_line (datagram_object n (finding_fields finding)
 abbrev pub ChecksJson : Bounds → List (List ℕ) → List ℕ → Verdict → Type 0
 ChecksJson b = Prints (Finds b) finding_json is_accepted
 
+-- a check of the datagrams of what was read, written behind what stood in the sink
 abbrev pub ChecksInput : Bounds → Option (List ℕ) → Option (List ℕ) → Option (List ℕ) → Option (List ℕ) → Verdict → Type 0
 ChecksInput b = OfInput (Checks b)
 
+-- the same in lines of JSON
 abbrev pub ChecksInputJson : Bounds → Option (List ℕ) → Option (List ℕ) → Option (List ℕ) → Option (List ℕ) → Verdict → Type 0
 ChecksInputJson b = OfInput (ChecksJson b)

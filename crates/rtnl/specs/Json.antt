@@ -12,6 +12,7 @@ use Rattle.json.specs.Tree.{json_tokens}
 abbrev pub Field : Type 0
 Field = List ℕ × json.Json
 
+-- the members of an object
 abbrev pub members_of : List Field → json.Members
 members_of [] = json.no_members
 members_of (field ∷ fields) = json.member field.0 field.1 (members_of fields)
@@ -20,6 +21,7 @@ members_of (field ∷ fields) = json.member field.0 field.1 (members_of fields)
 unfoldable pub object : List Field → json.Json
 object fields = json.object (members_of fields)
 
+-- the items of an array
 abbrev pub items_of : List json.Json → json.Items
 items_of [] = json.no_items
 items_of (value ∷ values) = json.item value (items_of values)
@@ -28,15 +30,19 @@ items_of (value ∷ values) = json.item value (items_of values)
 unfoldable pub array : List json.Json → json.Json
 array values = json.array (items_of values)
 
+-- a number
 abbrev pub number : ℕ → json.Json
 number n = json.number (decimal n)
 
+-- a number with a sign
 abbrev pub signed : ℤ → json.Json
 signed z = json.number (signed_decimal z)
 
+-- true or false
 abbrev pub boolean : Bool → json.Json
 boolean b = json.boolean b
 
+-- a string
 abbrev pub string : List ℕ → json.Json
 string text = json.string text
 

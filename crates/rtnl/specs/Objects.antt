@@ -12,7 +12,7 @@ use Rattle.nl_route.specs.Families.{row, AnyHead, group_of, context_of, name_of}
 use Rattle.nl_frame.specs.declared.header.Header.{Header}
 use Rattle.nl_frame.specs.Message.{BodyVal, noop, error, done, overrun, family, get, other, MessageVal}
 use Rattle.nl_dump.specs.Items.{Item}
-use Rattle.rtnl.specs.Attributes.{attribute_form, attribute_rows}
+use Rattle.rtnl.specs.Attributes.{attribute_style, attribute_rows}
 use Rattle.rtnl.specs.Rows.{find_row}
 use Rattle.rtnl.specs.declared.text.attributes.Style.{Style}
 use Rattle.rtnl.specs.Json.{Field, object, array, number, signed, string, strings, digits}
@@ -38,6 +38,7 @@ reading_json (ipv4 payload) = string (ipv4_text payload)
 reading_json (ipv6 payload) = string (ipv6_text payload)
 reading_json (hex payload) = digits payload
 
+-- the name in a row, and null where there is none
 abbrev pub name_found : Option (List ℕ × Style) → json.Json
 name_found None = json.null
 name_found (Some row) = string row.0
@@ -46,6 +47,7 @@ name_found (Some row) = string row.0
 unfoldable pub name_json : Ctx → ℕ → json.Json
 name_json ctx n = name_found (find_row n (attribute_rows ctx))
 
+-- the words of an attribute's flags
 abbrev pub flag_list : Bool → Bool → List (List ℕ)
 flag_list false false = []
 flag_list false true = codes "net" ∷ []
@@ -80,17 +82,17 @@ hop_front flags count index =
     ∷ (codes "index", signed index) ∷ []
 
 abbrev mutual
-  -- the form of an attribute of this context, and what it holds: a payload of this form, or items of the context inside
+  -- the form of an attribute of this context, and what it holds: a payload of this style, or items of the context inside
   pub value_fields : Order → Style → Bool → Ctx → Val → List Field
-  value_fields o form net ctx (bytes payload) = reading_fields (reading_of o form net payload)
-  value_fields o form net ctx (list items) = items_fields (codes "list") (attrs_json o ctx items)
-  value_fields o form net ctx (hops items) = items_fields (codes "hops") (hops_json o items)
+  value_fields o style net ctx (bytes payload) = reading_fields (reading_of o style net payload)
+  value_fields o style net ctx (list items) = items_fields (codes "list") (attrs_json o ctx items)
+  value_fields o style net ctx (hops items) = items_fields (codes "hops") (hops_json o items)
 
   -- attributes in a context
   pub attrs_json : Order → Ctx → Items → List json.Json
   attrs_json o ctx no_items = []
   attrs_json o ctx (item n flags v more) =
-      object (attr_front ctx n flags ++ value_fields o (attribute_form ctx n) flags.net (inner_context (holds_of ctx n flags)) v)
+      object (attr_front ctx n flags ++ value_fields o (attribute_style ctx n) flags.net (inner_context (holds_of ctx n flags)) v)
       ∷ attrs_json o ctx more
 
   -- next hops
@@ -107,6 +109,7 @@ fields_of group.Route = route_fields
 fields_of group.Neigh = neigh_fields
 fields_of group.Rule = rule_fields
 
+-- the fields of the head of any family
 abbrev pub head_fields : AnyHead → List Field
 head_fields h = fields_of h.group h.head
 

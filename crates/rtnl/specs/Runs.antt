@@ -53,7 +53,7 @@ FrontOfInput Of from_old from_new to_old to_new =
 abbrev pub HasBadLine : Option (List ℕ) → Option (List ℕ) → ℕ → Type 0
 HasBadLine from_old from_new number = (input : List ℕ) × Consumes from_old from_new input × (datagrams input ≡ Err number)
 
--- how a run over a recording ends, by what its source and its sink tell of themselves (the bytes left, the end, the failed calls; the bytes taken, a call that
+-- how a run over a recording ends, by what its source and its sink say of themselves (the bytes left, the end, the failed calls; the bytes taken, a call that
 -- took none, those calls, the failed calls), by what is said of datagrams, and by source, sink and answer
 pub record Runs {S W : Type 0} (left : S → Option (List ℕ)) (is_ended : S → Type 0) (failed_reads : S → ℕ)
     (taken : W → Option (List ℕ)) (is_stalled : W → Type 0) (stalls : W → ℕ) (failed_writes : W → ℕ)

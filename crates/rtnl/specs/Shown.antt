@@ -45,6 +45,7 @@ answer_text o (Err e) = refusal_text e
 abbrev pub datagram_text : Order → ℕ → List ℕ → Answer → List ℕ
 datagram_text o number d a = datagram_line number (length d) ++ answer_text o a
 
+-- the datagram was accepted
 abbrev pub is_taken : Answer → Bool
 is_taken (Ok _) = true
 is_taken (Err _) = false
@@ -64,7 +65,7 @@ abbrev pub answer_fields : Order → ℕ → Answer → List Field
 answer_fields o size (Ok ms) = (codes "bytes", number size) ∷ (codes "messages", array (messages_json o ms)) ∷ []
 answer_fields o size (Err e) = refusal_fields e
 
--- the object of a datagram, of which these fields tell
+-- the object of a datagram: its number, then these fields
 abbrev pub datagram_object : ℕ → List Field → Json
 datagram_object n fields = object ((codes "datagram", number n) ∷ fields)
 
@@ -76,8 +77,10 @@ datagram_json o n d a = json_line (datagram_object n (answer_fields o (length d)
 abbrev pub ShowsJson : Bounds → List (List ℕ) → List ℕ → Verdict → Type 0
 ShowsJson b = Prints (Answers b) (datagram_json b.shape.order) is_taken
 
+-- the datagrams of what was read, shown behind what stood in the sink
 abbrev pub ShowsInput : Bounds → Option (List ℕ) → Option (List ℕ) → Option (List ℕ) → Option (List ℕ) → Verdict → Type 0
 ShowsInput b = OfInput (Shows b)
 
+-- the same in lines of JSON
 abbrev pub ShowsInputJson : Bounds → Option (List ℕ) → Option (List ℕ) → Option (List ℕ) → Option (List ℕ) → Verdict → Type 0
 ShowsInputJson b = OfInput (ShowsJson b)

@@ -67,7 +67,7 @@ unfoldable pub entry_line : ℕ → List ℕ
 entry_line number = codes "entry " ⨟ decimal number ⨟ codes "\n"
 
 -- the body lines of an entry
-unfoldable pub item_text : Order → Item → List ℕ
+abbrev pub item_text : Order → Item → List ℕ
 item_text o item = body_text o (family item.0 item.1)
 
 -- an entry: its line, and its body lines
@@ -88,6 +88,7 @@ end_line (Ended d (Error code)) = codes "end error " ⨟ signed_decimal code ⨟
 end_line (Ended d Overrun) = codes "end overrun\n"
 end_line (Ended d Abandoned) = codes "end none\n"
 
+-- yes where it is so, else no
 unfoldable pub yes_no : Bool → List ℕ
 yes_no true = codes "yes"
 yes_no false = codes "no"
@@ -102,6 +103,7 @@ counts_line entries missed ignored unfed damaged interrupted =
 unfoldable pub sums_line : ℕ → ℕ → List ℕ
 sums_line received visits = codes "received " ⨟ decimal received ⨟ codes " visits " ⨟ decimal visits ⨟ codes "\n"
 
+-- whether the dump is complete
 unfoldable pub complete_line : Bool → List ℕ
 complete_line complete = codes "complete " ⨟ yes_no complete ⨟ codes "\n"
 
@@ -118,10 +120,14 @@ ending_text d unfed v =
 abbrev pub in_text : Report
 in_text = record { front = dump_line; refusal = refusal_line; entry = entry_text; ending = ending_text }
 
--- the report of a session's dump: the datagrams that were fed, and how many were not
+-- the report of a session's dump, numbers in this order: the datagrams that were fed, and how many were not
+abbrev pub tabled_in : Order → Report → Dump → List Answered → ℕ → View → List ℕ
+tabled_in o t d fed unfed v =
+    ((t.front d ++ refusals_text t fed) ++ entries_text t o 1 (table_at d.kind v.tables).entries) ++ t.ending d unfed v
+
+-- the same in the order of the session's limits
 abbrev pub tabled : Report → Dump → List Answered → ℕ → View → List ℕ
-tabled t d fed unfed v =
-    ((t.front d ++ refusals_text t fed) ++ entries_text t v.limits.shape.order 1 (table_at d.kind v.tables).entries) ++ t.ending d unfed v
+tabled t d fed unfed v = tabled_in v.limits.shape.order t d fed unfed v
 
 -- datagrams in the order in which they were fed
 abbrev pub datagrams_of : List Answered → List (List ℕ)
@@ -142,6 +148,7 @@ IsReported (Err feed.TooLarge) = Unit {0}
 IsReported (Err (feed.Layout f)) = Unit {0}
 IsReported (Err feed.Memory) = ⊥
 
+-- it was so at each datagram that was fed
 abbrev pub AreReported : List Answered → Type 0
 AreReported [] = Unit {0}
 AreReported (f ∷ fed) = IsReported f.1 × AreReported fed
@@ -151,6 +158,20 @@ pub record FeedsSome (u : View) (ds : List (List ℕ)) (fed : List Answered) (re
   pub order : ds ≡ datagrams_of fed ++ rest
   pub reported : AreReported fed
   pub calls : (b : Bounds) (before : List Call) → Calls b before u → Calls b (feeds_after before fed) v
+
+-- whether a dump is complete, as a verdict
+abbrev pub verdict_of : Bool → Verdict
+verdict_of true = Clean
+verdict_of false = Blemished
+
+-- a session in which a dump waits is fed these datagrams in order, until the dump has ended: the report of it, and whether the dump is complete
+pub record ReportsFrom (t : Report) (o : Order) (d : Dump) (u : View) (ds : List (List ℕ)) (text : List ℕ) (verdict : Verdict) (v : View) : Type 0 where
+  pub fed : List Answered
+  pub unfed : List (List ℕ)
+  pub feeds : FeedsSome u ds fed unfed v
+  pub all : IsWaiting v.state → unfed ≡ []
+  pub text_is : text ≡ tabled_in o t d fed (length unfed) v
+  pub verdict_is : verdict ≡ verdict_of (complete_of v)
 
 -- the calls of a run: it begins the dump, and then feeds these datagrams
 abbrev pub calls_of : Dump → Vec ℕ → List Answered → List Call
@@ -168,10 +189,6 @@ pub record IsRun (b : Bounds) (d : Dump) (ds : List (List ℕ)) (request : Vec �
   -- and none is left while the dump waits
   pub all : IsWaiting v.state → unfed ≡ []
 
-abbrev pub verdict_of : Bool → Verdict
-verdict_of true = Clean
-verdict_of false = Blemished
-
 -- the report of the session in which the run over these datagrams ends, and whether its dump is complete
 pub record TablesBy (t : Report) (b : Bounds) (d : Dump) (ds : List (List ℕ)) (text : List ℕ) (verdict : Verdict) : Type 0 where
   pub request : Vec ℕ
@@ -186,5 +203,6 @@ pub record TablesBy (t : Report) (b : Bounds) (d : Dump) (ds : List (List ℕ)) 
 abbrev pub Tables : Bounds → Dump → List (List ℕ) → List ℕ → Verdict → Type 0
 Tables = TablesBy in_text
 
+-- the report of the datagrams of what was read, written behind what stood in the sink
 abbrev pub TablesInput : Bounds → Dump → Option (List ℕ) → Option (List ℕ) → Option (List ℕ) → Option (List ℕ) → Verdict → Type 0
 TablesInput b d = OfInput (Tables b d)

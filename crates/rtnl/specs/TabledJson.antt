@@ -57,6 +57,7 @@ end_code (Ended d (Error code)) = Some code
 end_code (Ended d Overrun) = None
 end_code (Ended d Abandoned) = None
 
+-- that status or code, where there is one
 abbrev pub code_fields : Option ℤ → List Field
 code_fields None = []
 code_fields (Some code) = (codes "code", signed code) ∷ []
@@ -96,5 +97,6 @@ in_json = record { front = λ _. []; refusal = refusal_json; entry = entry_json;
 abbrev pub TablesJson : Bounds → Dump → List (List ℕ) → List ℕ → Verdict → Type 0
 TablesJson = TablesBy in_json
 
+-- the report of the datagrams of what was read, written behind what stood in the sink
 abbrev pub TablesInputJson : Bounds → Dump → Option (List ℕ) → Option (List ℕ) → Option (List ℕ) → Option (List ℕ) → Verdict → Type 0
 TablesInputJson b d = OfInput (TablesJson b d)

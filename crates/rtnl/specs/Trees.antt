@@ -9,7 +9,7 @@ use Rattle.nl_attr.specs.declared.tree.Content.{Content}
 use Rattle.nl_attr.specs.declared.tree.Content.TheVariants as content
 use Rattle.nl_attr.specs.Tree.{Val, bytes, list, hops, Items, no_items, item, HopItems, no_hops, hop, holds_of}
 use Rattle.rtnl.specs.declared.text.attributes.Style.{Style}
-use Rattle.rtnl.specs.Attributes.{attribute_form, attribute_name}
+use Rattle.rtnl.specs.Attributes.{attribute_style, attribute_name}
 use Rattle.rtnl.specs.NamedBits.{hop_flags}
 use Rattle.rtnl.specs.Names.{names_text}
 use Rattle.rtnl.specs.Text.{◌⨟◌, padded_hex}
@@ -52,15 +52,15 @@ hop_count (hop flags count index attrs more) = hop_count more + 1
 
 -- what an attribute's own line says of its value
 unfoldable pub inline_text : Order → Style → Bool → Val → List ℕ
-inline_text o form net (bytes payload) = value_text (reading_of o form net payload)
-inline_text o form net (list items) = codes "list " ⨟ decimal (item_count items)
-inline_text o form net (hops items) = codes "hops " ⨟ decimal (hop_count items)
+inline_text o style net (bytes payload) = value_text (reading_of o style net payload)
+inline_text o style net (list items) = codes "list " ⨟ decimal (item_count items)
+inline_text o style net (hops items) = codes "hops " ⨟ decimal (hop_count items)
 
 -- an attribute's own line
 unfoldable pub attr_line : Order → List ℕ → Ctx → ℕ → AttrFlags → Val → List ℕ
 attr_line o indent ctx n flags v =
     indent ⨟ codes "attr " ⨟ decimal n ⨟ codes " " ⨟ attribute_name ctx n ⨟ codes " " ⨟ flags_text flags
-    ⨟ codes " " ⨟ inline_text o (attribute_form ctx n) flags.net v ⨟ codes "\n"
+    ⨟ codes " " ⨟ inline_text o (attribute_style ctx n) flags.net v ⨟ codes "\n"
 
 -- a next hop's own line
 unfoldable pub hop_line : List ℕ → ℕ → ℕ → ℤ → List ℕ

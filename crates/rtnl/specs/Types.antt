@@ -26,6 +26,7 @@ verb_name verb.Del = codes "del"
 verb_name verb.Get = codes "get"
 verb_name verb.Set = codes "set"
 
+-- which names the flags have of a message type of this verb
 abbrev pub verb_flags : Verb → FlagNames
 verb_flags verb.New = New
 verb_flags verb.Del = Common
@@ -41,10 +42,12 @@ name_for kind (Some t) = verb_name t.verb ++ name_of t.group
 unfoldable pub type_name : ℕ → List ℕ
 type_name kind = name_for kind (route_type kind)
 
+-- those of a row, or the common ones
 abbrev pub flags_in : Option (List ℕ × FlagNames) → FlagNames
 flags_in None = Common
 flags_in (Some row) = row.1
 
+-- those of a message type, by what it says where it is a family's
 abbrev pub flags_for : ℕ → Option RouteType → FlagNames
 flags_for kind None = flags_in (find_row kind controls)
 flags_for kind (Some t) = verb_flags t.verb
@@ -53,6 +56,7 @@ flags_for kind (Some t) = verb_flags t.verb
 unfoldable pub type_flags : ℕ → FlagNames
 type_flags kind = flags_for kind (route_type kind)
 
+-- the bits and their names
 abbrev pub flags_table : FlagNames → List BitRow
 flags_table Common = message_flags
 flags_table Get = get_flags

@@ -9,7 +9,7 @@ use Rattle.rtnl.specs.declared.text.attributes.Style.{Style}
 use Rattle.rtnl.specs.declared.text.attributes.Style.TheVariants.{U8, U16, U32, NetworkU16, Text, Address, Hex}
 use Rattle.rtnl.specs.Text.{◌⨟◌, hex_text, padded_hex}
 
--- a number of one, two or four bytes, a text, an address, or bytes of no other form
+-- a number of one, two or four bytes, a text, an address, or other bytes
 pub data Reading : Type 0 where
   u8 : ℕ → Reading
   u16 : ℕ → Reading
@@ -54,7 +54,7 @@ ip_reading bytes =
     else if length bytes == 16 then ipv6 bytes
     else hex bytes
 
--- a payload of a form, in the order of the datagram, where net says that the attribute has the flag of the network's order
+-- a payload of a style, in the order of the datagram, where net says that the attribute has the flag of the network's order
 unfoldable pub reading_of : Order → Style → Bool → List ℕ → Reading
 reading_of o U8 net bytes = u8_reading net bytes
 reading_of o U16 net bytes = u16_reading o net bytes

@@ -71,7 +71,7 @@ impl Each for Check {
     }
 }
 
-/// To check datagrams, and tell it as lines of JSON.
+/// To check datagrams, and say so in lines of JSON.
 #[derive(Clone, Copy)]
 struct CheckJson {
     limits: Limits,

@@ -158,7 +158,7 @@ impl<W: Write> Sink for WriteSink<W> {
 
 /// Gives all of `text` to a sink, by as many calls as it takes. It stops at the first call that
 /// fails or takes no byte, and a prefix of the text is then given.
-#[tactic(auto, using(crate::proofs::Streams::appends_more, crate::proofs::Streams::appends_none, crate::proofs::Streams::prefix_of, crate::proofs::Streams::whole))]
+#[tactic(auto, using(crate::proofs::Sets::gives))]
 pub(crate) fn give_all<W: Sink>(sink: &mut W, text: &[u8]) -> Result<(), RunError>
     ensures all { OnOk result (Appends (W.contents sink.old) (W.contents sink.new) text.now) }
     ensures sound { OnOk result (W.failure_count sink.new ≡ W.failure_count sink.old) }

@@ -8,8 +8,8 @@ ghost use Rattle.nl_dump.specs.declared.errors.FeedError.{FeedError as AnyFeedEr
 ghost use Rattle.rtnl.specs.Runs.{Runs};
 ghost use Rattle.rtnl.specs.Streams.{ConsumesAtMost};
 ghost use Rattle.rtnl.specs.TabledJson.{TablesInputJson, TablesJson};
-ghost use Rattle.rtnl.specs.Tabled.{Answered, FeedsSome, IsReported, Tables, TablesInput};
-ghost use Rattle.rtnl.specs.Tabled.{answer_text, refusals_text, verdict_of};
+ghost use Rattle.rtnl.specs.Tabled.{Answered, FeedsSome, IsReported, ReportsFrom, Tables};
+ghost use Rattle.rtnl.specs.Tabled.{TablesInput, answer_text, refusals_text, verdict_of};
 
 use crate::begun::begun;
 use crate::contents::push_table;
@@ -84,12 +84,35 @@ fn verdict(complete: bool) -> Verdict
     }
 }
 
-/// To read datagrams as the answers to a dump, under these limits, and tell of it so.
+/// To read datagrams as the answers to a dump, under these limits, and report them.
 #[derive(Clone, Copy)]
 struct Tabulate<F> {
     dump: Dump,
     limits: Limits,
     form: PhantomData<F>,
+}
+
+impl<F: Report> Tabulate<F> {
+    /// The report of a session in which the dump waits, which is fed the datagrams first, and
+    /// whether the dump is complete.
+    fn report_of(
+        &self,
+        alloc: Global,
+        session: &mut Session,
+        datagrams: &Datagrams,
+    ) -> Result<(Vec<u8>, Verdict), AllocError>
+        ensures { IfOk result (λ p. ReportsFrom F.report self.now.limits.shape.order self.now.dump
+            session.old datagrams.now p.0.items p.1 session.new) }
+    {
+        let mut out = Vec::new(alloc);
+        F::push_front(alloc, &mut out, &self.dump)?;
+        let fed = feed_all::<F>(alloc, session, &mut out, datagrams)?;
+        let unfed = datagrams.len() - fed;
+        let order = self.limits.order();
+        let size = push_table::<F>(alloc, &mut out, order, session, self.dump.kind)?;
+        F::push_ending(alloc, &mut out, &self.dump, session, size, unfed)?;
+        Ok((out, verdict(session.complete())))
+    }
 }
 
 impl<F: Report> Command for Tabulate<F> {
@@ -103,19 +126,7 @@ impl<F: Report> Command for Tabulate<F> {
         datagrams: &Datagrams,
     ) -> Result<(Vec<u8>, Verdict), AllocError> {
         let (mut session, _request) = begun(alloc, &self.dump, &self.limits)?;
-        let mut out = Vec::new(alloc);
-        F::push_front(alloc, &mut out, &self.dump)?;
-        let fed = feed_all::<F>(alloc, &mut session, &mut out, datagrams)?;
-        let unfed = datagrams.len() - fed;
-        let size = push_table::<F>(
-            alloc,
-            &mut out,
-            self.limits.order(),
-            &session,
-            self.dump.kind,
-        )?;
-        F::push_ending(alloc, &mut out, &self.dump, &session, size, unfed)?;
-        Ok((out, verdict(session.complete())))
+        self.report_of(alloc, &mut session, datagrams)
     }
 }
 

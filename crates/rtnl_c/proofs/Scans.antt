@@ -8,7 +8,7 @@ use Rattle.nl_frame.specs.Heads.{IsFirstFault, whole}
 use Rattle.nl_frame.specs.Layout.{Layout}
 use Rattle.nl_frame.specs.Limits.{Bounds}
 use Rattle.nl_frame.specs.Message.{MessageVal}
-use Rattle.nl_frame.specs.Taped.{as_read, refusal}
+use Rattle.nl_frame.specs.Taped.{as_read, read_refusal}
 use Rattle.nl_frame.specs.Outcomes.{IfFault, VisitsUpTo, read_code}
 use Rattle.nl_frame.specs.Trail.{events_of}
 use Rattle.rtnl_c.specs.Scanned.{Scans, Tapes, place_of, refused, untaped}
@@ -31,9 +31,9 @@ module _ (b : Bounds) (d : List ℕ) where
       let s = subst (λ r. IsScan r v) is scan in
       found.accepted (within (Ok x) b.datagram (length d) s.0 (λ e. cc)) s.1.0 s.1.1 v s.3
 
-  pub scans_err : {X : Type 0} (r : Result X ScanError) (e : ScanError) (v : ℕ) → r ≡ Err e → IsScan r v → Scans b d (refused v (place_of e) (read_code (refusal e)))
+  pub scans_err : {X : Type 0} (r : Result X ScanError) (e : ScanError) (v : ℕ) → r ≡ Err e → IsScan r v → Scans b d (refused v (place_of e) (read_code (read_refusal e)))
   scans_err {X = X} r e v is scan = by e (subst (λ r. IsScan r v) is scan) where
-    by : (e : ScanError) → IsScan {X = X} (Err e) v → Scans b d (refused v (place_of e) (read_code (refusal e)))
+    by : (e : ScanError) → IsScan {X = X} (Err e) v → Scans b d (refused v (place_of e) (read_code (read_refusal e)))
     by TooLarge s = subst (λ n. Scans b d (refused n 0 6)) (sym s.3) (found.too_large (s.0.0 refl))
     by (Fails f) s = found.faulty (within {X = X} (Err (Fails f)) b.datagram (length d) s.0 (λ e. cc)) f.place f.reason s.2 v s.3
 
@@ -45,9 +45,9 @@ module _ (b : Bounds) (d : List ℕ) where
         let small = within (Ok n) b.datagram (length d) s.0 (λ e. cc) in
         rw (events small, c) (found.accepted small s.1.0 s.1.1 v s.3)
 
-    pub tapes_err : (r : Result ℕ ScanError) (e : ScanError) (v : ℕ) → r ≡ Err e → IsScan r v → Tapes b d old new (untaped v (place_of e) (read_code (refusal e)))
+    pub tapes_err : (r : Result ℕ ScanError) (e : ScanError) (v : ℕ) → r ≡ Err e → IsScan r v → Tapes b d old new (untaped v (place_of e) (read_code (read_refusal e)))
     tapes_err r e v is scan = by e (subst (λ r. IsScan r v) is scan) where
-      by : (e : ScanError) → IsScan {X = ℕ} (Err e) v → Tapes b d old new (untaped v (place_of e) (read_code (refusal e)))
+      by : (e : ScanError) → IsScan {X = ℕ} (Err e) v → Tapes b d old new (untaped v (place_of e) (read_code (read_refusal e)))
       by TooLarge s = let large = s.0.0 refl in rw (untouched large, s.3) (found.too_large large)
       by (Fails f) s =
           let small = within {X = ℕ} (Err (Fails f)) b.datagram (length d) s.0 (λ e. cc) in

@@ -39,9 +39,11 @@ MessageStands o bytes place m = (found : Option (Result Frame Fault)) × Front.S
 
 -- ---- attributes
 
+-- no attribute stands at this place, for this reason
 abbrev pub no_attr : ℕ → ℕ → AttrAt
 no_attr place code = record { place = place; next = place; len = 0; number = 0; nested = false; net = false; code = code }
 
+-- the answer to C of what stands there, as for messages
 abbrev pub attr_found : ℕ → Option (Result Part Fault) → AttrAt
 attr_found place None = no_attr place 255
 attr_found place (Some (Err f)) = no_attr place (fault_code f)
@@ -55,14 +57,17 @@ attr_found place (Some (Ok p)) = record {
   code = 0;
 }
 
+-- this is the answer to C of what stands at a place of these bytes
 abbrev pub AttrStands : Order → List ℕ → ℕ → AttrAt → Type 0
 AttrStands o bytes place a = (found : Option (Result Part Fault)) × Walk.StandsAt 4 Walk.IsPart o bytes place found × (a ≡ attr_found place found)
 
 -- ---- next hops
 
+-- no next hop stands at this place, for this reason
 abbrev pub no_hop : ℕ → ℕ → HopAt
 no_hop place code = record { place = place; next = place; len = 0; ifindex = pos 0; flags = 0; hops = 0; code = code }
 
+-- the answer to C of what stands there, as for messages
 abbrev pub hop_found : ℕ → Option (Result HopPart Fault) → HopAt
 hop_found place None = no_hop place 255
 hop_found place (Some (Err f)) = no_hop place (fault_code f)
@@ -76,5 +81,6 @@ hop_found place (Some (Ok p)) = record {
   code = 0;
 }
 
+-- this is the answer to C of what stands at a place of these bytes
 abbrev pub HopStands : Order → List ℕ → ℕ → HopAt → Type 0
 HopStands o bytes place h = (found : Option (Result HopPart Fault)) × Walk.StandsAt 8 Walk.IsHopPart o bytes place found × (h ≡ hop_found place found)

@@ -23,6 +23,7 @@ place_of (Fails f) = f.place
 abbrev pub refused : ℕ → ℕ → ℕ → Scanned
 refused visits place code = record { visits = visits; place = place; code = code }
 
+-- the same of a scan into a buffer: nothing is counted
 abbrev pub untaped : ℕ → ℕ → ℕ → Taped
 untaped visits place code = record { count = 0; visits = visits; place = place; code = code }
 

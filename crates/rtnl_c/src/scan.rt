@@ -21,7 +21,7 @@ pub struct Scanned {
     pub code: u8,
 }
 
-/// What a scan finds that tells of each head in a buffer.
+/// What a scan finds that puts an event of each head into a buffer.
 #[repr(C)]
 #[derive(Clone, Copy)]
 pub struct Taped {
@@ -64,7 +64,7 @@ fn scan(bytes: &[u8], limits: &Limits) -> Scanned
     }
 }
 
-/// What a scan finds within limits that tells of each head in a buffer.
+/// What a scan within limits finds that puts an event of each head into a buffer.
 fn tape(bytes: &[u8], limits: &Limits, out: &mut [Event]) -> Taped
     ensures { Tapes limits.now bytes.now out.old out.new result }
 {

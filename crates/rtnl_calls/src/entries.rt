@@ -53,7 +53,7 @@ pub(crate) fn entries_in(alloc: Global, session: &Session, kind: Kind) -> Result
     match_table!(kind, session, table => entries_of(alloc, table))
 }
 
-/// All that the tables of a session tell.
+/// All that the tables of a session hold.
 pub(crate) fn tables_of(alloc: Global, session: &Session) -> Result<Vec<u8>, Stop> {
     let mut tables = Vec::with_capacity(alloc, ROOM)?;
     for kind in Kind::ALL {

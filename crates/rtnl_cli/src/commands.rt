@@ -159,7 +159,8 @@ fn show_command<'a>(alloc: Global, values: Values<'a>) -> Result<Command<'a>, Al
 fn check_command<'a>(alloc: Global, values: Values<'a>) -> Result<Command<'a>, AllocError> {
     Command::new(alloc, "check")
         .about(
-            "Prints whether each datagram of a recording is canonical (the very bytes that its messages are written as), accepted though not canonical, or refused, and why",
+            "Prints whether each datagram of a recording is canonical (the very bytes that its \
+            messages are written as), accepted though not canonical, or refused, and why",
         )
         .after_help(CHECK_EXAMPLE)
         .arg(order_option(alloc, values))?
@@ -171,7 +172,8 @@ fn check_command<'a>(alloc: Global, values: Values<'a>) -> Result<Command<'a>, A
 fn table_command<'a>(alloc: Global, values: Values<'a>) -> Result<Command<'a>, AllocError> {
     Command::new(alloc, "table")
         .about(
-            "Reads a recording as the answers to a dump, and prints the table of its entries and how the dump ended",
+            "Reads a recording as the answers to a dump, and prints the table of its entries and \
+            how the dump ended",
         )
         .after_help(TABLE_EXAMPLE)
         .arg(kind_option(alloc, values))?

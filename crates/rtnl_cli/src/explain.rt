@@ -40,7 +40,8 @@ fn explain_line(rt: &HostRuntime, name: &str, input: &[u8], number: u32) -> io::
                 ""
             };
             eprintln!(rt;
-                "rtnl: {name}: line {number}, column {column}: byte 0x{byte:02x} is no hexadecimal digit{hint}"
+                "rtnl: {name}: line {number}, column {column}: byte 0x{byte:02x} is no \
+                hexadecimal digit{hint}"
             )
         }
         Some(LineFault::Odd { digits }) => {
@@ -107,7 +108,8 @@ fn explain_head(
     match head.len {
         Some(len) => {
             eprintln!(rt;
-                "rtnl: datagram {number}: {fault}: {rule}: {subject} of length {len}, {left} bytes left: {around}"
+                "rtnl: datagram {number}: {fault}: {rule}: {subject} of length {len}, {left} \
+                bytes left: {around}"
             )
         }
         None => {
@@ -140,7 +142,8 @@ fn explain_refusal(
         FeedError::Total => {
             let (size, limit) = (datagram.len(), limits.total());
             eprintln!(rt;
-                "rtnl: datagram {number}: total: with its {size} bytes all are above the limit of {limit}"
+                "rtnl: datagram {number}: total: with its {size} bytes all are above the limit of \
+                {limit}"
             )
         }
         FeedError::NotWaiting => Ok(()),

@@ -15,7 +15,7 @@ use Rattle.nl_attr.specs.Numbers.{len_of, span_of}
 use Rattle.nl_attr.specs.Walk.{broken_length}
 use Rattle.nl_attr.specs.Tree.{Items, HopItems, list, hops}
 use Rattle.nl_attr.specs.Heads.{attr_head, broken_container, broken_in, content_at}
-use Rattle.nl_attr.specs.Reading.{Outcome, and_then, map_value, counted, checked, value_by, items_at, hops_at}
+use Rattle.nl_attr.specs.Reading.{Outcome, and_then, map_value, fault_visits, look_at, value_by, items_at, hops_at}
 use Rattle.nl_attr.proofs.Lemmas.Reading.{or_else_none, IsWithin, sound_within, span_at_least, payload_shorter, rest_shorter, payload_length}
 use Rattle.nl_attr.specs.Walk.{payload_of}
 
@@ -27,21 +27,17 @@ then_bound : {A B : Type 0} (o : Outcome A) (f : A → Outcome B) (a b : ℕ) �
 then_bound (Ok x, v) f a b h k = omega (arith, k x)
 then_bound (Err d, v) f a b h k = omega arith
 
-counted_le : (r : Reason) (n : ℕ) → counted r n ≤ n
-counted_le Cut n = omega arith
-counted_le BadLength n = omega arith
-counted_le ShortBody n = omega arith
-counted_le TooLong n = omega arith
-counted_le TooDeep n = omega arith
-
-checked_bound : {B : Type 0} (place span : ℕ) (r : Option Reason) (f : Unit {0} → Outcome B) (b : ℕ) → (r ≡ None → (f tt).1 ≤ b) → (and_then (checked place span r) f).1 ≤ span + b
-checked_bound place span None f b h = omega (arith, h refl)
-checked_bound place span (Some r) f b h = omega (arith, counted_le r span)
+fault_visits_le : (r : Reason) (n : ℕ) → fault_visits r n ≤ n
+fault_visits_le Cut n = omega arith
+fault_visits_le BadLength n = omega arith
+fault_visits_le ShortBody n = omega arith
+fault_visits_le TooLong n = omega arith
+fault_visits_le TooDeep n = omega arith
 
 -- a bound on the span alone, and one on all that comes
-checked_all : {B : Type 0} (place span : ℕ) (r : Option Reason) (f : Unit {0} → Outcome B) (b : ℕ) → span ≤ b → (r ≡ None → span + (f tt).1 ≤ b) → (and_then (checked place span r) f).1 ≤ b
-checked_all place span None f b le h = h refl
-checked_all place span (Some r) f b le h = omega (arith, counted_le r span)
+look_all : {B : Type 0} (place span : ℕ) (r : Option Reason) (f : Unit {0} → Outcome B) (b : ℕ) → span ≤ b → (r ≡ None → span + (f tt).1 ≤ b) → (and_then (look_at place span r) f).1 ≤ b
+look_all place span None f b le h = h refl
+look_all place span (Some r) f b le h = omega (arith, fault_visits_le r span)
 
 pub tests_none : (a b : Bool) → cond a (Some TooLong) (cond b (Some TooDeep) None) ≡ None → b ≡ false
 tests_none true b e = absurd cc
@@ -89,7 +85,7 @@ mutual
       let payload = payload_of S.order 4 2 left in
       let rest = drop (span_of S.order 2 left) left in
       let m = length payload in
-      checked_all place (span_of S.order 2 left) (broken_in S ctx l attr_head left) _ ((S.depth - l + 1) * length left) (span_below S.order (S.depth - l) left) (λ sound.
+      look_all place (span_of S.order 2 left) (broken_in S ctx l attr_head left) _ ((S.depth - l + 1) * length left) (span_below S.order (S.depth - l) left) (λ sound.
       let s = or_else_none _ _ sound in
       let w = sound_within S.order 4 2 left s.0 in
       let p-le : m ≤ n = payload_shorter S.order 4 2 n left (omega arith) h in
@@ -108,7 +104,7 @@ mutual
       let payload = payload_of S.order 8 2 left in
       let rest = drop (span_of S.order 2 left) left in
       let m = length payload in
-      checked_all place (span_of S.order 2 left) (broken_length S.order 8 2 left) _ ((S.depth - l + 1) * length left) (span_below S.order (S.depth - l) left) (λ sound.
+      look_all place (span_of S.order 2 left) (broken_length S.order 8 2 left) _ ((S.depth - l + 1) * length left) (span_below S.order (S.depth - l) left) (λ sound.
       let w = sound_within S.order 8 2 left sound in
       turn_bound S.order (S.depth - l) 8 left _ w (add_left (span_of S.order 2 left) _ _ (then_bound _ _ ((S.depth - l) * m) ((S.depth - l + 1) * length rest)
       (at_level S l m _ d (items_bound n S Route (l + 1) (place + 8) payload (payload_shorter S.order 8 2 n left (omega arith) h)))

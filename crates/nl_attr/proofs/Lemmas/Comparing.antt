@@ -1,6 +1,6 @@
 -- Bytes that begin with one text and then another.
-use Rattle.std.proofs.Common.{◌≡◌, ℕ, ◌+◌, ◌-◌, ◌<◌, ◌≤◌, List, [], ◌∷◌, ◌++◌, length, take, drop, replicate, Option, Some, None, refl, sym, ap, subst, ◌∙◌, arith, length-append, length-drop}
-use Rattle.std.proofs.lemmas.List.{length-take, take-take, take_at, drop_at, drop-take, take-append-drop, take_rest, drop-drop}
+use Rattle.std.proofs.Common.{◌≡◌, ℕ, ◌+◌, ◌-◌, List, [], ◌∷◌, ◌++◌, length, take, drop, replicate, Option, Some, None, refl, sym, ap, subst, ◌∙◌, arith, length-append, length-drop}
+use Rattle.std.proofs.lemmas.List.{take-take, take_at, drop_at, drop-take, take-append-drop, take_rest, drop-drop}
 use Rattle.nl_attr.specs.declared.order.Order.{Order}
 use Rattle.nl_attr.specs.Numbers.{aligned, num}
 use Rattle.nl_attr.specs.Written.{with_padding}
@@ -38,14 +38,6 @@ not_first a b bytes p = λ h. p (first_of_two a b bytes h)
 -- a second text that isn't there, behind so many bytes
 pub not_second : (a b bytes : List ℕ) (n : ℕ) → length a ≡ n → Begins b (drop n bytes) None → Begins (a ++ b) bytes None
 not_second a b bytes n e p = λ h. p (ap (λ k. take (length b) (drop k bytes)) (sym e) ∙ second_of_two a b bytes h)
-
--- too few bytes
-pub too_few : (a bytes : List ℕ) → length bytes < length a → Begins a bytes None
-too_few a bytes h = λ e. absurd (omega (arith, h, ap (length {A = ℕ}) e, length-take (length a) bytes))
-
--- a text that is there lies within the bytes
-pub is_within : (a bytes : List ℕ) (n : ℕ) → Begins a bytes (Some n) → n ≤ length bytes
-is_within a bytes n p = omega (arith, p.0, ap (length {A = ℕ}) p.1, length-take n bytes)
 
 -- an item of so many bytes and the zeros behind it
 pub padded_item : (it bytes : List ℕ) (n : ℕ) (r : Option ℕ) → Begins it bytes (Some n) → Begins (replicate (aligned n - n) 0) (drop n bytes) r → Begins (with_padding it) bytes (behind n r)

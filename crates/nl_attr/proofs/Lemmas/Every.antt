@@ -129,10 +129,6 @@ onward_bound [] r v i s n h = omega arith
 onward_bound (b ∷ bs) (Some r) v i s n h = omega arith
 onward_bound (b ∷ bs) None v i s n h = omega (arith, h refl, sum_append i s)
 
-low_level : (S : Shape) (s : Sort) (l : ℕ) → IsLow S s l → l ≤ S.depth
-low_level S attr_head l h = h
-low_level S hop_head l h = omega (arith, h)
-
 pub visits_low : (n : ℕ) (S : Shape) (h : Head) → IsLow S h.sort h.level → length h.left ≤ n → spans (visits n S h) ≤ (S.depth - h.level + 1) * length h.left
 unfolding visits
 visits_low zero S h low le = omega arith

@@ -12,7 +12,7 @@ use Rattle.nl_attr.specs.Numbers.{span_of}
 use Rattle.nl_attr.specs.Tree.{list, hops, Items, HopItems}
 use Rattle.nl_attr.specs.Heads.{attr_head, hop_head, Head, broken, content_at, follower, inner_in, inner_of, FaultAt, IsFirstFault, start_of}
 use Rattle.nl_attr.specs.Visits.{spans}
-use Rattle.nl_attr.specs.Reading.{Outcome, and_then, map_value, counted, checked, value_by, items_at, hops_at, items_of_region}
+use Rattle.nl_attr.specs.Reading.{Outcome, and_then, map_value, fault_visits, look_at, value_by, items_at, hops_at, items_of_region}
 use Rattle.nl_attr.proofs.Lemmas.Scan.{Scan, scan, turn, join, stopped, inner_scan, Finds, scan_finds}
 use Rattle.nl_attr.specs.Walk.{payload_of}
 
@@ -39,14 +39,14 @@ then_agrees (Ok x, v) g (vs, Some f) rest a b = absurd (let e = a.end in cc)
 then_agrees (Err d, v) g (vs, None) rest a b = absurd (let e = a.end in cc)
 then_agrees (Err d, v) g (vs, Some f) rest a b = record { end = a.end; sums = a.sums }
 
-stopped_sum : (S : Shape) (r : Reason) (h : Head) → counted r (span_of S.order 2 h.left) ≡ spans (stopped S r h)
+stopped_sum : (S : Shape) (r : Reason) (h : Head) → fault_visits r (span_of S.order 2 h.left) ≡ spans (stopped S r h)
 stopped_sum S Cut h = refl
 stopped_sum S BadLength h = refl
 stopped_sum S ShortBody h = omega arith
 stopped_sum S TooLong h = omega arith
 stopped_sum S TooDeep h = omega arith
 
-turn_agrees : {B : Type 0} (S : Shape) (x : ℕ) (xs : List ℕ) (r : Option Reason) (h : Head) (i rest : Scan) (f : Unit {0} → Outcome B) → Agrees (f tt) (join i rest) → Agrees (and_then (checked h.place (span_of S.order 2 h.left) r) f) (turn S (x ∷ xs) r h i rest)
+turn_agrees : {B : Type 0} (S : Shape) (x : ℕ) (xs : List ℕ) (r : Option Reason) (h : Head) (i rest : Scan) (f : Unit {0} → Outcome B) → Agrees (f tt) (join i rest) → Agrees (and_then (look_at h.place (span_of S.order 2 h.left) r) f) (turn S (x ∷ xs) r h i rest)
 turn_agrees S x xs (Some r) h i rest f a = record { end = refl; sums = stopped_sum S r h }
 turn_agrees S x xs None h i rest f a = record { end = a.end; sums = omega (arith, a.sums) }
 

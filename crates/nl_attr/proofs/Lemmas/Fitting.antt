@@ -21,7 +21,7 @@ use Rattle.nl_attr.specs.Walk.{flags_of, ifindex_of, broken_length}
 use Rattle.nl_attr.specs.Tree.{Val, bytes, list, hops, Items, no_items, item, HopItems, no_hops, hop, holds_of}
 use Rattle.nl_attr.specs.Layout.{IsPadded, IsPiece, kind_number, FitsVal, Fits, FitsHops}
 use Rattle.nl_attr.specs.Heads.{broken_container}
-use Rattle.nl_attr.specs.Reading.{Outcome, and_then, map_value, more_visits, checked, items_at, items_of_region, hops_of_region, value_at, attr_at}
+use Rattle.nl_attr.specs.Reading.{Outcome, and_then, map_value, more_visits, look_at, items_at, items_of_region, hops_of_region, value_at, attr_at}
 use Rattle.nl_attr.proofs.Lemmas.Numbers.{number_of-num, kind_of-num, index_of-num, past_head, past_hop, flags_at, count_at, head_length, head_then, hop_then}
 use Rattle.nl_attr.proofs.Lemmas.Reading.{items_step, hops_step}
 use Rattle.nl_attr.specs.Walk.{payload_of}
@@ -132,7 +132,7 @@ along o p x e h = (h.0, e ∙ h.1)
 attr_read : (S : Shape) (ctx : Ctx) (l place n : ℕ) (flags : AttrFlags) (payload : List ℕ) (v : Val) → broken_container S l (holds_of ctx n flags) (length payload + 4) ≡ None
     → ReadAs (value_at S (holds_of ctx n flags) l (place + 4) payload) v → ReadAs (attr_at S ctx l place n flags payload) (λ more. item n flags v more)
 attr_read S ctx l place n flags payload v e h =
-    then_read (checked place 0 (broken_container S l (holds_of ctx n flags) (length payload + 4))) _ tt _ (0, ap (checked place 0) e) (map_read (λ w more. item n flags w more) _ v h)
+    then_read (look_at place 0 (broken_container S l (holds_of ctx n flags) (length payload + 4))) _ tt _ (0, ap (look_at place 0) e) (map_read (λ w more. item n flags w more) _ v h)
 
 tests_pass : (a b : Bool) → a ≡ false → b ≡ false → cond a (Some TooLong) (cond b (Some TooDeep) None) ≡ None
 tests_pass a b e f = rw (e, f) refl

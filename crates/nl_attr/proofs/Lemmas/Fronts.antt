@@ -9,8 +9,8 @@ use Rattle.nl_attr.specs.declared.tree.Ctx.{Ctx}
 use Rattle.nl_attr.specs.declared.tree.Ctx.TheVariants.{Route}
 use Rattle.nl_attr.specs.declared.tree.Content.{Content}
 use Rattle.nl_attr.specs.declared.tree.Content.TheVariants as content
-use Rattle.nl_attr.specs.declared.taping.fronts.Kind.{Kind}
-use Rattle.nl_attr.specs.declared.taping.fronts.Kind.TheVariants as kind
+use Rattle.nl_attr.specs.declared.region.Parts.{Parts}
+use Rattle.nl_attr.specs.declared.region.Parts.TheVariants.{Attrs, Hops}
 use Rattle.nl_attr.specs.declared.events.Event.{Event}
 use Rattle.nl_attr.specs.declared.events.TheConstants.{SORT_BYTES, SORT_NEXT_HOP}
 use Rattle.nl_attr.specs.Shape.{Shape}
@@ -18,7 +18,8 @@ use Rattle.nl_attr.specs.Numbers.{kind_of, len_of}
 use Rattle.nl_attr.specs.Tree.{holds_of}
 use Rattle.nl_attr.specs.Walk.{broken_length, flags_of, payload_of}
 use Rattle.nl_attr.specs.Heads.{Head, content_at, broken, broken_container, inner_in, inner_of, span_at, start_of}
-use Rattle.nl_attr.specs.Taped.{Adds, ctx_in, hops_start, sort_in}
+use Rattle.nl_attr.specs.Region.{content_in, ctx_in, sort_in}
+use Rattle.nl_attr.specs.Taped.{Adds, hops_start}
 use Rattle.nl_attr.specs.Trail.{event_of, sort_of, stopped}
 use Rattle.nl_attr.proofs.Lemmas.Trail.{container_stops}
 use Rattle.nl_attr.proofs.Lemmas.Putting.{put_one}
@@ -96,10 +97,7 @@ module _ (S : Shape) where
     pub attr_inner : (payload : List ℕ) → payload ≡ payload_of S.order 4 2 left → inner_of S (start_of ctx l place left) ≡ inner_in held (place + 4) (l + 1) payload
     attr_inner payload p = rw (holds, p) refl
 
--- the region in an attribute that holds attributes
-pub list_inner : (held : Content) (k : Kind) (c : Ctx) (place l : ℕ) (payload : List ℕ) → held ≡ content.List c → k ≡ kind.Attrs c → inner_in held place l payload ≡ Some (record { place = place; sort = sort_in k; ctx = ctx_in k; level = l; left = payload })
-list_inner held k c place l payload e f = rw (e, f) refl
-
--- that in one that holds next hops
-pub hops_inner : (held : Content) (k : Kind) (place l : ℕ) (payload : List ℕ) → held ≡ content.Hops → k ≡ kind.Hops → inner_in held place l payload ≡ Some (record { place = place; sort = sort_in k; ctx = ctx_in k; level = l; left = payload })
-hops_inner held k place l payload e f = rw (e, f) refl
+-- the region in an attribute that holds one
+pub region_inner : (held : Content) (p : Parts) (place l : ℕ) (payload : List ℕ) → held ≡ content_in p → inner_in held place l payload ≡ Some (record { place = place; sort = sort_in p; ctx = ctx_in p; level = l; left = payload })
+region_inner held (Attrs c) place l payload e = ap (λ (k : Content). inner_in k place l payload) e
+region_inner held Hops place l payload e = ap (λ (k : Content). inner_in k place l payload) e

@@ -7,11 +7,8 @@ use Rattle.nl_attr.specs.declared.tree.Ctx.{Ctx}
 use Rattle.nl_attr.specs.declared.tree.Content.{Content}
 use Rattle.nl_attr.specs.declared.tree.Content.TheVariants as content
 use Rattle.nl_attr.specs.declared.stack.regions.ListRegion.{ListRegion}
-use Rattle.nl_attr.specs.declared.stack.regions.HopsRegion.{HopsRegion}
 use Rattle.nl_attr.specs.declared.stack.attributes.Turn.{Turn}
 use Rattle.nl_attr.specs.declared.stack.attributes.Turn.TheVariants as turn
-use Rattle.nl_attr.specs.declared.stack.next_hops.HopsTurn.{HopsTurn}
-use Rattle.nl_attr.specs.declared.stack.next_hops.HopsTurn.TheVariants as hops_turn
 use Rattle.nl_attr.specs.declared.fault.ListError.{ListError}
 use Rattle.nl_attr.specs.Shape.{Shape}
 use Rattle.nl_attr.specs.Numbers.{span_of}
@@ -20,7 +17,7 @@ use Rattle.nl_attr.specs.Heads.{broken_container}
 use Rattle.nl_attr.specs.Reading.{Outcome, and_then, map_value, more_visits, value_at}
 use Rattle.nl_attr.specs.Tree.{Val, bytes, Items, item, HopItems, holds_of}
 use Rattle.nl_attr.specs.View.{Front}
-use Rattle.nl_attr.specs.Open.{before, Goes, HopsGo, FailsAs, Spot, list_spot, hops_spot, levels_in, IsWithinLimits, Advances, Moves, HopsMove}
+use Rattle.nl_attr.specs.Open.{before, Goes, FailsAs, Spot, list_spot, levels_in, IsWithinLimits, Advances, Moves}
 use Rattle.nl_attr.proofs.Lemmas.Loop.{rest_of, part_step, hops_rest, hop_step}
 use Rattle.nl_attr.proofs.Lemmas.Steps.{Passes, collected, list_opens, zero_more}
 
@@ -72,17 +69,6 @@ module _ {S : Shape} {n : ℕ} {whole : Outcome Items} {start : Spot} {m : ℕ} 
   moves_so r turn.Ends i v = tt
   moves_so r (turn.Opens p) i v = (advances_both start spot (list_spot r) i.goes v.0, v.1, omega (arith, v.2, i.less))
   moves_so r (turn.Fails e) i v = tt
-
-module _ {S : Shape} {n : ℕ} {whole : Outcome HopItems} {start : Spot} {m : ℕ} {rest : Outcome HopItems} {spot : Spot} where
-  pub hops_turns_so : (k : ℕ) (r : HopsRegion) (t : HopsTurn) → IsGoing S n whole start m rest spot → HopsGo S m rest k r t → HopsGo S n whole k r t
-  hops_turns_so k r hops_turn.Ends i g = i.same ∙ g
-  hops_turns_so k r (hops_turn.Opens h a p) i g = i.same ∙ g
-  hops_turns_so k r (hops_turn.Fails e) i g = fails_so k e i g
-
-  pub hops_move_so : (r : HopsRegion) (t : HopsTurn) → IsGoing S n whole start m rest spot → HopsMove S spot r t → HopsMove S start r t
-  hops_move_so r hops_turn.Ends i v = tt
-  hops_move_so r (hops_turn.Opens h a p) i v = (advances_both start spot (hops_spot r) i.goes v.0, v.1, v.2)
-  hops_move_so r (hops_turn.Fails e) i v = tt
 
 -- an attribute of bytes is collected
 pub list_leaf : (S : Shape) (ctx : Ctx) (l base : ℕ) (p : Part) (r s : Region) (front longer : List Front) (n : ℕ) → r.order ≡ S.order → broken_length r.order 4 2 r.left ≡ None → IsPart p r → s ≡ after r → holds_of ctx p.number p.flags ≡ content.Bytes → longer ≡ front ++ item p.number p.flags (bytes p.payload.now) ∷ []

@@ -11,8 +11,8 @@ use Rattle.nl_attr.specs.declared.tree.AttrFlags.{AttrFlags}
 use Rattle.nl_attr.specs.declared.tree.Ctx.{Ctx}
 use Rattle.nl_attr.specs.declared.stack.regions.HopsRegion.{HopsRegion}
 use Rattle.nl_attr.specs.declared.stack.regions.ListRegion.{ListRegion}
-use Rattle.nl_attr.specs.declared.stack.attributes.Inner.{Inner}
-use Rattle.nl_attr.specs.declared.stack.attributes.Inner.TheVariants as inner
+use Rattle.nl_attr.specs.declared.region.Parts.{Parts}
+use Rattle.nl_attr.specs.declared.region.Parts.TheVariants as parts
 use Rattle.nl_attr.specs.declared.stack.attributes.Opening.{Opening}
 use Rattle.nl_attr.specs.declared.stack.attributes.Turn.{Turn}
 use Rattle.nl_attr.specs.declared.stack.attributes.Turn.TheVariants as turn
@@ -23,18 +23,19 @@ use Rattle.nl_attr.specs.Tree.{Val, list, hops, Items, item, HopItems, holds_of}
 use Rattle.nl_attr.specs.View.{attr_view}
 use Rattle.nl_attr.specs.Heads.{attr_head, broken_container}
 use Rattle.nl_attr.specs.Reading.{Outcome, and_then, more_visits, items_of_region, hops_of_region, value_at}
-use Rattle.nl_attr.specs.Open.{before, content_in, TurnsAt, items_left, list_rest, hops_rest, list_goes_on, opening_rest, Goes, list_spot, sort_in, levels_in, IsWithinLimits, Moves}
+use Rattle.nl_attr.specs.Region.{content_in, sort_in}
+use Rattle.nl_attr.specs.Open.{before, TurnsAt, items_left, list_rest, hops_rest, list_goes_on, opening_rest, Goes, list_spot, levels_in, IsWithinLimits, Moves}
 use Rattle.nl_attr.proofs.Lemmas.Bounds.{tests_none}
 use Rattle.nl_attr.proofs.Lemmas.Reading.{map_then}
 use Rattle.nl_attr.proofs.Lemmas.Turns.{Turns}
 use Rattle.nl_attr.proofs.Lemmas.Steps.{collected, list_breaks, list_opens, passes}
 
 -- the levels that a sound container opens are there
-levels_are : (S : Shape) (level len : ℕ) (i : Inner) → broken_container S level (content_in i) len ≡ None → level + 1 + levels_in (sort_in i) ≤ S.depth
-levels_are S level len (inner.List c) e = omega (arith, ltb-false _ _ (tests_none (ltb LONGEST_CONTAINER len) (ltb S.depth (level + 1)) e))
-levels_are S level len inner.Hops e = omega (arith, ltb-false _ _ (tests_none (ltb LONGEST_CONTAINER len) (ltb S.depth (level + 2)) e))
+levels_are : (S : Shape) (level len : ℕ) (i : Parts) → broken_container S level (content_in i) len ≡ None → level + 1 + levels_in (sort_in i) ≤ S.depth
+levels_are S level len (parts.Attrs c) e = omega (arith, ltb-false _ _ (tests_none (ltb LONGEST_CONTAINER len) (ltb S.depth (level + 1)) e))
+levels_are S level len parts.Hops e = omega (arith, ltb-false _ _ (tests_none (ltb LONGEST_CONTAINER len) (ltb S.depth (level + 2)) e))
 
-module _ (S : Shape) (p : Part) (r s : ListRegion) (i : Inner) where
+module _ (S : Shape) (p : Part) (r s : ListRegion) (i : Parts) where
   pub turn_goes : (n : ℕ) (t : Turn) → IsWithinLimits S (list_spot r) → Turns 4 r.walk s.walk p.payload.now → IsPart p r.walk → holds_of r.ctx p.number p.flags ≡ content_in i → TurnsAt S r.level r.base p i t → s.ctx ≡ r.ctx → s.base ≡ r.base → s.level ≡ r.level → s.list ≡ r.list → Goes S n (list_rest S r) (n + p.span) s t
   turn_goes n turn.Ends w g is h t c b l k = absurd t
   turn_goes n (turn.Opens o) w g is h t c b l k =
@@ -67,15 +68,15 @@ module _ (S : Shape) (p : Part) (r s : ListRegion) (i : Inner) where
   turn_moves (turn.Fails e) w g is t b l = tt
 
 -- what opened is a region of attributes, or one of next hops
-pub opening_list : (S : Shape) (r : ListRegion) (p : Opening) (c : Ctx) (a : ListRegion) → p.inner ≡ inner.List c → list_rest S a ≡ items_of_region S c (r.level + 1) p.place p.payload.now → opening_rest S r p ≡ and_then (list_rest S a) (λ is. list_goes_on S r p.number p.flags (list is))
+pub opening_list : (S : Shape) (r : ListRegion) (p : Opening) (c : Ctx) (a : ListRegion) → p.parts ≡ parts.Attrs c → list_rest S a ≡ items_of_region S c (r.level + 1) p.place p.payload.now → opening_rest S r p ≡ and_then (list_rest S a) (λ is. list_goes_on S r p.number p.flags (list is))
 opening_list S r p c a e rest =
-    ap (λ (i : Inner). and_then (value_at S (content_in i) r.level p.place p.payload.now) (list_goes_on S r p.number p.flags)) e
+    ap (λ (i : Parts). and_then (value_at S (content_in i) r.level p.place p.payload.now) (list_goes_on S r p.number p.flags)) e
     ∙ map_then list (items_of_region S c (r.level + 1) p.place p.payload.now) (list_goes_on S r p.number p.flags)
     ∙ ap (λ (o : Outcome Items). and_then o (λ is. list_goes_on S r p.number p.flags (list is))) (sym rest)
 
-pub opening_hops : (S : Shape) (r : ListRegion) (p : Opening) (a : HopsRegion) → p.inner ≡ inner.Hops → hops_rest S a ≡ hops_of_region S (r.level + 1) p.place p.payload.now → opening_rest S r p ≡ and_then (hops_rest S a) (λ hs. list_goes_on S r p.number p.flags (hops hs))
+pub opening_hops : (S : Shape) (r : ListRegion) (p : Opening) (a : HopsRegion) → p.parts ≡ parts.Hops → hops_rest S a ≡ hops_of_region S (r.level + 1) p.place p.payload.now → opening_rest S r p ≡ and_then (hops_rest S a) (λ hs. list_goes_on S r p.number p.flags (hops hs))
 opening_hops S r p a e rest =
-    ap (λ (i : Inner). and_then (value_at S (content_in i) r.level p.place p.payload.now) (list_goes_on S r p.number p.flags)) e
+    ap (λ (i : Parts). and_then (value_at S (content_in i) r.level p.place p.payload.now) (list_goes_on S r p.number p.flags)) e
     ∙ map_then hops (hops_of_region S (r.level + 1) p.place p.payload.now) (list_goes_on S r p.number p.flags)
     ∙ ap (λ (o : Outcome HopItems). and_then o (λ hs. list_goes_on S r p.number p.flags (hops hs))) (sym rest)
 

@@ -16,15 +16,6 @@ then_same n m o p g e = sym (more_then n o g) ∙ ap (λ x. and_then x g) e ∙ 
 pub then_done : {A B : Type 0} (n m : ℕ) (o : Outcome A) (x : A) (g : A → Outcome B) → more_visits n o ≡ (Ok x, m) → more_visits n (and_then o g) ≡ more_visits m (g x)
 then_done n m o x g e = sym (more_then n o g) ∙ ap (λ y. and_then y g) e
 
-pub then_fails : {A B : Type 0} (n m : ℕ) (o : Outcome A) (g : A → Outcome B) (e : ListError) → FailsAs n o m e → FailsAs n (and_then o g) m e
-then_fails n m o g (Layout f) e = sym (more_then n o g) ∙ ap (λ y. and_then y g) e
-then_fails n m o g Memory e = omega (arith, e, then_more o g)
-
--- a refusal behind visits that keep the outcome
-pub fails_behind : {A : Type 0} (n m k : ℕ) (o : Outcome A) (p : Outcome A) (e : ListError) → more_visits n o ≡ more_visits m p → FailsAs m p k e → FailsAs n o k e
-fails_behind {A = A} n m k o p (Layout f) s e = s ∙ e
-fails_behind {A = A} n m k o p Memory s e = omega (arith, e, ap (λ (x : Outcome A). x.1) s)
-
 pub fails_within : {A : Type 0} (n m : ℕ) (o : Outcome A) (e : ListError) → FailsAs n o m e → m ≤ n + o.1
 fails_within {A = A} n m o (Layout f) e = omega (arith, ap (λ (p : Outcome A). p.1) e)
 fails_within {A = A} n m o Memory e = e

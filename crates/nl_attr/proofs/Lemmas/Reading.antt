@@ -15,7 +15,7 @@ use Rattle.nl_attr.specs.Numbers.{len_of, kind_of, span_of}
 use Rattle.nl_attr.specs.Walk.{flags_of, ifindex_of, broken_length}
 use Rattle.nl_attr.specs.Tree.{Val, list, hops, Items, item, HopItems, hop}
 use Rattle.nl_attr.specs.Heads.{attr_head, broken_container, broken_in, or_else, content_at}
-use Rattle.nl_attr.specs.Reading.{Outcome, and_then, map_value, more_visits, counted, checked, value_by, items_at, hops_at, items_of_region, hops_of_region, value_at, attr_at}
+use Rattle.nl_attr.specs.Reading.{Outcome, and_then, map_value, more_visits, fault_visits, look_at, value_by, items_at, hops_at, items_of_region, hops_of_region, value_at, attr_at}
 use Rattle.std.specs.Prelude.{slice_index}
 use Rattle.nl_attr.specs.Walk.{payload_of}
 
@@ -25,9 +25,9 @@ pub and_then_both : {A B : Type 0} (o p : Outcome A) (f g : A → Outcome B) →
 and_then_both (Ok x, v) p f g e h = ap (λ (r : Outcome _). (r.0, v + r.1)) (h x) ∙ ap (λ q. and_then q g) e
 and_then_both (Err d, v) p f g e h = ap (λ q. and_then q g) e
 
-pub checked_same : {B : Type 0} (place span : ℕ) (r : Option Reason) (f g : Unit {0} → Outcome B) → (r ≡ None → f tt ≡ g tt) → and_then (checked place span r) f ≡ and_then (checked place span r) g
-checked_same place span None f g h = ap (λ (o : Outcome _). (o.0, span + o.1)) (h refl)
-checked_same place span (Some r) f g h = refl
+pub look_same : {B : Type 0} (place span : ℕ) (r : Option Reason) (f g : Unit {0} → Outcome B) → (r ≡ None → f tt ≡ g tt) → and_then (look_at place span r) f ≡ and_then (look_at place span r) g
+look_same place span None f g h = ap (λ (o : Outcome _). (o.0, span + o.1)) (h refl)
+look_same place span (Some r) f g h = refl
 
 pub value_same : (c : Content) (payload : List ℕ) (is js : Ctx → Outcome Items) (hs gs : Unit {0} → Outcome HopItems) → ((k : Ctx) → is k ≡ js k) → hs tt ≡ gs tt → value_by c payload is hs ≡ value_by c payload js gs
 value_same content.Bytes payload is js hs gs h k = refl
@@ -88,7 +88,7 @@ mutual
   items_enough (suc n) (suc m) S ctx l place [] h k = refl
   items_enough (suc n) (suc m) S ctx l place (b ∷ bs) h k =
       let left = b ∷ bs in
-      checked_same place (span_of S.order 2 left) (broken_in S ctx l attr_head left) _ _ (λ sound.
+      look_same place (span_of S.order 2 left) (broken_in S ctx l attr_head left) _ _ (λ sound.
       let w = sound_within S.order 4 2 left (or_else_none _ _ sound).0 in
       let pn = payload_shorter S.order 4 2 n left (omega arith) h in
       let pm = payload_shorter S.order 4 2 m left (omega arith) k in
@@ -105,7 +105,7 @@ mutual
   hops_enough (suc n) (suc m) S l place [] h k = refl
   hops_enough (suc n) (suc m) S l place (b ∷ bs) h k =
       let left = b ∷ bs in
-      checked_same place (span_of S.order 2 left) (broken_length S.order 8 2 left) _ _ (λ sound.
+      look_same place (span_of S.order 2 left) (broken_length S.order 8 2 left) _ _ (λ sound.
       let w = sound_within S.order 8 2 left sound in
       and_then_both _ _ _ _
       (items_enough n m S Route (l + 1) (place + 8) (payload_of S.order 8 2 left) (payload_shorter S.order 8 2 n left (omega arith) h) (payload_shorter S.order 8 2 m left (omega arith) k))
@@ -118,20 +118,20 @@ pub payload_length : (o : Order) (h w : ℕ) (left : List ℕ) → IsWithin o h 
 payload_length o h w left i = omega (arith, i.low, i.high, i.head, length-drop h (take (len_of o w left) left), length-take (len_of o w left) left)
 
 -- what the container breaks comes after what its length breaks
-checked_container : {B : Type 0} (place span : ℕ) (r : Option Reason) (s : Option Reason) (f : Unit {0} → Outcome B) → r ≡ None → ((t : Reason) (n : ℕ) → s ≡ Some t → counted t n ≡ n) →
-    and_then (checked place span (or_else r s)) f ≡ more_visits span (and_then (checked place 0 s) f)
-checked_container place span None None f e h = ap (λ (n : ℕ). ((f tt).0, n)) (omega arith)
-checked_container place span None (Some t) f e h =
-    let one : counted t span ≡ span + counted t 0 = omega (arith, h t span refl, h t 0 refl) in
+look_at_container : {B : Type 0} (place span : ℕ) (r : Option Reason) (s : Option Reason) (f : Unit {0} → Outcome B) → r ≡ None → ((t : Reason) (n : ℕ) → s ≡ Some t → fault_visits t n ≡ n) →
+    and_then (look_at place span (or_else r s)) f ≡ more_visits span (and_then (look_at place 0 s) f)
+look_at_container place span None None f e h = ap (λ (n : ℕ). ((f tt).0, n)) (omega arith)
+look_at_container place span None (Some t) f e h =
+    let one : fault_visits t span ≡ span + fault_visits t 0 = omega (arith, h t span refl, h t 0 refl) in
     ap (λ (n : ℕ). (Err (record { place = place; reason = t }), n)) one
-checked_container place span (Some r) s f e h = absurd cc
+look_at_container place span (Some r) s f e h = absurd cc
 
-tests_count : (a b : Bool) (t : Reason) (n : ℕ) → cond a (Some TooLong) (cond b (Some TooDeep) None) ≡ Some t → counted t n ≡ n
-tests_count true b t n e = ap (λ (r : Option Reason). elim r [ None ↦ n | Some s ↦ counted s n ]) (sym e)
-tests_count false true t n e = ap (λ (r : Option Reason). elim r [ None ↦ n | Some s ↦ counted s n ]) (sym e)
+tests_count : (a b : Bool) (t : Reason) (n : ℕ) → cond a (Some TooLong) (cond b (Some TooDeep) None) ≡ Some t → fault_visits t n ≡ n
+tests_count true b t n e = ap (λ (r : Option Reason). elim r [ None ↦ n | Some s ↦ fault_visits s n ]) (sym e)
+tests_count false true t n e = ap (λ (r : Option Reason). elim r [ None ↦ n | Some s ↦ fault_visits s n ]) (sym e)
 tests_count false false t n e = absurd cc
 
-pub container_counts : (S : Shape) (l : ℕ) (c : Content) (len : ℕ) (t : Reason) (n : ℕ) → broken_container S l c len ≡ Some t → counted t n ≡ n
+pub container_counts : (S : Shape) (l : ℕ) (c : Content) (len : ℕ) (t : Reason) (n : ℕ) → broken_container S l c len ≡ Some t → fault_visits t n ≡ n
 container_counts S l content.Bytes len t n e = absurd cc
 container_counts S l (content.List c) len t n e = tests_count (ltb LONGEST_CONTAINER len) (ltb S.depth (l + 1)) t n e
 container_counts S l content.Hops len t n e = tests_count (ltb LONGEST_CONTAINER len) (ltb S.depth (l + 2)) t n e
@@ -149,7 +149,7 @@ map_then h (Ok x, v) g = refl
 map_then h (Err d, v) g = refl
 
 items_open : (n : ℕ) (S : Shape) (ctx : Ctx) (l place : ℕ) (left : List ℕ) → 0 < length left → items_at S (suc n) ctx l place left
-    ≡ and_then (checked place (span_of S.order 2 left) (broken_in S ctx l attr_head left)) (λ _.
+    ≡ and_then (look_at place (span_of S.order 2 left) (broken_in S ctx l attr_head left)) (λ _.
     and_then (value_by (content_at S.order ctx left) (payload_of S.order 4 2 left) (λ c. items_at S n c (l + 1) (place + 4) (payload_of S.order 4 2 left)) (λ _. hops_at S n (l + 1) (place + 4) (payload_of S.order 4 2 left))) (λ v.
     map_value (item (kind_of S.order left % 16384) (flags_of (kind_of S.order left)) v) (items_at S n ctx l (place + span_of S.order 2 left) (drop (span_of S.order 2 left) left))))
 unfolding items_at
@@ -173,23 +173,23 @@ items_step S ctx l place left e =
     let r-le : length (drop (span_of S.order 2 left) left) ≤ n = rest_shorter S.order 4 2 n left (omega arith) w (omega arith) in
     items_enough n (suc n) S ctx l place left (omega arith) (omega arith)
     ∙ items_open n S ctx l place left (omega (arith, w.head))
-    ∙ checked_container place (span_of S.order 2 left) (broken_length S.order 4 2 left) (broken_container S l c (len_of S.order 2 left)) _ e (λ t m. container_counts S l c (len_of S.order 2 left) t m)
-    ∙ ap (λ (k : ℕ). more_visits (span_of S.order 2 left) (and_then (checked place 0 (broken_container S l c k)) (λ _.
+    ∙ look_at_container place (span_of S.order 2 left) (broken_length S.order 4 2 left) (broken_container S l c (len_of S.order 2 left)) _ e (λ t m. container_counts S l c (len_of S.order 2 left) t m)
+    ∙ ap (λ (k : ℕ). more_visits (span_of S.order 2 left) (and_then (look_at place 0 (broken_container S l c k)) (λ _.
     and_then (value_by c payload (λ k. items_at S n k (l + 1) (place + 4) payload) (λ _. hops_at S n (l + 1) (place + 4) payload)) (λ v.
     map_value (make v) (items_at S n ctx l (place + span_of S.order 2 left) (drop (span_of S.order 2 left) left)))))) len-is
     ∙ ap (more_visits (span_of S.order 2 left))
-    (and_then_both (checked place 0 (broken_container S l c (length payload + 4))) _ _ _ refl (λ u.
+    (and_then_both (look_at place 0 (broken_container S l c (length payload + 4))) _ _ _ refl (λ u.
     and_then_both _ _ _ _
     (value_same c payload _ _ _ _ (λ k. items_enough n (length payload) S k (l + 1) (place + 4) payload p-le (omega arith)) (hops_enough n (length payload) S (l + 1) (place + 4) payload p-le (omega arith)))
     (λ v. ap (map_value (make v)) (items_enough n (length (drop (span_of S.order 2 left) left)) S ctx l (place + span_of S.order 2 left) (drop (span_of S.order 2 left) left) r-le (omega arith)))
     ∙ sym (map_then make (value_at S c l (place + 4) payload) (λ f. map_value f rest)))
-    ∙ sym (then_then (checked place 0 (broken_container S l c (length payload + 4))) (λ _. map_value make (value_at S c l (place + 4) payload)) (λ f. map_value f rest)))
+    ∙ sym (then_then (look_at place 0 (broken_container S l c (length payload + 4))) (λ _. map_value make (value_at S c l (place + 4) payload)) (λ f. map_value f rest)))
 
-length_counts : (o : Order) (h w : ℕ) (left : List ℕ) (t : Reason) (n : ℕ) → broken_length o h w left ≡ Some t → counted t n ≡ 0
+length_counts : (o : Order) (h w : ℕ) (left : List ℕ) (t : Reason) (n : ℕ) → broken_length o h w left ≡ Some t → fault_visits t n ≡ 0
 length_counts o h w left t n e = count (ltb (length left) h) (ltb (len_of o w left) h || ltb (length left) (len_of o w left)) e where
-  count : (a b : Bool) → cond a (Some Cut) (cond b (Some BadLength) None) ≡ Some t → counted t n ≡ 0
-  count true b e = ap (λ (r : Option Reason). elim r [ None ↦ 0 | Some s ↦ counted s n ]) (sym e)
-  count false true e = ap (λ (r : Option Reason). elim r [ None ↦ 0 | Some s ↦ counted s n ]) (sym e)
+  count : (a b : Bool) → cond a (Some Cut) (cond b (Some BadLength) None) ≡ Some t → fault_visits t n ≡ 0
+  count true b e = ap (λ (r : Option Reason). elim r [ None ↦ 0 | Some s ↦ fault_visits s n ]) (sym e)
+  count false true e = ap (λ (r : Option Reason). elim r [ None ↦ 0 | Some s ↦ fault_visits s n ]) (sym e)
   count false false e = absurd cc
 
 -- a head whose length is wrong
@@ -200,7 +200,7 @@ items_cut S ctx l place (b ∷ bs) t full e =
     ∙ rw e (ap (λ (k : ℕ). (Err (record { place = place; reason = t }), k)) (length_counts S.order 4 2 (b ∷ bs) t (span_of S.order 2 (b ∷ bs)) e))
 
 hops_open : (n : ℕ) (S : Shape) (l place : ℕ) (left : List ℕ) → 0 < length left → hops_at S (suc n) l place left
-    ≡ and_then (checked place (span_of S.order 2 left) (broken_length S.order 8 2 left)) (λ _.
+    ≡ and_then (look_at place (span_of S.order 2 left) (broken_length S.order 8 2 left)) (λ _.
     and_then (items_at S n Route (l + 1) (place + 8) (payload_of S.order 8 2 left)) (λ is.
     map_value (hop (slice_index left 2) (slice_index left 3) (ifindex_of S.order left) is) (hops_at S n l (place + span_of S.order 2 left) (drop (span_of S.order 2 left) left))))
 unfolding items_at

@@ -22,7 +22,7 @@ use Rattle.nl_attr.specs.Walk.{flags_of, ifindex_of, broken_length}
 use Rattle.nl_attr.specs.Tree.{Val, bytes, list, hops, Items, no_items, item, HopItems, no_hops, hop}
 use Rattle.nl_attr.specs.Layout.{kind_number, FitsVal, Fits, FitsHops}
 use Rattle.nl_attr.specs.Heads.{attr_head, broken_in, broken_container, content_at}
-use Rattle.nl_attr.specs.Reading.{Outcome, and_then, map_value, checked, value_by, items_at, hops_at}
+use Rattle.nl_attr.specs.Reading.{Outcome, and_then, map_value, look_at, value_by, items_at, hops_at}
 use Rattle.nl_attr.proofs.Lemmas.Reading.{IsWithin, sound_within, or_else_none, payload_shorter, rest_shorter}
 use Rattle.nl_attr.proofs.Lemmas.Pieces.{piece_at, take_take}
 use Rattle.nl_attr.specs.Walk.{payload_of}
@@ -35,9 +35,9 @@ pub map_ok : {A B : Type 0} (f : A → B) (o : Outcome A) (y : B) (v : ℕ) → 
 map_ok {A} {B} f (Ok x, u) y v e = (x, u, refl, (let g : ◌≡◌ {A = Result B Fault} (Ok (f x)) (Ok y) = ap (λ (p : Outcome B). p.0) e in cc))
 map_ok {A} {B} f (Err d, u) y v e = absurd (let g : ◌≡◌ {A = Result B Fault} (Err d) (Ok y) = ap (λ (p : Outcome B). p.0) e in cc)
 
-checked_ok : {B : Type 0} (place span : ℕ) (r : Option Reason) (g : Unit {0} → Outcome B) (y : B) (v : ℕ) → and_then (checked place span r) g ≡ (Ok y, v) → (r ≡ None) × (w : ℕ) × (g tt ≡ (Ok y, w))
-checked_ok {B} place span None g y v e = (refl, (g tt).1, ap (λ (p : Outcome B). (p.0, (g tt).1)) e)
-checked_ok {B} place span (Some r) g y v e = absurd (let f : ◌≡◌ {A = Result B Fault} (Err (record { place = place; reason = r })) (Ok y) = ap (λ (p : Outcome B). p.0) e in cc)
+look_ok : {B : Type 0} (place span : ℕ) (r : Option Reason) (g : Unit {0} → Outcome B) (y : B) (v : ℕ) → and_then (look_at place span r) g ≡ (Ok y, v) → (r ≡ None) × (w : ℕ) × (g tt ≡ (Ok y, w))
+look_ok {B} place span None g y v e = (refl, (g tt).1, ap (λ (p : Outcome B). (p.0, (g tt).1)) e)
+look_ok {B} place span (Some r) g y v e = absurd (let f : ◌≡◌ {A = Result B Fault} (Err (record { place = place; reason = r })) (Ok y) = ap (λ (p : Outcome B). p.0) e in cc)
 
 kind_back : (kind p q : ℕ) → kind < 65536 → kind / 32768 ≡ p → kind / 16384 % 2 ≡ q → kind % 16384 + cond (eqb q 1) 16384 0 + cond (eqb p 1) 32768 0 ≡ kind
 kind_back kind zero zero h e f = omega arith
@@ -148,7 +148,7 @@ mutual
   items_sound (suc n) S ctx l place [] is v h fits e = empty_fits is v 0 [] ctx l S refl e
   items_sound (suc n) S ctx l place (b ∷ bs) is v h fits e =
       let left = b ∷ bs in
-      let a = checked_ok place (span_of S.order 2 left) (broken_in S ctx l attr_head left) _ is v e in
+      let a = look_ok place (span_of S.order 2 left) (broken_in S ctx l attr_head left) _ is v e in
       let s = or_else_none _ _ a.0 in
       let w = sound_within S.order 4 2 left s.0 in
       let c = then_ok _ _ is a.1 a.2 in
@@ -166,7 +166,7 @@ mutual
   hops_sound (suc n) S l place [] hs v h fits e = empty_hops hs v 0 [] l S refl e
   hops_sound (suc n) S l place (b ∷ bs) hs v h fits e =
       let left = b ∷ bs in
-      let a = checked_ok place (span_of S.order 2 left) (broken_length S.order 8 2 left) _ hs v e in
+      let a = look_ok place (span_of S.order 2 left) (broken_length S.order 8 2 left) _ hs v e in
       let w = sound_within S.order 8 2 left a.0 in
       let c = then_ok _ _ hs a.1 a.2 in
       let m = map_ok _ _ hs c.2 c.4 in

@@ -10,7 +10,7 @@ use Rattle.nl_attr.specs.Shape.{Shape}
 use Rattle.nl_attr.specs.Numbers.{span_of}
 use Rattle.nl_attr.specs.Walk.{Region, broken_length, IsPart, IsHopPart, after}
 use Rattle.nl_attr.specs.Heads.{Sort, attr_head, hop_head, broken_container}
-use Rattle.nl_attr.specs.Reading.{Outcome, and_then, map_value, more_visits, counted, checked, items_at, items_of_region, hops_of_region, value_at}
+use Rattle.nl_attr.specs.Reading.{Outcome, and_then, map_value, more_visits, fault_visits, look_at, items_at, items_of_region, hops_of_region, value_at}
 use Rattle.nl_attr.specs.Tree.{Val, Items, item, HopItems, hop, holds_of}
 use Rattle.nl_attr.specs.View.{Front, HopFront, items_of, hops_of}
 use Rattle.nl_attr.specs.Open.{before, Spot, IsIn, IsWithinLimits, spot_of, room_in, levels_in, Advances}
@@ -65,9 +65,9 @@ list_breaks S ctx l base p r make t n o e is bad =
     let mk : Val → Items → Items = λ v more. item p.number p.flags v more in
     ap (λ x. more_visits n (map_value make x)) (part_step S ctx l base p r o e is)
     ∙ ap (more_visits n) (map_more make (span_of r.order 2 r.left) _)
-    ∙ ap (λ (b : Option Reason). more_visits n (more_visits (span_of r.order 2 r.left) (map_value make (and_then (and_then (checked (base + p.place) 0 b) (λ _. map_value mk V)) (λ f. map_value f rest))))) bad
+    ∙ ap (λ (b : Option Reason). more_visits n (more_visits (span_of r.order 2 r.left) (map_value make (and_then (and_then (look_at (base + p.place) 0 b) (λ _. map_value mk V)) (λ f. map_value f rest))))) bad
     ∙ more_more n (span_of r.order 2 r.left) _
-    ∙ plus_zero (Err (record { place = base + p.place; reason = t })) (n + span_of r.order 2 r.left) (counted t 0) (container_counts S l (holds_of ctx p.number p.flags) (length p.payload.now + 4) t 0 bad)
+    ∙ plus_zero (Err (record { place = base + p.place; reason = t })) (n + span_of r.order 2 r.left) (fault_visits t 0) (container_counts S l (holds_of ctx p.number p.flags) (length p.payload.now + 4) t 0 bad)
 
 -- an attribute whose container is sound: its payload is read next, and then the region goes on
 pub list_opens : (S : Shape) (ctx : Ctx) (l base : ℕ) (p : Part) (r s : Region) (front : List Front) (n : ℕ) → r.order ≡ S.order → broken_length r.order 4 2 r.left ≡ None → IsPart p r → s ≡ after r → broken_container S l (holds_of ctx p.number p.flags) (length p.payload.now + 4) ≡ None
@@ -82,7 +82,7 @@ list_opens S ctx l base p r s front n o e is next sound =
     ∙ ap (more_visits n) (map_more make (span_of r.order 2 r.left) _)
     ∙ more_more n (span_of r.order 2 r.left) _
     ∙ ap (more_visits (n + span_of r.order 2 r.left)) (
-    ap (λ (b : Option Reason). map_value make (and_then (and_then (checked (base + p.place) 0 b) (λ _. map_value mk V)) (λ f. map_value f rest))) sound
+    ap (λ (b : Option Reason). map_value make (and_then (and_then (look_at (base + p.place) 0 b) (λ _. map_value mk V)) (λ f. map_value f rest))) sound
     ∙ ap (λ (o : Outcome (Items → Items)). map_value make (and_then o (λ f. map_value f rest))) (zero_more (map_value mk V))
     ∙ ap (map_value make) (map_then mk V (λ f. map_value f rest))
     ∙ map_after make V (λ v. map_value (mk v) rest)

@@ -3,14 +3,15 @@ use Rattle.std.proofs.Common.{◌≡◌, ◌≢◌, ℕ, ◌+◌, ◌-◌, ◌<�
 use Rattle.std.proofs.lemmas.List.{take_all}
 use Rattle.nl_attr.specs.declared.fault.Reason.{Reason}
 use Rattle.nl_attr.specs.declared.fault.Fault.{Fault}
-use Rattle.nl_attr.specs.declared.broken.PlacedHead.{PlacedHead}
+use Rattle.nl_attr.specs.declared.region.OpenRegion.{OpenRegion}
 use Rattle.nl_attr.specs.declared.broken.BrokenHead.{BrokenHead}
 use Rattle.nl_attr.specs.Shape.{Shape}
 use Rattle.nl_attr.specs.Numbers.{span_of}
 use Rattle.nl_attr.specs.Walk.{broken_length}
 use Rattle.nl_attr.specs.Heads.{Head, HeadAt, first, least, broken, span_at, IsSound, follower, inner_of}
 use Rattle.nl_attr.specs.Broken.{IsBrokenHead, facts_of}
-use Rattle.nl_attr.specs.Towards.{head_of, placed, Leads, Stands}
+use Rattle.nl_attr.specs.Region.{head_of}
+use Rattle.nl_attr.specs.Towards.{head_in, Leads, Stands}
 use Rattle.nl_attr.proofs.Lemmas.Scan.{same, after, inside, head_begins, head_then, head_lies, inner_lies, follower_reached, inside_reached, sound_of, some_left}
 use Rattle.nl_attr.proofs.Lemmas.Apart.{one_head}
 
@@ -54,7 +55,7 @@ module _ (S : Shape) (place : ℕ) where
   ]
 
   -- the place lies in the item
-  pub inner_leads : (h : Head) (o : Option PlacedHead) → h.left ≢ [] → h.place < place → place < h.place + span_at S h → broken S h ≡ None → placed o ≡ inner_of S h → Leads S place h o
+  pub inner_leads : (h : Head) (o : Option OpenRegion) → h.left ≢ [] → h.place < place → place < h.place + span_at S h → broken S h ≡ None → head_in o ≡ inner_of S h → Leads S place h o
   inner_leads h None some lt in_item e is = λ k p at. elim (way h k lt p at) [
     | beyond a b q ↦ omega (arith, in_item, b)
     | within i a b c q ↦ clash (inner_of S h) i (sym is) b
@@ -75,17 +76,12 @@ module _ (S : Shape) (place : ℕ) where
       | within i a b c q ↦ absurd (omega (arith, behind, c))
     ]
 
-  -- one way behind the other
-  pub leads_on : (s : Head) (j : PlacedHead) (o : Option PlacedHead) → Leads S place s (Some j) → Leads S place (head_of j) o → Leads S place s o
-  leads_on s j None f g = λ k p at. g k ((f k at).0 p) at
-  leads_on s j (Some i) f g = λ k at. (λ p. (g k at).0 ((f k at).0 p), λ q. (f k at).1 ((g k at).1 q))
-
-  pub leads_nowhere : (s : Head) (j : PlacedHead) → Leads S place s (Some j) → (length j.left.now ≡ 0) ⊎ (place < j.place) → Stands S place s None
+  pub leads_nowhere : (s : Head) (j : OpenRegion) → Leads S place s (Some j) → (length j.left.now ≡ 0) ⊎ (place < j.place) → Stands S place s None
   leads_nowhere s j f none = λ k p at.
       let l = head_lies S (head_of j) k ((f k at).0 p) in
       elim none [ inl e ↦ omega (arith, e, at, l.low, l.high, l.some) | inr lt ↦ omega (arith, lt, at, l.low) ]
 
-  pub leads_there : (s : Head) (j : PlacedHead) → Leads S place s (Some j) → 0 < length j.left.now → j.place ≡ place → Stands S place s (Some j)
+  pub leads_there : (s : Head) (j : OpenRegion) → Leads S place s (Some j) → 0 < length j.left.now → j.place ≡ place → Stands S place s (Some j)
   leads_there s j f some at = λ k.
       let here : HeadAt S (head_of j) (head_of j) = first (some_left j.left.now some) in (
         λ p. one_head S (length j.left.now) (head_of j) k (head_of j) (omega arith) ((f k p.1).0 p.0) here (omega (arith, p.1, at)),
@@ -93,7 +89,7 @@ module _ (S : Shape) (place : ℕ) where
       )
 
 -- a head that stands at the place of a fault and breaks its rule is the one that it is about
-pub one_there : (S : Shape) (s : Head) (f : Fault) (j : PlacedHead) → Stands S f.place s (Some j) → broken S (head_of j) ≡ Some f.reason → (b : BrokenHead) → (Some (facts_of S.order (head_of j)) ≡ Some b) ↔ IsBrokenHead S s f b
+pub one_there : (S : Shape) (s : Head) (f : Fault) (j : OpenRegion) → Stands S f.place s (Some j) → broken S (head_of j) ≡ Some f.reason → (b : BrokenHead) → (Some (facts_of S.order (head_of j)) ≡ Some b) ↔ IsBrokenHead S s f b
 one_there S s f j only e b = (
   λ g. let at = (only (head_of j)).1 refl in (head_of j, at.0, at.1, e, let is : b ≡ facts_of S.order (head_of j) = cc in is),
   λ x. ap Some (ap (facts_of S.order) (sym ((only x.0).0 (x.1, x.2))) ∙ sym x.4),

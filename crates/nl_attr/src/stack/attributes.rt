@@ -1,25 +1,15 @@
 //! Reading a region of attributes where it stands.
 
 ghost use Rattle.std.specs.Prelude.{◌^◌, ◌≡◌, ◌≤◌, ◌<◌, ◌+◌, length};
-ghost use Rattle.nl_attr.specs.Tree.{holds_of};
-ghost use Rattle.nl_attr.specs.Open.{content_in, HasInner, TurnsAt, list_rest};
-ghost use Rattle.nl_attr.specs.Open.{list_spot, Goes, Moves, IsWithinLimits};
+ghost use Rattle.nl_attr.specs.Open.{TurnsAt, list_rest, list_spot, Goes, Moves, IsWithinLimits};
 
 use crate::fault::{Fault, ListError};
 use crate::limits::{LONGEST_REGION, MOST_LEVELS, MOST_VISITS, Shape};
+use crate::region::Parts;
 use crate::stack::regions::{ListRegion, container_fault, keep_bytes, layout};
-use crate::tree::{AttrFlags, Content, Ctx, holds};
+use crate::tree::{AttrFlags, holds};
 use crate::walk::Part;
 use std::alloc::{AllocError, Global};
-
-/// What the payload of an attribute is, where it is a region.
-#[derive(Clone, Copy)]
-pub(super) enum Inner {
-    /// Attributes of this context.
-    List(Ctx),
-    /// Next hops.
-    Hops,
-}
 
 /// An attribute whose payload is a region, of which nothing is read.
 #[derive(Clone, Copy)]
@@ -29,7 +19,7 @@ pub(super) struct Opening<'a> {
     /// The place of the payload.
     pub(super) place: u32,
     pub(super) payload: &'a [u8],
-    pub(super) inner: Inner,
+    pub(super) parts: Parts,
 }
 
 /// Where reading a region of attributes leads.
@@ -42,39 +32,15 @@ pub(super) enum Turn<'a> {
     Fails(ListError),
 }
 
-impl Inner {
-    /// What it is among all that attributes hold.
-    fn content(self) -> Content
-        ensures { result ≡ content_in self }
-    {
-        match self {
-            Inner::List(ctx) => Content::List(ctx),
-            Inner::Hops => Content::Hops,
-        }
-    }
-}
-
-/// The region that an attribute holds, where it holds one.
-#[inline(always)]
-fn inner_of(ctx: Ctx, number: u16, flags: AttrFlags) -> Option<Inner>
-    ensures { HasInner (holds_of ctx number flags) result }
-{
-    match holds(ctx, number, flags) {
-        Content::Bytes => None,
-        Content::List(ctx) => Some(Inner::List(ctx)),
-        Content::Hops => Some(Inner::Hops),
-    }
-}
-
 /// The turn at an attribute that holds a region: it opens, or breaks a rule.
-fn turn_at<'a>(part: Part<'a>, inner: Inner, base: u32, level: u8, shape: Shape) -> Turn<'a>
+fn turn_at<'a>(part: Part<'a>, parts: Parts, base: u32, level: u8, shape: Shape) -> Turn<'a>
     requires level { level ≤ MOST_LEVELS }
     requires place { base + part.place + 4 < 2 ^ 32 }
     requires size { length part.payload.now ≤ LONGEST_REGION }
-    ensures { TurnsAt shape level base part.entry inner result }
+    ensures { TurnsAt shape level base part.entry parts result }
 {
     let (place, payload) = (part.place, part.payload);
-    if let Some(reason) = container_fault(inner.content(), payload.len() + 4, level, shape) {
+    if let Some(reason) = container_fault(parts.content(), payload.len() + 4, level, shape) {
         return Turn::Fails(layout(base, Fault { place, reason }));
     }
     Turn::Opens(Opening {
@@ -82,7 +48,7 @@ fn turn_at<'a>(part: Part<'a>, inner: Inner, base: u32, level: u8, shape: Shape)
         flags: part.flags,
         place: base + place + 4,
         payload,
-        inner,
+        parts,
     })
 }
 
@@ -106,7 +72,7 @@ pub(super) fn read_attrs<'a>(
             Some(Err(fault)) => return Turn::Fails(layout(region.base, fault)),
             Some(Ok(part)) => part,
         };
-        match inner_of(region.ctx, part.number, part.flags) {
+        match Parts::of(holds(region.ctx, part.number, part.flags)) {
             None => {
                 let list = &mut region.list;
                 match keep_bytes(alloc, list, part.number, part.flags, part.payload) {
@@ -114,7 +80,7 @@ pub(super) fn read_attrs<'a>(
                     Err(AllocError) => return Turn::Fails(ListError::Memory),
                 }
             }
-            Some(inner) => return turn_at(part, inner, region.base, region.level, shape),
+            Some(parts) => return turn_at(part, parts, region.base, region.level, shape),
         }
     }
 }

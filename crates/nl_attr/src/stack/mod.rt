@@ -12,7 +12,8 @@ mod regions;
 
 use crate::fault::ListError;
 use crate::limits::{FARTHEST_END, LONGEST_REGION, MOST_LEVELS, Shape};
-use crate::stack::attributes::{Inner, Turn, read_attrs};
+use crate::region::Parts;
+use crate::stack::attributes::{Turn, read_attrs};
 use crate::stack::nested::{HopsWaits, Outer, read_nested, waits_for};
 use crate::stack::next_hops::{HopsTurn, read_hops};
 pub(crate) use crate::stack::regions::container_fault;
@@ -49,8 +50,8 @@ pub(crate) fn read_region(
         };
         let (number, flags) = (opening.number, opening.flags);
         let (payload, place) = (opening.payload, opening.place);
-        match opening.inner {
-            Inner::List(ctx) => {
+        match opening.parts {
+            Parts::Attrs(ctx) => {
                 let mut inner = list_of(alloc, payload, place, ctx, region.level + 1, shape)?;
                 match read_attrs(alloc, &mut inner, shape, visits) {
                     Turn::Ends => {
@@ -63,7 +64,7 @@ pub(crate) fn read_region(
                     Turn::Fails(error) => return Err(error),
                 }
             }
-            Inner::Hops => {
+            Parts::Hops => {
                 let mut hops = hops_of(alloc, payload, place, region.level + 1, shape)?;
                 match read_hops(alloc, &mut hops, shape, visits) {
                     HopsTurn::Ends => {

@@ -14,7 +14,8 @@ ghost use Rattle.arrayvec.specs.ArrayVec.{array_vec_len};
 use crate::fault::ListError;
 use crate::limits::{MOST_LEVELS, MOST_VISITS, Shape};
 use crate::order::Order;
-use crate::stack::attributes::{Inner, Opening, Turn, read_attrs};
+use crate::region::Parts;
+use crate::stack::attributes::{Opening, Turn, read_attrs};
 use crate::stack::next_hops::{HopTurn, next_hop};
 use crate::stack::regions::{
     HopHead, HopsRegion, ListRegion, hops_of, keep_attr, keep_hop, list_of,
@@ -150,12 +151,12 @@ fn open<'a>(
 {
     let level = region.level + 1;
     let waits = waits_for(region, opening);
-    match opening.inner {
-        Inner::List(ctx) => {
+    match opening.parts {
+        Parts::Attrs(ctx) => {
             let inner = list_of(alloc, opening.payload, opening.place, ctx, level, shape)?;
             Ok(Next::Opens(Outer::List(waits), inner))
         }
-        Inner::Hops => {
+        Parts::Hops => {
             let hops = hops_of(alloc, opening.payload, opening.place, level, shape)?;
             go_on_hops(alloc, waits, hops, shape, visits)
         }

@@ -1,48 +1,18 @@
-//! Open regions, and what stands at the front of one.
+//! What stands at the front of an open region, and what is left behind it.
 
 ghost use Rattle.std.specs.Prelude.{◌^◌, ◌≡◌, ◌≤◌, ◌<◌, ◌+◌, length, Ok};
 ghost use Rattle.nl_attr.specs.Heads.{start_of};
-ghost use Rattle.nl_attr.specs.Taped.{IsAttrFront, IsHopFront};
-ghost use Rattle.nl_attr.specs.Taped.{ctx_in, head_of, hops_start, sort_in};
+ghost use Rattle.nl_attr.specs.Region.{ctx_in, head_of, sort_in};
+ghost use Rattle.nl_attr.specs.Taped.{IsAttrFront, IsHopFront, hops_start};
 ghost use Rattle.nl_attr.specs.Trail.{sort_of};
 ghost use Rattle.nl_attr.specs.Walk.{HeadIs};
 
 use crate::events::{Event, SORT_BYTES, SORT_HOPS, SORT_LIST, SORT_NEXT_HOP};
 use crate::limits::{FARTHEST_END, LONGEST_REGION, MOST_LEVELS};
 use crate::order::Order;
+use crate::region::{OpenRegion, Parts};
 use crate::tree::{AttrFlags, Content, Ctx, NUMBERS};
 use crate::walk::{flags_in, kind_at, span_at};
-
-/// What a region is made of.
-#[derive(Clone, Copy)]
-pub(super) enum Kind {
-    /// Attributes of this context.
-    Attrs(Ctx),
-    /// Next hops.
-    Hops,
-}
-
-/// What is left of an open region.
-#[derive(Clone, Copy)]
-pub(super) struct OpenRegion<'a> {
-    pub(super) left: &'a [u8],
-    /// The place of the first byte that is left.
-    pub(super) place: u32,
-    pub(super) level: u8,
-    pub(super) kind: Kind,
-}
-
-/// The blank that an empty place of the stack holds.
-impl Default for OpenRegion<'_> {
-    fn default() -> Self {
-        OpenRegion {
-            left: &[],
-            place: 0,
-            level: 0,
-            kind: Kind::Hops,
-        }
-    }
-}
 
 /// An attribute at the front of a region.
 #[derive(Clone, Copy)]
@@ -88,14 +58,14 @@ pub(super) fn inside<'a>(
     place: u32,
     head: u32,
     level: u8,
-    kind: Kind,
+    parts: Parts,
 ) -> OpenRegion<'a>
     requires place { place + head < 2 ^ 32 }
     requires level { level ≤ MOST_LEVELS }
     ensures { head_of result ≡ record {
       place = place + head;
-      sort = sort_in kind;
-      ctx = ctx_in kind;
+      sort = sort_in parts;
+      ctx = ctx_in parts;
       level = level + 1;
       left = payload.now;
     } }
@@ -104,7 +74,7 @@ pub(super) fn inside<'a>(
         left: payload,
         place: place + head,
         level: level + 1,
-        kind,
+        parts,
     }
 }
 
@@ -144,7 +114,7 @@ pub(super) fn attr_front<'a>(
             left: &left[span..],
             place: place + span as u32,
             level,
-            kind: Kind::Attrs(ctx),
+            parts: Parts::Attrs(ctx),
         },
     }
 }
@@ -177,12 +147,12 @@ pub(super) fn hop_front<'a>(
             net: false,
         },
         span: span as u32,
-        attrs: inside(payload, place, 8, level, Kind::Attrs(Ctx::Route)),
+        attrs: inside(payload, place, 8, level, Parts::Attrs(Ctx::Route)),
         rest: OpenRegion {
             left: &left[span..],
             place: place + span as u32,
             level,
-            kind: Kind::Hops,
+            parts: Parts::Hops,
         },
     }
 }

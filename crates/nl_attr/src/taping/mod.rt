@@ -3,8 +3,9 @@
 
 ghost use Rattle.std.specs.Prelude.{◌^◌, ◌≡◌, ◌≤◌, ◌+◌, ◌-◌, ◌*◌, drop, length, slice_set};
 ghost use Rattle.nl_attr.specs.Heads.{attr_head, start_of};
+ghost use Rattle.nl_attr.specs.Region.{head_of, sort_in};
 ghost use Rattle.nl_attr.specs.Shape.{shape_of};
-ghost use Rattle.nl_attr.specs.Taped.{IsTaped, head_of, sort_in};
+ghost use Rattle.nl_attr.specs.Taped.{IsTaped};
 
 mod fronts;
 mod steps;
@@ -13,7 +14,7 @@ use crate::events::Event;
 use crate::fault::Fault;
 use crate::limits::{Depth, FARTHEST_END, LONGEST_REGION, MOST_LEVELS, MOST_VISITS, Shape};
 use crate::order::Order;
-use crate::taping::fronts::{Kind, OpenRegion};
+use crate::region::{OpenRegion, Parts};
 use crate::taping::steps::{Turn, step};
 use crate::tree::Ctx;
 use arrayvec::ArrayVec;
@@ -77,7 +78,7 @@ fn tape_region<'a>(
     count: usize,
 ) -> Taped
     requires limit { shape.depth ≤ MOST_LEVELS }
-    requires kind { sort_in start.kind ≡ attr_head }
+    requires parts { sort_in start.parts ≡ attr_head }
     requires level { start.level ≤ shape.depth }
     requires size { length start.left.now ≤ LONGEST_REGION }
     requires place { start.place + length start.left.now ≤ FARTHEST_END }
@@ -156,7 +157,7 @@ pub fn tape_list<'a>(
         left: bytes,
         place: base,
         level,
-        kind: Kind::Attrs(ctx),
+        parts: Parts::Attrs(ctx),
     };
     tape_region(&mut regions.stack, start, shape, out, count)
 }

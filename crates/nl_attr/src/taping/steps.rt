@@ -2,15 +2,17 @@
 
 ghost use Rattle.std.specs.Prelude.{◌^◌, ◌≡◌, ◌≤◌, ◌+◌, length};
 ghost use Rattle.nl_attr.specs.Heads.{start_of};
-ghost use Rattle.nl_attr.specs.Taped.{Steps, head_of, hops_start};
+ghost use Rattle.nl_attr.specs.Region.{head_of};
+ghost use Rattle.nl_attr.specs.Taped.{Steps, hops_start};
 
 use crate::events::Event;
 use crate::fault::Reason;
 use crate::limits::{FARTHEST_END, LONGEST_REGION, MOST_LEVELS, MOST_VISITS, Shape};
+use crate::region::{OpenRegion, Parts};
 use crate::stack::container_fault;
 use crate::taping::Taped;
-use crate::taping::fronts::{Kind, OpenRegion, attr_front, hop_front, inside, sort};
-use crate::tree::{Content, Ctx, holds};
+use crate::taping::fronts::{attr_front, hop_front, inside, sort};
+use crate::tree::{Ctx, holds};
 use crate::walk::head_len;
 
 /// Where the head at the front of a region leads.
@@ -52,10 +54,8 @@ fn step_attr<'a>(
     let at = taped.count;
     taped.add(out, attr.event, attr.span);
     let content = holds(ctx, attr.event.number, attr.flags);
-    let kind = match content {
-        Content::Bytes => return Turn::Goes(attr.rest),
-        Content::List(ctx) => Kind::Attrs(ctx),
-        Content::Hops => Kind::Hops,
+    let Some(parts) = Parts::of(content) else {
+        return Turn::Goes(attr.rest);
     };
     // A container's event is put again, with its sort; most attributes hold bytes and are done.
     let sort = sort(content);
@@ -63,7 +63,7 @@ fn step_attr<'a>(
     if let Some(reason) = container_fault(content, len, level, shape) {
         return Turn::Fails(reason);
     }
-    Turn::Opens(attr.rest, inside(attr.payload, place, 4, level, kind))
+    Turn::Opens(attr.rest, inside(attr.payload, place, 4, level, parts))
 }
 
 /// The step past a next hop.
@@ -107,8 +107,8 @@ pub(super) fn step<'a>(
     requires visits { taped.old.visits ≤ MOST_VISITS }
     ensures { Steps shape (head_of region.entry) taped.old taped.new out.old out.new result }
 {
-    match region.kind {
-        Kind::Attrs(ctx) => step_attr(region, ctx, shape, out, taped),
-        Kind::Hops => step_hop(region, shape, out, taped),
+    match region.parts {
+        Parts::Attrs(ctx) => step_attr(region, ctx, shape, out, taped),
+        Parts::Hops => step_hop(region, shape, out, taped),
     }
 }

@@ -10,7 +10,7 @@ use nl_frame::ReadError;
 use std::alloc::AllocError;
 
 /// Writes why a datagram is refused. It fails where that was for memory.
-#[tactic(auto, unfolding(crate::specs::Shown::refusal_fields), using(crate::proofs::Json::more_fields))]
+#[tactic(auto, unfolding(crate::specs::Shown::refusal_fields), using(crate::proofs::Sets::field))]
 pub(crate) fn push_refusal(line: &mut Line, error: ReadError) -> Result<(), AllocError>
     ensures refusal { OnOk result (error ≢ ReadError.Memory) }
     ensures fields { OnOk result (line.new ≡ line.old ⊕ fields_tokens (refusal_fields error)) }

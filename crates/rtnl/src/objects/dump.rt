@@ -110,7 +110,7 @@ fn push_counts(
 }
 
 /// Writes whether something of the dump was lost.
-#[tactic(auto, unfolding(crate::specs::TabledJson::loss_fields), using(crate::proofs::Json::more_fields))]
+#[tactic(auto, unfolding(crate::specs::TabledJson::loss_fields), using(crate::proofs::Sets::field))]
 fn push_losses(line: &mut Line, session: &Session) -> Result<(), AllocError>
     ensures { OnOk result (line.new ≡ line.old ⊕ fields_tokens (loss_fields session.now)) }
 {

@@ -124,7 +124,7 @@ impl Line {
     }
 
     /// A field with a number.
-    #[tactic(auto, using(crate::proofs::Json::more, crate::proofs::Json::one_field))]
+    #[tactic(auto, using(crate::proofs::Sets::one))]
     pub(crate) fn number(&mut self, name: &str, n: u64) -> Result<(), AllocError>
         ensures { OnOk result (self.new ≡ self.old ⊕ fields_tokens ((name.now, number n) ∷ [])) }
     {
@@ -145,7 +145,7 @@ impl Line {
     }
 
     /// A field with a signed number.
-    #[tactic(auto, using(crate::proofs::Json::more, crate::proofs::Json::one_field))]
+    #[tactic(auto, using(crate::proofs::Sets::one))]
     pub(crate) fn signed(&mut self, name: &str, z: i32) -> Result<(), AllocError>
         ensures { OnOk result (self.new ≡ self.old ⊕ fields_tokens ((name.now, signed z) ∷ [])) }
     {
@@ -154,7 +154,7 @@ impl Line {
     }
 
     /// A field with a truth value.
-    #[tactic(auto, using(crate::proofs::Json::more, crate::proofs::Json::one_field))]
+    #[tactic(auto, using(crate::proofs::Sets::one))]
     pub(crate) fn boolean(&mut self, name: &str, b: bool) -> Result<(), AllocError>
         ensures { OnOk result (self.new ≡ self.old ⊕ fields_tokens ((name.now, boolean b) ∷ [])) }
     {
@@ -163,7 +163,7 @@ impl Line {
     }
 
     /// A field with a string.
-    #[tactic(auto, using(crate::proofs::Json::more, crate::proofs::Json::one_field))]
+    #[tactic(auto, using(crate::proofs::Sets::one))]
     pub(crate) fn text(&mut self, name: &str, text: &str) -> Result<(), AllocError>
         ensures { OnOk result
             (self.new ≡ self.old ⊕ fields_tokens ((name.now, string text.now) ∷ [])) }

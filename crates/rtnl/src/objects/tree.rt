@@ -18,7 +18,7 @@ use nl_attr::{Attr, AttrFlags, Ctx, Hop, Order, Value};
 use std::alloc::{AllocError, Global};
 
 /// Writes the field of the name of an attribute.
-#[tactic(auto, unfolding(crate::specs::Objects::name_json), using(crate::proofs::Json::more, crate::proofs::Json::one_field))]
+#[tactic(auto, unfolding(crate::specs::Objects::name_json), using(crate::proofs::Sets::one))]
 fn push_name(line: &mut Line, ctx: Ctx, number: u16) -> Result<(), AllocError>
     ensures { OnOk result
         (line.new ≡ line.old ⊕ fields_tokens ((codes "name", name_json ctx number) ∷ [])) }
@@ -31,7 +31,7 @@ fn push_name(line: &mut Line, ctx: Ctx, number: u16) -> Result<(), AllocError>
 }
 
 /// Writes the field of the flags of an attribute.
-#[tactic(auto, unfolding(crate::specs::Objects::flags_json), using(crate::proofs::Json::more, crate::proofs::Json::tokens_array, crate::proofs::Json::one_field))]
+#[tactic(auto, unfolding(crate::specs::Objects::flags_json), using(crate::proofs::Sets::array))]
 fn push_flags(line: &mut Line, flags: AttrFlags) -> Result<(), AllocError>
     ensures { OnOk result
         (line.new ≡ line.old ⊕ fields_tokens ((codes "flags", flags_json flags) ∷ [])) }
@@ -48,7 +48,7 @@ fn push_flags(line: &mut Line, flags: AttrFlags) -> Result<(), AllocError>
 }
 
 /// Writes what every attribute has.
-#[tactic(auto, unfolding(crate::specs::Objects::attr_front), using(crate::proofs::Json::more_fields))]
+#[tactic(auto, unfolding(crate::specs::Objects::attr_front), using(crate::proofs::Sets::field))]
 fn push_attr_front(
     line: &mut Line,
     ctx: Ctx,
@@ -63,7 +63,7 @@ fn push_attr_front(
 }
 
 /// Writes what a next hop says of itself.
-#[tactic(auto, unfolding(crate::specs::Objects::hop_front), using(crate::proofs::Json::more_fields))]
+#[tactic(auto, unfolding(crate::specs::Objects::hop_front), using(crate::proofs::Sets::field))]
 fn push_hop_front(line: &mut Line, flags: u8, hops: u8, index: i32) -> Result<(), AllocError>
     ensures { OnOk result (line.new ≡ line.old ⊕ fields_tokens (hop_front flags hops index)) }
 {
@@ -79,20 +79,20 @@ fn push_held(
     alloc: Global,
     line: &mut Line,
     order: Order,
-    form: Style,
+    style: Style,
     net: bool,
     ctx: Ctx,
     value: &Value,
 ) -> Result<(), AllocError>
     ensures { OnOk result (line.new
-        ≡ line.old ⊕ fields_tokens (value_fields order form net ctx (value_view value.now))) }
+        ≡ line.old ⊕ fields_tokens (value_fields order style net ctx (value_view value.now))) }
 {
     match value {
         Value::Bytes(payload) => {
             push_reading(
                 alloc,
                 line,
-                read_payload(order, form, net, payload.as_slice()),
+                read_payload(order, style, net, payload.as_slice()),
             )
         }
         Value::List(attrs) => {
@@ -118,7 +118,7 @@ fn push_attr(
     ensures { OnOk result ((more : Items) → line.new ⊕ values_tokens (attrs_json order ctx more)
         ≡ line.old ⊕ values_tokens (attrs_json order ctx (attr_view attr.now more))) }
 {
-    let (_, form) = attribute(ctx, attr.number);
+    let (_, style) = attribute(ctx, attr.number);
     let inside = inner(ctx, attr.number, attr.flags);
     line.begin_object()?;
     push_attr_front(line, ctx, attr.number, attr.flags)?;
@@ -126,7 +126,7 @@ fn push_attr(
         alloc,
         line,
         order,
-        form,
+        style,
         attr.flags.net,
         inside,
         &attr.value,

@@ -50,7 +50,7 @@ fn push_value(alloc: Global, line: &mut Line, reading: Reading<'_>) -> Result<()
 }
 
 /// Writes the form and the value of a payload.
-#[tactic(auto, unfolding(crate::specs::Objects::reading_fields), using(crate::proofs::Json::more_fields))]
+#[tactic(auto, unfolding(crate::specs::Objects::reading_fields), using(crate::proofs::Sets::field))]
 pub(crate) fn push_reading(
     alloc: Global,
     line: &mut Line,

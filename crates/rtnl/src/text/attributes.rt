@@ -1,7 +1,7 @@
 //! The names of attributes, and the forms in which their payloads are printed.
 
 ghost use Rattle.std.specs.Prelude.{◌≡◌, ◌≤◌, length, map, option_map};
-ghost use Rattle.rtnl.specs.Attributes.{attribute_form, attribute_name, attribute_rows};
+ghost use Rattle.rtnl.specs.Attributes.{attribute_style, attribute_name, attribute_rows};
 ghost use Rattle.rtnl.specs.Rows.{find_row, row_view};
 
 use crate::text::families::{addr, link, neigh, route, rule};
@@ -53,10 +53,10 @@ pub(crate) fn find(ctx: Ctx, number: u16) -> Option<(&'static str, Style)>
 }
 
 /// The name of an attribute, or a dash, and how its payload is printed.
-#[tactic(auto, unfolding(crate::specs::Attributes::attribute_name, crate::specs::Attributes::attribute_form), using(crate::proofs::Short::short_name))]
+#[tactic(auto, unfolding(crate::specs::Attributes::row_of), using(crate::proofs::Sets::short))]
 pub(crate) fn attribute(ctx: Ctx, number: u16) -> (&'static str, Style)
     ensures name { result.0.now ≡ attribute_name ctx number }
-    ensures form { result.1 ≡ attribute_form ctx number }
+    ensures style { result.1 ≡ attribute_style ctx number }
     ensures short { length result.0.now ≤ 16 }
 {
     match find(ctx, number) {

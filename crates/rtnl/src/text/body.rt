@@ -82,7 +82,7 @@ fn push_bytes(out: &mut Vec<u8>, payload: &[u8]) -> Result<(), AllocError>
 }
 
 /// Writes the line of a body, and the lines of its attributes.
-#[tactic(auto, unfolding(crate::specs::Messages::body_text, crate::specs::Tabled::item_text), using(std::proofs::Common::append_assoc))]
+#[tactic(auto, unfolding(crate::specs::Messages::body_text), using(crate::proofs::Sets::joins))]
 pub(crate) fn push_body(
     alloc: Global,
     out: &mut Vec<u8>,

@@ -47,7 +47,7 @@ fn push_total_line(out: &mut Vec<u8>) -> Result<(), AllocError>
 }
 
 /// Writes why the datagram of this number was refused. It fails where that was for memory.
-#[tactic(auto, unfolding(crate::specs::Tabled::refusal_line), using(std::proofs::Common::append_assoc))]
+#[tactic(auto, unfolding(crate::specs::Tabled::refusal_line), using(crate::proofs::Sets::joins))]
 fn push_feed_error(out: &mut Vec<u8>, number: usize, error: FeedError) -> Result<(), AllocError>
     ensures refusal { OnOk result (error ≢ FeedError.Memory) }
     ensures text { OnOk result (out.new.items ≡ out.old.items ++ refusal_line number error) }
@@ -190,7 +190,7 @@ impl Report for InText {
         push_feed_error(out, number, error)
     }
 
-    #[tactic(auto, using(std::proofs::Common::append_assoc))]
+    #[tactic(auto, using(crate::proofs::Sets::joins))]
     fn push_entry<T: Shown>(
         alloc: Global,
         out: &mut Vec<u8>,

@@ -13,7 +13,7 @@ use nl_frame::Message;
 use std::alloc::{AllocError, Global};
 
 /// Writes the line of a message's header.
-#[tactic(auto, unfolding(crate::specs::Messages::message_line), using(std::proofs::Common::append_assoc))]
+#[tactic(auto, unfolding(crate::specs::Messages::message_line), using(crate::proofs::Sets::joins))]
 fn push_message_line(
     out: &mut Vec<u8>,
     kind: u16,
@@ -44,7 +44,7 @@ fn push_message_line(
 }
 
 /// Writes a message: the line of its header, and its body.
-#[tactic(auto, unfolding(crate::specs::Messages::message_text), using(std::proofs::Common::append_assoc))]
+#[tactic(auto, unfolding(crate::specs::Messages::message_text), using(crate::proofs::Sets::joins))]
 pub(crate) fn push_message(
     alloc: Global,
     out: &mut Vec<u8>,

@@ -50,21 +50,21 @@ pub(crate) fn inner(ctx: Ctx, number: u16, flags: AttrFlags) -> Ctx
     }
 }
 
-#[tactic(auto, unfolding(crate::specs::Trees::inline_text), using(crate::proofs::Trees::inline_list, crate::proofs::Trees::inline_hops))]
+#[tactic(auto, unfolding(crate::specs::Trees::inline_text), using(crate::proofs::Sets::inline))]
 fn push_inline(
     out: &mut Vec<u8>,
     order: Order,
-    form: Style,
+    style: Style,
     net: bool,
     value: &Value,
 ) -> Result<(), AllocError>
     ensures { OnOk result
-        (out.new.items ≡ out.old.items ++ inline_text order form net (value_view value.now)) }
+        (out.new.items ≡ out.old.items ++ inline_text order style net (value_view value.now)) }
 {
     match value {
         Value::Bytes(payload) => push_value(
             out,
-            read_payload(order, form, net, payload.as_slice()),
+            read_payload(order, style, net, payload.as_slice()),
         ),
         Value::List(attrs) => {
             push(out, "list ")?;
@@ -78,7 +78,7 @@ fn push_inline(
 }
 
 /// Writes an attribute's own line.
-#[tactic(auto, unfolding(crate::specs::Trees::attr_line), using(std::proofs::Common::append_assoc))]
+#[tactic(auto, unfolding(crate::specs::Trees::attr_line), using(crate::proofs::Sets::joins))]
 fn push_attr_line(
     out: &mut Vec<u8>,
     order: Order,
@@ -90,7 +90,7 @@ fn push_attr_line(
         ++ attr_line order
         (indented indent.now) ctx attr.now.number attr.now.flags (value_view attr.now.value)) }
 {
-    let (name, form) = attribute(ctx, attr.number);
+    let (name, style) = attribute(ctx, attr.number);
     let mut front = Segment::new();
     front.put(" ");
     put_flags(&mut front, attr.flags);
@@ -100,12 +100,12 @@ fn push_attr_line(
     front.put_field("attr ", attr.number as u64);
     push_indent(out, indent)?;
     front.push_to(out)?;
-    push_inline(out, order, form, attr.flags.net, &attr.value)?;
+    push_inline(out, order, style, attr.flags.net, &attr.value)?;
     push(out, "\n")
 }
 
 /// Writes a next hop's own line.
-#[tactic(auto, unfolding(crate::specs::Trees::hop_line), using(std::proofs::Common::append_assoc))]
+#[tactic(auto, unfolding(crate::specs::Trees::hop_line), using(crate::proofs::Sets::joins))]
 fn push_hop_line(
     out: &mut Vec<u8>,
     indent: &[u8],

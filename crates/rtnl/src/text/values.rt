@@ -110,13 +110,13 @@ fn ip_of(bytes: &[u8]) -> Reading<'_>
     Reading::Hex(bytes)
 }
 
-/// What a payload of this form is read as. `net` says that the attribute has the flag of the
+/// What a payload of this style is read as. `net` says that the attribute has the flag of the
 /// network's order.
 #[tactic(auto, unfolding(crate::specs::Values::reading_of))]
-pub(crate) fn read_payload(order: Order, form: Style, net: bool, bytes: &[u8]) -> Reading<'_>
-    ensures { reading_view result ≡ reading_of order form net bytes.entry.now }
+pub(crate) fn read_payload(order: Order, style: Style, net: bool, bytes: &[u8]) -> Reading<'_>
+    ensures { reading_view result ≡ reading_of order style net bytes.entry.now }
 {
-    match form {
+    match style {
         Style::U8 => u8_of(net, bytes),
         Style::U16 => u16_of(order, net, bytes),
         Style::U32 => u32_of(order, net, bytes),
@@ -174,7 +174,7 @@ fn put_group(text: &mut Segment, address: &[u8; 16], i: usize)
 
 /// Puts four groups in front, from place i on.
 #[inline(always)]
-#[tactic(auto, unfolding(crate::specs::Values::groups_text), using(std::proofs::Common::append_assoc))]
+#[tactic(auto, unfolding(crate::specs::Values::groups_text), using(crate::proofs::Sets::joins))]
 fn put_groups(text: &mut Segment, address: &[u8; 16], i: usize)
     requires room { 19 + length text.old ≤ 256 }
     requires within { i + 7 < 16 }
@@ -220,7 +220,7 @@ fn push_reading(out: &mut Vec<u8>, reading: Reading<'_>) -> Result<(), AllocErro
 }
 
 /// Writes the word and what stands behind it.
-#[tactic(auto, unfolding(crate::specs::Values::value_text), using(std::proofs::Common::append_assoc))]
+#[tactic(auto, unfolding(crate::specs::Values::value_text), using(crate::proofs::Sets::joins))]
 pub(crate) fn push_value(out: &mut Vec<u8>, reading: Reading<'_>) -> Result<(), AllocError>
     ensures { OnOk result
         (out.new.items ≡ out.old.items ++ value_text (reading_view reading.entry)) }

@@ -1,7 +1,7 @@
 use Rattle.std.proofs.Common.{◌≡◌, Some, refl, sym, ap, ◌∙◌, rules}
 use Rattle.nl_attr.specs.Shape.{Shape, shape_of}
 use Rattle.nl_attr.specs.Heads.{start_of, broken}
-use Rattle.nl_attr.specs.Towards.{head_of}
+use Rattle.nl_attr.specs.Region.{head_of}
 use Rattle.nl_attr.proofs.Lemmas.Towards.{one_there}
 use Rattle.nl_attr.proofs.broken.broken_head.Goals as goal
 

@@ -1,6 +1,6 @@
 use Rattle.std.proofs.Common.{sym, ◌∙◌, inl, inr, length, rules}
 use Rattle.std.proofs.lemmas.Bool.{eqb-true}
-use Rattle.nl_attr.specs.Towards.{head_of}
+use Rattle.nl_attr.specs.Region.{head_of}
 use Rattle.nl_attr.proofs.Lemmas.Towards.{leads_nowhere, leads_there}
 use Rattle.nl_attr.proofs.broken.head_at.Goals as goal
 

@@ -1,5 +1,6 @@
 use Rattle.std.proofs.Common.{Some, length}
-use Rattle.nl_attr.specs.Towards.{head_of, IsNear, Leads}
+use Rattle.nl_attr.specs.Region.{head_of}
+use Rattle.nl_attr.specs.Towards.{IsNear, Leads}
 use Rattle.nl_attr.proofs.broken.head_at.Given as goal
 
 -- the way so far leads to the place

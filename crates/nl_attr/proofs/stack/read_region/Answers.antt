@@ -32,8 +32,8 @@ returns-in-Fails-clause-bound c =
     let so_far = visits_so_far c.items.invariant in
     omega (arith, so_far, fails_within c.items.visits c.read_attrs.new.visits (list_rest S c.items.region) c.in-Fails.error c.in-Fails.ensures.goes, bound)
 
-pub returns-in_err-inner-in-List-clause-bound : goal.returns-in_err-inner-in-List-clause-bound
-returns-in_err-inner-in-List-clause-bound c =
+pub returns-in_err-inner-in-Attrs-clause-bound : goal.returns-in_err-inner-in-Attrs-clause-bound
+returns-in_err-inner-in-Attrs-clause-bound c =
     let S = c.args.shape in
     let bound = whole_bound S c.args.ctx c.args.level c.args.base c.args.bytes.now in
     let so_far = visits_so_far c.items.invariant in
@@ -42,17 +42,17 @@ returns-in_err-inner-in-List-clause-bound c =
     let opened = same_visits c.items.visits c.read_attrs.new.visits (list_rest S c.items.region) (opening_rest S r p) c.in-Opens.ensures.goes in
     omega (arith, so_far, opened, bound)
 
-pub read_attrs-requires-in-List-clause-room : goal.read_attrs-requires-in-List-clause-room
-read_attrs-requires-in-List-clause-room c =
+pub read_attrs-requires-in-Attrs-clause-room : goal.read_attrs-requires-in-Attrs-clause-room
+read_attrs-requires-in-Attrs-clause-room c =
     let S = c.args.shape in
     let bound = whole_bound S c.args.ctx c.args.level c.args.base c.args.bytes.now in
     let fits = whole_fits (S.depth - c.args.level + 1) (length c.args.bytes.now) (items_of_region S c.args.ctx c.args.level c.args.base c.args.bytes.now).1 (omega (arith, c.requires.limit)) c.requires.size bound in
     let so_far = visits_so_far c.items.invariant in
     let r = c.read_attrs.new.region in
     let p = c.in-Opens.opening in
-    let a = c.in_ok-inner-in-List.inner in
+    let a = c.in_ok-inner-in-Attrs.inner in
     let goes : Items → Outcome Items = λ is. list_goes_on S r p.number p.flags (list is) in
-    let opened = c.in-Opens.ensures.goes ∙ ap (more_visits c.read_attrs.new.visits) (opening_list S r p c.in-List.ctx a c.in-List.is c.in_ok-inner-in-List.ensures.rest) in
+    let opened = c.in-Opens.ensures.goes ∙ ap (more_visits c.read_attrs.new.visits) (opening_list S r p c.in-Attrs.ctx a c.in-Attrs.is c.in_ok-inner-in-Attrs.ensures.rest) in
     let first = first_visits c.items.visits c.read_attrs.new.visits (list_rest S c.items.region) (list_rest S a) goes opened in
     omega (arith, so_far, first, fits)
 
@@ -61,12 +61,12 @@ items-preserved-in-Continue-branch-3 c =
     let S = c.args.shape in
     let r = c.read_attrs.new.region in
     let p = c.in-Opens.opening in
-    let a = c.in_ok-inner-in-List.inner in
+    let a = c.in_ok-inner-in-Attrs.inner in
     let goes : Items → Outcome Items = λ is. list_goes_on S r p.number p.flags (list is) in
-    let opened = c.in-Opens.ensures.goes ∙ ap (more_visits c.read_attrs.new.visits) (opening_list S r p c.in-List.ctx a c.in-List.is c.in_ok-inner-in-List.ensures.rest) in
+    let opened = c.in-Opens.ensures.goes ∙ ap (more_visits c.read_attrs.new.visits) (opening_list S r p c.in-Attrs.ctx a c.in-Attrs.is c.in_ok-inner-in-Attrs.ensures.rest) in
     let first = first_visits c.items.visits c.read_attrs.new.visits (list_rest S c.items.region) (list_rest S a) goes opened in
-    let k = c.read_attrs-in-List.new.visits in
-    let attrs = c.read_attrs-in-List.new.region.list in
+    let k = c.read_attrs-in-Attrs.new.visits in
+    let attrs = c.read_attrs-in-Attrs.new.region.list in
     let t = record r { list = c.keep_attr.new.list } in
     let e = c.in_ok-keep_attr-in-Ends-read_attrs.ensures ∙ ap (λ v. map attr_view r.list.items ++ item p.number p.flags v ∷ []) (value_list attrs) in
     let read = then_done c.read_attrs.new.visits k (list_rest S a) (attrs_view attrs.items) goes c.in-Ends-read_attrs.ensures.goes in
@@ -79,11 +79,11 @@ returns-in_err-keep_attr-in-Ends-read_attrs-clause-bound c =
     let so_far = visits_so_far c.items.invariant in
     let r = c.read_attrs.new.region in
     let p = c.in-Opens.opening in
-    let a = c.in_ok-inner-in-List.inner in
+    let a = c.in_ok-inner-in-Attrs.inner in
     let goes : Items → Outcome Items = λ is. list_goes_on S r p.number p.flags (list is) in
-    let opened = c.in-Opens.ensures.goes ∙ ap (more_visits c.read_attrs.new.visits) (opening_list S r p c.in-List.ctx a c.in-List.is c.in_ok-inner-in-List.ensures.rest) in
+    let opened = c.in-Opens.ensures.goes ∙ ap (more_visits c.read_attrs.new.visits) (opening_list S r p c.in-Attrs.ctx a c.in-Attrs.is c.in_ok-inner-in-Attrs.ensures.rest) in
     let first = first_visits c.items.visits c.read_attrs.new.visits (list_rest S c.items.region) (list_rest S a) goes opened in
-    omega (arith, so_far, first, done_visits c.read_attrs.new.visits c.read_attrs-in-List.new.visits (list_rest S a) (attrs_view c.read_attrs-in-List.new.region.list.items) c.in-Ends-read_attrs.ensures.goes, bound)
+    omega (arith, so_far, first, done_visits c.read_attrs.new.visits c.read_attrs-in-Attrs.new.visits (list_rest S a) (attrs_view c.read_attrs-in-Attrs.new.region.list.items) c.in-Ends-read_attrs.ensures.goes, bound)
 
 pub read_nested-requires-clause-room : goal.read_nested-requires-clause-room
 read_nested-requires-clause-room c =
@@ -93,12 +93,12 @@ read_nested-requires-clause-room c =
     let so_far = visits_so_far c.items.invariant in
     let r = c.read_attrs.new.region in
     let p = c.in-Opens.opening in
-    let a = c.in_ok-inner-in-List.inner in
+    let a = c.in_ok-inner-in-Attrs.inner in
     let goes : Items → Outcome Items = λ is. list_goes_on S r p.number p.flags (list is) in
-    let opened = c.in-Opens.ensures.goes ∙ ap (more_visits c.read_attrs.new.visits) (opening_list S r p c.in-List.ctx a c.in-List.is c.in_ok-inner-in-List.ensures.rest) in
+    let opened = c.in-Opens.ensures.goes ∙ ap (more_visits c.read_attrs.new.visits) (opening_list S r p c.in-Attrs.ctx a c.in-Attrs.is c.in_ok-inner-in-Attrs.ensures.rest) in
     let first = first_visits c.items.visits c.read_attrs.new.visits (list_rest S c.items.region) (list_rest S a) goes opened in
-    let second = opening_rest S c.read_attrs-in-List.new.region c.in-Opens-read_attrs.second in
-    let deeper = same_visits c.items.visits c.read_attrs-in-List.new.visits (list_rest S c.items.region) (and_then second goes) (opened ∙ then_same c.read_attrs.new.visits c.read_attrs-in-List.new.visits (list_rest S a) second goes c.in-Opens-read_attrs.ensures.goes) in
+    let second = opening_rest S c.read_attrs-in-Attrs.new.region c.in-Opens-read_attrs.second in
+    let deeper = same_visits c.items.visits c.read_attrs-in-Attrs.new.visits (list_rest S c.items.region) (and_then second goes) (opened ∙ then_same c.read_attrs.new.visits c.read_attrs-in-Attrs.new.visits (list_rest S a) second goes c.in-Opens-read_attrs.ensures.goes) in
     rw c.waits_for.ensures (omega (arith, so_far, deeper, fits))
 
 pub returns-in-Opens-read_attrs-clause-bound : goal.returns-in-Opens-read_attrs-clause-bound
@@ -108,12 +108,12 @@ returns-in-Opens-read_attrs-clause-bound c =
     let so_far = visits_so_far c.items.invariant in
     let r = c.read_attrs.new.region in
     let p = c.in-Opens.opening in
-    let a = c.in_ok-inner-in-List.inner in
+    let a = c.in_ok-inner-in-Attrs.inner in
     let goes : Items → Outcome Items = λ is. list_goes_on S r p.number p.flags (list is) in
-    let opened = c.in-Opens.ensures.goes ∙ ap (more_visits c.read_attrs.new.visits) (opening_list S r p c.in-List.ctx a c.in-List.is c.in_ok-inner-in-List.ensures.rest) in
+    let opened = c.in-Opens.ensures.goes ∙ ap (more_visits c.read_attrs.new.visits) (opening_list S r p c.in-Attrs.ctx a c.in-Attrs.is c.in_ok-inner-in-Attrs.ensures.rest) in
     let first = first_visits c.items.visits c.read_attrs.new.visits (list_rest S c.items.region) (list_rest S a) goes opened in
-    let second = opening_rest S c.read_attrs-in-List.new.region c.in-Opens-read_attrs.second in
-    let deeper = same_visits c.items.visits c.read_attrs-in-List.new.visits (list_rest S c.items.region) (and_then second goes) (opened ∙ then_same c.read_attrs.new.visits c.read_attrs-in-List.new.visits (list_rest S a) second goes c.in-Opens-read_attrs.ensures.goes) in
+    let second = opening_rest S c.read_attrs-in-Attrs.new.region c.in-Opens-read_attrs.second in
+    let deeper = same_visits c.items.visits c.read_attrs-in-Attrs.new.visits (list_rest S c.items.region) (and_then second goes) (opened ∙ then_same c.read_attrs.new.visits c.read_attrs-in-Attrs.new.visits (list_rest S a) second goes c.in-Opens-read_attrs.ensures.goes) in
     omega (arith, so_far, deeper, rw c.waits_for.ensures at c.read_nested.ensures.bound, bound)
 
 pub returns-in-Fails-read_attrs-clause-bound : goal.returns-in-Fails-read_attrs-clause-bound
@@ -123,11 +123,11 @@ returns-in-Fails-read_attrs-clause-bound c =
     let so_far = visits_so_far c.items.invariant in
     let r = c.read_attrs.new.region in
     let p = c.in-Opens.opening in
-    let a = c.in_ok-inner-in-List.inner in
+    let a = c.in_ok-inner-in-Attrs.inner in
     let goes : Items → Outcome Items = λ is. list_goes_on S r p.number p.flags (list is) in
-    let opened = c.in-Opens.ensures.goes ∙ ap (more_visits c.read_attrs.new.visits) (opening_list S r p c.in-List.ctx a c.in-List.is c.in_ok-inner-in-List.ensures.rest) in
+    let opened = c.in-Opens.ensures.goes ∙ ap (more_visits c.read_attrs.new.visits) (opening_list S r p c.in-Attrs.ctx a c.in-Attrs.is c.in_ok-inner-in-Attrs.ensures.rest) in
     let first = first_visits c.items.visits c.read_attrs.new.visits (list_rest S c.items.region) (list_rest S a) goes opened in
-    omega (arith, so_far, first, fails_within c.read_attrs.new.visits c.read_attrs-in-List.new.visits (list_rest S a) c.in-Fails-read_attrs.error c.in-Fails-read_attrs.ensures.goes, bound)
+    omega (arith, so_far, first, fails_within c.read_attrs.new.visits c.read_attrs-in-Attrs.new.visits (list_rest S a) c.in-Fails-read_attrs.error c.in-Fails-read_attrs.ensures.goes, bound)
 
 pub returns-in_err-hops-in-Hops-clause-bound : goal.returns-in_err-hops-in-Hops-clause-bound
 returns-in_err-hops-in-Hops-clause-bound c =

@@ -2,14 +2,14 @@ use Rattle.std.proofs.Common.{◌≡◌, ◌++◌, [], ◌∷◌, length, map, a
 use Rattle.std.specs.Option.{option_to_list}
 use Rattle.std.proofs.lemmas.List.{map_push}
 use Rattle.nl_attr.specs.Heads.{Head}
-use Rattle.nl_attr.specs.Taped.{head_of}
+use Rattle.nl_attr.specs.Region.{head_of}
 use Rattle.nl_attr.proofs.Lemmas.Taping.{begins, pops, goes, opens, small, tells_none, tells_fault, not_empty, empty, none_left, work, work_push, inner_less}
 use Rattle.nl_attr.proofs.taping.tape_region.Goals as goal
 
 pub heads-init : goal.heads-init
 heads-init c =
     let q = c.requires in
-    begins c.args.shape (head_of c.args.start) c.args.count c.args.out.now (map head_of c.clear.new.self.items) (ap (map head_of) c.clear.ensures) q.kind q.level q.size q.place
+    begins c.args.shape (head_of c.args.start) c.args.count c.args.out.now (map head_of c.clear.new.self.items) (ap (map head_of) c.clear.ensures) q.parts q.level q.size q.place
 
 pub returns-in-None : goal.returns-in-None
 returns-in-None c = tells_none c.heads.invariant (empty c.heads.top.left.now c.if-is_empty.ensures) (ap (map head_of) (none_left c.heads.stack.items (λ h. absurd (let e = c.in-None.ensures.variant.1 h in cc))))
@@ -27,10 +27,10 @@ heads-preserved-in-Some c =
     pops c.heads.invariant (map head_of c.pop.new.self.items) (head_of c.in-Some.below) (empty c.heads.top.left.now c.if-is_empty.ensures) heads
 
 pub step-requires-clause-count : goal.step-requires-clause-count
-step-requires-clause-count c = let q = c.requires in omega (arith, (small c.heads.invariant q.kind q.level q.limit q.size).1, q.count)
+step-requires-clause-count c = let q = c.requires in omega (arith, (small c.heads.invariant q.parts q.level q.limit q.size).1, q.count)
 
 pub step-requires-clause-visits : goal.step-requires-clause-visits
-step-requires-clause-visits c = let q = c.requires in (small c.heads.invariant q.kind q.level q.limit q.size).0
+step-requires-clause-visits c = let q = c.requires in (small c.heads.invariant q.parts q.level q.limit q.size).0
 
 pub returns-in-Fails : goal.returns-in-Fails
 returns-in-Fails c =

@@ -1,5 +1,5 @@
 use Rattle.std.proofs.Common.{◌+◌, length, map}
-use Rattle.nl_attr.specs.Taped.{head_of}
+use Rattle.nl_attr.specs.Region.{head_of}
 use Rattle.nl_attr.proofs.Lemmas.Taping.{IsTaping, work}
 use Rattle.nl_attr.proofs.taping.tape_region.Given as goal
 

@@ -52,7 +52,7 @@ impl HeadLine for AddrHead {
         line.push_to(out)
     }
 
-    #[tactic(auto, unfolding(crate::specs::Addr::addr_fields), using(crate::proofs::Json::more_fields))]
+    #[tactic(auto, unfolding(crate::specs::Addr::addr_fields), using(crate::proofs::Sets::field))]
     fn push_fields(&self, line: &mut Line) -> Result<(), AllocError> {
         line.numbers(&[
             ("family", self.family.into()),

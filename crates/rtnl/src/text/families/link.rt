@@ -54,7 +54,7 @@ impl HeadLine for LinkHead {
 
     ghost same = { λ h. refl };
 
-    #[tactic(auto, unfolding(crate::specs::Link::link_line), using(std::proofs::Common::append_assoc))]
+    #[tactic(auto, unfolding(crate::specs::Link::link_line), using(crate::proofs::Sets::joins))]
     fn push_line(&self, out: &mut Vec<u8>) -> Result<(), AllocError> {
         let LinkHead {
             family,
@@ -80,7 +80,7 @@ impl HeadLine for LinkHead {
         end.push_to(out)
     }
 
-    #[tactic(auto, unfolding(crate::specs::Link::link_fields), using(crate::proofs::Json::more_fields))]
+    #[tactic(auto, unfolding(crate::specs::Link::link_fields), using(crate::proofs::Sets::field))]
     fn push_fields(&self, line: &mut Line) -> Result<(), AllocError> {
         line.numbers(&[
             ("family", self.family.into()),

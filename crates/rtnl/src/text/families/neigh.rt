@@ -35,7 +35,7 @@ impl HeadLine for NeighHead {
 
     ghost same = { λ h. refl };
 
-    #[tactic(auto, unfolding(crate::specs::Neigh::neigh_line), using(std::proofs::Common::append_assoc))]
+    #[tactic(auto, unfolding(crate::specs::Neigh::neigh_line), using(crate::proofs::Sets::joins))]
     fn push_line(&self, out: &mut Vec<u8>) -> Result<(), AllocError> {
         let NeighHead {
             family,
@@ -65,7 +65,7 @@ impl HeadLine for NeighHead {
         end.push_to(out)
     }
 
-    #[tactic(auto, unfolding(crate::specs::Neigh::neigh_fields), using(crate::proofs::Json::more_fields))]
+    #[tactic(auto, unfolding(crate::specs::Neigh::neigh_fields), using(crate::proofs::Sets::field))]
     fn push_fields(&self, line: &mut Line) -> Result<(), AllocError> {
         line.number("family", self.family.into())?;
         line.signed("index", self.ifindex)?;

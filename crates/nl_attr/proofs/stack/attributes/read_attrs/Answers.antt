@@ -1,4 +1,4 @@
-use Rattle.std.proofs.Common.{◌≡◌, ◌+◌, map, arith, Some, Err, subst, refl, ◌∙◌}
+use Rattle.std.proofs.Common.{◌≡◌, ◌+◌, map, arith, Some, Err, subst, refl, sym, ◌∙◌}
 use Rattle.nl_attr.specs.declared.order.Order.{Order}
 use Rattle.nl_attr.specs.declared.walk.attrs.Part.{Part}
 use Rattle.nl_attr.specs.Walk.{GivesPart, broken_length, span_given}
@@ -35,7 +35,7 @@ attrs-preserved c =
     let next = record r { walk = s; list = c.keep_bytes.new.list } in
     let g = part_turns w s p (subst (λ x. GivesPart w (Some x) s) c.in-Some-Ok.field-0-is c.in-Some-Ok.ensures.steps) in
     let within = stays_within c.attrs.invariant c.requires.limits in
-    let e = list_leaf c.args.shape r.ctx r.level r.base p w s (map attr_view r.list.items) (map attr_view c.keep_bytes.new.list.items) c.attrs.visits within.order g.0.sound g.1 g.0.next c.in-None-inner_of.ensures c.in-Ok.ensures in
+    let e = list_leaf c.args.shape r.ctx r.level r.base p w s (map attr_view r.list.items) (map attr_view c.keep_bytes.new.list.items) c.attrs.visits within.order g.0.sound g.1 g.0.next (sym c.holds.ensures ∙ c.in-None-of.ensures) c.in-Ok.ensures in
     let n = counted (λ (p : Part). p.span) c.attrs.visits c.step.new.visits _ c.in-Some-Ok.part c.in-Some-Ok.ensures.counts c.in-Some-Ok.field-0-is in
     rw n (goes_further (c.attrs.visits + p.span) (list_rest c.args.shape next) (list_spot next) (r.base + p.place + 4) p.payload.now c.attrs.invariant (rw g.1.span e) (passes attr_head 4 r.base r.level w s p.payload.now (r.base + p.place + 4) g.0 (omega arith) (rw g.1.place refl)))
 
@@ -60,6 +60,6 @@ returns-in-Some c =
     let within = stays_within c.attrs.invariant c.requires.limits in
     let n = counted (λ (p : Part). p.span) c.attrs.visits c.step.new.visits _ c.in-Some-Ok.part c.in-Some-Ok.ensures.counts c.in-Some-Ok.field-0-is in
     record {
-      goes = turns_so c.step.new.visits after c.turn_at.result c.attrs.invariant (rw n (turn_goes c.args.shape p r after c.in-Some.inner c.attrs.visits c.turn_at.result within g.0 g.1 c.in-Some.ensures c.turn_at.ensures refl refl refl refl));
-      moves = moves_so after c.turn_at.result c.attrs.invariant (turn_moves c.args.shape p r after c.in-Some.inner c.turn_at.result within g.0 g.1 c.turn_at.ensures refl refl);
+      goes = turns_so c.step.new.visits after c.turn_at.result c.attrs.invariant (rw n (turn_goes c.args.shape p r after c.in-Some.parts c.attrs.visits c.turn_at.result within g.0 g.1 (sym c.holds.ensures ∙ c.in-Some.ensures) c.turn_at.ensures refl refl refl refl));
+      moves = moves_so after c.turn_at.result c.attrs.invariant (turn_moves c.args.shape p r after c.in-Some.parts c.turn_at.result within g.0 g.1 c.turn_at.ensures refl refl);
     }

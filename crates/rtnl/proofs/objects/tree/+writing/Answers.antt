@@ -5,7 +5,7 @@ use Rattle.nl_attr.specs.declared.tree.Hop.{out-Hop}
 use Rattle.nl_attr.specs.Tree.{holds_of, hops, list}
 use Rattle.nl_attr.specs.View.{attrs_view, hops_view, value_view}
 use Rattle.nl_attr.proofs.Lemmas.Opened.{value_hops, value_list}
-use Rattle.rtnl.specs.Attributes.{attribute_form}
+use Rattle.rtnl.specs.Attributes.{attribute_style}
 use Rattle.rtnl.specs.Json.{◌⊕◌, array, fields_tokens, string, values_tokens}
 use Rattle.rtnl.specs.Objects.{attr_front, attrs_json, hop_front, hops_json, items_fields, value_fields}
 use Rattle.rtnl.specs.Trees.{inner_context}
@@ -17,9 +17,9 @@ pub push_attr-returns : goal.push_attr-returns
 push_attr-returns t c =
     let attr = c.args.attr.now in
     let front = attr_front c.args.ctx attr.number attr.flags in
-    let held = value_fields c.args.order (attribute_form c.args.ctx attr.number) attr.flags.net (inner_context (holds_of c.args.ctx attr.number attr.flags)) (value_view attr.value) in
+    let held = value_fields c.args.order (attribute_style c.args.ctx attr.number) attr.flags.net (inner_context (holds_of c.args.ctx attr.number attr.flags)) (value_view attr.value) in
     let is_held : c.push_held.new.line ≡ c.push_attr_front.new.line ⊕ fields_tokens held =
-    c.in_ok-push_held.ensures ∙ λ i. c.push_attr_front.new.line ⊕ fields_tokens (value_fields c.args.order (c.attribute-form.ensures.form i) attr.flags.net (c.inner-inside.ensures i) (value_view attr.value)) in
+    c.in_ok-push_held.ensures ∙ λ i. c.push_attr_front.new.line ⊕ fields_tokens (value_fields c.args.order (c.attribute-style.ensures.style i) attr.flags.net (c.inner-inside.ensures i) (value_view attr.value)) in
     IfOk-weaker c.end_object.result _ _
     (λ _ ended more. an_item c.args.line.now c.begin_object.new.self c.push_attr_front.new.line c.push_held.new.line c.end_object.new.self front held (attrs_json c.args.order c.args.ctx more)
     c.in_ok-begin_object.ensures c.in_ok-push_attr_front.ensures is_held ended
@@ -49,7 +49,7 @@ push_held-returns-in_ok-text-in-List t c =
     IfOk-weaker c.push_attrs.result _ _
     (λ _ held. then_fields c.args.line.now c.text.new.self c.push_attrs.new.line ((codes "form", string (codes "list")) ∷ []) ((codes "items", array (attrs_json o c.args.ctx (attrs_view c.in-List.attrs.items))) ∷ []) form
     (held ∙ ap (λ inner. c.text.new.self ⊕ fields_tokens ((codes "items", array (attrs_json o c.args.ctx inner)) ∷ [])) items)
-    ∙ sym (ap (λ v. c.args.line.now ⊕ fields_tokens (value_fields o c.args.form c.args.net c.args.ctx v)) is)) c.push_attrs.ensures
+    ∙ sym (ap (λ v. c.args.line.now ⊕ fields_tokens (value_fields o c.args.style c.args.net c.args.ctx v)) is)) c.push_attrs.ensures
 
 pub push_held-returns-in_ok-text-in-Hops : goal.push_held-returns-in_ok-text-in-Hops
 unfolding items_fields
@@ -61,7 +61,7 @@ push_held-returns-in_ok-text-in-Hops t c =
     IfOk-weaker c.push_hops.result _ _
     (λ _ held. then_fields c.args.line.now c.text-in-Hops.new.self c.push_hops.new.line ((codes "form", string (codes "hops")) ∷ []) ((codes "items", array (hops_json o (hops_view c.in-Hops.hops.items))) ∷ []) form
     (held ∙ ap (λ inner. c.text-in-Hops.new.self ⊕ fields_tokens ((codes "items", array (hops_json o inner)) ∷ [])) items)
-    ∙ sym (ap (λ v. c.args.line.now ⊕ fields_tokens (value_fields o c.args.form c.args.net c.args.ctx v)) is)) c.push_hops.ensures
+    ∙ sym (ap (λ v. c.args.line.now ⊕ fields_tokens (value_fields o c.args.style c.args.net c.args.ctx v)) is)) c.push_hops.ensures
 
 pub push_hop-returns : goal.push_hop-returns
 push_hop-returns t c =

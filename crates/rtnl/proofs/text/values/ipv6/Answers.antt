@@ -1,4 +1,4 @@
-use Rattle.std.proofs.Common.{◌++◌, ◌∙◌, [], ap, append-nil, codes}
+use Rattle.std.proofs.Common.{◌++◌, ◌∙◌, ap, append-nil, codes}
 use Rattle.rtnl.specs.Values.{groups_text, ipv6_text}
 use Rattle.rtnl.proofs.text.values.ipv6.Goals as goal
 

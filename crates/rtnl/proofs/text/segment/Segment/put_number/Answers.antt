@@ -1,4 +1,4 @@
-use Rattle.std.proofs.Common.{◌≤◌, ◌+◌, ap, arith, decimal, drop, length, length-append, length-drop, rules}
+use Rattle.std.proofs.Common.{ap, arith, decimal, drop, length, length-append, length-drop, rules}
 use Rattle.rtnl.proofs.Short.{twenty_digits}
 use Rattle.rtnl.proofs.text.segment.Segment.put_number.Goals as goal
 

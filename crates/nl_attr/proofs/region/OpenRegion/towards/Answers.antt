@@ -1,7 +1,7 @@
 use Rattle.std.proofs.Common.{sym, ◌∙◌, arith}
-use Rattle.nl_attr.specs.Towards.{head_of}
+use Rattle.nl_attr.specs.Region.{head_of}
 use Rattle.nl_attr.proofs.Lemmas.Towards.{cut_leads, follower_is, follower_leads, broken_leads, inner_leads}
-use Rattle.nl_attr.proofs.broken.PlacedHead.towards.Goals as goal
+use Rattle.nl_attr.proofs.region.OpenRegion.towards.Goals as goal
 
 pub returns-in_default-clause-leads : goal.returns-in_default-clause-leads
 returns-in_default-clause-leads c = cut_leads c.args.shape c.args.place (head_of c.args.self) c.in_default.field-0 c.requires.ahead (rw c.order.ensures at c.in_default.ensures)

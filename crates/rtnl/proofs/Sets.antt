@@ -1,0 +1,27 @@
+-- The lemmas that the goals of several functions want, by the names under which their attributes bring them.
+use Rattle.std.proofs.Common.{append_assoc}
+use Rattle.rtnl.proofs.Json.{more, more_fields, one_field, tokens_array}
+use Rattle.rtnl.proofs.Short.{short_name}
+use Rattle.rtnl.proofs.Streams.{appends_more, appends_none, prefix_of, whole}
+use Rattle.rtnl.proofs.Trees.{inline_list, inline_hops}
+
+-- texts one after another
+pub ruleset joins = append_assoc
+
+-- the fields of an object, one after another
+pub ruleset field = more_fields
+
+-- one field of an object
+pub ruleset one = (more, one_field)
+
+-- one field that holds an array
+pub ruleset array = (more, tokens_array, one_field)
+
+-- the names of attributes are short
+pub ruleset short = short_name
+
+-- what stands of a container on its attribute's line
+pub ruleset inline = (inline_list, inline_hops)
+
+-- what a sink was given
+pub ruleset gives = (appends_more, appends_none, prefix_of, whole)
