@@ -168,7 +168,8 @@ fn get_without_padding_and_after_it(rt: HostRuntime) -> Result<(), Fail> {
     gives(alloc, text, get(alloc))?;
     // Whole padding, and a message behind it.
     let text =
-        "11000000 1200 0103 01000000 00000000 00 000000 14000000 0300 0200 01000000 39300000 00000000";
+        "11000000 1200 0103 01000000 00000000 00 000000 14000000 0300 0200 01000000 39300000 \
+        00000000";
     gives_first_of_two(alloc, text, get(alloc))?;
     // Padding may hold anything.
     let text = "11000000 1200 0103 01000000 00000000 00 ffffff";
@@ -262,9 +263,10 @@ fn nothing_and_too_little(rt: HostRuntime) -> Result<(), Fail> {
 fn an_earlier_attribute_before_a_later_header(rt: HostRuntime) -> Result<(), Fail> {
     let alloc = rt.alloc();
     let little =
-        "24000000 1000 0200 01000000 39300000 00000000 00000000 00000000 00000000 03000100 00000000 0300 0200 01000000 39300000";
-    let big =
-        "00000024 0010 0002 00000001 00003039 00000000 00000000 00000000 00000000 00030001 00000000 0003 0002 00000001 00003039";
+        "24000000 1000 0200 01000000 39300000 00000000 00000000 00000000 00000000 03000100 \
+        00000000 0300 0200 01000000 39300000";
+    let big = "00000024 0010 0002 00000001 00003039 00000000 00000000 00000000 00000000 00030001 \
+        00000000 0003 0002 00000001 00003039";
     let bad = fault(32, Reason::BadLength);
     let limits = Limits::standard();
     refuses(alloc, little, &limits, bad, 0)?;

@@ -61,7 +61,8 @@ fn two_datagrams_and_one(rt: HostRuntime) -> Result<(), Fail> {
 /// Both links, then the loopback link with other flags and an MTU of 1500, and the end, are taken.
 fn takes_three(alloc: Global, session: &mut Session, flags: &str) -> Result<(), Fail> {
     let again = format!(in alloc;
-        "30000000 1000 {flags} 01000000 39300000 00000403 01000000 49000100 00000000 07000300 6c6f0000 08000400 dc050000"
+        "30000000 1000 {flags} 01000000 39300000 00000403 01000000 49000100 00000000 07000300 \
+        6c6f0000 08000400 dc050000"
     )?;
     let all = [LOOPBACK, ETHERNET, again.as_str(), DONE];
     takes_text(alloc, session, &all, (3, 0, true), "three links")

@@ -48,8 +48,12 @@ complete no
             Verdict::Blemished,
         ),
         Engine::TableJson => (
-            r#"{"dump":"link","seq":1,"port":12345,"end":"none","entries":0,"missed":0,"ignored":0,"unfed":0,"damaged":false,"interrupted":false,"received":0,"visits":0,"complete":false}
-"#,
+            concat!(
+                r#"{"dump":"link","seq":1,"port":12345,"end":"none","entries":0,"missed":0,"#,
+                r#""ignored":0,"unfed":0,"damaged":false,"interrupted":false,"received":0,"#,
+                r#""visits":0,"complete":false}"#,
+                "\n",
+            ),
             Verdict::Blemished,
         ),
         _ => ("", Verdict::Clean),
@@ -160,8 +164,12 @@ message 3 done flags 0x0002 MULTI seq 1 port 12345
   done status 0 tail -
 ",
         Engine::ShowJson => {
-            r#"{"datagram":1,"bytes":20,"messages":[{"message":3,"type":"done","flags":2,"flag_names":["MULTI"],"seq":1,"port":12345,"done":{"status":0,"tail":""}}]}
-"#
+            concat!(
+                r#"{"datagram":1,"bytes":20,"messages":[{"message":3,"type":"done","#,
+                r#""flags":2,"flag_names":["MULTI"],"seq":1,"port":12345,"#,
+                r#""done":{"status":0,"tail":""}}]}"#,
+                "\n",
+            )
         }
         Engine::Check => "datagram 1 canonical\n",
         Engine::CheckJson => "{\"datagram\":1,\"canonical\":true}\n",
@@ -172,8 +180,12 @@ received 20 visits 0
 complete yes
 ",
         Engine::TableJson => {
-            r#"{"dump":"link","seq":1,"port":12345,"end":"done","code":0,"entries":0,"missed":0,"ignored":0,"unfed":0,"damaged":false,"interrupted":false,"received":20,"visits":0,"complete":true}
-"#
+            concat!(
+                r#"{"dump":"link","seq":1,"port":12345,"end":"done","code":0,"entries":0,"#,
+                r#""missed":0,"ignored":0,"unfed":0,"damaged":false,"interrupted":false,"#,
+                r#""received":20,"visits":0,"complete":true}"#,
+                "\n",
+            )
         }
         Engine::Request => "1c0000001a0001030700000000000000020000000000000000000000\n",
         Engine::RequestInBig => "0000001c001a03010000000700000000020000000000000000000000\n",

@@ -1,4 +1,4 @@
-//! Sessions whose dumps wait, and what they tell once datagrams are fed to them.
+//! Sessions whose dumps wait, and what they answer once datagrams are fed to them.
 
 use crate::vectors::{ensure, joined};
 use nl_dump::{Dump, FeedError, Kind, Progress, Session, State};

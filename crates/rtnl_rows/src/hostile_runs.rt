@@ -52,7 +52,8 @@ const LOOPBACK_LINES: &str = "message 16 newlink flags 0x0002 MULTI seq 1 port 1
 ";
 
 const ETHERNET_LINES: &str = "message 16 newlink flags 0x0002 MULTI seq 1 port 12345
-  link family 0 type 1 index 2 flags 0x00011043 UP,BROADCAST,RUNNING,MULTICAST,LOWER_UP change 0x00000000
+  link family 0 type 1 index 2 flags 0x00011043 UP,BROADCAST,RUNNING,MULTICAST,LOWER_UP change \
+    0x00000000
     attr 3 IFNAME - text eth0
 ";
 
@@ -127,7 +128,8 @@ const ENTRIES: &str = "entry 1
     attr 3 IFNAME - text lo
     attr 4 MTU - u32 65536
 entry 2
-  link family 0 type 1 index 2 flags 0x00011043 UP,BROADCAST,RUNNING,MULTICAST,LOWER_UP change 0x00000000
+  link family 0 type 1 index 2 flags 0x00011043 UP,BROADCAST,RUNNING,MULTICAST,LOWER_UP change \
+    0x00000000
     attr 3 IFNAME - text eth0
 end done 0
 entries 2 missed 0 ignored 1 unfed 0 damaged yes interrupted no

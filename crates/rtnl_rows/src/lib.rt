@@ -64,6 +64,8 @@ mod trees;
 #[cfg(test)]
 mod trials;
 #[cfg(test)]
+mod uses;
+#[cfg(test)]
 mod vectors;
 #[cfg(test)]
 mod views;

@@ -64,8 +64,8 @@ fn a_link_and_a_route(rt: HostRuntime) -> Result<(), Fail> {
 
 #[test]
 fn an_address(rt: HostRuntime) -> Result<(), Fail> {
-    let input =
-        "30000000 1400 0200 01000000 39300000 020880fe 01000000 08000100 7f000001 08000200 7f000001 07000300 6c6f0000";
+    let input = "30000000 1400 0200 01000000 39300000 020880fe 01000000 08000100 7f000001 08000200 \
+        7f000001 07000300 6c6f0000";
     let text = "datagram 1 bytes 48
 message 20 newaddr flags 0x0002 MULTI seq 1 port 12345
   addr family 2 prefix 8 flags 0x80 scope 254 index 1
@@ -78,8 +78,8 @@ message 20 newaddr flags 0x0002 MULTI seq 1 port 12345
 
 #[test]
 fn a_neighbour(rt: HostRuntime) -> Result<(), Fail> {
-    let input =
-        "3c000000 1c00 0200 01000000 39300000 0a000000 02000000 02008001 14000100 fe800000 00000000 00000000 00000001 0a000200 02000000 00010000";
+    let input = "3c000000 1c00 0200 01000000 39300000 0a000000 02000000 02008001 14000100 fe800000 \
+        00000000 00000000 00000001 0a000200 02000000 00010000";
     let text = "datagram 1 bytes 60
 message 28 newneigh flags 0x0002 MULTI seq 1 port 12345
   neigh family 10 index 2 state 0x0002 REACHABLE flags 0x80 ROUTER type 1
@@ -91,8 +91,8 @@ message 28 newneigh flags 0x0002 MULTI seq 1 port 12345
 
 #[test]
 fn metrics(rt: HostRuntime) -> Result<(), Fail> {
-    let input =
-        "2c000000 1800 0200 01000000 39300000 02000000 fe030001 00000000 0d000800 09001000 6375626963 000000";
+    let input = "2c000000 1800 0200 01000000 39300000 02000000 fe030001 00000000 0d000800 09001000 \
+        6375626963 000000";
     let text = "datagram 1 bytes 44
 message 24 newroute flags 0x0002 MULTI seq 1 port 12345
   route family 2 dst_len 0 src_len 0 tos 0 table 254 protocol 3 scope 0 type 1 flags 0x00000000
@@ -104,8 +104,8 @@ message 24 newroute flags 0x0002 MULTI seq 1 port 12345
 
 #[test]
 fn a_rule(rt: HostRuntime) -> Result<(), Fail> {
-    let input =
-        "2c000000 2000 0200 01000000 39300000 02000000 fe000001 00000000 08000f00 e8030000 08000600 fe7f0000";
+    let input = "2c000000 2000 0200 01000000 39300000 02000000 fe000001 00000000 08000f00 e8030000 \
+        08000600 fe7f0000";
     let text = "datagram 1 bytes 44
 message 32 newrule flags 0x0002 MULTI seq 1 port 12345
   rule family 2 dst_len 0 src_len 0 tos 0 table 254 action 1 flags 0x00000000
@@ -146,8 +146,8 @@ message 16 newlink flags 0x0602 MULTI,EXCL,CREATE seq 1 port 12345
 fn forms_that_do_not_apply(rt: HostRuntime) -> Result<(), Fail> {
     // An MTU of two bytes, one in network order, a name that is no text, a nested attribute, and a
     // number without a name.
-    let input =
-        "44000000 1000 0000 01000000 39300000 00000403 01000000 49000100 00000000 06000400 dc050000 08000440 00000100 05000300 01000000 04001480 0600ff3f abcd0000";
+    let input = "44000000 1000 0000 01000000 39300000 00000403 01000000 49000100 00000000 06000400 \
+        dc050000 08000440 00000100 05000300 01000000 04001480 0600ff3f abcd0000";
     let text = "datagram 1 bytes 68
 message 16 newlink flags 0x0000 - seq 1 port 12345
   link family 0 type 772 index 1 flags 0x00010049 UP,LOOPBACK,RUNNING,LOWER_UP change 0x00000000
@@ -162,8 +162,8 @@ message 16 newlink flags 0x0000 - seq 1 port 12345
 
 #[test]
 fn a_refusal_and_what_comes_behind_it(rt: HostRuntime) -> Result<(), Fail> {
-    let input =
-        "24000000 1000 0200 01000000 39300000 00000000 00000000 00000000 00000000 03000100 00000000 0300 0200 01000000 39300000
+    let input = "24000000 1000 0200 01000000 39300000 00000000 00000000 00000000 00000000 03000100 \
+        00000000 0300 0200 01000000 39300000
 10000000 0100 0000 00000000 00000000
 
 ";
@@ -193,13 +193,14 @@ fn each_refusal_by_name(rt: HostRuntime) -> Result<(), Fail> {
 #[test]
 fn a_length_of_three_and_a_head_of_another_type(rt: HostRuntime) -> Result<(), Fail> {
     let alloc = rt.alloc();
-    let input =
-        "30000000 1000 0200 01000000 39300000 00000403 01000000 49000100 00000000 07000300 6c6f0000 03000400 00000100";
+    let input = "30000000 1000 0200 01000000 39300000 00000403 01000000 49000100 00000000 07000300 \
+        6c6f0000 03000400 00000100";
     let text = "datagram 1 bytes 48\nrefused bad length at 40\n";
     shows(alloc, Order::Little, input, text, Verdict::Blemished)?;
     // Behind the 12 bytes of a neighbour's head stands a length of zero.
     let input = "000000000000000000000000000000
-30000000 1c00 0200 01000000 39300000 00000403 01000000 49000100 00000000 07000300 6c6f0000 08000400 00000100";
+30000000 1c00 0200 01000000 39300000 00000403 01000000 49000100 00000000 07000300 6c6f0000 \
+        08000400 00000100";
     let text = "datagram 1 bytes 15
 refused cut at 0
 datagram 2 bytes 48

@@ -12,7 +12,8 @@ use std::test::Fail;
 
 /// The loopback link with an MTU of 1500.
 const LOWERED: &str =
-    "30000000 1000 0200 01000000 39300000 00000403 01000000 49000100 00000000 07000300 6c6f0000 08000400 dc050000";
+    "30000000 1000 0200 01000000 39300000 00000403 01000000 49000100 00000000 07000300 6c6f0000 \
+    08000400 dc050000";
 
 /// What becomes of an entry that is put under its key, where a place is reserved or none is needed.
 fn put<T: Entry + Drop>(alloc: Global, table: &mut Table<T>, entry: T) -> Result<Put, Fail> {

@@ -18,11 +18,13 @@ const SHORT_GET: &str = "11000000 1200 0103 01000000 00000000 00";
 
 /// A metric of five bytes, whose inner padding is missing.
 const METRIC: &str =
-    "2c000000 1800 0200 01000000 39300000 02000000 fe030001 00000000 0d000800 09001000 6375626963 000000";
+    "2c000000 1800 0200 01000000 39300000 02000000 fe030001 00000000 0d000800 09001000 6375626963 \
+    000000";
 
 /// A link whose attribute's length is wrong, before a bad header.
 const BAD: &str =
-    "24000000 1000 0200 01000000 39300000 00000000 00000000 00000000 00000000 03000100 00000000 0300 0200 01000000 39300000";
+    "24000000 1000 0200 01000000 39300000 00000000 00000000 00000000 00000000 03000100 00000000 \
+    0300 0200 01000000 39300000";
 
 /// A datagram is read, written as these bytes, and canonical where it is they.
 fn writes(alloc: Global, limits: &Limits, text: &str, written: &str) -> Result<(), Fail> {
@@ -66,11 +68,13 @@ fn padding_is_whole_and_zero(rt: HostRuntime) -> Result<(), Fail> {
     let ones = "11000000 1200 0103 01000000 00000000 00 ffffff";
     writes(alloc, &limits, ones, whole)?;
     let both =
-        "11000000 1200 0103 01000000 00000000 00 000000 14000000 0300 0200 01000000 39300000 00000000";
+        "11000000 1200 0103 01000000 00000000 00 000000 14000000 0300 0200 01000000 39300000 \
+        00000000";
     writes(alloc, &limits, both, both)?;
     // The inner padding is written too, and counts in the list and the message around it.
     let metric =
-        "2c000000 1800 0200 01000000 39300000 02000000 fe030001 00000000 10000800 09001000 6375626963 000000";
+        "2c000000 1800 0200 01000000 39300000 02000000 fe030001 00000000 10000800 09001000 \
+        6375626963 000000";
     writes(alloc, &limits, METRIC, metric)?;
     // A byte of a head that is not kept.
     let kept = "20000000 1000 0200 01000000 39300000 00000403 01000000 49000100 00000000";

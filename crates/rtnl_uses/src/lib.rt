@@ -8,5 +8,3 @@ pub mod families;
 pub mod links;
 pub mod recordings;
 pub mod tables;
-#[cfg(test)]
-mod tests;

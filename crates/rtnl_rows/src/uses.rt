@@ -1,18 +1,18 @@
-//! Each caller once, over bytes worked by hand.
+//! Each caller that the pages show once, over bytes worked by hand.
 
-use crate::attributes::count_of;
-use crate::datagrams::{message_count, mtu_of};
-use crate::dumps::take_answer;
-use crate::families::read_named;
-use crate::links::{LinksError, links_of};
-use crate::recordings::show_text;
-use crate::tables::keep;
 use nl_attr::{Depth, Fault, Order, Reason};
 use nl_dump::{FeedError, Kind, Session};
 use nl_frame::Limits;
 use nl_route::Link;
 use nl_table::{Put, Table};
 use rtnl::{RunError, Verdict};
+use rtnl_uses::attributes::count_of;
+use rtnl_uses::datagrams::{message_count, mtu_of};
+use rtnl_uses::dumps::take_answer;
+use rtnl_uses::families::read_named;
+use rtnl_uses::links::{LinksError, links_of};
+use rtnl_uses::recordings::show_text;
+use rtnl_uses::tables::keep;
 use std::test::Fail;
 
 #[test]
