@@ -41,7 +41,7 @@ class Refused(Exception):
 
 class Parser(argparse.ArgumentParser):
     def error(self, message):
-        tell(f"{message}; see --help")
+        report(f"{message}; see --help")
         sys.exit(2)
 
 
@@ -141,7 +141,7 @@ class Reading:
         self.is_route[process, descriptor] = self.is_route[descriptor] = is_route
 
     def is_of_route(self, process, call):
-        """Whether the call's socket is one for rtnetlink, as far as the trace tells; a thread may have it
+        """Whether the call's socket is one for rtnetlink, as far as the trace says; a thread may have it
         from another."""
         found = DESCRIPTOR.match(call)
         descriptor, protocol = found.groups() if found else (None, None)
@@ -172,7 +172,7 @@ def recording(lines):
     return [receive.datagram().hex() for receive in reading.receives]
 
 
-def tell(text):
+def report(text):
     print(f"from_strace.py: {text}", file=sys.stderr)
 
 
@@ -186,10 +186,10 @@ def main():
         with open(1, "wb", closefd=False) as output:
             output.write(text)
     except Refused as refused:
-        tell(refused)
+        report(refused)
         return 1
     except OSError as error:
-        tell(f"a read or a write failed: {error.strerror}")
+        report(f"a read or a write failed: {error.strerror}")
         return 3
     return 0
 

@@ -159,7 +159,7 @@ def record(link, found):
             write(answer.hex())
             end = ending(answer, sequence)
         if end:
-            tell(f"line {number}: the kernel answered with error {end}, {os.strerror(end)}")
+            report(f"line {number}: the kernel answered with error {end}, {os.strerror(end)}")
             is_whole = False
     return is_whole
 
@@ -191,7 +191,7 @@ def run():
             raise Stop(1, f"no datagram came within {wait:g} seconds") from None
 
 
-def tell(text):
+def report(text):
     print(f"record.py: {text}", file=sys.stderr)
 
 
@@ -202,10 +202,10 @@ def main():
     except KeyboardInterrupt:
         return 0
     except Stop as stop:
-        tell(stop)
+        report(stop)
         return stop.status
     except OSError as error:
-        tell(f"the socket, a read or a write failed: {error.strerror}")
+        report(f"the socket, a read or a write failed: {error.strerror}")
         # What could not be written is not tried again at the end.
         os.dup2(os.open(os.devnull, os.O_WRONLY), 1)
         return 3

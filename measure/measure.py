@@ -1,5 +1,5 @@
 #!/usr/bin/env python3
-"""Measures what docs/PERFORMANCE.md tells, and prints it as its tables.
+"""Measures what docs/PERFORMANCE.md shows, and prints it as its tables.
 
 usage: measure/measure.py [FOLDER]
 

@@ -19,7 +19,7 @@ tests/packages.sh cc gcc c++ g++ objcopy binutils pkg-config pkg-config go golan
 ./rtnl --version >/dev/null || exit 1
 c/build.sh "$folder/library" || exit 1
 
-# has COMMAND WHAT: the command is here, or it is told that this is skipped.
+# has COMMAND WHAT: the command is here, or a line says that this is skipped.
 has() { command -v "$1" >/dev/null || ! echo "skipped: $2, since $1 is not here"; }
 
 . tests/c_library/names.sh

@@ -400,10 +400,10 @@ def difference(arguments, datagrams, lines, status):
 
 def differs(command, order, datagrams):
     """What the program answers otherwise than the reference of all datagrams, in one run."""
-    tell = {"show": reference.shown, "check": reference.checked}[command]
-    told = [tell(number, datagram, ORDERS[order]) for number, datagram in enumerate(datagrams, 1)]
-    lines = [line for lines, _ in told for line in lines]
-    status = 0 if all(is_taken for _, is_taken in told) else 1
+    say = {"show": reference.shown, "check": reference.checked}[command]
+    said = [say(number, datagram, ORDERS[order]) for number, datagram in enumerate(datagrams, 1)]
+    lines = [line for lines, _ in said for line in lines]
+    status = 0 if all(is_taken for _, is_taken in said) else 1
     return difference([command, "--order", order], datagrams, lines, status)
 
 

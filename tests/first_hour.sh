@@ -35,15 +35,15 @@ ends() {
   [ "$found" = "$status" ] && [ "$(<"$folder/output")" = "$output" ] && [ "$(<"$folder/errors")" = "$errors" ]
 }
 
-# has COMMAND WHAT: the command is here, or it is told that this is skipped.
+# has COMMAND WHAT: the command is here, or a line says that this is skipped.
 has() { command -v "$1" >/dev/null || ! echo "skipped: $2, since $1 is not here"; }
 
-# has_namespace WHAT: this runs in a network namespace with the loopback link up, or it is told.
+# has_namespace WHAT: this runs in a network namespace with the loopback link up, or a line says that it does not.
 has_namespace() {
   [ "$inside" = yes ] || ! echo "skipped: $1, since no network namespace can be made here"
 }
 
-# can_trace WHAT: strace is here and may trace, or it is told.
+# can_trace WHAT: strace is here and may trace, or a line says that it does not.
 can_trace() {
   strace -o /dev/null true 2>/dev/null || ! echo "skipped: $1, since strace is not here or may not trace"
 }

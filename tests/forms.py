@@ -93,12 +93,12 @@ def digits(count):
 def matching(pattern, what):
     """A string of this pattern as it stands."""
 
-    def told(value):
+    def words(value):
         if type(value) is not str or not re.fullmatch(pattern, value):
             raise Unlike(f"no {what}: {value!r}")
         return value
 
-    return told
+    return words
 
 
 word = matching("[a-z]+", "word")
@@ -127,7 +127,7 @@ def choice(value, true, false):
 
 ANSWERED = {"len": number, "type": number, "flags": digits(4), "seq": number, "port": number}
 PLAIN_BODIES = {
-    "error": {"code": number, "answers": lambda value: told(value, ANSWERED), "tail": octets},
+    "error": {"code": number, "answers": lambda value: words(value, ANSWERED), "tail": octets},
     "done": {"status": number, "tail": octets},
     "get": {"family": number, "tail": octets},
 }
@@ -159,7 +159,7 @@ VALUES = {
 }
 
 
-def told(found, forms):
+def words(found, forms):
     """The fields of an object, each as its word and its value."""
     values = zip(forms.items(), fields(found, *forms))
     return " ".join(
@@ -174,7 +174,7 @@ def told(found, forms):
 def hop_lines(found, indent):
     for hop in found:
         head, inside = parted(hop, "attrs")
-        yield f"{indent}hop {told(head, HOP)}"
+        yield f"{indent}hop {words(head, HOP)}"
         yield from attribute_lines(inside, indent + "  ")
 
 
@@ -200,9 +200,9 @@ def body_lines(sort, value):
         line = octets(value)
     elif sort in FAMILIES:
         head, inside = parted(value, "attrs")
-        line = told(head, FAMILIES[sort])
+        line = words(head, FAMILIES[sort])
     elif sort in PLAIN_BODIES:
-        line = told(value, PLAIN_BODIES[sort])
+        line = words(value, PLAIN_BODIES[sort])
     else:
         raise Unlike(f"no body: {sort}")
     yield f"  {sort} {line}"
@@ -253,7 +253,7 @@ def checked(found, _):
             yield f"datagram {number(count)} {choice(is_canonical, 'canonical', 'accepted')}"
 
 
-def told_of_dump(found):
+def lines_of_dump(found):
     if "refused" in found:
         yield " ".join(("datagram", *refusal(found)))
     else:
@@ -277,7 +277,7 @@ def tabled(found, _):
         raise Unlike(f"no end: {value['end']!r}")
     yield f"dump {word(value['dump'])} seq {number(value['seq'])} port {number(value['port'])}"
     for other in others:
-        yield from told_of_dump(other)
+        yield from lines_of_dump(other)
     yield " ".join(["end", value["end"], *(number(value[one]) for one in coded)])
     words = [f"{one} {number(value[one])}" for one in counts]
     yield " ".join(words + [f"{one} {choice(value[one], 'yes', 'no')}" for one in states])

@@ -22,15 +22,15 @@ trap 'rm -rf "$folder"' EXIT
 # ends STATUS OUTPUT ERRORS COMMAND..: the command ends with this status and writes this output and these
 # errors; where these end in '..', one line that begins so.
 ends() {
-  local status=$1 output=$2 errors=$3 found told
+  local status=$1 output=$2 errors=$3 found reported
   shift 3
   "$@" >"$folder/output" 2>"$folder/errors"
   found=$?
-  told=$(<"$folder/errors")
+  reported=$(<"$folder/errors")
   [ "$found" = "$status" ] && [ "$(<"$folder/output")" = "$output" ] || return 1
   case $errors in
-    *..) [[ $told == "${errors%..}"* && $told != *$'\n'* ]] ;;
-    *) [ "$told" = "$errors" ] ;;
+    *..) [[ $reported == "${errors%..}"* && $reported != *$'\n'* ]] ;;
+    *) [ "$reported" = "$errors" ] ;;
   esac
 }
 
@@ -47,7 +47,7 @@ is_bad() {
   check "$name" ends 2 '' "record.py: $error" record < <(printf '%s\n' "$@")
 }
 
-# usage SCRIPT ARGUMENT..: a usage error, told in one line.
+# usage SCRIPT ARGUMENT..: a usage error, reported in one line.
 usage() {
   local script=$1
   shift

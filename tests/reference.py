@@ -235,7 +235,7 @@ def first_number(found, number, form, order, otherwise=0):
 
 
 def key(context, values, found, order):
-    """What an entry is told from the others of its family by, a tuple here."""
+    """What an entry is known by among those of its family, a tuple here."""
     if context == "Link":
         return values[2]
     if context == "Addr":

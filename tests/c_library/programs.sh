@@ -18,10 +18,10 @@ built() {
   "${@:3}" "${warnings[@]}" "tests/c_library/$1.c" -x none "$archive" -o "$folder/$2" -pthread
 }
 
-# sees_all PROGRAM FILE [ARGUMENT..]: it ends well, and tells of all datagrams of the file.
+# sees_all PROGRAM FILE [ARGUMENT..]: it ends well, and says how many datagrams the file has.
 sees_all() {
-  "$folder/$1" "${@:3}" <"$2" >"$folder/told" &&
-    [[ $(<"$folder/told") == "$(wc -l <"$2") datagrams"* ]]
+  "$folder/$1" "${@:3}" <"$2" >"$folder/said" &&
+    [[ $(<"$folder/said") == "$(wc -l <"$2") datagrams"* ]]
 }
 
 # prints_so PROGRAM COMMAND SORT ORDER: the program prints what rtnl does.
@@ -47,7 +47,7 @@ every() {
 # mutated.
 refuses() {
   cat "$folder/recorded.little" <(head -n 200 "$folder/mutated.little") >"$folder/refused"
-  sees_all "$1" "$folder/refused" && cp "$folder/told" "$folder/refusals"
+  sees_all "$1" "$folder/refused" && cp "$folder/said" "$folder/refusals"
 }
 
 # agree PROGRAM: threads at once come to what one comes to.

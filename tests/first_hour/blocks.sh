@@ -21,7 +21,7 @@ shows() {
   diff <(masked "$folder/expected") <(masked "$folder/found")
 }
 
-# is_possible BLOCK: its commands can run here, or it is told that it is skipped.
+# is_possible BLOCK: its commands can run here, or a line says that it is skipped.
 is_possible() {
   local tool
   [ "$live" = no ] || has_namespace "$1" || return

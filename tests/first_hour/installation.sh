@@ -22,7 +22,7 @@ takes_new_prefix() {
     "$user/install" --remove "$made" >/dev/null && [ ! -e "$made" ]
 }
 
-# The default is ~/.local, and it is told where the shell will not find the program.
+# The default is ~/.local, and a line says where the shell will not find the program.
 takes_home() {
   local HOME=$folder/home
   export HOME

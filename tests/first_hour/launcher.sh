@@ -8,11 +8,11 @@ program=$tree/crates/rtnl_cli/out/rtnl_cli
 log=$tree/crates/rtnl_cli/out/build.log
 finish_line=1400000003000200010000003930000000000000
 
-# A rt that tells its folder and its arguments; `rt run` makes a program that tells its own.
+# A rt that writes its folder and its arguments; `rt run` makes a program that writes its own.
 cat >"$folder/bin/rt" <<TEXT
 #!/usr/bin/env bash
 echo "\${PWD##*/} \$*" >>"$calls"
-echo 'told by rt'
+echo 'written by rt'
 [ "\${PWD##*/}" != "\${FAILING-}" ] || exit 1
 [ "\$1" = run ] || exit 0
 mkdir -p out
@@ -28,8 +28,8 @@ for tool in env bash readlink find date mkdir touch cat; do ln -s "$(command -v 
 
 crates=(nl_attr nl_route nl_frame nl_table nl_dump rtnl rtnl_cli)
 
-# told NOTE: what is told before each crate.
-told() {
+# progress NOTE: the line before each crate.
+progress() {
   local number
   for number in 1 2 3 4 5 6 7; do
     echo "rtnl: proving and building ${crates[number - 1]}, $number of 7$1"
@@ -42,15 +42,15 @@ launch_without_rt() { (cd "$folder/empty" && PATH=$folder/tools "$folder/bin/rtn
 launch_failing() { FAILING=nl_table launch "$@"; }
 mkdir "$folder/empty"
 
-# builds NOTE: the crates are checked, lowest first, and the last is run, with what is told; then the program runs.
+# builds NOTE: the crates are checked, lowest first, and the last is run, with a line before each; then the program runs.
 builds() {
   rm -f "$calls"
-  ends 4 $'a b  c\n'"$finish_line" "$(told "$1")" launch a 'b  c' <<<"$finish_line" &&
+  ends 4 $'a b  c\n'"$finish_line" "$(progress "$1")" launch a 'b  c' <<<"$finish_line" &&
     diff <(printf '%s check\n' "${crates[@]:0:6}" && echo 'rtnl_cli run') "$calls" &&
-    [ "$(grep -c '^told by rt$' "$log")" = 7 ]
+    [ "$(grep -c '^written by rt$' "$log")" = 7 ]
 }
 
-# runs: nothing is built and nothing is told.
+# runs: nothing is built and no line is written.
 runs() {
   rm -f "$calls"
   ends 4 $'a b  c\n'"$finish_line" '' launch a 'b  c' <<<"$finish_line" && [ ! -e "$calls" ]
@@ -68,7 +68,7 @@ is_stale_meanwhile() {
 # A failed build leaves no program that is taken for a current one.
 fails_in_build() {
   rm -f "$calls" "$program"
-  ends 3 '' "$(told '; ten to twenty minutes in all, once' | head -n 4)
+  ends 3 '' "$(progress '; ten to twenty minutes in all, once' | head -n 4)
 rtnl: the program could not be built; see $log" launch_failing <<<"$finish_line" &&
     [ "$(tail -n 1 "$calls")" = 'nl_table check' ] && builds '; ten to twenty minutes in all, once'
 }

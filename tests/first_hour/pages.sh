@@ -41,7 +41,7 @@ check 'the options that the page describes' same in_all_help in_list
 check 'the options that the page names' same in_all_help in_page
 check 'the commands of the page' same commands_in_help commands_on_page
 
-# The newest heading of the changelog is the version that the program tells.
+# The newest heading of the changelog is the version that the program prints.
 version=$(sed -n 's/^## //p' CHANGELOG.md | head -n 1)
 check 'the version is a number' grep -qxE '[0-9]+\.[0-9]+\.[0-9]+' <<<"$version"
 check 'the version of the program' ends 0 "rtnl $version" '' "$user/rtnl" --version

@@ -73,7 +73,7 @@ same 'only a counted walk steps a walker, and the way to a fault' \
   'crates/nl_attr/src/broken.rt 2
 crates/nl_attr/src/walk/counted.rt 2'
 
-same 'on the way to a fault one item is taken of a walker, and one length is told' \
+same 'on the way to a fault one item is taken of a walker, and one length is read' \
   "$(within '(Attrs|HopParts)::|[.]next[(]|read_u16[(]' "$broken")" \
   'attr_item
 hop_item
@@ -168,8 +168,7 @@ crates/nl_frame/src/front.rt 1
 crates/rtnl_c/src/cursors.rt 3'
 
 same 'numbers are made of bytes by their order alone' \
-  "$(lines 'from_(le|be|ne)_bytes|(Little|Big|Native)Endian' | grep -v '^crates/nl_attr/src/order\.rt:')" \
-  'crates/nl_table/src/table.rt:        entry.head.index == i32::from_le_bytes(key)'
+  "$(lines 'from_(le|be|ne)_bytes|(Little|Big|Native)Endian' | grep -v '^crates/nl_attr/src/order\.rt:')" ''
 
 same 'calls that answer a tally' "$(counts '-> Tally<')" \
   'crates/nl_attr/src/fault.rt 2

@@ -53,7 +53,7 @@ find_place() {
 # All rows answered.
 is_answered() { said 0 '' "${answers[@]}"; }
 
-# visits_in LINE: the visits that it tells, 0 where it tells none.
+# visits_in LINE: the visits that it has, 0 where it has none.
 visits_in() { [[ $1 =~ visits\ ([0-9]+) ]] && echo "${BASH_REMATCH[1]}" || echo 0; }
 
 # The growth was refused in the row at this place, and all others answered.
@@ -64,15 +64,15 @@ is_refused_there() {
   refusal=${refusal/visits SOME/visits $visits}
   refusal=${refusal/visits ALL/visits $visits}
   said 0 '' "${answers[@]:0:place}" "$refusal" "${answers[@]:place+1}" || return 1
-  [ "$visits" -ge "${told[place]-0}" ] && [ "$visits" -le "$(visits_in "${answers[place]}")" ] && told[place]=$visits
+  [ "$visits" -ge "${before[place]-0}" ] && [ "$visits" -le "$(visits_in "${answers[place]}")" ] && before[place]=$visits
 }
 
-# All that the row at this place visits was told when its last growth was refused, where it must be.
-tells_all() {
-  [[ ${refusals[place]} != *'visits ALL'* ]] || [ "${told[place]-0}" = "$(visits_in "${answers[place]}")" ]
+# All that the row at this place visits was answered when its last growth was refused, where it must be.
+answers_all() {
+  [[ ${refusals[place]} != *'visits ALL'* ]] || [ "${before[place]-0}" = "$(visits_in "${answers[place]}")" ]
 }
 
-# The growth was refused before the call of this row, or while its answer was told, and those before it answered.
+# The growth was refused before the call of this row, or while its answer was written, and those before it answered.
 is_stopped_there() {
   [ "$place" -lt "${#answers[@]}" ] && said 4 'rtnl_calls: out of memory' "${answers[@]:0:place}"
 }
@@ -89,7 +89,7 @@ is_right() {
 
 # refuse_rows CALL: each growth of the program over the rows of this call in turn, and a run without a refusal.
 refuse_rows() {
-  local call=$1 number=1 place refused=() told=() sum=0
+  local call=$1 number=1 place refused=() before=() sum=0
   while is_refused "$number" /dev/null "$call"; do
     check "$call, growth $number" is_right
     number=$((number + 1))
@@ -98,7 +98,7 @@ refuse_rows() {
   for place in "${!refusals[@]}"; do
     [ -z "${refusals[place]}" ] ||
       check "${answers[place]%%: *}, some growth is needed" [ "${refused[place]-0}" -gt 0 ]
-    check "${answers[place]%%: *}, visits told with the last refusal" tells_all
+    check "${answers[place]%%: *}, visits answered with the last refusal" answers_all
     sum=$((sum + ${refused[place]-0}))
   done
   echo "$call: $((number - 1)) growths, $sum of them in its ${#answers[@]} rows"
