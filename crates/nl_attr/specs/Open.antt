@@ -105,16 +105,19 @@ Goes S n o m r turn.Ends = more_visits n o ≡ (Ok (attrs_view r.list.items), m)
 Goes S n o m r (turn.Opens p) = more_visits n o ≡ more_visits m (opening_rest S r p)
 Goes S n o m r (turn.Fails e) = FailsAs n o m e
 
+-- the same of a turn in a region of next hops
 abbrev pub HopGoes : Shape → ℕ → Outcome HopItems → ℕ → HopsRegion → HopTurn → Type 0
 HopGoes S n o m r hop_turn.Ends = more_visits n o ≡ (Ok (hops_view r.list.items), m)
 HopGoes S n o m r (hop_turn.Opens h a) = more_visits n o ≡ more_visits m (and_then (list_rest S a) (hops_go_on S r h))
 HopGoes S n o m r (hop_turn.Fails e) = FailsAs n o m e
 
+-- the same of a turn that also looks at the first attribute of a next hop
 abbrev pub HopsGo : Shape → ℕ → Outcome HopItems → ℕ → HopsRegion → HopsTurn → Type 0
 HopsGo S n o m r hops_turn.Ends = more_visits n o ≡ (Ok (hops_view r.list.items), m)
 HopsGo S n o m r (hops_turn.Opens h a p) = more_visits n o ≡ more_visits m (and_then (opening_rest S a p) (hops_go_on S r h))
 HopsGo S n o m r (hops_turn.Fails e) = FailsAs n o m e
 
+-- what comes next keeps the outcome, or a refusal was met
 abbrev pub NextGoes : Shape → ℕ → Outcome Items → ℕ → Result Next ListError → Type 0
 NextGoes S n o m (Ok x) = more_visits n o ≡ more_visits m (next_rest S x)
 NextGoes S n o m (Err e) = FailsAs n o m e
@@ -216,6 +219,7 @@ Moves S s r (turn.Opens p) =
     × (length r.walk.left + suc (length p.payload.now) < length s.region.left)
 Moves S s r (turn.Fails e) = Unit {0}
 
+-- the attributes of a next hop that opens lie in the region, and less is left
 abbrev pub HopMoves : Shape → Spot → HopsRegion → HopTurn → Type 0
 HopMoves S s r hop_turn.Ends = Unit {0}
 HopMoves S s r (hop_turn.Opens h a) =
@@ -223,6 +227,7 @@ HopMoves S s r (hop_turn.Opens h a) =
     × (length r.walk.left + suc (length a.walk.left) < length s.region.left)
 HopMoves S s r (hop_turn.Fails e) = Unit {0}
 
+-- and what opens in those attributes lies in them
 abbrev pub HopsMove : Shape → Spot → HopsRegion → HopsTurn → Type 0
 HopsMove S s r hops_turn.Ends = Unit {0}
 HopsMove S s r (hops_turn.Opens h a p) =

@@ -85,6 +85,7 @@ pub record IsProper (ms : List MessageVal) (D : ℕ) : Type 0 where
   pub shallow : IsDeep ms D → ⊥
   pub short : IsLong ms → ⊥
 
+-- each number of a body is in the range of its type
 abbrev pub IsRangedBody : BodyVal → Type 0
 IsRangedBody (noop bs) = Unit {0}
 IsRangedBody (error code h tail) = FitsSigned w32 code × AreRanged (header_fields h)

@@ -18,6 +18,7 @@ pub data AnyHead : Type 0 where
   header : Rest → AnyHead
   inner : Head → AnyHead
 
+-- where a head stands, in bytes from the front of the datagram
 abbrev pub place_of : AnyHead → ℕ
 place_of (header r) = r.place
 place_of (inner h) = h.place
@@ -80,6 +81,7 @@ ComesUpTo (Some f) h = place_of h ≤ f.0
 abbrev pub header_event : ℕ → ℕ → ℕ → Event
 header_event place kind len = record { place = place; len = len; number = kind; level = 0; sort = SORT_MESSAGE; nested = false; net = false }
 
+-- the event of a head
 abbrev pub event_of : Order → AnyHead → Event
 event_of o (header r) = header_event r.place (header_of o r.left).kind (length (payload_at o r.left))
 event_of o (inner h) = region.event_of o h

@@ -3,6 +3,7 @@ use Rattle.rtnl.specs.Values as spec
 use Rattle.rtnl.specs.declared.text.values.Reading.{Reading}
 use Rattle.rtnl.specs.declared.text.values.Reading.TheVariants.{U8, U16, U32, Text, Ipv4, Ipv6, Hex}
 
+-- the reading for which one of the program stands
 abbrev pub reading_view : Reading → spec.Reading
 reading_view (U8 n) = spec.u8 n
 reading_view (U16 n) = spec.u16 n
