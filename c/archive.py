@@ -49,12 +49,14 @@ def newer(name, made):
 
 
 def built(name):
-    """The folder of a built library, which is there and not older than its sources."""
+    """The folder of a built library, which is there and was not put there before its sources. Its
+    files may be older: rt ci takes them from an earlier run that proved the same sources.
+    """
     folder = f"{ROOT}/crates/{name}/out/rlib/{name}.rlib"
     shown = os.path.relpath(folder, ROOT)
     if not os.path.isfile(f"{folder}/format"):
         stop(f"{shown} is missing: run rt ci, or rt lib in crates/{NAME}")
-    source = newer(name, f"{folder}/format")
+    source = newer(name, folder)
     if source:
         stop(f"{shown} is older than {source}: run rt lib in crates/{NAME}")
     return folder

@@ -12,8 +12,7 @@ use Rattle.nl_route.specs.Families.{row, AnyHead, group_of, context_of, name_of}
 use Rattle.nl_frame.specs.declared.header.Header.{Header}
 use Rattle.nl_frame.specs.Message.{BodyVal, noop, error, done, overrun, family, get, other, MessageVal}
 use Rattle.nl_dump.specs.Items.{Item}
-use Rattle.rtnl.specs.Attributes.{attribute_style, attribute_rows}
-use Rattle.rtnl.specs.Rows.{find_row}
+use Rattle.rtnl.specs.Attributes.{attribute_style, row_of}
 use Rattle.rtnl.specs.declared.text.attributes.Style.{Style}
 use Rattle.rtnl.specs.Json.{Field, object, array, number, signed, string, strings, digits}
 use Rattle.rtnl.specs.Link.{link_fields}
@@ -45,7 +44,7 @@ name_found (Some row) = string row.0
 
 -- the name of an attribute, where it has one
 unfoldable pub name_json : Ctx → ℕ → json.Json
-name_json ctx n = name_found (find_row n (attribute_rows ctx))
+name_json ctx n = name_found (row_of ctx n)
 
 -- the words of an attribute's flags
 abbrev pub flag_list : Bool → Bool → List (List ℕ)

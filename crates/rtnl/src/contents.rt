@@ -12,7 +12,7 @@ use nl_dump::{Kind, Session, match_table};
 use nl_table::{Entry, Table};
 use std::alloc::{AllocError, Global};
 
-/// Tells of the entries of a table, and answers its size.
+/// Reports the entries of a table, and answers its size.
 fn push_entries<F: Report, T: Entry + Shown>(
     alloc: Global,
     out: &mut Vec<u8>,
@@ -36,7 +36,7 @@ fn push_entries<F: Report, T: Entry + Shown>(
     })
 }
 
-/// Tells of the entries of the table of a family, and answers its size.
+/// Reports the entries of the table of a family, and answers its size.
 pub(crate) fn push_table<F: Report>(
     alloc: Global,
     out: &mut Vec<u8>,

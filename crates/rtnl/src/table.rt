@@ -89,7 +89,7 @@ fn verdict(complete: bool) -> Verdict
 struct Tabulate<F> {
     dump: Dump,
     limits: Limits,
-    form: PhantomData<F>,
+    report: PhantomData<F>,
 }
 
 impl<F: Report> Tabulate<F> {
@@ -164,7 +164,7 @@ pub fn run_table<S: Source, W: Sink>(
         &Tabulate::<InText> {
             dump,
             limits: *limits,
-            form: PhantomData,
+            report: PhantomData,
         },
     )
 }
@@ -201,7 +201,7 @@ pub fn run_table_json<S: Source, W: Sink>(
         &Tabulate::<InJson> {
             dump,
             limits: *limits,
-            form: PhantomData,
+            report: PhantomData,
         },
     )
 }

@@ -6,8 +6,8 @@ use nl_attr::{Fault, Reason};
 use rtnl::dump::{Dump, FeedError, Session};
 use rtnl::frame::{BrokenHead, HeadKind, Limits, ReadError, broken_head, read_datagram};
 use rtnl::{LONGEST_INPUT, LineFault, RunError, datagrams, line_fault};
-use std::alloc::{AllocError, Global};
-use std::io;
+use std::alloc::AllocError;
+use std::{fmt, io};
 
 /// The line of this number, counted from 1.
 fn line_at(input: &[u8], number: u32) -> Option<&[u8]> {
@@ -27,7 +27,7 @@ fn is_binary(byte: u8) -> bool {
     !matches!(byte, b'\t' | b'\r' | b' '..=b'~')
 }
 
-/// Tells what is wrong with the line of this number.
+/// Writes what is wrong with the line of this number.
 fn explain_line(rt: &HostRuntime, name: &str, input: &[u8], number: u32) -> io::Result<()> {
     let Some(line) = line_at(input, number) else {
         return Ok(());
@@ -82,16 +82,25 @@ fn rule(reason: Reason) -> &'static str {
 }
 
 /// What head it is.
-fn subject(alloc: Global, head: &BrokenHead) -> Result<String, AllocError> {
-    let level = head.level;
-    match head.kind {
-        HeadKind::Message => String::from_str(alloc, "message"),
-        HeadKind::Attribute => format!(in alloc; "attribute at level {level}"),
-        HeadKind::NextHop => format!(in alloc; "next hop at level {level}"),
+#[derive(Clone, Copy)]
+struct Subject {
+    kind: HeadKind,
+    level: u8,
+}
+
+impl fmt::Display for Subject {
+    fn fmt<W: fmt::Write>(&self, f: &mut fmt::Formatter<W>) -> fmt::Result {
+        let kind = match self.kind {
+            HeadKind::Message => return f.write_str("message"),
+            HeadKind::Attribute => "attribute",
+            HeadKind::NextHop => "next hop",
+        };
+        let level = self.level;
+        write!(f, "{kind} at level {level}")
     }
 }
 
-/// Tells of the head that a datagram's first fault is about.
+/// Writes what the head is that a datagram's first fault is about.
 fn explain_head(
     rt: &HostRuntime,
     number: usize,
@@ -99,7 +108,10 @@ fn explain_head(
     fault: Fault,
     head: BrokenHead,
 ) -> io::Result<()> {
-    let subject = subject(rt.alloc(), &head)?;
+    let subject = Subject {
+        kind: head.kind,
+        level: head.level,
+    };
     let (rule, left) = (rule(fault.reason), head.left);
     let around = Around {
         bytes: datagram,
@@ -120,7 +132,7 @@ fn explain_head(
     }
 }
 
-/// Tells why the datagram of this number was refused.
+/// Writes why the datagram of this number was refused.
 fn explain_refusal(
     rt: &HostRuntime,
     number: usize,
@@ -151,7 +163,7 @@ fn explain_refusal(
     }
 }
 
-/// Tells why datagrams were refused that are looked at by themselves.
+/// Writes why datagrams were refused that are looked at by themselves.
 fn explain_each(rt: &HostRuntime, found: &[Vec<u8>], limits: &Limits) -> io::Result<()> {
     for (index, datagram) in found.iter().enumerate() {
         let error = match read_datagram(rt.alloc(), datagram, limits).into_result() {
@@ -165,7 +177,7 @@ fn explain_each(rt: &HostRuntime, found: &[Vec<u8>], limits: &Limits) -> io::Res
     Ok(())
 }
 
-/// Tells why datagrams were refused that answer a dump, up to its end. A new session begins each
+/// Writes why datagrams were refused that answer a dump, up to its end. A new session begins each
 /// dump, so only memory can be refused.
 fn explain_dump(
     rt: &HostRuntime,
@@ -190,7 +202,7 @@ fn explain_dump(
     Ok(())
 }
 
-/// Tells why datagrams of a recording were refused. The recording was read, so only memory can be
+/// Writes why datagrams of a recording were refused. The recording was read, so only memory can be
 /// refused.
 pub(crate) fn explain_refusals(
     rt: &HostRuntime,

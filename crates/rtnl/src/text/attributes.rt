@@ -1,8 +1,8 @@
 //! The names of attributes, and the forms in which their payloads are printed.
 
 ghost use Rattle.std.specs.Prelude.{◌≡◌, ◌≤◌, length, map, option_map};
-ghost use Rattle.rtnl.specs.Attributes.{attribute_style, attribute_name, attribute_rows};
-ghost use Rattle.rtnl.specs.Rows.{find_row, row_view};
+ghost use Rattle.rtnl.specs.Attributes.{attribute_name, attribute_rows, attribute_style, row_of};
+ghost use Rattle.rtnl.specs.Rows.{row_view};
 
 use crate::text::families::{addr, link, neigh, route, rule};
 use crate::text::rows::{self, Row};
@@ -46,14 +46,15 @@ fn table(ctx: Ctx) -> &'static [Row<Style>]
 }
 
 /// The row of an attribute, if it has one.
+#[tactic(auto, unfolding(crate::specs::Attributes::row_of))]
 pub(crate) fn find(ctx: Ctx, number: u16) -> Option<(&'static str, Style)>
-    ensures { option_map (λ row. (row.0.now, row.1)) result ≡ find_row number (attribute_rows ctx) }
+    ensures { option_map (λ row. (row.0.now, row.1)) result ≡ row_of ctx number }
 {
     rows::find_row(table(ctx), number)
 }
 
 /// The name of an attribute, or a dash, and how its payload is printed.
-#[tactic(auto, unfolding(crate::specs::Attributes::row_of), using(crate::proofs::Sets::short))]
+#[tactic(auto, using(crate::proofs::Sets::short))]
 pub(crate) fn attribute(ctx: Ctx, number: u16) -> (&'static str, Style)
     ensures name { result.0.now ≡ attribute_name ctx number }
     ensures style { result.1 ≡ attribute_style ctx number }
