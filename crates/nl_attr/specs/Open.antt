@@ -111,7 +111,7 @@ HopGoes S n o m r hop_turn.Ends = more_visits n o ≡ (Ok (hops_view r.list.item
 HopGoes S n o m r (hop_turn.Opens h a) = more_visits n o ≡ more_visits m (and_then (list_rest S a) (hops_go_on S r h))
 HopGoes S n o m r (hop_turn.Fails e) = FailsAs n o m e
 
--- the same of a turn that also looks at the first attribute of a next hop
+-- the same of a turn that reads the attributes of its next hops too, up to one in which a region opens
 abbrev pub HopsGo : Shape → ℕ → Outcome HopItems → ℕ → HopsRegion → HopsTurn → Type 0
 HopsGo S n o m r hops_turn.Ends = more_visits n o ≡ (Ok (hops_view r.list.items), m)
 HopsGo S n o m r (hops_turn.Opens h a p) = more_visits n o ≡ more_visits m (and_then (opening_rest S a p) (hops_go_on S r h))

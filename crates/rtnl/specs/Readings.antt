@@ -1,9 +1,9 @@
--- What a reading of the program stands for.
+-- The readings of the program, as values are read.
 use Rattle.rtnl.specs.Values as spec
 use Rattle.rtnl.specs.declared.text.values.Reading.{Reading}
 use Rattle.rtnl.specs.declared.text.values.Reading.TheVariants.{U8, U16, U32, Text, Ipv4, Ipv6, Hex}
 
--- the reading for which one of the program stands
+-- the reading that one of the program is
 abbrev pub reading_view : Reading → spec.Reading
 reading_view (U8 n) = spec.u8 n
 reading_view (U16 n) = spec.u16 n

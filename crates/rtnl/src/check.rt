@@ -6,12 +6,12 @@ ghost use Rattle.rtnl.specs.Checked.{ChecksJson, finding_text};
 ghost use Rattle.rtnl.specs.Runs.{Runs};
 ghost use Rattle.rtnl.specs.Streams.{ConsumesAtMost};
 
-use crate::each::{Each, text_of_each};
+use crate::each::Each;
 use crate::error::{RunError, Verdict};
 use crate::objects;
 use crate::objects::line::Line;
 use crate::recording::Datagrams;
-use crate::run::{Command, run};
+use crate::run::run;
 use crate::sink::Sink;
 use crate::source::{LONGEST_INPUT, Source};
 use crate::text::datagram::{push_number, push_refusal};
@@ -109,34 +109,6 @@ impl Each for CheckJson {
                 Ok(false)
             }
         }
-    }
-}
-
-impl Command for Check {
-    ghost use Rattle.rtnl.specs.Checked.{Checks};
-
-    ghost says = { λ c. Checks c.limits };
-
-    fn text_of(
-        &self,
-        alloc: Global,
-        datagrams: &Datagrams,
-    ) -> Result<(Vec<u8>, Verdict), AllocError> {
-        text_of_each(alloc, self, datagrams)
-    }
-}
-
-impl Command for CheckJson {
-    ghost use Rattle.rtnl.specs.Checked.{ChecksJson};
-
-    ghost says = { λ c. ChecksJson c.limits };
-
-    fn text_of(
-        &self,
-        alloc: Global,
-        datagrams: &Datagrams,
-    ) -> Result<(Vec<u8>, Verdict), AllocError> {
-        text_of_each(alloc, self, datagrams)
     }
 }
 

@@ -1,10 +1,11 @@
 //! What is said of each datagram of a recording by itself.
 
 ghost use Rattle.std.specs.Prelude.{◌≡◌, ◌++◌, List, IfOk};
-ghost use Rattle.rtnl.specs.Runs.{EachIs, Prints, texts_from, verdict_from};
+ghost use Rattle.rtnl.specs.Runs.{EachIs, texts_from, verdict_from};
 
 use crate::error::Verdict;
 use crate::recording::Datagrams;
+use crate::run::Command;
 use std::alloc::{AllocError, Global};
 
 /// What is found of a datagram, and its text.
@@ -58,16 +59,19 @@ fn push_each<E: Each>(
     Ok(verdict)
 }
 
-/// The texts of all datagrams, and the verdict on them.
-pub(crate) fn text_of_each<E: Each>(
-    alloc: Global,
-    each: &E,
-    datagrams: &Datagrams,
-) -> Result<(Vec<u8>, Verdict), AllocError>
-    ensures { IfOk result (λ p. Prints (E.finds each.now) (E.text each.now) E.takes
-        datagrams.now p.0.items p.1) }
-{
-    let mut text = Vec::new(alloc);
-    let verdict = push_each(alloc, &mut text, each, datagrams)?;
-    Ok((text, verdict))
+/// What says something of each datagram says it of all, in order.
+impl<E: Each> Command for E {
+    ghost use Rattle.rtnl.specs.Runs.{Prints};
+
+    ghost says = { λ each. Prints (E.finds each) (E.text each) E.takes };
+
+    fn text_of(
+        &self,
+        alloc: Global,
+        datagrams: &Datagrams,
+    ) -> Result<(Vec<u8>, Verdict), AllocError> {
+        let mut text = Vec::new(alloc);
+        let verdict = push_each(alloc, &mut text, self, datagrams)?;
+        Ok((text, verdict))
+    }
 }

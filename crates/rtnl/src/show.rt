@@ -6,12 +6,12 @@ ghost use Rattle.rtnl.specs.Runs.{Runs};
 ghost use Rattle.rtnl.specs.Shown.{Answer, Answers, datagram_text, is_taken};
 ghost use Rattle.rtnl.specs.Shown.{Shows, ShowsInput, ShowsInputJson, ShowsJson};
 
-use crate::each::{Each, text_of_each};
+use crate::each::Each;
 use crate::error::{RunError, Verdict};
 use crate::objects;
 use crate::objects::line::Line;
 use crate::recording::Datagrams;
-use crate::run::{Command, run};
+use crate::run::run;
 use crate::sink::Sink;
 use crate::source::{LONGEST_INPUT, Source};
 use crate::text::datagram::{push_datagram_line, push_refusal};
@@ -116,34 +116,6 @@ impl Each for ShowJson {
                 Ok(false)
             }
         }
-    }
-}
-
-impl Command for Show {
-    ghost use Rattle.rtnl.specs.Shown.{Shows};
-
-    ghost says = { λ s. Shows s.limits };
-
-    fn text_of(
-        &self,
-        alloc: Global,
-        datagrams: &Datagrams,
-    ) -> Result<(Vec<u8>, Verdict), AllocError> {
-        text_of_each(alloc, self, datagrams)
-    }
-}
-
-impl Command for ShowJson {
-    ghost use Rattle.rtnl.specs.Shown.{ShowsJson};
-
-    ghost says = { λ s. ShowsJson s.limits };
-
-    fn text_of(
-        &self,
-        alloc: Global,
-        datagrams: &Datagrams,
-    ) -> Result<(Vec<u8>, Verdict), AllocError> {
-        text_of_each(alloc, self, datagrams)
     }
 }
 
