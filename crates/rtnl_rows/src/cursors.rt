@@ -101,9 +101,10 @@ fn goes_over_attributes(alloc: Global, order: Order) -> Result<(), Fail> {
     ensure(bad && cut, "no attribute")
 }
 
-fn goes_over_hops(alloc: Global, order: Order) -> Result<(), Fail> {
-    let bytes = bytes_of(alloc, text_in(order, TWO_HOPS))?;
-    let hops = behind(bytes.as_slice(), 32)?;
+/// Two next hops, and the attribute of the second.
+fn finds_two_hops(hops: &[u8], order: Order) -> Result<(), Fail>
+    requires { length hops.now ≤ LONGEST }
+{
     let first = hop_at(hops, 0, order).ok_or("a hop")??;
     let expected = HopPart {
         flags: 0,
@@ -119,11 +120,25 @@ fn goes_over_hops(alloc: Global, order: Order) -> Result<(), Fail> {
     ensure(is_second && second.span == 16, "the second hop")?;
     let attrs = behind(second.rest, 0)?;
     let next = next_of(attrs, 0, order, (5, PLAIN), Some(&[192, 0, 2, 2]))?;
+    ensure(next == 8, "its attribute")
+}
+
+/// Behind two next hops, and at places in which none lies.
+fn finds_no_hop(hops: &[u8], order: Order) -> Result<(), Fail>
+    requires { length hops.now ≤ LONGEST }
+{
     let is_end = hop_at(hops, 32, order).is_none() && hop_at(hops, 33, order).is_none();
-    ensure(next == 8 && is_end, "two hops")?;
+    ensure(is_end, "two hops")?;
     let bad = fault_in(hop_at(hops, 20, order)) == Some(at(20, Reason::BadLength));
     let cut = fault_in(hop_at(hops, 28, order)) == Some(at(28, Reason::Cut));
     ensure(bad && cut, "no hop")
+}
+
+fn goes_over_hops(alloc: Global, order: Order) -> Result<(), Fail> {
+    let bytes = bytes_of(alloc, text_in(order, TWO_HOPS))?;
+    let hops = behind(bytes.as_slice(), 32)?;
+    finds_two_hops(hops, order)?;
+    finds_no_hop(hops, order)
 }
 
 fn goes_over_all(alloc: Global, order: Order) -> Result<(), Fail> {

@@ -1,8 +1,6 @@
 //! Dumps, from their first datagram to their end.
 
-use crate::feeding::{
-    Counts, LINKS, holds, in_dump, in_state, refuses_text, shows, takes_text, waiting,
-};
+use crate::feeding::{Counts, LINKS, holds, in_dump, in_state, refuses_text, shows, takes_text};
 use crate::vectors::{DONE, DONE_BIG, ETHERNET, LOOPBACK, LOOPBACK_BIG, RULE, RULE_BIG, ensure};
 use nl_attr::{Fault, Order, Reason};
 use nl_dump::{Dump, End, FeedError, Kind, Session, State};
@@ -53,9 +51,11 @@ fn come_to_one_table(alloc: Global, two: &mut Session, one: &mut Session) -> Res
 
 #[test]
 fn two_datagrams_and_one(rt: HostRuntime) -> Result<(), Fail> {
-    let mut two = waiting(rt.alloc(), Kind::Link, Limits::standard())?;
-    let mut one = waiting(rt.alloc(), Kind::Link, Limits::standard())?;
-    come_to_one_table(rt.alloc(), &mut two, &mut one)
+    in_dump(rt.alloc(), Kind::Link, Limits::standard(), |alloc, two| {
+        in_dump(alloc, Kind::Link, Limits::standard(), |alloc, one| {
+            come_to_one_table(alloc, two, one)
+        })
+    })
 }
 
 /// Both links, then the loopback link with other flags and an MTU of 1500, and the end, are taken.

@@ -16,13 +16,6 @@ pub const LINKS: Dump = Dump {
     port: 12345,
 };
 
-/// A new session in which that dump waits, of this kind.
-pub(crate) fn waiting(alloc: Global, kind: Kind, limits: Limits) -> Result<Session, Fail> {
-    let mut session = Session::new(alloc, limits)?;
-    let _request = session.begin(kind, 0, 1, 12345)?;
-    Ok(session)
-}
-
 /// These steps go well in a new session.
 pub(crate) fn in_session<F: FnOnce(Global, &mut Session) -> Result<(), Fail>>(
     alloc: Global,
@@ -35,7 +28,7 @@ pub(crate) fn in_session<F: FnOnce(Global, &mut Session) -> Result<(), Fail>>(
     steps(alloc, &mut session)
 }
 
-/// These steps go well in a new session in which that dump waits.
+/// These steps go well in a new session in which that dump waits, of this kind.
 pub(crate) fn in_dump<F: FnOnce(Global, &mut Session) -> Result<(), Fail>>(
     alloc: Global,
     kind: Kind,
@@ -44,8 +37,10 @@ pub(crate) fn in_dump<F: FnOnce(Global, &mut Session) -> Result<(), Fail>>(
 ) -> Result<(), Fail>
     requires { F.IsAlwaysCallable steps }
 {
-    let mut session = waiting(alloc, kind, limits)?;
-    steps(alloc, &mut session)
+    in_session(alloc, limits, |alloc, session| {
+        let _request = session.begin(kind, 0, 1, 12345)?;
+        steps(alloc, session)
+    })
 }
 
 /// A datagram is taken, with so many items and so many messages ignored, and ends the dump or not.
