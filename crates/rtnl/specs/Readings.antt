@@ -1,4 +1,4 @@
--- The readings of the program, as values are read.
+-- What a reading of the program stands for.
 use Rattle.rtnl.specs.Values as spec
 use Rattle.rtnl.specs.declared.text.values.Reading.{Reading}
 use Rattle.rtnl.specs.declared.text.values.Reading.TheVariants.{U8, U16, U32, Text, Ipv4, Ipv6, Hex}

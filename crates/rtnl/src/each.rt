@@ -59,7 +59,7 @@ fn push_each<E: Each>(
     Ok(verdict)
 }
 
-/// What says something of each datagram says it of all, in order.
+/// A command that says something of each datagram by itself says it of all, in order.
 impl<E: Each> Command for E {
     ghost use Rattle.rtnl.specs.Runs.{Prints};
 

@@ -10,7 +10,6 @@ use crate::each::Each;
 use crate::error::{RunError, Verdict};
 use crate::objects;
 use crate::objects::line::Line;
-use crate::recording::Datagrams;
 use crate::run::run;
 use crate::sink::Sink;
 use crate::source::{LONGEST_INPUT, Source};

@@ -28,7 +28,8 @@ pub(crate) fn in_session<F: FnOnce(Global, &mut Session) -> Result<(), Fail>>(
     steps(alloc, &mut session)
 }
 
-/// These steps go well in a new session in which that dump waits, of this kind.
+/// These steps go well in a new session in which a dump of this kind waits, of the family, the
+/// number and the port of `LINKS`.
 pub(crate) fn in_dump<F: FnOnce(Global, &mut Session) -> Result<(), Fail>>(
     alloc: Global,
     kind: Kind,
@@ -38,7 +39,7 @@ pub(crate) fn in_dump<F: FnOnce(Global, &mut Session) -> Result<(), Fail>>(
     requires { F.IsAlwaysCallable steps }
 {
     in_session(alloc, limits, |alloc, session| {
-        let _request = session.begin(kind, 0, 1, 12345)?;
+        let _request = session.begin(kind, LINKS.family, LINKS.seq, LINKS.port)?;
         steps(alloc, session)
     })
 }
