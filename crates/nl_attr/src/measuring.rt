@@ -1,6 +1,6 @@
 //! How long lists are when they are written, and whether they may be.
 
-ghost use Rattle.std.specs.Prelude.{◌≡◌, ◌≤◌, ◌↔◌, ◌⊎◌, Some, IsTrue, IfSome};
+ghost use Rattle.std.specs.Prelude.{◌≡◌, ◌≤◌, ◌↔◌, Some, IsTrue, IfSome};
 ghost use Rattle.nl_attr.specs.Tree.{Items, HopItems};
 ghost use Rattle.nl_attr.specs.View.{attrs_view, hops_view, attr_view, hop_view, value_view};
 ghost use Rattle.nl_attr.specs.Written.{items_len};

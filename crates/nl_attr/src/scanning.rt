@@ -1,6 +1,6 @@
 //! Scanning a region of attributes: reading that keeps nothing.
 
-ghost use Rattle.std.specs.Prelude.{◌≡◌, ◌≤◌, ◌+◌, ◌-◌, ◌*◌, length, IfOk, IfErr};
+ghost use Rattle.std.specs.Prelude.{◌≤◌, ◌+◌, ◌-◌, ◌*◌, length, IfOk, IfErr};
 ghost use Rattle.nl_attr.specs.Heads.{IsFirstFault, start_of};
 ghost use Rattle.nl_attr.specs.Layout.{Fits};
 ghost use Rattle.nl_attr.specs.Reading.{items_of_region};

@@ -5,7 +5,7 @@ use Rattle.std.specs.List.{AllByRecursion}
 use Rattle.nl_attr.specs.declared.fault.Reason.{Reason}
 use Rattle.nl_attr.specs.Shape.{Shape}
 use Rattle.nl_attr.specs.Numbers.{aligned, len_of, span_of}
-use Rattle.nl_attr.specs.Heads.{Head, HeadAt, IsSound, broken, start_of}
+use Rattle.nl_attr.specs.Heads.{Head, IsSound, start_of}
 use Rattle.nl_attr.specs.Visits.{Rises, Has}
 use Rattle.nl_attr.specs.Heads as attr
 use Rattle.nl_attr.proofs.Lemmas.Reading.{or_else_none, sound_within, span_at_least, payload_length, rest_shorter}

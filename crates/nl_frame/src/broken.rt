@@ -4,7 +4,7 @@
 ghost use Rattle.std.specs.Prelude.{◌≡◌, ◌≤◌, ◌<◌, ◌+◌, ◌↔◌, length, IsSome, Some};
 ghost use Rattle.nl_attr.specs.declared.broken.BrokenHead.{BrokenHead};
 ghost use Rattle.nl_frame.specs.Front.{broken_message};
-ghost use Rattle.nl_frame.specs.Heads.{FaultAt, Rest, whole};
+ghost use Rattle.nl_frame.specs.Heads.{FaultAt, whole};
 ghost use Rattle.nl_frame.specs.Broken.{IsBrokenHead, message_facts};
 ghost use Rattle.nl_frame.specs.Towards.{IsBrokenWithin};
 

@@ -1,6 +1,6 @@
 //! Reading a region of attributes where it stands.
 
-ghost use Rattle.std.specs.Prelude.{◌^◌, ◌≡◌, ◌≤◌, ◌<◌, ◌+◌, length};
+ghost use Rattle.std.specs.Prelude.{◌^◌, ◌≤◌, ◌<◌, ◌+◌, length};
 ghost use Rattle.nl_attr.specs.Open.{TurnsAt, list_rest, list_spot, Goes, Moves, IsWithinLimits};
 
 use crate::fault::{Fault, ListError};

@@ -6,9 +6,9 @@ ghost use Rattle.nl_attr.specs.View.{value_view, attrs_view};
 ghost use Rattle.nl_attr.specs.Outcomes.{IsOutcome};
 ghost use Rattle.nl_attr.specs.Reading.{and_then, more_visits};
 ghost use Rattle.nl_attr.specs.Open.{list_rest, hops_rest, opening_rest, waiting_goes_on};
-ghost use Rattle.nl_attr.specs.Open.{hops_then, goes_on, next_rest, NextGoes, list_spot, hops_spot};
-ghost use Rattle.nl_attr.specs.Open.{opening_spot, outer_spot, Holds, outer_room, room_in, IsIn};
-ghost use Rattle.nl_attr.specs.Open.{IsWithinLimits, outer_work, NextMoves, LiesUnder, PutsOn};
+ghost use Rattle.nl_attr.specs.Open.{hops_then, goes_on, NextGoes, list_spot, hops_spot};
+ghost use Rattle.nl_attr.specs.Open.{opening_spot, outer_spot, Holds, room_in, IsIn};
+ghost use Rattle.nl_attr.specs.Open.{outer_work, NextMoves, LiesUnder, PutsOn};
 ghost use Rattle.arrayvec.specs.ArrayVec.{array_vec_len};
 
 use crate::fault::ListError;

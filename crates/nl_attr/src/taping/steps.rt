@@ -1,6 +1,6 @@
 //! One step of a scan: past the head at the front of a region.
 
-ghost use Rattle.std.specs.Prelude.{◌^◌, ◌≡◌, ◌≤◌, ◌+◌, length};
+ghost use Rattle.std.specs.Prelude.{◌^◌, ◌≤◌, ◌+◌, length};
 ghost use Rattle.nl_attr.specs.Heads.{start_of};
 ghost use Rattle.nl_attr.specs.Region.{head_of};
 ghost use Rattle.nl_attr.specs.Taped.{Steps, hops_start};

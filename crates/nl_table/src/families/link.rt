@@ -1,7 +1,7 @@
 //! The key of a link. Its fields are those of linux/rtnetlink.h and linux/if_link.h.
 
 use crate::entry::Entry;
-use crate::key::{Part, interface, key_of_parts};
+use crate::key::{interface, key_of_parts};
 use nl_attr::Order;
 use nl_route::Link;
 use std::alloc::{AllocError, Global};

@@ -1,9 +1,8 @@
 //! The report of a dump in lines of JSON.
 
-ghost use Rattle.std.specs.Prelude.{◌≡◌, ◌∷◌, ◌++◌, [], OnOk, codes, length};
+ghost use Rattle.std.specs.Prelude.{◌≡◌, ◌++◌, OnOk, length};
 ghost use Rattle.nl_dump.specs.View.{table_at};
-ghost use Rattle.nl_frame.specs.declared.reading.ReadError.{ReadError as AnyReadError};
-ghost use Rattle.rtnl.specs.Json.{Field, ◌⊕◌, fields_tokens, json_line};
+ghost use Rattle.rtnl.specs.Json.{◌⊕◌, fields_tokens, json_line};
 ghost use Rattle.rtnl.specs.Shown.{datagram_object, refusal_fields};
 ghost use Rattle.rtnl.specs.TabledJson.{code_fields, count_fields, dump_fields};
 ghost use Rattle.rtnl.specs.TabledJson.{end_code, end_fields, end_word};

@@ -1,6 +1,6 @@
 //! The printed text of attributes and next hops.
 
-ghost use Rattle.std.specs.Prelude.{◌≡◌, ◌≤◌, ◌+◌, ◌++◌, OnOk, codes, length};
+ghost use Rattle.std.specs.Prelude.{◌≡◌, ◌≤◌, ◌+◌, ◌++◌, OnOk, length};
 ghost use Rattle.nl_attr.specs.Tree.{HopItems, Items, holds_of};
 ghost use Rattle.nl_attr.specs.View.{attr_view, attrs_view, hop_view, hops_view, value_view};
 ghost use Rattle.rtnl.specs.Trees.{attr_line, deeper, flags_text, held_text, hop_line, hops_text};
