@@ -2,7 +2,7 @@
 
 use crate::engines::{Engine, READERS, WRITERS};
 use crate::fakes::{BrokenSource, EndlessSource, ShortFile, TightSink};
-use crate::vectors::{DONE, ensure};
+use crate::vectors::DONE;
 use rtnl::{ReadSource, RunError, Sink, SliceSource, Source, Verdict};
 use std::alloc::Global;
 use std::test::Fail;
