@@ -9,72 +9,34 @@ import os
 import shutil
 import subprocess
 import sys
+from typing import List, NoReturn
 
-ROOT = os.path.dirname(os.path.dirname(os.path.realpath(__file__)))
+sys.dont_write_bytecode = True
+sys.path.insert(0, f"{os.path.dirname(os.path.realpath(__file__))}/../launch")
+from crates import ROOT, Crates, NotBuilt, below, library, listed, newer
+
 NAME = "rtnl_c"
 
 
-def stop(why):
+def stop(why: str) -> NoReturn:
     print(f"archive.py: {why}", file=sys.stderr)
     sys.exit(1)
 
 
-def listed():
-    """The crates of crates.txt, each with the libraries that it names."""
-    found = {}
-    with open(f"{ROOT}/crates.txt", encoding="utf-8") as lines:
-        for line in lines:
-            names, _, used = line.partition("#")[0].partition(":")
-            if names.strip():
-                found[names.split()[0]] = used.split()
-    return found
-
-
-def below(crates, name):
-    """The repository's libraries below a crate, each behind those that it uses."""
-    found = []
-    for used in crates[name]:
-        if used in crates:
-            found += [it for it in (*below(crates, used), used) if it not in found]
-    return found
-
-
-def newer(name, made):
-    """A source of a crate that is newer than what was made of it, or nothing."""
-    for at, _, files in os.walk(f"{ROOT}/crates/{name}/src"):
-        for file in files:
-            if file.endswith(".rt") and os.path.getmtime(f"{at}/{file}") > os.path.getmtime(made):
-                return os.path.relpath(f"{at}/{file}", ROOT)
-    return None
-
-
-def built(name):
-    """The folder of a built library, which is there and was not put there before its sources. Its
-    files may be older: rt ci takes them from an earlier run that proved the same sources.
-    """
-    folder = f"{ROOT}/crates/{name}/out/rlib/{name}.rlib"
-    shown = os.path.relpath(folder, ROOT)
-    if not os.path.isfile(f"{folder}/format"):
-        stop(f"{shown} is missing: run rt ci, or rt lib in crates/{NAME}")
-    source = newer(name, folder)
-    if source:
-        stop(f"{shown} is older than {source}: run rt lib in crates/{NAME}")
-    return folder
-
-
-def is_current(crates, made):
+def is_current(crates: Crates, made: str) -> bool:
     names = [NAME, *below(crates, NAME)]
     return os.path.isfile(made) and not any(newer(name, made) for name in names)
 
 
-def words(kit, crates, to):
+def words(kit: str, crates: Crates, to: str) -> List[str]:
     """The command of the compiler."""
-    libraries = {name: built(name) for name in below(crates, NAME)}
+    libraries = {name: library(name) for name in below(crates, NAME)}
+    uses = crates[NAME].uses
     found = [f"{kit}/bin/rattle", "build", "--crate-name", NAME, "src/lib.rt"]
-    for name in ["std", *(it for it in crates[NAME] if it not in crates)]:
+    for name in ["std", *(it for it in uses if it not in crates)]:
         found += ["--extern", f"{name}={kit}/rlibs/{name}.rlib"]
     found += ["-L", f"dependency={kit}/rlibs"]
-    for name in (it for it in crates[NAME] if it in crates):
+    for name in (it for it in uses if it in crates):
         found += ["--extern", f"{name}={libraries[name]}"]
     for folder in libraries.values():
         found += ["-L", f"dependency={os.path.dirname(folder)}"]
@@ -84,7 +46,7 @@ def words(kit, crates, to):
     return [*found, "--backend", "llvm", "-o", to]
 
 
-def build(crates, made):
+def build(crates: Crates, made: str) -> None:
     command = shutil.which("rt")
     if command is None:
         stop("rt, with which the compiler comes, is not on the PATH")
@@ -100,13 +62,14 @@ def build(crates, made):
     os.replace(f"{made}.new", made)
 
 
-def main():
+def main() -> None:
     crates = listed()
-    if NAME not in crates:
-        stop(f"crates.txt has no {NAME}")
     made = f"{ROOT}/crates/{NAME}/out/lib{NAME}.a"
     if not is_current(crates, made):
-        build(crates, made)
+        try:
+            build(crates, made)
+        except NotBuilt as error:
+            stop(f"{error}")
 
 
 if __name__ == "__main__":

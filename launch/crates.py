@@ -1,0 +1,73 @@
+"""The crates of the repository, as crates.txt lists them."""
+import os
+from typing import Dict, Iterator, List, NamedTuple, Optional
+
+ROOT = os.path.dirname(os.path.dirname(os.path.realpath(__file__)))
+FILE = "crates.txt"
+
+
+class NotBuilt(Exception):
+    """A library that a script stands on is not built from its sources."""
+
+
+class Crate(NamedTuple):
+    """A line of crates.txt: the crate's name, the libraries that it names, and the line itself."""
+
+    name: str
+    uses: List[str]
+    line: str
+
+
+Crates = Dict[str, Crate]
+
+
+def listed(root: str = ROOT) -> Crates:
+    """The crates, in the order of the file."""
+    found = {}
+    with open(f"{root}/{FILE}", encoding="utf-8") as lines:
+        for line in lines:
+            names, _, uses = line.partition("#")[0].partition(":")
+            if names.strip():
+                name = names.split()[0]
+                found[name] = Crate(name, uses.split(), line)
+    return found
+
+
+def below(crates: Crates, name: str) -> List[str]:
+    """The repository's libraries below a crate, each behind those that it names."""
+    found: List[str] = []
+    for used in crates[name].uses:
+        if used in crates:
+            found += [it for it in (*below(crates, used), used) if it not in found]
+    return found
+
+
+def files(name: str, part: str, root: str = ROOT) -> Iterator[str]:
+    """The files of a part of a crate, as src, by their paths in the repository, in order."""
+    for at, folders, names in os.walk(f"{root}/crates/{name}/{part}"):
+        folders.sort()
+        for it in sorted(names):
+            yield os.path.relpath(f"{at}/{it}", root)
+
+
+def library(name: str) -> str:
+    """The folder of a built library, which is there and was not put there before its sources.
+
+    Its files may be older: rt ci takes them from an earlier run that proved the same sources.
+    """
+    folder = f"crates/{name}/out/rlib/{name}.rlib"
+    if not os.path.isfile(f"{ROOT}/{folder}/format"):
+        raise NotBuilt(f"{folder} is missing: run rt ci, or rt lib in crates/{name}")
+    source = newer(name, f"{ROOT}/{folder}")
+    if source:
+        raise NotBuilt(f"{folder} is older than {source}: run rt ci, or rt lib in crates/{name}")
+    return f"{ROOT}/{folder}"
+
+
+def newer(name: str, made: str) -> Optional[str]:
+    """A source of a crate that is newer than what was made of it, if there is one."""
+    time = os.path.getmtime(made)
+    for path in files(name, "src"):
+        if path.endswith(".rt") and os.path.getmtime(f"{ROOT}/{path}") > time:
+            return path
+    return None

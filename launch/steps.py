@@ -1,0 +1,66 @@
+"""Steps of a build: each is said on standard error, what its commands say goes into a log."""
+import os
+import signal
+import subprocess
+import sys
+import time
+from typing import IO, Any, List, Sequence
+
+
+class Failed(Exception):
+    """Why a build could not be done, in one line."""
+
+
+class Interrupted(BaseException):
+    """A signal came; its number."""
+
+
+def say(text: str, end: str = "\n") -> None:
+    print(f"rtnl: {text}", end=end, file=sys.stderr, flush=True)
+
+
+def stop_on_signals() -> None:
+    """Has the signals that end a command raise Interrupted, so that what was begun is ended."""
+
+    def stop(number: int, _frame: object) -> None:
+        raise Interrupted(number)
+
+    for number in (signal.SIGINT, signal.SIGTERM, signal.SIGHUP):
+        signal.signal(number, stop)
+
+
+def end(started: Sequence["subprocess.Popen[bytes]"]) -> None:
+    """Ends commands that still run, with those that they started."""
+    for it in started:
+        if it.poll() is None:
+            try:
+                os.killpg(it.pid, signal.SIGKILL)
+            except ProcessLookupError:
+                pass
+            it.wait()
+
+
+def step(text: str, log: IO[Any], commands: Sequence[List[str]], **how: Any) -> bool:
+    """Runs commands side by side, and returns whether each ended well.
+
+    On a terminal a clock says every second for how long, elsewhere one line says that it begins.
+    """
+    shows, begun = sys.stderr.isatty(), time.monotonic()
+    say(text, "" if shows else "\n")
+    how = {"stdin": subprocess.DEVNULL, "stdout": log, "stderr": subprocess.STDOUT, **how}
+    started: List["subprocess.Popen[bytes]"] = []
+    try:
+        for words in commands:
+            started.append(subprocess.Popen(words, start_new_session=True, **how))
+        for it in started:
+            while it.poll() is None:
+                try:
+                    it.wait(timeout=1)
+                except subprocess.TimeoutExpired:
+                    if shows:
+                        say(f"{text}, {int(time.monotonic() - begun)} s", "\r")
+    finally:
+        end(started)
+        if shows:
+            print(file=sys.stderr, flush=True)
+    return not any(it.returncode for it in started)
