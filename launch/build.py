@@ -1,18 +1,19 @@
 #!/usr/bin/env python3
-"""Builds what ./rtnl runs and ./install --library installs, where it is not built from these sources.
+"""Builds what ./rtnl runs and ./install --library installs, where these sources have no build yet.
 
   launch/build.py program [ARGUMENT ..]  builds the program and runs it with these arguments
   launch/build.py path                   builds the program and prints its path
   launch/build.py library                proves and builds the archive of the library for C
 
-The program is compiled without a proof; with RTNL_PROVE=1, or where the kit does not let that be done,
-it is proved and built. What is not proved stands in out/unproved/, what is proved in the folders out/ of
-the crates, and takes the place of the other. What is built takes its place at once, whole, and is as old
-as this run, so that a source that was changed meanwhile is newer. One build runs at a time; who comes
-meanwhile waits. Standard error says what is done; standard output has the program's bytes alone.
+The program is compiled without a proof; with RTNL_PROVE=1, or where the kit does not let that be
+done, it is proved and built. What is not proved stands in out/unproved/, what is proved in the
+folders out/ of the crates, and takes the place of the other. What is built takes its place at once,
+whole, and is as old as this run, so that a source that was changed meanwhile is newer. One build
+runs at a time; who comes meanwhile waits. Standard error says what is done; standard output has
+the program's bytes alone.
 
-The status is 3 where nothing could be built, with a line that says why, and 128 and the number of a
-signal that ended it.
+The status is 3 where nothing could be built, with a line that says why, and 128 and the number of
+a signal that ended it.
 """
 import contextlib
 import fcntl
@@ -46,7 +47,8 @@ def locked() -> Iterator[None]:
         os.makedirs(OUT, exist_ok=True)
         lock = open(f"{OUT}/lock", "w", encoding="utf-8")
     except OSError as error:
-        raise Failed(f"nothing could be built; {OUT} cannot be written: {error.strerror}") from None
+        why = f"{OUT} cannot be written: {error.strerror}"
+        raise Failed(f"nothing could be built; {why}") from None
     with lock:
         try:
             fcntl.flock(lock, fcntl.LOCK_EX | fcntl.LOCK_NB)
@@ -63,7 +65,8 @@ def logged(path: str) -> Iterator[IO[Any]]:
         os.makedirs(os.path.dirname(path), exist_ok=True)
         log = open(path, "w", encoding="utf-8")
     except OSError as error:
-        raise Failed(f"nothing could be built; {path} cannot be written: {error.strerror}") from None
+        why = f"{path} cannot be written: {error.strerror}"
+        raise Failed(f"nothing could be built; {why}") from None
     with log:
         yield log
 
@@ -82,7 +85,7 @@ def current() -> Optional[str]:
 
 
 def prove(crates: Crates, name: str, made: str) -> str:
-    """Proves and builds a crate and those below it, lowest first: each goes on where it was interrupted."""
+    """Proves and builds a crate and those below, lowest first; an interrupted one goes on."""
     names, begun = [*below(crates, name), name], time.time()
     note = "" if os.path.exists(made) else f"; {LENGTH}"
     with logged(f"{os.path.dirname(made)}/build.log") as log:

@@ -10,7 +10,7 @@
 set -u
 cd "$(dirname "${BASH_SOURCE[0]}")/.." || exit 1
 top=$PWD
-program=$top/crates/rtnl_cli/out/rtnl_cli
+program=$(tests/proved.py) || exit 1
 folder=$(mktemp -d) || exit 1
 trap 'rm -rf "$folder"' EXIT
 . tests/counting.sh

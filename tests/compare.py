@@ -15,10 +15,11 @@ import sys
 
 sys.dont_write_bytecode = True
 import mutations
+import proved
 import reference
 
 ROOT = os.path.join(os.path.dirname(os.path.abspath(__file__)), "..")
-PROGRAM = f"{ROOT}/crates/rtnl_cli/out/rtnl_cli"
+PROGRAM = proved.program()
 ORDERS = {"little": "<", "big": ">"}
 RECORDINGS = {
     "examples/links": "link",

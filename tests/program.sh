@@ -5,7 +5,7 @@
 # and the status is 1 where a case failed.
 set -u
 cd "$(dirname "${BASH_SOURCE[0]}")/.." || exit 1
-program=$PWD/crates/rtnl_cli/out/rtnl_cli
+program=$(tests/proved.py) || exit 1
 folder=$(mktemp -d) || exit 1
 trap 'rm -rf "$folder"' EXIT
 . tests/counting.sh

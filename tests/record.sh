@@ -14,7 +14,7 @@ if [ "${1-}" != inside ]; then
   done
 fi
 
-program=$PWD/crates/rtnl_cli/out/rtnl_cli
+program=$(tests/proved.py) || exit 1
 folder=$(mktemp -d) || exit 1
 trap 'rm -rf "$folder"' EXIT
 . tests/counting.sh

@@ -5,7 +5,7 @@
 # one. What is explained may also be left out, and then it says so. The last line is 'N passed, M failed', and the status is 1 where a case failed.
 set -u
 cd "$(dirname "${BASH_SOURCE[0]}")/.." || exit 1
-program=$PWD/crates/rtnl_cli/out/rtnl_cli
+program=$(tests/proved.py) || exit 1
 folder=$(mktemp -d) || exit 1
 trap 'rm -rf "$folder"' EXIT
 library=$folder/refuse.so
@@ -177,6 +177,10 @@ refuse_each 'a bad line, explained' 1 "$folder/bad" check --explain
 
 # ---- each call of the libraries
 
-. tests/refuse/calls.sh
+if [ -z "${RTNL_PROGRAM-}" ]; then
+  . tests/refuse/calls.sh
+else
+  echo 'skipped: the calls of the libraries, which rt ci proves and builds'
+fi
 
 finish
