@@ -31,7 +31,11 @@ const LONGEST_TABLE: usize = 4_194_304;
 
 /// Makes the call of a row, by the module that has it. Whether one has.
 fn has_answered(rt: &HostRuntime, row: &mut Row<'_>) -> Result<bool, Stop> {
-    Ok(walkers::has_answered(rt, row)? || trees::has_answered(rt, row)?)
+    Ok(
+        walkers::has_answered(rt, row)?
+            || trees::has_answered(rt, row)?
+            || messages::has_answered(rt, row)?,
+    )
 }
 
 /// Makes the call of the row that was read, if one was.

@@ -1,10 +1,21 @@
 //! Messages, and what they hold.
 
+use crate::rows::Row;
 use crate::said::{Hex, Indent, Maybe, say};
 use crate::shown::Shown;
 use crate::stop::{Stop, Wrong};
 use crate::trees::say_family;
-use nl_frame::{Body, Message};
+use nl_attr::Tally;
+use nl_frame::{Body, Message, read_datagram};
+
+/// Makes the call of a row, if it is one of these. Whether it is.
+pub(crate) fn has_answered(rt: &HostRuntime, row: &mut Row<'_>) -> Result<bool, Stop> {
+    match row.call {
+        "read_datagram" => read(rt, row)?,
+        _ => return Ok(false),
+    }
+    Ok(true)
+}
 
 /// Tells all of a body, a level to the right of its message: the head of a family and its
 /// attributes, or what else it holds.
@@ -75,4 +86,16 @@ pub(crate) fn say_messages(rt: &HostRuntime, messages: &[Message]) -> Result<(),
         say_message(rt, message)?;
     }
     Ok(())
+}
+
+/// `read_datagram [LIMITS]`: the visits, and the messages or why they were not read.
+fn read(rt: &HostRuntime, row: &mut Row<'_>) -> Result<(), Stop> {
+    let limits = row.words.limits()?;
+    let bytes = row.bytes(rt.alloc())?;
+    let Tally { result, visits } = read_datagram(rt.alloc(), bytes.as_slice(), &limits);
+    say(rt, format_args!("visits {visits}"))?;
+    match result {
+        Ok(messages) => say_messages(rt, messages.as_slice()),
+        Err(error) => say(rt, error),
+    }
 }
