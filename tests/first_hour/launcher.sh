@@ -93,7 +93,7 @@ check 'a run without rt' ends 4 $'\n'"$finish_line" '' launch_without_rt <<<"$fi
 for file in crates/nl_frame/src/lib.rt crates/nl_attr/specs crates/rtnl_cli/src/main.rt crates.txt; do
   check "a change of $file" is_stale "$file"
 done
-touch "$tree/crates/rtnl_rows/src/lib.rt"
+touch "$tree/crates/rtnl_rows/src/main.rt"
 check 'a change of a crate that the program does not stand on' runs
 check 'a change during a build' is_stale_meanwhile
 check 'a build that fails' fails_in_build

@@ -14,8 +14,8 @@ found=0
 code() { grep -HvE '^[[:space:]]*//' "$@"; }
 
 sources() {
-  find crates -path '*/src/*.rt' -not -path '*/out/*' -not -path 'crates/rtnl_rows/*' -not -path 'crates/rtnl_uses/*' \
-    -not -path 'crates/rtnl_calls/*' | LC_ALL=C sort
+  find crates -path '*/src/*.rt' -not -path '*/out/*' -not -path 'crates/rtnl_rows/*' -not -path 'crates/rtnl_tests/*' \
+    -not -path 'crates/rtnl_uses/*' -not -path 'crates/rtnl_calls/*' | LC_ALL=C sort
 }
 
 # lines PATTERN [FILE..]: the lines of code with it, in these files or in all.

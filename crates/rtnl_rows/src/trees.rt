@@ -1,247 +1,233 @@
-//! Trees of attributes by value, and what is read of one attribute.
+//! Trees of attributes, and what is read of one attribute.
 
-use crate::vectors::{
-    NESTED, PLAIN, TWO_HOPS, TWO_HOPS_BIG, bytes_of, ensure, leaf, list_of, nested_lists, two_hops,
-};
+ghost use Rattle.std.specs.Prelude.{◌≤◌, ◌+◌, length};
+
+use crate::rows::Row;
+use crate::said::{Flags, Hex, Indent, Maybe, say, yes_or_no};
+use crate::stop::{Stop, Wrong};
 use nl_attr::{
-    Attr, AttrFlags, Content, Ctx, Depth, Fault, ListError, Order, Payload, Reason, Tally, find,
-    holds, read_list, read_list_ordered,
+    Attr, Content, Ctx, Depth, FARTHEST_END, Hop, LONGEST_REGION, ListError, Order, Payload, Tally,
+    Value, find, holds, read_list, read_list_ordered,
 };
 use std::alloc::Global;
-use std::test::Fail;
+use std::fmt;
 
-fn are_two_hops(alloc: Global, read: Tally<Vec<Attr>, ListError>) -> Result<(), Fail> {
-    let Tally { result, visits } = read;
-    let list = result?;
-    let expected = two_hops(alloc)?;
-    ensure(visits == 84 && list == expected, "two hops")
+/// Makes the call of a row, if it is one of these. Whether it is.
+pub(crate) fn has_answered(rt: &HostRuntime, row: &mut Row<'_>) -> Result<bool, Stop> {
+    match row.call {
+        "read_list" => read(rt, row)?,
+        "views" => view(rt, row)?,
+        "holds" => tell_content(rt, row)?,
+        "payload" => keep(rt, row)?,
+        "same_payload" => compare_payloads(rt, row)?,
+        _ => return Ok(false),
+    }
+    Ok(true)
 }
 
-#[test]
-fn reads_next_hops(rt: HostRuntime) -> Result<(), Fail> {
-    let alloc = rt.alloc();
-    let depth = Depth::new(2)?;
-    let little = bytes_of(alloc, TWO_HOPS)?;
-    let read = read_list(alloc, little.as_slice(), 28, Ctx::Route, 0, depth);
-    are_two_hops(alloc, read)?;
-    let big = bytes_of(alloc, TWO_HOPS_BIG)?;
-    let read = read_list_ordered(alloc, big.as_slice(), 28, Ctx::Route, 0, depth, Order::Big);
-    are_two_hops(alloc, read)
-}
-
-/// A region holds a list of this one attribute.
-fn reads_a_list(
-    alloc: Global,
-    text: &str,
-    ctx: Ctx,
-    number: u16,
-    flags: AttrFlags,
-    inner: Attr,
-) -> Result<(), Fail> {
-    let mut expected = Vec::new(alloc);
-    expected.push(list_of(alloc, number, flags, inner)?)?;
-    let bytes = bytes_of(alloc, text)?;
-    let read = read_list(alloc, bytes.as_slice(), 0, ctx, 0, Depth::standard());
-    let list = read.into_result()?;
-    ensure(list == expected, text)
-}
-
-#[test]
-fn reads_the_lists_of_links_and_routes(rt: HostRuntime) -> Result<(), Fail> {
-    let alloc = rt.alloc();
-    let text = "0d000800 09001000 6375626963 000000";
-    let metric = leaf(alloc, 16, b"cubic")?;
-    reads_a_list(alloc, text, Ctx::Route, 8, PLAIN, metric)?;
-    let text = "0c001200 08000100 76657468";
-    let kind = leaf(alloc, 1, b"veth")?;
-    reads_a_list(alloc, text, Ctx::Link, 18, PLAIN, kind)?;
-    let text = "0c000180 08000240 01020304";
-    let mut inner = leaf(alloc, 2, &[1, 2, 3, 4])?;
-    inner.flags.net = true;
-    reads_a_list(alloc, text, Ctx::Neigh, 1, NESTED, inner)
-}
-
-/// So many nested lists are read at depth 32 with so many visits, or are refused so.
-fn nests(
-    alloc: Global,
-    count: u16,
-    order: Order,
-    refusal: Option<ListError>,
-    visits: u64,
-) -> Result<(), Fail> {
-    let depth = Depth::new(32)?;
-    let bytes = nested_lists(alloc, count, order)?;
-    let Tally {
-        result,
-        visits: seen,
-    } = read_list_ordered(alloc, bytes.as_slice(), 0, Ctx::Plain, 0, depth, order);
-    let refused = result.err();
-    ensure(refused == refusal && seen == visits, "nested lists")
-}
-
-#[test]
-fn reads_thirty_two_levels_and_no_more(rt: HostRuntime) -> Result<(), Fail> {
-    let alloc = rt.alloc();
-    let fault = Fault {
-        place: 128,
-        reason: Reason::TooDeep,
-    };
-    let too_deep = Some(ListError::Layout(fault));
-    nests(alloc, 32, Order::Little, None, 2_112)?;
-    nests(alloc, 33, Order::Little, too_deep, 2_244)?;
-    nests(alloc, 32, Order::Big, None, 2_112)?;
-    nests(alloc, 33, Order::Big, too_deep, 2_244)
-}
-
-fn finds_a_name(list: &[Attr]) -> bool {
-    match find(list, 3) {
-        Some(name) => {
-            name.text() == Some(b"a".as_slice()) && name.bytes() == Some(b"a\0".as_slice())
+/// Tells all of an attribute, each line behind so many levels.
+#[cycle(telling)]
+fn say_attr(rt: &HostRuntime, attr: &Attr, level: usize) -> Result<(), Stop> {
+    let (number, flags, indent) = (attr.number, Flags(attr.flags), Indent(level));
+    let head = format_args!("{indent}{number}{flags}");
+    match &attr.value {
+        Value::Bytes(payload) => {
+            let payload = Hex(payload.as_slice());
+            say(rt, format_args!("{head} {payload}"))
         }
-        None => false,
+        Value::List(attrs) => {
+            say(rt, format_args!("{head} list"))?;
+            say_attrs(rt, attrs.as_slice(), level.saturating_add(1))
+        }
+        Value::Hops(hops) => {
+            say(rt, format_args!("{head} hops"))?;
+            say_hops(rt, hops.as_slice(), level.saturating_add(1))
+        }
     }
 }
 
-fn finds_a_short_mtu(list: &[Attr]) -> bool {
-    match find(list, 4) {
-        Some(mtu) => mtu.u32_value().is_none() && mtu.u16_value() == Some(1_500),
-        None => false,
+/// Tells all of a next hop.
+#[cycle(telling)]
+fn say_hop(rt: &HostRuntime, hop: &Hop, level: usize) -> Result<(), Stop> {
+    let (flags, hops, ifindex, indent) = (hop.flags, hop.hops, hop.ifindex, Indent(level));
+    say(
+        rt,
+        format_args!("{indent}hop flags 0x{flags:02x} hops {hops} ifindex {ifindex}"),
+    )?;
+    say_attrs(rt, hop.attrs.as_slice(), level.saturating_add(1))
+}
+
+#[cycle(telling)]
+fn say_hops(rt: &HostRuntime, hops: &[Hop], level: usize) -> Result<(), Stop> {
+    for hop in hops {
+        say_hop(rt, hop, level)?;
+    }
+    Ok(())
+}
+
+/// Tells all of a list of attributes, each line behind so many levels: the number of an attribute,
+/// its flags, and its bytes, or below it what it holds.
+#[cycle(telling)]
+pub(crate) fn say_attrs(rt: &HostRuntime, attrs: &[Attr], level: usize) -> Result<(), Stop> {
+    for attr in attrs {
+        say_attr(rt, attr, level)?;
+    }
+    Ok(())
+}
+
+/// Tells all of a family's body: its head, and its attributes a level further to the right.
+pub(crate) fn say_family<H: fmt::Display + Drop>(
+    rt: &HostRuntime,
+    head: H,
+    attrs: &[Attr],
+    level: usize,
+) -> Result<(), Stop> {
+    let indent = Indent(level);
+    say(rt, format_args!("{indent}{head}"))?;
+    say_attrs(rt, attrs, level.saturating_add(1))
+}
+
+/// Where a list of attributes stands, and how it is read.
+#[derive(Clone, Copy)]
+struct Place {
+    order: Option<Order>,
+    ctx: Ctx,
+    base: u32,
+    level: u8,
+    depth: Depth,
+}
+
+impl Place {
+    /// The place that words name: `[ORDER] CONTEXT [base PLACE] [level LEVEL] [depth LEVELS]`.
+    fn of(row: &mut Row<'_>) -> Result<Place, Stop> {
+        Ok(Place {
+            order: row.words.order(),
+            ctx: row.words.context()?,
+            base: row.words.number_of("base", 0)?,
+            level: row.words.number_of("level", 0)?,
+            depth: row.words.depth()?,
+        })
+    }
+
+    /// What the call for the order, or the one that names none, answers over a region.
+    fn read(self, alloc: Global, bytes: &[u8]) -> Result<Tally<Vec<Attr>, ListError>, Stop>
+        requires { length bytes.now ≤ LONGEST_REGION }
+    {
+        let Place {
+            order,
+            ctx,
+            base,
+            level,
+            depth,
+        } = self;
+        if base > FARTHEST_END - LONGEST_REGION as u32 || level > depth.get() {
+            return Err(Stop::Wrong(Wrong::Range));
+        }
+        Ok(match order {
+            Some(order) => read_list_ordered(alloc, bytes, base, ctx, level, depth, order),
+            None => read_list(alloc, bytes, base, ctx, level, depth),
+        })
     }
 }
 
-#[test]
-fn finds_the_first_of_a_number(rt: HostRuntime) -> Result<(), Fail> {
-    let alloc = rt.alloc();
-    let text = "06000300 61000000 06000300 62000000 06000400 dc050000";
-    let bytes = bytes_of(alloc, text)?;
-    let read = read_list(alloc, bytes.as_slice(), 0, Ctx::Link, 0, Depth::standard());
-    let list = read.into_result()?;
-    let list = list.as_slice();
-    let is_so = finds_a_name(list) && finds_a_short_mtu(list) && find(list, 5).is_none();
-    ensure(list.len() == 3 && is_so, "two names and an MTU")
+/// `read_list` and a place: the visits, and the tree or why it was not read.
+fn read(rt: &HostRuntime, row: &mut Row<'_>) -> Result<(), Stop> {
+    let place = Place::of(row)?;
+    let bytes = row.bytes(rt.alloc())?;
+    let Tally { result, visits } = place.read(rt.alloc(), bytes.as_slice())?;
+    say(rt, format_args!("visits {visits}"))?;
+    match result {
+        Ok(attrs) => say_attrs(rt, attrs.as_slice(), 0),
+        Err(error) => say(rt, error),
+    }
 }
 
-fn is_of_five_bytes(attr: &Attr) -> bool {
-    attr.u8_value() == Some(1)
-        && attr.u16_value() == Some(0x0201)
-        && attr.u16_value_ordered(Order::Big) == Some(0x0102)
-        && attr.u32_value() == Some(0x0403_0201)
-        && attr.u32_value_ordered(Order::Big) == Some(0x0102_0304)
-        && attr.be16_value() == Some(0x0102)
+/// Tells all that is read of an attribute.
+fn say_views(rt: &HostRuntime, attr: &Attr) -> Result<(), Stop> {
+    let bytes = Maybe(attr.bytes().map(Hex));
+    let text = Maybe(attr.text().map(Hex));
+    say(rt, format_args!("bytes {bytes} text {text}"))?;
+    let u8_value = Maybe(attr.u8_value());
+    let be16_value = Maybe(attr.be16_value());
+    say(rt, format_args!("u8 {u8_value} be16 {be16_value}"))?;
+    let (u16_value, u32_value) = (Maybe(attr.u16_value()), Maybe(attr.u32_value()));
+    say(rt, format_args!("u16 {u16_value} u32 {u32_value}"))?;
+    say_ordered(rt, attr, Order::Little)?;
+    say_ordered(rt, attr, Order::Big)
 }
 
-fn is_of_one_byte(attr: &Attr) -> bool {
-    attr.u8_value() == Some(7)
-        && attr.u16_value().is_none()
-        && attr.u32_value_ordered(Order::Little).is_none()
-        && attr.be16_value().is_none()
-}
-
-fn reads_five_bytes(alloc: Global) -> Result<bool, Fail> {
-    let attr = leaf(alloc, 1, &[1, 2, 3, 4, 5])?;
-    Ok(is_of_five_bytes(&attr))
-}
-
-fn reads_one_byte(alloc: Global) -> Result<bool, Fail> {
-    let attr = leaf(alloc, 1, &[7])?;
-    Ok(is_of_one_byte(&attr))
-}
-
-fn reads_no_byte(alloc: Global) -> Result<bool, Fail> {
-    let attr = leaf(alloc, 1, &[])?;
-    Ok(attr.u8_value().is_none())
-}
-
-#[test]
-fn reads_numbers_of_the_first_bytes(rt: HostRuntime) -> Result<(), Fail> {
-    ensure(reads_five_bytes(rt.alloc())?, "five bytes")?;
-    ensure(reads_one_byte(rt.alloc())?, "one byte")?;
-    ensure(reads_no_byte(rt.alloc())?, "no byte")
-}
-
-fn has_text(alloc: Global, bytes: &[u8], text: &[u8]) -> Result<(), Fail> {
-    let attr = leaf(alloc, 3, bytes)?;
-    ensure(attr.text() == Some(text), "a text")
-}
-
-#[test]
-fn text_ends_at_a_zero_byte(rt: HostRuntime) -> Result<(), Fail> {
-    has_text(rt.alloc(), b"lo\0lo\0", b"lo")?;
-    has_text(rt.alloc(), b"eth0", b"eth0")?;
-    has_text(rt.alloc(), b"\0", b"")
-}
-
-fn has_no_bytes(attr: &Attr) -> bool {
-    attr.bytes().is_none()
-        && attr.text().is_none()
-        && attr.u8_value().is_none()
-        && attr.u16_value().is_none()
-        && attr.u32_value().is_none()
-        && attr.be16_value().is_none()
-}
-
-#[test]
-fn a_list_has_no_bytes(rt: HostRuntime) -> Result<(), Fail> {
-    let alloc = rt.alloc();
-    let inner = leaf(alloc, 2, &[1, 2, 3, 4])?;
-    let attr = list_of(alloc, 1, NESTED, inner)?;
-    ensure(has_no_bytes(&attr), "a list")
-}
-
-#[test]
-fn place_and_flags_say_what_an_attribute_holds(rt: HostRuntime) {
-    let net = AttrFlags {
-        nested: false,
-        net: true,
+/// Tells the numbers that are read of an attribute in an order.
+fn say_ordered(rt: &HostRuntime, attr: &Attr, order: Order) -> Result<(), Stop> {
+    let word = match order {
+        Order::Little => "little",
+        Order::Big => "big",
     };
-    let cases = [
-        (Ctx::Route, 9, PLAIN, Content::Hops),
-        (Ctx::Route, 9, NESTED, Content::Hops),
-        (Ctx::Link, 18, PLAIN, Content::List(Ctx::LinkInfo)),
-        (Ctx::Route, 8, PLAIN, Content::List(Ctx::Metrics)),
-        (Ctx::LinkInfo, 2, NESTED, Content::List(Ctx::Plain)),
-        (Ctx::LinkInfo, 2, PLAIN, Content::Bytes),
-        (Ctx::Metrics, 9, PLAIN, Content::Bytes),
-        (Ctx::Addr, 18, net, Content::Bytes),
-        (Ctx::Neigh, 8, NESTED, Content::List(Ctx::Plain)),
-        (Ctx::Rule, 8, PLAIN, Content::Bytes),
-        (Ctx::Rule, 9, PLAIN, Content::Bytes),
-        (Ctx::Rule, 18, PLAIN, Content::Bytes),
-        (Ctx::Rule, 15, NESTED, Content::List(Ctx::Plain)),
-        (Ctx::Plain, 0, PLAIN, Content::Bytes),
-    ];
-    for (ctx, number, flags, content) in cases {
-        assert!(rt; holds(ctx, number, flags) == content);
+    let u16_value = Maybe(attr.u16_value_ordered(order));
+    let u32_value = Maybe(attr.u32_value_ordered(order));
+    say(rt, format_args!("{word} u16 {u16_value} u32 {u32_value}"))
+}
+
+/// `views NUMBER` and a place: what is read of the first attribute of this number in a region.
+fn view(rt: &HostRuntime, row: &mut Row<'_>) -> Result<(), Stop> {
+    let number: u16 = row.words.number()?;
+    let place = Place::of(row)?;
+    let bytes = row.bytes(rt.alloc())?;
+    match place.read(rt.alloc(), bytes.as_slice())?.into_result() {
+        Ok(attrs) => match find(attrs.as_slice(), number) {
+            Some(attr) => say_views(rt, attr),
+            None => say(rt, "none"),
+        },
+        Err(error) => say(rt, error),
     }
 }
 
-fn is_of(payload: &Payload, bytes: &[u8]) -> bool {
-    payload.as_slice() == bytes
-        && payload.len() == bytes.len()
-        && payload.is_empty() == bytes.is_empty()
+/// The word for a context.
+fn context_word(ctx: Ctx) -> &'static str {
+    match ctx {
+        Ctx::Link => "link",
+        Ctx::LinkInfo => "linkinfo",
+        Ctx::Addr => "addr",
+        Ctx::Route => "route",
+        Ctx::Metrics => "metrics",
+        Ctx::Neigh => "neigh",
+        Ctx::Rule => "rule",
+        Ctx::Plain => "plain",
+    }
 }
 
-fn keeps(alloc: Global, bytes: &[u8]) -> Result<(), Fail> {
-    let payload = Payload::from_slice(alloc, bytes)?;
-    let copy = Payload::from(Vec::from_slice(alloc, bytes)?);
-    let is_so = is_of(&payload, bytes) && payload == copy && payload.is(bytes);
-    ensure(is_so && !payload.is(b"other"), "a payload")?;
-    let taken = payload.into_vec(alloc)?;
-    let kept = copy.into_vec(alloc)?;
-    ensure(taken.as_slice() == bytes && kept == taken, "its vector")
+/// `holds CONTEXT NUMBER [FLAGS]`.
+fn tell_content(rt: &HostRuntime, row: &mut Row<'_>) -> Result<(), Stop> {
+    let ctx = row.words.context()?;
+    let number: u16 = row.words.number()?;
+    match holds(ctx, number, row.words.flags()) {
+        Content::Bytes => say(rt, "bytes"),
+        Content::List(inner) => {
+            let inner = context_word(inner);
+            say(rt, format_args!("list {inner}"))
+        }
+        Content::Hops => say(rt, "hops"),
+    }
 }
 
-#[test]
-fn keeps_payloads_of_every_size(rt: HostRuntime) -> Result<(), Fail> {
-    let alloc = rt.alloc();
-    let source = [0x5a; 40];
-    keeps(alloc, &[])?;
-    keeps(alloc, &source[..1])?;
-    keeps(alloc, &source[..22])?;
-    keeps(alloc, &source[..23])?;
-    keeps(alloc, &source[..24])?;
-    keeps(alloc, &source)?;
-    let one = leaf(alloc, 1, &[1])?;
-    let other = leaf(alloc, 1, &[2])?;
-    ensure(one != other, "two payloads")
+/// `payload`: the bytes kept as a payload, and taken out of it.
+fn keep(rt: &HostRuntime, row: &mut Row<'_>) -> Result<(), Stop> {
+    let bytes = row.bytes(rt.alloc())?;
+    let payload = Payload::from_slice(rt.alloc(), bytes.as_slice())?;
+    let (len, is_empty) = (payload.len(), yes_or_no(payload.is_empty()));
+    let kept = Hex(payload.as_slice());
+    say(rt, format_args!("len {len} empty {is_empty} kept {kept}"))?;
+    let taken = payload.into_vec(rt.alloc())?;
+    let again = Payload::from(bytes).into_vec(rt.alloc())?;
+    let (taken, again) = (Hex(taken.as_slice()), Hex(again.as_slice()));
+    say(rt, format_args!("taken {taken} again {again}"))
+}
+
+/// `same_payload`: whether the bytes of two lines are one payload, in both directions and by bytes.
+fn compare_payloads(rt: &HostRuntime, row: &mut Row<'_>) -> Result<(), Stop> {
+    let (first, second) = row.two_bytes(rt.alloc())?;
+    let one = Payload::from_slice(rt.alloc(), first.as_slice())?;
+    let is_so = yes_or_no(one.is(second.as_slice()));
+    let other = Payload::from(second);
+    let (equal, same) = (yes_or_no(one == other), yes_or_no(other == one));
+    say(rt, format_args!("is {is_so} equal {equal} back {same}"))
 }

@@ -60,8 +60,6 @@ mod streams;
 #[cfg(test)]
 mod tables;
 #[cfg(test)]
-mod trees;
-#[cfg(test)]
 mod trials;
 #[cfg(test)]
 mod uses;
@@ -69,8 +67,6 @@ mod uses;
 mod vectors;
 #[cfg(test)]
 mod views;
-#[cfg(test)]
-mod walkers;
 #[cfg(test)]
 mod writes;
 #[cfg(test)]
