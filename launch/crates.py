@@ -1,5 +1,6 @@
 """The crates of the repository, as crates.txt lists them."""
 import os
+import shutil
 from typing import Dict, Iterator, List, NamedTuple, Optional
 
 ROOT = os.path.dirname(os.path.dirname(os.path.realpath(__file__)))
@@ -62,6 +63,15 @@ def library(name: str) -> str:
     if source:
         raise NotBuilt(f"{folder} is older than {source}: run rt ci, or rt lib in crates/{name}")
     return f"{ROOT}/{folder}"
+
+
+def drop_old_libraries(crates: Crates) -> None:
+    """Removes built libraries that are older than their sources: rt ci leaves such ones in place."""
+    for name in crates:
+        try:
+            library(name)
+        except NotBuilt:
+            shutil.rmtree(f"{ROOT}/crates/{name}/out/rlib", ignore_errors=True)
 
 
 def newer(name: str, made: str) -> Optional[str]:

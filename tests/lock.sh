@@ -71,8 +71,11 @@ TEXT
 edit=$high/edits/eleven.edit
 printf 'file: src/lib.rt\nold: lesser(a, 10)\nnew: lesser(a, 11)\n' >"$edit"
 
-# proves: the small repository is proved as it stands.
-proves() { (cd "$small" && rt ci) >"$folder/ci" 2>&1 || { cat "$folder/ci" && return 1; }; }
+# proves: the small repository is proved as it stands, and its libraries are built anew, as tests/run has them built.
+proves() {
+  rm -rf "$low/out/rlib"
+  (cd "$small" && rt ci) >"$folder/ci" 2>&1 || { cat "$folder/ci" && return 1; }
+}
 
 # says STATUS LINE.. -- ARGUMENT..: edits.py ends with this status, and among what it says are these lines.
 says() {
@@ -129,7 +132,7 @@ check 'an edit that names nothing' misplaced '1: it names no file' 'lesser'
 cp "$folder/edit" "$edit"
 
 # A body and a proof below are others, in the same contracts: the edit stands by the lock, and is refused.
-sed -i 's/{ a } else { b }/{ a } else if b < a { b } else { a }/' "$low/src/lib.rt"
+sed -i 's/if a < b { a } else { b }/if b < a { b } else { a }/' "$low/src/lib.rt"
 sed -i 's/≤ 255$/≤ 300/' "$low/proofs/sum/Invariants.antt"
 check 'a body and a proof below' proves
 check 'a body and a proof below: the edit is not tried' says 0 "$stands" '1 passed, 0 failed' --
@@ -141,7 +144,7 @@ check 'a text of the crate' says 0 "$tried" 'tests/edits.lock has other sums: te
 sed -i 's/^\/\/\/ At most ten/\/\/\/ A number of at most ten/' "$high/src/lib.rt"
 
 # A contract below is another, by which the edit does no harm.
-sed -i 's/{ result ≤ b }/{ result ≤ 9 }/; s/^    if a < b .*/    a.min(b).min(9)/' "$low/src/lib.rt"
+sed -i 's/{ result ≤ b }/{ result ≤ 9 }/; s/^    if b < a .*/    a.min(b).min(9)/' "$low/src/lib.rt"
 check 'a contract below' proves
 check 'a contract below: the edit is tried, and not refused' says 1 \
   'FAILED crates/high/edits/eleven.edit was not refused' '0 passed, 2 failed' --
