@@ -11,9 +11,10 @@ each TEXT one line; the old one stands in that file once.
   --over-checks          begins with what `rt check` kept, and not with what `rt ci` kept
 
 The lock has a line for each crate: its name, how many edits it has, and a sum of what their refusal
-depends on (docs/GATE.md says why): the kit; HANDLES; the crate's line in crates.txt, its text,
-definitions, proofs and edits; and of each crate below it the interface, which the kit writes into a
-built library, the definitions and the lemmas. So the libraries are built first, by rt ci or rt lib.
+depends on (docs/GATE.md says why): the kit; HANDLES; what crates.txt says of the crate and those
+below; its text, definitions, proofs and edits; and of each crate below it the interface, which the
+kit writes into a built library, the definitions and the lemmas. So the libraries are built first,
+by rt ci or rt lib.
 
 The last line is 'N passed, M failed'. The status is 1 where an edit was not refused or can't be
 applied, or the lock is not one, and 2 where this is called wrongly.
@@ -98,10 +99,11 @@ def contracts(name: str) -> Iterator[Tuple[str, str]]:
 def sum_of(crates: Crates, name: str) -> str:
     """The sum of all that the refusal of a crate's edits depends on."""
     kit = subprocess.run(["rt", "version"], stdout=subprocess.PIPE, check=True, text=True).stdout
-    made = hashlib.sha256(repr((kit, crates[name].name, crates[name].uses)).encode())
+    names = [name, *below(crates, name)]
+    made = hashlib.sha256(repr((kit, [(it, crates[it].uses) for it in names])).encode())
     own = [it for part in ("src", "specs", "proofs", "edits") for it in files(name, part)]
     read = [("HANDLES", f"{ROOT}/HANDLES"), *((it, f"{ROOT}/{it}") for it in own)]
-    for it in below(crates, name):
+    for it in names[1:]:
         read += contracts(it)
     for path, file in read:
         with open(file, "rb") as text:
