@@ -37,7 +37,7 @@ ARCHIVE = f"{ROOT}/crates/{LIBRARY}/out/lib{LIBRARY}.a"
 UNPROVED = f"{OUT}/unproved/rtnl"
 # A build needs less, in bytes.
 LEAST_ROOM = 64 << 20
-LENGTH = "an hour of processor time in all, once"
+LENGTH = "up to an hour of processor time in all, once"
 
 
 @contextlib.contextmanager

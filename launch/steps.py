@@ -46,7 +46,7 @@ def step(text: str, log: IO[Any], commands: Sequence[List[str]], **how: Any) -> 
     On a terminal a clock says every second for how long, elsewhere one line says that it begins.
     """
     shows, begun = sys.stderr.isatty(), time.monotonic()
-    say(text, "" if shows else "\n")
+    say(text, "\r" if shows else "\n")
     how = {"stdin": subprocess.DEVNULL, "stdout": log, "stderr": subprocess.STDOUT, **how}
     started: List["subprocess.Popen[bytes]"] = []
     try:
