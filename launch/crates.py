@@ -66,7 +66,7 @@ def library(name: str) -> str:
 
 
 def drop_old_libraries(crates: Crates) -> None:
-    """Removes built libraries that are older than their sources: rt ci leaves such ones in place."""
+    """Removes built libraries that are older than their sources, which rt ci leaves in place."""
     for name in crates:
         try:
             library(name)
