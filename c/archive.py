@@ -9,7 +9,7 @@ import os
 import shutil
 import subprocess
 import sys
-from typing import List, NoReturn
+from typing import Any, Dict, List, NoReturn
 
 sys.dont_write_bytecode = True
 sys.path.insert(0, f"{os.path.dirname(os.path.realpath(__file__))}/../launch")
@@ -52,9 +52,9 @@ def build(crates: Crates, made: str) -> None:
         stop("rt, with which the compiler comes, is not on the PATH")
     kit = os.path.dirname(os.path.dirname(os.path.realpath(command)))
     os.makedirs(os.path.dirname(made), exist_ok=True)
-    how = {"stdin": subprocess.DEVNULL, "stdout": subprocess.PIPE, "stderr": subprocess.STDOUT}
-    command = words(kit, crates, f"{made}.new")
-    ran = subprocess.run(command, cwd=f"{ROOT}/crates/{NAME}", errors="replace", **how)
+    how: Dict[str, Any] = {"stdin": subprocess.DEVNULL, "stdout": subprocess.PIPE}
+    how.update(stderr=subprocess.STDOUT, cwd=f"{ROOT}/crates/{NAME}", errors="replace")
+    ran = subprocess.run(words(kit, crates, f"{made}.new"), check=False, **how)
     lines = ran.stdout.splitlines()
     if ran.returncode or not lines or not lines[-1].startswith("logic=proved "):
         print(ran.stdout, end="", file=sys.stderr)

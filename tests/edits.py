@@ -27,7 +27,7 @@ import shutil
 import subprocess
 import sys
 import tempfile
-from typing import Dict, Iterator, List, NamedTuple, Optional, Set, Tuple
+from typing import Any, Dict, Iterator, List, NamedTuple, Optional, Set, Tuple
 
 sys.dont_write_bytecode = True
 sys.path.insert(0, f"{os.path.dirname(os.path.realpath(__file__))}/../launch")
@@ -43,7 +43,7 @@ SUM = re.compile(r"[0-9a-f]{64}")
 class Row(NamedTuple):
     """A line of the lock, without the crate's name."""
 
-    count: int
+    edits: int
     sum: str
 
 
@@ -136,7 +136,7 @@ def read_lock(having: List[str]) -> Tuple[Lock, List[str]]:
 def write_lock(rows: Lock) -> None:
     with open(f"{ROOT}/{LOCK}.new", "w", encoding="utf-8") as text:
         for name, row in sorted(rows.items()):
-            print(name, row.count, row.sum, file=text)
+            print(name, row.edits, row.sum, file=text)
     os.replace(f"{ROOT}/{LOCK}.new", f"{ROOT}/{LOCK}")
 
 
@@ -158,10 +158,11 @@ def copy(crates: Crates, names: List[str], room: str) -> None:
 def refused(crates: Crates, names: List[str], command: List[str]) -> Tuple[Set[Edit], bool]:
     """Tries the edits of these crates: those that were refused, and whether rt ended well."""
     found = set()
-    pipes = {"stdin": subprocess.DEVNULL, "stdout": subprocess.PIPE, "stderr": subprocess.STDOUT}
+    how: Dict[str, Any] = {"stdin": subprocess.DEVNULL, "stdout": subprocess.PIPE}
+    how.update(stderr=subprocess.STDOUT, text=True, errors="replace")
     with tempfile.TemporaryDirectory(prefix="rtnl-edits-") as room:
         copy(crates, names, room)
-        with subprocess.Popen(command, cwd=room, text=True, errors="replace", **pipes) as ran:
+        with subprocess.Popen(command, cwd=room, **how) as ran:
             for line in ran.stdout or ():
                 print(line, end="", flush=True)
                 said = SAID.match(line)
@@ -226,7 +227,7 @@ def main() -> int:
     for line in failed:
         print(f"FAILED {line}")
     stand = sum(len(edits_of(it)) for it in having if it not in names and not given.names)
-    tried = sum(row.count for row in rows.values())
+    tried = sum(row.edits for row in rows.values())
     print(f"{tried} edits are refused, as rt found now or before; {stand} stand by {LOCK}")
     print(f"{tried + stand} passed, {len(failed)} failed")
     return 1 if failed else 0
