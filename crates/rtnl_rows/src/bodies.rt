@@ -155,6 +155,7 @@ pub(crate) fn say_views(rt: &HostRuntime, body: &Body) -> Result<(), Stop> {
     }
 }
 
+/// Tells what the views of a link find.
 fn say_link(rt: &HostRuntime, link: &Link) -> Result<(), Stop> {
     say_bytes(rt, "name", link.name())?;
     say_bytes(rt, "kind", link.kind())?;
@@ -165,6 +166,7 @@ fn say_link(rt: &HostRuntime, link: &Link) -> Result<(), Stop> {
     }
 }
 
+/// Tells what the views of an address find.
 fn say_addr(rt: &HostRuntime, addr: &Addr) -> Result<(), Stop> {
     say_bytes(rt, "address", addr.address())?;
     say_bytes(rt, "local", addr.local())?;
@@ -179,6 +181,7 @@ fn say_addr(rt: &HostRuntime, addr: &Addr) -> Result<(), Stop> {
     )
 }
 
+/// Tells what the views of a route find, and what its metrics and next hops hold.
 fn say_route(rt: &HostRuntime, route: &Route) -> Result<(), Stop> {
     say_bytes(rt, "dst", route.dst())?;
     say_bytes(rt, "src", route.src())?;
@@ -202,6 +205,7 @@ fn say_route(rt: &HostRuntime, route: &Route) -> Result<(), Stop> {
     say_hops(rt, hops, 1)
 }
 
+/// Tells what the views of a neighbour find.
 fn say_neigh(rt: &HostRuntime, neigh: &Neigh) -> Result<(), Stop> {
     say_bytes(rt, "dst", neigh.dst())?;
     say_bytes(rt, "lladdr", neigh.lladdr())?;
@@ -213,6 +217,7 @@ fn say_neigh(rt: &HostRuntime, neigh: &Neigh) -> Result<(), Stop> {
     say(rt, format_args!("state 0x{state:x}"))
 }
 
+/// Tells what the views of a rule find.
 fn say_rule(rt: &HostRuntime, rule: &Rule) -> Result<(), Stop> {
     say_bytes(rt, "dst", rule.dst())?;
     say_bytes(rt, "src", rule.src())?;
