@@ -10,7 +10,9 @@
 //! answered behind a question mark.
 #![tactic(auto)]
 
+mod bodies;
 mod messages;
+mod numbers;
 mod rows;
 mod said;
 mod shown;
@@ -18,6 +20,7 @@ mod stop;
 mod trees;
 mod walkers;
 mod words;
+mod writing;
 
 use rows::{Line, Row, Table};
 use said::say;
@@ -34,7 +37,10 @@ fn has_answered(rt: &HostRuntime, row: &mut Row<'_>) -> Result<bool, Stop> {
     Ok(
         walkers::has_answered(rt, row)?
             || trees::has_answered(rt, row)?
-            || messages::has_answered(rt, row)?,
+            || messages::has_answered(rt, row)?
+            || bodies::has_answered(rt, row)?
+            || writing::has_answered(rt, row)?
+            || numbers::has_answered(rt, row)?,
     )
 }
 

@@ -57,8 +57,9 @@ fn say_hop(rt: &HostRuntime, hop: &Hop, level: usize) -> Result<(), Stop> {
     say_attrs(rt, hop.attrs.as_slice(), level.saturating_add(1))
 }
 
+/// Tells all of next hops, each line behind so many levels.
 #[cycle(telling)]
-fn say_hops(rt: &HostRuntime, hops: &[Hop], level: usize) -> Result<(), Stop> {
+pub(crate) fn say_hops(rt: &HostRuntime, hops: &[Hop], level: usize) -> Result<(), Stop> {
     for hop in hops {
         say_hop(rt, hop, level)?;
     }

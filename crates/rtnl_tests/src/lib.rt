@@ -4,8 +4,6 @@
 #[cfg(test)]
 mod bad_lines;
 #[cfg(test)]
-mod bodies;
-#[cfg(test)]
 mod broken_heads;
 #[cfg(test)]
 mod cursors;
@@ -17,8 +15,6 @@ mod dumps;
 mod engines;
 #[cfg(test)]
 mod fakes;
-#[cfg(test)]
-mod families;
 #[cfg(test)]
 mod faults;
 #[cfg(test)]
@@ -34,19 +30,13 @@ mod hostile_runs;
 #[cfg(test)]
 mod json;
 #[cfg(test)]
-mod keys;
-#[cfg(test)]
 mod laws;
 #[cfg(test)]
 mod names;
 #[cfg(test)]
-mod numbers;
-#[cfg(test)]
 mod reading;
 #[cfg(test)]
 mod refusals;
-#[cfg(test)]
-mod regions;
 #[cfg(test)]
 mod runs;
 #[cfg(test)]
@@ -65,9 +55,3 @@ mod trials;
 mod uses;
 #[cfg(test)]
 mod vectors;
-#[cfg(test)]
-mod views;
-#[cfg(test)]
-mod writes;
-#[cfg(test)]
-mod written;
