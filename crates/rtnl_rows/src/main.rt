@@ -10,11 +10,18 @@
 //! answered behind a question mark.
 #![tactic(auto)]
 
+mod cuts;
+mod entries;
+mod fakes;
+mod faults;
 mod messages;
+mod readings;
 mod rows;
 mod said;
+mod sessions;
 mod shown;
 mod stop;
+mod tables;
 mod trees;
 mod walkers;
 mod words;
@@ -34,7 +41,11 @@ fn has_answered(rt: &HostRuntime, row: &mut Row<'_>) -> Result<bool, Stop> {
     Ok(
         walkers::has_answered(rt, row)?
             || trees::has_answered(rt, row)?
-            || messages::has_answered(rt, row)?,
+            || messages::has_answered(rt, row)?
+            || readings::has_answered(rt, row)?
+            || sessions::has_answered(rt, row)?
+            || tables::has_answered(rt, row)?
+            || faults::has_answered(rt, row)?,
     )
 }
 

@@ -185,9 +185,6 @@ pub(crate) fn push_lengths(alloc: Global, trials: &mut Vec<Trial>) -> Result<(),
 /// What is answered at depth 8 to the two links of nested lists: the ninth opens level 9.
 pub(crate) const AT_DEPTH_8: [Answer; 2] = [(Some(64), 1_008), (Some(64), 1_044)];
 
-/// The same at depth 32: the last list of 33 opens level 33.
-pub(crate) const AT_DEPTH_32: [Answer; 2] = [(None, 2_112), (Some(160), 2_244)];
-
 /// A link with 32 lists, each of which holds the next, and one with 33, with these answers.
 pub(crate) fn push_nests(
     alloc: Global,
