@@ -11,12 +11,19 @@
 #![tactic(auto)]
 
 mod bodies;
+mod cuts;
+mod entries;
+mod fakes;
+mod faults;
 mod messages;
 mod numbers;
+mod readings;
 mod rows;
 mod said;
+mod sessions;
 mod shown;
 mod stop;
+mod tables;
 mod trees;
 mod walkers;
 mod words;
@@ -40,7 +47,11 @@ fn has_answered(rt: &HostRuntime, row: &mut Row<'_>) -> Result<bool, Stop> {
             || messages::has_answered(rt, row)?
             || bodies::has_answered(rt, row)?
             || writing::has_answered(rt, row)?
-            || numbers::has_answered(rt, row)?,
+            || numbers::has_answered(rt, row)?
+            || readings::has_answered(rt, row)?
+            || sessions::has_answered(rt, row)?
+            || tables::has_answered(rt, row)?
+            || faults::has_answered(rt, row)?,
     )
 }
 

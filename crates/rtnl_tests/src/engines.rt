@@ -1,12 +1,10 @@
-//! The runs that write, each by its name.
+//! The runs over a source, each by its name.
 
 use crate::feeding::LINKS;
-use nl_attr::Order;
-use rtnl::dump::Kind;
 use rtnl::frame::Limits;
 use rtnl::{
-    RunError, Sink, Source, Verdict, run_check, run_check_json, run_request, run_request_ordered,
-    run_show, run_show_json, run_table, run_table_json,
+    RunError, Sink, Source, Verdict, run_check, run_check_json, run_show, run_show_json, run_table,
+    run_table_json,
 };
 use std::alloc::Global;
 
@@ -19,36 +17,10 @@ pub(crate) enum Engine {
     /// The table of a dump of links.
     Table,
     TableJson,
-    /// The request for routes to IPv4 addresses.
-    Request,
-    /// The same, with the highest byte of a number first.
-    RequestInBig,
 }
 
-/// Those that read a source.
-pub(crate) const READERS: [Engine; 6] = [
-    Engine::Show,
-    Engine::ShowJson,
-    Engine::Check,
-    Engine::CheckJson,
-    Engine::Table,
-    Engine::TableJson,
-];
-
-/// All of them.
-pub(crate) const WRITERS: [Engine; 8] = [
-    Engine::Show,
-    Engine::ShowJson,
-    Engine::Check,
-    Engine::CheckJson,
-    Engine::Table,
-    Engine::TableJson,
-    Engine::Request,
-    Engine::RequestInBig,
-];
-
 impl Engine {
-    /// Runs within the standard limits. A request leaves the source as it is.
+    /// Runs within the standard limits.
     pub(crate) fn run<S: Source, W: Sink>(
         self,
         alloc: Global,
@@ -63,10 +35,6 @@ impl Engine {
             Engine::CheckJson => run_check_json(alloc, source, sink, &limits),
             Engine::Table => run_table(alloc, source, sink, LINKS, &limits),
             Engine::TableJson => run_table_json(alloc, source, sink, LINKS, &limits),
-            Engine::Request => run_request(alloc, sink, Kind::Route, 2, 7),
-            Engine::RequestInBig => {
-                run_request_ordered(alloc, sink, Kind::Route, 2, 7, Order::Big)
-            }
         }
     }
 }

@@ -8,23 +8,13 @@ mod broken_heads;
 #[cfg(test)]
 mod cursors;
 #[cfg(test)]
-mod datagrams;
-#[cfg(test)]
-mod dumps;
-#[cfg(test)]
 mod engines;
 #[cfg(test)]
 mod fakes;
 #[cfg(test)]
-mod faults;
-#[cfg(test)]
 mod feeding;
 #[cfg(test)]
 mod forms;
-#[cfg(test)]
-mod hostile;
-#[cfg(test)]
-mod hostile_dumps;
 #[cfg(test)]
 mod hostile_runs;
 #[cfg(test)]
@@ -42,13 +32,9 @@ mod runs;
 #[cfg(test)]
 mod scans;
 #[cfg(test)]
-mod sessions;
-#[cfg(test)]
 mod shown;
 #[cfg(test)]
 mod streams;
-#[cfg(test)]
-mod tables;
 #[cfg(test)]
 mod trials;
 #[cfg(test)]

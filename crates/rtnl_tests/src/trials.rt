@@ -179,14 +179,11 @@ pub(crate) fn push_lengths(alloc: Global, trials: &mut Vec<Trial>) -> Result<(),
 }
 
 // The first list stands at 32, behind two heads, and each other one 4 bytes further: the ninth at
-// 64, the one that is too many for depth 32 at 160. It and those around it are visited, each with 4
-// bytes less than the one before: 9 * 128 less 4 * 36, and 9 * 132 less as many.
+// 64. It and those around it are visited, each with 4 bytes less than the one before: 9 * 128 less
+// 4 * 36, and 9 * 132 less as many.
 
 /// What is answered at depth 8 to the two links of nested lists: the ninth opens level 9.
 pub(crate) const AT_DEPTH_8: [Answer; 2] = [(Some(64), 1_008), (Some(64), 1_044)];
-
-/// The same at depth 32: the last list of 33 opens level 33.
-pub(crate) const AT_DEPTH_32: [Answer; 2] = [(None, 2_112), (Some(160), 2_244)];
 
 /// A link with 32 lists, each of which holds the next, and one with 33, with these answers.
 pub(crate) fn push_nests(

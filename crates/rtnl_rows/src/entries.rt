@@ -1,0 +1,60 @@
+//! The entries of tables.
+
+use crate::said::{Hex, Maybe, say, yes_or_no};
+use crate::stop::{Stop, Wrong};
+use nl_attr::{Depth, Order};
+use nl_route::{Family, Head};
+use nl_table::{Entry, Table};
+
+/// Tells how many entries a table has, of how many at most, and how many it missed.
+pub(crate) fn say_count<H: Head>(rt: &HostRuntime, table: &Table<Family<H>>) -> Result<(), Stop>
+where
+    Family<H>: Entry,
+{
+    let (len, limit, missed) = (table.len(), table.limit(), table.missed());
+    let is_empty = yes_or_no(table.is_empty());
+    let order = match table.order() {
+        Order::Little => "little",
+        Order::Big => "big",
+    };
+    say(
+        rt,
+        format_args!("{order} entries {len} of {limit} missed {missed} empty {is_empty}"),
+    )
+}
+
+/// Tells the key at a place, the place where it is found, and the body that stands under it.
+pub(crate) fn say_entry<H: Head>(
+    rt: &HostRuntime,
+    table: &Table<Family<H>>,
+    place: u32,
+) -> Result<(), Stop>
+where
+    Family<H>: Entry,
+{
+    let (key, entry) = match (table.key_at(place), table.get(place)) {
+        (Some(key), Some(entry)) => (key, entry),
+        (None, None) => return say(rt, "none"),
+        _ => return Err(Stop::Wrong(Wrong::Absent)),
+    };
+    let mut body = Vec::new(rt.alloc());
+    let written = entry.write_body_ordered(Depth::standard(), &mut body, table.order());
+    if written.is_err() {
+        return Err(Stop::Wrong(Wrong::Refused));
+    }
+    let found = Maybe(table.find(key));
+    let (key, body) = (Hex(key), Hex(body.as_slice()));
+    say(rt, format_args!("key {key} at {found} body {body}"))
+}
+
+/// Tells all that a table holds, and what stands behind its last entry.
+pub(crate) fn say_entries<H: Head>(rt: &HostRuntime, table: &Table<Family<H>>) -> Result<(), Stop>
+where
+    Family<H>: Entry,
+{
+    say_count(rt, table)?;
+    for place in 0..=table.len() {
+        say_entry(rt, table, place)?;
+    }
+    Ok(())
+}
