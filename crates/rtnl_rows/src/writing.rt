@@ -105,7 +105,11 @@ fn build(
         flags: words.flags(),
         value,
     })?;
-    Ok(())
+    if words.is_empty() {
+        Ok(())
+    } else {
+        Err(Stop::Wrong(Wrong::MoreWords))
+    }
 }
 
 /// The attributes that steps read or build.
