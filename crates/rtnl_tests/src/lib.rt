@@ -24,8 +24,6 @@ mod laws;
 #[cfg(test)]
 mod names;
 #[cfg(test)]
-mod reading;
-#[cfg(test)]
 mod refusals;
 #[cfg(test)]
 mod runs;
