@@ -10,12 +10,18 @@
 //! answered behind a question mark.
 #![tactic(auto)]
 
+mod files;
+mod forms;
+mod lines;
 mod messages;
 mod rows;
+mod runs;
 mod said;
+mod scans;
 mod shown;
 mod stop;
 mod trees;
+mod uses;
 mod walkers;
 mod words;
 
@@ -34,7 +40,11 @@ fn has_answered(rt: &HostRuntime, row: &mut Row<'_>) -> Result<bool, Stop> {
     Ok(
         walkers::has_answered(rt, row)?
             || trees::has_answered(rt, row)?
-            || messages::has_answered(rt, row)?,
+            || messages::has_answered(rt, row)?
+            || lines::has_answered(rt, row)?
+            || scans::has_answered(rt, row)?
+            || forms::has_answered(rt, row)?
+            || uses::has_answered(rt, row)?,
     )
 }
 

@@ -2,67 +2,35 @@
 #![tactic(auto)]
 
 #[cfg(test)]
-mod bad_lines;
-#[cfg(test)]
 mod bodies;
-#[cfg(test)]
-mod broken_heads;
-#[cfg(test)]
-mod cursors;
 #[cfg(test)]
 mod datagrams;
 #[cfg(test)]
 mod dumps;
 #[cfg(test)]
-mod engines;
-#[cfg(test)]
-mod fakes;
-#[cfg(test)]
 mod families;
 #[cfg(test)]
-mod faults;
-#[cfg(test)]
 mod feeding;
-#[cfg(test)]
-mod forms;
 #[cfg(test)]
 mod hostile;
 #[cfg(test)]
 mod hostile_dumps;
 #[cfg(test)]
-mod hostile_runs;
-#[cfg(test)]
-mod json;
-#[cfg(test)]
 mod keys;
 #[cfg(test)]
 mod laws;
-#[cfg(test)]
-mod names;
 #[cfg(test)]
 mod numbers;
 #[cfg(test)]
 mod reading;
 #[cfg(test)]
-mod refusals;
-#[cfg(test)]
 mod regions;
 #[cfg(test)]
-mod runs;
-#[cfg(test)]
-mod scans;
-#[cfg(test)]
 mod sessions;
-#[cfg(test)]
-mod shown;
-#[cfg(test)]
-mod streams;
 #[cfg(test)]
 mod tables;
 #[cfg(test)]
 mod trials;
-#[cfg(test)]
-mod uses;
 #[cfg(test)]
 mod vectors;
 #[cfg(test)]
