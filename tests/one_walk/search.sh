@@ -14,7 +14,7 @@ found=0
 code() { grep -HvE '^[[:space:]]*//' "$@"; }
 
 sources() {
-  find crates -path '*/src/*.rt' -not -path '*/out/*' -not -path 'crates/rtnl_rows/*' -not -path 'crates/rtnl_tests/*' \
+  find crates -path '*/src/*.rt' -not -path '*/out/*' -not -path 'crates/rtnl_rows/*' \
     -not -path 'crates/rtnl_uses/*' -not -path 'crates/rtnl_calls/*' | LC_ALL=C sort
 }
 

@@ -1,10 +1,9 @@
 //! Sources and sinks that fail, or move few bytes at a time.
 
-ghost use Rattle.std.specs.Prelude.{None, ◌≡◌, ◌≤◌, IfOk, IfSome, IsTrue, false};
+ghost use Rattle.std.specs.Prelude.{None, ◌≡◌, ◌≤◌, IfSome, IsTrue, false};
 ghost use Rattle.rtnl.specs.Streams.{one_more};
 
 use rtnl::{Broken, Sink, Source};
-use std::io::{self, Read};
 
 /// Gives some bytes, and then fails at each call.
 #[derive(Drop)]
@@ -127,36 +126,6 @@ impl Sink for TightSink {
         if self.stalled {
             self.stalls = self.stalls.saturating_add(1);
         }
-        Ok(count)
-    }
-}
-
-/// A file of `left` blanks, read in calls of up to three bytes, whose device fails at the end where
-/// it is broken.
-#[derive(Drop)]
-pub(crate) struct ShortFile {
-    pub(crate) left: usize,
-    pub(crate) broken: bool,
-}
-
-impl ShortFile {
-    fn count(&mut self, wanted: usize) -> io::Result<usize>
-        ensures { IfOk result (λ count. count ≤ wanted) }
-    {
-        let count = self.left.min(wanted).min(3);
-        if count == 0 && self.broken {
-            return Err(io::Error::from(io::ErrorKind::BrokenPipe));
-        }
-        self.left -= count;
-        Ok(count)
-    }
-}
-
-impl Read for ShortFile {
-    fn read(&mut self, buffer: &mut [u8]) -> io::Result<usize> {
-        let count = self.count(buffer.len())?;
-        let (room, _) = buffer.split_at_mut(count);
-        room.fill(b' ');
         Ok(count)
     }
 }

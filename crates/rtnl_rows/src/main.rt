@@ -15,16 +15,23 @@ mod cuts;
 mod entries;
 mod fakes;
 mod faults;
+mod files;
+mod forms;
+mod laws;
+mod lines;
 mod messages;
 mod numbers;
 mod readings;
 mod rows;
+mod runs;
 mod said;
+mod scans;
 mod sessions;
 mod shown;
 mod stop;
 mod tables;
 mod trees;
+mod uses;
 mod walkers;
 mod words;
 mod writing;
@@ -51,7 +58,12 @@ fn has_answered(rt: &HostRuntime, row: &mut Row<'_>) -> Result<bool, Stop> {
             || readings::has_answered(rt, row)?
             || sessions::has_answered(rt, row)?
             || tables::has_answered(rt, row)?
-            || faults::has_answered(rt, row)?,
+            || faults::has_answered(rt, row)?
+            || lines::has_answered(rt, row)?
+            || scans::has_answered(rt, row)?
+            || forms::has_answered(rt, row)?
+            || uses::has_answered(rt, row)?
+            || laws::has_answered(rt, row)?,
     )
 }
 

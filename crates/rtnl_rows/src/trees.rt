@@ -183,7 +183,7 @@ fn view(rt: &HostRuntime, row: &mut Row<'_>) -> Result<(), Stop> {
 }
 
 /// The word for a context.
-fn context_word(ctx: Ctx) -> &'static str {
+pub(crate) fn context_word(ctx: Ctx) -> &'static str {
     match ctx {
         Ctx::Link => "link",
         Ctx::LinkInfo => "linkinfo",

@@ -1,0 +1,28 @@
+//! The laws of faults, tables and sessions.
+
+use crate::rows::Row;
+use crate::said::say;
+use crate::stop::Stop;
+use nl_route::{Addr, Link, Neigh, Route, Rule};
+
+/// Makes the call of a row, if it is `laws`: each law is called, for each family where it has one.
+pub(crate) fn has_answered(rt: &HostRuntime, row: &mut Row<'_>) -> Result<bool, Stop> {
+    if row.call != "laws" {
+        return Ok(false);
+    }
+    nl_attr::laws::one_first_fault();
+    nl_frame::laws::one_first_fault();
+    nl_frame::laws::written_back();
+    rtnl::laws::one_answer();
+    rtnl::laws::one_text();
+    nl_table::laws::runs_end_in_table::<Link>();
+    nl_table::laws::runs_end_in_table::<Addr>();
+    nl_table::laws::runs_end_in_table::<Route>();
+    nl_table::laws::runs_end_in_table::<Neigh>();
+    nl_table::laws::runs_end_in_table::<Rule>();
+    nl_table::laws::keys_tell_apart();
+    nl_dump::laws::calls_end_in_session();
+    nl_dump::laws::headline_of_calls();
+    say(rt, "hold")?;
+    Ok(true)
+}

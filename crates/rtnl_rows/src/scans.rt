@@ -1,0 +1,215 @@
+//! Scans of datagrams, the events of tapes, cursors, and the heads that faults are about.
+
+use crate::rows::Row;
+use crate::said::{Hex, Maybe, say};
+use crate::shown::Shown;
+use crate::stop::{Stop, Wrong};
+use crate::walkers::{say_hop, say_part};
+use crate::words::Words;
+use nl_attr::{
+    BrokenHead, Event, FARTHEST_END, Fault, HeadKind, LONGEST_REGION, Order, Reason, Tally,
+    attr_at, hop_at,
+};
+use nl_frame::{broken_head, message_at, read_datagram, scan_datagram, tape_datagram};
+use std::fmt;
+
+/// Makes the call of a row, if it is one of these. Whether it is.
+pub(crate) fn has_answered(rt: &HostRuntime, row: &mut Row<'_>) -> Result<bool, Stop> {
+    match row.call {
+        "scan" => scan(rt, row)?,
+        "tape" => tape(rt, row)?,
+        "message_at" => find_message(rt, row)?,
+        "attr_at" => find_attr(rt, row)?,
+        "hop_at" => find_hop(rt, row)?,
+        "broken_head" => look_into_datagram(rt, row)?,
+        "broken_in_list" => look_into_list(rt, row)?,
+        _ => return Ok(false),
+    }
+    Ok(true)
+}
+
+/// `scan [LIMITS]`: what a scan, a tape without room and reading answer: the visits, and why they
+/// refuse, behind its number.
+fn scan(rt: &HostRuntime, row: &mut Row<'_>) -> Result<(), Stop> {
+    let limits = row.words.limits()?;
+    let bytes = row.bytes(rt.alloc())?;
+    let bytes = bytes.as_slice();
+    let Tally { result, visits } = scan_datagram(bytes, &limits);
+    match result {
+        Ok(()) => say(rt, format_args!("scan visits {visits}"))?,
+        Err(error) => {
+            let code = error.code();
+            say(rt, format_args!("scan visits {visits}, {code} {error}"))?;
+        }
+    }
+    let Tally { result, visits } = tape_datagram(bytes, &limits, &mut []);
+    match result {
+        Ok(heads) => say(rt, format_args!("tape visits {visits} heads {heads}"))?,
+        Err(error) => {
+            let code = error.code();
+            say(rt, format_args!("tape visits {visits}, {code} {error}"))?;
+        }
+    }
+    let Tally { result, visits } = read_datagram(rt.alloc(), bytes, &limits);
+    match result.err() {
+        None => say(rt, format_args!("read visits {visits}")),
+        Some(error) => {
+            let code = error.code();
+            say(rt, format_args!("read visits {visits}, {code} {error}"))
+        }
+    }
+}
+
+/// No head has an event like this.
+const UNTOUCHED: Event = Event {
+    place: 0xffff_ffff,
+    len: 0xffff_ffff,
+    number: 0xffff,
+    level: 0xff,
+    sort: 0xff,
+    nested: true,
+    net: true,
+};
+
+/// `tape ROOM [LIMITS]`: what a tape into a buffer with this room answers, and the buffer then.
+fn tape(rt: &HostRuntime, row: &mut Row<'_>) -> Result<(), Stop> {
+    let room: u8 = row.words.number()?;
+    let limits = row.words.limits()?;
+    let bytes = row.bytes(rt.alloc())?;
+    let mut buffer = vec![in rt.alloc(); UNTOUCHED; room as usize]?;
+    match tape_datagram(bytes.as_slice(), &limits, buffer.as_mut_slice()).into_result() {
+        Ok(heads) => say(rt, format_args!("heads {heads}"))?,
+        Err(error) => say(rt, error)?,
+    }
+    for event in buffer.as_slice() {
+        if *event == UNTOUCHED {
+            say(rt, "untouched")?;
+        } else {
+            say(rt, Shown(event))?;
+        }
+    }
+    Ok(())
+}
+
+/// `message_at PLACE [ORDER]`.
+fn find_message(rt: &HostRuntime, row: &mut Row<'_>) -> Result<(), Stop> {
+    let place: u32 = row.words.number()?;
+    let order = row.words.order().unwrap_or(Order::Little);
+    let bytes = row.bytes(rt.alloc())?;
+    match message_at(bytes.as_slice(), place, order) {
+        None => say(rt, "none"),
+        Some(Err(fault)) => say(rt, fault),
+        Some(Ok(frame)) => {
+            say(rt, Shown(&frame.header))?;
+            let (form, span) = (Shown(&frame.form), frame.span);
+            let (payload, rest) = (Hex(frame.payload), Hex(frame.rest));
+            say(
+                rt,
+                format_args!("{form} span {span} payload {payload} rest {rest}"),
+            )
+        }
+    }
+}
+
+/// `attr_at PLACE [ORDER]`.
+fn find_attr(rt: &HostRuntime, row: &mut Row<'_>) -> Result<(), Stop> {
+    let place: u32 = row.words.number()?;
+    let order = row.words.order().unwrap_or(Order::Little);
+    let bytes = row.bytes(rt.alloc())?;
+    match attr_at(bytes.as_slice(), place, order) {
+        None => say(rt, "none"),
+        Some(given) => say_part(rt, given),
+    }
+}
+
+/// `hop_at PLACE [ORDER]`.
+fn find_hop(rt: &HostRuntime, row: &mut Row<'_>) -> Result<(), Stop> {
+    let place: u32 = row.words.number()?;
+    let order = row.words.order().unwrap_or(Order::Little);
+    let bytes = row.bytes(rt.alloc())?;
+    match hop_at(bytes.as_slice(), place, order) {
+        None => say(rt, "none"),
+        Some(given) => say_hop(rt, given),
+    }
+}
+
+/// The reason of this name.
+pub(crate) fn reason_of(name: &str) -> Option<Reason> {
+    match name {
+        "cut" => Some(Reason::Cut),
+        "bad-length" => Some(Reason::BadLength),
+        "short-body" => Some(Reason::ShortBody),
+        "too-long" => Some(Reason::TooLong),
+        "too-deep" => Some(Reason::TooDeep),
+        _ => None,
+    }
+}
+
+/// The fault that words name: `REASON PLACE`.
+fn fault_of(words: &mut Words<'_>) -> Result<Fault, Stop> {
+    let reason = reason_of(words.word()?).ok_or(Stop::Wrong(Wrong::Word))?;
+    let place: u32 = words.number()?;
+    Ok(Fault { place, reason })
+}
+
+impl fmt::Display for Shown<'_, BrokenHead> {
+    fn fmt<W: fmt::Write>(&self, f: &mut fmt::Formatter<W>) -> fmt::Result {
+        let BrokenHead {
+            kind,
+            level,
+            len,
+            left,
+        } = *self.0;
+        f.write_str(match kind {
+            HeadKind::Message => "message",
+            HeadKind::Attribute => "attribute",
+            HeadKind::NextHop => "next-hop",
+        })?;
+        let len = Maybe(len);
+        write!(f, " level {level} len {len} left {left}")
+    }
+}
+
+/// Tells a head that was found, or that none was.
+fn say_head(rt: &HostRuntime, found: Option<BrokenHead>) -> Result<(), Stop> {
+    match found {
+        None => say(rt, "none"),
+        Some(head) => say(rt, Shown(&head)),
+    }
+}
+
+/// `broken_head REASON PLACE [LIMITS]`: why the datagram is refused, and the head that the fault
+/// of this reason at this place is about.
+fn look_into_datagram(rt: &HostRuntime, row: &mut Row<'_>) -> Result<(), Stop> {
+    let fault = fault_of(&mut row.words)?;
+    let limits = row.words.limits()?;
+    let bytes = row.bytes(rt.alloc())?;
+    let bytes = bytes.as_slice();
+    match read_datagram(rt.alloc(), bytes, &limits)
+        .into_result()
+        .err()
+    {
+        None => say(rt, "read")?,
+        Some(error) => say(rt, error)?,
+    }
+    say_head(rt, broken_head(bytes, &limits, fault))
+}
+
+/// `broken_in_list REASON PLACE [ORDER] CONTEXT [base PLACE] [level LEVEL] [depth LEVELS]`.
+fn look_into_list(rt: &HostRuntime, row: &mut Row<'_>) -> Result<(), Stop> {
+    let fault = fault_of(&mut row.words)?;
+    let order = row.words.order().unwrap_or(Order::Little);
+    let ctx = row.words.context()?;
+    let base: u32 = row.words.number_of("base", 0)?;
+    let level: u8 = row.words.number_of("level", 0)?;
+    let depth = row.words.depth()?;
+    let bytes = row.bytes(rt.alloc())?;
+    if base > FARTHEST_END - LONGEST_REGION as u32 || level > depth.get() {
+        return Err(Stop::Wrong(Wrong::Range));
+    }
+    let bytes = bytes.as_slice();
+    say_head(
+        rt,
+        nl_attr::broken_head(bytes, base, ctx, level, depth, order, fault),
+    )
+}
