@@ -142,7 +142,12 @@ impl Run {
     }
 
     /// How the run ends.
-    pub(crate) fn end<S: Source, W: Sink>(&self, alloc: Global, source: &mut S, sink: &mut W) -> Ending {
+    pub(crate) fn end<S: Source, W: Sink>(
+        &self,
+        alloc: Global,
+        source: &mut S,
+        sink: &mut W,
+    ) -> Ending {
         Ending {
             answer: self.answer(alloc, source, sink),
             reads: source.failures(),
