@@ -6,8 +6,8 @@
 //! call and its words. Lines behind it that begin with two blanks are its input, and those that
 //! begin with `=` its answer. Input is hexadecimal text with blanks, in which `HEX*COUNT` stands
 //! for bytes so many times, and a word with a capital letter for the bytes that a row `bytes NAME`
-//! above has as its input, or as `NAME:FROM..END` for a part of them. What is wrong with a row is
-//! answered behind a question mark.
+//! above has as its input, or as `NAME:FROM..END` for a part of them; that of a run is the lines of
+//! a recording. What is wrong with a row is answered behind a question mark.
 #![tactic(auto)]
 
 mod bodies;
