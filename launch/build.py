@@ -40,6 +40,10 @@ LEAST_ROOM = 64 << 20
 LENGTH = "an hour of processor time in all, once"
 
 
+class NoRoom(Failed):
+    """The disk is full, so that a proof would not end either."""
+
+
 @contextlib.contextmanager
 def locked() -> Iterator[None]:
     """Holds the lock of the repository's builds, for which it waits."""
@@ -74,7 +78,7 @@ def logged(path: str) -> Iterator[IO[Any]]:
 def stop_without_room() -> None:
     left = shutil.disk_usage(OUT).free
     if left < LEAST_ROOM:
-        raise Failed(f"nothing could be built; the disk of {OUT} is full, {left >> 20} MB are left")
+        raise NoRoom(f"nothing could be built; the disk of {OUT} is full, {left >> 20} MB are left")
 
 
 def current() -> Optional[str]:
@@ -149,6 +153,8 @@ def program() -> str:
         say("no program is built from these sources; it is compiled now, in about a minute")
         try:
             return compile_program(crates)
+        except NoRoom:
+            raise
         except Failed as error:
             say(f"{error}")
         say("it could not be compiled without a proof, so it is proved and built")
