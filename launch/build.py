@@ -184,6 +184,11 @@ def run(path: str, *arguments: str) -> NoReturn:
 def main(verb: str = "", *arguments: str) -> int:
     stop_on_signals()
     try:
+        os.write(2, b"")
+    except OSError:
+        # Standard error is closed, and bash may have its script there; nothing is said.
+        sys.stderr = open(os.devnull, "w", encoding="utf-8")
+    try:
         if verb == "program":
             run(program(), *arguments)
         elif verb == "path" and not arguments:

@@ -1,5 +1,5 @@
-# ./install of a program that is not proved, of one that is, and of the library, over the copy of kit.sh and a c/build.sh
-# that builds nothing.
+# ./install of a program that is not proved, of one that is, and of the library, over the copy of kit.sh and a
+# c/build.sh that builds nothing.
 
 place=$folder/place
 mkdir "$place"
@@ -9,7 +9,8 @@ echo one >"$1/librtnl.a" && echo two >"$1/librtnl.so.0" && ln -s librtnl.so.0 "$
 TEXT
 chmod +x "$tree/c/build.sh"
 library_crates=(nl_attr nl_route nl_frame nl_table nl_dump rtnl rtnl_c)
-library_things=(include/rtnl.h lib/librtnl.a lib/librtnl.so.0 lib/librtnl.so lib/pkgconfig/rtnl.pc share/rtnl/installed)
+library_things=(include/rtnl.h lib/librtnl.a lib/librtnl.so.0 lib/librtnl.so lib/pkgconfig/rtnl.pc
+  share/rtnl/installed)
 not_proved='install: the program is not proved on this machine; --proved proves it first'
 install() { "${from_afar[@]}" "$tree/install" "$@" "$place"; }
 
@@ -53,7 +54,8 @@ rtnl: nl_dump could not be proved and built; see $library_log" failing nl_dump i
 
 # puts_library NOTE LINES: the library is installed, and the record keeps its note of the program.
 puts_library() {
-  ends 0 "$(put "${library_things[@]}")" "$2" install --library && notes "$1" && [ "$(<"$place/lib/librtnl.so")" = two ]
+  ends 0 "$(put "${library_things[@]}")" "$2" install --library && notes "$1" &&
+    [ "$(<"$place/lib/librtnl.so")" = two ]
 }
 goes_on_with_library() {
   rm -f "$calls"
@@ -75,8 +77,8 @@ check 'a proof that fails, in an installation' puts_nothing
 check 'a program that is not proved, beside a library' puts_unproved
 check 'a library whose proof fails' fails_in_library
 check 'a library whose proof goes on' goes_on_with_library
-for file in crates/nl_route/src/lib.rt "$(ls -d crates/nl_frame/specs/* | head -n 1)" \
-  "$(ls -d crates/rtnl_c/proofs/* | head -n 1)"; do
+for file in crates/nl_route/src/lib.rt "$(find crates/nl_frame/specs -type f -print -quit)" \
+  "$(find crates/rtnl_c/proofs -type f -print -quit)"; do
   check "a library that is older than $file" proves_library_anew "$file"
 done
 check 'both are removed' removed_all

@@ -26,8 +26,8 @@ stays_proved() {
 
 # A stale one is left where it is, and not run where one may be compiled; the next proof goes over both.
 stale_is_not_run() {
-  change "$1" && compiles && ends 0 "$unproved" '' start_for_path && [ -x "$proved" ] && starts && proves '' && starts &&
-    is_gone "${unproved%/*}"
+  change "$1" && compiles && ends 0 "$unproved" '' start_for_path && [ -x "$proved" ] && starts && proves '' &&
+    starts && is_gone "${unproved%/*}"
 }
 
 # A compiled program is not run where a proved one is asked for.
@@ -37,7 +37,8 @@ none_but_proved() { forget && compiles && proves "$once" && is_gone "${unproved%
 says_which() {
   ends 4 --version "rtnl: this program is $1" "$2" --version </dev/null &&
     ends 4 -V "rtnl: this program is $1" "$2" -V </dev/null &&
-    ends 4 '--version show' '' "$2" --version show </dev/null && ends 4 'show --version' '' "$2" show --version </dev/null
+    ends 4 '--version show' '' "$2" --version show </dev/null &&
+    ends 4 'show --version' '' "$2" show --version </dev/null
 }
 
 # least_time: the least milliseconds of thirty runs.
@@ -60,7 +61,8 @@ rm "$folder/tools/rt"
 check 'a first proof' proves "$once"
 check 'a second run' starts_proved
 check 'a run without rt and Python' ends 4 $'\n'"$finish_line" '' without_tools <<<"$finish_line"
-for file in crates/nl_frame/src/lib.rt crates/nl_attr/specs crates/rtnl/proofs crates/rtnl_cli/src/main.rt crates.txt; do
+for file in crates/nl_frame/src/lib.rt crates/rtnl_cli/src/main.rt crates/nl_attr/specs crates/rtnl/proofs \
+  crates.txt; do
   check "a change of $file, proved" is_stale "$file"
 done
 change crates/rtnl_rows/src/lib.rt
