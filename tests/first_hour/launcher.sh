@@ -1,7 +1,5 @@
 # The launcher where it proves, over the copy of kit.sh, and its time once the program is built.
 
-failing() { FAILING=$1 "${@:2}"; }
-
 # is_stale FILE: a change of this file makes the program be proved anew, without the note on the first proof.
 is_stale() { change "$1" && proves '' && starts_proved; }
 
@@ -32,14 +30,6 @@ stale_is_not_run() {
 
 # A compiled program is not run where a proved one is asked for.
 none_but_proved() { forget && compiles && proves "$once" && is_gone "${unproved%/*}" && starts; }
-
-# says_which NOTE COMMAND: --version and -V give the program's bytes, and standard error the note.
-says_which() {
-  ends 4 --version "rtnl: this program is $1" "$2" --version </dev/null &&
-    ends 4 -V "rtnl: this program is $1" "$2" -V </dev/null &&
-    ends 4 '--version show' '' "$2" --version show </dev/null &&
-    ends 4 'show --version' '' "$2" show --version </dev/null
-}
 
 # least_time: the least milliseconds of thirty runs.
 least_time() {
