@@ -78,7 +78,8 @@ def logged(path: str) -> Iterator[IO[Any]]:
 def stop_without_room() -> None:
     left = shutil.disk_usage(OUT).free
     if left < LEAST_ROOM:
-        raise NoRoom(f"nothing could be built; the disk of {OUT} is full, {left >> 20} MB are left")
+        why = f"the disk of {OUT} is full, {left >> 20} MB are left"
+        raise NoRoom(f"nothing could be built; {why}")
 
 
 def current() -> Optional[str]:
