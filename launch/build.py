@@ -40,6 +40,10 @@ LEAST_ROOM = 64 << 20
 LENGTH = "up to an hour of processor time in all, once"
 
 
+class NoRoom(Failed):
+    """The disk is full, so that a proof would not end either."""
+
+
 @contextlib.contextmanager
 def locked() -> Iterator[None]:
     """Holds the lock of the repository's builds, for which it waits."""
@@ -74,7 +78,8 @@ def logged(path: str) -> Iterator[IO[Any]]:
 def stop_without_room() -> None:
     left = shutil.disk_usage(OUT).free
     if left < LEAST_ROOM:
-        raise Failed(f"nothing could be built; the disk of {OUT} is full, {left >> 20} MB are left")
+        why = f"the disk of {OUT} is full, {left >> 20} MB are left"
+        raise NoRoom(f"nothing could be built; {why}")
 
 
 def current() -> Optional[str]:
@@ -92,7 +97,12 @@ def prove(crates: Crates, name: str, made: str) -> str:
         for number, it in enumerate(names, 1):
             text = f"proving and building {it}, {number} of {len(names)}{note}"
             words = ["rt", "run" if it == PROGRAM else "lib"]
-            if not step(text, log, [words], cwd=f"{ROOT}/crates/{it}"):
+            try:
+                done = step(text, log, [words], cwd=f"{ROOT}/crates/{it}")
+            except Interrupted as by:
+                how = f"interrupted in {it}; see {log.name}; the next run goes on"
+                raise Interrupted(by.number, how) from None
+            if not done:
                 stop_without_room()
                 raise Failed(f"{it} could not be proved and built; see {log.name}")
     # A build with nothing to do leaves the time alone.
@@ -117,6 +127,10 @@ def compile_program(crates: Crates) -> str:
             made = unproved.build(crates, PROGRAM, log, room)
         os.utime(made, (begun, begun))
         os.replace(made, UNPROVED)
+    except Failed:
+        # What fills the disk may stand in the folder that is removed below.
+        stop_without_room()
+        raise
     except OSError as error:
         stop_without_room()
         raise Failed(f"{PROGRAM} was not compiled: {error}") from None
@@ -140,8 +154,9 @@ def program() -> str:
         say("no program is built from these sources; it is compiled now, in about a minute")
         try:
             return compile_program(crates)
+        except NoRoom:
+            raise
         except Failed as error:
-            stop_without_room()
             say(f"{error}")
         say("it could not be compiled without a proof, so it is proved and built")
         return prove_program(crates)
@@ -152,12 +167,15 @@ def library() -> None:
         stop_without_room()
         crates = listed()
         names = [LIBRARY, *below(crates, LIBRARY)]
-        if not os.path.exists(ARCHIVE) or any(newer(it, ARCHIVE) for it in names):
+        parts = ("specs", "proofs")
+        if not os.path.exists(ARCHIVE) or any(newer(it, ARCHIVE, *parts) for it in names):
             prove(crates, LIBRARY, ARCHIVE)
             say("the library is built, and proved on this machine")
 
 
 def run(path: str, *arguments: str) -> NoReturn:
+    if arguments in (("--version",), ("-V",)):
+        say(f"this program is {'not ' if path == UNPROVED else ''}proved on this machine")
     # Python ignores these two, and a program would inherit that.
     for number in (signal.SIGPIPE, signal.SIGXFSZ):
         signal.signal(number, signal.SIG_DFL)
@@ -166,6 +184,11 @@ def run(path: str, *arguments: str) -> NoReturn:
 
 def main(verb: str = "", *arguments: str) -> int:
     stop_on_signals()
+    try:
+        os.write(2, b"")
+    except OSError:
+        # Standard error is closed, and bash may have its script there; nothing is said.
+        sys.stderr = open(os.devnull, "w", encoding="utf-8")
     try:
         if verb == "program":
             run(program(), *arguments)
@@ -176,12 +199,12 @@ def main(verb: str = "", *arguments: str) -> int:
         else:
             print(__doc__, end="", file=sys.stderr)
             return 2
-    except Failed as error:
+    except (Failed, OSError) as error:
         say(f"{error}")
         return 3
-    except Interrupted as signaled:
-        say("interrupted; nothing was built")
-        return 128 + int(signaled.args[0])
+    except Interrupted as by:
+        say(f"{by}")
+        return 128 + by.number
     return 0
 
 

@@ -74,10 +74,11 @@ def drop_old_libraries(crates: Crates) -> None:
             shutil.rmtree(f"{ROOT}/crates/{name}/out/rlib", ignore_errors=True)
 
 
-def newer(name: str, made: str) -> Optional[str]:
-    """A source of a crate that is newer than what was made of it, if there is one."""
+def newer(name: str, made: str, *parts: str) -> Optional[str]:
+    """A file of src/, or of these parts too, that is newer than what was made of a crate."""
     time = os.path.getmtime(made)
-    for path in files(name, "src"):
-        if path.endswith(".rt") and os.path.getmtime(f"{ROOT}/{path}") > time:
-            return path
+    for part in ("src", *parts):
+        for path in files(name, part):
+            if os.path.getmtime(f"{ROOT}/{path}") > time:
+                return path
     return None

@@ -1,10 +1,13 @@
 """Steps of a build: each is said on standard error, what its commands say goes into a log."""
+import contextlib
 import os
 import signal
 import subprocess
 import sys
 import time
-from typing import IO, Any, List, Sequence
+from typing import IO, Any, Iterator, List, Sequence
+
+ENDING = (signal.SIGINT, signal.SIGTERM, signal.SIGHUP)
 
 
 class Failed(Exception):
@@ -12,7 +15,11 @@ class Failed(Exception):
 
 
 class Interrupted(BaseException):
-    """A signal came; its number."""
+    """A signal came: its number, and what is said of it."""
+
+    def __init__(self, number: int, text: str = "interrupted; nothing was built") -> None:
+        super().__init__(text)
+        self.number = number
 
 
 def say(text: str, end: str = "\n") -> None:
@@ -20,13 +27,30 @@ def say(text: str, end: str = "\n") -> None:
 
 
 def stop_on_signals() -> None:
-    """Has the signals that end a command raise Interrupted, so that what was begun is ended."""
+    """Has the signals that end a command raise Interrupted, so that what was begun is ended.
+
+    The first one does, and no other then disturbs that; one that the caller ignores, as nohup has
+    it, is ignored here.
+    """
 
     def stop(number: int, _frame: object) -> None:
+        for it in ENDING:
+            signal.signal(it, signal.SIG_IGN)
         raise Interrupted(number)
 
-    for number in (signal.SIGINT, signal.SIGTERM, signal.SIGHUP):
-        signal.signal(number, stop)
+    for it in ENDING:
+        if signal.getsignal(it) != signal.SIG_IGN:
+            signal.signal(it, stop)
+
+
+@contextlib.contextmanager
+def undisturbed() -> Iterator[Any]:
+    """Has those signals wait, and gives what sets them free in a command that is started."""
+    before = signal.pthread_sigmask(signal.SIG_BLOCK, ENDING)
+    try:
+        yield lambda: signal.pthread_sigmask(signal.SIG_SETMASK, before)
+    finally:
+        signal.pthread_sigmask(signal.SIG_SETMASK, before)
 
 
 def end(started: Sequence["subprocess.Popen[bytes]"]) -> None:
@@ -50,8 +74,10 @@ def step(text: str, log: IO[Any], commands: Sequence[List[str]], **how: Any) -> 
     how = {"stdin": subprocess.DEVNULL, "stdout": log, "stderr": subprocess.STDOUT, **how}
     started: List["subprocess.Popen[bytes]"] = []
     try:
-        for words in commands:
-            started.append(subprocess.Popen(words, start_new_session=True, **how))
+        with undisturbed() as free:
+            how.update(start_new_session=True, preexec_fn=free)
+            for words in commands:
+                started.append(subprocess.Popen(words, **how))
         for it in started:
             while it.poll() is None:
                 try:

@@ -1,16 +1,21 @@
 #!/usr/bin/env bash
 # What a user meets first: each command that README.md and the manual page show with what it prints, recordings
-# of other programs, the installation with its page and completions, and the launcher, which is tried over a rt
+# of other programs, the installation with its page and completions, and the launcher, which is tried over a kit
 # that builds nothing. Expected texts are those of the pages or worked by hand. Packages that are missing are
 # installed where that can be, and what can't run says so and isn't counted. All runs in a network namespace
 # where the machine allows one. The last line is 'N passed, M failed', and the status is 1 where a case failed.
 set -u
 cd "$(dirname "${BASH_SOURCE[0]}")/.." || exit 1
 
+# All is over a proved program, but where tests/run --quick names the one that ./rtnl runs.
+unset RTNL_PATH RTNL_BUILD
+[ -n "${RTNL_PROGRAM-}" ] || export RTNL_PROVE=1
+tests/proved.py >/dev/null || exit 1
+
 if [ "${1-}" != inside ]; then
   tests/packages.sh mandoc mandoc xxd xxd jq jq strace strace ip iproute2 \
     /usr/share/bash-completion/bash_completion bash-completion zsh zsh fish fish
-  # The first run builds the program where it isn't built.
+  # The first run builds the program where it isn't built from these sources.
   ./rtnl --version >/dev/null || exit 1
   for way in -n -rn; do
     unshare "$way" ip link set lo up 2>/dev/null && exec unshare "$way" tests/first_hour.sh inside
@@ -35,6 +40,27 @@ ends() {
   [ "$found" = "$status" ] && [ "$(<"$folder/output")" = "$output" ] && [ "$(<"$folder/errors")" = "$errors" ]
 }
 
+# soon COMMAND..: it succeeds within ten seconds.
+soon() {
+  for _ in $(seq 100); do
+    "$@" && return
+    sleep 0.1
+  done
+  return 1
+}
+
+# is_proved PROGRAM: its bytes say so.
+is_proved() { (cd tests && python3 -B -c 'import proved, sys; sys.exit(not proved.is_proved(sys.argv[1]))' "$1"); }
+
+# What standard error has beside --version, and behind an installation.
+if is_proved "$(RTNL_PATH=1 ./rtnl)"; then
+  version_note='rtnl: this program is proved on this machine'
+  install_note=''
+else
+  version_note='rtnl: this program is not proved on this machine'
+  install_note='install: the program is not proved on this machine; --proved proves it first'
+fi
+
 # has COMMAND WHAT: the command is here, or a line says that this is skipped.
 has() { command -v "$1" >/dev/null || ! echo "skipped: $2, since $1 is not here"; }
 
@@ -55,6 +81,11 @@ inside=no
 . tests/first_hour/elsewhere.sh
 . tests/first_hour/installation.sh
 . tests/first_hour/completions.sh
+. tests/first_hour/kit.sh
 . tests/first_hour/launcher.sh
+. tests/first_hour/unproved.sh
+. tests/first_hour/ended.sh
+. tests/first_hour/installed.sh
+. tests/first_hour/refusals.sh
 
 finish

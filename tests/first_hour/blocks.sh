@@ -5,12 +5,13 @@
 
 # masked FILE: what is compared of it.
 masked() {
-  if [ "$live" = yes ]; then
-    sed -E 's/\<(bytes|seq|port|entries|received|visits) [0-9a-f]+/\1 N/g' "$1"
-  else
-    cat "$1"
-  fi
+  local numbers=''
+  [ "$live" = no ] || numbers='s/\<(bytes|seq|port|entries|received|visits) [0-9a-f]+/\1 N/g'
+  sed -E "/^($notes)\$/d; $numbers" "$1"
 }
+
+# What is said of a program that is proved or not, which the other scripts here compare.
+notes='rtnl: this program is (not )?proved on this machine|install: the program is not proved on this machine;.*'
 
 # port_in FILE: the port id in a comment of a recording.
 port_in() { sed -n 's/^# seq [0-9]* port //p' "$1" | head -n 1; }

@@ -6,15 +6,6 @@ shown_of_rtmon() { xxd -p -c0 "$folder/rtmon" | "$user/rtnl" show; }
 # types_of_rtmon: the types of the messages in its file.
 types_of_rtmon() { shown_of_rtmon | sed -n 's/^message \([0-9]* [a-z]*\) .*/\1/p' | tr '\n' ,; }
 
-# soon COMMAND..: it succeeds within ten seconds.
-soon() {
-  for _ in $(seq 100); do
-    "$@" && return
-    sleep 0.1
-  done
-  return 1
-}
-
 has_links() { [ -e "$folder/rtmon" ] && [[ $(types_of_rtmon) =~ ^'15 other,'('16 newlink,')+$ ]]; }
 has_links_and_change() { [[ $(types_of_rtmon) =~ ^'15 other,'('16 newlink,')+'15 other,16 newlink,'$ ]]; }
 is_long() { [ "$(stat -c %s "$folder/rtmon")" -gt 65536 ]; }

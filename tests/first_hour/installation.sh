@@ -10,7 +10,11 @@ listed() { (cd "$1" && find . -printf '%p %y %m\n' -type f -exec sha256sum {} \;
 # each WORD: a line for each file that is put or removed.
 each() { printf "$1 $prefix/%s\n" "${things[@]}"; }
 
-installs() { ends 0 "$(each installed)" '' "$user/install" "$prefix"; }
+# It is installed, and where the program is not proved one line and the record say so.
+installs() {
+  ends 0 "$(each installed)" "$install_note" "$user/install" "$prefix" &&
+    [ "$(grep ^unproved "$prefix/share/rtnl/installed")" = "${install_note:+unproved bin/rtnl}" ]
+}
 removes() {
   ends 0 "$(each removed)" '' "$user/install" --remove "$prefix" && listed "$prefix" | diff "$folder/before" -
 }
@@ -18,7 +22,7 @@ removes() {
 # A prefix that isn't there is made, and removed again.
 takes_new_prefix() {
   local made="$folder/new prefix"
-  "$user/install" "$made" >/dev/null && [ "$("$made/bin/rtnl" --version)" = "rtnl $version" ] &&
+  "$user/install" "$made" >/dev/null 2>&1 && [ "$("$made/bin/rtnl" --version)" = "rtnl $version" ] &&
     "$user/install" --remove "$made" >/dev/null && [ ! -e "$made" ]
 }
 
@@ -27,7 +31,7 @@ takes_home() {
   local HOME=$folder/home
   export HOME
   mkdir "$HOME" && ends 0 "$(each installed | sed "s|$prefix|$HOME/.local|")" \
-    "install: $HOME/.local/bin is not on the PATH" "$user/install" &&
+    "${install_note:+$install_note$'\n'}install: $HOME/.local/bin is not on the PATH" "$user/install" &&
     ends 0 "$(each removed | sed "s|$prefix|$HOME/.local|")" '' "$user/install" --remove && rmdir "$HOME"
 }
 
@@ -47,7 +51,7 @@ is_blocked() {
 
 # A file that was changed since is left, and all else is removed.
 leaves_changed() {
-  "$user/install" "$prefix" >/dev/null && echo '# mine' >>"$prefix/share/zsh/site-functions/_rtnl" &&
+  "$user/install" "$prefix" >/dev/null 2>&1 && echo '# mine' >>"$prefix/share/zsh/site-functions/_rtnl" &&
     ends 1 "$(each removed | grep -v /zsh/)" \
       "install: $prefix/share/zsh/site-functions/_rtnl was changed since it was installed; it is left" \
       "$user/install" --remove "$prefix" && [ "$(tail -n 1 "$prefix/share/zsh/site-functions/_rtnl")" = '# mine' ] &&
@@ -71,5 +75,6 @@ finish_text=$'datagram 1 bytes 20\nmessage 3 done flags 0x0002 MULTI seq 1 port 
 check 'nothing is removed where nothing was installed' ends 1 '' "install: nothing is installed under $prefix" \
   "$user/install" --remove "$prefix"
 check 'an installation' installs
+check 'the program that is installed' cmp "$(RTNL_PATH=1 ./rtnl)" "$prefix/bin/rtnl"
 check 'the program that is installed, through a link' ends 0 "$finish_text" '' "$user/installed" <<<"$finish_line"
 if has mandoc 'the look of the page'; then check 'the page that is installed' is_page_right; fi

@@ -44,5 +44,5 @@ check 'the commands of the page' same commands_in_help commands_on_page
 # The newest heading of the changelog is the version that the program prints.
 version=$(sed -n 's/^## //p' CHANGELOG.md | head -n 1)
 check 'the version is a number' grep -qxE '[0-9]+\.[0-9]+\.[0-9]+' <<<"$version"
-check 'the version of the program' ends 0 "rtnl $version" '' "$user/rtnl" --version
-check 'the version in short' ends 0 "rtnl $version" '' "$user/rtnl" -V
+check 'the version of the program' ends 0 "rtnl $version" "$version_note" "$user/rtnl" --version
+check 'the version in short' ends 0 "rtnl $version" "$version_note" "$user/rtnl" -V
