@@ -16,7 +16,8 @@ trap 'rm -rf "$folder"' EXIT
 . tests/counting.sh
 
 tests/packages.sh cc gcc c++ g++ objcopy binutils pkg-config pkg-config go golang-go rustc rustc
-./rtnl --version >/dev/null || exit 1
+# What is installed is what is proved.
+export RTNL_PROVE=1
 c/build.sh "$folder/library" || exit 1
 
 # has COMMAND WHAT: the command is here, or a line says that this is skipped.
