@@ -24,8 +24,8 @@ def stop(why: str) -> NoReturn:
 
 
 def is_current(crates: Crates, made: str) -> bool:
-    names = [NAME, *below(crates, NAME)]
-    return os.path.isfile(made) and not any(newer(name, made) for name in names)
+    time = os.path.getmtime(made) if os.path.isfile(made) else 0
+    return not any(newer(name, time) for name in [NAME, *below(crates, NAME)])
 
 
 def words(kit: str, crates: Crates, to: str) -> List[str]:

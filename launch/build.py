@@ -168,7 +168,8 @@ def library() -> None:
         crates = listed()
         names = [LIBRARY, *below(crates, LIBRARY)]
         parts = ("specs", "proofs")
-        if not os.path.exists(ARCHIVE) or any(newer(it, ARCHIVE, *parts) for it in names):
+        time_made = os.path.getmtime(ARCHIVE) if os.path.exists(ARCHIVE) else 0
+        if any(newer(it, time_made, *parts) for it in names):
             prove(crates, LIBRARY, ARCHIVE)
             say("the library is built, and proved on this machine")
 

@@ -54,12 +54,13 @@ def files(name: str, part: str, root: str = ROOT) -> Iterator[str]:
 def library(name: str) -> str:
     """The folder of a built library, which is there and was not put there before its sources.
 
-    Its files may be older: rt ci takes them from an earlier run that proved the same sources.
+    Its files may be older, since rt takes them from an earlier run that proved the same sources; so
+    the time is that of the folder's own entry, which nothing sets back.
     """
     folder = f"crates/{name}/out/rlib/{name}.rlib"
     if not os.path.isfile(f"{ROOT}/{folder}/format"):
         raise NotBuilt(f"{folder} is missing: run rt ci, or rt lib in crates/{name}")
-    source = newer(name, f"{ROOT}/{folder}")
+    source = newer(name, os.stat(f"{ROOT}/{folder}").st_ctime)
     if source:
         raise NotBuilt(f"{folder} is older than {source}: run rt ci, or rt lib in crates/{name}")
     return f"{ROOT}/{folder}"
@@ -74,9 +75,8 @@ def drop_old_libraries(crates: Crates) -> None:
             shutil.rmtree(f"{ROOT}/crates/{name}/out/rlib", ignore_errors=True)
 
 
-def newer(name: str, made: str, *parts: str) -> Optional[str]:
-    """A file of src/, or of these parts too, that is newer than what was made of a crate."""
-    time = os.path.getmtime(made)
+def newer(name: str, time: float, *parts: str) -> Optional[str]:
+    """A file of a crate's src/, or of these parts too, that is newer than this time."""
     for part in ("src", *parts):
         for path in files(name, part):
             if os.path.getmtime(f"{ROOT}/{path}") > time:
