@@ -55,10 +55,10 @@ fn say_end_of(
     say(rt, format_args!("left {left}"))
 }
 
-/// `faulty ENGINE [KIND] [LIMITS] EACH CALLS`, then `fails` for a sink that fails behind so many calls
-/// that take so many bytes each, else it takes none from then on; and a source: `text` for the line of
-/// input or `comment COUNT` for so many `#`, with `fails` where it fails at its end; `from` and the
-/// words for a file; or `blanks` for those without end.
+/// `faulty ENGINE [KIND] [LIMITS] EACH CALLS`, then `fails` for a sink that fails behind so many
+/// calls that take so many bytes each, else it takes none from then on; and a source: `text` for
+/// the line of input or `comment COUNT` for so many `#`, with `fails` where it fails at its end;
+/// `from` and the words for a file; or `blanks` for those without end.
 fn try_streams(rt: &HostRuntime, row: &mut Row<'_>) -> Result<(), Stop> {
     let run = Run::of(&mut row.words)?;
     let sink = TightSink {

@@ -1,13 +1,14 @@
-//! Makes the calls of a table, for tests alone. A table on standard input has rows, each a call with
-//! words and input, and what the call is to answer. The program prints the table with what the calls
-//! do answer in place of that, so it prints the table itself exactly where all rows hold.
+//! Makes the calls of a table, for tests alone. A table on standard input has rows, each a call
+//! with words and input, and what the call is to answer. The program prints the table with what
+//! the calls do answer in place of that, so it prints the table itself exactly where all rows
+//! hold.
 //!
-//! A line that begins with `#` is a comment, and one that begins with a letter a row: the name of a
-//! call and its words. Lines behind it that begin with two blanks are its input, and those that
-//! begin with `=` its answer. Input is hexadecimal text with blanks, in which `HEX*COUNT` stands
-//! for bytes so many times, and a word with a capital letter for the bytes that a row `bytes NAME`
-//! above has as its input, or as `NAME:FROM..END` for a part of them; that of a run is the lines of
-//! a recording. What is wrong with a row is answered behind a question mark.
+//! A line that begins with `#` is a comment, and one that begins with a letter a row: the name
+//! of a call and its words. Lines behind it that begin with two blanks are its input, and those
+//! that begin with `=` its answer. Input is hexadecimal text with blanks, in which `HEX*COUNT`
+//! stands for bytes so many times, and a word with a capital letter for the bytes that a row
+//! `bytes NAME` above has as its input, or as `NAME:FROM..END` for a part of them; that of a run
+//! is the lines of a recording. What is wrong with a row is answered behind a question mark.
 #![tactic(auto)]
 
 mod bodies;
