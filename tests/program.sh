@@ -96,6 +96,20 @@ has_true_example() {
   [ -s "$folder/printed" ] && (PATH=$folder:$PATH && bash "$folder/commands") | cmp -s - "$folder/printed"
 }
 
+# examples_in_help: the commands that the help of the program shows.
+examples_in_help() { "$program" --help | sed -n '/^Examples:$/,/^$/s/^  //p'; }
+
+# commands_in_help: the commands that it lists, but for its own.
+commands_in_help() { "$program" --help | sed -nE '/^Commands:$/,/^$/s/^  ([a-z]+) .*/\1/p' | grep -vx help; }
+
+# has_each_command: the help has an example of each command.
+has_each_command() {
+  [ "$(commands_in_help | sort)" = "$(examples_in_help | cut -d ' ' -f 2 | sort)" ]
+}
+
+# runs_in_examples COMMAND: an example of the help, over the recordings in examples/, finds nothing wrong.
+runs_in_examples() { (cd examples && PATH=$folder:$PATH && ends 0 "$any" '' bash -c "$1"); }
+
 # ---- lines, and what is shown of them
 
 # A DONE of status 0: length 20, type 3, flags 2, sequence number 1, port 12345 (0x3039).

@@ -44,6 +44,10 @@ ln -s "$program" "$folder/rtnl"
 for command in show check table request; do
   check "example in the help of $command" has_true_example "$command"
 done
+check 'an example of each command in the help' has_each_command
+while IFS= read -r example; do
+  check "in the help: $example" runs_in_examples "$example"
+done < <(examples_in_help)
 usage show --order middle
 usage show --order
 usage show --order little --order big

@@ -24,7 +24,13 @@ pub(crate) struct Values<'a> {
     pub entries: &'a str,
 }
 
-const STATUSES: &str = "Exit status:
+const EXAMPLES_AND_STATUSES: &str = "Examples:
+  rtnl show links.hex
+  rtnl check --explain links.hex
+  rtnl table --kind link --seq 1 --port 19050 links.hex
+  rtnl request --kind link --seq 1
+
+Exit status:
   0  no datagram was refused; for `table`, the dump is complete
   1  a datagram was refused, the dump is not complete, or a line is bad
   2  usage error
@@ -204,7 +210,7 @@ pub(crate) fn rtnl<'a>(alloc: Global, values: Values<'a>) -> Result<Command<'a>,
         .bin_name("rtnl")?
         .version(VERSION)
         .about("Decodes recorded rtnetlink datagrams. Without a command it is `rtnl show`.")
-        .after_help(STATUSES)
+        .after_help(EXAMPLES_AND_STATUSES)
         .subcommand(show_command(alloc, values)?)?
         .subcommand(check_command(alloc, values)?)?
         .subcommand(table_command(alloc, values)?)?
