@@ -16,7 +16,7 @@ import os
 import posixpath
 import re
 import sys
-from typing import Callable, Dict, Iterable, Iterator, List, NamedTuple, Set, Tuple
+from typing import Callable, Dict, Iterator, List, NamedTuple, Set, Tuple
 
 sys.dont_write_bytecode = True
 sys.path.insert(0, f"{os.path.dirname(os.path.realpath(__file__))}/../launch")
@@ -163,13 +163,15 @@ def lost_words(repository: Repository, page: str) -> Iterator[str]:
 
 
 def sections(text: str) -> Iterator[Tuple[str, str]]:
-    """The headings of a page, and what stands under each."""
+    """The headings of a page, and what stands under each, without blocks of code."""
+    text = FENCED.sub(" ", text)
     heads = [*HEADING.finditer(text)]
     for head, following in zip(heads, [*heads[1:], None]):
         yield head[2], text[head.end():following.start() if following else len(text)]
 
 
 def wrong_calls(contracts: Contracts, crate: str, calls: List[str]) -> Iterator[str]:
+    """The calls that the crate doesn't have, and those without a contract."""
     for call in calls:
         found = contracts.named(crate, call)
         if not found:
@@ -179,6 +181,7 @@ def wrong_calls(contracts: Contracts, crate: str, calls: List[str]) -> Iterator[
 
 
 def wrong_clauses(contracts: Contracts, crate: str, calls: List[str], names: str) -> Iterator[str]:
+    """The names that are no clauses of one of the calls."""
     for call in calls:
         for function in contracts.named(crate, call):
             for name in NAME.findall(names):
@@ -228,6 +231,7 @@ def sources(repository: Repository, sort: str) -> Iterator[str]:
 
 
 def strange_blocks(repository: Repository, page: str) -> Iterator[str]:
+    """The blocks of code that stand in no source."""
     blocks = BLOCK.findall(repository.texts[page])
     for sort, block in blocks:
         if sort in SHOWN and not any(block in it for it in sources(repository, sort)):
@@ -337,7 +341,7 @@ FAULTS: Dict[Check, List[Fault]] = {
 
 def is_found(check: Check, fault: Fault, repository: Repository) -> bool:
     """Whether the check finds something with the fault in place that it doesn't find without."""
-    text = repository.texts[fault.path]
+    text = repository.texts.get(fault.path, "")
     texts = {**repository.texts, fault.path: text.replace(fault.old, fault.new)}
     before = set(check(repository, fault.of))
     after = set(check(repository._replace(texts=texts), fault.of))
