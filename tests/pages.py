@@ -1,0 +1,373 @@
+#!/usr/bin/env python3
+"""Tests what the pages say of one another and of the code.
+
+Each relative link of each .md file leads to a file of the repository, and its fragment to a
+heading there, by the anchors that GitHub makes. A link to the glossary of docs/FORMAT.md is of a
+word that stands there, and a page links a word once. Each claim on docs/PROOF.md under the name of
+a crate begins with functions of that crate, and has clauses of their contracts in brackets. Each
+block of Rattle, C, Go, Python or Rust on README.md and docs/LIBRARIES.md stands in
+crates/rtnl_uses, apart from its contracts, or in examples/. The table of calls for C on
+docs/LIBRARIES.md has those of include/rtnl.h.
+
+Then each of these is tried: a fault is planted in a page or in the code, and must be found. The
+last line is 'N passed, M failed', and the status is 1 where a case failed.
+"""
+import os
+import posixpath
+import re
+import sys
+from typing import Callable, Dict, Iterator, List, NamedTuple, Set, Tuple
+
+sys.dont_write_bytecode = True
+sys.path.insert(0, f"{os.path.dirname(os.path.realpath(__file__))}/../launch")
+from contracts import Contracts, Texts
+from crates import ROOT, Crates, listed
+
+PROOF, THEOREMS = "docs/PROOF.md", "docs/THEOREMS.md"
+FORMAT, LIBRARIES = "docs/FORMAT.md", "docs/LIBRARIES.md"
+HEADER = "include/rtnl.h"
+GLOSSARY = "words"
+# Pages whose blocks of code are compared, and where the code of a block stands.
+SHOWING = ["README.md", LIBRARIES]
+SHOWN = {
+    "c": "examples/c/", "go": "examples/go/", "python": "examples/python/",
+    "rust": "crates/rtnl_uses/src/",
+}
+CODE = (".rt", ".antt", ".c", ".h", ".go", ".py", ".rs")
+
+FENCED = re.compile(r"^```.*?^```$", re.M | re.S)
+SPAN = re.compile(r"(`+)(?!`)(?:(?!\n\n).)*?(?<!`)\1(?!`)", re.S)
+LINK = re.compile(r"\[([^\[\]]*)\]\(([^()\s]*)\)|^\[([^\[\]]*)\]: *(\S+)", re.M)
+HEADING = re.compile(r"^(#+) +(.*?)(?: +#+)?$", re.M)
+CLAIM = re.compile(r"^- .*(?:\n  .*)*", re.M)
+NAME = re.compile(r"`([^`]+)`")
+BRACKET = re.compile(r"\(([^()]*`[^()]*)\)")
+NAMES = re.compile(r"`[a-z_]+`(?:, `[a-z_]+`)*")
+BLOCK = re.compile(r"^```(\w+)\n(.*?)^```$", re.M | re.S)
+# A contract, from the line behind a function's to the one before its body.
+CONTRACT = re.compile(r"(?:\n    (?:requires|ensures|//|    ).*)+\n\{$", re.M)
+
+
+class Link(NamedTuple):
+    """A link of a page: its text, the page or file it leads to, and the fragment behind it."""
+
+    text: str
+    to: str
+    fragment: str
+
+
+class Repository(NamedTuple):
+    """The files by their paths, the texts of the pages and of the code among them, the crates."""
+
+    files: Set[str]
+    texts: Texts
+    crates: Crates
+
+    def pages(self) -> List[str]:
+        return sorted(it for it in self.texts if it.endswith(".md"))
+
+    def promising(self) -> List[str]:
+        """The crates with definitions of their own, on each of which there are claims."""
+        return [it for it in self.crates if f"crates/{it}/specs" in self.files]
+
+
+def read_repository() -> Repository:
+    files: Set[str] = set()
+    texts: Texts = {}
+    for at, folders, names in os.walk(ROOT):
+        folders[:] = [it for it in folders if it not in ("out", ".git")]
+        inside = os.path.relpath(at, ROOT)
+        files.add(inside)
+        for name in names:
+            path = posixpath.normpath(f"{inside}/{name}")
+            files.add(path)
+            if name.endswith((".md", *CODE)):
+                with open(f"{ROOT}/{path}", encoding="utf-8") as text:
+                    texts[path] = text.read()
+    return Repository(files, texts, listed())
+
+
+# The links.
+
+
+def prose(text: str) -> str:
+    """A page without its code, each piece of which is a blank."""
+    return SPAN.sub(" ", FENCED.sub(" ", text))
+
+
+def anchors(text: str) -> Set[str]:
+    """The anchors that GitHub makes of a page's headings."""
+    found: Dict[str, int] = {}
+    for heading in HEADING.finditer(FENCED.sub(" ", text)):
+        words = LINK.sub(r"\1", heading[2]).lower().strip()
+        anchor = re.sub(r"[^\w\- ]", "", words).replace(" ", "-")
+        count = found.get(anchor, 0)
+        found[anchor] = count + 1
+        if count:
+            found[f"{anchor}-{count}"] = 1
+    return set(found)
+
+
+def links(page: str, text: str) -> Iterator[Link]:
+    """The links of a page that lead to this repository."""
+    for found in LINK.finditer(prose(text)):
+        shown, target = (found[1], found[2]) if found[3] is None else (found[3], found[4])
+        if re.match(r"[a-z][a-z0-9+.-]*:", target):
+            continue
+        path, _, fragment = target.partition("#")
+        to = posixpath.normpath(posixpath.join(posixpath.dirname(page), path)) if path else page
+        yield Link(" ".join(shown.split()), to if target else "nowhere", fragment)
+
+
+def lost_links(repository: Repository, page: str) -> Iterator[str]:
+    """The links of a page that lead nowhere."""
+    for link in links(page, repository.texts[page]):
+        heads = anchors(repository.texts.get(link.to, ""))
+        if link.to not in repository.files:
+            yield f"[{link.text}] leads to {link.to}, which is not there"
+        elif link.fragment and link.fragment not in heads:
+            yield f"[{link.text}] leads to {link.to}, which has no heading {link.fragment}"
+
+
+# The glossary.
+
+
+def glossary(text: str) -> List[Set[str]]:
+    """The words of the glossary: those of a row are forms of one."""
+    section = re.search(r"^## Words$(.*?)^## ", text, re.M | re.S)
+    rows = re.findall(r"^\| ([^|]*) \|", section[1], re.M) if section else []
+    return [set(row.split(", ")) for row in rows if row != "word"]
+
+
+def singular(word: str) -> str:
+    return re.sub(r"ies$", "y", word) if word.endswith("ies") else re.sub(r"s$", "", word)
+
+
+def lost_words(repository: Repository, page: str) -> Iterator[str]:
+    """What is wrong with a page's links to the glossary."""
+    words = glossary(repository.texts[FORMAT])
+    seen: Set[int] = set()
+    for link in links(page, repository.texts[page]):
+        if (link.to, link.fragment) != (FORMAT, GLOSSARY) or link.text == "glossary":
+            continue
+        text = link.text.lower()
+        rows = {at for at, forms in enumerate(words) if {text, singular(text)} & forms}
+        if not rows:
+            yield f"[{link.text}] is no word of the glossary"
+        elif seen & rows:
+            yield f"[{link.text}] is linked twice"
+        seen |= rows
+
+
+# The claims.
+
+
+def sections(text: str) -> Iterator[Tuple[str, str]]:
+    """The headings of a page, and what stands under each, without blocks of code."""
+    text = FENCED.sub(" ", text)
+    heads = [*HEADING.finditer(text)]
+    for head, following in zip(heads, [*heads[1:], None]):
+        yield head[2], text[head.end():following.start() if following else len(text)]
+
+
+def wrong_calls(contracts: Contracts, crate: str, calls: List[str]) -> Iterator[str]:
+    """The calls that the crate doesn't have, and those without a contract."""
+    for call in calls:
+        found = contracts.named(crate, call)
+        if not found:
+            yield f"{crate} has no function {call}"
+        elif not all(re.search(r"\bensures\b", it.contract) for it in found):
+            yield f"{call} of {crate} promises nothing"
+
+
+def wrong_clauses(contracts: Contracts, crate: str, calls: List[str], names: str) -> Iterator[str]:
+    """The names that are no clauses of one of the calls."""
+    for call in calls:
+        for function in contracts.named(crate, call):
+            for name in NAME.findall(names):
+                if name not in contracts.clauses(crate, function):
+                    yield f"{'::'.join(function.path)} of {crate} has no clause {name}"
+
+
+def wrong_claim(contracts: Contracts, crate: str, claim: str) -> Iterator[str]:
+    """What is wrong with a claim: it begins with the calls that it is of, and a colon."""
+    lead, _, body = claim.partition(": ")
+    calls = NAME.findall(lead)
+    if not calls or not body or "(" in lead:
+        yield f"it doesn't begin with calls and a colon: {claim}"
+        return
+    yield from wrong_calls(contracts, crate, calls)
+    for found in BRACKET.finditer(body):
+        if NAMES.fullmatch(found[1]):
+            yield from wrong_clauses(contracts, crate, calls, found[1])
+        else:
+            yield f"brackets with a name hold names of clauses alone: ({found[1]})"
+
+
+def wrong_claims(repository: Repository, crate: str) -> Iterator[str]:
+    """What is wrong with the claims on a crate, one of which must be there."""
+    contracts = Contracts(repository.crates, repository.texts)
+    body = "".join(text for name, text in sections(repository.texts[PROOF]) if name == crate)
+    claims = [" ".join(it[2:].split()) for it in CLAIM.findall(body)]
+    if not claims:
+        yield f"there is no claim on {crate}"
+    for claim in claims:
+        yield from wrong_claim(contracts, crate, claim)
+    for found in BRACKET.finditer(CLAIM.sub("", body)):
+        if NAMES.fullmatch(found[1]):
+            yield f"clauses are named outside of a claim: ({found[1]})"
+
+
+# The blocks of code.
+
+
+def sources(repository: Repository, sort: str) -> Iterator[str]:
+    """The code of which a block of this sort is one, Rattle without its contracts."""
+    for path, text in repository.texts.items():
+        if path.startswith(SHOWN[sort]):
+            yield CONTRACT.sub(" {", text) if path.endswith(".rt") else text
+        elif sort == "rust" and path.startswith("examples/rust/"):
+            yield text
+
+
+def strange_blocks(repository: Repository, page: str) -> Iterator[str]:
+    """The blocks of code that stand in no source."""
+    blocks = BLOCK.findall(repository.texts[page])
+    for sort, block in blocks:
+        if sort in SHOWN and not any(block in it for it in sources(repository, sort)):
+            yield f"no code has this block of {sort}: {block.splitlines()[0]}"
+    if page == LIBRARIES and not {"rust", "c"} <= {sort for sort, _ in blocks}:
+        yield "it has no block of Rattle, or none of C"
+
+
+def lost_calls(repository: Repository, page: str) -> Iterator[str]:
+    """The calls of the header that the page's table of them lacks, and those that it made up."""
+    table = "".join(text for name, text in sections(repository.texts[page]) if name == "The calls")
+    declared = set(re.findall(r"\brtnl_\w+(?=\()", repository.texts[HEADER]))
+    shown = set(re.findall(r"`(rtnl_\w+)`", table))
+    yield from (f"{it} is not in the table" for it in sorted(declared - shown))
+    yield from (f"{it} is not in the header" for it in sorted(shown - declared))
+
+
+# The cases.
+
+Check = Callable[[Repository, str], Iterator[str]]
+# What is tested of each page or crate.
+TESTS: List[Tuple[str, Check, Callable[[Repository], List[str]]]] = [
+    ("the links of", lost_links, Repository.pages),
+    ("words of the glossary on", lost_words, Repository.pages),
+    ("the claims on", wrong_claims, Repository.promising),
+    ("the code on", strange_blocks, lambda _: SHOWING),
+    ("the calls for C on", lost_calls, lambda _: [LIBRARIES]),
+]
+
+
+class Fault(NamedTuple):
+    """A change of a file, which the check of a page or a crate must find."""
+
+    name: str
+    of: str
+    path: str
+    old: str
+    new: str
+
+
+FAULTS: Dict[Check, List[Fault]] = {
+    lost_links: [
+        Fault("a link to no file", PROOF, PROOF, "(THEOREMS.md)", "(THEOREM.md)"),
+        Fault("a link to no heading", PROOF, PROOF, "#the-headline)", "#a-headline)"),
+        Fault("a link within a page", PROOF, PROOF, "(#nl_dump)", "(#nl_dumps)"),
+        Fault("a link out of the repository", PROOF, PROOF, "(../tests/", "(../../tests/"),
+        Fault("a link that leads nowhere", PROOF, PROOF, "(THEOREMS.md)", "()"),
+        Fault("a link by a reference", PROOF, PROOF, "\n## What is neither",
+              "\n[x]: X.md\n\n## What is neither"),
+        Fault("a link in two lines", PROOF, PROOF, "[GATE.md](GATE", "[THE\nGATE.md](THE_GATE"),
+        Fault("a heading that was renamed", PROOF, THEOREMS, "## The headline", "## The sentence"),
+        Fault("a heading in code alone", PROOF, THEOREMS, "## The headline",
+              "```\n## The headline\n```"),
+    ],
+    lost_words: [
+        Fault("a word that the glossary lost", PROOF, FORMAT, "| canonical |", "| canonic |"),
+        Fault("a word that the glossary never had", PROOF, PROOF, "[canonical](", "[canon]("),
+        Fault("a word that is linked twice", PROOF, PROOF, "[canonical](", "[faults]("),
+    ],
+    wrong_claims: [
+        Fault("a clause that was renamed", "nl_frame", "crates/nl_frame/src/canonical.rt",
+              "ensures canonical {", "ensures written {"),
+        Fault("a clause in a comment alone", "nl_frame", "crates/nl_frame/src/canonical.rt",
+              "    ensures canonical {", "    // ensures canonical {"),
+        Fault("a clause of one head alone", "nl_route", "crates/nl_route/src/ndmsg.rt",
+              "ensures { IsHeadOf", "ensures { IsHead"),
+        Fault("a clause of another function", "nl_attr", PROOF, "one sum (`some`, `only`)",
+              "one sum (`some`, `front`)"),
+        Fault("a field that was renamed", "nl_attr", "crates/nl_attr/specs/Walk.antt",
+              "pub walk :", "pub goes :"),
+        Fault("a field of a crate below", "nl_route", "crates/nl_attr/specs/Writes.antt",
+              "pub again :", "pub fits :"),
+        Fault("a function that was renamed", "nl_table", "crates/nl_table/src/laws.rt",
+              "pub fn keys_tell_apart", "pub fn keys_differ"),
+        Fault("a function of another type", "nl_dump", PROOF, "- `Session::complete`:",
+              "- `Table::complete`:"),
+        Fault("a function without a contract", "nl_attr", PROOF, "- `find`:",
+              "- `OpenRegions::new`:"),
+        Fault("a claim on another crate", "nl_route", PROOF, "### nl_table", "### nl_route"),
+        Fault("a crate without a claim", "nl_table", PROOF, "### nl_table", "### Tables"),
+        Fault("a claim without a function", "nl_attr", PROOF, "- `find`: the", "- The"),
+        Fault("brackets with more than names", "nl_route", PROOF, "(`says`)", "(its `says`)"),
+        Fault("a clause outside of a claim", "nl_route", PROOF, "Each [view]",
+              "(`says`) Each [view]"),
+    ],
+    strange_blocks: [
+        Fault("another line of Rattle", LIBRARIES, "crates/rtnl_uses/src/attributes.rt",
+              "count += 1;", "count += 2;"),
+        Fault("a contract that is shown", LIBRARIES, LIBRARIES, "Result<usize, Fault> {\n",
+              "Result<usize, Fault>\n    requires { length region.now ≤ LONGEST_REGION }\n{\n"),
+        Fault("another line of C", LIBRARIES, "examples/c/reader.c", "putchar('\\n');",
+              "putchar(' ');"),
+        Fault("another line of Go", LIBRARIES, "examples/go/links.go", "#cgo pkg-config: rtnl",
+              "#cgo LDFLAGS: -lrtnl"),
+        Fault("another line of Python", LIBRARIES, "examples/python/links.py",
+              "restype = Taped", "restype = Event"),
+        Fault("another line of Rust", LIBRARIES, "examples/rust/links.rs", "*const Options",
+              "*mut Options"),
+        Fault("a page without Rattle", LIBRARIES, LIBRARIES, "```rust\n", "```text\n"),
+    ],
+    lost_calls: [
+        Fault("a call that is missing", LIBRARIES, LIBRARIES, "`rtnl_check`", "it"),
+        Fault("a call that was removed", LIBRARIES, HEADER, " rtnl_check(", " rtnl_find("),
+    ],
+}
+
+
+def is_found(check: Check, fault: Fault, repository: Repository) -> bool:
+    """Whether the check finds something with the fault in place that it doesn't find without."""
+    text = repository.texts.get(fault.path, "")
+    texts = {**repository.texts, fault.path: text.replace(fault.old, fault.new)}
+    before = set(check(repository, fault.of))
+    after = set(check(repository._replace(texts=texts), fault.of))
+    return fault.old in text and bool(after - before)
+
+
+def cases(repository: Repository) -> Iterator[Tuple[str, List[str]]]:
+    """Each case: its name, and what is wrong."""
+    for name, check, subjects in TESTS:
+        for subject in subjects(repository):
+            yield f"{name} {subject}", [*check(repository, subject)]
+    for check, faults in FAULTS.items():
+        for fault in faults:
+            wrong = [] if is_found(check, fault, repository) else ["it is not, or isn't planted"]
+            yield f"{fault.name} is found", wrong
+
+
+def main() -> int:
+    passed = failed = 0
+    for name, wrong in cases(read_repository()):
+        passed, failed = passed + (not wrong), failed + bool(wrong)
+        if wrong:
+            print(f"failed: {name}", *wrong, sep="\n  ")
+    print(f"{passed} passed, {failed} failed")
+    return 1 if failed else 0
+
+
+if __name__ == "__main__":
+    sys.exit(main())
