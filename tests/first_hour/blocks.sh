@@ -32,11 +32,18 @@ is_possible() {
   [[ ${commands[*]} != *"strace "* ]] || can_trace "$1"
 }
 
+# is_left COMMAND: it is a script measure/NAME.sh, which takes long; a block that begins with it is
+# left to tests/NAME.sh, where that runs it.
+is_left() {
+  [[ $1 =~ ^measure/([a-z_]+\.sh) ]] && grep -qs "${BASH_REMATCH[0]}" "tests/${BASH_REMATCH[1]}"
+}
+
 # run_block PAGE: the commands of one block, in turn. An empty line in front of the next command is no output.
 run_block() {
   local page=$1 number command live=no shown='' came=''
   count=$((count + ${#commands[@]}))
   [[ ${commands[*]-} == *@(record.py|rtmon|strace)* ]] && live=yes
+  ! is_left "${commands[0]-}" || return 0
   [ "${#commands[@]}" = 0 ] || is_possible "line ${lines[0]} of $page" || return 0
   for number in "${!commands[@]}"; do
     printf '%s' "${texts[number]}" | sed '${/^$/d}' >"$folder/expected"
