@@ -61,9 +61,6 @@ else
   install_note='install: the program is not proved on this machine; --proved proves it first'
 fi
 
-# has COMMAND WHAT: the command is here, or a line says that this is skipped.
-has() { command -v "$1" >/dev/null || ! echo "skipped: $2, since $1 is not here"; }
-
 # has_namespace WHAT: this runs in a network namespace with the loopback link up, or a line says that it does not.
 has_namespace() {
   [ "$inside" = yes ] || ! echo "skipped: $1, since no network namespace can be made here"
@@ -77,6 +74,7 @@ inside=no
 [ "${1-}" = inside ] && ip link set lo up && inside=yes
 
 . tests/first_hour/blocks.sh
+. tests/first_hour/commands.sh
 . tests/first_hour/pages.sh
 . tests/first_hour/elsewhere.sh
 . tests/first_hour/installation.sh

@@ -1,4 +1,4 @@
-# The commands that README.md and the manual page show behind `$ `, and what is shown behind them. A block is live
+# The commands that a page shows behind `$ `, and what is shown behind them. A block is live
 # where it asks the kernel of this machine; of its output the words behind `bytes`, `seq`, `port`, `entries`,
 # `received` and `visits` are not compared, and a port id that it shows in a comment of a recording stands for the one
 # that comes.
@@ -21,6 +21,9 @@ shows() {
   (cd "$user" && PATH=$user:$PATH bash -c "$1") >"$folder/found" 2>&1 </dev/null
   diff <(masked "$folder/expected") <(masked "$folder/found")
 }
+
+# has COMMAND WHAT: the command is here, or a line says that this is skipped.
+has() { command -v "$1" >/dev/null || ! echo "skipped: $2, since $1 is not here"; }
 
 # is_possible BLOCK: its commands can run here, or a line says that it is skipped.
 is_possible() {
@@ -55,6 +58,9 @@ run_block() {
   done
 }
 
+# is_open COMMAND: its next line is a part of it, behind a backslash or in a here-document that ends with END.
+is_open() { [[ $1 == *\\ || ($1 == *"<<'END'"* && $1 != *$'\nEND') ]]; }
+
 # run_page NAME <TEXT: each block of the text, which stands between lines that begin with ```.
 run_page() {
   local line number=0 within=no last
@@ -70,7 +76,7 @@ run_page() {
       yes,*)
         if [ "$last" -lt 0 ]; then
           :
-        elif [[ ${commands[last]} == *\\ && -z ${texts[last]} ]]; then
+        elif is_open "${commands[last]}" && [ -z "${texts[last]}" ]; then
           commands[last]+=$'\n'$line
         else
           texts[last]+=$line$'\n'
@@ -85,23 +91,3 @@ page_as_text() { sed -e 's/^\.Bd .*/```/; s/^\.Ed$/```/; s/\\e/\\/g; s/\\&//g; s
 
 # runs_all FILE: all its lines that look like a command were taken for one.
 runs_all() { [ "$count" -gt 0 ] && [ "$count" = "$(grep -c '^\$ ' "$1")" ]; }
-
-# finds_change SECTION CHANGE: with this change the commands of a section of README.md don't show what it says.
-finds_change() {
-  (
-    failed=0
-    run_page 'a changed section' < <(sed -n "/^### $1\$/,/^##/p" README.md | sed "$2") >/dev/null
-    [ "$failed" = 1 ]
-  )
-}
-
-run_page README.md <README.md
-check 'commands of README.md' runs_all README.md
-run_page 'the manual page' < <(page_as_text share/man/man1/rtnl.1)
-check 'commands of the manual page' runs_all share/man/man1/rtnl.1
-check 'a changed refusal is found' finds_change Show 's/^refused bad length at 0$/refused bad length at 4/'
-check 'a missing line is found' finds_change Check '/^datagram 1 accepted$/d'
-if has_namespace 'a changed live block'; then
-  check 'a change in a live block is found' finds_change Record 's/^complete yes$/complete no/'
-  check 'a change of a word that is compared is found' finds_change Record 's/ missed 0 / missed 1 /'
-fi

@@ -1,0 +1,24 @@
+# The commands of README.md and of the manual page.
+
+# finds_change SECTION CHANGE: with this change the commands of a section of README.md don't show
+# what it says.
+finds_change() {
+  (
+    failed=0
+    run_page 'a changed section' < <(sed -n "/^### $1\$/,/^##/p" README.md | sed "$2") >/dev/null
+    [ "$failed" = 1 ]
+  )
+}
+
+run_page README.md <README.md
+check 'commands of README.md' runs_all README.md
+run_page 'the manual page' < <(page_as_text share/man/man1/rtnl.1)
+check 'commands of the manual page' runs_all share/man/man1/rtnl.1
+check 'a changed refusal is found' finds_change Show \
+  's/^refused bad length at 0$/refused bad length at 4/'
+check 'a missing line is found' finds_change Check '/^datagram 1 accepted$/d'
+if has_namespace 'a changed live block'; then
+  check 'a change in a live block is found' finds_change Record 's/^complete yes$/complete no/'
+  check 'a change of a word that is compared is found' finds_change Record \
+    's/ missed 0 / missed 1 /'
+fi
