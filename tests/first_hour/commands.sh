@@ -5,7 +5,7 @@
 finds_change() {
   (
     failed=0
-    run_page 'a changed section' < <(sed -n "/^### $1\$/,/^##/p" README.md | sed "$2") >/dev/null
+    run_page 'a changed section' < <(sed -n "/^## $1\$/,/^## /p" README.md | sed "$2") >/dev/null
     [ "$failed" = 1 ]
   )
 }
@@ -14,11 +14,12 @@ run_page README.md <README.md
 check 'commands of README.md' runs_all README.md
 run_page 'the manual page' < <(page_as_text share/man/man1/rtnl.1)
 check 'commands of the manual page' runs_all share/man/man1/rtnl.1
-check 'a changed refusal is found' finds_change Show \
+check 'a changed refusal is found' finds_change 'The command' \
   's/^refused bad length at 0$/refused bad length at 4/'
-check 'a missing line is found' finds_change Check '/^datagram 1 accepted$/d'
+check 'a missing line is found' finds_change 'The command' '/^datagram 1 accepted$/d'
 if has_namespace 'a changed live block'; then
-  check 'a change in a live block is found' finds_change Record 's/^complete yes$/complete no/'
-  check 'a change of a word that is compared is found' finds_change Record \
+  check 'a change in a live block is found' finds_change 'From a capture' \
+    's/^complete yes$/complete no/'
+  check 'a change of a word that is compared is found' finds_change 'From a capture' \
     's/ missed 0 / missed 1 /'
 fi
