@@ -13,7 +13,7 @@ unset RTNL_PATH RTNL_BUILD
 tests/proved.py >/dev/null || exit 1
 
 if [ "${1-}" != inside ]; then
-  tests/packages.sh mandoc mandoc xxd xxd jq jq strace strace ip iproute2 \
+  tests/packages.sh mandoc mandoc xxd xxd jq jq strace strace tshark tshark ip iproute2 \
     /usr/share/bash-completion/bash_completion bash-completion zsh zsh fish fish
   # The first run builds the program where it isn't built from these sources.
   ./rtnl --version >/dev/null || exit 1

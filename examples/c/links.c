@@ -66,8 +66,10 @@ static int print_datagram(size_t len)
 		struct rtnl_family family = rtnl_family_of(message.kind);
 		if (message.kind == NLMSG_DONE)
 			return 1;
-		if (message.kind == NLMSG_ERROR)
+		if (message.kind == NLMSG_ERROR) {
+			fputs("the kernel answers with an error\n", stderr);
 			return -1;
+		}
 		if (message.kind == RTM_NEWLINK)
 			print_link(bytes + message.place + 16 + family.head_size,
 			           message.len - family.head_size);

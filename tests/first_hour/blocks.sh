@@ -1,7 +1,6 @@
 # The commands that a page shows behind `$ `, and what is shown behind them. A block is live
-# where it asks the kernel of this machine; of its output the words behind `bytes`, `seq`, `port`, `entries`,
-# `received` and `visits` are not compared, and a port id that it shows in a comment of a recording stands for the one
-# that comes.
+# where it asks the kernel of this machine; of its output the words behind `bytes`, `seq`, `port`,
+# `entries`, `received` and `visits` are not compared.
 
 # masked FILE: what is compared of it.
 masked() {
@@ -10,11 +9,10 @@ masked() {
   sed -E "/^($notes)\$/d; $numbers" "$1"
 }
 
-# What is said of a program that is proved or not, which the other scripts here compare.
-notes='rtnl: this program is (not )?proved on this machine|install: the program is not proved on this machine;.*'
-
-# port_in FILE: the port id in a comment of a recording.
-port_in() { sed -n 's/^# seq [0-9]* port //p' "$1" | head -n 1; }
+# What isn't compared: what is said of a program that is proved or not, which the other scripts
+# here compare, and what tshark says to root.
+notes='rtnl: this program is (not )?proved on this machine|Running as user .*'
+notes+='|install: the program is not proved on this machine;.*'
 
 # shows COMMAND: it prints what is expected, on standard output and standard error together.
 shows() {
@@ -29,7 +27,7 @@ has() { command -v "$1" >/dev/null || ! echo "skipped: $2, since $1 is not here"
 is_possible() {
   local tool
   [ "$live" = no ] || has_namespace "$1" || return
-  for tool in rtmon xxd jq; do
+  for tool in rtmon xxd jq tshark; do
     [[ ${commands[*]} != *"$tool "* ]] || has "$tool" "$1" || return
   done
   [[ ${commands[*]} != *"strace "* ]] || can_trace "$1"
@@ -43,7 +41,7 @@ is_left() {
 
 # run_block PAGE: the commands of one block, in turn. An empty line in front of the next command is no output.
 run_block() {
-  local page=$1 number command live=no shown='' came=''
+  local page=$1 number command live=no
   count=$((count + ${#commands[@]}))
   [[ ${commands[*]-} == *@(record.py|rtmon|strace)* ]] && live=yes
   ! is_left "${commands[0]-}" || return 0
@@ -51,10 +49,7 @@ run_block() {
   for number in "${!commands[@]}"; do
     printf '%s' "${texts[number]}" | sed '${/^$/d}' >"$folder/expected"
     command=${commands[number]}
-    [ -z "$shown" ] || command=${command//--port $shown/--port $came}
     check "line ${lines[number]} of $page: $command" shows "$command"
-    shown=${shown:-$(port_in "$folder/expected")}
-    came=${came:-$(port_in "$folder/found")}
   done
 }
 

@@ -1,4 +1,5 @@
-# What README.md and the manual page say of files of rtmon and of traces, in the network namespace.
+# What README.md and the manual page say of captures, and of files of rtmon and of traces, in the
+# network namespace.
 
 # shown_of_rtmon: what its file shows, as one line of hexadecimal.
 shown_of_rtmon() { xxd -p -c0 "$folder/rtmon" | "$user/rtnl" show; }
@@ -72,6 +73,13 @@ is_traced() {
     grep -q '^message 3 done ' "$folder/shown"
 }
 
+# A capture holds the datagrams of a recording, as tshark reads it.
+is_captured() {
+  tshark -r examples/links.pcap -T json -x 2>/dev/null |
+    jq -r '.[]._source.layers.frame_raw[0][32:]' | diff examples/links.hex -
+}
+
+if has tshark 'a capture' && has jq 'a capture'; then check 'a capture' is_captured; fi
 if has_namespace 'recordings from elsewhere'; then
   if has rtmon 'files of rtmon' && has xxd 'files of rtmon'; then
     check 'a file of rtmon' is_rtmon_shown
