@@ -14,6 +14,8 @@ if [ "$(id -u)" != 0 ] || ! command -v apt-get >/dev/null; then
   exit 0
 fi
 echo "installing: ${missing[*]}"
+# Scripts that run side by side take turns: apt-get fails where another one runs.
+exec 9<"${BASH_SOURCE[0]}" && flock 9
 export DEBIAN_FRONTEND=noninteractive
 install=(timeout 300 apt-get install -y --no-install-recommends "${missing[@]}")
 {
