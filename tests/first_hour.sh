@@ -80,6 +80,8 @@ inside=no
 . tests/first_hour/pages.sh
 . tests/first_hour/elsewhere.sh
 . tests/first_hour/installation.sh
+. tests/first_hour/manual.sh
+. tests/first_hour/module.sh
 . tests/first_hour/completions.sh
 . tests/first_hour/kit.sh
 . tests/first_hour/launcher.sh

@@ -26,7 +26,7 @@ sys.dont_write_bytecode = True
 ROOT = os.path.dirname(os.path.dirname(os.path.realpath(__file__)))
 COMMANDS = "show", "check", "table"
 # Files that show lines, and what stands in front of one.
-PAGES = "README.md", "tests/rows/json.rows"
+PAGES = "README.md", "share/man/man1/rtnl.1", "tests/rows/json.rows"
 SHOWN = re.compile(r'(?:= )?(\{".*)')
 # The libraries, and the Python of Debian, to which its packages of them belong.
 LIBRARIES = "fastjsonschema", "jsonschema"

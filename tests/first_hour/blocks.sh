@@ -1,7 +1,7 @@
-# The commands that README.md and the manual page show behind `$ `, and what is shown behind them. A block is live
-# where it asks the kernel of this machine; of its output the words behind `bytes`, `seq`, `port`, `entries`,
-# `received` and `visits` are not compared, and a port id that it shows in a comment of a recording stands for the one
-# that comes.
+# The commands that README.md shows behind `$ `, and what is shown behind them; those of the manual page are run by
+# manual.sh. A block is live where it asks the kernel of this machine; of its output the words behind `bytes`, `seq`,
+# `port`, `entries`, `received` and `visits` are not compared, and a port id that it shows in a comment of a recording
+# stands for the one that comes.
 
 # masked FILE: what is compared of it.
 masked() {
@@ -48,6 +48,12 @@ run_block() {
   done
 }
 
+# goes_on COMMAND: it is not whole yet, since it ends with a backslash or a pipe, or a quotation in it is open.
+goes_on() {
+  local quotes=${1//[!\']/}
+  [[ $1 == *[\\\|] ]] || ((${#quotes} % 2))
+}
+
 # run_page NAME <TEXT: each block of the text, which stands between lines that begin with ```.
 run_page() {
   local line number=0 within=no last
@@ -63,7 +69,7 @@ run_page() {
       yes,*)
         if [ "$last" -lt 0 ]; then
           :
-        elif [[ ${commands[last]} == *\\ && -z ${texts[last]} ]]; then
+        elif [ -z "${texts[last]}" ] && goes_on "${commands[last]}"; then
           commands[last]+=$'\n'$line
         else
           texts[last]+=$line$'\n'
@@ -90,8 +96,6 @@ finds_change() {
 
 run_page README.md <README.md
 check 'commands of README.md' runs_all README.md
-run_page 'the manual page' < <(page_as_text share/man/man1/rtnl.1)
-check 'commands of the manual page' runs_all share/man/man1/rtnl.1
 check 'a changed refusal is found' finds_change Show 's/^refused bad length at 0$/refused bad length at 4/'
 check 'a missing line is found' finds_change Check '/^datagram 1 accepted$/d'
 if has_namespace 'a changed live block'; then
