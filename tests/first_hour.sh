@@ -27,9 +27,9 @@ folder=$(mktemp -d) || exit 1
 trap 'rm -rf "$folder"' EXIT
 . tests/counting.sh
 
-# A folder of a user, with links to the launcher and to the installation.
+# A folder of a user, with links to the launcher, to the installation and to what that installs.
 user=$folder/user
-mkdir "$user" && cp -r examples "$user" && ln -s "$top/rtnl" "$top/install" "$user" || exit 1
+mkdir "$user" && cp -r examples "$user" && ln -s "$top/rtnl" "$top/install" "$top/share" "$user" || exit 1
 
 # ends STATUS OUTPUT ERRORS COMMAND..: the command ends with this status and writes exactly these texts.
 ends() {
@@ -78,6 +78,8 @@ inside=no
 . tests/first_hour/pages.sh
 . tests/first_hour/elsewhere.sh
 . tests/first_hour/installation.sh
+. tests/first_hour/manual.sh
+. tests/first_hour/module.sh
 . tests/first_hour/completions.sh
 . tests/first_hour/kit.sh
 . tests/first_hour/launcher.sh

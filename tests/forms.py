@@ -2,9 +2,9 @@
 """Compares the two forms in which the built program prints the same. Each run of `show`, `check`
 and `table` is made as text and as lines of JSON, and the text is written anew from the JSON alone,
 by docs/FORMAT.md. It must be the printed one to the byte, with the same status and errors, and
-each line of the JSON must be written in the one way that an object of its fields can be. The
-datagrams are those of compare.py, and hostile ones of its own. The last line is 'N passed, M
-failed', and the status is 1 where a case failed.
+each line of the JSON must be written in the one way that an object of its fields can be, and be
+one that share/rtnl.schema.json allows. The datagrams are those of compare.py, and hostile ones of
+its own. The last line is 'N passed, M failed', and the status is 1 where a case failed.
 """
 import glob
 import itertools
@@ -16,6 +16,7 @@ import sys
 sys.dont_write_bytecode = True
 import compare
 import reference
+import schema
 
 # Of the cases of compare.py each so many-th datagram is taken, and each so many-th run of a table;
 # but all of these cases.
@@ -23,6 +24,8 @@ DATAGRAM, RUN = 2, 8
 WHOLE = "recorded", "large"
 REASONS = "cut", "bad length", "short body", "too long", "too deep"
 PLACELESS = "too large", "total"
+# What the schema allows of each command, where it can be read, and the lines that it was asked of.
+ALLOWED, ASKED = {}, set()
 
 
 class Unlike(ValueError):
@@ -40,7 +43,16 @@ def object_of(pairs):
     return found
 
 
-def objects(text):
+def check_by_schema(command, line, found):
+    """A line that another run had is not looked at again."""
+    if ALLOWED and (command, line) not in ASKED:
+        ASKED.add((command, line))
+        fault = ALLOWED[command].fault(found)
+        if fault:
+            raise Unlike(f"the schema does not allow {line[:200]}: {fault}")
+
+
+def objects(command, text):
     """The objects on the lines of a text, each of them written in the one way."""
     if text and not text.endswith("\n"):
         raise Unlike("no newline at the end")
@@ -50,6 +62,7 @@ def objects(text):
             raise Unlike(f"another way to write {line[:200]}")
         if type(found) is not dict:
             raise Unlike(f"no object: {line[:200]}")
+        check_by_schema(command, line, found)
         yield found
 
 
@@ -303,7 +316,7 @@ def difference(arguments, recording, sizes):
     if ends[0] != ends[1]:
         return f"the text ends with {ends[0]}, the JSON with {ends[1]}"
     try:
-        found = objects(lines.stdout.decode())
+        found = objects(arguments[0], lines.stdout.decode())
         again = [*WRITERS[arguments[0]](found, dict(enumerate(sizes, 1))), ""]
     except ValueError as error:
         return str(error)
@@ -480,6 +493,8 @@ def cases(order):
 
 
 def main():
+    if schema.has_libraries():
+        ALLOWED.update({command: schema.Allowed(command) for command in WRITERS})
     passed = failed = 0
     for order in compare.ORDERS:
         for title, answers in cases(order):

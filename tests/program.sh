@@ -22,12 +22,14 @@ holds() {
   esac
 }
 
-# ends STATUS OUTPUT ERRORS COMMAND..: the command ends with this status and writes these texts.
+# ends STATUS OUTPUT ERRORS COMMAND..: the command ends with this status and writes these texts. Lines of JSON
+# are kept for the schema.
 ends() {
   local status=$1 output=$2 errors=$3 found
   shift 3
   "$@" >"$folder/output" 2>"$folder/errors"
   found=$?
+  [[ $* != *--format[\ =]json* ]] || cat "$folder/output" >>"$folder/json"
   [ "$found" = "$status" ] && holds "$folder/output" "$output" && holds "$folder/errors" "$errors"
 }
 
@@ -155,5 +157,6 @@ bad_first_line='rtnl: line 1: bad line'
 . tests/program/request.sh
 . tests/program/json.sh
 . tests/program/explain.sh
+check 'each line of JSON is one that the schema allows' tests/schema.py "$folder/json"
 
 finish

@@ -39,7 +39,8 @@ flags() { PKG_CONFIG_PATH=$prefix/lib/pkgconfig pkg-config "$@" rtnl; }
 
 version=$(sed -n 's/^## //p' CHANGELOG.md | head -n 1)
 program_things=(bin/rtnl share/man/man1/rtnl.1 share/bash-completion/completions/rtnl
-  share/zsh/site-functions/_rtnl share/fish/vendor_completions.d/rtnl.fish)
+  share/zsh/site-functions/_rtnl share/fish/vendor_completions.d/rtnl.fish
+  share/rtnl/rtnl.jq share/rtnl/rtnl.schema.json)
 
 library=$(each installed "${library_things[@]}")
 

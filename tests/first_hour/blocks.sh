@@ -53,8 +53,16 @@ run_block() {
   done
 }
 
-# is_open COMMAND: its next line is a part of it, behind a backslash or in a here-document that ends with END.
-is_open() { [[ $1 == *\\ || ($1 == *"<<'END'"* && $1 != *$'\nEND') ]]; }
+# is_open COMMAND: its next line is a part of it: behind a backslash or a pipe, in a quotation, or in
+# a here-document that ends with END.
+is_open() {
+  local quotes=${1//[!\']/}
+  if [[ $1 == *"<<'END'"* ]]; then
+    [[ $1 != *$'\nEND' ]]
+  else
+    [[ $1 == *[\\\|] ]] || ((${#quotes} % 2))
+  fi
+}
 
 # run_page NAME <TEXT: each block of the text, which stands between lines that begin with ```.
 run_page() {

@@ -1,4 +1,4 @@
-# The commands of README.md and of the manual page.
+# The commands of README.md.
 
 # finds_change SECTION CHANGE: with this change the commands of a section of README.md don't show
 # what it says.
@@ -12,10 +12,8 @@ finds_change() {
 
 run_page README.md <README.md
 check 'commands of README.md' runs_all README.md
-run_page 'the manual page' < <(page_as_text share/man/man1/rtnl.1)
-check 'commands of the manual page' runs_all share/man/man1/rtnl.1
-check 'a changed refusal is found' finds_change 'The command' \
-  's/^refused bad length at 0$/refused bad length at 4/'
+check 'a changed refusal is found' finds_change 'What a broken datagram gives' \
+  's/^datagram 1 refused bad length at 40$/datagram 1 refused bad length at 44/'
 check 'a missing line is found' finds_change 'The command' '/^datagram 1 accepted$/d'
 if has_namespace 'a changed live block'; then
   check 'a change in a live block is found' finds_change 'From a capture' \

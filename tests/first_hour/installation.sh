@@ -2,7 +2,7 @@
 
 prefix=$folder/prefix
 things=(bin/rtnl share/man/man1/rtnl.1 share/bash-completion/completions/rtnl share/zsh/site-functions/_rtnl
-  share/fish/vendor_completions.d/rtnl.fish share/rtnl/installed)
+  share/fish/vendor_completions.d/rtnl.fish share/rtnl/rtnl.jq share/rtnl/rtnl.schema.json share/rtnl/installed)
 
 # listed FOLDER: everything in it, with its kind, its mode and the sum of a file.
 listed() { (cd "$1" && find . -printf '%p %y %m\n' -type f -exec sha256sum {} \; | sort); }
@@ -58,12 +58,6 @@ leaves_changed() {
     rm -r "$prefix/share/zsh" && listed "$prefix" | diff "$folder/before" -
 }
 
-# The page, as it is installed, has the program's version and no fault.
-is_page_right() {
-  mandoc -T lint -W warning "$prefix/share/man/man1/rtnl.1" && mandoc -T ascii "$prefix/share/man/man1/rtnl.1" \
-    2>/dev/null | tail -n 1 | grep -q "^rtnl $version .* rtnl $version\$"
-}
-
 # An own file, an empty folder and a link were there before.
 mkdir -p "$prefix/bin" "$prefix/share/man" && echo mine >"$prefix/bin/other" || exit 1
 ln -s other "$prefix/bin/link" || exit 1
@@ -77,4 +71,3 @@ check 'nothing is removed where nothing was installed' ends 1 '' "install: nothi
 check 'an installation' installs
 check 'the program that is installed' cmp "$(RTNL_PATH=1 ./rtnl)" "$prefix/bin/rtnl"
 check 'the program that is installed, through a link' ends 0 "$finish_text" '' "$user/installed" <<<"$finish_line"
-if has mandoc 'the look of the page'; then check 'the page that is installed' is_page_right; fi

@@ -66,7 +66,7 @@ proves_library_anew() { change "$1" && puts_library noted "$(proving_library '')
 
 # removed_all: both are removed, and all that was made.
 removed_all() {
-  ends 0 "$(printf "removed $place/%s\n" "${things[@]:0:5}" "${library_things[@]}")" '' install --remove &&
+  ends 0 "$(printf "removed $place/%s\n" "${things[@]::${#things[@]}-1}" "${library_things[@]}")" '' install --remove &&
     [ -z "$(ls -A "$place")" ]
 }
 

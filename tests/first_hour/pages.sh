@@ -18,7 +18,7 @@ in_synopsis() {
 }
 
 # in_list: the options that the page describes.
-in_list() { sed -n '/^\.Sh OPTIONS$/,/^\.Sh RECORDINGS$/p' "$page" | grep '^\.It ' | flags; }
+in_list() { sed -n '/^\.Sh OPTIONS$/,/^\.Sh EXIT STATUS$/p' "$page" | grep '^\.It ' | flags; }
 
 # in_all_help: the options of all help.
 in_all_help() { for command in '' show check table request; do helped "$command"; done | sort -u; }

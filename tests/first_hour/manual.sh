@@ -1,0 +1,54 @@
+# The manual page as it is installed: its form, its sections, and the commands that it shows.
+
+manual=$prefix/share/man/man1/rtnl.1
+sections='NAME SYNOPSIS DESCRIPTION OPTIONS EXIT STATUS DIAGNOSTICS FILES STANDARDS HISTORY NOTES'
+sections+=' EXAMPLES SEE ALSO'
+
+# is_silent FILE: mandoc has no word on this page, but that another one is not here.
+is_silent() {
+  mandoc -T lint "$1" >"$folder/lint" 2>/dev/null
+  ! grep -v ': referenced manual not found: ' "$folder/lint"
+}
+
+# finds_fault CHANGE: it has, where the page is changed so.
+finds_fault() { sed "$1" "$manual" >"$folder/page.1" && ! is_silent "$folder/page.1" >/dev/null; }
+
+# in_section NAME: the lines of a section.
+in_section() { sed '/^\.Sh /s/\\&//' "$page" | sed -n "/^\\.Sh $1\$/,/^\\.Sh /{/^\\.Sh /!p}"; }
+
+has_sections() { [ "$(sed -n '/^\.Sh /s/\\&//; s/^\.Sh //p' "$page" | xargs)" = "$sections" ]; }
+
+# has_files: what is installed.
+has_files() {
+  in_section FILES | sed -n 's/^\.It Pa @PREFIX@.//p' | sort |
+    diff - <(printf '%s\n' "${things[@]}" | sort)
+}
+
+# has_versions: that of the program is the page's, and the history has each one of the changelog.
+has_versions() {
+  grep -qxF "This page is of version $version." "$manual" &&
+    in_section HISTORY | sed -n 's/^Version \([0-9.]*\) .*/\1/p' | sort |
+    diff - <(sed -n 's/^## //p' CHANGELOG.md | sort)
+}
+
+# It refers to others in the end, and to nothing else.
+has_references() {
+  in_section 'SEE ALSO' >"$folder/references"
+  grep -q . "$folder/references" && ! grep -v '^\.Xr ' "$folder/references"
+}
+
+check 'the sections of the page' has_sections
+check 'the files of the page' has_files
+check 'the versions of the page' has_versions
+check 'the references of the page' has_references
+check 'nothing of it is still to be replaced' [ -z "$(grep '@' "$manual")" ]
+if has mandoc 'the form of the page'; then
+  check 'the form of the page' is_silent "$manual"
+  check 'the form of the page in the sources' is_silent "$page"
+  check 'a section in another place is found' finds_fault 's/^\.Sh HIS\\&/.Sh HIS/'
+  check 'a wrong order of references is found' finds_fault 's/^\.Xr strace 1 ,/.Xr zsh 1 ,/'
+  check 'a long line is found' finds_fault '/^It opens no socket/s/.*/& & & & &/'
+fi
+
+run_page 'the manual page' < <(page_as_text "$manual")
+check 'commands of the manual page' runs_all "$manual"

@@ -1,0 +1,419 @@
+#!/usr/bin/env python3
+"""Holds share/rtnl.schema.json against lines of JSON.
+
+  tests/schema.py          tests the schema
+  tests/schema.py FILE ..  says which lines of these files it does not allow
+
+The test goes over lines in schema/, worked by hand, that have each object, each field and each
+word; over all that comes of them where one thing is changed, which must not be allowed; over the
+ranges of numbers; and over the lines that README.md, the manual page and rows/ show. Two libraries
+read the schema: jsonschema, and fastjsonschema, which compiles it, for the many lines of forms.py;
+here they must agree. The last line is 'N passed, M failed', and the status is 1 where a case
+failed.
+"""
+import copy
+import importlib
+import importlib.util
+import json
+import os
+import re
+import subprocess
+import sys
+from typing import Any, Dict, Iterator, List, Optional, Tuple
+
+sys.dont_write_bytecode = True
+
+ROOT = os.path.dirname(os.path.dirname(os.path.realpath(__file__)))
+COMMANDS = "show", "check", "table"
+# Files that show lines, and what stands in front of one.
+PAGES = "README.md", "share/man/man1/rtnl.1", "tests/rows/json.rows"
+SHOWN = re.compile(r'(?:= )?(\{".*)')
+# The libraries, and the Python of Debian, to which its packages of them belong.
+LIBRARIES = "fastjsonschema", "jsonschema"
+DEBIAN, PACKAGES = "/usr/bin/python3", "/usr/lib/python3/dist-packages"
+# The keywords of the schema, which both libraries know, and those that may stand beside $ref.
+NOTES = {"$schema", "$id", "$comment", "title", "description", "$defs"}
+KEYWORDS = {"$ref", "type", "enum", "const", "anyOf", "not", "properties", "required", "items"}
+KEYWORDS |= {"additionalProperties", "minProperties", "maxProperties", "minItems", "uniqueItems"}
+KEYWORDS |= {"minimum", "maximum", "pattern", *NOTES}
+
+# A value of JSON, and what is wrong where something is.
+Json = Any
+Fault = Optional[str]
+
+
+def has_libraries() -> bool:
+    """Whether they are here. Missing ones are installed, and a Python that has them goes on."""
+
+    def found() -> bool:
+        return all(importlib.util.find_spec(name) for name in LIBRARIES)
+
+    if not found():
+        wanted = [word for it in LIBRARIES for word in (f"{PACKAGES}/{it}", f"python3-{it}")]
+        subprocess.run([f"{ROOT}/tests/packages.sh", *wanted], check=False)
+        is_there = all(os.path.exists(f"{PACKAGES}/{it}") for it in LIBRARIES)
+        if is_there and os.path.realpath(sys.executable) != os.path.realpath(DEBIAN):
+            os.execv(DEBIAN, [DEBIAN, *sys.argv])
+        importlib.invalidate_caches()
+    if not found():
+        print("skipped: the schema of the lines of JSON, since its libraries are not here")
+    return found()
+
+
+def schema() -> Json:
+    with open(f"{ROOT}/share/rtnl.schema.json", encoding="utf-8") as file:
+        return json.load(file)
+
+
+def part_of(whole: Json, place: str) -> Json:
+    """The part of a schema at this place of its $defs, as a schema."""
+    return {"$schema": whole["$schema"], "$defs": whole["$defs"], "$ref": f"#/$defs/{place}"}
+
+
+def reader(whole: Json) -> Any:
+    """What jsonschema makes of a schema."""
+    return importlib.import_module("jsonschema").Draft202012Validator(whole)
+
+
+class Allowed:
+    """What a command may print as a line, by the compiled schema."""
+
+    def __init__(self, command: str) -> None:
+        self.schema = part_of(schema(), f"{command}_line")
+        library = importlib.import_module("fastjsonschema")
+        self.exception = library.JsonSchemaException
+        # It changes the schema that it is given.
+        self.compiled = library.compile(copy.deepcopy(self.schema))
+
+    def has(self, line: Json) -> bool:
+        try:
+            self.compiled(line)
+        except self.exception:
+            return False
+        return True
+
+    def fault(self, line: Json) -> Fault:
+        """Why a line is not allowed, or nothing where it is."""
+        return None if self.has(line) else reason(self.schema, line)
+
+
+def reason(whole: Json, value: Json) -> Fault:
+    """Why a schema doesn't allow a value, or nothing where it does, at more length."""
+    errors = reader(whole).iter_errors(value)
+    best = importlib.import_module("jsonschema").exceptions.best_match(errors)
+    return best and f"{best.message[:300]}, at {best.json_path[:300]}"
+
+
+# The schema itself.
+
+
+def parts(part: Json) -> Iterator[Json]:
+    """A schema and each schema in it."""
+    yield part
+    inside = [part[key] for key in ("items", "not") if key in part] + part.get("anyOf", [])
+    for key in ("properties", "$defs"):
+        inside += part.get(key, {}).values()
+    for it in inside:
+        yield from parts(it)
+
+
+def fault_of_schema() -> Fault:
+    """Why it is no schema, or none that means the same to all."""
+    library = importlib.import_module("jsonschema")
+    try:
+        library.Draft202012Validator.check_schema(schema())
+        library.Draft7Validator.check_schema(schema())
+    except library.SchemaError as error:
+        return str(error)
+    for part in parts(schema()):
+        if part.keys() - (NOTES | {"$ref"} if "$ref" in part else KEYWORDS):
+            return f"other keywords than those that are known: {part}"
+    return None
+
+
+def fault_of_notes() -> Fault:
+    """Which part has no title, which field no description, and which object is not closed."""
+    for name, part in schema()["$defs"].items():
+        if "title" not in part:
+            return f"no title of {name}"
+        if part.get("type") == "object" and part.get("additionalProperties") is not False:
+            return f"{name} is open"
+        for field, held in part.get("properties", {}).items():
+            if "description" not in held and "$ref" not in held:
+                return f"no description of {name}.{field}"
+    return None
+
+
+# The lines, and the changes of each.
+
+
+def hand_made(command: str) -> List[Json]:
+    with open(f"{ROOT}/tests/schema/{command}.jsonl", encoding="utf-8") as lines:
+        return [json.loads(line) for line in lines]
+
+
+OTHERS: Tuple[Json, ...] = (None, True, 0, "", [], {})
+# Fields whose strings are words that the schema lists.
+WORDS = "refused", "dump", "end", "type", "form", "flags"
+
+
+def is_other(name: str, value: Json, other: Json) -> bool:
+    """Whether the other value is of another type; the name of an attribute may be null."""
+    return type(value) is not type(other) and not (name == "name" and other is None)
+
+
+def changes(value: Json, name: str = "line") -> Iterator[Tuple[str, str, Json]]:
+    """All that comes of a value by one change: the kind of the change, where it is, and that."""
+    yield from (("another type", name, it) for it in OTHERS if is_other(name, value, it))
+    if isinstance(value, str) and name in WORDS:
+        yield "another word", name, f"{value}s"
+    if isinstance(value, dict):
+        yield "an unknown field", name, {**value, "unknown": 0}
+        for field, held in value.items():
+            rest = {other: it for other, it in value.items() if other != field}
+            yield "a missing field", f"{name}.{field}", rest
+            yield "a renamed field", f"{name}.{field}", {**rest, f"{field}s": held}
+            for kind, place, it in changes(held, field):
+                yield kind, f"{name}.{place}", {**value, field: it}
+    if isinstance(value, list):
+        for number, held in enumerate(value):
+            for kind, place, it in changes(held, name):
+                where = f"{name}[{number}]{place[len(name) :]}"
+                yield kind, where, [*value[:number], it, *value[number + 1 :]]
+
+
+def fault_of_changes(allowed: Allowed, line: Json) -> Fault:
+    """Which change of a line is allowed, or is read otherwise by the other library."""
+    other = reader(allowed.schema)
+    for kind, place, it in changes(line):
+        if allowed.has(it) or other.is_valid(it):
+            return f"{kind}, {place}: {json.dumps(it)[:400]}"
+    return None
+
+
+def drops(part: Json, place: str = "#") -> Iterator[Tuple[str, Json]]:
+    """The schema without one of its fields, words or alternatives, and which one that is."""
+    for key in part.keys() & {"enum", "anyOf"}:
+        for number, it in enumerate(part[key]):
+            front, rest = part[key][:number], part[key][number + 1 :]
+            yield f"{place}/{key} {str(it)[:80]}", {**part, key: front + rest}
+            for what, less in drops(it, f"{place}/{key}/{number}") if key == "anyOf" else ():
+                yield what, {**part, key: [*front, less, *rest]}
+    for key in part.keys() & {"properties", "$defs"}:
+        for name, it in part[key].items():
+            others = {other: that for other, that in part[key].items() if other != name}
+            if key == "properties" and "additionalProperties" in part:
+                yield f"{place}/{key} {name}", {**part, key: others}
+            for what, less in drops(it, f"{place}/{key}/{name}"):
+                yield what, {**part, key: {**others, name: less}}
+    for what, less in drops(part["items"], f"{place}/items") if "items" in part else ():
+        yield what, {**part, "items": less}
+
+
+def fault_of_cover() -> Fault:
+    """What the lines do without: a field, a word or an alternative that none of them has."""
+    lines = [(command, line) for command in COMMANDS for line in hand_made(command)]
+    for what, less in drops({"$defs": schema()["$defs"]}):
+        whole = {"$schema": schema()["$schema"], **less}
+        others = {it: reader(part_of(whole, f"{it}_line")) for it in COMMANDS}
+        if all(others[command].is_valid(line) for command, line in lines):
+            return f"no line has {what}"
+    return None
+
+
+# Numbers, texts, and fields that do not belong together.
+
+# The integers of each head, in their order, by the letters of the module struct: those of the
+# kernel's headers. Those of families are in reference.py.
+HEADS = {"message": "HHII", "error": "i", "answered": "IHHII", "done": "i", "get": "B"}
+HEADS["hop"] = "BBi"
+FAMILIES = "link", "addr", "route", "neigh", "rule"
+# The least and the greatest integer of a letter, and of each that is no part of a head.
+LETTERS = {"B": (0, 255), "H": (0, 65535), "I": (0, 2**32 - 1), "i": (-(2**31), 2**31 - 1)}
+RANGES = {
+    **{"u8": (0, 255), "u16": (0, 65535), "u32": (0, 2**32 - 1), "i32": (-(2**31), 2**31 - 1)},
+    **{"datagram_number": (1, 2**24), "count": (0, 2**24), "shown/properties/bytes": (16, 65536)},
+    **{"refused/properties/at": (0, 65535), "entry/properties/entry": (1, 65536)},
+    **{"dump/properties/entries": (0, 65536), "dump/properties/visits": (0, 33 * 2**23)},
+    "attribute/properties/number": (0, 16383),
+}
+WRONG: Dict[str, Tuple[Json, ...]] = {
+    "hex": ("0", "0G", "AB", "0x00", "00 00"),
+    "ipv4": ("", "1.2.3", "1.2.3.4.", "1.2.3.4.5", "1.2.3.256", "01.2.3.4", "1.2.3.4/8"),
+    "ipv6": ("", "::", "fe80::1", ":".join(["0000"] * 7), ":".join(["0000"] * 9), "::1"),
+    "text": ("", "\t", "a\x7f", "\u00e9"),
+    "names": (["up"], [""], ["UP", "UP"], ["1"], ["A,B"], [None]),
+    "attribute/properties/name": ("", "mtu", "-", "A B", "1"),
+    "attribute/properties/flags": (["NET"], ["net", "net"], [""]),
+}
+WRONG["ipv6"] += (":".join(["FE80"] * 8), ":".join(["00000"] * 8))
+
+
+def integers(whole: Json, name: str) -> List[str]:
+    """The fields of an object that are integers."""
+
+    def is_integer(part: Json) -> bool:
+        held = whole["$defs"][part["$ref"].split("/")[-1]] if "$ref" in part else part
+        return bool(held.get("type") == "integer")
+
+    return [field for field, it in whole["$defs"][name]["properties"].items() if is_integer(it)]
+
+
+def ranges(whole: Json) -> Iterator[Tuple[str, Tuple[int, int]]]:
+    """Each place of the schema that has integers, with the least and the greatest of them."""
+    yield from RANGES.items()
+    reference: Any = importlib.import_module("reference")
+    heads = {it: reference.HEADS[it.capitalize()].replace("x", "") for it in FAMILIES}
+    for name, letters in {**HEADS, **heads}.items():
+        for field, letter in zip(integers(whole, name), letters):
+            yield f"{name}/properties/{field}", LETTERS[letter]
+        if len(integers(whole, name)) != len(letters):
+            raise ValueError(f"{name} has not {len(letters)} integers")
+
+
+def fault_of_ranges() -> Fault:
+    """Which part has another range, or has one that is not known here."""
+    whole = schema()
+    known = dict(ranges(whole))
+    for place, (least, most) in known.items():
+        other = reader(part_of(whole, place))
+        if [other.is_valid(it) for it in (least - 1, least, most, most + 1)] != [0, 1, 1, 0]:
+            return f"{place} is not from {least} to {most}"
+    bounded = [part for part in parts(whole) if "minimum" in part or "maximum" in part]
+    return None if len(bounded) == len(RANGES) else "a further range"
+
+
+def fault_of_texts() -> Fault:
+    for place, values in WRONG.items():
+        other = reader(part_of(schema(), place))
+        for value in values:
+            if other.is_valid(value):
+                return f"{place} may be {value!r}"
+    return None
+
+
+def bodies() -> Dict[str, Json]:
+    """A body of each sort, of the lines of show."""
+    messages = [it for line in hand_made("show") for it in line.get("messages", [])]
+    return {list(it)[-1]: it[list(it)[-1]] for it in messages}
+
+
+def fault_of_types() -> Fault:
+    """Which number, name and body of a message go together and should not, or should and don't."""
+    reference: Any = importlib.import_module("reference")
+    allowed, sorts = Allowed("show"), {1: "bytes", 2: "error", 3: "done", 4: "bytes"}
+    sorts.update({kind: name.lower() for kind, name in reference.FAMILIES.items()})
+    sorts.update(dict.fromkeys(reference.GETS, "get"))
+    names = [name for name, _ in reference.KINDS.values()] + ["other"]
+    for kind in (*range(40), 65535):
+        name, _ = reference.KINDS.get(kind, ("other", None))
+        for other in names:
+            for sort, body in bodies().items():
+                head = {"message": kind, "type": other, "flags": 0, "flag_names": []}
+                message = {**head, "seq": 0, "port": 0, sort: body}
+                is_right = other == name and sort == sorts.get(kind, "bytes")
+                if allowed.has({"datagram": 1, "bytes": 16, "messages": [message]}) != is_right:
+                    return f"{kind}, {other}, {sort}"
+    return None
+
+
+def mixed() -> Iterator[Tuple[str, Json]]:
+    """Lines whose fields do not belong together, and their commands."""
+    link, addr = bodies()["link"], bodies()["addr"]
+    yield "table", {"entry": 1}
+    yield "table", {"link": link, "addr": addr}
+    yield "table", {"entry": 1, "link": link, "addr": addr}
+    yield "table", {"entry": 1, "link": addr}
+    for command in COMMANDS:
+        yield command, {"datagram": 1, "refused": "too large", "at": 0}
+        yield command, {"datagram": 1, "refused": "total", "at": 0}
+        yield command, {"datagram": 1, "bytes": 16, "messages": []}
+        yield command, {"datagram": 1, "canonical": True, "refused": "cut", "at": 0}
+    yield "show", {"datagram": 1, "refused": "total"}
+    yield "check", {"datagram": 1, "refused": "total"}
+    for dump in hand_made("table"):
+        if dump.get("end") in ("overrun", "none"):
+            yield from (("table", {**dump, "code": code}) for code in (0, 1))
+        if dump.get("end") == "error":
+            yield "table", {**dump, "code": 0}
+    both = {"message": 16, "type": "newlink", "flags": 0, "flag_names": [], "seq": 0, "port": 0}
+    both.update(link=link, addr=addr)
+    for less in ("", *both):
+        rest = {field: it for field, it in both.items() if field != less}
+        if less != "addr":
+            yield "show", {"datagram": 1, "bytes": 16, "messages": [rest]}
+    held: List[Dict[str, Json]] = [{}, {"value": 0}, {"items": []}, {"value": 0, "items": []}]
+    for form, right in (("u8", "value"), ("list", "items"), ("hops", "items")):
+        front: Dict[str, Json] = {"number": 1, "name": None, "flags": [], "form": form}
+        for fields in (it for it in held if list(it) != [right]):
+            yield "table", {"entry": 1, "link": {**link, "attrs": [{**front, **fields}]}}
+
+
+def fault_of_mixed() -> Fault:
+    for command, line in mixed():
+        allowed = Allowed(command)
+        if allowed.has(line) or reader(allowed.schema).is_valid(line):
+            return f"{command}: {json.dumps(line)[:400]}"
+    return None
+
+
+# The test.
+
+
+def fault_of_line(allowed: Allowed, line: Json) -> Fault:
+    return allowed.fault(line) or reason(allowed.schema, line)
+
+
+def read(path: str) -> List[str]:
+    with open(path, encoding="utf-8") as file:
+        return file.read().splitlines()
+
+
+def shown(path: str) -> List[str]:
+    """The lines of JSON that a page or a table of rows shows."""
+    lines = read(f"{ROOT}/{path}")
+    if path.endswith(".1"):
+        lines = [it.replace("\\e", "\\").replace("\\-", "-").replace("\\&", "") for it in lines]
+    return [it[1] for it in map(SHOWN.fullmatch, lines) if it]
+
+
+def fault_of_lines(lines: List[str]) -> Fault:
+    """Which line is not allowed, or that there is none."""
+    for line in lines:
+        fault = reason(schema(), json.loads(line))
+        if fault:
+            return f"{fault}: {line[:400]}"
+    return None if lines else "no line of JSON"
+
+
+def cases() -> Iterator[Tuple[str, Fault]]:
+    """The name of each case, and what is wrong with it."""
+    yield "a schema", fault_of_schema()
+    yield "titles, descriptions, closed objects", fault_of_notes()
+    yield "ranges of numbers", fault_of_ranges()
+    yield "texts", fault_of_texts()
+    yield "types of messages", fault_of_types()
+    yield "fields that do not belong together", fault_of_mixed()
+    yield "each field, word and alternative", fault_of_cover()
+    for command in COMMANDS:
+        allowed = Allowed(command)
+        for number, line in enumerate(hand_made(command), 1):
+            yield f"{command}, line {number}", fault_of_line(allowed, line)
+            yield f"{command}, line {number}, changed", fault_of_changes(allowed, line)
+    yield from ((path, fault_of_lines(shown(path))) for path in PAGES)
+
+
+def main(paths: List[str]) -> int:
+    passed = failed = 0
+    if has_libraries():
+        for name, fault in ((it, fault_of_lines(read(it))) for it in paths) if paths else cases():
+            passed, failed = passed + (not fault), failed + bool(fault)
+            if fault:
+                print(f"FAILED {name}: {fault}")
+    if not paths:
+        print(f"{passed} passed, {failed} failed")
+    return 1 if failed else 0
+
+
+if __name__ == "__main__":
+    sys.exit(main(sys.argv[1:]))
