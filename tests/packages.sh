@@ -13,11 +13,9 @@ if [ "$(id -u)" != 0 ] || ! command -v apt-get >/dev/null; then
   echo "not here, and not installed: ${missing[*]}"
   exit 0
 fi
-# Of tests that run side by side one installs after another.
-exec 9<"${BASH_SOURCE[0]}" && flock 9
-echo "installing: ${missing[*]}"
 # Scripts that run side by side take turns: apt-get fails where another one runs.
 exec 9<"${BASH_SOURCE[0]}" && flock 9
+echo "installing: ${missing[*]}"
 export DEBIAN_FRONTEND=noninteractive
 install=(timeout 300 apt-get install -y --no-install-recommends "${missing[@]}")
 {
