@@ -259,23 +259,27 @@ def integers(whole: Json, name: str) -> List[str]:
     return [field for field, it in whole["$defs"][name]["properties"].items() if is_integer(it)]
 
 
+def heads() -> Dict[str, str]:
+    """The letters of each head."""
+    reference: Any = importlib.import_module("reference")
+    return {**HEADS, **{it: reference.HEADS[it.capitalize()].replace("x", "") for it in FAMILIES}}
+
+
 def ranges(whole: Json) -> Iterator[Tuple[str, Tuple[int, int]]]:
     """Each place of the schema that has integers, with the least and the greatest of them."""
     yield from RANGES.items()
-    reference: Any = importlib.import_module("reference")
-    heads = {it: reference.HEADS[it.capitalize()].replace("x", "") for it in FAMILIES}
-    for name, letters in {**HEADS, **heads}.items():
+    for name, letters in heads().items():
         for field, letter in zip(integers(whole, name), letters):
             yield f"{name}/properties/{field}", LETTERS[letter]
-        if len(integers(whole, name)) != len(letters):
-            raise ValueError(f"{name} has not {len(letters)} integers")
 
 
 def fault_of_ranges() -> Fault:
     """Which part has another range, or has one that is not known here."""
     whole = schema()
-    known = dict(ranges(whole))
-    for place, (least, most) in known.items():
+    for name, letters in heads().items():
+        if len(integers(whole, name)) != len(letters):
+            return f"{name} has not {len(letters)} integers"
+    for place, (least, most) in ranges(whole):
         other = reader(part_of(whole, place))
         if [other.is_valid(it) for it in (least - 1, least, most, most + 1)] != [0, 1, 1, 0]:
             return f"{place} is not from {least} to {most}"
