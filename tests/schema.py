@@ -6,10 +6,9 @@
 
 The test goes over lines in schema/, worked by hand, that have each object, each field and each
 word; over all that comes of them where one thing is changed, which must not be allowed; over the
-ranges of numbers; and over the lines that README.md, the manual page and rows/ show. Two libraries
-read the schema: jsonschema, and fastjsonschema, which compiles it, for the many lines of forms.py;
-here they must agree. The last line is 'N passed, M failed', and the status is 1 where a case
-failed.
+ranges of numbers; and over the lines that the pages and other tests show. Two libraries read the
+schema: jsonschema, and fastjsonschema, which compiles it, for the many lines of forms.py; here
+they must agree. The last line is 'N passed, M failed', and the status is 1 where a case failed.
 """
 import copy
 import importlib
@@ -26,7 +25,8 @@ sys.dont_write_bytecode = True
 ROOT = os.path.dirname(os.path.dirname(os.path.realpath(__file__)))
 COMMANDS = "show", "check", "table"
 # Files that show lines, and what stands in front of one.
-PAGES = "README.md", "share/man/man1/rtnl.1", "tests/rows/json.rows"
+PAGES = ["README.md", "share/man/man1/rtnl.1"]
+PAGES += ["tests/rows/json.rows", "tests/refuse.sh", "tests/refuse/rows.sh"]
 SHOWN = re.compile(r'(?:= )?(\{".*)')
 # The libraries, and the Python of Debian, to which its packages of them belong.
 LIBRARIES = "fastjsonschema", "jsonschema"
@@ -374,7 +374,7 @@ def read(path: str) -> List[str]:
 
 
 def shown(path: str) -> List[str]:
-    """The lines of JSON that a page or a table of rows shows."""
+    """The lines of JSON that a page or a test shows."""
     lines = read(f"{ROOT}/{path}")
     if path.endswith(".1"):
         lines = [it.replace("\\e", "\\").replace("\\-", "-").replace("\\&", "") for it in lines]
