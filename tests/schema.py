@@ -6,10 +6,9 @@
 
 The test goes over lines in schema/, worked by hand, that have each object, each field and each
 word; over all that comes of them where one thing is changed, which must not be allowed; over the
-ranges of numbers; and over the lines that README.md, the manual page and rows/ show. Two libraries
-read the schema: jsonschema, and fastjsonschema, which compiles it, for the many lines of forms.py;
-here they must agree. The last line is 'N passed, M failed', and the status is 1 where a case
-failed.
+ranges of numbers; and over the lines that the pages and other tests show. Two libraries read the
+schema: jsonschema, and fastjsonschema, which compiles it, for the many lines of forms.py; here
+they must agree. The last line is 'N passed, M failed', and the status is 1 where a case failed.
 """
 import copy
 import importlib
@@ -26,7 +25,8 @@ sys.dont_write_bytecode = True
 ROOT = os.path.dirname(os.path.dirname(os.path.realpath(__file__)))
 COMMANDS = "show", "check", "table"
 # Files that show lines, and what stands in front of one.
-PAGES = "README.md", "share/man/man1/rtnl.1", "tests/rows/json.rows"
+PAGES = ["README.md", "share/man/man1/rtnl.1"]
+PAGES += ["tests/rows/json.rows", "tests/refuse.sh", "tests/refuse/rows.sh"]
 SHOWN = re.compile(r'(?:= )?(\{".*)')
 # The libraries, and the Python of Debian, to which its packages of them belong.
 LIBRARIES = "fastjsonschema", "jsonschema"
@@ -259,23 +259,27 @@ def integers(whole: Json, name: str) -> List[str]:
     return [field for field, it in whole["$defs"][name]["properties"].items() if is_integer(it)]
 
 
+def heads() -> Dict[str, str]:
+    """The letters of each head."""
+    reference: Any = importlib.import_module("reference")
+    return {**HEADS, **{it: reference.HEADS[it.capitalize()].replace("x", "") for it in FAMILIES}}
+
+
 def ranges(whole: Json) -> Iterator[Tuple[str, Tuple[int, int]]]:
     """Each place of the schema that has integers, with the least and the greatest of them."""
     yield from RANGES.items()
-    reference: Any = importlib.import_module("reference")
-    heads = {it: reference.HEADS[it.capitalize()].replace("x", "") for it in FAMILIES}
-    for name, letters in {**HEADS, **heads}.items():
+    for name, letters in heads().items():
         for field, letter in zip(integers(whole, name), letters):
             yield f"{name}/properties/{field}", LETTERS[letter]
-        if len(integers(whole, name)) != len(letters):
-            raise ValueError(f"{name} has not {len(letters)} integers")
 
 
 def fault_of_ranges() -> Fault:
     """Which part has another range, or has one that is not known here."""
     whole = schema()
-    known = dict(ranges(whole))
-    for place, (least, most) in known.items():
+    for name, letters in heads().items():
+        if len(integers(whole, name)) != len(letters):
+            return f"{name} has not {len(letters)} integers"
+    for place, (least, most) in ranges(whole):
         other = reader(part_of(whole, place))
         if [other.is_valid(it) for it in (least - 1, least, most, most + 1)] != [0, 1, 1, 0]:
             return f"{place} is not from {least} to {most}"
@@ -370,7 +374,7 @@ def read(path: str) -> List[str]:
 
 
 def shown(path: str) -> List[str]:
-    """The lines of JSON that a page or a table of rows shows."""
+    """The lines of JSON that a page or a test shows."""
     lines = read(f"{ROOT}/{path}")
     if path.endswith(".1"):
         lines = [it.replace("\\e", "\\").replace("\\-", "-").replace("\\&", "") for it in lines]
