@@ -5,9 +5,10 @@ Each relative link of each .md file leads to a file of the repository, and its f
 heading there, by the anchors that GitHub makes. A link to the glossary of docs/FORMAT.md is of a
 word that stands there, and a page links a word once. Each claim on docs/PROOF.md under the name of
 a crate begins with functions of that crate, and has clauses of their contracts in brackets. Each
-block of Rattle, C, Go, Python or Rust on README.md and docs/LIBRARIES.md stands in
-crates/rtnl_uses, apart from its contracts, or in examples/. The table of calls for C on
-docs/LIBRARIES.md has those of include/rtnl.h.
+function in a table of README.md has the clauses that stand behind it. Each block of Rattle, C, Go,
+Python or Rust on README.md and docs/LIBRARIES.md stands in crates/rtnl_uses, apart from its
+contracts, or in examples/. The table of calls for C on docs/LIBRARIES.md has those of
+include/rtnl.h.
 
 Then each of these is tried: a fault is planted in a page or in the code, and must be found. The
 last line is 'N passed, M failed', and the status is 1 where a case failed.
@@ -23,12 +24,12 @@ sys.path.insert(0, f"{os.path.dirname(os.path.realpath(__file__))}/../launch")
 from contracts import Contracts, Texts
 from crates import ROOT, Crates, listed
 
-PROOF, THEOREMS = "docs/PROOF.md", "docs/THEOREMS.md"
+README, PROOF, THEOREMS = "README.md", "docs/PROOF.md", "docs/THEOREMS.md"
 FORMAT, LIBRARIES = "docs/FORMAT.md", "docs/LIBRARIES.md"
 HEADER = "include/rtnl.h"
 GLOSSARY = "words"
 # Pages whose blocks of code are compared, and where the code of a block stands.
-SHOWING = ["README.md", LIBRARIES]
+SHOWING = [README, LIBRARIES]
 SHOWN = {
     "c": "examples/c/", "go": "examples/go/", "python": "examples/python/",
     "rust": "crates/rtnl_uses/src/",
@@ -43,6 +44,9 @@ CLAIM = re.compile(r"^- .*(?:\n  .*)*", re.M)
 NAME = re.compile(r"`([^`]+)`")
 BRACKET = re.compile(r"\(([^()]*`[^()]*)\)")
 NAMES = re.compile(r"`[a-z_]+`(?:, `[a-z_]+`)*")
+# The rows of tables, and in them a function with some of its clauses.
+ROW = re.compile(r"^\|.*\|$", re.M)
+CITED = re.compile(r"`([\w:]+)`: (`[a-z_]+`(?:, `[a-z_]+`)*)")
 BLOCK = re.compile(r"^```(\w+)\n(.*?)^```$", re.M | re.S)
 # A contract, from the line behind a function's to the one before its body.
 CONTRACT = re.compile(r"(?:\n    (?:requires|ensures|//|    ).*)+\n\{$", re.M)
@@ -218,6 +222,19 @@ def wrong_claims(repository: Repository, crate: str) -> Iterator[str]:
             yield f"clauses are named outside of a claim: ({found[1]})"
 
 
+def wrong_citations(repository: Repository, page: str) -> Iterator[str]:
+    """The functions that the tables of a page name with clauses that none of a crate has."""
+    contracts = Contracts(repository.crates, repository.texts)
+    cited = [it for row in ROW.findall(repository.texts[page]) for it in CITED.findall(row)]
+    if not cited:
+        yield "no clause is named"
+    for call, names in cited:
+        wanted = set(NAME.findall(names))
+        if not any(wanted <= contracts.clauses(crate, found) for crate in repository.crates
+                   for found in contracts.named(crate, call)):
+            yield f"no function {call} has the clauses {names}"
+
+
 # The blocks of code.
 
 
@@ -257,6 +274,7 @@ TESTS: List[Tuple[str, Check, Callable[[Repository], List[str]]]] = [
     ("the links of", lost_links, Repository.pages),
     ("words of the glossary on", lost_words, Repository.pages),
     ("the claims on", wrong_claims, Repository.promising),
+    ("the clauses on", wrong_citations, lambda _: [README]),
     ("the code on", strange_blocks, lambda _: SHOWING),
     ("the calls for C on", lost_calls, lambda _: [LIBRARIES]),
 ]
@@ -316,6 +334,13 @@ FAULTS: Dict[Check, List[Fault]] = {
         Fault("brackets with more than names", "nl_route", PROOF, "(`says`)", "(its `says`)"),
         Fault("a clause outside of a claim", "nl_route", PROOF, "Each [view]",
               "(`says`) Each [view]"),
+    ],
+    wrong_citations: [
+        Fault("a clause of a table that was renamed", README, "crates/nl_frame/src/canonical.rt",
+              "ensures canonical {", "ensures written {"),
+        Fault("a function of a table that there isn't", README, README, "`is_canonical`:",
+              "`is_canon`:"),
+        Fault("a page without clauses", README, README, "`: `", "` `"),
     ],
     strange_blocks: [
         Fault("another line of Rattle", LIBRARIES, "crates/rtnl_uses/src/attributes.rt",
