@@ -51,27 +51,35 @@ static void print_link(const uint8_t *region, uint32_t len)
 	printf("%s mtu %lu\n", name, (unsigned long)mtu);
 }
 
-/* Prints the links of a datagram that is accepted: 1 where the dump ends in it, 0 where it goes
- * on. */
+/* How a DONE, or an ERROR, ends the dump: 1 where all went well, -1 with the kernel's error. */
+static int ended(const struct rtnl_message *message)
+{
+	int32_t status = 0;
+	if (message->len >= sizeof status)
+		memcpy(&status, bytes + message->place + NLMSG_HDRLEN, sizeof status);
+	if (status < 0)
+		fprintf(stderr, "the kernel answers: %s\n", strerror(-status));
+	return status < 0 ? -1 : 1;
+}
+
+/* Prints the links of a datagram: 1 where the dump ends in it, 0 where it goes on, -1 on a fault or
+ * an error. Once a scan has accepted it, the loop ends where the datagram does. */
 static int print_datagram(size_t len)
 {
 	struct rtnl_scanned scanned = rtnl_scan(bytes, len, NULL);
-	struct rtnl_message message = rtnl_message_at(bytes, len, 0, false);
+	struct rtnl_message message;
 	if (scanned.code != RTNL_OK) {
 		fprintf(stderr, "refused with code %u at %lu\n", (unsigned)scanned.code,
 		        (unsigned long)scanned.place);
 		return -1;
 	}
+	message = rtnl_message_at(bytes, len, 0, false);
 	for (; message.code == RTNL_OK; message = rtnl_message_at(bytes, len, message.next, false)) {
 		struct rtnl_family family = rtnl_family_of(message.kind);
-		if (message.kind == NLMSG_DONE)
-			return 1;
-		if (message.kind == NLMSG_ERROR) {
-			fputs("the kernel answers with an error\n", stderr);
-			return -1;
-		}
+		if (message.kind == NLMSG_DONE || message.kind == NLMSG_ERROR)
+			return ended(&message);
 		if (message.kind == RTM_NEWLINK)
-			print_link(bytes + message.place + 16 + family.head_size,
+			print_link(bytes + message.place + NLMSG_HDRLEN + family.head_size,
 			           message.len - family.head_size);
 	}
 	return 0;
