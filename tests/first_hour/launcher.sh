@@ -44,6 +44,12 @@ least_time() {
 }
 
 missing='rtnl: the program is not built from these sources, and'
+# says_unmarked: a program in the place of a proved one, which the kit's tools didn't build, is not.
+says_unmarked() {
+  cp -p "$proved" "$folder/marked" && sed -i '/rattle logic=/d' "$proved" &&
+    says_which 'not proved on this machine' start && mv "$folder/marked" "$proved"
+}
+
 check 'no rt on the PATH' ends 3 '' "$missing rt, which builds it, is not on the PATH" without_tools
 ln -s "$kit/bin/rt" "$folder/tools/rt"
 check 'no Python on the PATH' ends 3 '' "$missing python3, which builds it, is not on the PATH" without_tools
@@ -61,6 +67,7 @@ check 'a change during a proof' is_stale_meanwhile
 check 'a proof that fails' fails_in_proof
 check 'a proved program that is current' stays_proved
 check 'its version' says_which 'proved on this machine' start
+check 'the version of a program without the mark of a proof' says_unmarked
 for file in crates/nl_table/src/lib.rt crates/nl_table/specs crates/rtnl_cli/proofs; do
   check "a proved program that is not current, by $file" stale_is_not_run "$file"
 done
