@@ -15,9 +15,9 @@ impl Entry for Addr {
     /// An address is kept under `ifa_family` in 1 byte, `ifa_index` in 4, `ifa_prefixlen` in 1,
     /// `IFA_ADDRESS` and `IFA_LOCAL`. The order is not looked at.
     fn key_ordered(&self, alloc: Global, _order: Order) -> Result<Vec<u8>, AllocError> {
-        key_of_parts(
+        key_of_parts!(
             alloc,
-            &[
+            [
                 Part::Byte(self.head.family),
                 Part::Four(self.head.index),
                 Part::Byte(self.head.prefixlen),

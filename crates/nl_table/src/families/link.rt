@@ -14,6 +14,6 @@ impl Entry for Link {
 
     /// A link is kept under its index, `ifi_index`, in 4 bytes.
     fn key_ordered(&self, alloc: Global, _order: Order) -> Result<Vec<u8>, AllocError> {
-        key_of_parts(alloc, &[interface(&self.head.index)])
+        key_of_parts!(alloc, [interface(&self.head.index)])
     }
 }

@@ -29,11 +29,11 @@ impl Entry for Neigh {
         let flags = Part::Byte(self.head.flags & IDENTIFYING_FLAGS);
         let address = Part::Bytes(self.dst());
         if self.head.family != AF_BRIDGE {
-            return key_of_parts(alloc, &[family, interface, flags, address]);
+            return key_of_parts!(alloc, [family, interface, flags, address]);
         }
-        key_of_parts(
+        key_of_parts!(
             alloc,
-            &[
+            [
                 family,
                 interface,
                 flags,

@@ -19,9 +19,9 @@ impl Entry for Route {
     /// The table is `RTA_TABLE`, or else `rtm_table`. A priority or an interface that is absent
     /// is 0.
     fn key_ordered(&self, alloc: Global, order: Order) -> Result<Vec<u8>, AllocError> {
-        key_of_parts(
+        key_of_parts!(
             alloc,
-            &[
+            [
                 Part::Byte(self.head.family),
                 Part::Byte(self.head.dst_len),
                 Part::Bytes(self.dst()),

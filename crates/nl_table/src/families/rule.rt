@@ -30,9 +30,9 @@ impl Entry for Rule {
     /// The table is `FRA_TABLE`, or else `table`. A number that is absent is 0. The names stand
     /// there as the attributes have them, with the zero byte at their end.
     fn key_ordered(&self, alloc: Global, order: Order) -> Result<Vec<u8>, AllocError> {
-        key_of_parts(
+        key_of_parts!(
             alloc,
-            &[
+            [
                 Part::Byte(self.head.family),
                 Part::Byte(self.head.dst_len),
                 Part::Bytes(self.dst()),
