@@ -1,8 +1,8 @@
 #!/usr/bin/env bash
-# The bytes of attributes are walked once, and every walk is counted: tests/one_walk/search.sh finds nothing
-# in the sources. Then the search is tried: each edit beside it, put into a copy of the sources, is a second
-# walk or one that isn't counted, and the search finds it. The last line is 'N passed, M failed', and the
-# status is 1 where a case failed.
+# The sources go over the bytes of attributes in two walks, one that reads them into trees and one that scans
+# them, and either counts what it visits: tests/one_walk/search.sh finds no other. Then the search is tried: each
+# edit beside it, put into a copy of the sources, is a further walk or one that isn't counted, and the search
+# finds it. The last line is 'N passed, M failed', and the status is 1 where a case failed.
 set -u
 cd "$(dirname "${BASH_SOURCE[0]}")/.." || exit 1
 . tests/counting.sh

@@ -1,11 +1,7 @@
 #!/usr/bin/env bash
 # search.sh FOLDER: looks through the sources of all crates in a folder, but for the tests and the examples of
-# callers, for a second walk over attribute bytes or one that isn't counted. It prints what it finds, and its
-# status is then 1.
-#
-# One walk isn't counted and is let be, by the names of its functions in src/broken.rt of nl_attr and of
-# nl_frame: the way to the head of a fault. It is no reading, and explains a refusal behind one: it goes from head
-# to head towards one place, into an item only where the place lies in it, and comes to no head twice.
+# callers, for a walk over attribute bytes beside that of a reading and that of a scan, for one of these that
+# is made twice, or for one that isn't counted. It prints what it finds, and its status is then 1.
 set -u
 cd "$1" || exit 1
 found=0
@@ -46,12 +42,9 @@ same() {
 folder=crates/nl_attr/src/stack
 stack=($folder/*.rt)
 reading=crates/nl_attr/src/reading.rt
-broken=crates/nl_attr/src/broken.rt
-broken_frame=crates/nl_frame/src/broken.rt
 
-same 'walkers are made in their own modules, and on the way to a fault' "$(counts '\b(Attrs|HopParts)::of')" \
-  'crates/nl_attr/src/broken.rt 2
-crates/nl_attr/src/walk/attrs.rt 1
+same 'walkers are made in their own modules' "$(counts '\b(Attrs|HopParts)::of')" \
+  'crates/nl_attr/src/walk/attrs.rt 1
 crates/nl_attr/src/walk/counted.rt 2
 crates/nl_attr/src/walk/hops.rt 1'
 
@@ -68,27 +61,9 @@ same 'a counted walk is stepped with the count of its reading' "$(lines '\.step\
   'let part = match region.walk.step(visits) {
 let part = match region.walk.step(visits) {'
 
-same 'only a counted walk steps a walker, and the way to a fault' \
+same 'only a counted walk steps a walker' \
   "$(counts '\.next\(\)' $(sources | grep '^crates/nl_attr/'))" \
-  'crates/nl_attr/src/broken.rt 2
-crates/nl_attr/src/walk/counted.rt 2'
-
-same 'on the way to a fault one item is taken of a walker, and one length is read' \
-  "$(within '(Attrs|HopParts)::|[.]next[(]|read_u16[(]' "$broken")" \
-  'attr_item
-hop_item
-facts'
-
-same 'the way to a fault is one loop over heads and one over messages' \
-  "$(lines '\b(loop|while|for)\b.*\{$' "$broken" "$broken_frame" | sed 's/^[^:]*: *//')" \
-  "'heads: loop {
-while !left.is_empty() {"
-
-same 'the way to a fault is taken where the head of a datagram is asked for, and in no reading' \
-  "$(counts '\b(broken_head|broken_in|head_at)\(')" \
-  'crates/nl_attr/src/broken.rt 3
-crates/nl_frame/src/broken.rt 4
-crates/rtnl_cli/src/explain.rt 1'
+  'crates/nl_attr/src/walk/counted.rt 2'
 
 same 'the count of a reading is handed on, never made' \
   "$(lines '\b(let|if|for|while)\b.*\bvisits\b' "${stack[@]}" "$reading" |
@@ -104,7 +79,7 @@ same 'those who read regions look at none of their bytes' \
   "$(lines '\b(bytes|payload|rest|left|region)(\[|\.(iter|get|first|last|split|chunks|windows|copied|to_))' \
     "${stack[@]}" "$reading")" ''
 
-same 'lengths and types of attributes and next hops are read by the walkers alone, but for the length in the head of a fault' \
+same 'lengths and types of attributes and next hops are read by the walkers alone, but for the length of the head at which a scan ends, and what is printed beside bytes' \
   "$(counts 'read_u16\(')" \
   'crates/nl_attr/src/broken.rt 1
 crates/nl_attr/src/order.rt 3
@@ -113,29 +88,32 @@ crates/nl_attr/src/walk/mod.rt 2
 crates/nl_frame/src/header.rt 2
 crates/nl_route/src/ifinfomsg.rt 1
 crates/nl_route/src/ndmsg.rt 1
+crates/rtnl/src/bytes/notation.rt 6
+crates/rtnl/src/bytes/object.rt 2
+crates/rtnl/src/bytes/view.rt 1
 crates/rtnl/src/text/values.rt 1'
 
 scan=(crates/nl_attr/src/scanning.rt crates/nl_attr/src/taping/*.rt)
 taping=crates/nl_frame/src/taping.rt
 
-same 'heads are read by the walkers, and by a scan at one place for each sort of head' \
+same 'heads are read by the walkers, by a scan at one place for each sort of head, and at its end' \
   "$(counts '\b(head_len|kind_at|span_at)\(')" \
-  'crates/nl_attr/src/taping/fronts.rt 3
+  'crates/nl_attr/src/broken.rt 1
+crates/nl_attr/src/taping/fronts.rt 3
 crates/nl_attr/src/taping/steps.rt 2
 crates/nl_attr/src/walk/attrs.rt 3
 crates/nl_attr/src/walk/hops.rt 2
 crates/nl_attr/src/walk/mod.rt 3'
 
-same 'headers are read at the front of a message, where an error quotes one, and on the way to a fault' \
+same 'headers are read at the front of a message, where an error quotes one, and at the end of a scan' \
   "$(counts '\b(frame_len|Header::read)\(')" \
   'crates/nl_frame/src/body.rt 1
 crates/nl_frame/src/broken.rt 1
 crates/nl_frame/src/front.rt 3'
 
-same 'a message is taken from the front once by a reading, a scan and a cursor, and on the way to a fault' \
+same 'a message is taken from the front once by a reading, a scan and a cursor' \
   "$(counts '\bfront\(')" \
-  'crates/nl_frame/src/broken.rt 2
-crates/nl_frame/src/front.rt 2
+  'crates/nl_frame/src/front.rt 2
 crates/nl_frame/src/reading.rt 1
 crates/nl_frame/src/taping.rt 1'
 
@@ -155,6 +133,7 @@ same 'a datagram is scanned by the calls that are made for it, and in no reading
   "$(counts '\b(scan_datagram|tape_datagram|tape_(messages|ordered|big|frame|body|family))\(')" \
   'crates/nl_frame/src/scanning.rt 4
 crates/nl_frame/src/taping.rt 9
+crates/rtnl/src/tape.rt 1
 crates/rtnl_c/src/scan.rt 2'
 
 same 'a scan of a datagram adds the visits of each message, and nothing else' \
@@ -183,12 +162,12 @@ crates/nl_route/src/family.rt 2'
 same 'a tally is ended without its visits by those who answer none' "$(counts '\.into_result\(')" \
   'crates/nl_frame/src/canonical.rt 1
 crates/rtnl/src/show.rt 2
-crates/rtnl_bench/src/main.rt 1
-crates/rtnl_cli/src/explain.rt 1'
+crates/rtnl/src/tape.rt 1
+crates/rtnl_bench/src/main.rt 1'
 
 same 'a tally is taken apart with its visits' "$(counts 'visits: *_')" 'crates/nl_attr/src/fault.rt 1'
 
-same 'each reading calls the one below it once, and what explains a refusal reads for itself' \
+same 'each reading calls the one below it once' \
   "$(counts '(\bread_(region|list|list_ordered|body|body_ordered|message|messages|datagram)\(|Body::read\()' |
     grep -v rtnl_bench)" \
   'crates/nl_attr/src/reading.rt 4
@@ -197,8 +176,7 @@ crates/nl_dump/src/reading.rt 1
 crates/nl_frame/src/canonical.rt 1
 crates/nl_frame/src/reading.rt 6
 crates/nl_route/src/family.rt 4
-crates/rtnl/src/show.rt 2
-crates/rtnl_cli/src/explain.rt 1'
+crates/rtnl/src/show.rt 2'
 
 same 'each family is read by one arm' "$(counts 'read_body_ordered \$')" 'crates/nl_route/src/group.rt 5'
 

@@ -35,7 +35,6 @@ pub mod Writing
 pub mod Fitted
 pub mod Comparing
 pub mod Sized
-pub mod Towards
 pub mod Trail
 pub mod Fronts
 pub mod Putting

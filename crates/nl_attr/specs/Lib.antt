@@ -21,8 +21,7 @@ pub mod Measured
 pub mod Writes
 pub mod Compared
 pub mod Broken
-pub mod Towards
-pub mod Trail
+pub mod HeadOrder
 pub mod Taped
 pub mod Scanned
 pub mod Listed

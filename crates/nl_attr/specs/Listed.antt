@@ -5,7 +5,7 @@ use Rattle.nl_attr.specs.declared.events.TheConstants.{SORT_BYTES, SORT_LIST, SO
 use Rattle.nl_attr.specs.Numbers.{aligned}
 use Rattle.nl_attr.specs.Tree.{Val, bytes, list, hops, Items, no_items, item, HopItems, no_hops, hop}
 use Rattle.nl_attr.specs.Written.{val_len, items_len}
-use Rattle.nl_attr.specs.Trail.{attr_event, hop_event}
+use Rattle.nl_attr.specs.HeadOrder.{attr_event, hop_event}
 
 -- the sort of an attribute with this value
 abbrev pub sort_of_val : Val → ℕ

@@ -1,5 +1,5 @@
 -- What a scan of a region puts and counts, head by head and at its end.
-use Rattle.std.specs.Prelude.{◌≡◌, ◌+◌, ℕ, List, [], ◌∷◌, length, map, drop, Some, None}
+use Rattle.std.specs.Prelude.{◌≡◌, ◌+◌, ℕ, List, [], ◌∷◌, length, map, drop, Some, None, IfSome}
 use Rattle.nl_attr.specs.declared.events.Event.{Event}
 use Rattle.nl_attr.specs.declared.events.TheConstants.{SORT_BYTES}
 use Rattle.nl_attr.specs.declared.order.Order.{Order}
@@ -12,9 +12,10 @@ use Rattle.nl_attr.specs.declared.tree.Ctx.TheVariants.{Route}
 use Rattle.nl_attr.specs.Shape.{Shape}
 use Rattle.nl_attr.specs.Numbers.{kind_of, span_of}
 use Rattle.nl_attr.specs.Walk.{flags_of, payload_of}
+use Rattle.nl_attr.specs.Broken.{IsBrokenHead, fault_in}
 use Rattle.nl_attr.specs.Heads.{hop_head, Head, start_of, broken, follower, inner_of}
 use Rattle.nl_attr.specs.Region.{head_of}
-use Rattle.nl_attr.specs.Trail.{trail_of, event_of, put_from, stopped, visits_of, fault_of}
+use Rattle.nl_attr.specs.HeadOrder.{trail_of, event_of, put_from, stopped, visits_of, fault_of}
 
 -- the head with which a region of next hops begins
 abbrev pub hops_start : ℕ → ℕ → List ℕ → Head
@@ -41,7 +42,7 @@ pub record IsHopFront (o : Order) (h : Head) (f : HopFront) : Type 0 where
 
 -- these heads are added to what was found, and their events to the buffer
 pub record Adds (S : Shape) (hs : List Head) (before after : Taped) (old new : List Event) : Type 0 where
-  pub fault : after.fault ≡ before.fault
+  pub broken : after.broken ≡ before.broken
   pub count : after.count ≡ before.count + length hs
   pub visits : after.visits ≡ before.visits + visits_of S hs
   pub events : new ≡ put_from before.count (map (event_of S.order) hs) old
@@ -58,9 +59,10 @@ Steps S h before after old new (turn.Opens rest inner) =
 
 -- ---- a whole scan
 
--- The events of the heads of the region up to its first fault stand in the buffer from place `count` on, and are counted.
+-- The events of the heads of the region up to its first fault stand in the buffer from place `count` on, and are counted. The head that is answered is that fault's.
 pub record IsTaped (S : Shape) (start : Head) (count : ℕ) (old new : List Event) (t : Taped) : Type 0 where
-  pub fault : t.fault ≡ fault_of (trail_of S start).1
+  pub fault : fault_in t.broken ≡ fault_of (trail_of S start).1
+  pub head : IfSome t.broken (λ b. IsBrokenHead S start b)
   pub visits : t.visits ≡ visits_of S (trail_of S start).0
   pub counted : t.count ≡ count + length (trail_of S start).0
   pub events : new ≡ put_from count (map (event_of S.order) (trail_of S start).0) old

@@ -8,12 +8,14 @@ ghost use Rattle.std.specs.List.Sorted.{IsStrictlyIncreasing};
 ghost use Rattle.nl_attr.specs.declared.order.Order.{Order};
 ghost use Rattle.nl_attr.specs.declared.tree.Ctx.{Ctx};
 ghost use Rattle.nl_attr.specs.declared.fault.Reason.{Reason};
+ghost use Rattle.nl_attr.specs.declared.broken.BrokenHead.{BrokenHead};
+ghost use Rattle.nl_attr.specs.Broken.{IsBrokenHead};
 ghost use Rattle.nl_attr.specs.Shape.{Shape};
 ghost use Rattle.nl_attr.specs.Numbers.{aligned, num, number_of, AreBytes};
 ghost use Rattle.nl_attr.specs.Tree.{Items};
 ghost use Rattle.nl_attr.specs.Layout.{Fits};
 ghost use Rattle.nl_attr.specs.Heads.{FaultAt, Head, HeadAt, IsFirstFault, IsSound, start_of};
-ghost use Rattle.nl_attr.specs.Trail.{ComesBefore, IsEnd, event_of, trail_of};
+ghost use Rattle.nl_attr.specs.HeadOrder.{ComesBefore, IsEnd, event_of, trail_of};
 ghost use Rattle.nl_attr.specs.Listed.{items_events, rounded};
 ghost use Rattle.nl_attr.specs.Visits.{Visits};
 ghost use Rattle.nl_attr.specs.Written.{written, items_len};
@@ -57,6 +59,13 @@ pub fn fits_or_fault()
 pub fn one_first_fault()
     ensures { (s : Shape) (start : Head) (p q : ℕ) (r t : Reason)
         → IsFirstFault s start p r → IsFirstFault s start q t → (p ≡ q) × (r ≡ t) }
+{}
+
+/// At most one head of a region breaks a rule at a place: what a scan answers of it has no other
+/// reading.
+pub fn one_head_at_fault()
+    ensures { (s : Shape) (start : Head) (b c : BrokenHead) → IsBrokenHead s start b
+        → IsBrokenHead s start c → b.fault.place ≡ c.fault.place → b ≡ c }
 {}
 
 /// The visits of a region, up to any place, are no more than its length once for each level that is

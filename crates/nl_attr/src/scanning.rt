@@ -1,6 +1,7 @@
 //! Scanning a region of attributes: reading that keeps nothing.
 
 ghost use Rattle.std.specs.Prelude.{◌≤◌, ◌+◌, ◌-◌, ◌*◌, length, IfOk, IfErr};
+ghost use Rattle.nl_attr.specs.Broken.{fault_in};
 ghost use Rattle.nl_attr.specs.Heads.{IsFirstFault, start_of};
 ghost use Rattle.nl_attr.specs.Layout.{Fits};
 ghost use Rattle.nl_attr.specs.Reading.{items_of_region};
@@ -8,6 +9,7 @@ ghost use Rattle.nl_attr.specs.Scanned.{Ends, Scans, SeesUpTo};
 ghost use Rattle.nl_attr.specs.Shape.{shape_of};
 ghost use Rattle.nl_attr.specs.Tree.{Items};
 
+use crate::broken::BrokenHead;
 use crate::events::Event;
 use crate::fault::{Fault, Tally};
 use crate::limits::{Depth, FARTHEST_END, LONGEST_REGION};
@@ -15,13 +17,13 @@ use crate::order::Order;
 use crate::taping::{OpenRegions, tape_list};
 use crate::tree::Ctx;
 
-/// The answer of a scan that found this fault, or none.
-fn answer(fault: Option<Fault>) -> Result<(), Fault>
-    ensures { Ends fault result }
+/// The answer of a scan that ended at this head, or at none.
+fn answer(broken: Option<BrokenHead>) -> Result<(), Fault>
+    ensures { Ends (fault_in broken) result }
 {
-    match fault {
+    match broken {
         None => Ok(()),
-        Some(fault) => Err(fault),
+        Some(head) => Err(head.fault),
     }
 }
 
@@ -62,7 +64,7 @@ pub fn scan_list_ordered(
     let out: &mut [Event] = &mut [];
     let taped = tape_list(&mut regions, bytes, base, ctx, level, depth, order, out, 0);
     Tally {
-        result: answer(taped.fault),
+        result: answer(taped.broken),
         visits: taped.visits,
     }
 }

@@ -37,7 +37,7 @@ module _ (S : Shape) where
       (omega (arith, w.low, a), omega (arith, w.low, a, some, length-drop (span_at S.order s.left) s.left))
 
   -- a fault in a message's region lies behind its head, and before what follows it
-  in_region : (s : Rest) (h : Head) (p : ℕ) (r : Reason) → broken_message S.order s.left ≡ None → region_of S s ≡ Some h → RegionFaultAt S h p r → (s.place < p) × (p < s.place + span_at S.order s.left)
+  pub in_region : (s : Rest) (h : Head) (p : ℕ) (r : Reason) → broken_message S.order s.left ≡ None → region_of S s ≡ Some h → RegionFaultAt S h p r → (s.place < p) × (p < s.place + span_at S.order s.left)
   in_region s h p r e is f =
       let m = message_region S s h e is in
       let l = head_lies S h f.0 f.1 in

@@ -8,8 +8,8 @@ use Rattle.nl_attr.specs.declared.fault.Reason.{Reason}
 use Rattle.nl_attr.specs.Shape.{Shape}
 use Rattle.nl_attr.specs.Heads.{Head, HeadAt, IsSound}
 use Rattle.nl_attr.specs.Visits.{Rises}
-use Rattle.nl_attr.specs.Trail.{and_on, visit_of}
-use Rattle.nl_attr.specs.Trail as region
+use Rattle.nl_attr.specs.HeadOrder.{and_on, visit_of}
+use Rattle.nl_attr.specs.HeadOrder as region
 use Rattle.nl_attr.proofs.Lemmas.InOrder.{rising, up_to_before, covers}
 use Rattle.nl_attr.proofs.Lemmas.InOrder as regions
 use Rattle.nl_attr.proofs.Lemmas.Reading.{or_else_none, sound_within, span_at_least}
@@ -17,7 +17,7 @@ use Rattle.nl_attr.proofs.Lemmas.Scan.{Scan, head_lies, no_length, span_within}
 use Rattle.nl_attr.proofs.Lemmas.Visited.{Rises-append, Rises-from, Rises-to, EndsIn}
 use Rattle.nl_frame.specs.Front.{span_at, broken_message}
 use Rattle.nl_frame.specs.Heads.{Rest, behind, first, region_of}
-use Rattle.nl_frame.specs.Trail.{AnyHead, header, inner, place_of, Trail, trail_turn, region_trail, trail_at, trail_of, StandsIn, IsEnd, ComesUpTo}
+use Rattle.nl_frame.specs.HeadOrder.{AnyHead, header, inner, place_of, Trail, trail_turn, region_trail, trail_at, trail_of, StandsIn, IsEnd, ComesUpTo}
 use Rattle.nl_frame.proofs.Apart.{goes_on}
 use Rattle.nl_frame.proofs.Scan.{Finds, frame_finds, same, after, message_begins, message_lies, message_region, message_then, behind_reached, behind_shorter, fault_place, no_region, same_region}
 use Rattle.nl_frame.proofs.Trails.{frame_scan_is}

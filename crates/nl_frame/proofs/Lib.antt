@@ -21,7 +21,7 @@ pub mod Sums
 pub mod Tapes
 pub mod Outcomes
 mod Datagrams
-pub mod Towards
+pub mod OneHead
 pub mod Trails
 pub mod Within
 pub mod Writable

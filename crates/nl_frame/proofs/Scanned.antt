@@ -1,54 +1,76 @@
 -- What the answer of a scan says in the words of the layout.
-use Rattle.std.proofs.Common.{◌≡◌, ◌<◌, ◌≤◌, ◌+◌, ◌*◌, ◌↔◌, ℕ, List, length, Option, Some, None, Result, Ok, Err, IfOk, IfErr, refl, sym, ap, subst, ◌∙◌, arith}
+use Rattle.std.proofs.Common.{◌≡◌, ◌<◌, ◌≤◌, ◌+◌, ◌*◌, ◌↔◌, ℕ, List, length, Option, Some, None, Result, Ok, Err, IfOk, IfErr, IfSome, refl, sym, ap, subst, ◌∙◌, arith}
 use Rattle.std.proofs.lemmas.List.{length-map}
 use Rattle.nl_attr.specs.declared.events.Event.{Event}
 use Rattle.nl_attr.specs.declared.fault.Fault.{Fault}
 use Rattle.nl_attr.specs.declared.fault.Reason.{Reason}
 use Rattle.nl_attr.specs.declared.fault.Tally.{Tally}
+use Rattle.nl_attr.specs.declared.broken.BrokenHead.{BrokenHead}
 use Rattle.nl_attr.specs.declared.taping.Taped.{Taped}
+use Rattle.nl_attr.specs.Broken.{fault_in}
 use Rattle.nl_attr.specs.Shape.{Shape}
 use Rattle.nl_attr.specs.Numbers.{AreBytes}
 use Rattle.nl_attr.specs.Reading.{Outcome}
 use Rattle.nl_attr.specs.Scanned.{without}
-use Rattle.nl_attr.specs.Trail.{fault_of}
+use Rattle.nl_attr.specs.HeadOrder.{fault_of}
 use Rattle.nl_attr.proofs.Lemmas.Scanned.{not_ok, not_err, same_fault, same_sum}
 use Rattle.nl_attr.proofs.Lemmas.Trail.{end_of}
 use Rattle.nl_frame.specs.declared.scanning.ScanError.{ScanError}
 use Rattle.nl_frame.specs.declared.scanning.ScanError.TheVariants.{TooLarge, Layout as Fails}
+use Rattle.nl_frame.specs.Broken.{IsBrokenHead}
 use Rattle.nl_frame.specs.Heads.{IsFirstFault, Visits, whole}
 use Rattle.nl_frame.specs.Layout.{Layout}
 use Rattle.nl_frame.specs.Limits.{Bounds}
 use Rattle.nl_frame.specs.Scans.{ScansDatagram}
 use Rattle.nl_frame.specs.Message.{MessageVal}
 use Rattle.nl_frame.specs.Reading.{messages_of}
-use Rattle.nl_frame.specs.Taped.{IsTaped, Ends, HasEnd, as_read}
+use Rattle.nl_frame.specs.Taped.{IsTaped, Ends, HasEnd, IfBroken, as_read}
 use Rattle.nl_frame.specs.Outcomes.{IfFault, VisitsUpTo}
-use Rattle.nl_frame.specs.Trail.{events_of, event_of, trail_of, visits_of}
+use Rattle.nl_frame.specs.HeadOrder.{events_of, event_of, trail_of, visits_of}
 use Rattle.nl_frame.proofs.Firsts.{err_first, err_visits, ok_visits}
 use Rattle.nl_frame.proofs.Layouts.{messages_fit}
 use Rattle.nl_frame.proofs.Outcomes.{ok_fits}
 use Rattle.nl_frame.proofs.Trails.{reads}
 
-says : {Y : Type 0} (S : Shape) (r : Result ℕ ScanError) (v n m : ℕ) (e : Option (ℕ × Reason)) (o : Outcome Y) → without o ≡ (end_of S e, m) → Ends n (fault_of e) r → v ≡ m → HasEnd r v o
-says S (Ok x) v n m None o w i j = w ∙ ap (λ (k : ℕ). (Ok tt, k)) (sym j)
-says S (Ok x) v n m (Some f) o w i j = absurd i
-says S (Err x) v n m None o w i j = absurd i
-says S (Err TooLarge) v n m (Some f) o w i j = absurd (let y : TooLarge ≡ Fails (record { place = f.0; reason = f.1 }) = i in cc)
-says S (Err (Fails g)) v n m (Some f) o w i j = let y : Fails g ≡ Fails (record { place = f.0; reason = f.1 }) = i in let z : g ≡ record { place = f.0; reason = f.1 } = cc in w ∙ rw (z, j) refl
+-- how a reading ends that meets this fault, or none
+abbrev ends_with : Option Fault → Result (Unit {0}) Fault
+ends_with None = Ok tt
+ends_with (Some f) = Err f
 
-counts : (r : Result ℕ ScanError) (f : Option Fault) (n m : ℕ) → n ≡ m → Ends n f r → IfOk r (λ k. k ≡ m)
+end_is : (S : Shape) (e : Option (ℕ × Reason)) → end_of S e ≡ ends_with (fault_of e)
+end_is S None = refl
+end_is S (Some f) = refl
+
+says : {Y : Type 0} (r : Result ℕ ScanError) (v n m : ℕ) (x : Option BrokenHead) (o : Outcome Y) → without o ≡ (ends_with (fault_in x), m) → Ends n x r → v ≡ m → HasEnd r v o
+says (Ok y) v n m None o w i j = w ∙ ap (λ (k : ℕ). (Ok tt, k)) (sym j)
+says (Ok y) v n m (Some b) o w i j = absurd i
+says (Err y) v n m None o w i j = absurd i
+says (Err TooLarge) v n m (Some b) o w i j = absurd (let y : TooLarge ≡ Fails b = i in cc)
+says (Err (Fails c)) v n m (Some b) o w i j = let y : Fails c ≡ Fails b = i in let z : c ≡ b = cc in w ∙ rw (z, j) refl
+
+counts : (r : Result ℕ ScanError) (x : Option BrokenHead) (n m : ℕ) → n ≡ m → Ends n x r → IfOk r (λ k. k ≡ m)
 counts (Ok k) None n m e i = i ∙ e
-counts (Ok k) (Some g) n m e i = absurd i
-counts (Err x) f n m e i = tt
+counts (Ok k) (Some b) n m e i = absurd i
+counts (Err y) x n m e i = tt
+
+-- what holds of the head at which a scan ended, holds of the head that it answers
+pub head_is : (r : Result ℕ ScanError) (x : Option BrokenHead) (n : ℕ) (P : BrokenHead → Type 0) → Ends n x r → IfSome x P → IfErr r (λ e. IfBroken e P)
+head_is (Ok k) x n P i h = tt
+head_is (Err y) None n P i h = absurd i
+head_is (Err TooLarge) (Some b) n P i h = tt
+head_is (Err (Fails c)) (Some b) n P i h = let y : Fails c ≡ Fails b = i in let z : c ≡ b = cc in subst P (sym z) h
 
 module _ (S : Shape) (d : List ℕ) where
   -- an answer of the events of the heads ends as a reading does
-  pub says_so : (old new : List Event) (t : Taped) (r : Result ℕ ScanError) → IsTaped S (trail_of S (whole d)) 0 old new t → Ends t.count t.fault r → HasEnd r t.visits (messages_of S 0 d)
-  says_so old new t r is ends = says S r t.visits t.count (visits_of S (trail_of S (whole d)).0) (trail_of S (whole d)).1 (messages_of S 0 d) (reads S d) (subst (λ f. Ends t.count f r) is.fault ends) is.visits
+  pub says_so : (old new : List Event) (t : Taped) (r : Result ℕ ScanError) → IsTaped S (trail_of S (whole d)) 0 old new t → Ends t.count t.broken r → HasEnd r t.visits (messages_of S 0 d)
+  says_so old new t r is ends =
+      let o = trail_of S (whole d) in
+      says r t.visits t.count (visits_of S o.0) t.broken (messages_of S 0 d)
+      (reads S d ∙ ap (λ (e : Result (Unit {0}) Fault). (e, visits_of S o.0)) (end_is S o.1 ∙ ap ends_with (sym is.fault))) ends is.visits
 
   -- and counts them
-  pub count_of : (old new : List Event) (t : Taped) (r : Result ℕ ScanError) → IsTaped S (trail_of S (whole d)) 0 old new t → Ends t.count t.fault r → IfOk r (λ n. n ≡ length (events_of S (whole d)))
-  count_of old new t r is ends = counts r t.fault t.count (length (events_of S (whole d))) (omega (arith, is.counted, length-map (trail_of S (whole d)).0 (event_of S.order))) ends
+  pub count_of : (old new : List Event) (t : Taped) (r : Result ℕ ScanError) → IsTaped S (trail_of S (whole d)) 0 old new t → Ends t.count t.broken r → IfOk r (λ n. n ≡ length (events_of S (whole d)))
+  count_of old new t r is ends = counts r t.broken t.count (length (events_of S (whole d))) (omega (arith, is.counted, length-map (trail_of S (whole d)).0 (event_of S.order))) ends
 
   module _ {X : Type 0} where
     -- some list is the layout
@@ -63,16 +85,16 @@ module _ (S : Shape) (d : List ℕ) where
     pub first_of : (r : Result X ScanError) (v : ℕ) → HasEnd r v (messages_of S 0 d) → IfErr (as_read r) (λ e. IfFault e (λ f. IsFirstFault S (whole d) f.place f.reason))
     first_of (Ok x) v w = tt
     first_of (Err TooLarge) v w = tt
-    first_of (Err (Fails f)) v w = split (messages_of S 0 d) refl w where
-      split : (o : Outcome (List MessageVal)) → messages_of S 0 d ≡ o → without o ≡ (Err f, v) → IsFirstFault S (whole d) f.place f.reason
-      split (Ok is, n) e w = not_err f n v w
-      split (Err g, n) e w = subst (λ (x : Fault). IsFirstFault S (whole d) x.place x.reason) (same_fault g f n v w) (err_first S d g n e)
+    first_of (Err (Fails b)) v w = split (messages_of S 0 d) refl w where
+      split : (o : Outcome (List MessageVal)) → messages_of S 0 d ≡ o → without o ≡ (Err b.fault, v) → IsFirstFault S (whole d) b.fault.place b.fault.reason
+      split (Ok is, n) e w = not_err b.fault n v w
+      split (Err g, n) e w = subst (λ (x : Fault). IsFirstFault S (whole d) x.place x.reason) (same_fault g b.fault n v w) (err_first S d g n e)
 
     -- no list is the layout
     pub none_of : (r : Result X ScanError) (v : ℕ) → HasEnd r v (messages_of S 0 d) → IfErr (as_read r) (λ e. IfFault e (λ _. (ms : List MessageVal) → Layout S ms d → ⊥))
     none_of (Ok x) v w = tt
     none_of (Err TooLarge) v w = tt
-    none_of (Err (Fails f)) v w = λ ms l. let h = messages_fit S ms 0 d l in not_err f h.0 v (sym (ap without h.1) ∙ w)
+    none_of (Err (Fails b)) v w = λ ms l. let f = b.fault in let h = messages_fit S ms 0 d l in not_err f h.0 v (sym (ap without h.1) ∙ w)
 
     -- the visits are those up to the end
     pub visits_of_scan : (r : Result X ScanError) (v : ℕ) → HasEnd r v (messages_of S 0 d) → VisitsUpTo S d (as_read r) v
@@ -81,10 +103,10 @@ module _ (S : Shape) (d : List ℕ) where
       split (Ok ms, n) e w = subst (Visits S (whole d) (length d)) (same_sum (Ok tt, n) (Ok tt, v) w) (ok_visits S d ms n e)
       split (Err f, n) e w = not_ok f n v w
     visits_of_scan (Err TooLarge) v w = absurd w
-    visits_of_scan (Err (Fails f)) v w = split (messages_of S 0 d) refl w where
-      split : (o : Outcome (List MessageVal)) → messages_of S 0 d ≡ o → without o ≡ (Err f, v) → Visits S (whole d) f.place v
-      split (Ok is, n) e w = not_err f n v w
-      split (Err g, n) e w = subst (λ (x : Fault). Visits S (whole d) x.place v) (same_fault g f n v w) (subst (Visits S (whole d) g.place) (same_sum (Err g, n) (Err f, v) w) (err_visits S d g n e))
+    visits_of_scan (Err (Fails b)) v w = split (messages_of S 0 d) refl w where
+      split : (o : Outcome (List MessageVal)) → messages_of S 0 d ≡ o → without o ≡ (Err b.fault, v) → Visits S (whole d) b.fault.place v
+      split (Ok is, n) e w = not_err b.fault n v w
+      split (Err g, n) e w = subst (λ (x : Fault). Visits S (whole d) x.place v) (same_fault g b.fault n v w) (subst (Visits S (whole d) g.place) (same_sum (Err g, n) (Err b.fault, v) w) (err_visits S d g n e))
 
     -- it isn't refused for its size
     not_large : (r : Result X ScanError) (v : ℕ) → HasEnd r v (messages_of S 0 d) → r ≡ Err TooLarge → ⊥
@@ -95,12 +117,13 @@ module _ (S : Shape) (d : List ℕ) where
 
 module _ (b : Bounds) (d : List ℕ) where
   -- what a scan answers of a datagram within the limit that ends as a reading does
-  pub scans : {X : Type 0} (t : Tally X ScanError) → AreBytes d → (b.datagram < length d → ⊥) → HasEnd t.result t.visits (messages_of b.shape 0 d) → t.visits ≤ (b.shape.depth + 1) * length d → ScansDatagram b d t
-  scans t fits small e bound = record {
+  pub scans : {X : Type 0} (t : Tally X ScanError) → AreBytes d → (b.datagram < length d → ⊥) → HasEnd t.result t.visits (messages_of b.shape 0 d) → IfErr t.result (λ e. IfBroken e (IsBrokenHead b.shape (whole d))) → t.visits ≤ (b.shape.depth + 1) * length d → ScansDatagram b d t
+  scans t fits small e head bound = record {
     large = large_of b.shape d t.result t.visits b.datagram e small;
     outcome = λ _. e;
     fits = fits_of b.shape d t.result t.visits fits e;
     first = first_of b.shape d t.result t.visits e;
+    head = head;
     none = none_of b.shape d t.result t.visits e;
     visits = visits_of_scan b.shape d t.result t.visits e;
     bound = bound;

@@ -1,25 +1,30 @@
 -- The loop that scans the messages of a datagram.
-use Rattle.std.proofs.Common.{◌≡◌, ◌≢◌, ℕ, ◌+◌, ◌*◌, ◌^◌, ◌≤◌, ◌<◌, List, [], ◌∷◌, ◌++◌, length, map, slice_set, Option, Some, None, refl, sym, ap, ◌∙◌, arith, length-append, length-drop}
+use Rattle.std.proofs.Common.{◌≡◌, ◌≢◌, ℕ, ◌+◌, ◌*◌, ◌^◌, ◌≤◌, ◌<◌, List, [], ◌∷◌, ◌++◌, length, map, slice_set, Option, Some, None, refl, sym, ap, subst, ◌∙◌, inl, inr, IfSome, arith, length-append, length-drop}
 use Rattle.std.proofs.lemmas.List.{append-nil, length-map, map-append}
 use Rattle.nl_attr.specs.declared.limits.TheConstants.{LONGEST_REGION}
 use Rattle.nl_attr.specs.declared.events.Event.{Event}
 use Rattle.nl_attr.specs.declared.fault.Fault.{Fault}
 use Rattle.nl_attr.specs.declared.fault.Reason.{Reason}
+use Rattle.nl_attr.specs.declared.broken.BrokenHead.{BrokenHead}
 use Rattle.nl_attr.specs.declared.taping.Taped.{Taped}
+use Rattle.nl_attr.specs.Broken.{fault_in}
 use Rattle.nl_attr.specs.Shape.{Shape}
 use Rattle.nl_attr.specs.Heads.{Head}
 use Rattle.nl_attr.specs.Visits.{spans}
-use Rattle.nl_attr.specs.Trail.{and_on, fault_of, put_from}
-use Rattle.nl_attr.specs.Trail as region
+use Rattle.nl_attr.specs.HeadOrder.{and_on, fault_of, put_from}
+use Rattle.nl_attr.specs.HeadOrder as region
 use Rattle.nl_attr.specs.Taped as regions
 use Rattle.nl_attr.proofs.Lemmas.First.{sum_append}
 use Rattle.nl_attr.proofs.Lemmas.Putting.{put_none, put_on, put_one}
+use Rattle.nl_attr.proofs.Lemmas.Reading.{or_else_none}
 use Rattle.nl_frame.specs.declared.front.Frame.{Frame}
 use Rattle.nl_frame.specs.Front.{span_at, broken_message, IsFrame}
-use Rattle.nl_frame.specs.Heads.{Rest, region_in, whole}
+use Rattle.nl_frame.specs.Broken.{IsBrokenHead, IsBrokenIn, message_facts}
+use Rattle.nl_frame.specs.Heads.{Rest, MessageAt, behind, first, region_in, region_of, whole}
 use Rattle.nl_frame.specs.Taped.{IsTaped, IsFrameTaped}
-use Rattle.nl_frame.specs.Trail.{AnyHead, header, inner, Trail, region_trail, trail_of, visits_in, visits_of, event_of, header_event}
+use Rattle.nl_frame.specs.HeadOrder.{AnyHead, header, inner, Trail, region_trail, trail_of, visits_in, visits_of, event_of, header_event}
 use Rattle.nl_frame.proofs.Fronts.{step_bound, whole_bound, small}
+use Rattle.nl_frame.proofs.Scan.{message_then, behind_reached}
 use Rattle.nl_frame.proofs.Trails.{front, front_front, trail_ends, trail_stops, trail_goes, visits_in_append, visits_in_region}
 
 module _ (S : Shape) where
@@ -50,39 +55,46 @@ module _ (S : Shape) where
     pub counted : count ≡ length hs
     pub seen : visits ≡ visits_of S hs
     pub events : out ≡ put_from 0 (map (event_of S.order) hs) old
+    pub reach : (m : Rest) → MessageAt S (record { place = place; left = left }) m → MessageAt S (whole d) m
     pub size : place + length left ≡ length d
     pub bound : visits ≤ (S.depth + 1) * place
     pub few : count ≤ place + visits
 
   -- the whole datagram is left
   pub begins : (d : List ℕ) (old : List Event) → IsTaping d old 0 0 0 d old
-  begins d old = record { hs = []; same = refl; counted = refl; seen = refl; events = sym (put_none 0 old); size = omega arith; bound = omega arith; few = omega arith }
+  begins d old = record { hs = []; same = refl; counted = refl; seen = refl; events = sym (put_none 0 old); reach = λ m p. p; size = omega arith; bound = omega arith; few = omega arith }
 
 module _ {S : Shape} {d : List ℕ} {old : List Event} {count visits place : ℕ} {left : List ℕ} {out : List Event} (now : IsTaping S d old count visits place left out) where
   rest : Rest
   rest = record { place = place; left = left }
 
   -- these are all heads, and this is what ends them
-  ends_so : (hs : List AnyHead) (o : Option (ℕ × Reason)) (n v : ℕ) (new : List Event) → trail_of S (whole d) ≡ (hs, o) → n ≡ length hs → v ≡ visits_of S hs → new ≡ put_from 0 (map (event_of S.order) hs) old
-      → IsTaped S (trail_of S (whole d)) 0 old new (record { fault = fault_of o; count = n; visits = v })
-  ends_so hs o n v new e c s p = record {
-    fault = ap (λ (t : Trail). fault_of t.1) (sym e);
+  ends_so : (hs : List AnyHead) (o : Option (ℕ × Reason)) (x : Option BrokenHead) (n v : ℕ) (new : List Event) → trail_of S (whole d) ≡ (hs, o) → fault_in x ≡ fault_of o → n ≡ length hs → v ≡ visits_of S hs → new ≡ put_from 0 (map (event_of S.order) hs) old
+      → IsTaped S (trail_of S (whole d)) 0 old new (record { broken = x; count = n; visits = v })
+  ends_so hs o x n v new e f c s p = record {
+    fault = f ∙ ap (λ (t : Trail). fault_of t.1) (sym e);
     visits = s ∙ ap (λ (t : Trail). visits_of S t.0) (sym e);
     counted = omega (arith, c, ap (λ (t : Trail). length t.0) e);
     events = p ∙ ap (λ (t : Trail). put_from 0 (map (event_of S.order) t.0) old) (sym e);
   }
 
   -- nothing is left
-  pub tells_none : left ≡ [] → IsTaped S (trail_of S (whole d)) 0 old out (record { fault = None; count = count; visits = visits })
+  pub tells_none : left ≡ [] → IsTaped S (trail_of S (whole d)) 0 old out (record { broken = None; count = count; visits = visits })
   unfolding rest
-  tells_none e = ends_so now.hs None count visits out
-      (now.same ∙ ap (front now.hs) (trail_ends S rest e) ∙ ap (λ (l : List AnyHead). (l, None)) (append-nil now.hs)) now.counted now.seen now.events
+  tells_none e = ends_so now.hs None None count visits out
+      (now.same ∙ ap (front now.hs) (trail_ends S rest e) ∙ ap (λ (l : List AnyHead). (l, None)) (append-nil now.hs)) refl now.counted now.seen now.events
 
   -- the header of what is left breaks a rule
-  pub tells_broken : (why : Reason) → left ≢ [] → broken_message S.order left ≡ Some why → IsTaped S (trail_of S (whole d)) 0 old out (record { fault = Some (record { place = place; reason = why }); count = count; visits = visits })
+  pub tells_broken : (why : Reason) (x : BrokenHead) → left ≢ [] → broken_message S.order left ≡ Some why → x ≡ message_facts S.order why (record { place = place; left = left })
+      → IsTaped S (trail_of S (whole d)) 0 old out (record { broken = Some x; count = count; visits = visits })
   unfolding rest
-  tells_broken why some e = ends_so now.hs (Some (place, why)) count visits out
-      (now.same ∙ ap (front now.hs) (trail_stops S rest why some e) ∙ ap (λ (l : List AnyHead). (l, Some (place, why))) (append-nil now.hs)) now.counted now.seen now.events
+  tells_broken why x some e is = ends_so now.hs (Some (place, why)) (Some x) count visits out
+      (now.same ∙ ap (front now.hs) (trail_stops S rest why some e) ∙ ap (λ (l : List AnyHead). (l, Some (place, why))) (append-nil now.hs)) (ap (λ (y : BrokenHead). Some y.fault) is) now.counted now.seen now.events
+
+  -- and is the head that does
+  pub header_breaks : (why : Reason) (x : BrokenHead) → left ≢ [] → broken_message S.order left ≡ Some why → x ≡ message_facts S.order why (record { place = place; left = left }) → IsBrokenHead S (whole d) x
+  unfolding rest
+  header_breaks why x some e is = subst (IsBrokenHead S (whole d)) (sym is) (inl (rest, now.reach rest (first some), e, refl))
 
   -- ---- a message
 
@@ -158,26 +170,53 @@ module _ {S : Shape} {d : List ℕ} {old : List Event} {count visits place : ℕ
     fault_none None e = refl
     fault_none (Some k) e = absurd (let x : ◌≡◌ {A = Option Fault} None (Some (record { place = k.0; reason = k.1 })) = e in cc)
 
+    -- the region in its body
+    region_is : region_of S rest ≡ region_in f.form (place + 16) f.payload.now
+    unfolding rest
+    region_is = rw (is.form, is.payload) refl
+
+    -- a head in the body stands in the datagram
+    breaks_inside : (o : Option Head) (b : BrokenHead) → region_of S rest ≡ o → IsBrokenIn S o b → IsBrokenHead S (whole d) b
+    unfolding rest
+    breaks_inside None b e x = absurd x
+    breaks_inside (Some h) b e x = inr (x.0, (rest, h, now.reach rest (first some), is.sound, e, x.1), x.2, x.3)
+
+    pub inner_breaks : (o : Option BrokenHead) (b : BrokenHead) → o ≡ Some b → IfSome o (IsBrokenIn S (region_in f.form (place + 16) f.payload.now)) → IsBrokenHead S (whole d) b
+    inner_breaks o b e x = breaks_inside (region_in f.form (place + 16) f.payload.now) b region_is (subst (λ (y : Option BrokenHead). IfSome y (IsBrokenIn S (region_in f.form (place + 16) f.payload.now))) e x)
+
+    -- what is behind it stands in the datagram
+    onward_is : onward ≡ behind S rest
+    unfolding rest onward
+    onward_is = rw (is.span, is.rest) refl
+
+    onward_reach : (m : Rest) → MessageAt S onward m → MessageAt S (whole d) m
+    unfolding rest onward
+    onward_reach m p =
+        let q : MessageAt S (behind S rest) m = subst (λ (r : Rest). MessageAt S r m) onward_is p in
+        now.reach m (message_then S rest (behind S rest) m (behind_reached S rest m some (or_else_none _ _ is.sound).0 q) q)
+
     module _ (new : List Event) (t : Taped) (taped : IsFrameTaped S f place count out new t) where
       -- a head in it breaks a rule
-      pub tells_fault : (g : Fault) → t.fault ≡ Some g → IsTaped S (trail_of S (whole d)) 0 old new (record { fault = Some g; count = t.count; visits = visits + t.visits })
+      pub tells_fault : (b : BrokenHead) → t.broken ≡ Some b → IsTaped S (trail_of S (whole d)) 0 old new (record { broken = Some b; count = t.count; visits = visits + t.visits })
       unfolding outcome body
-      tells_fault g e =
-          ends_so (found ++ body.0) (Some (g.place, g.reason)) t.count (visits + t.visits) new
-          (goes ∙ ap (front found) (stops_at body (trail_of S onward) (g.place, g.reason) (fault_some body.1 g (sym e ∙ taped.fault))))
+      tells_fault b e =
+          ends_so (found ++ body.0) (Some (b.fault.place, b.fault.reason)) (Some b) t.count (visits + t.visits) new
+          (goes ∙ ap (front found) (stops_at body (trail_of S onward) (b.fault.place, b.fault.reason) (fault_some body.1 b.fault (sym (ap fault_in e) ∙ taped.fault))))
+          refl
           (omega (arith, taped.counted, counts body.0))
           (omega (arith, taped.visits, sees body.0))
           (taped.events ∙ put_more body.0)
 
       -- none does
-      pub goes_on : t.fault ≡ None → t.visits ≤ (S.depth + 1) * length f.payload.now → t.count ≤ count + 1 + t.visits → IsTaping S d old t.count (visits + t.visits) (place + f.span) f.rest.now new
+      pub goes_on : t.broken ≡ None → t.visits ≤ (S.depth + 1) * length f.payload.now → t.count ≤ count + 1 + t.visits → IsTaping S d old t.count (visits + t.visits) (place + f.span) f.rest.now new
       unfolding outcome body onward
       goes_on e b c = record {
         hs = found ++ body.0;
-        same = goes ∙ ap (front found) (passes_at body (trail_of S onward) (fault_none body.1 (sym e ∙ taped.fault))) ∙ front_front found body.0 (trail_of S onward);
+        same = goes ∙ ap (front found) (passes_at body (trail_of S onward) (fault_none body.1 (sym (ap fault_in e) ∙ taped.fault))) ∙ front_front found body.0 (trail_of S onward);
         counted = omega (arith, taped.counted, counts body.0);
         seen = omega (arith, taped.visits, sees body.0);
         events = taped.events ∙ put_more body.0;
+        reach = onward_reach;
         size = omega (arith, is.within, now.size, is.span, ap (length {A = ℕ}) is.rest, length-drop (span_at S.order left) left);
         bound = step_bound (S.depth + 1) visits t.visits place f.span (length f.payload.now) now.bound b (omega (arith, is.inside));
         few = omega (arith, c, now.few, is.inside);

@@ -6,15 +6,15 @@ use Rattle.nl_attr.specs.Shape.{Shape}
 use Rattle.nl_attr.specs.Heads.{Head}
 use Rattle.nl_attr.specs.Scanned.{without}
 use Rattle.nl_attr.specs.Visits.{spans}
-use Rattle.nl_attr.specs.Trail.{and_on, visit_of}
-use Rattle.nl_attr.specs.Trail as region
+use Rattle.nl_attr.specs.HeadOrder.{and_on, visit_of}
+use Rattle.nl_attr.specs.HeadOrder as region
 use Rattle.nl_attr.proofs.Lemmas.Scan.{Scan, join}
 use Rattle.nl_attr.proofs.Lemmas.Trail.{end_of, agrees_so}
 use Rattle.nl_attr.proofs.Lemmas.Trail as regions
 use Rattle.nl_frame.specs.Front.{broken_message}
 use Rattle.nl_frame.specs.Heads.{Rest, behind, region_of, whole}
 use Rattle.nl_frame.specs.Reading.{messages_of}
-use Rattle.nl_frame.specs.Trail.{AnyHead, header, inner, Trail, trail_turn, region_trail, trail_at, trail_of, visits_in, visits_of}
+use Rattle.nl_frame.specs.HeadOrder.{AnyHead, header, inner, Trail, trail_turn, region_trail, trail_at, trail_of, visits_in, visits_of}
 use Rattle.nl_frame.proofs.Firsts.{messages_scan}
 use Rattle.nl_frame.proofs.Scan.{region_scan, turn, frame_scan, behind_shorter}
 

@@ -15,8 +15,7 @@ pub mod OneList
 pub mod Measured
 pub mod Compared
 pub mod Broken
-pub mod Towards
-pub mod Trail
+pub mod HeadOrder
 pub mod Taped
 pub mod Scans
 pub mod Listed
@@ -34,5 +33,5 @@ pub use Rattle.nl_route.specs.Body
 pub use Rattle.nl_attr.specs.Written as RegionWritten
 pub use Rattle.nl_attr.specs.Proper as RegionProper
 pub use Rattle.nl_attr.specs.Broken as RegionBroken
-pub use Rattle.nl_attr.specs.Trail as RegionTrail
+pub use Rattle.nl_attr.specs.HeadOrder as RegionHeadOrder
 pub use Rattle.nl_attr.specs.Listed as RegionListed

@@ -6,7 +6,7 @@ use Rattle.nl_attr.specs.Listed.{items_events}
 use Rattle.nl_route.specs.Families.{head_size, group_of}
 use Rattle.nl_frame.specs.Message.{BodyVal, noop, error, done, overrun, family, get, other, MessageVal}
 use Rattle.nl_frame.specs.Written.{body_len}
-use Rattle.nl_frame.specs.Trail.{header_event}
+use Rattle.nl_frame.specs.HeadOrder.{header_event}
 
 -- the heads of the attributes in a body at a place
 abbrev pub body_events : ℕ → BodyVal → List Event

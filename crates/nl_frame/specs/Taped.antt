@@ -1,23 +1,24 @@
 -- What a scan of a datagram puts and counts, head by head and at its end.
 use Rattle.std.specs.Prelude.{◌≡◌, ◌+◌, ℕ, List, length, map, slice_set, Option, Some, None, Result, Ok, Err}
 use Rattle.nl_attr.specs.declared.events.Event.{Event}
-use Rattle.nl_attr.specs.declared.fault.Fault.{Fault}
+use Rattle.nl_attr.specs.declared.broken.BrokenHead.{BrokenHead}
 use Rattle.nl_attr.specs.declared.taping.Taped.{Taped}
+use Rattle.nl_attr.specs.Broken.{fault_in}
 use Rattle.nl_attr.specs.Shape.{Shape}
 use Rattle.nl_attr.specs.Reading.{Outcome}
 use Rattle.nl_attr.specs.Scanned.{without}
-use Rattle.nl_attr.specs.Trail.{put_from, fault_of}
+use Rattle.nl_attr.specs.HeadOrder.{put_from, fault_of}
 use Rattle.nl_frame.specs.declared.front.Frame.{Frame}
 use Rattle.nl_frame.specs.declared.reading.ReadError.{ReadError}
 use Rattle.nl_frame.specs.declared.reading.ReadError.TheVariants as unread
 use Rattle.nl_frame.specs.declared.scanning.ScanError.{ScanError}
 use Rattle.nl_frame.specs.declared.scanning.ScanError.TheVariants.{TooLarge, Layout}
 use Rattle.nl_frame.specs.Heads.{region_in}
-use Rattle.nl_frame.specs.Trail.{Trail, region_trail, visits_of, event_of, header_event}
+use Rattle.nl_frame.specs.HeadOrder.{Trail, region_trail, visits_of, event_of, header_event}
 
 -- the events of these heads stand in the buffer from place `count` on, and are counted
 pub record IsTaped (S : Shape) (trail : Trail) (count : ℕ) (old new : List Event) (t : Taped) : Type 0 where
-  pub fault : t.fault ≡ fault_of trail.1
+  pub fault : fault_in t.broken ≡ fault_of trail.1
   pub visits : t.visits ≡ visits_of S trail.0
   pub counted : t.count ≡ count + length trail.0
   pub events : new ≡ put_from count (map (event_of S.order) trail.0) old
@@ -28,17 +29,22 @@ IsFrameTaped S f place count old new t =
     IsTaped S (region_trail S (region_in f.form (place + 16) f.payload.now)) (count + 1)
     (slice_set old count (header_event place f.header.kind (length f.payload.now))) new t
 
--- it is refused for this fault, or accepted with this count where there is none
-abbrev pub Ends : ℕ → Option Fault → Result ℕ ScanError → Type 0
+-- it is refused for the fault of this head, or accepted with this count where there is none
+abbrev pub Ends : ℕ → Option BrokenHead → Result ℕ ScanError → Type 0
 Ends count None (Ok n) = n ≡ count
 Ends count None (Err e) = ⊥
-Ends count (Some g) (Ok n) = ⊥
-Ends count (Some g) (Err e) = e ≡ Layout g
+Ends count (Some b) (Ok n) = ⊥
+Ends count (Some b) (Err e) = e ≡ Layout b
+
+-- a head that breaks a rule, and no other refusal
+abbrev pub IfBroken : ScanError → (BrokenHead → Type 0) → Type 0
+IfBroken TooLarge P = Unit {0}
+IfBroken (Layout b) P = P b
 
 -- a refusal of a scan, as reading refuses
 abbrev pub read_refusal : ScanError → ReadError
 read_refusal TooLarge = unread.TooLarge
-read_refusal (Layout f) = unread.Layout f
+read_refusal (Layout b) = unread.Layout b.fault
 
 -- an answer of a scan, as reading answers
 abbrev pub as_read : {X : Type 0} → Result X ScanError → Result X ReadError
@@ -49,4 +55,4 @@ as_read (Err e) = Err (read_refusal e)
 abbrev pub HasEnd : {X Y : Type 0} → Result X ScanError → ℕ → Outcome Y → Type 0
 HasEnd (Ok x) v o = without o ≡ (Ok tt, v)
 HasEnd (Err TooLarge) v o = ⊥
-HasEnd (Err (Layout f)) v o = without o ≡ (Err f, v)
+HasEnd (Err (Layout b)) v o = without o ≡ (Err b.fault, v)

@@ -5,15 +5,17 @@ ghost use Rattle.std.specs.Prelude.{All, Contains, map};
 ghost use Rattle.std.specs.List.Sorted.{IsStrictlyIncreasing};
 ghost use Rattle.nl_attr.specs.declared.order.Order.{Order};
 ghost use Rattle.nl_attr.specs.declared.fault.Reason.{Reason};
+ghost use Rattle.nl_attr.specs.declared.broken.BrokenHead.{BrokenHead};
 ghost use Rattle.nl_attr.specs.Shape.{Shape};
 ghost use Rattle.nl_attr.specs.Numbers.{aligned, AreBytes};
 ghost use Rattle.nl_frame.specs.Message.{MessageVal};
 ghost use Rattle.nl_frame.specs.Layout.{Layout};
+ghost use Rattle.nl_frame.specs.Broken.{IsBrokenHead};
 ghost use Rattle.nl_frame.specs.Heads.{Rest, FaultAt, IsFirstFault, Visits, whole};
 ghost use Rattle.nl_attr.specs.Listed.{rounded};
 ghost use Rattle.nl_frame.specs.Listed.{messages_events};
-ghost use Rattle.nl_frame.specs.Trail.{AnyHead, ComesUpTo, IsEnd, StandsIn, events_of, place_of};
-ghost use Rattle.nl_frame.specs.Trail.{trail_of};
+ghost use Rattle.nl_frame.specs.HeadOrder.{AnyHead, ComesUpTo, IsEnd, StandsIn, events_of, place_of};
+ghost use Rattle.nl_frame.specs.HeadOrder.{trail_of};
 ghost use Rattle.nl_frame.specs.Limits.{Bounds, AreLimits};
 ghost use Rattle.nl_frame.specs.OneList.{IsTheList};
 ghost use Rattle.nl_frame.specs.Written.{written, written_len};
@@ -37,6 +39,13 @@ pub fn layout_or_fault()
 pub fn one_first_fault()
     ensures { (s : Shape) (d : Rest) (p q : ℕ) (r t : Reason)
         → IsFirstFault s d p r → IsFirstFault s d q t → (p ≡ q) × (r ≡ t) }
+{}
+
+/// At most one head of a datagram breaks a rule at a place: what a scan answers of it has no other
+/// reading.
+pub fn one_head_at_fault()
+    ensures { (s : Shape) (d : Rest) (b c : BrokenHead) → IsBrokenHead s d b
+        → IsBrokenHead s d c → b.fault.place ≡ c.fault.place → b ≡ c }
 {}
 
 /// Within allowed limits, the layout of a datagram is its one list: it is written within the same

@@ -18,7 +18,6 @@ mod taping;
 mod writing;
 
 pub use body::{Body, Message};
-pub use broken::broken_head;
 pub use canonical::is_canonical;
 pub use form::Form;
 pub use front::{Frame, message_at};

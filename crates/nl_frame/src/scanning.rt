@@ -1,15 +1,15 @@
 //! Scanning a datagram: reading that keeps nothing and takes no memory.
 
 ghost use Rattle.std.specs.Prelude.{◌≡◌, ◌≤◌, ◌<◌, length, IfOk};
-ghost use Rattle.nl_attr.specs.Trail.{put_from};
+ghost use Rattle.nl_attr.specs.HeadOrder.{put_from};
 ghost use Rattle.nl_frame.specs.Heads.{whole};
 ghost use Rattle.nl_frame.specs.Scans.{ScansDatagram};
 ghost use Rattle.nl_frame.specs.Taped.{Ends};
-ghost use Rattle.nl_frame.specs.Trail.{events_of};
+ghost use Rattle.nl_frame.specs.HeadOrder.{events_of};
 
 use crate::limits::Limits;
 use crate::taping::tape_messages;
-use nl_attr::{Event, Fault, Tally};
+use nl_attr::{BrokenHead, Event, Tally};
 use thiserror::Error;
 
 /// Why a scan refuses a datagram: as `read_datagram` does, but never for memory.
@@ -18,9 +18,9 @@ pub enum ScanError {
     /// The datagram is above the datagram limit; nothing of it was looked at.
     #[error("too large")]
     TooLarge,
-    /// The first fault of the datagram.
-    #[error("{0}")]
-    Layout(Fault),
+    /// The head that breaks a rule at the first fault of the datagram.
+    #[error("{}", .0.fault)]
+    Layout(BrokenHead),
 }
 
 impl ScanError {
@@ -32,19 +32,19 @@ impl ScanError {
         ensures { result ≡ read_code (read_refusal self) }
     {
         match self {
-            ScanError::Layout(fault) => fault.code(),
+            ScanError::Layout(head) => head.fault.code(),
             ScanError::TooLarge => 6,
         }
     }
 }
 
-/// The answer of a scan that found this fault, or none and so many heads.
-fn answer(fault: Option<Fault>, count: usize) -> Result<usize, ScanError>
-    ensures { Ends count fault result }
+/// The answer of a scan that ended at this head, or at none after so many heads.
+fn answer(broken: Option<BrokenHead>, count: usize) -> Result<usize, ScanError>
+    ensures { Ends count broken result }
 {
-    match fault {
+    match broken {
         None => Ok(count),
-        Some(fault) => Err(ScanError::Layout(fault)),
+        Some(head) => Err(ScanError::Layout(head)),
     }
 }
 
@@ -74,7 +74,7 @@ pub fn tape_datagram(bytes: &[u8], limits: &Limits, out: &mut [Event]) -> Tally<
     }
     let taped = tape_messages(bytes, limits.depth(), limits.order(), out);
     Tally {
-        result: answer(taped.fault, taped.count),
+        result: answer(taped.broken, taped.count),
         visits: taped.visits,
     }
 }

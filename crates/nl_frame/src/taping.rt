@@ -1,19 +1,20 @@
 //! Scanning the messages of a datagram in one pass, which takes no memory and no call stack: each
 //! head is checked, and its event is put into a buffer.
 
-ghost use Rattle.std.specs.Prelude.{◌≡◌, ◌≤◌, ◌+◌, ◌*◌, length, None};
+ghost use Rattle.std.specs.Prelude.{◌≡◌, ◌≤◌, ◌+◌, ◌*◌, length, None, IfSome};
 ghost use Rattle.nl_attr.specs.Shape.{shape_of};
 ghost use Rattle.nl_route.specs.Families.{head_size};
+ghost use Rattle.nl_frame.specs.Broken.{IsBrokenHead, IsBrokenIn};
 ghost use Rattle.nl_frame.specs.Form.{least_body};
 ghost use Rattle.nl_frame.specs.Heads.{region_in, whole};
 ghost use Rattle.nl_frame.specs.Taped.{IsFrameTaped, IsTaped};
-ghost use Rattle.nl_frame.specs.Trail.{header_event, region_trail, trail_of};
+ghost use Rattle.nl_frame.specs.HeadOrder.{header_event, region_trail, trail_of};
 
+use crate::broken::header_at_fault;
 use crate::form::Form;
 use crate::front::{Frame, front};
 use nl_attr::{
-    Depth, Event, FARTHEST_END, Fault, LONGEST_REGION, OpenRegions, Order, SORT_MESSAGE, Taped,
-    tape_list,
+    Depth, Event, FARTHEST_END, LONGEST_REGION, OpenRegions, Order, SORT_MESSAGE, Taped, tape_list,
 };
 use nl_route::Group;
 
@@ -53,6 +54,8 @@ fn tape_family<'a>(
     requires count { count ≤ 4294967296 }
     ensures taped { IsTaped (shape_of order depth) (region_trail (shape_of order depth)
         (region_in (Form.Family group) place payload.now)) count out.old out.new result }
+    ensures head { IfSome result.broken (IsBrokenIn (shape_of order depth)
+        (region_in (Form.Family group) place payload.now)) }
     ensures bound { result.visits ≤ (depth + 1) * length payload.now }
     ensures count { result.count ≤ count + result.visits }
 {
@@ -90,6 +93,8 @@ fn tape_body<'a>(
     requires count { count ≤ 4294967296 }
     ensures taped { IsTaped (shape_of order depth) (region_trail (shape_of order depth)
         (region_in form place payload.now)) count out.old out.new result }
+    ensures head { IfSome result.broken (IsBrokenIn (shape_of order depth)
+        (region_in form place payload.now)) }
     ensures bound { result.visits ≤ (depth + 1) * length payload.now }
     ensures count { result.count ≤ count + result.visits }
 {
@@ -98,7 +103,7 @@ fn tape_body<'a>(
             tape_family(regions, payload, group, place, depth, order, out, count)
         }
         Form::Noop | Form::Error | Form::Done | Form::Overrun | Form::Get | Form::Other => Taped {
-            fault: None,
+            broken: None,
             count,
             visits: 0,
         },
@@ -122,6 +127,8 @@ fn tape_frame<'a>(
     requires count { count + 1 ≤ 4294967296 }
     ensures taped { IsFrameTaped (shape_of order depth) frame.now place count
         out.old out.new result }
+    ensures head { IfSome result.broken (IsBrokenIn (shape_of order depth)
+        (region_in frame.now.form (place + 16) frame.now.payload.now)) }
     ensures bound { result.visits ≤ (depth + 1) * length frame.now.payload.now }
     ensures count { result.count ≤ count + 1 + result.visits }
 {
@@ -144,6 +151,8 @@ fn tape_ordered(bytes: &[u8], depth: Depth, order: Order, out: &mut [Event]) -> 
     requires { length bytes.now ≤ LONGEST_REGION }
     ensures taped { IsTaped (shape_of order depth) (trail_of (shape_of order depth)
         (whole bytes.now)) 0 out.old out.new result }
+    ensures head { IfSome result.broken
+        (IsBrokenHead (shape_of order depth) (whole bytes.now)) }
     ensures bound { result.visits ≤ (depth + 1) * length bytes.now }
 {
     // The depth is at most 32, so the visits fit their number.
@@ -158,7 +167,7 @@ fn tape_ordered(bytes: &[u8], depth: Depth, order: Order, out: &mut [Event]) -> 
             Ok(frame) => frame,
             Err(reason) => {
                 return Taped {
-                    fault: Some(Fault { place, reason }),
+                    broken: Some(header_at_fault(left, place, reason, order)),
                     count,
                     visits,
                 };
@@ -167,9 +176,9 @@ fn tape_ordered(bytes: &[u8], depth: Depth, order: Order, out: &mut [Event]) -> 
         let taped = tape_frame(&mut regions, &frame, place, depth, order, out, count);
         count = taped.count;
         visits += taped.visits;
-        if let Some(fault) = taped.fault {
+        if let Some(head) = taped.broken {
             return Taped {
-                fault: Some(fault),
+                broken: Some(head),
                 count,
                 visits,
             };
@@ -178,7 +187,7 @@ fn tape_ordered(bytes: &[u8], depth: Depth, order: Order, out: &mut [Event]) -> 
         left = frame.rest;
     }
     Taped {
-        fault: None,
+        broken: None,
         count,
         visits,
     }
@@ -191,6 +200,8 @@ fn tape_big(bytes: &[u8], depth: Depth, out: &mut [Event]) -> Taped
     requires { length bytes.now ≤ LONGEST_REGION }
     ensures taped { IsTaped (shape_of Order.Big depth) (trail_of (shape_of Order.Big depth)
         (whole bytes.now)) 0 out.old out.new result }
+    ensures head { IfSome result.broken
+        (IsBrokenHead (shape_of Order.Big depth) (whole bytes.now)) }
     ensures bound { result.visits ≤ (depth + 1) * length bytes.now }
 {
     tape_ordered(bytes, depth, Order::Big, out)
@@ -202,6 +213,8 @@ pub(crate) fn tape_messages(bytes: &[u8], depth: Depth, order: Order, out: &mut 
     requires { length bytes.now ≤ LONGEST_REGION }
     ensures taped { IsTaped (shape_of order depth) (trail_of (shape_of order depth)
         (whole bytes.now)) 0 out.old out.new result }
+    ensures head { IfSome result.broken
+        (IsBrokenHead (shape_of order depth) (whole bytes.now)) }
     ensures bound { result.visits ≤ (depth + 1) * length bytes.now }
 {
     match order {

@@ -1,7 +1,7 @@
 -- What a scan finds, by what it answered.
 use Rattle.std.proofs.Common.{◌≡◌, ◌≢◌, ◌≤◌, ◌<◌, ◌↔◌, ℕ, List, length, Result, Ok, Err, IfOk, IfErr, refl, subst, sym, arith}
 use Rattle.nl_attr.specs.declared.events.Event.{Event}
-use Rattle.nl_attr.specs.Trail.{put_from}
+use Rattle.nl_attr.specs.HeadOrder.{put_from}
 use Rattle.nl_frame.specs.declared.scanning.ScanError.{ScanError}
 use Rattle.nl_frame.specs.declared.scanning.ScanError.TheVariants.{TooLarge, Layout as Fails}
 use Rattle.nl_frame.specs.Heads.{IsFirstFault, whole}
@@ -10,7 +10,7 @@ use Rattle.nl_frame.specs.Limits.{Bounds}
 use Rattle.nl_frame.specs.Message.{MessageVal}
 use Rattle.nl_frame.specs.Taped.{as_read, read_refusal}
 use Rattle.nl_frame.specs.Outcomes.{IfFault, VisitsUpTo, read_code}
-use Rattle.nl_frame.specs.Trail.{events_of}
+use Rattle.nl_frame.specs.HeadOrder.{events_of}
 use Rattle.rtnl_c.specs.Scanned.{Scans, Tapes, place_of, refused, untaped}
 use Rattle.rtnl_c.specs.Scanned as found
 
@@ -35,7 +35,7 @@ module _ (b : Bounds) (d : List ℕ) where
   scans_err {X = X} r e v is scan = by e (subst (λ r. IsScan r v) is scan) where
     by : (e : ScanError) → IsScan {X = X} (Err e) v → Scans b d (refused v (place_of e) (read_code (read_refusal e)))
     by TooLarge s = subst (λ n. Scans b d (refused n 0 6)) (sym s.3) (found.too_large (s.0.0 refl))
-    by (Fails f) s = found.faulty (within {X = X} (Err (Fails f)) b.datagram (length d) s.0 (λ e. cc)) f.place f.reason s.2 v s.3
+    by (Fails h) s = found.faulty (within {X = X} (Err (Fails h)) b.datagram (length d) s.0 (λ e. cc)) h.fault.place h.fault.reason s.2 v s.3
 
   module _ (old new : List Event) (untouched : b.datagram < length d → new ≡ old) (events : length d ≤ b.datagram → new ≡ put_from 0 (events_of b.shape (whole d)) old) where
     pub tapes_ok : (r : Result ℕ ScanError) (n v : ℕ) → r ≡ Ok n → IsScan r v → IfOk r (λ n. n ≡ length (events_of b.shape (whole d))) → Tapes b d old new (record { count = n; visits = v; place = 0; code = 0 })
@@ -49,6 +49,6 @@ module _ (b : Bounds) (d : List ℕ) where
     tapes_err r e v is scan = by e (subst (λ r. IsScan r v) is scan) where
       by : (e : ScanError) → IsScan {X = ℕ} (Err e) v → Tapes b d old new (untaped v (place_of e) (read_code (read_refusal e)))
       by TooLarge s = let large = s.0.0 refl in rw (untouched large, s.3) (found.too_large large)
-      by (Fails f) s =
-          let small = within {X = ℕ} (Err (Fails f)) b.datagram (length d) s.0 (λ e. cc) in
-          rw (events small) (found.faulty small f.place f.reason s.2 v s.3)
+      by (Fails h) s =
+          let small = within {X = ℕ} (Err (Fails h)) b.datagram (length d) s.0 (λ e. cc) in
+          rw (events small) (found.faulty small h.fault.place h.fault.reason s.2 v s.3)

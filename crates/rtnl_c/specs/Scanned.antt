@@ -3,21 +3,21 @@ use Rattle.std.specs.Prelude.{◌<◌, ◌≤◌, ℕ, List, length}
 use Rattle.nl_attr.specs.declared.events.Event.{Event}
 use Rattle.nl_attr.specs.declared.fault.Reason.{Reason}
 use Rattle.nl_attr.specs.Codes.{reason_code}
-use Rattle.nl_attr.specs.Trail.{put_from}
+use Rattle.nl_attr.specs.HeadOrder.{put_from}
 use Rattle.nl_frame.specs.declared.scanning.ScanError.{ScanError}
 use Rattle.nl_frame.specs.declared.scanning.ScanError.TheVariants.{TooLarge, Layout as Fails}
 use Rattle.nl_frame.specs.Heads.{IsFirstFault, Visits, whole}
 use Rattle.nl_frame.specs.Layout.{Layout}
 use Rattle.nl_frame.specs.Limits.{Bounds}
 use Rattle.nl_frame.specs.Message.{MessageVal}
-use Rattle.nl_frame.specs.Trail.{events_of}
+use Rattle.nl_frame.specs.HeadOrder.{events_of}
 use Rattle.rtnl_c.specs.declared.scan.Scanned.{Scanned}
 use Rattle.rtnl_c.specs.declared.scan.Taped.{Taped}
 
 -- the place of a refusal
 abbrev pub place_of : ScanError → ℕ
 place_of TooLarge = 0
-place_of (Fails f) = f.place
+place_of (Fails b) = b.fault.place
 
 -- refused after so many visits, at this place, with this code
 abbrev pub refused : ℕ → ℕ → ℕ → Scanned

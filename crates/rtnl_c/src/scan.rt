@@ -40,7 +40,7 @@ fn place(error: ScanError) -> u32
     ensures { result ≡ place_of error }
 {
     match error {
-        ScanError::Layout(fault) => fault.place,
+        ScanError::Layout(head) => head.fault.place,
         ScanError::TooLarge => 0,
     }
 }

@@ -2,7 +2,6 @@
 
 use crate::rows::Row;
 use crate::said::{say, yes_or_no};
-use crate::scans::reason_of;
 use crate::shown::{Shown, group_word};
 use crate::stop::{Stop, Wrong};
 use crate::trees::context_word;
@@ -153,7 +152,7 @@ fn tell<E: fmt::Display + Drop>(rt: &HostRuntime, code: u8, error: E) -> Result<
 
 /// `fault REASON SORT`: the fault of this reason at place 48, as the refusal of this sort.
 fn tell_fault(rt: &HostRuntime, row: &mut Row<'_>) -> Result<(), Stop> {
-    let reason = reason_of(row.words.word()?).ok_or(Stop::Wrong(Wrong::Word))?;
+    let reason = row.words.reason()?;
     let fault = Fault { place: 48, reason };
     match row.words.word()? {
         "reason" => tell(rt, reason.code(), reason),

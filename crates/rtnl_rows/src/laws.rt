@@ -11,7 +11,9 @@ pub(crate) fn has_answered(rt: &HostRuntime, row: &mut Row<'_>) -> Result<bool, 
         return Ok(false);
     }
     nl_attr::laws::one_first_fault();
+    nl_attr::laws::one_head_at_fault();
     nl_frame::laws::one_first_fault();
+    nl_frame::laws::one_head_at_fault();
     nl_frame::laws::written_back();
     rtnl::laws::one_answer();
     rtnl::laws::one_text();

@@ -12,6 +12,7 @@
 #![tactic(auto)]
 
 mod bodies;
+mod broken;
 mod cuts;
 mod entries;
 mod fakes;
@@ -62,6 +63,7 @@ fn has_answered(rt: &HostRuntime, row: &mut Row<'_>) -> Result<bool, Stop> {
             || faults::has_answered(rt, row)?
             || lines::has_answered(rt, row)?
             || scans::has_answered(rt, row)?
+            || broken::has_answered(rt, row)?
             || forms::has_answered(rt, row)?
             || uses::has_answered(rt, row)?
             || laws::has_answered(rt, row)?,

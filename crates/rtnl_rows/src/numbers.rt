@@ -3,7 +3,7 @@
 use crate::rows::Row;
 use crate::said::{Hex, say};
 use crate::stop::{Stop, Wrong};
-use nl_attr::{Depth, Fault, LimitFault, ListError, Order, Reason};
+use nl_attr::{Depth, Fault, LimitFault, ListError, Order};
 use nl_frame::{Limits, ReadError};
 
 /// Makes the call of a row, if it is one of these. Whether it is.
@@ -86,18 +86,6 @@ fn tell_limits(rt: &HostRuntime, row: &mut Row<'_>) -> Result<(), Stop> {
     }
 }
 
-/// The reason that a word names.
-fn reason_of(word: &str) -> Result<Reason, Stop> {
-    Ok(match word {
-        "cut" => Reason::Cut,
-        "bad-length" => Reason::BadLength,
-        "short-body" => Reason::ShortBody,
-        "too-long" => Reason::TooLong,
-        "too-deep" => Reason::TooDeep,
-        _ => return Err(Stop::Wrong(Wrong::Word)),
-    })
-}
-
 /// `refusal_code WORD`: the number of a reason, and of a fault and the refusals that have it; that
 /// of a datagram that is too large, or of a limit; or those of the end of memory.
 fn tell_code(rt: &HostRuntime, row: &mut Row<'_>) -> Result<(), Stop> {
@@ -111,7 +99,7 @@ fn tell_code(rt: &HostRuntime, row: &mut Row<'_>) -> Result<(), Stop> {
         let (list, read) = (ListError::Memory.code(), ReadError::Memory.code());
         return say(rt, format_args!("list {list} datagram {read}"));
     }
-    let reason = reason_of(row.words.word()?)?;
+    let reason = row.words.reason()?;
     let fault = Fault { place: 28, reason };
     let (reason, code) = (reason.code(), fault.code());
     let (list, read) = (

@@ -2,15 +2,15 @@
 
 use crate::files::{ShortReader, ShortWriter};
 use crate::rows::Row;
-use crate::said::{Outcome, say};
+use crate::said::{Outcome, Visible, say};
 use crate::stop::{Stop, Wrong};
 use crate::words::Words;
 use rtnl::dump::{Dump, Kind};
 use rtnl::frame::Limits;
 use rtnl::{
-    LONGEST_INPUT, ReadSource, RunError, Sink, SliceSource, Source, VecSink, Verdict, WriteSink,
-    run_check, run_check_json, run_request, run_request_ordered, run_show, run_show_json,
-    run_table, run_table_json,
+    LONGEST_INPUT, ReadSource, RowFormat, RunError, Sink, SliceSource, Source, VecSink, Verdict,
+    WriteSink, run_check, run_check_json, run_request, run_request_ordered, run_show,
+    run_show_bytes, run_show_json, run_table, run_table_json,
 };
 use std::alloc::Global;
 use std::fmt;
@@ -47,6 +47,7 @@ pub(crate) fn recording_of(alloc: Global, row: &mut Row<'_>) -> Result<Vec<u8>, 
 enum Engine {
     Show,
     ShowJson,
+    ShowBytes(RowFormat),
     Check,
     CheckJson,
     Table(Kind),
@@ -102,6 +103,9 @@ impl Run {
         let engine = match words.word()? {
             "show" => Engine::Show,
             "show-json" => Engine::ShowJson,
+            "show-bytes" => Engine::ShowBytes(RowFormat::Text),
+            "show-bytes-coloured" => Engine::ShowBytes(RowFormat::Coloured),
+            "show-bytes-json" => Engine::ShowBytes(RowFormat::Json),
             "check" => Engine::Check,
             "check-json" => Engine::CheckJson,
             "table" => Engine::Table(words.group()?),
@@ -126,6 +130,7 @@ impl Run {
         match self.engine {
             Engine::Show => run_show(alloc, source, sink, limits),
             Engine::ShowJson => run_show_json(alloc, source, sink, limits),
+            Engine::ShowBytes(format) => run_show_bytes(alloc, source, sink, limits, format),
             Engine::Check => run_check(alloc, source, sink, limits),
             Engine::CheckJson => run_check_json(alloc, source, sink, limits),
             Engine::Table(kind) => {
@@ -162,9 +167,9 @@ pub(crate) fn say_written(rt: &HostRuntime, written: &[u8]) -> Result<(), Stop> 
     let text = std::str::from_utf8(written).map_err(|_| Stop::Wrong(Wrong::NoText))?;
     for line in text.split_inclusive('\n') {
         match line.strip_suffix('\n') {
-            Some(line) => say(rt, line)?,
+            Some(line) => say(rt, Visible(line))?,
             None => {
-                say(rt, line)?;
+                say(rt, Visible(line))?;
                 say(rt, "without an end")?;
             }
         }

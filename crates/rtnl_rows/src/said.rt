@@ -72,6 +72,22 @@ impl fmt::Display for Hex<'_> {
     }
 }
 
+/// A line, with `\e` in place of the byte with which a colour begins.
+#[derive(Clone, Copy)]
+pub(crate) struct Visible<'a>(pub(crate) &'a str);
+
+impl fmt::Display for Visible<'_> {
+    fn fmt<W: fmt::Write>(&self, f: &mut fmt::Formatter<W>) -> fmt::Result {
+        let mut pieces = self.0.split('\u{1b}');
+        f.write_str(pieces.next().unwrap_or(""))?;
+        for piece in pieces {
+            f.write_str("\\e")?;
+            f.write_str(piece)?;
+        }
+        Ok(())
+    }
+}
+
 /// A value, or the word for none.
 #[derive(Clone, Copy)]
 pub(crate) struct Maybe<T>(pub(crate) Option<T>);

@@ -1,17 +1,12 @@
-//! Scans of datagrams, the events of tapes, cursors, and the heads that faults are about.
+//! Scans of datagrams, the events of tapes, and cursors.
 
 use crate::rows::Row;
-use crate::said::{Hex, Maybe, say};
+use crate::said::{Hex, say};
 use crate::shown::Shown;
-use crate::stop::{Stop, Wrong};
+use crate::stop::Stop;
 use crate::walkers::{say_hop, say_part};
-use crate::words::Words;
-use nl_attr::{
-    BrokenHead, Event, FARTHEST_END, Fault, HeadKind, LONGEST_REGION, Order, Reason, Tally,
-    attr_at, hop_at,
-};
-use nl_frame::{broken_head, message_at, read_datagram, scan_datagram, tape_datagram};
-use std::fmt;
+use nl_attr::{Event, Order, Tally, attr_at, hop_at};
+use nl_frame::{message_at, read_datagram, scan_datagram, tape_datagram};
 
 /// Makes the call of a row, if it is one of these. Whether it is.
 pub(crate) fn has_answered(rt: &HostRuntime, row: &mut Row<'_>) -> Result<bool, Stop> {
@@ -21,8 +16,6 @@ pub(crate) fn has_answered(rt: &HostRuntime, row: &mut Row<'_>) -> Result<bool, 
         "message_at" => find_message(rt, row)?,
         "attr_at" => find_attr(rt, row)?,
         "hop_at" => find_hop(rt, row)?,
-        "broken_head" => look_into_datagram(rt, row)?,
-        "broken_in_list" => look_into_list(rt, row)?,
         _ => return Ok(false),
     }
     Ok(true)
@@ -131,85 +124,4 @@ fn find_hop(rt: &HostRuntime, row: &mut Row<'_>) -> Result<(), Stop> {
         None => say(rt, "none"),
         Some(given) => say_hop(rt, given),
     }
-}
-
-/// The reason of this name.
-pub(crate) fn reason_of(name: &str) -> Option<Reason> {
-    match name {
-        "cut" => Some(Reason::Cut),
-        "bad-length" => Some(Reason::BadLength),
-        "short-body" => Some(Reason::ShortBody),
-        "too-long" => Some(Reason::TooLong),
-        "too-deep" => Some(Reason::TooDeep),
-        _ => None,
-    }
-}
-
-/// The fault that words name: `REASON PLACE`.
-fn fault_of(words: &mut Words<'_>) -> Result<Fault, Stop> {
-    let reason = reason_of(words.word()?).ok_or(Stop::Wrong(Wrong::Word))?;
-    let place: u32 = words.number()?;
-    Ok(Fault { place, reason })
-}
-
-impl fmt::Display for Shown<'_, BrokenHead> {
-    fn fmt<W: fmt::Write>(&self, f: &mut fmt::Formatter<W>) -> fmt::Result {
-        let BrokenHead {
-            kind,
-            level,
-            len,
-            left,
-        } = *self.0;
-        f.write_str(match kind {
-            HeadKind::Message => "message",
-            HeadKind::Attribute => "attribute",
-            HeadKind::NextHop => "next-hop",
-        })?;
-        let len = Maybe(len);
-        write!(f, " level {level} len {len} left {left}")
-    }
-}
-
-/// Tells a head that was found, or that none was.
-fn say_head(rt: &HostRuntime, found: Option<BrokenHead>) -> Result<(), Stop> {
-    match found {
-        None => say(rt, "none"),
-        Some(head) => say(rt, Shown(&head)),
-    }
-}
-
-/// `broken_head REASON PLACE [LIMITS]`: why the datagram is refused, and the head that the fault
-/// of this reason at this place is about.
-fn look_into_datagram(rt: &HostRuntime, row: &mut Row<'_>) -> Result<(), Stop> {
-    let fault = fault_of(&mut row.words)?;
-    let limits = row.words.limits()?;
-    let bytes = row.bytes(rt.alloc())?;
-    let bytes = bytes.as_slice();
-    match read_datagram(rt.alloc(), bytes, &limits)
-        .into_result()
-        .err()
-    {
-        None => say(rt, "read")?,
-        Some(error) => say(rt, error)?,
-    }
-    say_head(rt, broken_head(bytes, &limits, fault))
-}
-
-/// `broken_in_list REASON PLACE [ORDER] CONTEXT [base PLACE] [level LEVEL] [depth LEVELS]`.
-fn look_into_list(rt: &HostRuntime, row: &mut Row<'_>) -> Result<(), Stop> {
-    let fault = fault_of(&mut row.words)?;
-    let order = row.words.order().unwrap_or(Order::Little);
-    let ctx = row.words.context()?;
-    let base: u32 = row.words.number_of("base", 0)?;
-    let level: u8 = row.words.number_of("level", 0)?;
-    let depth = row.words.depth()?;
-    let bytes = row.bytes(rt.alloc())?;
-    if base > FARTHEST_END - LONGEST_REGION as u32 || level > depth.get() {
-        return Err(Stop::Wrong(Wrong::Range));
-    }
-    let bytes = bytes.as_slice();
-    say_head(
-        rt,
-        nl_attr::broken_head(bytes, base, ctx, level, depth, order, fault),
-    )
 }

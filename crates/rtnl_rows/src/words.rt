@@ -1,7 +1,7 @@
 //! The words of a row, which its call reads from the first to the last.
 
 use crate::stop::{Stop, Wrong};
-use nl_attr::{AttrFlags, Ctx, Depth, Order};
+use nl_attr::{AttrFlags, Ctx, Depth, Order, Reason};
 use nl_frame::Limits;
 use nl_route::Group;
 use std::num::TryFromIntError;
@@ -108,6 +108,18 @@ impl<'a> Words<'a> {
             "neigh" => Ctx::Neigh,
             "rule" => Ctx::Rule,
             "plain" => Ctx::Plain,
+            _ => return Err(Stop::Wrong(Wrong::Word)),
+        })
+    }
+
+    /// The rule that a head breaks.
+    pub(crate) fn reason(&mut self) -> Result<Reason, Stop> {
+        Ok(match self.word()? {
+            "cut" => Reason::Cut,
+            "bad-length" => Reason::BadLength,
+            "short-body" => Reason::ShortBody,
+            "too-long" => Reason::TooLong,
+            "too-deep" => Reason::TooDeep,
             _ => return Err(Stop::Wrong(Wrong::Word)),
         })
     }

@@ -1,9 +1,14 @@
 -- Two heads of a region stand at two places.
 use Rattle.std.proofs.Common.{◌≡◌, ℕ, zero, suc, ◌≤◌, length, Option, Some, sym, ap, subst, ◌∙◌, arith}
 use Rattle.nl_attr.specs.declared.fault.Reason.{Reason}
+use Rattle.nl_attr.specs.declared.broken.BrokenHead.{BrokenHead}
+use Rattle.nl_attr.specs.Broken.{IsBrokenHead, facts_of}
 use Rattle.nl_attr.specs.Shape.{Shape}
 use Rattle.nl_attr.specs.Heads.{Head, HeadAt, broken, follower, IsFirstFault}
 use Rattle.nl_attr.proofs.Lemmas.Scan.{same, after, inside, head_begins, head_lies, follower_lies, inner_lies, same_head}
+
+same_place : {b c : BrokenHead} → b ≡ c → b.fault.place ≡ c.fault.place
+same_place e = ap (λ (t : BrokenHead). t.fault.place) e
 
 module _ (S : Shape) where
   pub one_head : (n : ℕ) (s h k : Head) → length s.left ≤ n → HeadAt S s h → HeadAt S s k → h.place ≡ k.place → h ≡ k
@@ -37,3 +42,11 @@ module _ (S : Shape) where
   one_first_fault s p q r t f g =
       let e : p ≡ q = omega (arith, f.1 q t g.0, g.1 p r f.0) in
       (e, one_reason s f.0.0 g.0.0 r t f.0.1 g.0.1 (f.0.2 ∙ e ∙ sym g.0.2) f.0.3 g.0.3)
+
+  -- of two heads that break a rule at one place, each is the other
+  pub one_head_at_fault : (s : Head) (b c : BrokenHead) → IsBrokenHead S s b → IsBrokenHead S s c → b.fault.place ≡ c.fault.place → b ≡ c
+  one_head_at_fault s b c x y e =
+      let same : x.0 ≡ y.0 = one_head (length s.left) s x.0 y.0 (omega arith) x.1 y.1 (sym (same_place x.3) ∙ e ∙ same_place y.3) in
+      let g : ◌≡◌ {A = Option Reason} (Some b.fault.reason) (Some c.fault.reason) = sym x.2 ∙ ap (broken S) same ∙ y.2 in
+      let r : b.fault.reason ≡ c.fault.reason = cc in
+      x.3 ∙ ap (λ (t : Reason). facts_of S.order t x.0) r ∙ ap (facts_of S.order c.fault.reason) same ∙ sym y.3

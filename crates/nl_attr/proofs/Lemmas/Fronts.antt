@@ -20,7 +20,7 @@ use Rattle.nl_attr.specs.Walk.{broken_length, flags_of, payload_of}
 use Rattle.nl_attr.specs.Heads.{Head, content_at, broken, broken_container, inner_in, inner_of, span_at, start_of}
 use Rattle.nl_attr.specs.Region.{content_in, ctx_in, sort_in}
 use Rattle.nl_attr.specs.Taped.{Adds, hops_start}
-use Rattle.nl_attr.specs.Trail.{event_of, sort_of, stopped}
+use Rattle.nl_attr.specs.HeadOrder.{event_of, sort_of, stopped}
 use Rattle.nl_attr.proofs.Lemmas.Trail.{container_stops}
 use Rattle.nl_attr.proofs.Lemmas.Putting.{put_one}
 
@@ -74,7 +74,7 @@ module _ (S : Shape) where
   -- a head that is added
   pub added : (h : Head) (before after : Taped) (old new : List Event) (e : Event) (span : ℕ) → e ≡ event_of S.order h → span ≡ span_at S h → new ≡ slice_set old before.count e → after ≡ record before { count = before.count + 1; visits = before.visits + span } → Adds S (h ∷ []) before after old new
   added h before after old new e span is s out counts = record {
-    fault = ap (λ (t : Taped). t.fault) counts;
+    broken = ap (λ (t : Taped). t.broken) counts;
     count = ap (λ (t : Taped). t.count) counts;
     visits = omega (arith, ap (λ (t : Taped). t.visits) counts, s);
     events = out ∙ ap (λ (x : Event). slice_set old before.count x) is ∙ sym (put_one before.count (event_of S.order h) old);

@@ -11,7 +11,7 @@ use Rattle.nl_attr.specs.Heads.{Sort, attr_head, hop_head, Head, HeadAt, IsSound
 use Rattle.nl_attr.specs.Numbers.{len_of}
 use Rattle.nl_attr.specs.declared.tree.Ctx.{Ctx}
 use Rattle.nl_attr.specs.Visits.{Rises, Has}
-use Rattle.nl_attr.specs.Trail.{ComesBefore, IsEnd, trail_of, visit_of}
+use Rattle.nl_attr.specs.HeadOrder.{ComesBefore, IsEnd, trail_of, visit_of}
 use Rattle.nl_attr.proofs.Lemmas.Apart.{one_head}
 use Rattle.nl_attr.proofs.Lemmas.Scan.{Scan, scan, Finds, scan_finds}
 use Rattle.nl_attr.proofs.Lemmas.Standing.{AllStand, trail_stands}

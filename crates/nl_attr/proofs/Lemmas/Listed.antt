@@ -16,7 +16,7 @@ use Rattle.nl_attr.specs.Tree.{Val, bytes, list, hops, Items, no_items, item, Ho
 use Rattle.nl_attr.specs.Layout.{FitsVal, Fits, FitsHops}
 use Rattle.nl_attr.specs.Heads.{hop_head, Head, content_at, broken, broken_container, follower, inner_in, inner_of, or_else, start_of}
 use Rattle.nl_attr.specs.Written.{val_len, items_len}
-use Rattle.nl_attr.specs.Trail.{TrailOf, and_on, inner_trail, trail_of, sort_of, attr_event, hop_event, event_of}
+use Rattle.nl_attr.specs.HeadOrder.{TrailOf, and_on, inner_trail, trail_of, sort_of, attr_event, hop_event, event_of}
 use Rattle.nl_attr.specs.Listed.{sort_of_val, val_events, items_events, hops_events, rounded}
 use Rattle.nl_attr.proofs.Lemmas.Fitted.{hop_size, val_len_is, items_len_is, hops_len_is}
 use Rattle.nl_attr.proofs.Lemmas.Fitting.{attr_is, cut_piece, next_span, val_fit}

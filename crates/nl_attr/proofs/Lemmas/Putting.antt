@@ -2,7 +2,7 @@
 use Rattle.std.proofs.Common.{◌≡◌, ℕ, zero, suc, ◌+◌, ◌-◌, List, [], ◌∷◌, ◌++◌, length, take, drop, slice_set, refl, sym, ap, ◌∙◌, arith}
 use Rattle.std.proofs.lemmas.List.{take-append-drop}
 use Rattle.nl_attr.specs.declared.events.Event.{Event}
-use Rattle.nl_attr.specs.Trail.{put_from}
+use Rattle.nl_attr.specs.HeadOrder.{put_from}
 
 -- none
 pub put_none : (n : ℕ) (old : List Event) → put_from n [] old ≡ old
@@ -12,7 +12,7 @@ put_none n old = ap (λ (xs : List Event). take n old ++ (xs ++ drop (n + 0) old
   nothing (suc k) = refl
 
 -- no buffer
-put_nowhere : (n : ℕ) (es : List Event) → put_from n es [] ≡ []
+pub put_nowhere : (n : ℕ) (es : List Event) → put_from n es [] ≡ []
 put_nowhere n es = gone n (n + length es) (0 - n) (omega arith) where
   gone : (n m k : ℕ) → k ≡ 0 → ◌≡◌ {A = List Event} (take n [] ++ (take k es ++ drop m [])) []
   gone zero zero k e = ap (λ (i : ℕ). take i es ++ []) e
@@ -32,7 +32,7 @@ put_behind n es x xs =
       more a b = omega arith
 
 -- the first place
-put_here : (e : Event) (es : List Event) (x : Event) (xs : List Event) → put_from 0 (e ∷ es) (x ∷ xs) ≡ e ∷ put_from 0 es xs
+pub put_here : (e : Event) (es : List Event) (x : Event) (xs : List Event) → put_from 0 (e ∷ es) (x ∷ xs) ≡ e ∷ put_from 0 es xs
 put_here e es x xs =
     ap (λ (k : ℕ). take k (e ∷ es) ++ drop (0 + suc (length es)) (x ∷ xs)) (all (length xs))
     ∙ ap (λ (k : ℕ). e ∷ (take (length xs) es ++ drop k (x ∷ xs))) (one (length es))

@@ -9,10 +9,11 @@ use Rattle.nl_attr.specs.Shape.{Shape}
 use Rattle.nl_attr.specs.Numbers.{AreBytes}
 use Rattle.nl_attr.specs.Tree.{Items}
 use Rattle.nl_attr.specs.Layout.{Fits}
+use Rattle.nl_attr.specs.Broken.{fault_in}
 use Rattle.nl_attr.specs.Heads.{IsFirstFault, start_of}
 use Rattle.nl_attr.specs.Visits.{Visits}
 use Rattle.nl_attr.specs.Reading.{Outcome, items_of_region}
-use Rattle.nl_attr.specs.Trail.{trail_of, visits_of, fault_of}
+use Rattle.nl_attr.specs.HeadOrder.{trail_of, visits_of, fault_of}
 use Rattle.nl_attr.specs.Taped.{IsTaped}
 use Rattle.nl_attr.specs.Scanned.{HasEnd, SeesUpTo, Ends, without}
 use Rattle.nl_attr.proofs.Lemmas.Scan.{Scan}
@@ -48,7 +49,7 @@ module _ (S : Shape) (ctx : Ctx) (l place : ℕ) (left : List ℕ) where
   reads = agrees_so S (items_of_region S ctx l place left) (as_scan S (trail_of S (start_of ctx l place left))) (subst (λ (s : Scan). Agrees (items_of_region S ctx l place left) s) (scan_is S (length left) (start_of ctx l place left)) (items_scan (length left) S ctx l place left))
 
   -- and so does an answer of their events
-  pub scans_so : {X : Type 0} (count : ℕ) (old new : List Event) (t : Taped) (r : Result X Fault) → IsTaped S (start_of ctx l place left) count old new t → Ends t.fault r → HasEnd r t.visits (items_of_region S ctx l place left)
+  pub scans_so : {X : Type 0} (count : ℕ) (old new : List Event) (t : Taped) (r : Result X Fault) → IsTaped S (start_of ctx l place left) count old new t → Ends (fault_in t.broken) r → HasEnd r t.visits (items_of_region S ctx l place left)
   scans_so count old new t r is ends = says S r t.visits (trail_of S (start_of ctx l place left)).1 (visits_of S (trail_of S (start_of ctx l place left)).0) (items_of_region S ctx l place left) reads (subst (λ f. Ends f r) is.fault ends) is.visits
 
   module _ {X : Type 0} where

@@ -5,7 +5,7 @@ use Rattle.nl_attr.specs.declared.fault.Reason.{Reason}
 use Rattle.nl_attr.specs.declared.fault.Reason.TheVariants.{Cut, BadLength, ShortBody, TooLong, TooDeep}
 use Rattle.nl_attr.specs.Shape.{Shape}
 use Rattle.nl_attr.specs.Heads.{Head, HeadAt, first, IsSound, broken, follower, inner_of, least}
-use Rattle.nl_attr.specs.Trail.{Trail, and_on, inner_trail, stopped, trail_turn, trail_at, trail_of, visits_of}
+use Rattle.nl_attr.specs.HeadOrder.{Trail, and_on, inner_trail, stopped, trail_turn, trail_at, trail_of, visits_of}
 use Rattle.nl_attr.proofs.Lemmas.Reading.{sound_within, span_at_least}
 use Rattle.nl_attr.proofs.Lemmas.Scan.{head_then, follower_reached, inside_reached, follower_shorter, inner_shorter, sound_of, least_some}
 use Rattle.nl_attr.proofs.Lemmas.Visited.{StopsAt, stops_sort}

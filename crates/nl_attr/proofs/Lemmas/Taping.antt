@@ -1,20 +1,22 @@
 -- The loop over a stack of open regions.
-use Rattle.std.proofs.Common.{◌≡◌, ◌≢◌, ℕ, suc, ◌+◌, ◌-◌, ◌*◌, ◌≤◌, ◌<◌, true, false, List, [], ◌∷◌, ◌++◌, length, drop, map, Option, Some, None, refl, sym, ap, subst, ◌∙◌, arith, append_assoc, length-drop, length-append, eqb}
+use Rattle.std.proofs.Common.{◌≡◌, ◌≢◌, ℕ, suc, ◌+◌, ◌-◌, ◌*◌, ◌≤◌, ◌<◌, true, false, List, [], ◌∷◌, ◌++◌, length, drop, map, Option, Some, None, refl, sym, ap, subst, ◌∙◌, arith, append_assoc, length-drop, length-append, eqb, IfSome}
 use Rattle.std.proofs.lemmas.Bool.{eqb-true}
 use Rattle.std.proofs.lemmas.List.{append-nil, length-map, map-append, nil_from_length}
 use Rattle.nl_attr.specs.declared.limits.TheConstants.{FARTHEST_END, LONGEST_REGION, MOST_VISITS}
 use Rattle.nl_attr.specs.declared.fault.Reason.{Reason}
 use Rattle.nl_attr.specs.declared.events.Event.{Event}
+use Rattle.nl_attr.specs.declared.broken.BrokenHead.{BrokenHead}
 use Rattle.nl_attr.specs.declared.taping.Taped.{Taped}
 use Rattle.nl_attr.specs.declared.tree.Ctx.{Ctx}
 use Rattle.nl_attr.specs.Shape.{Shape}
 use Rattle.nl_attr.specs.Numbers.{span_of}
-use Rattle.nl_attr.specs.Heads.{Sort, attr_head, Head, least, broken, follower, inner_of, start_of}
+use Rattle.nl_attr.specs.Broken.{IsBrokenHead, facts_of, fault_in}
+use Rattle.nl_attr.specs.Heads.{Sort, attr_head, Head, HeadAt, first, least, broken, follower, inner_of, start_of}
 use Rattle.nl_attr.specs.Visits.{spans}
-use Rattle.nl_attr.specs.Trail.{Trail, and_on, inner_trail, stopped, trail_of, event_of, put_from, visit_of, visits_of, fault_of}
+use Rattle.nl_attr.specs.HeadOrder.{Trail, and_on, inner_trail, stopped, trail_of, event_of, put_from, visit_of, visits_of, fault_of}
 use Rattle.nl_attr.specs.Taped.{Adds, IsTaped}
 use Rattle.nl_attr.proofs.Lemmas.Reading.{sound_within, span_at_least, payload_length}
-use Rattle.nl_attr.proofs.Lemmas.Scan.{sound_of, span_within, inner_at_place, least_some}
+use Rattle.nl_attr.proofs.Lemmas.Scan.{sound_of, span_within, inner_at_place, least_some, head_then, follower_reached, inside_reached}
 use Rattle.nl_attr.proofs.Lemmas.First.{items_scan, sum_append}
 use Rattle.nl_attr.proofs.Lemmas.Visited.{item_bounds}
 use Rattle.nl_attr.proofs.Lemmas.Every.{IsLow, inner_is}
@@ -70,25 +72,26 @@ module _ (S : Shape) where
 
   -- ---- where regions stand
 
-  -- its level, and that its places are within the greatest
-  pub record IsAtLevel (l : ℕ) (h : Head) : Type 0 where
+  -- what stands from it on stands in the region, its level, and that its places are within the greatest
+  pub record IsAtLevel (start : Head) (l : ℕ) (h : Head) : Type 0 where
+    pub reach : (k : Head) → HeadAt S h k → HeadAt S start k
     pub level : h.level ≡ l
     pub low : IsLow S h.sort h.level
     pub size : length h.left ≤ LONGEST_REGION
     pub place : h.place + length h.left ≤ FARTHEST_END
 
   -- each of these is a level above the one before it
-  abbrev pub AllAtLevels : ℕ → List Head → Type 0
-  AllAtLevels l [] = Unit {0}
-  AllAtLevels l (h ∷ hs) = IsAtLevel l h × AllAtLevels (l + 1) hs
+  abbrev pub AllAtLevels : Head → ℕ → List Head → Type 0
+  AllAtLevels start l [] = Unit {0}
+  AllAtLevels start l (h ∷ hs) = IsAtLevel start l h × AllAtLevels start (l + 1) hs
 
-  levels_push : (l : ℕ) (fs : List Head) (f : Head) → AllAtLevels l fs → IsAtLevel (l + length fs) f → AllAtLevels l (fs ++ f ∷ [])
-  levels_push l [] f a s = (subst (λ (n : ℕ). IsAtLevel n f) (omega arith) s, tt)
-  levels_push l (g ∷ fs) f a s = (a.0, levels_push (l + 1) fs f a.1 (subst (λ (n : ℕ). IsAtLevel n f) (omega arith) s))
+  levels_push : (start : Head) (l : ℕ) (fs : List Head) (f : Head) → AllAtLevels start l fs → IsAtLevel start (l + length fs) f → AllAtLevels start l (fs ++ f ∷ [])
+  levels_push start l [] f a s = (subst (λ (n : ℕ). IsAtLevel start n f) (omega arith) s, tt)
+  levels_push start l (g ∷ fs) f a s = (a.0, levels_push start (l + 1) fs f a.1 (subst (λ (n : ℕ). IsAtLevel start n f) (omega arith) s))
 
-  levels_pop : (l : ℕ) (fs : List Head) (f : Head) → AllAtLevels l (fs ++ f ∷ []) → AllAtLevels l fs × IsAtLevel (l + length fs) f
-  levels_pop l [] f a = (tt, subst (λ (n : ℕ). IsAtLevel n f) (omega arith) a.0)
-  levels_pop l (g ∷ fs) f a = let p = levels_pop (l + 1) fs f a.1 in ((a.0, p.0), subst (λ (n : ℕ). IsAtLevel n f) (omega arith) p.1)
+  levels_pop : (start : Head) (l : ℕ) (fs : List Head) (f : Head) → AllAtLevels start l (fs ++ f ∷ []) → AllAtLevels start l fs × IsAtLevel start (l + length fs) f
+  levels_pop start l [] f a = (tt, subst (λ (n : ℕ). IsAtLevel start n f) (omega arith) a.0)
+  levels_pop start l (g ∷ fs) f a = let p = levels_pop start (l + 1) fs f a.1 in ((a.0, p.0), subst (λ (n : ℕ). IsAtLevel start n f) (omega arith) p.1)
 
   -- what is left behind a head is less
   pub shorter : (h : Head) → broken S h ≡ None → (length (follower S h).left + 4 ≤ length h.left) × ((follower S h).place + length (follower S h).left ≡ h.place + length h.left)
@@ -98,8 +101,16 @@ module _ (S : Shape) where
       let d = length-drop (span_of S.order 2 h.left) h.left in
       (omega (arith, w.low, w.high, span_at_least S.order 2 h.left w.high, d), omega (arith, d, span_within S.order 2 h.left))
 
-  follower_level : (l : ℕ) (h : Head) → broken S h ≡ None → IsAtLevel l h → IsAtLevel l (follower S h)
-  follower_level l h e s = let d = shorter h e in record { level = s.level; low = s.low; size = omega (arith, d.0, s.size); place = omega (arith, d.1, s.place) }
+  follower_level : (start : Head) (l : ℕ) (h : Head) → h.left ≢ [] → broken S h ≡ None → IsAtLevel start l h → IsAtLevel start l (follower S h)
+  follower_level start l h some e s =
+      let d = shorter h e in
+      record {
+        reach = λ k p. s.reach k (head_then S h (follower S h) k (follower_reached S h k some (sound_of S h.sort h.ctx h.level h.left e) p) p);
+        level = s.level;
+        low = s.low;
+        size = omega (arith, d.0, s.size);
+        place = omega (arith, d.1, s.place);
+      }
 
   -- and so is what is left behind it together with what is in it
   pub inner_less : (h k : Head) → broken S h ≡ None → inner_of S h ≡ Some k → length (follower S h).left + (length k.left + 4) ≤ length h.left
@@ -109,19 +120,20 @@ module _ (S : Shape) where
       let at = inner_at_place S h.sort h.place h.ctx h.level h.left k is in
       omega (arith, ap (length {A = ℕ}) at.1, payload_length S.order (least h.sort) 2 h.left w, w.high, span_at_least S.order 2 h.left w.high, length-drop (span_of S.order 2 h.left) h.left)
 
-  inner_level : (l : ℕ) (h k : Head) → broken S h ≡ None → inner_of S h ≡ Some k → IsAtLevel l h → IsAtLevel (l + 1) k × (l + 1 ≤ S.depth)
-  inner_level l h k e is s =
+  inner_level : (start : Head) (l : ℕ) (h k : Head) → h.left ≢ [] → broken S h ≡ None → inner_of S h ≡ Some k → IsAtLevel start l h → IsAtLevel start (l + 1) k × (l + 1 ≤ S.depth)
+  inner_level start l h k some e is s =
       let i = inner_is S h.sort h.ctx h.place h.level h.left k s.low e is in
       let b = item_bounds S h k e is in
       let less = inner_less h k e is in
-      (record { level = omega (arith, i.level, s.level); low = i.low; size = omega (arith, less, s.size); place = omega (arith, b.1, span_within S.order 2 h.left, s.place) }, omega (arith, i.room, s.level))
+      let reach : (j : Head) → HeadAt S k j → HeadAt S start j = λ j p. s.reach j (head_then S h k j (inside_reached S h k j some e is p) p) in
+      (record { reach = reach; level = omega (arith, i.level, s.level); low = i.low; size = omega (arith, less, s.size); place = omega (arith, b.1, span_within S.order 2 h.left, s.place) }, omega (arith, i.room, s.level))
 
   -- ---- what is added
 
   -- some, and then others
   adds_then : (hs gs : List Head) (a b c : Taped) (old mid new : List Event) → Adds S hs a b old mid → Adds S gs b c mid new → Adds S (hs ++ gs) a c old new
   adds_then hs gs a b c old mid new x y = record {
-    fault = y.fault ∙ x.fault;
+    broken = y.broken ∙ x.broken;
     count = omega (arith, x.count, y.count, length-append hs gs);
     visits = omega (arith, x.visits, y.visits, visits_append hs gs);
     events = y.events
@@ -144,31 +156,31 @@ work_push (g ∷ fs) f = omega (arith, work_push fs f)
 
 -- nothing is found yet
 abbrev pub begun : ℕ → Taped
-begun count = record { fault = None; count = count; visits = 0 }
+begun count = record { broken = None; count = count; visits = 0 }
 
 -- these regions wait, the last of the list first, and this is left of the one at hand
 pub record IsTaping (S : Shape) (start : Head) (count : ℕ) (old : List Event) (fs : List Head) (top : Head) (t : Taped) (out : List Event) : Type 0 where
   pub hs : List Head
   pub same : trail_of S start ≡ front hs (resume S fs (trail_of S top))
   pub adds : Adds S hs (begun count) t old out
-  pub below : AllAtLevels S start.level fs
-  pub stands : IsAtLevel S (start.level + length fs) top
+  pub below : AllAtLevels S start start.level fs
+  pub stands : IsAtLevel S start (start.level + length fs) top
 
 -- the whole region is left, and none waits
 pub begins : (S : Shape) (start : Head) (count : ℕ) (old : List Event) (fs : List Head) → fs ≡ [] → start.sort ≡ attr_head → start.level ≤ S.depth → length start.left ≤ LONGEST_REGION → start.place + length start.left ≤ FARTHEST_END → IsTaping S start count old fs start (begun count) old
 begins S start count old fs none kind level size place = subst (λ (xs : List Head). IsTaping S start count old xs start (begun count) old) (sym none) (record {
   hs = [];
   same = refl;
-  adds = record { fault = refl; count = omega arith; visits = omega arith; events = sym (put_none count old) };
+  adds = record { broken = refl; count = omega arith; visits = omega arith; events = sym (put_none count old) };
   below = tt;
-  stands = record { level = omega arith; low = subst (λ (s : Sort). IsLow S s start.level) (sym kind) level; size = size; place = place };
+  stands = record { reach = λ k p. p; level = omega arith; low = subst (λ (s : Sort). IsLow S s start.level) (sym kind) level; size = size; place = place };
 })
 
 module _ {S : Shape} {start : Head} {count : ℕ} {old : List Event} {fs : List Head} {top : Head} {t : Taped} {out : List Event} (now : IsTaping S start count old fs top t out) where
   -- the region at hand is at its end, and the last that waits goes on
   pub pops : (gs : List Head) (b : Head) → top.left ≡ [] → fs ≡ gs ++ b ∷ [] → IsTaping S start count old gs b t out
   pops gs b e is =
-      let all = levels_pop S start.level gs b (subst (AllAtLevels S start.level) is now.below) in
+      let all = levels_pop S start start.level gs b (subst (AllAtLevels S start start.level) is now.below) in
       record {
         hs = now.hs;
         same = now.same ∙ ap (λ (x : Trail). front now.hs (resume S fs x)) (trail_ends S top e) ∙ ap (λ (xs : List Head). front now.hs (resume S xs ([], None))) is ∙ ap (front now.hs) (resume_push S gs b ([], None));
@@ -188,21 +200,21 @@ module _ {S : Shape} {start : Head} {count : ℕ} {old : List Event} {fs : List 
     same = comes (trail_of S (follower S top)) (goes_then S top None some b none);
     adds = adds_then S now.hs (top ∷ []) (begun count) t u old out new now.adds a;
     below = now.below;
-    stands = follower_level S (start.level + length fs) top b now.stands;
+    stands = follower_level S start (start.level + length fs) top some b now.stands;
   })
 
   -- it holds one
   pub opens : (n k : Head) (gs : List Head) (u : Taped) (new : List Event) → top.left ≢ [] → broken S top ≡ None → inner_of S top ≡ Some k → n ≡ follower S top → gs ≡ fs ++ n ∷ [] → Adds S (top ∷ []) t u out new → IsTaping S start count old gs k u new
   opens n k gs u new some b inner next push a =
       let pushed : gs ≡ fs ++ follower S top ∷ [] = push ∙ ap (λ (x : Head). fs ++ x ∷ []) next in
-      let i = inner_level S (start.level + length fs) top k b inner now.stands in
+      let i = inner_level S start (start.level + length fs) top k some b inner now.stands in
       subst (λ (xs : List Head). IsTaping S start count old xs k u new) (sym pushed) (record {
         hs = now.hs ++ top ∷ [];
         same = comes (and_on (trail_of S k) (trail_of S (follower S top))) (goes_then S top (Some k) some b inner)
             ∙ ap (front (now.hs ++ top ∷ [])) (sym (resume_push S fs (follower S top) (trail_of S k)));
         adds = adds_then S now.hs (top ∷ []) (begun count) t u old out new now.adds a;
-        below = levels_push S start.level fs (follower S top) now.below (follower_level S (start.level + length fs) top b now.stands);
-        stands = subst (λ (m : ℕ). IsAtLevel S m k) (omega (arith, length-append fs (follower S top ∷ []))) i.0;
+        below = levels_push S start start.level fs (follower S top) now.below (follower_level S start (start.level + length fs) top some b now.stands);
+        stands = subst (λ (m : ℕ). IsAtLevel S start m k) (omega (arith, length-append fs (follower S top ∷ []))) i.0;
       })
 
   -- the sums are small
@@ -225,23 +237,25 @@ module _ {S : Shape} {start : Head} {count : ℕ} {old : List Event} {fs : List 
   tells_none e is =
       let all : trail_of S start ≡ (now.hs, None) = now.same ∙ ap (λ (x : Trail). front now.hs (resume S fs x)) (trail_ends S top e) ∙ ap (λ (xs : List Head). front now.hs (resume S xs ([], None))) is ∙ ap (λ (l : List Head). (l, None)) (append-nil now.hs) in
       record {
-        fault = now.adds.fault ∙ ap (λ (x : Trail). fault_of x.1) (sym all);
+        fault = ap fault_in now.adds.broken ∙ ap (λ (x : Trail). fault_of x.1) (sym all);
+        head = subst (λ (o : Option BrokenHead). IfSome o (λ b. IsBrokenHead S start b)) (sym now.adds.broken) tt;
         visits = now.adds.visits ∙ omega arith ∙ ap (λ (x : Trail). visits_of S x.0) (sym all);
         counted = now.adds.count ∙ ap (λ (x : Trail). count + length x.0) (sym all);
         events = now.adds.events ∙ ap (λ (x : Trail). put_from count (map (event_of S.order) x.0) old) (sym all);
       }
 
   -- the head at hand breaks a rule
-  pub tells_fault : (r : Reason) (u : Taped) (new : List Event) → top.left ≢ [] → broken S top ≡ Some r → Adds S (stopped r top) t u out new → IsTaped S start count old new (record u { fault = Some (record { place = top.place; reason = r }) })
-  tells_fault r u new some b a =
+  pub tells_fault : (r : Reason) (x : BrokenHead) (u : Taped) (new : List Event) → top.left ≢ [] → broken S top ≡ Some r → x ≡ facts_of S.order r top → Adds S (stopped r top) t u out new → IsTaped S start count old new (record u { broken = Some x })
+  tells_fault r x u new some b is a =
       let all : trail_of S start ≡ (now.hs ++ stopped r top, Some (top.place, r)) = now.same ∙ ap (λ (x : Trail). front now.hs (resume S fs x)) (trail_stops S top r some b) ∙ ap (front now.hs) (resume_fault S fs (stopped r top) (top.place, r)) in
       let sum = adds_then S now.hs (stopped r top) (begun count) t u old out new now.adds a in
-      record {
+      subst (λ (y : BrokenHead). IsTaped S start count old new (record u { broken = Some y })) (sym is) (record {
         fault = ap (λ (x : Trail). fault_of x.1) (sym all);
+        head = (top, now.stands.reach top (first some), b, refl);
         visits = sum.visits ∙ omega arith ∙ ap (λ (x : Trail). visits_of S x.0) (sym all);
         counted = sum.count ∙ ap (λ (x : Trail). count + length x.0) (sym all);
         events = sum.events ∙ ap (λ (x : Trail). put_from count (map (event_of S.order) x.0) old) (sym all);
-      }
+      })
 
 pub not_empty : (left : List ℕ) → false ≡ eqb (length left) 0 → left ≢ []
 not_empty [] e = absurd cc

@@ -12,7 +12,7 @@ use Rattle.nl_attr.specs.Heads.{Head, broken, broken_container, follower, inner_
 use Rattle.nl_attr.specs.Visits.{spans}
 use Rattle.nl_attr.specs.Reading.{Outcome}
 use Rattle.nl_attr.specs.Scanned.{without}
-use Rattle.nl_attr.specs.Trail.{Trail, and_on, inner_trail, stopped, trail_turn, trail_at, trail_of, visit_of}
+use Rattle.nl_attr.specs.HeadOrder.{Trail, and_on, inner_trail, stopped, trail_turn, trail_at, trail_of, visit_of}
 use Rattle.nl_attr.proofs.Lemmas.Scan.{Scan, scan, turn, join, inner_scan, follower_shorter, inner_shorter}
 use Rattle.nl_attr.proofs.Lemmas.Scan as heads
 use Rattle.nl_attr.proofs.Lemmas.First.{Agrees}

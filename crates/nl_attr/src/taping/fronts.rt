@@ -4,7 +4,7 @@ ghost use Rattle.std.specs.Prelude.{◌^◌, ◌≡◌, ◌≤◌, ◌<◌, ◌+
 ghost use Rattle.nl_attr.specs.Heads.{start_of};
 ghost use Rattle.nl_attr.specs.Region.{ctx_in, head_of, sort_in};
 ghost use Rattle.nl_attr.specs.Taped.{IsAttrFront, IsHopFront, hops_start};
-ghost use Rattle.nl_attr.specs.Trail.{sort_of};
+ghost use Rattle.nl_attr.specs.HeadOrder.{sort_of};
 ghost use Rattle.nl_attr.specs.Walk.{HeadIs};
 
 use crate::events::{Event, SORT_BYTES, SORT_HOPS, SORT_LIST, SORT_NEXT_HOP};

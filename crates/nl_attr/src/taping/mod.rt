@@ -10,8 +10,8 @@ ghost use Rattle.nl_attr.specs.Taped.{IsTaped};
 mod fronts;
 mod steps;
 
+use crate::broken::BrokenHead;
 use crate::events::Event;
-use crate::fault::Fault;
 use crate::limits::{Depth, FARTHEST_END, LONGEST_REGION, MOST_LEVELS, MOST_VISITS, Shape};
 use crate::order::Order;
 use crate::region::{OpenRegion, Parts};
@@ -22,8 +22,8 @@ use arrayvec::ArrayVec;
 /// What a scan found.
 #[derive(Clone, Copy, Debug, PartialEq, Eq)]
 pub struct Taped {
-    /// The first fault, or none.
-    pub fault: Option<Fault>,
+    /// The head that breaks a rule at the first fault, or none.
+    pub broken: Option<BrokenHead>,
     /// The place in the buffer behind the last event, also where the buffer ends before it.
     pub count: usize,
     /// How many attribute bytes were visited, on a fault too, as for `Tally`.
@@ -88,7 +88,7 @@ fn tape_region<'a>(
     stack.clear();
     let mut top = start;
     let mut taped = Taped {
-        fault: None,
+        broken: None,
         count,
         visits: 0,
     };
@@ -104,8 +104,7 @@ fn tape_region<'a>(
         }
         match step(top, shape, out, &mut taped) {
             Turn::Fails(reason) => {
-                let place = top.place;
-                taped.fault = Some(Fault { place, reason });
+                taped.broken = Some(top.broken(reason, shape));
                 return taped;
             }
             Turn::Goes(rest) => {
@@ -144,7 +143,8 @@ pub fn tape_list<'a>(
     requires size { length bytes.now ≤ LONGEST_REGION }
     requires place { base + length bytes.now ≤ FARTHEST_END }
     requires count { count ≤ 2 ^ 32 }
-    // The heads are those of the region up to its first fault, and so are the visits.
+    // The heads are those of the region up to its first fault, and so are the visits; where there is
+    // a fault, the head that breaks its rule stands in the region at its place.
     ensures taped { IsTaped (shape_of order depth) (start_of ctx level base bytes.now)
         count out.old out.new result }
     ensures bound { result.visits ≤ (depth - level + 1) * length bytes.now }

@@ -35,7 +35,7 @@ step-requires-clause-visits c = let q = c.requires in (small c.heads.invariant q
 pub returns-in-Fails : goal.returns-in-Fails
 returns-in-Fails c =
     let s = c.in-Fails.ensures in
-    tells_fault c.heads.invariant c.in-Fails.reason c.step.new.taped c.step.new.out (not_empty c.heads.top.left.now c.if-is_empty.ensures) s.0 s.1
+    tells_fault c.heads.invariant c.in-Fails.reason c.broken.result c.step.new.taped c.step.new.out (not_empty c.heads.top.left.now c.if-is_empty.ensures) s.0 c.broken.ensures s.1
 
 pub heads-preserved-in-Goes : goal.heads-preserved-in-Goes
 heads-preserved-in-Goes c =

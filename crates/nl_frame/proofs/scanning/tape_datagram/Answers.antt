@@ -1,5 +1,5 @@
 use Rattle.std.proofs.Common.{arith}
-use Rattle.nl_frame.proofs.Scanned.{says_so, count_of, scans}
+use Rattle.nl_frame.proofs.Scanned.{says_so, count_of, head_is, scans}
 use Rattle.nl_frame.proofs.scanning.tape_datagram.Goals as goal
 
 pub returns-clause-scans : goal.returns-clause-scans
@@ -7,7 +7,7 @@ returns-clause-scans c =
     let a = c.args in
     let taped = rw (c.order.ensures, c.depth.ensures.value) at c.tape_messages-taped.ensures in
     let outcome = says_so a.limits.now.shape a.bytes.now _ _ c.tape_messages-taped.result c.answer.result taped.taped c.answer.ensures in
-    scans a.limits.now a.bytes.now _ (λ i. omega (arith, c.type_inv.bytes i)) (λ large. omega (arith, large, c.if-bytes-datagram.false, c.datagram.ensures.value)) outcome taped.bound
+    scans a.limits.now a.bytes.now _ (λ i. omega (arith, c.type_inv.bytes i)) (λ large. omega (arith, large, c.if-bytes-datagram.false, c.datagram.ensures.value)) outcome (head_is c.answer.result c.tape_messages-taped.result.broken _ _ c.answer.ensures taped.head) taped.bound
 
 pub returns-clause-events : goal.returns-clause-events
 returns-clause-events c = λ _. (rw (c.order.ensures, c.depth.ensures.value) at c.tape_messages-taped.ensures.taped).events

@@ -1,14 +1,17 @@
 use Rattle.std.proofs.Common.{arith}
 use Rattle.nl_attr.specs.Shape.{shape_of}
 use Rattle.nl_frame.proofs.Loop.{empty, not_empty}
-use Rattle.nl_frame.proofs.Tapes.{begins, tells_none, tells_broken, tells_fault, goes_on, sum_small, sum_whole, here_whole}
+use Rattle.nl_frame.proofs.Tapes.{begins, tells_none, tells_broken, tells_fault, header_breaks, inner_breaks, goes_on, sum_small, sum_whole, here_whole}
 use Rattle.nl_frame.proofs.taping.tape_ordered.Goals as goal
 
 pub messages-init : goal.messages-init
 messages-init c = begins (shape_of c.args.order c.args.depth) c.args.bytes.now c.args.out.now
 
 pub returns-in-Err-clause-taped : goal.returns-in-Err-clause-taped
-returns-in-Err-clause-taped c = tells_broken c.messages.invariant c.in-Err.reason (not_empty c.messages.left.now c.messages-test.ensures) c.in-Err.ensures
+returns-in-Err-clause-taped c = tells_broken c.messages.invariant c.in-Err.reason c.header_at_fault.result (not_empty c.messages.left.now c.messages-test.ensures) c.in-Err.ensures c.header_at_fault.ensures
+
+pub returns-in-Err-clause-head : goal.returns-in-Err-clause-head
+returns-in-Err-clause-head c = header_breaks c.messages.invariant c.in-Err.reason c.header_at_fault.result (not_empty c.messages.left.now c.messages-test.ensures) c.in-Err.ensures c.header_at_fault.ensures
 
 pub returns-in-Err-clause-bound : goal.returns-in-Err-clause-bound
 returns-in-Err-clause-bound c = here_whole c.messages.invariant
@@ -17,7 +20,10 @@ pub overflow_add-visits : goal.overflow_add-visits
 overflow_add-visits c = omega (arith, sum_small c.messages.invariant c.in-Ok.frame (not_empty c.messages.left.now c.messages-test.ensures) c.in-Ok.ensures _ c.tape_frame-taped.result c.tape_frame-taped.ensures.taped (omega (arith, c.get-limit.ensures.limit, c.get-limit.ensures.value)) c.requires c.tape_frame-taped.ensures.bound)
 
 pub returns-in-Some-clause-taped : goal.returns-in-Some-clause-taped
-returns-in-Some-clause-taped c = tells_fault c.messages.invariant c.in-Ok.frame (not_empty c.messages.left.now c.messages-test.ensures) c.in-Ok.ensures _ c.tape_frame-taped.result c.tape_frame-taped.ensures.taped c.in-Some.fault c.in-Some.is
+returns-in-Some-clause-taped c = tells_fault c.messages.invariant c.in-Ok.frame (not_empty c.messages.left.now c.messages-test.ensures) c.in-Ok.ensures _ c.tape_frame-taped.result c.tape_frame-taped.ensures.taped c.in-Some.head c.in-Some.is
+
+pub returns-in-Some-clause-head : goal.returns-in-Some-clause-head
+returns-in-Some-clause-head c = inner_breaks c.messages.invariant c.in-Ok.frame (not_empty c.messages.left.now c.messages-test.ensures) c.in-Ok.ensures c.tape_frame-taped.result.broken c.in-Some.head c.in-Some.is c.tape_frame-taped.ensures.head
 
 pub returns-in-Some-clause-bound : goal.returns-in-Some-clause-bound
 returns-in-Some-clause-bound c = sum_whole c.messages.invariant c.in-Ok.frame (not_empty c.messages.left.now c.messages-test.ensures) c.in-Ok.ensures _ c.tape_frame-taped.result c.tape_frame-taped.ensures.taped c.tape_frame-taped.ensures.bound

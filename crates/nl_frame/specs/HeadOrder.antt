@@ -7,8 +7,8 @@ use Rattle.nl_attr.specs.declared.order.Order.{Order}
 use Rattle.nl_attr.specs.Shape.{Shape}
 use Rattle.nl_attr.specs.Heads.{Head, IsSound}
 use Rattle.nl_attr.specs.Visits.{spans}
-use Rattle.nl_attr.specs.Trail.{TrailOf, and_on, visit_of}
-use Rattle.nl_attr.specs.Trail as region
+use Rattle.nl_attr.specs.HeadOrder.{TrailOf, and_on, visit_of}
+use Rattle.nl_attr.specs.HeadOrder as region
 use Rattle.nl_frame.specs.Header.{header_of}
 use Rattle.nl_frame.specs.Front.{payload_at, broken_message}
 use Rattle.nl_frame.specs.Heads.{Rest, behind, region_of, MessageAt, InnerAt, FaultAt, IsFirstFault}
