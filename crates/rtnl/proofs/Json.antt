@@ -1,29 +1,78 @@
 -- What is written of a line, a token after another.
-use Rattle.std.proofs.Common.{◌≡◌, ◌≤◌, ◌<◌, ◌+◌, ℕ, [], ◌∷◌, ◌++◌, List, Result, OnOk, drop, get_or, length, map, append_assoc, append-nil, ap, codes, refl, sym, ◌∙◌}
+use Rattle.std.proofs.Common.{◌≡◌, ◌≤◌, ◌<◌, ◌+◌, ℕ, [], ◌∷◌, ◌++◌, Bool, true, false, cond, List, drop, get_or, length, map, arith, append_assoc, append-nil, ap, ap₂, codes, refl, sym, ◌∙◌}
 use Rattle.std.proofs.Math.ListN.{drop_of_length-le}
+use Rattle.std.proofs.lemmas.Bool.{and_parts}
 use Rattle.std.proofs.lemmas.List.{drop_more}
-use Rattle.std.proofs.lemmas.Result.{IfOk-weaker}
 use Rattle.json.specs.Json.{Json}
-use Rattle.json.specs.Print.{print}
+use Rattle.json.specs.Print.{begins, ends, escape, escape_byte, print, print_from, quoted, separator, token_text}
+use Rattle.json.specs.Run.{is_plain}
 use Rattle.json.specs.Token.{Token, begin_array, begin_object, end_array, end_object, key}
 use Rattle.json.specs.Tree.{items_tokens, json_tokens, members_tokens}
-use Rattle.json.specs.Written as json
-use Rattle.json.specs.Written.{Writes}
-use Rattle.rtnl.specs.Json.{Field, Line, ◌⊕◌, array, behind, fields_tokens, items_of, json_line, members_of, object, object_behind, values_tokens}
+use Rattle.json.proofs.Printed.Strings.{escape_byte_plain}
+use Rattle.rtnl.specs.Json.{Field, IsUnescaped, Line, ◌⊕◌, array, behind, closed, comma, fields_tokens, is_unescaped, items_of, json_line, members_of, object, object_behind, opened, put, string, value_text, values_tokens}
 
--- the line of a writer
-abbrev pub line_of : json.Written → Line
-line_of w = record { before = w.before; tokens = w.tokens }
+-- a byte that stands for itself
+one_byte : (x : ℕ) → is_plain x ≡ true → escape_byte x ≡ x ∷ []
+one_byte x plain = escape_byte_plain x (grind arith) (grind arith) (grind arith)
 
--- a token that a writer takes
-pub takes : {E : Type 0} (r : Result (Unit {0}) E) (old new : json.Written) (t : Token) → Writes r old new t → OnOk r (line_of new ≡ line_of old ⊕ (t ∷ []))
+-- bytes that stand for themselves need no escape
+pub no_escape : (text : List ℕ) → IsUnescaped text → escape text ≡ text
+no_escape [] plain = refl
+no_escape (x ∷ text) plain =
+    let parts = and_parts (is_plain x) (is_unescaped text) plain in
+    ap₂ (λ a b. a ++ b) (one_byte x parts.0) (no_escape text parts.1)
+
+-- what stands before a token that begins
+separated : (after : Bool) (t : Token) → begins t ≡ true → separator after t ≡ comma after
+separated false t begun = refl
+separated true t begun = ap (λ b. cond b (44 ∷ []) []) begun
+
+-- what stands before any other
+unseparated : (after : Bool) (t : Token) → begins t ≡ false → separator after t ≡ []
+unseparated false t begun = refl
+unseparated true t begun = ap (λ b. cond b (44 ∷ []) []) begun
+
+-- whether a value has just ended behind tokens
+abbrev pub ended : Bool → List Token → Bool
+ended after [] = after
+ended after (t ∷ ts) = ended (ends t) ts
+
+-- the text of tokens behind a line
+pub written : (w : Line) (ts : List Token) → w ⊕ ts ≡ record { text = w.text ++ print_from w.after ts; after = ended w.after ts }
+unfolding ◌⊕◌ print_from
+written w [] = λ i. record { text = sym (append-nil w.text) i; after = w.after }
+written w (t ∷ ts) =
+    let s = separator w.after t in
+    let rest = print_from (ends t) ts in
+    let text = append_assoc w.text (s ++ token_text t) rest ∙ ap (λ l. w.text ++ l) (append_assoc s (token_text t) rest) in
+    written (put w t) ts ∙ λ i. record { text = text i; after = ended (ends t) ts }
+
+-- the text of tokens of which the first begins
+pub opens : (w : Line) (t : Token) (ts : List Token) (words : List ℕ) (after : Bool) → begins t ≡ true → words ≡ print (t ∷ ts) → after ≡ ended false (t ∷ ts) → opened w words after ≡ w ⊕ (t ∷ ts)
+unfolding print_from
+opens w t ts words after begun text is =
+    (λ i. record { text = w.text ++ (sym (separated w.after t begun) i ++ text i); after = is i }) ∙ sym (written w (t ∷ ts))
+
+-- a token whose text is written in two parts
+pub one_token : (w line : Line) (words rest : List ℕ) (after : Bool) (t : Token) (text : List ℕ) → line ≡ opened w words after → text ≡ line.text ++ rest → begins t ≡ true → words ++ rest ≡ token_text t → after ≡ ends t
+    → record { text = text; after = line.after } ≡ w ⊕ (t ∷ [])
+unfolding print_from
+one_token w line words rest after t text is grown begun whole ended =
+    let all : text ≡ w.text ++ (comma w.after ++ token_text t) =
+    grown ∙ ap (λ l. l.text ++ rest) is ∙ append_assoc w.text (comma w.after ++ words) rest
+    ∙ ap (λ x. w.text ++ x) (append_assoc (comma w.after) words rest ∙ ap (λ x. comma w.after ++ x) whole) in
+    (λ i. record { text = all i; after = (is i).after }) ∙ opens w t [] (token_text t) after begun (sym (append-nil (token_text t))) ended
+
+-- a token that ends a value and begins none
+pub closes : (w : Line) (t : Token) → begins t ≡ false → ends t ≡ true → closed w (token_text t) ≡ w ⊕ (t ∷ [])
 unfolding ◌⊕◌
-takes r old new t h = IfOk-weaker r _ _ (λ _ (e : new.tokens ≡ old.tokens ++ t ∷ []). λ i. record { before = h.room.0 i; tokens = e i }) h.ok
+closes w t begun is = λ i. record { text = w.text ++ (sym (unseparated w.after t begun) i ++ token_text t); after = sym is i }
 
 -- tokens, and then others
 pub more : (w : Line) (a b : List Token) → (w ⊕ a) ⊕ b ≡ w ⊕ (a ++ b)
 unfolding ◌⊕◌
-more w a b = λ i. record { before = w.before; tokens = append_assoc w.tokens a b i }
+more w [] b = refl
+more w (t ∷ ts) b = more (put w t) ts b
 
 -- the tokens of fields, and then the brace that closes their object
 members : (fields : List Field) → members_tokens (members_of fields) ≡ fields_tokens fields ++ end_object ∷ []
@@ -64,7 +113,7 @@ more_fields w first rest = more w (fields_tokens first) (fields_tokens rest) ∙
 -- no token more
 pub no_more : (w : Line) → w ⊕ [] ≡ w
 unfolding ◌⊕◌
-no_more w = λ i. record { before = w.before; tokens = append-nil w.tokens i }
+no_more w = refl
 
 -- the name of a field, and then an array
 pub an_array : (w a b c d : Line) (name : List ℕ) (values : List Json) → a ≡ w ⊕ (key name ∷ []) → b ≡ a ⊕ (begin_array ∷ []) → c ≡ b ⊕ values_tokens values → d ≡ c ⊕ (end_array ∷ [])
@@ -121,10 +170,23 @@ next_written values xs i x value line new all here front step h =
     ap (λ l. l ⊕ values_tokens (values (drop (i + 1) xs))) step ∙ more line (json_tokens value) (values_tokens (values (drop (i + 1) xs)))
     ∙ sym (ap (λ vs. line ⊕ values_tokens vs) (ap values here ∙ front)) ∙ h
 
+-- fields that are put together
+pub fields_together : (w : Line) (fields : List Field) (words : List ℕ) → words ≡ print (fields_tokens fields) → true ≡ ended false (fields_tokens fields) → opened w words true ≡ w ⊕ fields_tokens fields
+unfolding fields_tokens
+fields_together w [] words text is = absurd cc
+fields_together w (field ∷ fields) words text is = opens w (key field.0) (json_tokens field.1 ++ fields_tokens fields) words true refl text is
+
+-- the text of a string that needs no escape
+pub string_text : (text : List ℕ) → IsUnescaped text → value_text (string text) ≡ 34 ∷ (text ++ codes "\"")
+unfolding print_from
+string_text text plain = append-nil (quoted text) ∙ ap (λ t. 34 ∷ (t ++ codes "\"")) (no_escape text plain)
+
 -- an object that is ended, and the byte that ends its line
-pub whole_line : (before : List ℕ) (fields : List Field) (line last : Line) → line ≡ object_behind before ⊕ fields_tokens fields → last ≡ line ⊕ (end_object ∷ [])
-    → last.before ++ (print last.tokens ++ codes "\n") ≡ before ++ json_line (object fields)
+pub whole_line : (before : List ℕ) (fields : List Field) (line : Line) → line ≡ object_behind before ⊕ fields_tokens fields → line.text ++ codes "}\n" ≡ before ++ json_line (object fields)
 unfolding object_behind json_line ◌⊕◌
-whole_line before fields line last written ended =
-    let all : last ≡ behind before ⊕ json_tokens (object fields) = an_object (behind before) (object_behind before) line last fields refl written ended in
-    ap (λ l. l.before ++ (print l.tokens ++ codes "\n")) all
+whole_line before fields line is =
+    let last = line ⊕ (end_object ∷ []) in
+    let all : last ≡ behind before ⊕ json_tokens (object fields) = an_object (behind before) (object_behind before) line last fields refl is refl in
+    let text : (line.text ++ codes "}") ≡ before ++ print (json_tokens (object fields)) =
+    ap (λ l. l.text) (closes line end_object refl refl ∙ all ∙ written (behind before) (json_tokens (object fields))) in
+    sym (append_assoc line.text (codes "}") (codes "\n")) ∙ ap (λ t. t ++ codes "\n") text ∙ append_assoc before (print (json_tokens (object fields))) (codes "\n")

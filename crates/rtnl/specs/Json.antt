@@ -1,10 +1,11 @@
 -- Values of JSON (RFC 8259), and the line that each is written as.
-use Rattle.std.specs.Prelude.{ℕ, ℤ, List, [], ◌∷◌, ◌++◌, map, codes, Bool}
+use Rattle.std.specs.Prelude.{◌≡◌, ℕ, ℤ, List, [], ◌∷◌, ◌++◌, map, codes, Bool, true, false, cond}
 use Rattle.std.specs.Fmt.{decimal, signed_decimal}
-use Rattle.std.specs.List.{flat_map}
+use Rattle.std.specs.List.{flat_map, list_all}
 use Rattle.hex.specs.Hex.{encode_lower}
 use Rattle.json.specs.Json as json
-use Rattle.json.specs.Print.{print}
+use Rattle.json.specs.Print.{ends, print, separator, token_text}
+use Rattle.json.specs.Run.{is_plain}
 use Rattle.json.specs.Token.{Token, begin_object, key}
 use Rattle.json.specs.Tree.{json_tokens}
 
@@ -60,15 +61,44 @@ json_line value = print (json_tokens value) ++ codes "\n"
 
 -- ---- for private clauses: what is written of a line
 
--- the lines before it, and the tokens of its value so far
+-- the text of a value
+abbrev pub value_text : json.Json → List ℕ
+value_text value = print (json_tokens value)
+
+-- whether each byte of a text stands for itself in a string
+abbrev pub is_unescaped : List ℕ → Bool
+is_unescaped text = list_all is_plain text
+
+-- it does
+abbrev pub IsUnescaped : List ℕ → Type 0
+IsUnescaped text = is_unescaped text ≡ true
+
+-- the text so far, and whether a value has just ended in it
 pub record Line : Type 0 where
-  pub before : List ℕ
-  pub tokens : List Token
+  pub text : List ℕ
+  pub after : Bool
+
+-- a line, and a token more
+abbrev pub put : Line → Token → Line
+put line t = record { text = line.text ++ (separator line.after t ++ token_text t); after = ends t }
 
 infixl 60 ◌⊕◌
 -- a line, and tokens more
 unfoldable pub ◌⊕◌ : Line → List Token → Line
-line ⊕ tokens = record { before = line.before; tokens = line.tokens ++ tokens }
+line ⊕ [] = line
+line ⊕ (t ∷ ts) = put line t ⊕ ts
+
+-- what stands before a token that begins
+abbrev pub comma : Bool → List ℕ
+comma after = cond after (44 ∷ []) []
+
+-- a line, and the text of tokens of which the first begins
+abbrev pub opened : Line → List ℕ → Bool → Line
+opened line words after = record { text = line.text ++ (comma line.after ++ words); after = after }
+
+-- a line, and words that end a value
+abbrev pub closed : Line → List ℕ → Line
+closed line words = record { text = line.text ++ words; after = true }
 
 -- the tokens of fields
 unfoldable pub fields_tokens : List Field → List Token
@@ -81,7 +111,7 @@ values_tokens values = flat_map json_tokens values
 
 -- a line behind others
 abbrev pub behind : List ℕ → Line
-behind lines = record { before = lines; tokens = [] }
+behind lines = record { text = lines; after = false }
 
 -- the same, on which an object is begun
 unfoldable pub object_behind : List ℕ → Line

@@ -11,7 +11,7 @@ use crate::text::families::Shown;
 use nl_attr::Order;
 use nl_frame::{Body, Header};
 use nl_route::match_family;
-use std::alloc::{AllocError, Global};
+use std::alloc::AllocError;
 
 /// Writes the header that an answer with a code is about.
 fn push_answered(line: &mut Line, answered: &Header) -> Result<(), AllocError>
@@ -20,23 +20,15 @@ fn push_answered(line: &mut Line, answered: &Header) -> Result<(), AllocError>
 {
     line.key("answers")?;
     line.begin_object()?;
-    line.numbers(&[
-        ("len", answered.len.into()),
-        ("type", answered.kind.into()),
-        ("flags", answered.flags.into()),
-        ("seq", answered.seq.into()),
-        ("port", answered.port.into()),
-    ])?;
+    line.number("len", answered.len.into())?;
+    line.number("type", answered.kind.into())?;
+    line.number("flags", answered.flags.into())?;
+    line.number("seq", answered.seq.into())?;
+    line.number("port", answered.port.into())?;
     line.end_object()
 }
 
-fn push_error(
-    alloc: Global,
-    line: &mut Line,
-    code: i32,
-    answered: &Header,
-    tail: &[u8],
-) -> Result<(), AllocError>
+fn push_error(line: &mut Line, code: i32, answered: &Header, tail: &[u8]) -> Result<(), AllocError>
     ensures { OnOk result
         (line.new ≡ line.old ⊕ fields_tokens (error_field code answered.now tail.now ∷ [])) }
 {
@@ -44,51 +36,46 @@ fn push_error(
     line.begin_object()?;
     line.signed("code", code)?;
     push_answered(line, answered)?;
-    line.digits(alloc, "tail", tail)?;
+    line.digits("tail", tail)?;
     line.end_object()
 }
 
-fn push_done(alloc: Global, line: &mut Line, status: i32, tail: &[u8]) -> Result<(), AllocError>
+fn push_done(line: &mut Line, status: i32, tail: &[u8]) -> Result<(), AllocError>
     ensures { OnOk result (line.new ≡ line.old ⊕ fields_tokens (done_field status tail.now ∷ [])) }
 {
     line.key("done")?;
     line.begin_object()?;
     line.signed("status", status)?;
-    line.digits(alloc, "tail", tail)?;
+    line.digits("tail", tail)?;
     line.end_object()
 }
 
-fn push_get(alloc: Global, line: &mut Line, family: u8, tail: &[u8]) -> Result<(), AllocError>
+fn push_get(line: &mut Line, family: u8, tail: &[u8]) -> Result<(), AllocError>
     ensures { OnOk result (line.new ≡ line.old ⊕ fields_tokens (get_field family tail.now ∷ [])) }
 {
     line.key("get")?;
     line.begin_object()?;
     line.number("family", family.into())?;
-    line.digits(alloc, "tail", tail)?;
+    line.digits("tail", tail)?;
     line.end_object()
 }
 
 /// Writes a body, under its word.
 #[tactic(auto, unfolding(crate::specs::Objects::body_field, crate::specs::Objects::bytes_field))]
-pub(crate) fn push_body(
-    alloc: Global,
-    line: &mut Line,
-    order: Order,
-    body: &Body,
-) -> Result<(), AllocError>
+pub(crate) fn push_body(line: &mut Line, order: Order, body: &Body) -> Result<(), AllocError>
     ensures { OnOk result
         (line.new ≡ line.old ⊕ fields_tokens (body_field order (body_view body.now) ∷ [])) }
 {
-    match_family!(body, Body, family => family.push_field(alloc, line, order), {
+    match_family!(body, Body, family => family.push_field(line, order), {
         Body::Noop(payload) | Body::Overrun(payload) | Body::Other(payload) => {
-            line.digits(alloc, "bytes", payload)
+            line.digits("bytes", payload)
         }
         Body::Error {
             code,
             answered,
             tail,
-        } => push_error(alloc, line, *code, answered, tail),
-        Body::Done { status, tail } => push_done(alloc, line, status.unwrap_or(0), tail),
-        Body::Get { family, tail } => push_get(alloc, line, *family, tail),
+        } => push_error(line, *code, answered, tail),
+        Body::Done { status, tail } => push_done(line, status.unwrap_or(0), tail),
+        Body::Get { family, tail } => push_get(line, *family, tail),
     })
 }

@@ -50,7 +50,8 @@ fn push_dump(line: &mut Line, dump: &Dump) -> Result<(), AllocError>
     ensures { OnOk result (line.new ≡ line.old ⊕ fields_tokens (dump_fields dump.now)) }
 {
     line.text("dump", dump.kind.row().name)?;
-    line.numbers(&[("seq", dump.seq.into()), ("port", dump.port.into())])
+    line.number("seq", dump.seq.into())?;
+    line.number("port", dump.port.into())
 }
 
 /// The word for how the dump ended, and the status or the code that ended it.
@@ -100,12 +101,10 @@ fn push_counts(
         (line.new ≡ line.old ⊕ fields_tokens (count_fields dump.now unfed session.now)) }
 {
     let _kind = dump.kind;
-    line.numbers(&[
-        ("entries", size.entries.into()),
-        ("missed", size.missed),
-        ("ignored", session.ignored()),
-        ("unfed", unfed as u64),
-    ])
+    line.number("entries", size.entries.into())?;
+    line.number("missed", size.missed)?;
+    line.number("ignored", session.ignored())?;
+    line.number("unfed", unfed as u64)
 }
 
 /// Writes whether something of the dump was lost.
@@ -118,14 +117,11 @@ fn push_losses(line: &mut Line, session: &Session) -> Result<(), AllocError>
 }
 
 /// Writes what was counted of all datagrams.
-#[tactic(auto, unfolding(crate::specs::TabledJson::sum_fields))]
 fn push_sums(line: &mut Line, session: &Session) -> Result<(), AllocError>
     ensures { OnOk result (line.new ≡ line.old ⊕ fields_tokens (sum_fields session.now)) }
 {
-    line.numbers(&[
-        ("received", session.received()),
-        ("visits", session.visits()),
-    ])
+    line.number("received", session.received())?;
+    line.number("visits", session.visits())
 }
 
 /// A report in lines of JSON.
@@ -165,7 +161,7 @@ impl Report for InJson {
     ) -> Result<(), AllocError> {
         let mut line = Line::begin(alloc, out)?;
         line.number("entry", number.into())?;
-        entry.push_field(alloc, &mut line, order)?;
+        entry.push_field(&mut line, order)?;
         line.end(out)
     }
 

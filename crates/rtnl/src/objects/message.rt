@@ -42,7 +42,8 @@ fn push_header(alloc: Global, line: &mut Line, message: &Message) -> Result<(), 
     line.text("type", type_name.as_str())?;
     line.number("flags", message.flags.into())?;
     push_flag_names(line, names, message.flags)?;
-    line.numbers(&[("seq", message.seq.into()), ("port", message.port.into())])
+    line.number("seq", message.seq.into())?;
+    line.number("port", message.port.into())
 }
 
 /// Writes a message.
@@ -57,7 +58,7 @@ fn push_message(
 {
     line.begin_object()?;
     push_header(alloc, line, message)?;
-    push_body(alloc, line, order, &message.body)?;
+    push_body(line, order, &message.body)?;
     line.end_object()
 }
 

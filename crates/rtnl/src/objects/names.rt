@@ -2,7 +2,7 @@
 
 ghost use Rattle.std.specs.Prelude.{◌≡◌, ◌∷◌, [], List, OnOk, map};
 ghost use Rattle.bitflags.specs.Sets.{Row};
-ghost use Rattle.rtnl.specs.Json.{◌⊕◌, fields_tokens, string, values_tokens};
+ghost use Rattle.rtnl.specs.Json.{IsUnescaped, ◌⊕◌, fields_tokens, string, values_tokens};
 ghost use Rattle.rtnl.specs.Names.{names_json, names_set};
 
 use crate::objects::line::Line;
@@ -37,7 +37,8 @@ fn push_flags<F: Flags>(line: &mut Line, table: &[Flag<F>], value: &F) -> Result
 
 /// Writes a field with the names of the bits that are set, lowest first.
 pub(crate) fn push_names<F: Flags>(line: &mut Line, name: &str, value: &F) -> Result<(), AllocError>
-    requires { F.exact }
+    requires exact { F.exact }
+    requires plain { IsUnescaped name.now }
     ensures { OnOk result (line.new ≡ line.old
         ⊕ fields_tokens ((name.now, names_json F.table (F.set_of value.now)) ∷ [])) }
 {

@@ -1,9 +1,10 @@
 //! Attributes and next hops as arrays of objects.
 
-ghost use Rattle.std.specs.Prelude.{◌≡◌, ◌∷◌, [], OnOk, codes};
+ghost use Rattle.std.specs.Prelude.{◌≡◌, ◌≤◌, ◌+◌, ◌∷◌, [], ◌++◌, OnOk, codes, length};
+ghost use Rattle.json.specs.Token.{begin_object};
 ghost use Rattle.nl_attr.specs.Tree.{HopItems, Items};
 ghost use Rattle.nl_attr.specs.View.{attr_view, attrs_view, hop_view, hops_view, value_view};
-ghost use Rattle.rtnl.specs.Json.{◌⊕◌, array, fields_tokens, values_tokens};
+ghost use Rattle.rtnl.specs.Json.{IsUnescaped, ◌⊕◌, array, fields_tokens, value_text, values_tokens};
 ghost use Rattle.rtnl.specs.Objects.{attr_front, attrs_json, flags_json};
 ghost use Rattle.rtnl.specs.Objects.{hop_front, hops_json, name_json, value_fields};
 
@@ -12,54 +13,61 @@ use crate::objects::names::push_names;
 use crate::objects::values::push_reading;
 use crate::text::attributes::{Style, attribute, find};
 use crate::text::flags::HopFlags;
+use crate::text::segment::Segment;
 use crate::text::tree::inner;
 use crate::text::values::read_payload;
 use nl_attr::{Attr, AttrFlags, Ctx, Hop, Order, Value};
-use std::alloc::{AllocError, Global};
+use std::alloc::AllocError;
 
-/// Writes the field of the name of an attribute.
-#[tactic(auto, unfolding(crate::specs::Objects::name_json), using(crate::proofs::Sets::one))]
-fn push_name(line: &mut Line, ctx: Ctx, number: u16) -> Result<(), AllocError>
-    ensures { OnOk result
-        (line.new ≡ line.old ⊕ fields_tokens ((codes "name", name_json ctx number) ∷ [])) }
+/// Puts an array of the words of an attribute's flags in front.
+#[inline(always)]
+fn put_flags(piece: &mut Segment, flags: AttrFlags)
+    requires { 16 + length piece.old ≤ 248 }
+    ensures text { piece.new ≡ value_text (flags_json flags) ++ piece.old }
+    ensures len { length piece.new ≤ 16 + length piece.old }
 {
-    line.key("name")?;
+    match (flags.nested, flags.net) {
+        (false, false) => piece.put("[]"),
+        (false, true) => piece.put("[\"net\"]"),
+        (true, false) => piece.put("[\"nested\"]"),
+        (true, true) => piece.put("[\"nested\",\"net\"]"),
+    }
+}
+
+/// Puts the name of an attribute in front, as a string, or null where it has none.
+#[inline(always)]
+fn put_name(piece: &mut Segment, ctx: Ctx, number: u16)
+    requires { 18 + length piece.old ≤ 248 }
+    ensures text { piece.new ≡ value_text (name_json ctx number) ++ piece.old }
+    ensures len { length piece.new ≤ 18 + length piece.old }
+{
     match find(ctx, number) {
-        Some((name, _)) => line.string(name),
-        None => line.null(),
+        Some((name, _)) => {
+            piece.put("\"");
+            piece.put(name);
+            piece.put("\"");
+        }
+        None => piece.put("null"),
     }
 }
 
-/// Writes the field of the flags of an attribute.
-#[tactic(auto, unfolding(crate::specs::Objects::flags_json), using(crate::proofs::Sets::array))]
-fn push_flags(line: &mut Line, flags: AttrFlags) -> Result<(), AllocError>
-    ensures { OnOk result
-        (line.new ≡ line.old ⊕ fields_tokens ((codes "flags", flags_json flags) ∷ [])) }
-{
-    line.key("flags")?;
-    line.begin_array()?;
-    if flags.nested {
-        line.string("nested")?;
-    }
-    if flags.net {
-        line.string("net")?;
-    }
-    line.end_array()
-}
-
-/// Writes what every attribute has.
-#[tactic(auto, unfolding(crate::specs::Objects::attr_front), using(crate::proofs::Sets::field))]
+/// Begins the object of an attribute, and writes what every attribute has.
 fn push_attr_front(
     line: &mut Line,
     ctx: Ctx,
     number: u16,
     flags: AttrFlags,
 ) -> Result<(), AllocError>
-    ensures { OnOk result (line.new ≡ line.old ⊕ fields_tokens (attr_front ctx number flags)) }
+    ensures { OnOk result
+        (line.new ≡ line.old ⊕ (begin_object ∷ fields_tokens (attr_front ctx number flags))) }
 {
-    line.number("number", number.into())?;
-    push_name(line, ctx, number)?;
-    push_flags(line, flags)
+    let mut piece = Segment::new();
+    put_flags(&mut piece, flags);
+    piece.put(",\"flags\":");
+    put_name(&mut piece, ctx, number);
+    piece.put(",\"name\":");
+    piece.put_field("{\"number\":", number as u64);
+    line.piece(&mut piece, true)
 }
 
 /// Writes what a next hop says of itself.
@@ -76,7 +84,6 @@ fn push_hop_front(line: &mut Line, flags: u8, hops: u8, index: i32) -> Result<()
 /// Writes the form of an attribute and what it holds, in the context of the attributes inside.
 #[cycle(writing)]
 fn push_held(
-    alloc: Global,
     line: &mut Line,
     order: Order,
     style: Style,
@@ -88,65 +95,41 @@ fn push_held(
         ≡ line.old ⊕ fields_tokens (value_fields order style net ctx (value_view value.now))) }
 {
     match value {
-        Value::Bytes(payload) => {
-            push_reading(
-                alloc,
-                line,
-                read_payload(order, style, net, payload.as_slice()),
-            )
-        }
+        Value::Bytes(payload) => push_reading(
+            line,
+            read_payload(order, style, net, payload.as_slice()),
+        ),
         Value::List(attrs) => {
             line.text("form", "list")?;
-            push_attrs(alloc, line, "items", order, ctx, attrs)
+            push_attrs(line, "items", order, ctx, attrs)
         }
         Value::Hops(hops) => {
             line.text("form", "hops")?;
-            push_hops(alloc, line, order, hops)
+            push_hops(line, order, hops)
         }
     }
 }
 
 /// Writes an attribute.
 #[cycle(writing)]
-fn push_attr(
-    alloc: Global,
-    line: &mut Line,
-    order: Order,
-    ctx: Ctx,
-    attr: &Attr,
-) -> Result<(), AllocError>
+fn push_attr(line: &mut Line, order: Order, ctx: Ctx, attr: &Attr) -> Result<(), AllocError>
     ensures { OnOk result ((more : Items) → line.new ⊕ values_tokens (attrs_json order ctx more)
         ≡ line.old ⊕ values_tokens (attrs_json order ctx (attr_view attr.now more))) }
 {
     let (_, style) = attribute(ctx, attr.number);
     let inside = inner(ctx, attr.number, attr.flags);
-    line.begin_object()?;
     push_attr_front(line, ctx, attr.number, attr.flags)?;
-    push_held(
-        alloc,
-        line,
-        order,
-        style,
-        attr.flags.net,
-        inside,
-        &attr.value,
-    )?;
+    push_held(line, order, style, attr.flags.net, inside, &attr.value)?;
     line.end_object()
 }
 
 #[cycle(writing)]
-fn push_each_attr(
-    alloc: Global,
-    line: &mut Line,
-    order: Order,
-    ctx: Ctx,
-    attrs: &[Attr],
-) -> Result<(), AllocError>
+fn push_each_attr(line: &mut Line, order: Order, ctx: Ctx, attrs: &[Attr]) -> Result<(), AllocError>
     ensures { OnOk result
         (line.new ≡ line.old ⊕ values_tokens (attrs_json order ctx (attrs_view attrs.now))) }
 {
     for attr in attrs {
-        push_attr(alloc, line, order, ctx, attr)?;
+        push_attr(line, order, ctx, attr)?;
     }
     Ok(())
 }
@@ -154,58 +137,53 @@ fn push_each_attr(
 /// Writes a field of this name with attributes in a context.
 #[cycle(writing)]
 pub(crate) fn push_attrs(
-    alloc: Global,
     line: &mut Line,
     name: &str,
     order: Order,
     ctx: Ctx,
     attrs: &[Attr],
 ) -> Result<(), AllocError>
+    requires { IsUnescaped name.now }
     ensures { OnOk result (line.new ≡ line.old
         ⊕ fields_tokens ((name.now, array (attrs_json order ctx (attrs_view attrs.now))) ∷ [])) }
 {
     line.key(name)?;
     line.begin_array()?;
-    push_each_attr(alloc, line, order, ctx, attrs)?;
+    push_each_attr(line, order, ctx, attrs)?;
     line.end_array()
 }
 
 /// Writes a next hop.
 #[cycle(writing)]
-fn push_hop(alloc: Global, line: &mut Line, order: Order, hop: &Hop) -> Result<(), AllocError>
+fn push_hop(line: &mut Line, order: Order, hop: &Hop) -> Result<(), AllocError>
     ensures { OnOk result ((more : HopItems) → line.new ⊕ values_tokens (hops_json order more)
         ≡ line.old ⊕ values_tokens (hops_json order (hop_view hop.now more))) }
 {
     line.begin_object()?;
     push_hop_front(line, hop.flags, hop.hops, hop.ifindex)?;
-    push_attrs(alloc, line, "attrs", order, Ctx::Route, &hop.attrs)?;
+    push_attrs(line, "attrs", order, Ctx::Route, &hop.attrs)?;
     line.end_object()
 }
 
 #[cycle(writing)]
-fn push_each_hop(
-    alloc: Global,
-    line: &mut Line,
-    order: Order,
-    hops: &[Hop],
-) -> Result<(), AllocError>
+fn push_each_hop(line: &mut Line, order: Order, hops: &[Hop]) -> Result<(), AllocError>
     ensures { OnOk result
         (line.new ≡ line.old ⊕ values_tokens (hops_json order (hops_view hops.now))) }
 {
     for hop in hops {
-        push_hop(alloc, line, order, hop)?;
+        push_hop(line, order, hop)?;
     }
     Ok(())
 }
 
 /// Writes a field with next hops.
 #[cycle(writing)]
-fn push_hops(alloc: Global, line: &mut Line, order: Order, hops: &[Hop]) -> Result<(), AllocError>
+fn push_hops(line: &mut Line, order: Order, hops: &[Hop]) -> Result<(), AllocError>
     ensures { OnOk result (line.new ≡ line.old
         ⊕ fields_tokens ((codes "items", array (hops_json order (hops_view hops.now))) ∷ [])) }
 {
     line.key("items")?;
     line.begin_array()?;
-    push_each_hop(alloc, line, order, hops)?;
+    push_each_hop(line, order, hops)?;
     line.end_array()
 }

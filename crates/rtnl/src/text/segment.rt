@@ -9,8 +9,8 @@ use itoa::write_digits;
 use std::alloc::AllocError;
 use std::marker::Model;
 
-/// How many bytes there is room for.
-const ROOM: usize = 256;
+/// How many bytes there is room for: with its start a segment has 256, which LLVM clears in place.
+const ROOM: usize = 248;
 
 /// Short text that is put together on the stack, each piece in front of those that stand. A number
 /// is written where it stays, and the whole is copied once.
@@ -27,7 +27,7 @@ impl Model for Segment {
 
     ghost view = { λ s. drop s.start s.buffer };
 
-    ghost invariant = { λ s. s.start ≤ 256 };
+    ghost invariant = { λ s. s.start ≤ 248 };
 }
 
 impl Segment {
@@ -45,7 +45,7 @@ impl Segment {
     /// Puts words in front.
     #[inline(always)]
     pub(crate) fn put(&mut self, words: &str)
-        requires { length words.now + length self.old ≤ 256 }
+        requires { length words.now + length self.old ≤ 248 }
         ensures text { self.new ≡ words.now ++ self.old }
         ensures len { length self.new ≡ length words.now + length self.old }
     {
@@ -58,7 +58,7 @@ impl Segment {
     /// Puts a number in front, in decimal.
     #[inline(always)]
     pub(crate) fn put_number(&mut self, number: u64)
-        requires { 20 + length self.old ≤ 256 }
+        requires { 20 + length self.old ≤ 248 }
         ensures text { self.new ≡ decimal number ++ self.old }
         ensures len { length self.new ≤ 20 + length self.old }
     {
@@ -69,7 +69,7 @@ impl Segment {
     #[inline(always)]
     #[tactic(auto, using(crate::proofs::Short::below_zero, crate::proofs::Short::not_below_zero))]
     pub(crate) fn put_signed(&mut self, number: i32)
-        requires { 21 + length self.old ≤ 256 }
+        requires { 21 + length self.old ≤ 248 }
         ensures text { self.new ≡ signed_decimal number ++ self.old }
         ensures len { length self.new ≤ 21 + length self.old }
     {
@@ -82,7 +82,7 @@ impl Segment {
     /// Puts a number in front, behind its words.
     #[inline(always)]
     pub(crate) fn put_field(&mut self, words: &str, number: u64)
-        requires { length words.now + 20 + length self.old ≤ 256 }
+        requires { length words.now + 20 + length self.old ≤ 248 }
         ensures text { self.new ≡ words.now ++ (decimal number ++ self.old) }
         ensures len { length self.new ≤ length words.now + 20 + length self.old }
     {
@@ -90,10 +90,20 @@ impl Segment {
         self.put(words);
     }
 
+    /// Puts a number of one byte in front, behind its words.
+    #[inline(always)]
+    pub(crate) fn put_small(&mut self, words: &str, number: u8)
+        requires { length words.now + 20 + length self.old ≤ 248 }
+        ensures text { self.new ≡ words.now ++ (decimal number ++ self.old) }
+        ensures len { length self.new ≤ length words.now + 3 + length self.old }
+    {
+        self.put_field(words, number as u64);
+    }
+
     /// Puts bytes in front, in hexadecimal digits.
     #[inline(always)]
     fn put_digits(&mut self, bytes: &[u8])
-        requires { 2 * length bytes.now + length self.old ≤ 256 }
+        requires { 2 * length bytes.now + length self.old ≤ 248 }
         ensures text { self.new ≡ encode_lower bytes.now ++ self.old }
         ensures len { length self.new ≡ 2 * length bytes.now + length self.old }
     {
@@ -108,7 +118,7 @@ impl Segment {
     #[inline(always)]
     #[tactic(auto, using(crate::proofs::Digits::two_digits))]
     pub(crate) fn put_hex2(&mut self, number: u8)
-        requires { 2 + length self.old ≤ 256 }
+        requires { 2 + length self.old ≤ 248 }
         ensures text { self.new ≡ padded_hex 2 number ++ self.old }
         ensures len { length self.new ≡ 2 + length self.old }
     {
@@ -119,7 +129,7 @@ impl Segment {
     #[inline(always)]
     #[tactic(auto, using(crate::proofs::Digits::four_digits))]
     pub(crate) fn put_hex4(&mut self, number: u16)
-        requires { 4 + length self.old ≤ 256 }
+        requires { 4 + length self.old ≤ 248 }
         ensures text { self.new ≡ padded_hex 4 number ++ self.old }
         ensures len { length self.new ≡ 4 + length self.old }
     {
@@ -130,7 +140,7 @@ impl Segment {
     #[inline(always)]
     #[tactic(auto, using(crate::proofs::Digits::eight_digits, std::proofs::Common::append_assoc))]
     pub(crate) fn put_hex8(&mut self, number: u32)
-        requires { 8 + length self.old ≤ 256 }
+        requires { 8 + length self.old ≤ 248 }
         ensures text { self.new ≡ padded_hex 8 number ++ self.old }
         ensures len { length self.new ≡ 8 + length self.old }
     {

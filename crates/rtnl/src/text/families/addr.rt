@@ -52,14 +52,13 @@ impl HeadLine for AddrHead {
         line.push_to(out)
     }
 
-    #[tactic(auto, unfolding(crate::specs::Addr::addr_fields), using(crate::proofs::Sets::field))]
     fn push_fields(&self, line: &mut Line) -> Result<(), AllocError> {
-        line.numbers(&[
-            ("family", self.family.into()),
-            ("prefix", self.prefixlen.into()),
-            ("flags", self.flags.into()),
-            ("scope", self.scope.into()),
-            ("index", self.index.into()),
-        ])
+        let mut piece = Segment::new();
+        piece.put_field(",\"index\":", self.index as u64);
+        piece.put_small(",\"scope\":", self.scope);
+        piece.put_small(",\"flags\":", self.flags);
+        piece.put_small(",\"prefix\":", self.prefixlen);
+        piece.put_small("\"family\":", self.family);
+        line.piece(&mut piece, true)
     }
 }

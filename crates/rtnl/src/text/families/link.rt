@@ -82,12 +82,13 @@ impl HeadLine for LinkHead {
 
     #[tactic(auto, unfolding(crate::specs::Link::link_fields), using(crate::proofs::Sets::field))]
     fn push_fields(&self, line: &mut Line) -> Result<(), AllocError> {
-        line.numbers(&[
-            ("family", self.family.into()),
-            ("type", self.hardware.into()),
-        ])?;
-        line.signed("index", self.index)?;
-        line.number("flags", self.flags.into())?;
+        let mut piece = Segment::new();
+        piece.put_field(",\"flags\":", self.flags as u64);
+        piece.put_signed(self.index);
+        piece.put(",\"index\":");
+        piece.put_field(",\"type\":", self.hardware as u64);
+        piece.put_small("\"family\":", self.family);
+        line.piece(&mut piece, true)?;
         names::push_names(line, "flag_names", &LinkFlags(self.flags))?;
         line.number("change", self.change.into())
     }

@@ -56,7 +56,7 @@ pub(crate) trait Shown {
             ≡ out.old.items ++ item_text order (item self.now)) };
 
     /// Writes a field of the family's name, with the fields of the head and the attributes.
-    fn push_field(&self, alloc: Global, line: &mut Line, order: Order) -> Result<(), AllocError>
+    fn push_field(&self, line: &mut Line, order: Order) -> Result<(), AllocError>
         ensures { OnOk result
             (line.new ≡ line.old ⊕ fields_tokens (item_field order (item self.now) ∷ [])) };
 }
@@ -71,11 +71,11 @@ impl<H: HeadLine> Shown for Family<H> {
         push_attrs(out, &mut Vec::new(alloc), order, H::context(), &self.attrs)
     }
 
-    fn push_field(&self, alloc: Global, line: &mut Line, order: Order) -> Result<(), AllocError> {
+    fn push_field(&self, line: &mut Line, order: Order) -> Result<(), AllocError> {
         line.key(H::group().row().name)?;
         line.begin_object()?;
         self.head.push_fields(line)?;
-        tree::push_attrs(alloc, line, "attrs", order, H::context(), &self.attrs)?;
+        tree::push_attrs(line, "attrs", order, H::context(), &self.attrs)?;
         line.end_object()
     }
 }

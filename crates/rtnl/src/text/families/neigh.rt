@@ -67,9 +67,12 @@ impl HeadLine for NeighHead {
 
     #[tactic(auto, unfolding(crate::specs::Neigh::neigh_fields), using(crate::proofs::Sets::field))]
     fn push_fields(&self, line: &mut Line) -> Result<(), AllocError> {
-        line.number("family", self.family.into())?;
-        line.signed("index", self.ifindex)?;
-        line.number("state", self.state.into())?;
+        let mut piece = Segment::new();
+        piece.put_field(",\"state\":", self.state as u64);
+        piece.put_signed(self.ifindex);
+        piece.put(",\"index\":");
+        piece.put_small("\"family\":", self.family);
+        line.piece(&mut piece, true)?;
         names::push_names(line, "state_names", &NeighState(self.state))?;
         line.number("flags", self.flags.into())?;
         names::push_names(line, "flag_names", &NeighFlags(self.flags))?;

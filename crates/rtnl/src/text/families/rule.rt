@@ -56,16 +56,15 @@ impl HeadLine for RuleHead {
         line.push_to(out)
     }
 
-    #[tactic(auto, unfolding(crate::specs::Rule::rule_fields), using(crate::proofs::Sets::field))]
     fn push_fields(&self, line: &mut Line) -> Result<(), AllocError> {
-        line.numbers(&[
-            ("family", self.family.into()),
-            ("dst_len", self.dst_len.into()),
-            ("src_len", self.src_len.into()),
-            ("tos", self.tos.into()),
-            ("table", self.table.into()),
-            ("action", self.action.into()),
-            ("flags", self.flags.into()),
-        ])
+        let mut piece = Segment::new();
+        piece.put_field(",\"flags\":", self.flags as u64);
+        piece.put_small(",\"action\":", self.action);
+        piece.put_small(",\"table\":", self.table);
+        piece.put_small(",\"tos\":", self.tos);
+        piece.put_small(",\"src_len\":", self.src_len);
+        piece.put_small(",\"dst_len\":", self.dst_len);
+        piece.put_small("\"family\":", self.family);
+        line.piece(&mut piece, true)
     }
 }

@@ -1,4 +1,4 @@
-use Rattle.std.proofs.Common.{◌≡◌, ◌∷◌, ◌∙◌, [], List, ap, codes, rules}
+use Rattle.std.proofs.Common.{◌≡◌, ◌∷◌, ◌∙◌, [], ap, codes, rules}
 use Rattle.std.proofs.lemmas.Result.{IfOk-weaker}
 use Rattle.rtnl.specs.Json.{Field, ◌⊕◌, fields_tokens, number, string}
 use Rattle.rtnl.specs.Names.{names_json}
@@ -17,10 +17,10 @@ returns c =
     let sort : Field = (codes "type", string (type_name m.kind)) in
     let flags : Field = (codes "flags", number m.flags) in
     let names : Field = (codes "flag_names", names_json (flags_table (type_flags m.kind)) m.flags) in
-    let last : List Field = (codes "seq", number m.seq) ∷ (codes "port", number m.port) ∷ [] in
     let first : c.number.new.self ≡ w ⊕ fields_tokens (kind ∷ []) = search (rules, c.in_ok-number.ensures) in
     let second = then_fields w c.number.new.self c.text.new.self _ (sort ∷ []) first (c.in_ok-text.ensures ∙ ap (λ n. c.number.new.self ⊕ fields_tokens ((codes "type", string n) ∷ [])) name) in
     let third = then_fields w c.text.new.self c.number-2.new.self _ (flags ∷ []) second (search (rules, c.in_ok-number-2.ensures)) in
     let fourth = then_fields w c.number-2.new.self c.push_flag_names.new.line _ (names ∷ []) third
     (c.in_ok-push_flag_names.ensures ∙ ap (λ n. c.number-2.new.self ⊕ fields_tokens ((codes "flag_names", names_json (flags_table n) m.flags) ∷ [])) c.message_type-names.ensures.flags) in
-    IfOk-weaker c.numbers.result _ _ (λ _ end. then_fields w c.push_flag_names.new.line c.numbers.new.self _ last fourth (search (rules, end))) c.numbers.ensures
+    let fifth = then_fields w c.push_flag_names.new.line c.number-3.new.self _ ((codes "seq", number m.seq) ∷ []) fourth (search (rules, c.in_ok-number-3.ensures)) in
+    IfOk-weaker c.number-4.result _ _ (λ _ end. then_fields w c.number-3.new.self c.number-4.new.self _ ((codes "port", number m.port) ∷ []) fifth (search (rules, end))) c.number-4.ensures

@@ -1,5 +1,6 @@
 use Rattle.std.proofs.Common.{◌≡◌, ◌∷◌, ◌∙◌, [], ap, codes, of_z, refl, rules, sym, to_z, w32}
 use Rattle.std.proofs.lemmas.Result.{IfOk-weaker}
+use Rattle.json.specs.Token.{begin_object}
 use Rattle.nl_attr.specs.declared.tree.Ctx.TheVariants.{Route}
 use Rattle.nl_attr.specs.declared.tree.Hop.{out-Hop}
 use Rattle.nl_attr.specs.Tree.{holds_of, hops, list}
@@ -9,20 +10,22 @@ use Rattle.rtnl.specs.Attributes.{attribute_style}
 use Rattle.rtnl.specs.Json.{◌⊕◌, array, fields_tokens, string, values_tokens}
 use Rattle.rtnl.specs.Objects.{attr_front, attrs_json, hop_front, hops_json, items_fields, value_fields}
 use Rattle.rtnl.specs.Trees.{inner_context}
-use Rattle.rtnl.proofs.Json.{all_written, an_array, an_item, then_fields}
+use Rattle.rtnl.proofs.Json.{all_written, an_array, an_item, more as tokens_more, then_fields}
 use Rattle.rtnl.proofs.Trees.{attr_item, hop_item}
 use Rattle.rtnl.proofs.objects.tree.+writing.Goals as goal
 
 pub push_attr-returns : goal.push_attr-returns
 push_attr-returns t c =
     let attr = c.args.attr.now in
+    let w = c.args.line.now in
+    let begun = w ⊕ (begin_object ∷ []) in
     let front = attr_front c.args.ctx attr.number attr.flags in
     let held = value_fields c.args.order (attribute_style c.args.ctx attr.number) attr.flags.net (inner_context (holds_of c.args.ctx attr.number attr.flags)) (value_view attr.value) in
     let is_held : c.push_held.new.line ≡ c.push_attr_front.new.line ⊕ fields_tokens held =
     c.in_ok-push_held.ensures ∙ λ i. c.push_attr_front.new.line ⊕ fields_tokens (value_fields c.args.order (c.attribute-style.ensures.style i) attr.flags.net (c.inner-inside.ensures i) (value_view attr.value)) in
     IfOk-weaker c.end_object.result _ _
-    (λ _ ended more. an_item c.args.line.now c.begin_object.new.self c.push_attr_front.new.line c.push_held.new.line c.end_object.new.self front held (attrs_json c.args.order c.args.ctx more)
-    c.in_ok-begin_object.ensures c.in_ok-push_attr_front.ensures is_held ended
+    (λ _ ended more. an_item w begun c.push_attr_front.new.line c.push_held.new.line c.end_object.new.self front held (attrs_json c.args.order c.args.ctx more)
+    refl (c.in_ok-push_attr_front.ensures ∙ sym (tokens_more w (begin_object ∷ []) (fields_tokens front))) is_held ended
     ∙ sym (ap (λ items. c.args.line.now ⊕ values_tokens (attrs_json c.args.order c.args.ctx items)) (attr_item attr more))) c.end_object.ensures
 
 pub push_attrs-returns : goal.push_attrs-returns

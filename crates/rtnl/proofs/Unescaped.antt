@@ -1,0 +1,143 @@
+-- Texts that stand for themselves in a string of JSON.
+use Rattle.std.proofs.Common.{◌≡◌, ℕ, zero, suc, ◌+◌, ◌*◌, ◌/◌, ◌%◌, ◌<◌, ◌^◌, ◌&&◌, ◌==◌, Bool, true, List, [], ◌∷◌, ◌++◌, refl, rules, arith, codes, decimal, slice_index, inl, inr}
+use Rattle.std.proofs.lemmas.Bool.{and_parts, cases_Bool, cases_lt}
+use Rattle.std.proofs.lemmas.Fmt.{decimal_by_steps}
+use Rattle.hex.specs.Hex.{encode_lower, encode_with, lower_digits}
+use Rattle.json.specs.Run.{is_plain}
+use Rattle.nl_attr.specs.declared.tree.Ctx.{Ctx}
+use Rattle.nl_attr.specs.declared.tree.Ctx.TheVariants as ctx
+use Rattle.nl_route.specs.declared.group.Group.{Group}
+use Rattle.nl_route.specs.declared.group.Group.TheVariants as group
+use Rattle.nl_route.specs.Families.{name_of}
+use Rattle.rtnl.specs.declared.text.attributes.Style.{Style}
+use Rattle.rtnl.specs.Attributes.{attribute_name, attribute_rows, row_of}
+use Rattle.rtnl.specs.Json.{IsUnescaped, is_unescaped}
+use Rattle.rtnl.specs.Rows.{Row, find_row, name_in}
+use Rattle.rtnl.specs.Text.{padded_hex}
+use Rattle.rtnl.specs.Values.{group_at, groups_text, ipv4_text, ipv6_text}
+use Rattle.rtnl.proofs.Digits.{four_digits}
+
+both : (a b : Bool) → a ≡ true → b ≡ true → (a && b) ≡ true
+both a b p q = rw (p, q) refl
+
+-- one text and then another
+pub unescaped_append : (a b : List ℕ) → IsUnescaped a → IsUnescaped b → IsUnescaped (a ++ b)
+unescaped_append [] b p q = q
+unescaped_append (x ∷ a) b p q =
+    let parts = and_parts (is_plain x) (is_unescaped a) p in
+    both _ _ parts.0 (unescaped_append a b parts.1 q)
+
+-- the first n digits are
+abbrev all_plain : ℕ → Bool
+all_plain zero = true
+all_plain (suc n) = is_plain (slice_index lower_digits n) && all_plain n
+
+below : (n k : ℕ) → all_plain n ≡ true → k < n → is_plain (slice_index lower_digits k) ≡ true
+below zero k h lt = absurd (omega arith)
+below (suc n) k h lt =
+    let parts = and_parts (is_plain (slice_index lower_digits n)) (all_plain n) h in
+    elim (cases_lt k n) [
+      | inl less ↦ below n k parts.1 less
+      | inr top ↦
+          let e : k ≡ n = omega arith in
+          rw e parts.0
+    ]
+
+-- bytes in hexadecimal digits
+pub digits_unescaped : (bytes : List ℕ) → ((i : ℕ) → slice_index bytes i < 256) → IsUnescaped (encode_lower bytes)
+unfolding encode_with
+digits_unescaped [] fits = refl
+digits_unescaped (b ∷ rest) fits =
+    let small : b < 256 = fits 0 in
+    both _ _ (below 16 (b / 16) refl (omega arith)) (both _ _ (below 16 (b % 16) refl (omega arith)) (digits_unescaped rest (λ i. fits (suc i))))
+
+digit : (d : ℕ) → d < 10 → is_plain (48 + d) ≡ true
+digit d small = grind arith
+
+-- a number
+decimal_unescaped : (n : ℕ) → n < 2 ^ 64 → IsUnescaped (decimal n)
+decimal_unescaped =
+    decimal_by_steps (λ n ds. IsUnescaped ds)
+    (λ n small. both _ _ (digit n small) refl)
+    (λ n ds more h. unescaped_append ds ((48 + n % 10) ∷ []) h (both _ _ (digit (n % 10) (omega arith)) refl))
+
+-- the names of rows
+abbrev names : List (Row Style) → Bool
+names [] = true
+names (row ∷ rows) = is_unescaped row.1 && names rows
+
+found : (rows : List (Row Style)) (number : ℕ) → names rows ≡ true → IsUnescaped (name_in (codes "-") (find_row number rows))
+found [] number plain = refl
+found (row ∷ rows) number plain =
+    let parts = and_parts (is_unescaped row.1) (names rows) plain in
+    elim (cases_Bool (row.0 == number)) [
+      | inl here ↦ rw here parts.0
+      | inr there ↦ rw there (found rows number parts.1)
+    ]
+
+all : (c : Ctx) → names (attribute_rows c) ≡ true
+all ctx.Link = refl
+all ctx.LinkInfo = refl
+all ctx.Addr = refl
+all ctx.Route = refl
+all ctx.Metrics = refl
+all ctx.Neigh = refl
+all ctx.Rule = refl
+all ctx.Plain = refl
+
+-- the name of an attribute
+pub unescaped_name : (c : Ctx) (number : ℕ) → IsUnescaped (attribute_name c number)
+unfolding row_of
+unescaped_name c number = found (attribute_rows c) number (all c)
+
+-- the name of a family
+pub unescaped_family : (g : Group) → IsUnescaped (name_of g)
+unescaped_family group.Link = refl
+unescaped_family group.Addr = refl
+unescaped_family group.Route = refl
+unescaped_family group.Neigh = refl
+unescaped_family group.Rule = refl
+
+-- a text that stands for itself
+abbrev Unescaped : Type 0
+Unescaped = (text : List ℕ) × IsUnescaped text
+
+abbrev two : Unescaped → Unescaped → Unescaped
+two a b = (a.0 ++ b.0, unescaped_append a.0 b.0 a.1 b.1)
+
+dot : Unescaped
+dot = (codes ".", refl)
+
+colon : Unescaped
+colon = (codes ":", refl)
+
+-- an address of IPv4
+pub ipv4_unescaped : (bytes : List ℕ) → ((i : ℕ) → slice_index bytes i < 256) → IsUnescaped (ipv4_text bytes)
+unfolding ipv4_text dot
+ipv4_unescaped bytes fits =
+    let number : ℕ → Unescaped = λ i. (decimal (slice_index bytes i), decimal_unescaped (slice_index bytes i) (omega (arith, fits i))) in
+    (two (number 0) (two dot (two (number 1) (two dot (two (number 2) (two dot (number 3))))))).1
+
+pair : (a b : ℕ) → a < 256 → b < 256 → (i : ℕ) → slice_index (a ∷ b ∷ []) i < 256
+pair a b p q zero = p
+pair a b p q (suc zero) = q
+pair a b p q (suc (suc i)) = search rules
+
+one_group : (i : ℕ) (bytes : List ℕ) → ((i : ℕ) → slice_index bytes i < 256) → IsUnescaped (padded_hex 4 (group_at i bytes))
+unfolding group_at
+one_group i bytes fits =
+    let n = 256 * slice_index bytes i + slice_index bytes (i + 1) in
+    let high = fits i in
+    let low = fits (i + 1) in
+    rw (four_digits n (omega arith)) (digits_unescaped (n / 256 ∷ n % 256 ∷ []) (pair (n / 256) (n % 256) (omega arith) (omega arith)))
+
+groups : (i : ℕ) (bytes : List ℕ) → ((i : ℕ) → slice_index bytes i < 256) → IsUnescaped (groups_text i bytes)
+unfolding groups_text colon
+groups i bytes fits =
+    let one : ℕ → Unescaped = λ k. (padded_hex 4 (group_at k bytes), one_group k bytes fits) in
+    (two (one i) (two colon (two (one (i + 2)) (two colon (two (one (i + 4)) (two colon (one (i + 6)))))))).1
+
+-- an address of IPv6
+pub ipv6_unescaped : (bytes : List ℕ) → ((i : ℕ) → slice_index bytes i < 256) → IsUnescaped (ipv6_text bytes)
+unfolding ipv6_text colon
+ipv6_unescaped bytes fits = (two (groups_text 0 bytes, groups 0 bytes fits) (two colon (groups_text 8 bytes, groups 8 bytes fits))).1
