@@ -3,7 +3,8 @@
 # _rtnl_options COMMAND: its options.
 _rtnl_options() {
   case $1 in
-    show | check) echo --order --format --explain --help ;;
+    show) echo --order --format --bytes --color --explain --help ;;
+    check) echo --order --format --explain --help ;;
     table)
       echo --kind --seq --port --family --depth --entries --order --format --explain --help
       ;;
@@ -27,6 +28,7 @@ _rtnl() {
     case $before in
       --order) words='little big' ;;
       --format) words='text json' ;;
+      --color) words='auto always never' ;;
       --kind) words='link addr route neigh rule' ;;
       --seq | --port | --family | --depth | --entries) ;;
       *)

@@ -3,6 +3,7 @@
 set -l commands show check table request
 set -l all "__fish_seen_subcommand_from $commands"
 set -l dumps '__fish_seen_subcommand_from table request'
+set -l show '__fish_seen_subcommand_from show'
 set -l table '__fish_seen_subcommand_from table'
 set -l read '__fish_seen_subcommand_from show check table'
 set -l first "not __fish_seen_subcommand_from $commands help"
@@ -21,6 +22,8 @@ complete -c rtnl -s h -l help -d 'Print help'
 complete -c rtnl -n $read -F
 complete -c rtnl -n $all -l order -x -a 'little big' -d 'Byte order of the numbers'
 complete -c rtnl -n $read -l format -x -a 'text json' -d 'Lines of text or of JSON'
+complete -c rtnl -n $show -l bytes -d 'Show the bytes beside what they are'
+complete -c rtnl -n $show -l color -x -a 'auto always never' -d 'When to colour what stands beside bytes'
 complete -c rtnl -n $read -l explain -d 'Say why something failed or was refused'
 complete -c rtnl -n $dumps -l kind -x -a 'link addr route neigh rule' -d 'What the dump asks for'
 complete -c rtnl -n $dumps -l seq -x -d 'Sequence number of the request and its answers'

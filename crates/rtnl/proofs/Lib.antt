@@ -1,10 +1,12 @@
 mod Answers
 mod BadLines
+mod ByteRows
 mod Cuts
 mod Decoded
 mod Digits
 mod Entries
 mod Feeding
+mod Fronts
 mod Json
 mod Listing
 mod Pieces
@@ -18,4 +20,6 @@ mod Short
 mod Showing
 mod SomeAnswer
 mod Streams
+mod Taping
 mod Trees
+mod Unescaped

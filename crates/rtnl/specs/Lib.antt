@@ -4,14 +4,19 @@ pub mod Route
 pub mod Neigh
 pub mod Rule
 pub mod Attributes
+pub mod ByteRows
+pub mod ByteViews
 pub mod Checked
 pub mod Codes
 pub mod Datagrams
+pub mod Further
 pub mod Json
+pub mod Kernel
 pub mod Lines
 pub mod Messages
 pub mod NamedBits
 pub mod Names
+pub mod Notations
 pub mod Objects
 pub mod Pieces
 pub mod Readings
@@ -22,6 +27,7 @@ pub mod Shown
 pub mod Streams
 pub mod Tabled
 pub mod TabledJson
+pub mod Tape
 pub mod Text
 pub mod Trees
 pub mod Types

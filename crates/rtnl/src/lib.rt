@@ -4,6 +4,7 @@
 
 mod begun;
 mod broken;
+mod bytes;
 mod check;
 mod contents;
 mod decoding;
@@ -20,9 +21,12 @@ mod show;
 mod sink;
 mod source;
 mod table;
+mod tape;
 mod text;
 
 pub use broken::Broken;
+pub use bytes::rows::RowFormat;
+pub use bytes::run_show_bytes;
 pub use check::{run_check, run_check_json};
 pub use error::{RunError, Verdict};
 pub use lines::{LineFault, datagrams, line_fault};
@@ -33,3 +37,5 @@ pub use show::{push_datagram, run_show, run_show_json};
 pub use sink::{Sink, VecSink, WriteSink};
 pub use source::{LONGEST_INPUT, ReadSource, SliceSource, Source};
 pub use table::{run_table, run_table_json};
+pub use tape::{Tape, context_inside, tape_of};
+pub use text::kernel::{KernelName, attribute_name, message_name};

@@ -24,7 +24,7 @@ use std::process::ExitCode;
 use stop::Stop;
 
 /// The calls of the libraries.
-const CALLS: [&str; 25] = [
+const CALLS: [&str; 27] = [
     "read_list",
     "write_list",
     "from_slice",
@@ -43,6 +43,8 @@ const CALLS: [&str; 25] = [
     "feed",
     "run_show",
     "run_show_json",
+    "run_show_bytes",
+    "run_show_bytes_json",
     "run_check",
     "run_check_json",
     "run_table",
@@ -73,6 +75,8 @@ fn try_call(rt: &HostRuntime, name: &str) -> Result<(), Stop> {
         "feed" => feeding::feed_dumps(rt),
         "run_show" => runs::show_end(rt),
         "run_show_json" => runs::show_end_json(rt),
+        "run_show_bytes" => runs::show_end_bytes(rt),
+        "run_show_bytes_json" => runs::show_end_bytes_json(rt),
         "run_check" => runs::check_end(rt),
         "run_check_json" => runs::check_end_json(rt),
         "run_table" => runs::table_links(rt),

@@ -7,8 +7,9 @@ use crate::stop::Stop;
 use nl_attr::Order;
 use nl_dump::{Dump, Kind};
 use rtnl::{
-    Broken, RunError, Sink, SliceSource, VecSink, Verdict, datagrams, run_check, run_check_json,
-    run_request, run_request_ordered, run_show, run_show_json, run_table, run_table_json,
+    Broken, RowFormat, RunError, Sink, SliceSource, VecSink, Verdict, datagrams, run_check,
+    run_check_json, run_request, run_request_ordered, run_show, run_show_bytes, run_show_json,
+    run_table, run_table_json,
 };
 use std::alloc::Global;
 
@@ -58,6 +59,26 @@ fn show_json(rt: &HostRuntime, order: Order) -> Result<(), Stop> {
     let mut sink = sink_with_room(rt.alloc())?;
     let label = Label::of("run_show_json", order, END.name);
     let answer = run_show_json(rt.alloc(), &mut source, &mut sink, &limits_in(order));
+    say_run(rt, label, answer, &sink)
+}
+
+/// Shows the end of a dump in bytes.
+fn show_bytes(rt: &HostRuntime, order: Order) -> Result<(), Stop> {
+    let mut source = SliceSource::new(END.text(order).as_bytes());
+    let (mut sink, limits) = (sink_with_room(rt.alloc())?, limits_in(order));
+    let label = Label::of("run_show_bytes", order, END.name);
+    let format = RowFormat::Text;
+    let answer = run_show_bytes(rt.alloc(), &mut source, &mut sink, &limits, format);
+    say_run(rt, label, answer, &sink)
+}
+
+/// Shows the end of a dump in bytes, as lines of JSON.
+fn show_bytes_json(rt: &HostRuntime, order: Order) -> Result<(), Stop> {
+    let mut source = SliceSource::new(END.text(order).as_bytes());
+    let (mut sink, limits) = (sink_with_room(rt.alloc())?, limits_in(order));
+    let label = Label::of("run_show_bytes_json", order, END.name);
+    let format = RowFormat::Json;
+    let answer = run_show_bytes(rt.alloc(), &mut source, &mut sink, &limits, format);
     say_run(rt, label, answer, &sink)
 }
 
@@ -182,6 +203,22 @@ pub(crate) fn show_end(rt: &HostRuntime) -> Result<(), Stop> {
 pub(crate) fn show_end_json(rt: &HostRuntime) -> Result<(), Stop> {
     for order in ORDERS {
         show_json(rt, order)?;
+    }
+    Ok(())
+}
+
+/// The end of a dump, shown in bytes in both orders.
+pub(crate) fn show_end_bytes(rt: &HostRuntime) -> Result<(), Stop> {
+    for order in ORDERS {
+        show_bytes(rt, order)?;
+    }
+    Ok(())
+}
+
+/// The same as lines of JSON.
+pub(crate) fn show_end_bytes_json(rt: &HostRuntime) -> Result<(), Stop> {
+    for order in ORDERS {
+        show_bytes_json(rt, order)?;
     }
     Ok(())
 }

@@ -1,6 +1,6 @@
 //! What the arguments of the program ask for.
 
-use crate::commands::{FORMATS, ORDERS, Values, rtnl};
+use crate::commands::{COLORS, FORMATS, ORDERS, Values, rtnl};
 use clap::error::ErrorKind;
 use clap::{ArgMatches, Error};
 use nl_attr::Order;
@@ -19,6 +19,8 @@ const STANDARD_INPUT: &str = "-";
 pub(crate) enum Engine {
     /// Print each datagram.
     Show,
+    /// Print the bytes of each datagram beside what they are, coloured or not.
+    ShowBytes(Color),
     /// Print of each datagram whether it is canonical, accepted, or why it is refused.
     Check,
     /// Read the datagrams as the answers to a dump, and print its table.
@@ -32,6 +34,15 @@ pub(crate) enum Format {
     Text,
     /// Lines of JSON.
     Json,
+}
+
+/// When what stands beside bytes is coloured.
+#[derive(Clone, Copy, Debug, PartialEq, Eq)]
+pub(crate) enum Color {
+    /// On a terminal, where the variable NO_COLOR isn't set.
+    Auto,
+    Always,
+    Never,
 }
 
 /// What is done with a recording, how it is printed, and under which limits.
@@ -115,6 +126,10 @@ fn request_of(matches: &ArgMatches<'_>) -> Option<Task> {
 /// The task of a command, or none where its name or a value of it isn't known.
 fn command_task(name: &str, matches: &ArgMatches<'_>, file: Option<String>) -> Option<Task> {
     let (engine, limits) = match name {
+        "show" if matches.get_flag("bytes") => {
+            let color = named(COLORS.as_slice(), matches.get_str("color")?)?;
+            (Engine::ShowBytes(color), Limits::standard())
+        }
         "show" => (Engine::Show, Limits::standard()),
         "check" => (Engine::Check, Limits::standard()),
         "table" => (Engine::Table(dump_of(matches)?), limits_of(matches)?),
@@ -160,10 +175,11 @@ fn names<T>(alloc: Global, table: &[(&'static str, T)]) -> Result<Vec<&'static s
 
 /// The task of these arguments, or help, the version or a usage error.
 fn parse_with(alloc: Global, arguments: &[String], values: Values<'_>) -> Result<Task, Error> {
-    let matches = rtnl(alloc, values)?.try_get_matches_from(arguments)?;
+    let first = arguments.get(1).map(String::as_str);
+    let matches = rtnl(alloc, values, first)?.try_get_matches_from(arguments)?;
     match task_of(alloc, &matches)? {
         Some(task) => Ok(task),
-        None => Err(rtnl(alloc, values)?.error(ErrorKind::InvalidValue, UNKNOWN)?),
+        None => Err(rtnl(alloc, values, None)?.error(ErrorKind::InvalidValue, UNKNOWN)?),
     }
 }
 
@@ -172,6 +188,7 @@ pub(crate) fn parse(alloc: Global, arguments: &[String]) -> Result<Parsed, Alloc
     let kinds: Vec<&str> = Kind::ALL.iter().map(|kind| kind.row().name).collect(alloc)?;
     let formats = names(alloc, FORMATS.as_slice())?;
     let orders = names(alloc, ORDERS.as_slice())?;
+    let colors = names(alloc, COLORS.as_slice())?;
     let standard = Limits::standard();
     let depth = standard.depth().get().to_string(alloc)?;
     let entries = standard.entries().to_string(alloc)?;
@@ -179,6 +196,7 @@ pub(crate) fn parse(alloc: Global, arguments: &[String]) -> Result<Parsed, Alloc
         kinds: kinds.as_slice(),
         formats: formats.as_slice(),
         orders: orders.as_slice(),
+        colors: colors.as_slice(),
         depth: depth.as_str(),
         entries: entries.as_str(),
     };

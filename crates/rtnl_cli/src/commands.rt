@@ -1,6 +1,6 @@
 //! The commands of the program, with their arguments, options and help.
 
-use crate::arguments::Format;
+use crate::arguments::{Color, Format};
 use clap::{Arg, ArgAction, Command, value_parser};
 use nl_attr::Order;
 use std::alloc::{AllocError, Global};
@@ -14,12 +14,20 @@ pub(crate) const ORDERS: [(&str, Order); 2] = [("little", Order::Little), ("big"
 /// The formats by their names.
 pub(crate) const FORMATS: [(&str, Format); 2] = [("text", Format::Text), ("json", Format::Json)];
 
+/// When what stands beside bytes is coloured, by name.
+pub(crate) const COLORS: [(&str, Color); 3] = [
+    ("auto", Color::Auto),
+    ("always", Color::Always),
+    ("never", Color::Never),
+];
+
 /// The values that options list, and those that they have by default.
 #[derive(Clone, Copy)]
 pub(crate) struct Values<'a> {
     pub kinds: &'a [&'a str],
     pub formats: &'a [&'a str],
     pub orders: &'a [&'a str],
+    pub colors: &'a [&'a str],
     pub depth: &'a str,
     pub entries: &'a str,
 }
@@ -98,6 +106,22 @@ fn explain_option<'a>(alloc: Global) -> Arg<'a> {
         .help("Say on standard error why something failed or was refused, and where")
 }
 
+fn bytes_option<'a>(alloc: Global) -> Arg<'a> {
+    Arg::new(alloc, "bytes")
+        .long("bytes")
+        .action(ArgAction::SetTrue)
+        .help("Show the bytes of each datagram beside what they are")
+}
+
+fn color_option<'a>(alloc: Global, values: Values<'a>) -> Arg<'a> {
+    Arg::new(alloc, "color")
+        .long("color")
+        .value_name("WHEN")
+        .value_parser(values.colors)
+        .default_value("auto")
+        .help("Colour what stands beside bytes; `auto` is on a terminal, where NO_COLOR is not set")
+}
+
 fn kind_option<'a>(alloc: Global, values: Values<'a>) -> Arg<'a> {
     Arg::new(alloc, "kind")
         .long("kind")
@@ -158,6 +182,8 @@ fn show_command<'a>(alloc: Global, values: Values<'a>) -> Result<Command<'a>, Al
         .after_help(SHOW_EXAMPLE)
         .arg(order_option(alloc, values))?
         .arg(format_option(alloc, values))?
+        .arg(bytes_option(alloc))?
+        .arg(color_option(alloc, values))?
         .arg(explain_option(alloc))?
         .arg(file_argument(alloc))
 }
@@ -204,15 +230,37 @@ fn request_command<'a>(alloc: Global, values: Values<'a>) -> Result<Command<'a>,
         .arg(order_option(alloc, values))
 }
 
-/// The whole program.
-pub(crate) fn rtnl<'a>(alloc: Global, values: Values<'a>) -> Result<Command<'a>, AllocError> {
-    Command::new(alloc, "rtnl")
-        .bin_name("rtnl")?
-        .version(VERSION)
-        .about("Decodes recorded rtnetlink datagrams. Without a command it is `rtnl show`.")
-        .after_help(EXAMPLES_AND_STATUSES)
+fn with_all_commands<'a>(
+    alloc: Global,
+    values: Values<'a>,
+    program: Command<'a>,
+) -> Result<Command<'a>, AllocError> {
+    program
         .subcommand(show_command(alloc, values)?)?
         .subcommand(check_command(alloc, values)?)?
         .subcommand(table_command(alloc, values)?)?
         .subcommand(request_command(alloc, values)?)
+}
+
+/// The program. Where its first argument names a command, it has this one alone: all further
+/// arguments are the command's own, and making the others is a good part of a short run.
+pub(crate) fn rtnl<'a>(
+    alloc: Global,
+    values: Values<'a>,
+    first: Option<&str>,
+) -> Result<Command<'a>, AllocError> {
+    let program = Command::new(alloc, "rtnl")
+        .bin_name("rtnl")?
+        .version(VERSION)
+        .about("Decodes recorded rtnetlink datagrams. Without a command it is `rtnl show`.")
+        .after_help(EXAMPLES_AND_STATUSES);
+    let command = match first {
+        Some("show") => show_command(alloc, values)?,
+        Some("check") => check_command(alloc, values)?,
+        Some("table") => table_command(alloc, values)?,
+        Some("request") => request_command(alloc, values)?,
+        _ => return with_all_commands(alloc, values, program),
+    };
+    // Nor is the command `help` named, which clap adds.
+    program.disable_help_subcommand(true).subcommand(command)
 }

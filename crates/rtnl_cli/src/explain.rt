@@ -2,12 +2,13 @@
 
 use crate::arguments::Engine;
 use crate::place::Around;
-use nl_attr::{Fault, Reason};
+use crate::subject::Subject;
+use nl_attr::Reason;
 use rtnl::dump::{Dump, FeedError, Session};
-use rtnl::frame::{BrokenHead, HeadKind, Limits, ReadError, broken_head, read_datagram};
-use rtnl::{LONGEST_INPUT, LineFault, RunError, datagrams, line_fault};
+use rtnl::frame::{Limits, ScanError};
+use rtnl::{LONGEST_INPUT, LineFault, RunError, Tape, datagrams, line_fault, tape_of};
 use std::alloc::AllocError;
-use std::{fmt, io};
+use std::io;
 
 /// The line of this number, counted from 1.
 fn line_at(input: &[u8], number: u32) -> Option<&[u8]> {
@@ -81,58 +82,49 @@ fn rule(reason: Reason) -> &'static str {
     }
 }
 
-/// What head it is.
-#[derive(Clone, Copy)]
-struct Subject {
-    kind: HeadKind,
-    level: u8,
-}
-
-impl fmt::Display for Subject {
-    fn fmt<W: fmt::Write>(&self, f: &mut fmt::Formatter<W>) -> fmt::Result {
-        let kind = match self.kind {
-            HeadKind::Message => return f.write_str("message"),
-            HeadKind::Attribute => "attribute",
-            HeadKind::NextHop => "next hop",
-        };
-        let level = self.level;
-        write!(f, "{kind} at level {level}")
-    }
-}
-
-/// Writes what the head is that a datagram's first fault is about.
+/// Writes what the head is that breaks a rule at a datagram's first fault, and where it lies.
 fn explain_head(
     rt: &HostRuntime,
     number: usize,
     datagram: &[u8],
-    fault: Fault,
-    head: BrokenHead,
+    subject: Subject<'_>,
 ) -> io::Result<()> {
-    let subject = Subject {
-        kind: head.kind,
-        level: head.level,
-    };
-    let (rule, left) = (rule(fault.reason), head.left);
+    let fault = subject.head.fault;
+    let rule = rule(fault.reason);
     let around = Around {
         bytes: datagram,
         place: fault.place as usize,
     };
-    match head.len {
-        Some(len) => {
-            eprintln!(rt;
-                "rtnl: datagram {number}: {fault}: {rule}: {subject} of length {len}, {left} \
-                bytes left: {around}"
-            )
+    eprintln!(rt; "rtnl: datagram {number}: {fault}: {rule}: {subject}: {around}")
+}
+
+/// Writes why the datagram of this number was refused, if it was.
+fn explain_datagram(
+    rt: &HostRuntime,
+    number: usize,
+    datagram: &[u8],
+    limits: &Limits,
+) -> io::Result<()> {
+    let Tape { events, refusal } = tape_of(rt.alloc(), datagram, limits)?;
+    match refusal {
+        None => Ok(()),
+        Some(ScanError::Layout(head)) => {
+            let subject = Subject {
+                head,
+                events: events.as_slice(),
+            };
+            explain_head(rt, number, datagram, subject)
         }
-        None => {
+        Some(ScanError::TooLarge) => {
+            let (size, limit) = (datagram.len(), limits.datagram());
             eprintln!(rt;
-                "rtnl: datagram {number}: {fault}: {rule}: {subject}, {left} bytes left: {around}"
+                "rtnl: datagram {number}: too large: {size} bytes, and the limit is {limit}"
             )
         }
     }
 }
 
-/// Writes why the datagram of this number was refused.
+/// Writes why the datagram of this number was not fed.
 fn explain_refusal(
     rt: &HostRuntime,
     number: usize,
@@ -141,15 +133,8 @@ fn explain_refusal(
     error: FeedError,
 ) -> io::Result<()> {
     match error {
-        FeedError::Layout(fault) => match broken_head(datagram, limits, fault) {
-            Some(head) => explain_head(rt, number, datagram, fault, head),
-            None => Ok(()),
-        },
-        FeedError::TooLarge => {
-            let (size, limit) = (datagram.len(), limits.datagram());
-            eprintln!(rt;
-                "rtnl: datagram {number}: too large: {size} bytes, and the limit is {limit}"
-            )
+        FeedError::Layout(_) | FeedError::TooLarge => {
+            explain_datagram(rt, number, datagram, limits)
         }
         FeedError::Total => {
             let (size, limit) = (datagram.len(), limits.total());
@@ -166,13 +151,7 @@ fn explain_refusal(
 /// Writes why datagrams were refused that are looked at by themselves.
 fn explain_each(rt: &HostRuntime, found: &[Vec<u8>], limits: &Limits) -> io::Result<()> {
     for (index, datagram) in found.iter().enumerate() {
-        let error = match read_datagram(rt.alloc(), datagram, limits).into_result() {
-            Ok(_) => continue,
-            Err(ReadError::Layout(fault)) => FeedError::Layout(fault),
-            Err(ReadError::TooLarge) => FeedError::TooLarge,
-            Err(ReadError::Memory) => FeedError::Memory,
-        };
-        explain_refusal(rt, index + 1, datagram, limits, error)?;
+        explain_datagram(rt, index + 1, datagram, limits)?;
     }
     Ok(())
 }
@@ -214,7 +193,11 @@ pub(crate) fn explain_refusals(
         return Err(AllocError.into());
     };
     match engine {
-        Engine::Show | Engine::Check => explain_each(rt, found.as_slice(), limits),
+        Engine::Show | Engine::ShowBytes(_) | Engine::Check => explain_each(
+            rt,
+            found.as_slice(),
+            limits,
+        ),
         Engine::Table(dump) => explain_dump(rt, found.as_slice(), limits, dump),
     }
 }

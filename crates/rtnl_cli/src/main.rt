@@ -3,17 +3,20 @@
 #![tactic(auto)]
 
 mod arguments;
+mod color;
 mod commands;
 mod explain;
 mod place;
+mod subject;
 
 use arguments::{Engine, Format, Parsed, Task, Work, unknown_command};
 use clap::Error;
+use color::row_format;
 use explain::{explain_failure, explain_refusals};
 use rtnl::{
     LONGEST_INPUT, ReadSource, RunError, Sink, SliceSource, Source, VecSink, Verdict, WriteSink,
-    run_check, run_check_json, run_request_ordered, run_show, run_show_json, run_table,
-    run_table_json,
+    run_check, run_check_json, run_request_ordered, run_show, run_show_bytes, run_show_json,
+    run_table, run_table_json,
 };
 use std::alloc::Global;
 use std::fs::File;
@@ -92,15 +95,19 @@ fn print_message(rt: &HostRuntime, message: &Error, arguments: &[String]) -> Exi
 
 /// Runs an engine over a source; what it prints goes to a sink.
 fn run<S: Source, W: Sink>(
-    alloc: Global,
+    rt: &HostRuntime,
     source: &mut S,
     sink: &mut W,
     work: &Work,
 ) -> Result<Verdict, RunError> {
+    let alloc = rt.alloc();
     let limits = &work.limits;
     match (work.engine, work.format) {
         (Engine::Show, Format::Text) => run_show(alloc, source, sink, limits),
         (Engine::Show, Format::Json) => run_show_json(alloc, source, sink, limits),
+        (Engine::ShowBytes(color), format) => {
+            run_show_bytes(alloc, source, sink, limits, row_format(rt, color, format))
+        }
         (Engine::Check, Format::Text) => run_check(alloc, source, sink, limits),
         (Engine::Check, Format::Json) => run_check_json(alloc, source, sink, limits),
         (Engine::Table(dump), Format::Text) => run_table(alloc, source, sink, dump, limits),
@@ -111,7 +118,7 @@ fn run<S: Source, W: Sink>(
 /// Runs over what a reader gives; what is printed goes to standard output.
 fn run_over<R: Read + Drop>(rt: &HostRuntime, reader: R, work: &Work) -> ExitCode {
     let mut sink = WriteSink::new(io::writer(rt));
-    let answer = run(rt.alloc(), &mut ReadSource::new(reader), &mut sink, work);
+    let answer = run(rt, &mut ReadSource::new(reader), &mut sink, work);
     outcome(rt, answer)
 }
 
@@ -157,7 +164,7 @@ fn run_explained(rt: &HostRuntime, file: Option<&str>, work: &Work) -> ExitCode 
     let mut source = SliceSource::new(input.as_slice());
     let mut sink = VecSink::new(rt.alloc());
     // A sink in memory fails for memory alone.
-    let answer = match run(rt.alloc(), &mut source, &mut sink, work) {
+    let answer = match run(rt, &mut source, &mut sink, work) {
         Err(RunError::WriteFault) => Err(RunError::Memory),
         answer => answer,
     };

@@ -6,6 +6,8 @@ pub(crate) mod datagram;
 pub(crate) mod dump;
 pub(crate) mod families;
 pub(crate) mod flags;
+pub(crate) mod further;
+pub(crate) mod kernel;
 pub(crate) mod message;
 pub(crate) mod names;
 pub(crate) mod pieces;

@@ -9,6 +9,7 @@ use bitflags::{Flag, Flags};
 use std::alloc::AllocError;
 
 /// Writes one name, behind a comma if there are others before it.
+#[inline(always)]
 #[tactic(auto, using(crate::proofs::Listing::first_name, crate::proofs::Listing::next_name))]
 fn push_name(out: &mut Vec<u8>, any: bool, name: &str) -> Result<(), AllocError>
     ensures { OnOk result ((names : List (List ℕ)) → out.new.items ++ rest_text true names
@@ -21,6 +22,7 @@ fn push_name(out: &mut Vec<u8>, any: bool, name: &str) -> Result<(), AllocError>
 }
 
 /// Writes the name of a flag if the value has it, and says whether there is a name by now.
+#[inline(always)]
 fn push_flag<F: Flags>(
     out: &mut Vec<u8>,
     any: bool,
@@ -39,6 +41,7 @@ fn push_flag<F: Flags>(
     Ok(true)
 }
 
+#[inline(always)]
 #[tactic(auto, unfolding(crate::specs::Names::names_text))]
 fn push_names_of<F: Flags>(
     out: &mut Vec<u8>,
@@ -59,6 +62,7 @@ fn push_names_of<F: Flags>(
 }
 
 /// Writes the names of the bits that are set, lowest first, or a dash where none is.
+#[inline(always)]
 pub(crate) fn push_names<F: Flags>(out: &mut Vec<u8>, value: &F) -> Result<(), AllocError>
     requires { F.exact }
     ensures { OnOk result (out.new.items ≡ out.old.items

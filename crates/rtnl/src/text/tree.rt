@@ -19,7 +19,7 @@ use std::alloc::AllocError;
 #[inline(always)]
 #[tactic(auto, unfolding(crate::specs::Trees::flags_text))]
 fn put_flags(text: &mut Segment, flags: AttrFlags)
-    requires { 10 + length text.old ≤ 256 }
+    requires { 10 + length text.old ≤ 248 }
     ensures text { text.new ≡ flags_text flags ++ text.old }
     ensures len { length text.new ≤ 10 + length text.old }
 {
@@ -38,6 +38,22 @@ fn push_indent(out: &mut Vec<u8>, indent: &[u8]) -> Result<(), AllocError>
 {
     push(out, "    ")?;
     out.extend_from_slice(indent)
+}
+
+/// Writes what stands before the words of a line inside a body, and its first words.
+#[inline(always)]
+#[tactic(auto, using(crate::proofs::Sets::joins))]
+fn push_front(out: &mut Vec<u8>, indent: &[u8], front: &mut Segment) -> Result<(), AllocError>
+    requires { 4 + length front.old ≤ 248 }
+    ensures { OnOk result
+        (out.new.items ≡ out.old.items ++ (indented indent.now ++ front.old)) }
+{
+    if indent.is_empty() {
+        front.put("    ");
+        return front.push_to(out);
+    }
+    push_indent(out, indent)?;
+    front.push_to(out)
 }
 
 /// The context of the attributes inside one.
@@ -78,6 +94,7 @@ fn push_inline(
 }
 
 /// Writes an attribute's own line.
+#[inline(never)]
 #[tactic(auto, unfolding(crate::specs::Trees::attr_line), using(crate::proofs::Sets::joins))]
 fn push_attr_line(
     out: &mut Vec<u8>,
@@ -98,8 +115,7 @@ fn push_attr_line(
     front.put(name);
     front.put(" ");
     front.put_field("attr ", attr.number as u64);
-    push_indent(out, indent)?;
-    front.push_to(out)?;
+    push_front(out, indent, &mut front)?;
     push_inline(out, order, style, attr.flags.net, &attr.value)?;
     push(out, "\n")
 }

@@ -68,6 +68,7 @@ pub(crate) fn message_type(kind: u16) -> (&'static str, &'static str, FlagNames)
 }
 
 /// Writes the names of a message's flags.
+#[inline(always)]
 pub(crate) fn push_flag_names(
     out: &mut Vec<u8>,
     names: FlagNames,

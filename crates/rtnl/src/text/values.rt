@@ -1,6 +1,6 @@
 //! What a payload is read as, and how that is printed.
 
-ghost use Rattle.std.specs.Prelude.{◌≡◌, ◌+◌, ◌<◌, ◌≤◌, ◌++◌, length, OnOk};
+ghost use Rattle.std.specs.Prelude.{◌≡◌, ◌+◌, ◌<◌, ◌≤◌, [], ◌++◌, codes, length, OnOk};
 ghost use Rattle.std.specs.List.{list_all};
 ghost use Rattle.rtnl.specs.Readings.{reading_view};
 ghost use Rattle.rtnl.specs.Text.{padded_hex};
@@ -143,14 +143,30 @@ pub(crate) fn word(reading: Reading<'_>) -> &'static str
     }
 }
 
-/// An address of IPv4.
+/// The word for what is read, and the blank behind it.
+#[tactic(auto, unfolding(crate::specs::Values::reading_word))]
+fn opening(reading: Reading<'_>) -> &'static str
+    ensures { result.now ≡ reading_word (reading_view reading.entry) ++ codes " " }
+{
+    match reading {
+        Reading::U8(_) => "u8 ",
+        Reading::U16(_) => "u16 ",
+        Reading::U32(_) => "u32 ",
+        Reading::Text(_) => "text ",
+        Reading::Ipv4(_) => "ipv4 ",
+        Reading::Ipv6(_) => "ipv6 ",
+        Reading::Hex(_) => "hex ",
+    }
+}
+
+/// Puts an address of IPv4 where there is no text.
 #[inline(always)]
 #[tactic(auto, unfolding(crate::specs::Values::ipv4_text))]
-pub(crate) fn ipv4(address: [u8; 4]) -> Segment
-    ensures { result ≡ ipv4_text address }
+fn put_ipv4(text: &mut Segment, address: [u8; 4])
+    requires { text.old ≡ [] }
+    ensures { text.new ≡ ipv4_text address }
 {
     let [a, b, c, d] = address;
-    let mut text = Segment::new();
     text.put_number(d as u64);
     text.put(".");
     text.put_number(c as u64);
@@ -158,13 +174,22 @@ pub(crate) fn ipv4(address: [u8; 4]) -> Segment
     text.put_number(b as u64);
     text.put(".");
     text.put_number(a as u64);
+}
+
+/// An address of IPv4.
+#[inline(always)]
+pub(crate) fn ipv4(address: [u8; 4]) -> Segment
+    ensures { result ≡ ipv4_text address }
+{
+    let mut text = Segment::new();
+    put_ipv4(&mut text, address);
     text
 }
 
 #[inline(always)]
 #[tactic(auto, unfolding(crate::specs::Values::group_at))]
 fn put_group(text: &mut Segment, address: &[u8; 16], i: usize)
-    requires room { 4 + length text.old ≤ 256 }
+    requires room { 4 + length text.old ≤ 248 }
     requires within { i + 1 < 16 }
     ensures text { text.new ≡ padded_hex 4 (group_at i address.now) ++ text.old }
     ensures len { length text.new ≡ 4 + length text.old }
@@ -176,7 +201,7 @@ fn put_group(text: &mut Segment, address: &[u8; 16], i: usize)
 #[inline(always)]
 #[tactic(auto, unfolding(crate::specs::Values::groups_text), using(crate::proofs::Sets::joins))]
 fn put_groups(text: &mut Segment, address: &[u8; 16], i: usize)
-    requires room { 19 + length text.old ≤ 256 }
+    requires room { 19 + length text.old ≤ 248 }
     requires within { i + 7 < 16 }
     ensures text { text.new ≡ groups_text i address.now ++ text.old }
     ensures len { length text.new ≡ 19 + length text.old }
@@ -190,19 +215,50 @@ fn put_groups(text: &mut Segment, address: &[u8; 16], i: usize)
     put_group(text, address, i);
 }
 
-/// An address of IPv6.
+/// Puts an address of IPv6 where there is no text.
+#[inline(always)]
 #[tactic(auto, unfolding(crate::specs::Values::ipv6_text))]
+fn put_ipv6(text: &mut Segment, address: &[u8; 16])
+    requires { text.old ≡ [] }
+    ensures { text.new ≡ ipv6_text address.now }
+{
+    put_groups(text, address, 8);
+    text.put(":");
+    put_groups(text, address, 0);
+}
+
+/// An address of IPv6.
 pub(crate) fn ipv6(address: &[u8; 16]) -> Segment
     ensures { result ≡ ipv6_text address.now }
 {
     let mut text = Segment::new();
-    put_groups(&mut text, address, 8);
-    text.put(":");
-    put_groups(&mut text, address, 0);
+    put_ipv6(&mut text, address);
     text
 }
 
+/// Writes an address of IPv4. A function pays at its entry for what its locals have room for, so the
+/// texts of addresses have functions of their own.
+#[inline(never)]
+fn push_ipv4(out: &mut Vec<u8>, address: [u8; 4]) -> Result<(), AllocError>
+    ensures { OnOk result (out.new.items ≡ out.old.items ++ ipv4_text address) }
+{
+    let mut text = Segment::new();
+    put_ipv4(&mut text, address);
+    text.push_to(out)
+}
+
+/// Writes an address of IPv6.
+#[inline(never)]
+fn push_ipv6(out: &mut Vec<u8>, address: &[u8; 16]) -> Result<(), AllocError>
+    ensures { OnOk result (out.new.items ≡ out.old.items ++ ipv6_text address.now) }
+{
+    let mut text = Segment::new();
+    put_ipv6(&mut text, address);
+    text.push_to(out)
+}
+
 /// Writes what is printed behind the word.
+#[inline(always)]
 #[tactic(auto, unfolding(crate::specs::Values::reading_text))]
 fn push_reading(out: &mut Vec<u8>, reading: Reading<'_>) -> Result<(), AllocError>
     ensures { OnOk result
@@ -213,19 +269,19 @@ fn push_reading(out: &mut Vec<u8>, reading: Reading<'_>) -> Result<(), AllocErro
         Reading::U16(number) => push_decimal(out, number as u64),
         Reading::U32(number) => push_decimal(out, number as u64),
         Reading::Text(text) => push(out, text),
-        Reading::Ipv4(address) => ipv4(address).push_to(out),
-        Reading::Ipv6(address) => ipv6(&address).push_to(out),
+        Reading::Ipv4(address) => push_ipv4(out, address),
+        Reading::Ipv6(address) => push_ipv6(out, &address),
         Reading::Hex(bytes) => push_hex(out, bytes),
     }
 }
 
 /// Writes the word and what stands behind it.
+#[inline(always)]
 #[tactic(auto, unfolding(crate::specs::Values::value_text), using(crate::proofs::Sets::joins))]
 pub(crate) fn push_value(out: &mut Vec<u8>, reading: Reading<'_>) -> Result<(), AllocError>
     ensures { OnOk result
         (out.new.items ≡ out.old.items ++ value_text (reading_view reading.entry)) }
 {
-    push(out, word(reading))?;
-    push(out, " ")?;
+    push(out, opening(reading))?;
     push_reading(out, reading)
 }

@@ -1,0 +1,105 @@
+//! The heads of a datagram, up to its end or its first fault.
+
+ghost use Rattle.std.specs.Prelude.{◌≡◌, IfOk};
+ghost use Rattle.rtnl.specs.Shown.{Answer, Answers};
+ghost use Rattle.rtnl.specs.Tape.{AreFirstEvents, IsAboutItsHead, IsRefusalOf, body_context};
+ghost use Rattle.rtnl.specs.Tape.{context_in, put_count, refusal_in};
+
+use crate::text::tree::inner;
+use nl_attr::{AttrFlags, Ctx, Event, SORT_HOPS, SORT_LIST, SORT_MESSAGE, SORT_NEXT_HOP};
+use nl_frame::{Form, Limits, ScanError, tape_datagram};
+use std::alloc::{AllocError, Global};
+
+/// The heads of a datagram, and why it is refused.
+#[derive(Drop)]
+pub struct Tape {
+    /// The event of each head, in the order of their places: of those up to the first fault where
+    /// there is one.
+    pub events: Vec<Event>,
+    /// Why it is refused, or none where it is accepted.
+    pub refusal: Option<ScanError>,
+}
+
+/// What stands in a buffer where no event was put: no event has its sort.
+const BLANK: Event = Event {
+    place: 0,
+    len: 0,
+    number: 0,
+    level: 0,
+    sort: 255,
+    nested: false,
+    net: false,
+};
+
+/// How many of the events of a buffer were put.
+fn count_put(events: &[Event]) -> usize
+    ensures { result ≡ put_count events.now }
+{
+    let mut count = 0;
+    for event in events {
+        if event.sort == BLANK.sort {
+            break;
+        }
+        count += 1;
+    }
+    count
+}
+
+/// Why a scan refused a datagram.
+fn refusal(scanned: Result<usize, ScanError>) -> Option<ScanError>
+    ensures { result ≡ refusal_in scanned }
+{
+    match scanned {
+        Ok(_) => None,
+        Err(error) => Some(error),
+    }
+}
+
+/// Scans a datagram, and keeps the event of each head. Only memory can be refused.
+pub fn tape_of(alloc: Global, bytes: &[u8], limits: &Limits) -> Result<Tape, AllocError>
+    // The refusal is that of the datagram's answer under these limits.
+    ensures refusal { IfOk result (λ tape. (answer : Answer) × Answers limits.now bytes.now answer
+        × IsRefusalOf answer tape.refusal) }
+    // The events are those of the first heads of the datagram, in their order.
+    ensures events { IfOk result (λ tape. AreFirstEvents limits.now bytes.now tape.events.items) }
+    // A fault is that of the head that breaks its rule.
+    ensures head { IfOk result (λ tape. IsAboutItsHead limits.now bytes.now tape.refusal) }
+{
+    // A head has four bytes and more, so there is room for all.
+    let mut events = vec![in alloc; BLANK; bytes.len() / 4 + 1]?;
+    let taped = tape_datagram(bytes, limits, events.as_mut_slice());
+    let refusal = refusal(taped.into_result());
+    events.truncate(count_put(events.as_slice()));
+    Ok(Tape { events, refusal })
+}
+
+/// The context of the attributes in a body of this form.
+fn context_of_body(form: Form) -> Ctx
+    ensures { result ≡ body_context form }
+{
+    match form {
+        Form::Family(group) => group.row().context,
+        Form::Noop | Form::Error | Form::Done | Form::Overrun | Form::Get | Form::Other => {
+            Ctx::Plain
+        }
+    }
+}
+
+/// The context of the attributes in the item of a head, which stands itself in the outer one: in
+/// the body of a message, in a list, in next hops and in each of them.
+pub fn context_inside(event: Event, outer: Ctx) -> Ctx
+    ensures { result ≡ context_in event outer }
+{
+    match event.sort {
+        SORT_MESSAGE => context_of_body(Form::of(event.number)),
+        SORT_LIST => {
+            let flags = AttrFlags {
+                nested: event.nested,
+                net: event.net,
+            };
+            inner(outer, event.number, flags)
+        }
+        SORT_HOPS | SORT_NEXT_HOP => Ctx::Route,
+        _ => Ctx::Plain,
+    }
+}
