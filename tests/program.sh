@@ -156,6 +156,7 @@ bad_first_line='rtnl: line 1: bad line'
 . tests/program/table.sh
 . tests/program/request.sh
 . tests/program/json.sh
+. tests/program/bytes.sh
 . tests/program/explain.sh
 check 'each line of JSON is one that the schema allows' tests/schema.py "$folder/json"
 

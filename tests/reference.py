@@ -96,10 +96,10 @@ def content(context, number, is_nested):
 
 
 class Reading:
-    """The reading of one datagram under a depth limit, and the visits that it made so far."""
+    """The reading of one datagram under limits of depth and size, and the visits that it made so far."""
 
-    def __init__(self, data, order, depth=DEPTH):
-        self.data, self.order, self.depth, self.visits = data, order, depth, 0
+    def __init__(self, data, order, depth=DEPTH, largest=LARGEST):
+        self.data, self.order, self.depth, self.largest, self.visits = data, order, depth, largest, 0
 
     def fields(self, form, place):
         return struct.unpack_from(self.order + form, self.data, place)
@@ -167,7 +167,7 @@ class Reading:
 
     def messages(self):
         """The messages of the datagram, or its first fault."""
-        if len(self.data) > LARGEST:
+        if len(self.data) > self.largest:
             raise Fault("too large")
         messages, place = [], 0
         while place < len(self.data):

@@ -110,6 +110,39 @@ refuse_each 'examples/routes.hex, checked, in JSON' 0 /dev/null check --format j
 check 'examples/routes.hex in JSON, its check' \
   [ "$(grep -c '^{"datagram":[123],"canonical":true}$' "$folder/found.output")" = 3 ]
 
+# The bytes beside what they are, and of a refused datagram too.
+cat >"$folder/done.bytes" <<'TEXT'
+datagram 1 bytes 20
+    0  14 00 00 00                                      nlmsg_len 20
+    4  03 00                                            nlmsg_type 3 NLMSG_DONE
+    6  02 00                                            nlmsg_flags 0x0002 MULTI
+    8  01 00 00 00                                      nlmsg_seq 1
+   12  39 30 00 00                                      nlmsg_pid 12345
+   16  00 00 00 00                                        status 0
+TEXT
+refuse_each 'a DONE in bytes' 0 "$folder/done" show --bytes
+check 'a DONE in bytes, its rows' cmp -s "$folder/done.bytes" "$folder/found.output"
+
+refuse_each 'examples/routes.hex in bytes' 0 /dev/null show --bytes examples/routes.hex
+check 'examples/routes.hex in bytes, its datagrams' [ "$(grep -c '^datagram ' "$folder/found.output")" = 3 ]
+
+cat >"$folder/done.objects" <<'JSON'
+{"datagram":1,"offset":0,"length":4,"bytes":"14000000","level":0,"name":"nlmsg_len","value":20,"fault":null}
+{"datagram":1,"offset":4,"length":2,"bytes":"0300","level":0,"name":"nlmsg_type","value":"NLMSG_DONE","fault":null}
+{"datagram":1,"offset":6,"length":2,"bytes":"0200","level":0,"name":"nlmsg_flags","value":2,"fault":null}
+{"datagram":1,"offset":8,"length":4,"bytes":"01000000","level":0,"name":"nlmsg_seq","value":1,"fault":null}
+{"datagram":1,"offset":12,"length":4,"bytes":"39300000","level":0,"name":"nlmsg_pid","value":12345,"fault":null}
+{"datagram":1,"offset":16,"length":4,"bytes":"00000000","level":0,"name":"status","value":0,"fault":null}
+JSON
+refuse_each 'a DONE in bytes, in JSON' 0 "$folder/done" show --bytes --format json
+check 'a DONE in bytes, in JSON, its rows' cmp -s "$folder/done.objects" "$folder/found.output"
+
+# A shorter one, since each line takes memory.
+addresses=tests/recordings/loopback_addresses.hex
+refuse_each "$addresses in bytes, in JSON" 0 /dev/null show --bytes --format json "$addresses"
+check "$addresses in bytes, in JSON, its datagrams" \
+  [ "$(grep -c '^{"datagram":[12],"offset":0,' "$folder/found.output")" = 2 ]
+
 # A link and DONE in both orders, an address, a neighbour, a rule and a route with two next hops, each with
 # DONE, and a link before a header that is cut.
 finish_hex='14000000 0300 0200 01000000 39300000 00000000'
@@ -171,6 +204,10 @@ refuse_each 'help of table' 0 /dev/null table --help
 refuse_each 'a refusal, explained' 1 "$folder/done" check --order big --explain
 check 'a refusal, explained, its line' grep -q '^rtnl: datagram 1: bad length at 0: ' "$folder/found.errors"
 refuse_each 'a refusal at a level, explained' 1 "$folder/cut" show --explain
+refuse_each 'a refusal in bytes' 1 "$folder/cut" show --bytes
+refuse_each 'a refusal in bytes, in JSON' 1 "$folder/cut" show --bytes --format json
+refuse_each 'a refusal in bytes, in colour, explained' 1 "$folder/cut" show --bytes --color always --explain
+check 'a refusal in bytes, its row' grep -q ' .\[1;31m!! nlmsghdr: cut at 48, 10 bytes left.\[0m$' "$folder/found.output"
 refuse_each 'a refusal of a table, explained' 1 "$folder/cut" table --kind link --seq 1 --port 12345 --explain
 check 'a refusal of a table, explained, its line' [ "$(wc -l <"$folder/found.errors")" = 1 ]
 refuse_each 'a bad line, explained' 1 "$folder/bad" check --explain

@@ -26,7 +26,8 @@ ROOT = os.path.dirname(os.path.dirname(os.path.realpath(__file__)))
 COMMANDS = "show", "check", "table"
 # Files that show lines, and what stands in front of one.
 PAGES = ["README.md", "share/man/man1/rtnl.1"]
-PAGES += ["tests/rows/json.rows", "tests/refuse.sh", "tests/refuse/rows.sh"]
+PAGES += ["tests/rows/json.rows", "tests/rows/bytes.rows"]
+PAGES += ["tests/refuse.sh", "tests/refuse/rows.sh"]
 SHOWN = re.compile(r'(?:= )?(\{".*)')
 # The libraries, and the Python of Debian, to which its packages of them belong.
 LIBRARIES = "fastjsonschema", "jsonschema"
@@ -154,18 +155,28 @@ def hand_made(command: str) -> List[Json]:
 
 OTHERS: Tuple[Json, ...] = (None, True, 0, "", [], {})
 # Fields whose strings are words that the schema lists.
-WORDS = "refused", "dump", "end", "type", "form", "flags"
+WORDS = "refused", "dump", "end", "type", "form", "flags", "fault"
 
 
-def is_other(name: str, value: Json, other: Json) -> bool:
-    """Whether the other value is of another type; the name of an attribute may be null."""
-    return type(value) is not type(other) and not (name == "name" and other is None)
+def may_be(holder: Json, field: str) -> Tuple[Json, ...]:
+    """The values of other types that a field of this object may have: null for no name of an
+    attribute; of a row of bytes null or a number for its value, and null for its fault."""
+    if "number" in holder:
+        return (None,) if field == "name" else ()
+    name = holder.get("name", "")
+    if field == "value":
+        is_payload = name != name.lower()
+        return (None, 0) if is_payload else (0,) if name in ("nlmsg_type", "rta_type") else ()
+    return (None,) if field == "fault" and name.endswith(("_len", "unread")) else ()
 
 
-def changes(value: Json, name: str = "line") -> Iterator[Tuple[str, str, Json]]:
+def changes(
+    value: Json, name: str = "line", others: Tuple[Json, ...] = ()
+) -> Iterator[Tuple[str, str, Json]]:
     """All that comes of a value by one change: the kind of the change, where it is, and that."""
-    yield from (("another type", name, it) for it in OTHERS if is_other(name, value, it))
-    if isinstance(value, str) and name in WORDS:
+    others = tuple(it for it in OTHERS if type(it) is not type(value) and it not in others)
+    yield from (("another type", name, it) for it in others)
+    if isinstance(value, str) and (name in WORDS or name == "name"):
         yield "another word", name, f"{value}s"
     if isinstance(value, dict):
         yield "an unknown field", name, {**value, "unknown": 0}
@@ -173,7 +184,7 @@ def changes(value: Json, name: str = "line") -> Iterator[Tuple[str, str, Json]]:
             rest = {other: it for other, it in value.items() if other != field}
             yield "a missing field", f"{name}.{field}", rest
             yield "a renamed field", f"{name}.{field}", {**rest, f"{field}s": held}
-            for kind, place, it in changes(held, field):
+            for kind, place, it in changes(held, field, may_be(value, field)):
                 yield kind, f"{name}.{place}", {**value, field: it}
     if isinstance(value, list):
         for number, held in enumerate(value):
@@ -235,7 +246,8 @@ RANGES = {
     **{"datagram_number": (1, 2**24), "count": (0, 2**24), "shown/properties/bytes": (16, 65536)},
     **{"refused/properties/at": (0, 65535), "entry/properties/entry": (1, 65536)},
     **{"dump/properties/entries": (0, 65536), "dump/properties/visits": (0, 33 * 2**23)},
-    "attribute/properties/number": (0, 16383),
+    **{"row/properties/offset": (0, 2**23 - 16), "row/properties/length": (1, 16)},
+    **{"row/properties/level": (0, 8), "attribute_number": (0, 16383)},
 }
 WRONG: Dict[str, Tuple[Json, ...]] = {
     "hex": ("0", "0G", "AB", "0x00", "00 00"),
@@ -244,6 +256,9 @@ WRONG: Dict[str, Tuple[Json, ...]] = {
     "text": ("", "\t", "a\x7f", "\u00e9"),
     "names": (["up"], [""], ["UP", "UP"], ["1"], ["A,B"], [None]),
     "attribute/properties/name": ("", "mtu", "-", "A B", "1"),
+    "attribute_type": ("", "MTU", "IFLA_", "ifla_mtu", "IFLA_mtu", "IFLA_A B", "TCA_KIND", "999"),
+    "message_type": ("", "newlink", "RTM_", "RTM_LINK", "NLMSG_", "RTM_NEW LINK", "16"),
+    "row/properties/bytes": ("", "0", "0G", "AB", "0x00", "00 00", "00" * 17),
     "attribute/properties/flags": (["NET"], ["net", "net"], [""]),
 }
 WRONG["ipv6"] += (":".join(["FE80"] * 8), ":".join(["00000"] * 8))
@@ -324,6 +339,9 @@ def fault_of_types() -> Fault:
 def mixed() -> Iterator[Tuple[str, Json]]:
     """Lines whose fields do not belong together, and their commands."""
     link, addr = bodies()["link"], bodies()["addr"]
+    yield from (("show", row) for row in mixed_rows())
+    rows = [line for line in hand_made("show") if "offset" in line]
+    yield from ((command, row) for command in ("check", "table") for row in rows)
     yield "table", {"entry": 1}
     yield "table", {"link": link, "addr": addr}
     yield "table", {"entry": 1, "link": link, "addr": addr}
@@ -353,10 +371,29 @@ def mixed() -> Iterator[Tuple[str, Json]]:
             yield "table", {"entry": 1, "link": {**link, "attrs": [{**front, **fields}]}}
 
 
+def mixed_rows() -> Iterator[Json]:
+    """Rows of bytes with a fault that is not theirs, or with a value of another part."""
+    rows = [line for line in hand_made("show") if "offset" in line]
+    faults = {(row["name"], row["fault"]) for row in rows}
+    for row in rows:
+        for fault in sorted({it for _, it in faults if it}):
+            if (row["name"], fault) not in faults:
+                yield {**row, "fault": fault}
+        yield {**row, "value": 2**32}
+    for row in rows:
+        if row["name"] in ("nlmsghdr", "rtattr", "rtnexthop"):
+            yield {**row, "fault": None}
+        if row["name"].endswith("index") and row["name"] != "ifa_index":
+            yield {**row, "value": 2**31}
+        yield {**row, "canonical": True}
+    yield {"datagram": 1, "refused": "cut", "at": 0, "offset": 0}
+
+
 def fault_of_mixed() -> Fault:
+    allowed = {it: Allowed(it) for it in COMMANDS}
+    others = {it: reader(allowed[it].schema) for it in COMMANDS}
     for command, line in mixed():
-        allowed = Allowed(command)
-        if allowed.has(line) or reader(allowed.schema).is_valid(line):
+        if allowed[command].has(line) or others[command].is_valid(line):
             return f"{command}: {json.dumps(line)[:400]}"
     return None
 

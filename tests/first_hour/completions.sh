@@ -20,6 +20,7 @@ completed() {
   check "$shell: an option" completes "$shell" --kind rtnl table --k
   check "$shell: an option of the program" completes "$shell" --version rtnl --v
   check "$shell: byte orders" completes "$shell" 'big little' rtnl show --order ''
+  check "$shell: colours" completes "$shell" 'always auto never' rtnl show --bytes --color ''
   check "$shell: kinds" completes "$shell" 'addr link neigh route rule' rtnl request --kind ''
   check "$shell: kinds by a letter" completes "$shell" 'route rule' rtnl table --kind r
   check "$shell: no number" completes "$shell" '' rtnl table --seq ''

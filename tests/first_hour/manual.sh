@@ -1,7 +1,7 @@
 # The manual page as it is installed: its form, its sections, and the commands that it shows.
 
 manual=$prefix/share/man/man1/rtnl.1
-sections='NAME SYNOPSIS DESCRIPTION OPTIONS EXIT STATUS DIAGNOSTICS FILES STANDARDS HISTORY NOTES'
+sections='NAME SYNOPSIS DESCRIPTION OPTIONS EXIT STATUS DIAGNOSTICS ENVIRONMENT FILES STANDARDS HISTORY NOTES'
 sections+=' EXAMPLES SEE ALSO'
 
 # is_silent FILE: mandoc has no word on this page, but that another one is not here.
