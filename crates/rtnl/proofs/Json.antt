@@ -1,8 +1,7 @@
 -- What is written of a line, a token after another.
-use Rattle.std.proofs.Common.{◌≡◌, ◌≤◌, ◌<◌, ◌+◌, ℕ, [], ◌∷◌, ◌++◌, Bool, true, false, cond, List, drop, get_or, length, map, arith, append_assoc, append-nil, ap, ap₂, codes, refl, sym, ◌∙◌}
+use Rattle.std.proofs.Common.{◌≡◌, ◌≤◌, ◌+◌, ℕ, [], ◌∷◌, ◌++◌, Bool, true, false, cond, List, drop, length, arith, append_assoc, append-nil, ap, ap₂, codes, refl, sym, ◌∙◌}
 use Rattle.std.proofs.Math.ListN.{drop_of_length-le}
 use Rattle.std.proofs.lemmas.Bool.{and_parts}
-use Rattle.std.proofs.lemmas.List.{drop_more}
 use Rattle.json.specs.Json.{Json}
 use Rattle.json.specs.Print.{begins, ends, escape, escape_byte, print, print_from, quoted, separator, token_text}
 use Rattle.json.specs.Run.{is_plain}
@@ -149,18 +148,6 @@ then_fields w a b first rest e h = h ∙ ap (λ l. l ⊕ fields_tokens rest) e �
 pub no_field : (w : Line) → w ⊕ fields_tokens [] ≡ w
 unfolding fields_tokens
 no_field w = no_more w
-
--- fields of which none is left to be written
-pub all_fields : {X : Type 0} (field : X → Field) (xs : List X) (i : ℕ) (line all : Line) → length xs ≤ i → line ⊕ fields_tokens (map field (drop i xs)) ≡ all → line ≡ all
-all_fields field xs i line all far h =
-    sym (no_field line) ∙ sym (ap (λ fs. line ⊕ fields_tokens fs) (ap (map field) (drop_of_length-le xs far))) ∙ h
-
--- one field more
-pub next_field : {X : Type 0} (field : X → Field) (xs : List X) (i : ℕ) (d : X) (line new all : Line) → i < length xs → new ≡ line ⊕ fields_tokens (field (get_or xs i d) ∷ [])
-    → line ⊕ fields_tokens (map field (drop i xs)) ≡ all → new ⊕ fields_tokens (map field (drop (i + 1) xs)) ≡ all
-next_field field xs i d line new all low step h =
-    ap (λ l. l ⊕ fields_tokens (map field (drop (i + 1) xs))) step ∙ more_fields line (field (get_or xs i d) ∷ []) (map field (drop (i + 1) xs))
-    ∙ sym (ap (λ l. line ⊕ fields_tokens (map field l)) (drop_more xs i d low)) ∙ h
 
 -- one value more
 pub next_written : {X : Type 0} (values : List X → List Json) (xs : List X) (i : ℕ) (x : X) (value : Json) (line new all : Line) → drop i xs ≡ x ∷ drop (i + 1) xs

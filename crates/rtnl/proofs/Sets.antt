@@ -1,6 +1,6 @@
 -- The lemmas that the goals of several functions want, by the names under which their attributes bring them.
 use Rattle.std.proofs.Common.{append_assoc}
-use Rattle.rtnl.proofs.Json.{more, more_fields, one_field, tokens_array}
+use Rattle.rtnl.proofs.Json.{more, more_fields, one_field}
 use Rattle.rtnl.proofs.Short.{short_name}
 use Rattle.rtnl.proofs.Streams.{appends_more, appends_none, prefix_of, whole}
 use Rattle.rtnl.proofs.Trees.{inline_list, inline_hops}
@@ -13,9 +13,6 @@ pub ruleset field = more_fields
 
 -- one field of an object
 pub ruleset one = (more, one_field)
-
--- one field that holds an array
-pub ruleset array = (more, tokens_array, one_field)
 
 -- the names of attributes are short
 pub ruleset short = short_name

@@ -127,22 +127,6 @@ pub(crate) fn read_payload(order: Order, style: Style, net: bool, bytes: &[u8]) 
     }
 }
 
-/// The word for what is read.
-#[tactic(auto, unfolding(crate::specs::Values::reading_word))]
-pub(crate) fn word(reading: Reading<'_>) -> &'static str
-    ensures { result.now ≡ reading_word (reading_view reading.entry) }
-{
-    match reading {
-        Reading::U8(_) => "u8",
-        Reading::U16(_) => "u16",
-        Reading::U32(_) => "u32",
-        Reading::Text(_) => "text",
-        Reading::Ipv4(_) => "ipv4",
-        Reading::Ipv6(_) => "ipv6",
-        Reading::Hex(_) => "hex",
-    }
-}
-
 /// The word for what is read, and the blank behind it.
 #[tactic(auto, unfolding(crate::specs::Values::reading_word))]
 fn opening(reading: Reading<'_>) -> &'static str
