@@ -37,6 +37,10 @@ RUNS = 100
 DUMPS = {20: ("address", 0x47361222), 24: ("route", 0x45311224)}
 
 
+# What a recording is a dump of, by the type of its first message.
+KINDS = {16: "link", 20: "addr", 24: "route", 28: "neigh", 32: "rule"}
+
+
 def datagrams_of(path):
     """The datagrams of a recording's lines."""
     lines = open(path, encoding="ascii").read().splitlines()
@@ -212,6 +216,23 @@ def large(folder, recordings):
     table(*rows)
 
 
+def forms(folder, recordings):
+    """The whole program over each recording once, and what other forms take beside the text of `show`."""
+    rows = [("recording", "show", "as JSON", "with `--bytes`", "with `--bytes`, as JSON", "`table`", "`table` as JSON")]
+    json = ["--format", "json"]
+    for name, datagrams in recordings:
+        file = kept(folder, "recording", as_lines(datagrams))
+        _, kind, _, sequence, port = struct.unpack_from("<IHHII", datagrams[0])
+        if kind not in KINDS:
+            continue
+        dump = ["table", "--kind", KINDS[kind], "--seq", str(sequence), "--port", str(port)]
+        runs = ["show", *json], ["show", "--bytes"], ["show", "--bytes", *json], dump, [*dump, *json]
+        text = instructions([PROGRAM, "show", file])
+        others = (instructions([PROGRAM, *run, file]) for run in runs)
+        rows.append((name, shown(text, 1, "{:,.0f}"), *(shown(each, text, "{:.2f}") for each in others)))
+    table(*rows)
+
+
 def memory(folder, recordings):
     """The greatest memory over long inputs."""
     rows = [("input", "megabytes", "show", "check")]
@@ -292,6 +313,7 @@ def main():
         small(made, recordings)
         library(made, recordings, passes_of_each)
         large(made, recordings)
+        forms(made, recordings)
         hostile(made)
         tables(made)
         print("Nanoseconds a byte of datagrams:\n")
