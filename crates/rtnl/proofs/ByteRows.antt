@@ -1,5 +1,5 @@
 -- Rows of bytes, one after another.
-use Rattle.std.proofs.Common.{◌≡◌, ◌<◌, ◌≤◌, ◌+◌, ℕ, List, [], ◌∷◌, ◌++◌, length, min, take, drop, replicate, Bool, true, false, Option, Some, None, Ok, Err, is_some, not, inl, inr, refl, sym, ap, subst, ◌∙◌, arith, append_assoc}
+use Rattle.std.proofs.Common.{◌≡◌, ◌<◌, ◌≤◌, ◌+◌, ℕ, List, [], ◌∷◌, ◌++◌, length, min, replicate, Bool, true, false, Option, Some, None, Ok, Err, is_some, not, inl, inr, refl, sym, ap, subst, ◌∙◌, arith, append_assoc}
 use Rattle.std.specs.List.{flat_map}
 use Rattle.std.proofs.lemmas.List.{append-nil}
 use Rattle.std.proofs.lemmas.Grind.{flat_map-append}
@@ -12,12 +12,11 @@ use Rattle.nl_frame.specs.declared.scanning.ScanError.TheVariants.{TooLarge, Lay
 use Rattle.nl_frame.specs.Heads.{FaultAt, Rest, whole}
 use Rattle.nl_frame.proofs.Scan.{message_lies, message_region}
 use Rattle.nl_frame.specs.Limits.{Bounds}
-use Rattle.nl_attr.specs.declared.order.Order.{Order}
 use Rattle.rtnl.specs.declared.bytes.rows.RowFormat.{RowFormat}
 use Rattle.rtnl.specs.declared.bytes.rows.RowFormat.TheVariants.{Text, Coloured, Json}
 use Rattle.rtnl.specs.Shown.{Answer, Answers, Refuses, is_taken, refusal_text}
 use Rattle.rtnl.specs.Tape.{IsRefusalOf, refusal_line}
-use Rattle.rtnl.specs.ByteRows.{IsAtByte, refused_at, AreParts, AreRows, AreRowsOf, ByteRow, HasRows, Part, Viewed, Views, answer_line, ending, is_accepted, opening, row_printed, viewed_text}
+use Rattle.rtnl.specs.ByteRows.{IsAtByte, refused_at, AreRows, ByteRow, HasRows, Part, Viewed, Views, answer_line, ending, is_accepted, opening, row_printed, viewed_text}
 use Rattle.rtnl.specs.ByteViews.{AddsAllRows, AddsPart, AddsRows, refusal_ending}
 use Rattle.rtnl.proofs.Showing.{one_more}
 
@@ -36,9 +35,6 @@ module _ (print : ByteRow → List ℕ) where
     -- however the text goes on with rows of what is left, with them it has rows of the part
     abbrev pub IsLeft : List ℕ → Bool → ℕ → List ℕ → List ℕ → Type 0
     IsLeft old is_first place rest out = (new : List ℕ) → Goes is_first place rest out new → AddsPart print p old new
-
-    pub begins : (old : List ℕ) → IsLeft old true p.place p.bytes old
-    begins old = λ new goes. goes
 
     -- one row
     pub one_row : (old : List ℕ) (is_first : Bool) (place : ℕ) (rest out : List ℕ) → IsLeft old is_first place rest out
@@ -60,9 +56,6 @@ module _ (print : ByteRow → List ℕ) where
   AreLeft start d refusal old place rest here out = (new : List ℕ) → AddsRows print place rest here out new → AddsRows print start d refusal old new
 
   module _ (start : ℕ) (d : List ℕ) (refusal : Option ScanError) (old : List ℕ) where
-    pub all_left : AreLeft start d refusal old start d refusal old
-    all_left = λ new adds. adds
-
     module _ (place : ℕ) (rest : List ℕ) (here : Option ScanError) (out : List ℕ) (now : AreLeft start d refusal old place rest here out) where
       -- one part
       pub one_part : (p : Part) (others next : List ℕ) → p.place ≡ place → p.refusal ≡ here → 0 < length p.bytes → rest ≡ p.bytes ++ others → AddsPart print p out next

@@ -18,7 +18,7 @@ use Rattle.nl_frame.specs.Outcomes.{IfFault}
 use Rattle.nl_frame.specs.Scans.{ScansDatagram}
 use Rattle.nl_frame.specs.Taped.{IfBroken, as_read}
 use Rattle.rtnl.specs.Shown.{Answer, Answers}
-use Rattle.rtnl.specs.Tape.{AreFirstEvents, put_count, IsAboutItsHead, IsRefusalOf, refusal_in}
+use Rattle.rtnl.specs.Tape.{put_count, IsAboutItsHead, IsRefusalOf, refusal_in}
 
 module _ {X : Type 0} (b : Bounds) (d : List ℕ) (t : Tally X ScanError) (scans : ScansDatagram b d t) where
   -- what is not refused for its size is within the limit

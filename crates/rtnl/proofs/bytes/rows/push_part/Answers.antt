@@ -1,8 +1,8 @@
-use Rattle.std.proofs.Common.{◌≡◌, ◌<◌, ◌≤◌, ◌+◌, ◌++◌, ℕ, List, length, min, sym, arith, rules}
+use Rattle.std.proofs.Common.{◌≡◌, ◌<◌, ◌++◌, length, min, sym, arith, rules}
 use Rattle.std.proofs.lemmas.List.{nil_from_length, take-append-drop}
 use Rattle.rtnl.specs.ByteRows.{row_printed}
 use Rattle.rtnl.specs.ByteViews.{part_view}
-use Rattle.rtnl.proofs.ByteRows.{begins, ends, one_row}
+use Rattle.rtnl.proofs.ByteRows.{ends, one_row}
 use Rattle.rtnl.proofs.bytes.rows.push_part.Goals as goal
 
 pub loop-rest-preserved : goal.loop-rest-preserved
