@@ -15,7 +15,7 @@ use Rattle.nl_frame.specs.Limits.{Bounds}
 use Rattle.rtnl.specs.declared.bytes.rows.RowFormat.{RowFormat}
 use Rattle.rtnl.specs.declared.bytes.rows.RowFormat.TheVariants.{Text, Coloured, Json}
 use Rattle.rtnl.specs.Shown.{Answer, Answers, Refuses, is_taken, refusal_text}
-use Rattle.rtnl.specs.Tape.{IsRefusalOf, refusal_line}
+use Rattle.rtnl.specs.Tape.{IsAboutItsHead, IsRefusalOf, refusal_line}
 use Rattle.rtnl.specs.ByteRows.{IsAtByte, refused_at, AreRows, ByteRow, HasRows, Part, Viewed, Views, answer_line, ending, is_accepted, opening, row_printed, viewed_text}
 use Rattle.rtnl.specs.ByteViews.{AddsAllRows, AddsPart, AddsRows, refusal_ending}
 use Rattle.rtnl.proofs.Showing.{one_more}
@@ -133,14 +133,14 @@ is_at_byte b d (Err r) (Some (Fails h)) is i =
 
 -- its line, its rows, and the line of its refusal
 pub shows : (f : RowFormat) (b : Bounds) (n : ℕ) (d old one two new : List ℕ) (refusal : Option ScanError) (taken : Bool) → one ≡ old ++ opening f n d
-    → AddsAllRows (row_printed f b.shape.order n) d refusal one two → new ≡ two ++ refusal_ending f refusal → is_some refusal ≡ not taken
+    → AddsAllRows (row_printed f b.shape.order n) d refusal one two → new ≡ two ++ refusal_ending f refusal → is_some refusal ≡ not taken → IsAboutItsHead b d refusal
     → (a : Answer) × Answers b d a × IsRefusalOf a refusal → (found : Viewed) × Views b d found × (new ≡ old ++ viewed_text f b.shape.order n d found) × (taken ≡ is_accepted found)
-shows f b n d old one two new refusal taken line adds end is x =
+shows f b n d old one two new refusal taken line adds end is head x =
     let front = opening f n d in
     let rows = flat_map (row_printed f b.shape.order n) adds.0 in
     let last = ending f x.0 in (
       record { rows = adds.0; answer = x.0; refusal = refusal },
-      (adds.1, x.1, x.2, is_at_byte b d x.0 refusal x.1 x.2),
+      (adds.1, x.1, x.2, head, is_at_byte b d x.0 refusal x.1 x.2),
       one_more old two new (front ++ rows) last (one_more old one two front rows line adds.2) (end ∙ ap (λ (t : List ℕ). two ++ t) (ending_is f x.0 refusal x.2)) ∙ ap (λ (t : List ℕ). old ++ t) (append_assoc front rows last),
       taken_is x.0 refusal taken x.2 is,
     )

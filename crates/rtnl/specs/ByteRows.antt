@@ -19,7 +19,7 @@ use Rattle.rtnl.specs.Kernel.{kernel_name}
 use Rattle.rtnl.specs.Notations.{value_behind, value_json}
 use Rattle.rtnl.specs.Runs.{Prints, OfInput}
 use Rattle.rtnl.specs.Shown.{Answer, Answers, is_taken, refusal_text}
-use Rattle.rtnl.specs.Tape.{IsRefusalOf}
+use Rattle.rtnl.specs.Tape.{IsAboutItsHead, IsRefusalOf}
 use Rattle.rtnl.specs.Text.{◌⨟◌, padded_hex}
 
 -- a part of a datagram: where its first byte stands, its bytes, what they are, and why the datagram is refused there
@@ -204,9 +204,9 @@ pub record Viewed : Type 0 where
   pub answer : Answer
   pub refusal : Option ScanError
 
--- the rows are of all its bytes, the answer and the refusal its own, and a row has the refusal
+-- the rows are of all its bytes, the answer and the refusal its own, by the head that breaks a rule, and a row has the refusal
 abbrev pub Views : Bounds → List ℕ → Viewed → Type 0
-Views b d v = HasAllRows d v.refusal v.rows × Answers b d v.answer × IsRefusalOf v.answer v.refusal × IsAtByte d v.refusal
+Views b d v = HasAllRows d v.refusal v.rows × Answers b d v.answer × IsRefusalOf v.answer v.refusal × IsAboutItsHead b d v.refusal × IsAtByte d v.refusal
 
 -- the line before the rows of a datagram in text
 abbrev pub opening : RowFormat → ℕ → List ℕ → List ℕ
