@@ -4,6 +4,7 @@ pub mod Beginnings
 pub mod Bodies
 pub mod Every
 pub mod Extents
+pub mod Few
 pub mod Firsts
 pub mod Fronts
 pub mod Headers

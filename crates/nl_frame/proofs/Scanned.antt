@@ -41,36 +41,31 @@ end_is : (S : Shape) (e : Option (ℕ × Reason)) → end_of S e ≡ ends_with (
 end_is S None = refl
 end_is S (Some f) = refl
 
-says : {Y : Type 0} (r : Result ℕ ScanError) (v n m : ℕ) (x : Option BrokenHead) (o : Outcome Y) → without o ≡ (ends_with (fault_in x), m) → Ends n x r → v ≡ m → HasEnd r v o
-says (Ok y) v n m None o w i j = w ∙ ap (λ (k : ℕ). (Ok tt, k)) (sym j)
-says (Ok y) v n m (Some b) o w i j = absurd i
-says (Err y) v n m None o w i j = absurd i
-says (Err TooLarge) v n m (Some b) o w i j = absurd (let y : TooLarge ≡ Fails b = i in cc)
-says (Err (Fails c)) v n m (Some b) o w i j = let y : Fails c ≡ Fails b = i in let z : c ≡ b = cc in w ∙ rw (z, j) refl
-
-counts : (r : Result ℕ ScanError) (x : Option BrokenHead) (n m : ℕ) → n ≡ m → Ends n x r → IfOk r (λ k. k ≡ m)
-counts (Ok k) None n m e i = i ∙ e
-counts (Ok k) (Some b) n m e i = absurd i
-counts (Err y) x n m e i = tt
+says : {Y : Type 0} (r : Result (Unit {0}) ScanError) (v m : ℕ) (x : Option BrokenHead) (o : Outcome Y) → without o ≡ (ends_with (fault_in x), m) → Ends x r → v ≡ m → HasEnd r v o
+says (Ok y) v m None o w i j = w ∙ ap (λ (k : ℕ). (Ok tt, k)) (sym j)
+says (Ok y) v m (Some b) o w i j = absurd i
+says (Err y) v m None o w i j = absurd i
+says (Err TooLarge) v m (Some b) o w i j = absurd (let y : TooLarge ≡ Fails b = i in cc)
+says (Err (Fails c)) v m (Some b) o w i j = let y : Fails c ≡ Fails b = i in let z : c ≡ b = cc in w ∙ rw (z, j) refl
 
 -- what holds of the head at which a scan ended, holds of the head that it answers
-pub head_is : (r : Result ℕ ScanError) (x : Option BrokenHead) (n : ℕ) (P : BrokenHead → Type 0) → Ends n x r → IfSome x P → IfErr r (λ e. IfBroken e P)
-head_is (Ok k) x n P i h = tt
-head_is (Err y) None n P i h = absurd i
-head_is (Err TooLarge) (Some b) n P i h = tt
-head_is (Err (Fails c)) (Some b) n P i h = let y : Fails c ≡ Fails b = i in let z : c ≡ b = cc in subst P (sym z) h
+pub head_is : (r : Result (Unit {0}) ScanError) (x : Option BrokenHead) (P : BrokenHead → Type 0) → Ends x r → IfSome x P → IfErr r (λ e. IfBroken e P)
+head_is (Ok u) x P i h = tt
+head_is (Err y) None P i h = absurd i
+head_is (Err TooLarge) (Some b) P i h = tt
+head_is (Err (Fails c)) (Some b) P i h = let y : Fails c ≡ Fails b = i in let z : c ≡ b = cc in subst P (sym z) h
 
 module _ (S : Shape) (d : List ℕ) where
   -- an answer of the events of the heads ends as a reading does
-  pub says_so : (old new : List Event) (t : Taped) (r : Result ℕ ScanError) → IsTaped S (trail_of S (whole d)) 0 old new t → Ends t.count t.broken r → HasEnd r t.visits (messages_of S 0 d)
+  pub says_so : (old new : List Event) (t : Taped) (r : Result (Unit {0}) ScanError) → IsTaped S (trail_of S (whole d)) 0 old new t → Ends t.broken r → HasEnd r t.visits (messages_of S 0 d)
   says_so old new t r is ends =
       let o = trail_of S (whole d) in
-      says r t.visits t.count (visits_of S o.0) t.broken (messages_of S 0 d)
+      says r t.visits (visits_of S o.0) t.broken (messages_of S 0 d)
       (reads S d ∙ ap (λ (e : Result (Unit {0}) Fault). (e, visits_of S o.0)) (end_is S o.1 ∙ ap ends_with (sym is.fault))) ends is.visits
 
-  -- and counts them
-  pub count_of : (old new : List Event) (t : Taped) (r : Result ℕ ScanError) → IsTaped S (trail_of S (whole d)) 0 old new t → Ends t.count t.broken r → IfOk r (λ n. n ≡ length (events_of S (whole d)))
-  count_of old new t r is ends = counts r t.broken t.count (length (events_of S (whole d))) (omega (arith, is.counted, length-map (trail_of S (whole d)).0 (event_of S.order))) ends
+  -- and so many heads are counted
+  pub count_of : (old new : List Event) (t : Taped) → IsTaped S (trail_of S (whole d)) 0 old new t → t.count ≡ length (events_of S (whole d))
+  count_of old new t is = omega (arith, is.counted, length-map (trail_of S (whole d)).0 (event_of S.order))
 
   module _ {X : Type 0} where
     -- some list is the layout

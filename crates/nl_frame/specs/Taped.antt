@@ -29,12 +29,12 @@ IsFrameTaped S f place count old new t =
     IsTaped S (region_trail S (region_in f.form (place + 16) f.payload.now)) (count + 1)
     (slice_set old count (header_event place f.header.kind (length f.payload.now))) new t
 
--- it is refused for the fault of this head, or accepted with this count where there is none
-abbrev pub Ends : ℕ → Option BrokenHead → Result ℕ ScanError → Type 0
-Ends count None (Ok n) = n ≡ count
-Ends count None (Err e) = ⊥
-Ends count (Some b) (Ok n) = ⊥
-Ends count (Some b) (Err e) = e ≡ Layout b
+-- it is refused for the fault of this head, or accepted where there is none
+abbrev pub Ends : Option BrokenHead → Result (Unit {0}) ScanError → Type 0
+Ends None (Ok u) = Unit {0}
+Ends None (Err e) = ⊥
+Ends (Some b) (Ok u) = ⊥
+Ends (Some b) (Err e) = e ≡ Layout b
 
 -- a head that breaks a rule, and no other refusal
 abbrev pub IfBroken : ScanError → (BrokenHead → Type 0) → Type 0

@@ -32,8 +32,9 @@ impl Header {
         }
     }
 
-    /// The 16 bytes of the header.
-    pub(crate) fn bytes(self, order: Order) -> [u8; 16]
+    /// The 16 bytes of the header, as `struct nlmsghdr` of netlink(7) lies in a datagram: its fields
+    /// one behind the other, each number in this order.
+    pub fn bytes(self, order: Order) -> [u8; 16]
         ensures { result ≡ written order (header_fields self) }
     {
         let mut bytes = [0; 16];

@@ -26,5 +26,5 @@ pub use limits::Limits;
 pub use nl_attr::{BrokenHead, Event, HeadKind, LimitFault, Order};
 pub use nl_route::Group;
 pub use reading::{ReadError, read_datagram};
-pub use scanning::{ScanError, scan_datagram, tape_datagram};
+pub use scanning::{Counted, ScanError, scan_datagram, tape_datagram};
 pub use writing::{WriteError, write_datagram};

@@ -1,6 +1,6 @@
 //! Scanning a datagram: reading that keeps nothing and takes no memory.
 
-ghost use Rattle.std.specs.Prelude.{◌≡◌, ◌≤◌, ◌<◌, length, IfOk};
+ghost use Rattle.std.specs.Prelude.{◌≡◌, ◌≤◌, ◌<◌, ◌*◌, length};
 ghost use Rattle.nl_attr.specs.HeadOrder.{put_from};
 ghost use Rattle.nl_frame.specs.Heads.{whole};
 ghost use Rattle.nl_frame.specs.Scans.{ScansDatagram};
@@ -38,12 +38,20 @@ impl ScanError {
     }
 }
 
-/// The answer of a scan that ended at this head, or at none after so many heads.
-fn answer(broken: Option<BrokenHead>, count: usize) -> Result<usize, ScanError>
-    ensures { Ends count broken result }
+/// What a scan finds that counts the heads.
+pub struct Counted {
+    /// What was found, and how many attribute bytes were visited.
+    pub scan: Tally<(), ScanError>,
+    /// How many heads there are: all, or those up to the first fault.
+    pub count: usize,
+}
+
+/// The answer of a scan that ended at this head, or at none.
+fn answer(broken: Option<BrokenHead>) -> Result<(), ScanError>
+    ensures { Ends broken result }
 {
     match broken {
-        None => Ok(count),
+        None => Ok(()),
         Some(head) => Err(ScanError::Layout(head)),
     }
 }
@@ -52,30 +60,40 @@ fn answer(broken: Option<BrokenHead>, count: usize) -> Result<usize, ScanError>
 /// the order of their places and as far as `out` goes: each message's header, and behind it the
 /// heads of its attributes and next hops. It takes no memory.
 ///
-/// It answers how many heads there are, which may be more than `out` has room for, and how many
-/// attribute bytes were visited. It refuses as `read_datagram` does, but never for memory: nothing
-/// is put where the datagram is above the datagram limit; at the first fault the events up to it
-/// have been put.
+/// It answers how many heads there are, which may be more than `out` has room for but is at most a
+/// quarter of the datagram's bytes, and how many attribute bytes were visited. It refuses as
+/// `read_datagram` does, but never for memory: nothing is put or counted where the datagram is
+/// above the datagram limit; at the first fault the heads up to it have been counted and their
+/// events put, that of a container which is too long or too deep among them.
 #[inline(always)]
-pub fn tape_datagram(bytes: &[u8], limits: &Limits, out: &mut [Event]) -> Tally<usize, ScanError>
-    ensures scans { ScansDatagram limits.now bytes.now result }
-    ensures untouched { limits.now.datagram < length bytes.now → out.new ≡ out.old }
+pub fn tape_datagram(bytes: &[u8], limits: &Limits, out: &mut [Event]) -> Counted
+    ensures scans { ScansDatagram limits.now bytes.now result.scan }
+    ensures untouched { limits.now.datagram < length bytes.now
+        → (result.count ≡ 0) × (out.new ≡ out.old) }
     // The events of the heads up to the fault stand in the buffer, and the rest is as it was.
     ensures events { length bytes.now ≤ limits.now.datagram
         → out.new ≡ put_from 0 (events_of limits.now.shape (whole bytes.now)) out.old }
-    ensures count { IfOk result.result
-        (λ n. n ≡ length (events_of limits.now.shape (whole bytes.now))) }
+    ensures count { length bytes.now ≤ limits.now.datagram
+        → result.count ≡ length (events_of limits.now.shape (whole bytes.now)) }
+    // A head has at least four bytes that are no other head's.
+    ensures quarter { 4 * result.count ≤ length bytes.now }
 {
     if bytes.len() > limits.datagram() as usize {
-        return Tally {
-            result: Err(ScanError::TooLarge),
-            visits: 0,
+        return Counted {
+            scan: Tally {
+                result: Err(ScanError::TooLarge),
+                visits: 0,
+            },
+            count: 0,
         };
     }
     let taped = tape_messages(bytes, limits.depth(), limits.order(), out);
-    Tally {
-        result: answer(taped.broken, taped.count),
-        visits: taped.visits,
+    Counted {
+        scan: Tally {
+            result: answer(taped.broken),
+            visits: taped.visits,
+        },
+        count: taped.count,
     }
 }
 
@@ -87,5 +105,6 @@ pub fn scan_datagram(bytes: &[u8], limits: &Limits) -> Tally<(), ScanError>
     ensures { ScansDatagram limits.now bytes.now result }
 {
     let out: &mut [Event] = &mut [];
-    tape_datagram(bytes, limits, out).map(|_| ())
+    let Counted { scan, count: _ } = tape_datagram(bytes, limits, out);
+    scan
 }

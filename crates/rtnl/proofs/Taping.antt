@@ -1,16 +1,17 @@
 -- What a scan finds of a datagram, in the words of its answer.
-use Rattle.std.proofs.Common.{◌≡◌, ◌<◌, ◌≤◌, ◌⊎◌, ◌==◌, true, false, inl, inr, ℕ, zero, suc, ◌+◌, ◌∙◌, ◌++◌, ◌∷◌, [], List, length, take, replicate, ap, add-one, Option, Some, None, Result, Ok, Err, IfOk, IfErr, refl, sym, subst}
-use Rattle.std.proofs.lemmas.Bool.{cases_Bool, cases_lt}
+use Rattle.std.proofs.Common.{◌≡◌, ◌<◌, ◌≤◌, ◌⊎◌, inl, inr, ℕ, ◌+◌, ◌-◌, ◌*◌, ◌/◌, ◌∙◌, ◌++◌, List, length, take, drop, ap, arith, Option, Some, None, Result, Ok, Err, IfOk, IfErr, refl, sym, subst}
+use Rattle.std.proofs.lemmas.Bool.{cases_lt}
+use Rattle.std.proofs.lemmas.List.{take_all}
 use Rattle.std.proofs.Math.Seq.{take-append_seam}
 use Rattle.nl_attr.specs.declared.events.Event.{Event}
 use Rattle.nl_attr.specs.HeadOrder.{put_from}
-use Rattle.nl_attr.proofs.Lemmas.Putting.{put_here, put_none, put_nowhere}
 use Rattle.nl_attr.specs.declared.fault.Tally.{Tally}
 use Rattle.nl_frame.specs.declared.scanning.ScanError.{ScanError}
 use Rattle.nl_frame.specs.declared.scanning.ScanError.TheVariants.{TooLarge, Layout as Fails}
 use Rattle.nl_frame.specs.declared.reading.ReadError.TheVariants as unread
 use Rattle.nl_frame.specs.Broken.{IsBrokenHead}
 use Rattle.nl_frame.specs.Heads.{IsFirstFault, whole}
+use Rattle.nl_frame.specs.HeadOrder.{events_of}
 use Rattle.nl_frame.specs.Layout.{Layout}
 use Rattle.nl_frame.specs.Limits.{Bounds}
 use Rattle.nl_frame.specs.Message.{MessageVal}
@@ -18,7 +19,7 @@ use Rattle.nl_frame.specs.Outcomes.{IfFault}
 use Rattle.nl_frame.specs.Scans.{ScansDatagram}
 use Rattle.nl_frame.specs.Taped.{IfBroken, as_read}
 use Rattle.rtnl.specs.Shown.{Answer, Answers}
-use Rattle.rtnl.specs.Tape.{put_count, IsAboutItsHead, IsRefusalOf, refusal_in}
+use Rattle.rtnl.specs.Tape.{AreEvents, IsAboutItsHead, IsRefusalOf, refusal_in}
 
 module _ {X : Type 0} (b : Bounds) (d : List ℕ) (t : Tally X ScanError) (scans : ScansDatagram b d t) where
   -- what is not refused for its size is within the limit
@@ -61,36 +62,17 @@ module _ {X : Type 0} (b : Bounds) (d : List ℕ) (t : Tally X ScanError) (scans
 pub given_back : (n : ℕ) (xs ys : List Event) → n ≡ length xs → take n (xs ++ ys) ≡ xs
 given_back n xs ys e = ap (λ (m : ℕ). take m (xs ++ ys)) e ∙ take-append_seam xs ys
 
-one_more : (e : Event) (n : ℕ) (es : List Event) → take (n + 1) (e ∷ es) ≡ e ∷ take n es
-one_more e n es = ap (λ (k : ℕ). take k (e ∷ es)) (add-one n)
+-- the events in a buffer that had room for all
+all_put : (es old : List Event) → length es ≤ length old → take (length es) (put_from 0 es old) ≡ es
+all_put es old room = ap (λ (xs : List Event). take (length es) (xs ++ drop (0 + length es) old)) (take_all (length old - 0) es (omega (arith, room))) ∙ take-append_seam es (drop (0 + length es) old)
 
-module _ (blank : Event) (is : blank.sort ≡ 255) where
-  -- the events before the first blank, and those that are not there
-  abbrev Firsts : List Event → List Event → Type 0
-  Firsts es xs = (others : List Event) × (es ≡ take (put_count xs) xs ++ others)
-
-  one_first : (e : Event) (es xs : List Event) → Firsts es xs → Firsts (e ∷ es) (e ∷ xs)
-  one_first e es xs f = by_case (cases_Bool (e.sort == 255)) where
-    by_case : ((e.sort == 255) ≡ true) ⊎ ((e.sort == 255) ≡ false) → Firsts (e ∷ es) (e ∷ xs)
-    by_case (inl same) = (e ∷ es, rw same refl)
-    by_case (inr other) = (f.0, rw other (ap (λ (ys : List Event). e ∷ ys) f.1 ∙ ap (λ (ys : List Event). ys ++ f.0) (sym (one_more e (put_count xs) xs))))
-
-  pub first_put : (n : ℕ) (es : List Event) → Firsts es (put_from 0 es (replicate n blank))
-  first_put zero es = subst (Firsts es) (sym (put_nowhere 0 es)) (es, refl)
-  first_put (suc n) [] = subst (Firsts []) (sym (put_none 0 (replicate (suc n) blank))) ([], rw is refl)
-  first_put (suc n) (e ∷ es) = subst (Firsts (e ∷ es)) (sym (put_here e es blank (replicate n blank))) (one_first e es (put_from 0 es (replicate n blank)) (first_put n es))
-
-  pub none_put : (n : ℕ) (es : List Event) → Firsts es (replicate n blank)
-  none_put zero es = (es, refl)
-  none_put (suc n) es = (es, rw is refl)
-
-  -- a buffer of blanks after a tape: what is cut off behind the events that were put
-  pub events_first : (n b d : ℕ) (es buffer kept : List Event) (k : ℕ) → (b < d → buffer ≡ replicate n blank) → (d ≤ b → buffer ≡ put_from 0 es (replicate n blank))
-      → k ≡ put_count buffer → kept ≡ take k buffer → (others : List Event) × (es ≡ kept ++ others)
-  events_first n b d es buffer kept k untouched put counted cut = by_case (cases_lt b d) where
-    rest : Firsts es buffer → (others : List Event) × (es ≡ kept ++ others)
-    rest f = (f.0, f.1 ∙ ap (λ (xs : List Event). xs ++ f.0) (sym (cut ∙ ap (λ (m : ℕ). take m buffer) counted)))
-
-    by_case : (b < d) ⊎ (d ≤ b) → (others : List Event) × (es ≡ kept ++ others)
-    by_case (inl less) = rest (subst (Firsts es) (sym (untouched less)) (none_put n es))
-    by_case (inr fits) = rest (subst (Firsts es) (sym (put fits)) (first_put n es))
+-- what is kept, behind a scan that counted the events, of a buffer with a place for each four bytes
+module _ (b : Bounds) (d : List ℕ) (count : ℕ) (old buffer kept : List Event) (size : length old ≡ length d / 4 + 1) (few : 4 * count ≤ length d) (cut : kept ≡ take count buffer) where
+  pub events_kept : (b.datagram < length d → (count ≡ 0) × (buffer ≡ old)) → (length d ≤ b.datagram → buffer ≡ put_from 0 (events_of b.shape (whole d)) old) → (length d ≤ b.datagram → count ≡ length (events_of b.shape (whole d)))
+      → AreEvents b d kept
+  events_kept untouched put counted = (
+    λ fits.
+        let es = events_of b.shape (whole d) in
+        cut ∙ ap (λ (n : ℕ). take n buffer) (counted fits) ∙ ap (λ (xs : List Event). take (length es) xs) (put fits) ∙ all_put es old (omega (arith, counted fits, size, few)),
+    λ large. cut ∙ ap (λ (n : ℕ). take n buffer) (untouched large).0,
+  )

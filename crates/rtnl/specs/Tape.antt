@@ -1,5 +1,5 @@
 -- What is taped of a datagram.
-use Rattle.std.specs.Prelude.{◌≡◌, ◌==◌, ◌||◌, ◌+◌, if◌then◌else◌, ℕ, List, [], ◌∷◌, ◌++◌, Option, Some, None, Result, Ok, Err, IfSome}
+use Rattle.std.specs.Prelude.{◌≡◌, ◌≤◌, ◌<◌, ◌==◌, ◌||◌, if◌then◌else◌, ℕ, List, [], length, Option, Some, None, Result, Ok, Err, IfSome}
 use Rattle.nl_attr.specs.declared.events.Event.{Event}
 use Rattle.nl_attr.specs.declared.events.TheConstants.{SORT_MESSAGE, SORT_LIST, SORT_HOPS, SORT_NEXT_HOP}
 use Rattle.nl_attr.specs.declared.tree.Ctx.{Ctx}
@@ -30,14 +30,9 @@ IsRefusalOf (Ok ms) (Some e) = ⊥
 IsRefusalOf (Err r) None = ⊥
 IsRefusalOf (Err r) (Some e) = r ≡ read_refusal e
 
--- the events are those of the first heads of the datagram, in their order
-abbrev pub AreFirstEvents : Bounds → List ℕ → List Event → Type 0
-AreFirstEvents b d events = (others : List Event) × (events_of b.shape (whole d) ≡ events ++ others)
-
--- how many events stand before the first of a sort that no event has
-abbrev pub put_count : List Event → ℕ
-put_count [] = 0
-put_count (e ∷ es) = if e.sort == 255 then 0 else put_count es + 1
+-- the events are those of the heads up to the first fault, in their order; there is none of a datagram above the limit
+abbrev pub AreEvents : Bounds → List ℕ → List Event → Type 0
+AreEvents b d events = (length d ≤ b.datagram → events ≡ events_of b.shape (whole d)) × (b.datagram < length d → events ≡ [])
 
 -- the head of a refusal is the one that breaks its rule in the datagram
 abbrev pub IsAboutItsHead : Bounds → List ℕ → Option ScanError → Type 0

@@ -2,19 +2,19 @@
 
 ghost use Rattle.std.specs.Prelude.{◌≡◌, IfOk};
 ghost use Rattle.rtnl.specs.Shown.{Answer, Answers};
-ghost use Rattle.rtnl.specs.Tape.{AreFirstEvents, IsAboutItsHead, IsRefusalOf, body_context};
-ghost use Rattle.rtnl.specs.Tape.{context_in, put_count, refusal_in};
+ghost use Rattle.rtnl.specs.Tape.{AreEvents, IsAboutItsHead, IsRefusalOf, body_context};
+ghost use Rattle.rtnl.specs.Tape.{context_in, refusal_in};
 
 use crate::text::tree::inner;
 use nl_attr::{AttrFlags, Ctx, Event, SORT_HOPS, SORT_LIST, SORT_MESSAGE, SORT_NEXT_HOP};
-use nl_frame::{Form, Limits, ScanError, tape_datagram};
+use nl_frame::{Counted, Form, Limits, ScanError, tape_datagram};
 use std::alloc::{AllocError, Global};
 
 /// The heads of a datagram, and why it is refused.
 #[derive(Drop)]
 pub struct Tape {
     /// The event of each head, in the order of their places: of those up to the first fault where
-    /// there is one.
+    /// there is one, and of none where the datagram is above the datagram limit.
     pub events: Vec<Event>,
     /// Why it is refused, or none where it is accepted.
     pub refusal: Option<ScanError>,
@@ -31,26 +31,12 @@ const BLANK: Event = Event {
     net: false,
 };
 
-/// How many of the events of a buffer were put.
-fn count_put(events: &[Event]) -> usize
-    ensures { result ≡ put_count events.now }
-{
-    let mut count = 0;
-    for event in events {
-        if event.sort == BLANK.sort {
-            break;
-        }
-        count += 1;
-    }
-    count
-}
-
 /// Why a scan refused a datagram.
-fn refusal(scanned: Result<usize, ScanError>) -> Option<ScanError>
+fn refusal(scanned: Result<(), ScanError>) -> Option<ScanError>
     ensures { result ≡ refusal_in scanned }
 {
     match scanned {
-        Ok(_) => None,
+        Ok(()) => None,
         Err(error) => Some(error),
     }
 }
@@ -60,16 +46,16 @@ pub fn tape_of(alloc: Global, bytes: &[u8], limits: &Limits) -> Result<Tape, All
     // The refusal is that of the datagram's answer under these limits.
     ensures refusal { IfOk result (λ tape. (answer : Answer) × Answers limits.now bytes.now answer
         × IsRefusalOf answer tape.refusal) }
-    // The events are those of the first heads of the datagram, in their order.
-    ensures events { IfOk result (λ tape. AreFirstEvents limits.now bytes.now tape.events.items) }
+    // The events are those of the heads up to the first fault, all of them and in their order.
+    ensures events { IfOk result (λ tape. AreEvents limits.now bytes.now tape.events.items) }
     // A fault is that of the head that breaks its rule.
     ensures head { IfOk result (λ tape. IsAboutItsHead limits.now bytes.now tape.refusal) }
 {
     // A head has four bytes and more, so there is room for all.
     let mut events = vec![in alloc; BLANK; bytes.len() / 4 + 1]?;
-    let taped = tape_datagram(bytes, limits, events.as_mut_slice());
-    let refusal = refusal(taped.into_result());
-    events.truncate(count_put(events.as_slice()));
+    let Counted { scan, count } = tape_datagram(bytes, limits, events.as_mut_slice());
+    let refusal = refusal(scan.into_result());
+    events.truncate(count);
     Ok(Tape { events, refusal })
 }
 
