@@ -79,12 +79,13 @@ same 'those who read regions look at none of their bytes' \
   "$(lines '\b(bytes|payload|rest|left|region)(\[|\.(iter|get|first|last|split|chunks|windows|copied|to_))' \
     "${stack[@]}" "$reading")" ''
 
-same 'lengths and types of attributes and next hops are read by the walkers alone, but for the length of the head at which a scan ends, and what is printed beside bytes' \
+same 'lengths and types of attributes and next hops are read by the walkers alone, but for the length of the head at which a scan ends, and what is printed beside bytes; a stream reads the flags of a message' \
   "$(counts 'read_u16\(')" \
   'crates/nl_attr/src/broken.rt 1
 crates/nl_attr/src/order.rt 3
 crates/nl_attr/src/views.rt 1
 crates/nl_attr/src/walk/mod.rt 2
+crates/nl_dump/src/sifting.rt 1
 crates/nl_frame/src/header.rt 2
 crates/nl_route/src/ifinfomsg.rt 1
 crates/nl_route/src/ndmsg.rt 1
@@ -112,7 +113,7 @@ crates/nl_frame/src/broken.rt 1
 crates/nl_frame/src/front.rt 3'
 
 same 'a message is taken from the front once by a reading, a scan and a cursor' \
-  "$(counts '\bfront\(')" \
+  "$(counts '\bfront\(' $(sources | grep '^crates/nl_frame/'))" \
   'crates/nl_frame/src/front.rt 2
 crates/nl_frame/src/reading.rt 1
 crates/nl_frame/src/taping.rt 1'
@@ -131,7 +132,8 @@ crates/nl_frame/src/taping.rt 1'
 
 same 'a datagram is scanned by the calls that are made for it, and in no reading' \
   "$(counts '\b(scan_datagram|tape_datagram|tape_(messages|ordered|big|frame|body|family))\(')" \
-  'crates/nl_frame/src/scanning.rt 4
+  'crates/nl_dump/src/straining.rt 1
+crates/nl_frame/src/scanning.rt 4
 crates/nl_frame/src/taping.rt 9
 crates/rtnl/src/tape.rt 1
 crates/rtnl_c/src/scan.rt 2'
@@ -143,8 +145,14 @@ visits += taped.visits;'
 same 'the item at a place is sought by those who ask for one, and in no walk' \
   "$(counts '\b(attr_at|hop_at|message_at)\(')" \
   'crates/nl_attr/src/walk/cursors.rt 2
+crates/nl_dump/src/sifting.rt 1
 crates/nl_frame/src/front.rt 1
 crates/rtnl_c/src/cursors.rt 3'
+
+same 'an attribute of a number is sought for C by one loop over what stands at a place' \
+  "$(counts '\brtnlc_attr_at\(')" \
+  'crates/rtnl_c/src/cursors.rt 1
+crates/rtnl_c/src/find.rt 2'
 
 same 'numbers are made of bytes by their order alone' \
   "$(lines 'from_(le|be|ne)_bytes|(Little|Big|Native)Endian' | grep -v '^crates/nl_attr/src/order\.rt:')" ''
@@ -154,9 +162,10 @@ same 'calls that answer a tally' "$(counts '-> Tally<')" \
 crates/nl_attr/src/reading.rt 2
 crates/nl_attr/src/scanning.rt 1
 crates/nl_dump/src/reading.rt 1
+crates/nl_dump/src/straining.rt 1
 crates/nl_frame/src/body.rt 3
 crates/nl_frame/src/reading.rt 3
-crates/nl_frame/src/scanning.rt 2
+crates/nl_frame/src/scanning.rt 1
 crates/nl_route/src/family.rt 2'
 
 same 'a tally is ended without its visits by those who answer none' "$(counts '\.into_result\(')" \
@@ -190,8 +199,17 @@ same 'a session adds the visits of each datagram that it takes, and nothing else
   'let Tally { result, visits } = take(
 self.visits += visits;'
 
-same 'the datagrams of a table are read by the session alone' "$(counts '\.feed\(')" \
+same 'a stream adds the visits of each datagram that it takes or refuses, and nothing else' \
+  "$(lines 'standing\.visits [-+*]?= |[^_a-z]strain\(' crates/nl_dump/src/stream.rt | sed 's/^[^:]*: *//')" \
+  'let Tally { result, visits } = strain(&self.standing.limits, &dump, bytes, out);
+self.standing.visits += visits;
+self.standing.visits += visits;'
+
+same 'the datagrams of a table are read by the session alone, and those of a dump for C by a session or a stream' \
+  "$(counts '\.feed\(')" \
   'crates/rtnl/src/table.rt 1
+crates/rtnl_c/src/session.rt 1
+crates/rtnl_c/src/stream.rt 1
 crates/rtnl_cli/src/explain.rt 1'
 
 exit "$found"

@@ -8,7 +8,7 @@ use nl_attr::{
     BrokenHead, FARTHEST_END, HeadKind, LONGEST_REGION, OpenRegions, Order, read_list_ordered,
     scan_list_ordered, tape_list,
 };
-use nl_frame::{ScanError, read_datagram, scan_datagram, tape_datagram};
+use nl_frame::{Counted, ScanError, read_datagram, scan_datagram, tape_datagram};
 use std::fmt;
 
 /// Makes the call of a row, if it is one of these. Whether it is.
@@ -77,7 +77,8 @@ fn look_into_datagram(rt: &HostRuntime, row: &mut Row<'_>) -> Result<(), Stop> {
     say_refusal(rt, "read", read.err())?;
     let scanned = scan_datagram(bytes, &limits).into_result().err();
     say_refusal(rt, "scan", scanned.as_ref().map(Shown))?;
-    let taped = tape_datagram(bytes, &limits, &mut []).into_result().err();
+    let Counted { scan, count: _ } = tape_datagram(bytes, &limits, &mut []);
+    let taped = scan.into_result().err();
     say_refusal(rt, "tape", taped.as_ref().map(Shown))
 }
 

@@ -1,4 +1,4 @@
-//! The laws of faults, tables and sessions.
+//! The laws of faults, tables, sessions and streams.
 
 use crate::rows::Row;
 use crate::said::say;
@@ -25,6 +25,8 @@ pub(crate) fn has_answered(rt: &HostRuntime, row: &mut Row<'_>) -> Result<bool, 
     nl_table::laws::keys_tell_apart();
     nl_dump::laws::calls_end_in_session();
     nl_dump::laws::headline_of_calls();
+    nl_dump::laws::stream_is_session();
+    nl_dump::laws::one_header_for_each_item();
     say(rt, "hold")?;
     Ok(true)
 }

@@ -31,6 +31,7 @@ mod scans;
 mod sessions;
 mod shown;
 mod stop;
+mod streams;
 mod tables;
 mod trees;
 mod uses;
@@ -59,6 +60,7 @@ fn has_answered(rt: &HostRuntime, row: &mut Row<'_>) -> Result<bool, Stop> {
             || numbers::has_answered(rt, row)?
             || readings::has_answered(rt, row)?
             || sessions::has_answered(rt, row)?
+            || streams::has_answered(rt, row)?
             || tables::has_answered(rt, row)?
             || faults::has_answered(rt, row)?
             || lines::has_answered(rt, row)?

@@ -6,7 +6,7 @@ use crate::shown::Shown;
 use crate::stop::Stop;
 use crate::walkers::{say_hop, say_part};
 use nl_attr::{Event, Order, Tally, attr_at, hop_at};
-use nl_frame::{message_at, read_datagram, scan_datagram, tape_datagram};
+use nl_frame::{Counted, message_at, read_datagram, scan_datagram, tape_datagram};
 
 /// Makes the call of a row, if it is one of these. Whether it is.
 pub(crate) fn has_answered(rt: &HostRuntime, row: &mut Row<'_>) -> Result<bool, Stop> {
@@ -21,8 +21,8 @@ pub(crate) fn has_answered(rt: &HostRuntime, row: &mut Row<'_>) -> Result<bool, 
     Ok(true)
 }
 
-/// `scan [LIMITS]`: what a scan, a tape without room and reading answer: the visits, and why they
-/// refuse, behind its number.
+/// `scan [LIMITS]`: what a scan, a tape without room and reading answer: the visits, how many heads
+/// the tape has counted, and why they refuse, behind its number.
 fn scan(rt: &HostRuntime, row: &mut Row<'_>) -> Result<(), Stop> {
     let limits = row.words.limits()?;
     let bytes = row.bytes(rt.alloc())?;
@@ -35,12 +35,16 @@ fn scan(rt: &HostRuntime, row: &mut Row<'_>) -> Result<(), Stop> {
             say(rt, format_args!("scan visits {visits}, {code} {error}"))?;
         }
     }
-    let Tally { result, visits } = tape_datagram(bytes, &limits, &mut []);
+    let Counted { scan, count } = tape_datagram(bytes, &limits, &mut []);
+    let Tally { result, visits } = scan;
     match result {
-        Ok(heads) => say(rt, format_args!("tape visits {visits} heads {heads}"))?,
+        Ok(()) => say(rt, format_args!("tape visits {visits} heads {count}"))?,
         Err(error) => {
             let code = error.code();
-            say(rt, format_args!("tape visits {visits}, {code} {error}"))?;
+            say(
+                rt,
+                format_args!("tape visits {visits} heads {count}, {code} {error}"),
+            )?;
         }
     }
     let Tally { result, visits } = read_datagram(rt.alloc(), bytes, &limits);
@@ -54,7 +58,7 @@ fn scan(rt: &HostRuntime, row: &mut Row<'_>) -> Result<(), Stop> {
 }
 
 /// No head has an event like this.
-const UNTOUCHED: Event = Event {
+pub(crate) const UNTOUCHED: Event = Event {
     place: 0xffff_ffff,
     len: 0xffff_ffff,
     number: 0xffff,
@@ -70,9 +74,10 @@ fn tape(rt: &HostRuntime, row: &mut Row<'_>) -> Result<(), Stop> {
     let limits = row.words.limits()?;
     let bytes = row.bytes(rt.alloc())?;
     let mut buffer = vec![in rt.alloc(); UNTOUCHED; room as usize]?;
-    match tape_datagram(bytes.as_slice(), &limits, buffer.as_mut_slice()).into_result() {
-        Ok(heads) => say(rt, format_args!("heads {heads}"))?,
-        Err(error) => say(rt, error)?,
+    let Counted { scan, count } = tape_datagram(bytes.as_slice(), &limits, buffer.as_mut_slice());
+    match scan.into_result() {
+        Ok(()) => say(rt, format_args!("heads {count}"))?,
+        Err(error) => say(rt, format_args!("heads {count}, {error}"))?,
     }
     for event in buffer.as_slice() {
         if *event == UNTOUCHED {

@@ -5,9 +5,10 @@ ghost use Rattle.std.specs.Prelude.{◌≤◌, length};
 use crate::rows::Row;
 use crate::runs::{Told, say_written};
 use crate::said::{Hex, Maybe, Outcome, say, yes_or_no};
+use crate::scans::UNTOUCHED;
 use crate::stop::{Stop, Wrong};
 use nl_attr::{Depth, LONGEST_REGION};
-use nl_dump::{Kind, Session};
+use nl_dump::{Dump, Kind, Session, Stream};
 use nl_frame::Limits;
 use nl_route::Link;
 use nl_table::{Put, Table};
@@ -17,6 +18,7 @@ use rtnl_uses::dumps::take_answer;
 use rtnl_uses::families::read_named;
 use rtnl_uses::links::links_of;
 use rtnl_uses::recordings::show_text;
+use rtnl_uses::streams::count_through;
 use rtnl_uses::tables::keep;
 use std::alloc::Global;
 
@@ -31,6 +33,7 @@ pub(crate) fn has_answered(rt: &HostRuntime, row: &mut Row<'_>) -> Result<bool, 
         "links_of" => tell_links(rt, row)?,
         "keep" => keep_links(rt, row)?,
         "take_answer" => answer_dump(rt, row)?,
+        "count_through" => count_routes(rt, row)?,
         _ => return Ok(false),
     }
     Ok(true)
@@ -155,4 +158,33 @@ fn answer_dump(rt: &HostRuntime, row: &mut Row<'_>) -> Result<(), Stop> {
         rt,
         Outcome(take_answer(&mut session, bytes.as_slice()).map(yes_or_no)),
     )
+}
+
+/// `count_through INTERFACE ROOM [LIMITS]`: how many routes of each line, a datagram, leave by the
+/// interface, in one dump of routes with the sequence number 1 and the port id 12345.
+fn count_routes(rt: &HostRuntime, row: &mut Row<'_>) -> Result<(), Stop> {
+    let interface: u32 = row.words.number()?;
+    let room: u8 = row.words.number()?;
+    let mut stream = Stream::new(row.words.limits()?);
+    let dump = Dump {
+        kind: Kind::Route,
+        family: 0,
+        seq: 1,
+        port: 12_345,
+    };
+    if stream.begin(dump).is_err() {
+        return Err(Stop::Wrong(Wrong::Refused));
+    }
+    let mut events = vec![in rt.alloc(); UNTOUCHED; room as usize]?;
+    for line in row.lines() {
+        let bytes = row.bytes_of(rt.alloc(), line)?;
+        let count = count_through(
+            &mut stream,
+            bytes.as_slice(),
+            interface,
+            events.as_mut_slice(),
+        );
+        say(rt, Outcome(count))?;
+    }
+    Ok(())
 }

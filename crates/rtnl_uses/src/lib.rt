@@ -7,4 +7,5 @@ pub mod dumps;
 pub mod families;
 pub mod links;
 pub mod recordings;
+pub mod streams;
 pub mod tables;

@@ -1,0 +1,261 @@
+-- One datagram of a stream, from what a scan finds of it to what the stream becomes.
+use Rattle.std.proofs.Common.{◌≡◌, ◌≢◌, ◌↔◌, ℕ, zero, suc, ◌+◌, ◌*◌, ◌-◌, ◌<◌, ◌≤◌, ◌||◌, Bool, true, false, cond, ℤ, pos, List, [], ◌∷◌, ◌++◌, length, take, drop, Option, Some, None, is_some, Result, Ok, Err, IfOk, IfErr, refl, sym, ap, ◌∙◌, subst, arith, length-append}
+use Rattle.std.specs.Ordering.{int_eq}
+use Rattle.std.proofs.Math.Seq.{take-append_seam}
+use native.Mathlib.Nat.{mul-add}
+use Rattle.nl_attr.specs.Numbers.{AreBytes}
+use Rattle.nl_attr.specs.declared.events.Event.{Event}
+use Rattle.nl_attr.specs.Shape.{Shape}
+use Rattle.nl_attr.specs.HeadOrder.{put_from}
+use Rattle.nl_frame.specs.declared.scanning.ScanError.{ScanError}
+use Rattle.nl_frame.specs.declared.scanning.ScanError.TheVariants as scan
+use Rattle.nl_frame.specs.Heads.{IsFirstFault, Visits, whole}
+use Rattle.nl_frame.specs.Layout.{Layout}
+use Rattle.nl_frame.specs.Limits.{Bounds, AreLimits}
+use Rattle.nl_frame.specs.Message.{BodyVal, noop, error, done, overrun, family, get, other, MessageVal}
+use Rattle.nl_frame.specs.Outcomes.{IfFault, VisitsUpTo}
+use Rattle.nl_frame.specs.Taped.{as_read}
+use Rattle.nl_frame.specs.HeadOrder.{events_of}
+use Rattle.nl_frame.proofs.OneList.{the_list}
+use Rattle.nl_dump.specs.declared.dump.Dump.{Dump}
+use Rattle.nl_dump.specs.declared.dump.End.{End}
+use Rattle.nl_dump.specs.declared.dump.End.TheVariants.{Error}
+use Rattle.nl_dump.specs.declared.dump.State.{State}
+use Rattle.nl_dump.specs.declared.dump.State.TheVariants.{Waiting}
+use Rattle.nl_dump.specs.declared.dump.Streamed.{Streamed}
+use Rattle.nl_dump.specs.declared.errors.StreamError.{StreamError}
+use Rattle.nl_dump.specs.declared.errors.StreamError.TheVariants.{NotWaiting, Total, TooLarge, Layout as Fault, Room}
+use Rattle.nl_dump.specs.declared.sifting.Sifted.{Sifted}
+use Rattle.nl_dump.specs.declared.standing.Standing.{Standing}
+use Rattle.nl_dump.specs.declared.straining.Strained.{Strained}
+use Rattle.nl_dump.specs.Answer.{belongs, body_end, end_in, end_of, or_later, state_by}
+use Rattle.nl_dump.specs.Handed.{item_events}
+use Rattle.nl_dump.specs.Sifting.{none_sifted, sifted, kept}
+use Rattle.nl_dump.specs.Standing.{IsRealEnd, IsReached, IsPossible}
+use Rattle.nl_dump.specs.Steps.{IsWaiting}
+use Rattle.nl_dump.specs.Strained.{all_events, Strains, scan_refusal, strained_of, is_room}
+use Rattle.nl_dump.specs.Streams.{CanLook, StreamFed, StaysAnswer, IsStreamAnswered, EveryStreamed}
+use Rattle.nl_dump.proofs.Sieve.{sifted-events}
+use Rattle.nl_dump.proofs.Walked.{Sieved, look, sieved}
+
+-- each message has a byte or more
+pub messages_few : (S : Shape) (ms : List MessageVal) (d : List ℕ) → Layout S ms d → length ms ≤ length d
+messages_few S [] d f = omega arith
+messages_few S (m ∷ ms) d f = omega (arith, messages_few S ms f.2 f.6, f.3.least, ap (length {A = ℕ}) f.3.parts, length-append f.0 (f.1 ++ f.2), length-append f.1 f.2)
+
+-- what isn't refused for its size is within the limit
+within_limit : {X : Type 0} (r : Result X ScanError) (n m : ℕ) → (r ≡ Err scan.TooLarge) ↔ (n < m) → r ≢ Err scan.TooLarge → m ≤ n
+within_limit r n m large more = let f : n < m → ⊥ = λ h. more (large.1 h) in omega (arith, f)
+
+take_all : (n : ℕ) (es : List Event) → length es ≤ n → take n es ≡ es
+take_all zero [] h = refl
+take_all (suc n) [] h = refl
+take_all zero (e ∷ es) h = absurd (omega arith)
+take_all (suc n) (e ∷ es) h = ap (λ l. e ∷ l) (take_all n es (omega arith))
+
+-- what was put into a buffer that is long enough stands there
+taken_back : (es old : List Event) → length es ≤ length old → take (length es) (put_from 0 es old) ≡ es
+taken_back es old h =
+    ap (λ n. take (length es) (take n es ++ drop (0 + length es) old)) (less (length old))
+    ∙ ap (λ l. take (length es) (l ++ drop (0 + length es) old)) (take_all (length old) es h)
+    ∙ take-append_seam es (drop (0 + length es) old)
+  where
+    less : (n : ℕ) → n - 0 ≡ n
+    less n = omega arith
+
+-- ---- what is left in the buffer
+
+module _ (b : Bounds) (d : Dump) (bytes : List ℕ) (old : List Event) where
+  -- what a scan found, and what was sifted of it
+  pub record IsSifted (s : Sifted) (visits : ℕ) (new : List Event) : Type 0 where
+    pub within : length bytes ≤ b.datagram
+    pub messages : List MessageVal
+    pub layout : Layout b.shape messages bytes
+    pub visited : Visits b.shape (whole bytes) (length bytes) visits
+    pub sieved : Sieved d messages s
+    pub room : length (all_events b d bytes old) ≤ length old
+    pub events : new ≡ put_from 0 (item_events b.shape d messages bytes) (put_from 0 (all_events b d bytes old) old)
+    pub count : s.events ≡ length (item_events b.shape d messages bytes)
+
+  pub is_sifted : (r : Result (Unit {0}) ScanError) (n visits : ℕ) (s : Sifted) (mid new : List Event) → r ≡ Ok tt → (r ≡ Err scan.TooLarge) ↔ (b.datagram < length bytes)
+      → IfOk r (λ _. (ms : List MessageVal) × Layout b.shape ms bytes) → VisitsUpTo b.shape bytes (as_read r) visits → (length bytes ≤ b.datagram → n ≡ length (events_of b.shape (whole bytes)))
+      → (length bytes ≤ b.datagram → mid ≡ put_from 0 (events_of b.shape (whole bytes)) old) → length mid ≡ length old → n ≤ length mid
+      → s ≡ sifted (look b.shape d bytes) none_sifted (take n mid) → new ≡ put_from 0 (kept (look b.shape d bytes) none_sifted (take n mid)) mid → IsSifted s visits new
+  is_sifted r n visits s mid new is large fits visited counts put len room found events =
+      let fit = subst (λ r. IfOk r (λ _. (ms : List MessageVal) × Layout b.shape ms bytes)) is fits in
+      let es = events_of b.shape (whole bytes) in
+      let low : length bytes ≤ b.datagram = within_limit r b.datagram (length bytes) large (λ e. let k = is in cc) in
+      let many : n ≡ length es = counts low in
+      let enough : length es ≤ length old = omega (arith, many, len, room) in
+      let all : take n mid ≡ es = ap (λ k. take k mid) many ∙ ap (take (length es)) (put low) ∙ taken_back es old enough in
+      let so = sieved b.shape d bytes fit.0 fit.1 in
+      let here : s ≡ sifted (look b.shape d bytes) none_sifted es = found ∙ ap (sifted (look b.shape d bytes) none_sifted) all in
+      record {
+        within = low;
+        messages = fit.0;
+        layout = fit.1;
+        visited = subst (λ r. VisitsUpTo b.shape bytes (as_read r) visits) is visited;
+        sieved = subst (Sieved d fit.0) (sym here) so.0;
+        room = enough;
+        events = events ∙ ap (λ l. put_from 0 (kept (look b.shape d bytes) none_sifted l) mid) all ∙ ap (λ l. put_from 0 l mid) so.1 ∙ ap (put_from 0 (item_events b.shape d fit.0 bytes)) (put low);
+        count = ap (λ (x : Sifted). x.events) here ∙ sifted-events (look b.shape d bytes) none_sifted es ∙ omega (arith, ap (length {A = Event}) so.1);
+      }
+
+  module _ (s : Sifted) (visits : ℕ) (new : List Event) (is : IsSifted s visits new) where
+    -- no more items or others than bytes
+    pub few_items : s.items ≤ length bytes
+    few_items = omega (arith, is.sieved.items, is.sieved.ignored_is, messages_few b.shape is.messages bytes is.layout)
+
+    pub few_ignored : s.ignored ≤ length bytes
+    few_ignored = omega (arith, is.sieved.ignored_is, messages_few b.shape is.messages bytes is.layout)
+
+    pub strains_ok : Strains b d bytes old (Ok (strained_of s)) visits new
+    strains_ok = (
+      is.within,
+      (
+        is.messages,
+        is.layout,
+        is.visited,
+        (is.sieved.items, omega (arith, is.sieved.ignored_is), ap is_some is.sieved.end_is),
+        is.sieved.interrupted_is,
+        is.sieved.end_is,
+        is.room,
+        is.events,
+        is.count,
+      ),
+    )
+
+  pub strains_err : (r : Result (Unit {0}) ScanError) (e : ScanError) (visits : ℕ) (new : List Event) → r ≡ Err e → (r ≡ Err scan.TooLarge) ↔ (b.datagram < length bytes)
+      → IfErr (as_read r) (λ e. IfFault e (λ f. IsFirstFault b.shape (whole bytes) f.place f.reason)) → VisitsUpTo b.shape bytes (as_read r) visits
+      → (b.datagram < length bytes → new ≡ old) → (length bytes ≤ b.datagram → new ≡ put_from 0 (events_of b.shape (whole bytes)) old) → Strains b d bytes old (Err (scan_refusal e)) visits new
+  strains_err r scan.TooLarge visits new is large first visited untouched put =
+      let low = large.0 is in
+      (low, subst (λ r. VisitsUpTo b.shape bytes (as_read r) visits) is visited, untouched low)
+  strains_err r (scan.Layout f) visits new is large first visited untouched put =
+      let low : length bytes ≤ b.datagram = within_limit r b.datagram (length bytes) large (λ e. let k = is in cc) in (
+        low,
+        subst (λ r. IfErr (as_read r) (λ e. IfFault e (λ f. IsFirstFault b.shape (whole bytes) f.place f.reason))) is first,
+        subst (λ r. VisitsUpTo b.shape bytes (as_read r) visits) is visited,
+        put low,
+      )
+
+-- ---- what the stream becomes
+
+waits : (s : State) (d : Dump) → s ≡ Waiting d → IsWaiting s
+waits s d e = subst IsWaiting (sym e) tt
+
+-- the end of messages is a real one
+abbrev pub IsReal : Option End → Type 0
+IsReal None = Unit {0}
+IsReal (Some e) = IsRealEnd e
+
+error_real : (z : ℤ) → IsReal (cond (int_eq z (pos 0)) None (Some (Error z)))
+error_real z = by (int_eq z (pos 0)) refl
+  where
+    by : (b : Bool) → int_eq z (pos 0) ≡ b → IsReal (cond b None (Some (Error z)))
+    by true e = tt
+    by false e = λ h. let x : true ≡ false = sym (ap (λ y. int_eq y (pos 0)) h) ∙ e in cc
+
+body_real : (c : BodyVal) → IsReal (body_end c)
+body_real (noop bs) = tt
+body_real (error code h tail) = error_real code
+body_real (done None tail) = tt
+body_real (done (Some z) tail) = tt
+body_real (overrun bs) = tt
+body_real (family h is) = tt
+body_real (get n tail) = tt
+body_real (other bs) = tt
+
+end_real : (d : Dump) (ms : List MessageVal) → IsReal (end_of d ms)
+end_real d [] = tt
+end_real d (m ∷ ms) = later (end_in d m) (one (belongs d m)) (end_real d ms)
+  where
+    one : (b : Bool) → IsReal (cond b (body_end m.body) None)
+    one true = body_real m.body
+    one false = tt
+
+    later : (x : Option End) → IsReal x → IsReal (end_of d ms) → IsReal (or_later x (end_of d ms))
+    later (Some e) h k = h
+    later None h k = k
+
+reached_by : (d : Dump) (e : Option End) (s : Standing) → IsReal e → IsReached (state_by d e) s
+reached_by d None s h = tt
+reached_by d (Some e) s h = h
+
+module _ (s : Standing) (bytes : List ℕ) (old : List Event) (d : Dump) (state : s.state ≡ Waiting d) (total : s.received + length bytes ≤ s.limits.total) where
+  can : length bytes ≤ s.limits.datagram → CanLook s bytes
+  can h = record { waiting = waits s.state d state; total = total; datagram = h }
+
+  pub fed_ok : (t : Strained) (n : ℕ) (new : List Event) → Strains s.limits d bytes old (Ok t) n new
+      → StreamFed s bytes old (Ok t.streamed) (record s { state = state_by d t.end; ignored = s.ignored + t.streamed.progress.ignored; visits = s.visits + n; received = s.received + length bytes; interrupted = s.interrupted || t.interrupted }) new
+  fed_ok t n new h =
+      let g = h.1 in (
+        can h.0,
+        (
+          d,
+          g.0,
+          n,
+          record {
+            waiting = state;
+            layout = g.1;
+            visited = g.2;
+            rest = λ i. record s { state = state_by d (g.5 i); ignored = s.ignored + g.3.1 i; visits = s.visits + n; received = s.received + length bytes; interrupted = s.interrupted || g.4 i };
+          },
+          g.3,
+          record { room = g.6; events = g.7; count = g.8 },
+        ),
+      )
+
+  pub fed_err : (e : StreamError) (n : ℕ) (new : List Event) → is_room e ≡ false → Strains s.limits d bytes old (Err e) n new
+      → StreamFed s bytes old (Err e) (record s { visits = s.visits + n; received = s.received + length bytes; damaged = true }) new
+  fed_err NotWaiting n new r h = absurd h
+  fed_err Total n new r h = absurd h
+  fed_err TooLarge n new r h = (waits s.state d state, total, h.0, λ i. record s { visits = s.visits + h.1 i; received = s.received + length bytes; damaged = true }, h.2)
+  fed_err (Fault f) n new r h = (can h.0, h.1, (n, h.2, refl), h.3)
+  fed_err (Room m) n new r h = cc
+
+  pub fed_room : (e : StreamError) (n : ℕ) (new : List Event) → is_room e ≡ true → Strains s.limits d bytes old (Err e) n new → StreamFed s bytes old (Err e) s new
+  fed_room NotWaiting n new r h = absurd h
+  fed_room Total n new r h = absurd h
+  fed_room TooLarge n new r h = cc
+  fed_room (Fault f) n new r h = cc
+  fed_room (Room m) n new r h = (can h.0, h.1, h.2, h.3, refl, h.4)
+
+  module _ (p : IsPossible s) (n : ℕ) (few : n ≤ (s.limits.shape.depth + 1) * length bytes) where
+    pub possible_ok : (t : Strained) (m : ℕ) (new : List Event) (b : Bool) → m ≡ t.streamed.progress.ignored → m ≤ length bytes → Strains s.limits d bytes old (Ok t) n new
+        → IsPossible (record s { state = state_by d t.end; ignored = s.ignored + m; visits = s.visits + n; received = s.received + length bytes; interrupted = b })
+    possible_ok t m new b is low h =
+        record {
+          limits = p.limits;
+          visits = omega (arith, mul-add (s.limits.shape.depth + 1) s.received (length bytes), p.visits, few);
+          received = total;
+          ignored = omega (arith, p.ignored, low);
+          reached = reached_by d t.end _ (subst IsReal (sym h.1.5) (end_real d h.1.0));
+        }
+
+    pub possible_err : IsPossible (record s { visits = s.visits + n; received = s.received + length bytes; damaged = true })
+    possible_err =
+        let same : IsReached (Waiting d) s = tt in
+        record {
+          limits = p.limits;
+          visits = omega (arith, mul-add (s.limits.shape.depth + 1) s.received (length bytes), p.visits, few);
+          received = total;
+          ignored = omega (arith, p.ignored);
+          reached = subst (λ x. IsReached x (record s { visits = s.visits + n; received = s.received + length bytes; damaged = true })) (sym state) tt;
+        }
+
+-- ---- every datagram
+
+stays : (s t u : Standing) (bytes : List ℕ) (old : List Event) → t ≡ u → StaysAnswer s bytes old u → StaysAnswer s bytes old t
+stays s t u bytes old e h = subst (StaysAnswer s bytes old) (sym e) h
+
+answered : (r : Result Streamed StreamError) (s t : Standing) (bytes : List ℕ) (old new : List Event) → AreLimits s.limits → AreBytes bytes → StreamFed s bytes old r t new → IsStreamAnswered s bytes old r t
+answered (Ok x) s t bytes old new limits fit h = (h.1.1, the_list s.limits bytes h.1.1 limits fit h.0.datagram h.1.3.layout)
+answered (Err NotWaiting) s t bytes old new limits fit h = h.1
+answered (Err Total) s t bytes old new limits fit h = stays s t _ bytes old h.2 (record { state = refl; ignored = refl; interrupted = refl })
+answered (Err TooLarge) s t bytes old new limits fit h = stays s t _ bytes old h.3 (record { state = refl; ignored = refl; interrupted = refl })
+answered (Err (Fault f)) s t bytes old new limits fit h = (h.1, stays s t _ bytes old h.2.2 (record { state = refl; ignored = refl; interrupted = refl }))
+answered (Err (Room n)) s t bytes old new limits fit h = h.4
+
+pub every : (r : Result Streamed StreamError) (s t : Standing) (bytes : List ℕ) (old new : List Event) → t.limits ≡ s.limits → AreBytes bytes → IsPossible t → StreamFed s bytes old r t new → EveryStreamed s bytes old r t
+every r s t bytes old new same fit p h = record { visits = p.visits; answer = answered r s t bytes old new (subst AreLimits same p.limits) fit h }

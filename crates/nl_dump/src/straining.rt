@@ -1,0 +1,101 @@
+//! A datagram, gone over into the buffer of a stream.
+
+ghost use Rattle.std.specs.Prelude.{◌≡◌, ◌≤◌, ◌+◌, ◌*◌, length, IfOk};
+ghost use Rattle.nl_dump.specs.Strained.{Strains, is_room, scan_refusal, strained_of};
+
+use crate::dump::{Dump, End, Progress, Streamed};
+use crate::errors::StreamError;
+use crate::sifting::{Sifted, sift};
+use nl_attr::{Event, LONGEST_REGION, Tally};
+use nl_frame::{Counted, Limits, ScanError, tape_datagram};
+
+/// What became of the messages of a datagram.
+#[derive(Clone, Copy)]
+pub(crate) struct Strained {
+    pub(crate) streamed: Streamed,
+    pub(crate) interrupted: bool,
+    pub(crate) end: Option<End>,
+}
+
+/// A refusal, as that of a scan.
+fn refusal(error: ScanError) -> StreamError
+    ensures { result ≡ scan_refusal error }
+{
+    match error {
+        ScanError::TooLarge => StreamError::TooLarge,
+        ScanError::Layout(broken) => StreamError::Layout(broken.fault),
+    }
+}
+
+/// Whether a refusal leaves the stream as it was, since the buffer is too short.
+pub(crate) fn lacks_room(error: &StreamError) -> bool
+    ensures { result ≡ is_room error.now }
+{
+    matches!(error, StreamError::Room(_))
+}
+
+/// What was sifted, as it is answered.
+fn answer(sifted: Sifted) -> Strained
+    requires items { sifted.items ≤ LONGEST_REGION }
+    requires ignored { sifted.ignored ≤ LONGEST_REGION }
+    ensures { result ≡ strained_of sifted }
+{
+    let Sifted {
+        events,
+        items,
+        ignored,
+        interrupted,
+        end,
+        ..
+    } = sifted;
+    Strained {
+        streamed: Streamed {
+            progress: Progress {
+                items: items as u32,
+                ignored: ignored as u32,
+                ended: end.is_some(),
+            },
+            events,
+        },
+        interrupted,
+        end,
+    }
+}
+
+/// Goes over a datagram once, and leaves the events of the dump's items in the buffer.
+pub(crate) fn strain(
+    limits: &Limits,
+    dump: &Dump,
+    bytes: &[u8],
+    out: &mut [Event],
+) -> Tally<Strained, StreamError>
+    ensures strains { Strains limits.now dump.now bytes.now out.old
+        result.result result.visits out.new }
+    ensures bound { result.visits ≤ (limits.now.shape.depth + 1) * length bytes.now }
+    ensures ignored { IfOk result.result (λ s. s.streamed.progress.ignored ≤ length bytes.now) }
+{
+    let _limit = limits.datagram();
+    let Counted {
+        scan: Tally { result, visits },
+        count,
+    } = tape_datagram(bytes, limits, out);
+    match result {
+        Ok(()) => {
+            if out.len() < count {
+                return Tally {
+                    result: Err(StreamError::Room(count)),
+                    visits,
+                };
+            }
+            let sifted = sift(bytes, limits.order(), dump, out, count);
+            Tally {
+                result: Ok(answer(sifted)),
+                visits,
+            }
+        }
+        Err(error) => Tally {
+            result: Err(refusal(error)),
+            visits,
+        },
+    }
+}
