@@ -1,2 +1,7 @@
 mod Checks
 mod Scans
+mod Pointers
+mod Handles
+mod Seen
+mod Streams
+mod Finding

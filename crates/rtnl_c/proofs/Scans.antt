@@ -37,18 +37,18 @@ module _ (b : Bounds) (d : List ℕ) where
     by TooLarge s = subst (λ n. Scans b d (refused n 0 6)) (sym s.3) (found.too_large (s.0.0 refl))
     by (Fails h) s = found.faulty (within {X = X} (Err (Fails h)) b.datagram (length d) s.0 (λ e. cc)) h.fault.place h.fault.reason s.2 v s.3
 
-  module _ (old new : List Event) (untouched : b.datagram < length d → new ≡ old) (events : length d ≤ b.datagram → new ≡ put_from 0 (events_of b.shape (whole d)) old) where
-    pub tapes_ok : (r : Result ℕ ScanError) (n v : ℕ) → r ≡ Ok n → IsScan r v → IfOk r (λ n. n ≡ length (events_of b.shape (whole d))) → Tapes b d old new (record { count = n; visits = v; place = 0; code = 0 })
-    tapes_ok r n v is scan count =
+  module _ (old new : List Event) (n : ℕ) (untouched : b.datagram < length d → (n ≡ 0) × (new ≡ old))
+      (events : length d ≤ b.datagram → new ≡ put_from 0 (events_of b.shape (whole d)) old) (count : length d ≤ b.datagram → n ≡ length (events_of b.shape (whole d))) where
+    pub tapes_ok : (r : Result (Unit {0}) ScanError) (v : ℕ) → r ≡ Ok tt → IsScan r v → Tapes b d old new (record { count = n; visits = v; place = 0; code = 0 })
+    tapes_ok r v is scan =
         let s = subst (λ r. IsScan r v) is scan in
-        let c : n ≡ length (events_of b.shape (whole d)) = subst (λ r. IfOk r (λ n. n ≡ length (events_of b.shape (whole d)))) is count in
-        let small = within (Ok n) b.datagram (length d) s.0 (λ e. cc) in
-        rw (events small, c) (found.accepted small s.1.0 s.1.1 v s.3)
+        let small = within {X = Unit {0}} (Ok tt) b.datagram (length d) s.0 (λ e. cc) in
+        rw (events small, count small) (found.accepted small s.1.0 s.1.1 v s.3)
 
-    pub tapes_err : (r : Result ℕ ScanError) (e : ScanError) (v : ℕ) → r ≡ Err e → IsScan r v → Tapes b d old new (untaped v (place_of e) (read_code (read_refusal e)))
+    pub tapes_err : (r : Result (Unit {0}) ScanError) (e : ScanError) (v : ℕ) → r ≡ Err e → IsScan r v → Tapes b d old new (untaped n v (place_of e) (read_code (read_refusal e)))
     tapes_err r e v is scan = by e (subst (λ r. IsScan r v) is scan) where
-      by : (e : ScanError) → IsScan {X = ℕ} (Err e) v → Tapes b d old new (untaped v (place_of e) (read_code (read_refusal e)))
-      by TooLarge s = let large = s.0.0 refl in rw (untouched large, s.3) (found.too_large large)
+      by : (e : ScanError) → IsScan {X = Unit {0}} (Err e) v → Tapes b d old new (untaped n v (place_of e) (read_code (read_refusal e)))
+      by TooLarge s = let large = untouched (s.0.0 refl) in rw (large.0, large.1, s.3) (found.too_large (s.0.0 refl))
       by (Fails h) s =
-          let small = within {X = ℕ} (Err (Fails h)) b.datagram (length d) s.0 (λ e. cc) in
-          rw (events small) (found.faulty small h.fault.place h.fault.reason s.2 v s.3)
+          let small = within {X = Unit {0}} (Err (Fails h)) b.datagram (length d) s.0 (λ e. cc) in
+          rw (events small, count small) (found.faulty small h.fault.place h.fault.reason s.2 v s.3)

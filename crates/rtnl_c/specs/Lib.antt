@@ -1,6 +1,17 @@
 pub mod Options
+pub mod Codes
 pub mod Scanned
 pub mod Checked
 pub mod Shown
 pub mod Cursors
+pub mod Find
 pub mod Numbers
+pub mod Kinds
+pub mod Put
+pub mod Requests
+pub mod Fed
+pub mod Status
+pub mod Held
+pub mod Sessions
+pub mod Entries
+pub mod Streams

@@ -9,6 +9,6 @@ use Rattle.rtnl_c.specs.declared.options.Options.{Options}
 abbrev pub order_in : Bool → Order
 order_in big = if big then Big else Little
 
--- no dump is read, so its total and its entries are none
+-- the limits of any call, whether it looks at each or not
 abbrev pub bounds_in : Options → Bounds
-bounds_in o = bounds_of (order_in o.big) o.depth o.datagram 0 0
+bounds_in o = bounds_of (order_in o.big) o.depth o.datagram o.total o.entries

@@ -53,7 +53,7 @@ fn check(alloc: Global, bytes: &[u8], limits: &Limits) -> Checked
 /// Whether a datagram is canonical, accepted or refused within these limits; 12 where one of the
 /// limits is out of its range, 13 where memory ran out.
 #[unsafe(no_mangle)]
-pub extern "C" fn rtnl_check(alloc: Global, bytes: &[u8], options: &Options) -> Checked
+pub extern "C" fn rtnlc_check(alloc: Global, bytes: &[u8], options: &Options) -> Checked
     ensures checked { AreLimits (bounds_in options.now)
         → Checks (bounds_in options.now) bytes.now result }
     ensures limits { (AreLimits (bounds_in options.now) → ⊥) → result ≡ unchecked 12 }

@@ -6,15 +6,10 @@ ghost use Rattle.rtnl_c.specs.Cursors.{AttrStands, HopStands, MessageStands};
 ghost use Rattle.rtnl_c.specs.Cursors.{no_attr, no_hop, no_message};
 ghost use Rattle.rtnl_c.specs.Options.{order_in};
 
+use crate::codes::{END, TOO_LARGE};
 use crate::options::order;
 use nl_attr::{LONGEST_REGION, attr_at, hop_at};
 use nl_frame::message_at;
-
-/// The code where the bytes are above `LONGEST_REGION`.
-const TOO_LARGE: u8 = 6;
-
-/// The code at the end of the bytes, and behind it.
-const END: u8 = 255;
 
 /// The message at a place of a datagram.
 #[repr(C)]
@@ -118,7 +113,7 @@ fn hop_none(place: u32, code: u8) -> HopAt
 /// The message whose header stands at a place of a datagram; 255 at the end and behind it, 6 where
 /// the datagram is above 1,048,576 bytes.
 #[unsafe(no_mangle)]
-pub extern "C" fn rtnl_message_at(bytes: &[u8], place: u32, big: bool) -> MessageAt
+pub extern "C" fn rtnlc_message_at(bytes: &[u8], place: u32, big: bool) -> MessageAt
     ensures stands { length bytes.now ≤ LONGEST_REGION
         → MessageStands (order_in big) bytes.now place result }
     ensures large { LONGEST_REGION < length bytes.now → result ≡ no_message place 6 }
@@ -145,7 +140,7 @@ pub extern "C" fn rtnl_message_at(bytes: &[u8], place: u32, big: bool) -> Messag
 /// The attribute whose head stands at a place of a region; 255 at the end and behind it, 6 where
 /// the region is above 1,048,576 bytes.
 #[unsafe(no_mangle)]
-pub extern "C" fn rtnl_attr_at(bytes: &[u8], place: u32, big: bool) -> AttrAt
+pub extern "C" fn rtnlc_attr_at(bytes: &[u8], place: u32, big: bool) -> AttrAt
     ensures stands { length bytes.now ≤ LONGEST_REGION
         → AttrStands (order_in big) bytes.now place result }
     ensures large { LONGEST_REGION < length bytes.now → result ≡ no_attr place 6 }
@@ -171,7 +166,7 @@ pub extern "C" fn rtnl_attr_at(bytes: &[u8], place: u32, big: bool) -> AttrAt
 /// The next hop whose head stands at a place of a region; 255 at the end and behind it, 6 where the
 /// region is above 1,048,576 bytes.
 #[unsafe(no_mangle)]
-pub extern "C" fn rtnl_hop_at(bytes: &[u8], place: u32, big: bool) -> HopAt
+pub extern "C" fn rtnlc_hop_at(bytes: &[u8], place: u32, big: bool) -> HopAt
     ensures stands { length bytes.now ≤ LONGEST_REGION
         → HopStands (order_in big) bytes.now place result }
     ensures large { LONGEST_REGION < length bytes.now → result ≡ no_hop place 6 }

@@ -1,10 +1,22 @@
-//! The codec for C and whatever calls C: a static library without state. What C owes stands in
-//! include/rtnl.h.
+//! The codec for C and whatever calls C: a static library. What C owes stands in include/rtnlc.h.
 #![tactic(auto)]
 
 mod check;
+mod codes;
 mod cursors;
+mod entry;
+mod fed;
+mod find;
+mod handle;
+mod kinds;
+mod loose;
 mod numbers;
 mod options;
+mod put;
+mod request;
 mod scan;
+mod session;
 mod show;
+mod status;
+mod stream;
+mod tables;

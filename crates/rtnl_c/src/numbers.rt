@@ -84,7 +84,7 @@ fn answer(content: Content) -> Holds
 
 /// What the body of a message of this type begins with.
 #[unsafe(no_mangle)]
-pub extern "C" fn rtnl_family_of(kind: u16) -> Family
+pub extern "C" fn rtnlc_family_of(kind: u16) -> Family
     ensures { result ≡ family_answer (form_of kind) }
 {
     match Form::of(kind) {
@@ -105,7 +105,7 @@ pub extern "C" fn rtnl_family_of(kind: u16) -> Family
 /// What an attribute holds in the context of this number, by its own number and its flag
 /// `NLA_F_NESTED`.
 #[unsafe(no_mangle)]
-pub extern "C" fn rtnl_holds(context_number: u8, number: u16, nested: bool) -> Holds
+pub extern "C" fn rtnlc_holds(context_number: u8, number: u16, nested: bool) -> Holds
     ensures { result ≡ holds_answer (context_in context_number) number nested }
 {
     match context(context_number) {

@@ -7,12 +7,16 @@ ghost use Rattle.rtnl_c.specs.Options.{bounds_in, order_in};
 
 use nl_frame::{LimitFault, Limits, Order};
 
-/// The limits of one call.
+/// The limits of a call, of a session or of a stream.
 #[repr(C)]
 #[derive(Clone, Copy)]
 pub struct Options {
+    /// How many bytes all datagrams of a session or a stream may have: 0 to 2^40.
+    pub total: u64,
     /// How many bytes a datagram may have: a multiple of 4 from 16 to 1,048,576.
     pub datagram: u32,
+    /// How many entries each table of a session may have: 0 to 65,536.
+    pub entries: u32,
     /// How many levels containers may open: 0 to 32.
     pub depth: u8,
     /// Whether numbers have their highest byte first.
@@ -30,6 +34,11 @@ pub(crate) fn order(big: bool) -> Order
 pub(crate) fn limits(options: &Options) -> Result<Limits, LimitFault>
     ensures { OkIff result (AreLimits (bounds_in options.now)) (bounds_in options.now) }
 {
-    let limits = Limits::new(options.depth, options.datagram, 0, 0)?;
+    let limits = Limits::new(
+        options.depth,
+        options.datagram,
+        options.total,
+        options.entries,
+    )?;
     Ok(limits.with_order(order(options.big)))
 }

@@ -1,13 +1,13 @@
 //! Scanning a datagram, which takes no memory.
 
-ghost use Rattle.std.specs.Prelude.{◌≡◌};
+ghost use Rattle.std.specs.Prelude.{◌≡◌, ◌≤◌, ◌*◌, length};
 ghost use Rattle.nl_frame.specs.Limits.{AreLimits};
 ghost use Rattle.rtnl_c.specs.Options.{bounds_in};
 ghost use Rattle.rtnl_c.specs.Scanned.{Scans, Tapes, place_of, refused, untaped};
 
 use crate::options::{Options, limits};
 use nl_attr::Tally;
-use nl_frame::{Event, Limits, ScanError, scan_datagram, tape_datagram};
+use nl_frame::{Counted, Event, Limits, ScanError, scan_datagram, tape_datagram};
 
 /// What a scan finds.
 #[repr(C)]
@@ -25,7 +25,8 @@ pub struct Scanned {
 #[repr(C)]
 #[derive(Clone, Copy)]
 pub struct Taped {
-    /// How many heads the datagram has, also where the buffer has less room; 0 on a refusal.
+    /// How many heads the datagram has, or up to its first fault; also where the buffer has less
+    /// room.
     pub count: usize,
     /// How many attribute bytes were visited.
     pub visits: u64,
@@ -66,18 +67,22 @@ fn scan(bytes: &[u8], limits: &Limits) -> Scanned
 
 /// What a scan within limits finds that puts an event of each head into a buffer.
 fn tape(bytes: &[u8], limits: &Limits, out: &mut [Event]) -> Taped
-    ensures { Tapes limits.now bytes.now out.old out.new result }
+    ensures tapes { Tapes limits.now bytes.now out.old out.new result }
+    ensures quarter { 4 * result.count ≤ length bytes.now }
 {
-    let Tally { result, visits } = tape_datagram(bytes, limits, out);
+    let Counted {
+        scan: Tally { result, visits },
+        count,
+    } = tape_datagram(bytes, limits, out);
     match result {
-        Ok(count) => Taped {
+        Ok(()) => Taped {
             count,
             visits,
             place: 0,
             code: 0,
         },
         Err(error) => Taped {
-            count: 0,
+            count,
             visits,
             place: place(error),
             code: error.code(),
@@ -88,7 +93,7 @@ fn tape(bytes: &[u8], limits: &Limits, out: &mut [Event]) -> Taped
 /// Whether a datagram is accepted within these limits, or why it is refused; 12 where one of the
 /// limits is out of its range.
 #[unsafe(no_mangle)]
-pub extern "C" fn rtnl_scan(bytes: &[u8], options: &Options) -> Scanned
+pub extern "C" fn rtnlc_scan(bytes: &[u8], options: &Options) -> Scanned
     ensures scanned { AreLimits (bounds_in options.now)
         → Scans (bounds_in options.now) bytes.now result }
     ensures limits { (AreLimits (bounds_in options.now) → ⊥) → result ≡ refused 0 0 12 }
@@ -103,14 +108,15 @@ pub extern "C" fn rtnl_scan(bytes: &[u8], options: &Options) -> Scanned
     }
 }
 
-/// Scans a datagram as `rtnl_scan` does, and puts the event of each head into `out`, in the
+/// Scans a datagram as `rtnlc_scan` does, and puts the event of each head into `out`, in the
 /// order of their places and as far as `out` goes.
 #[unsafe(no_mangle)]
-pub extern "C" fn rtnl_tape(bytes: &[u8], options: &Options, out: &mut [Event]) -> Taped
+pub extern "C" fn rtnlc_tape(bytes: &[u8], options: &Options, out: &mut [Event]) -> Taped
     ensures taped { AreLimits (bounds_in options.now)
         → Tapes (bounds_in options.now) bytes.now out.old out.new result }
     ensures limits { (AreLimits (bounds_in options.now) → ⊥)
-        → (result ≡ untaped 0 0 12) × (out.new ≡ out.old) }
+        → (result ≡ untaped 0 0 0 12) × (out.new ≡ out.old) }
+    ensures quarter { 4 * result.count ≤ length bytes.now }
 {
     match limits(options) {
         Ok(limits) => tape(bytes, &limits, out),

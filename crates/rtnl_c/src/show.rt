@@ -37,7 +37,7 @@ fn text_of(
 }
 
 /// Puts a text into a buffer, as far as it goes.
-fn lay(text: &[u8], out: &mut [u8])
+pub(crate) fn lay(text: &[u8], out: &mut [u8])
     ensures { out.new ≡ laid text.now out.old }
 {
     let count = text.len().min(out.len());
@@ -65,7 +65,7 @@ fn show(alloc: Global, number: usize, bytes: &[u8], limits: &Limits, out: &mut [
 /// `out`, as far as `out` goes; 12 where one of the limits is out of its range, 13 where memory ran
 /// out: then nothing is put there.
 #[unsafe(no_mangle)]
-pub extern "C" fn rtnl_show(
+pub extern "C" fn rtnlc_show(
     alloc: Global,
     number: usize,
     bytes: &[u8],

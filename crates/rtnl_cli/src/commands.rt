@@ -6,7 +6,7 @@ use nl_attr::Order;
 use std::alloc::{AllocError, Global};
 
 /// The version of the program and its libraries.
-const VERSION: &str = "0.1.0";
+const VERSION: &str = "0.3.0";
 
 /// The byte orders by their names.
 pub(crate) const ORDERS: [(&str, Order); 2] = [("little", Order::Little), ("big", Order::Big)];

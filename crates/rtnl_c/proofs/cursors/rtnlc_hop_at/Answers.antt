@@ -4,7 +4,7 @@ use Rattle.nl_attr.specs.declared.order.Order.{Order}
 use Rattle.nl_attr.specs.declared.walk.hops.HopPart.{HopPart}
 use Rattle.nl_attr.specs.Numbers.{len_of}
 use Rattle.nl_attr.specs.Walk.{IsHopPart, StandsAt}
-use Rattle.rtnl_c.proofs.cursors.rtnl_hop_at.Goals as goal
+use Rattle.rtnl_c.proofs.cursors.rtnlc_hop_at.Goals as goal
 use Rattle.nl_attr.specs.declared.limits.TheConstants.{LONGEST_REGION}
 
 -- the attributes of a next hop lie in the region

@@ -1,0 +1,297 @@
+/*
+ * What C calls: each call takes null pointers as include/rtnlc.h says, and hands everything else
+ * to the call of crates/rtnl_c, which is proved. c/build.sh names those calls proved_*.
+ */
+#include "rtnlc.h"
+
+/* A session as the proved calls take it: `made` says whether `at` points to one. */
+struct handle {
+	void *at;
+	bool made;
+};
+
+struct rtnlc_scanned proved_scan(const uint8_t *, size_t, const struct rtnlc_options *);
+struct rtnlc_taped proved_tape(const uint8_t *, size_t, const struct rtnlc_options *,
+                               struct rtnlc_event *, size_t);
+struct rtnlc_message proved_message_at(const uint8_t *, size_t, uint32_t, bool);
+struct rtnlc_attr proved_attr_at(const uint8_t *, size_t, uint32_t, bool);
+struct rtnlc_hop proved_hop_at(const uint8_t *, size_t, uint32_t, bool);
+struct rtnlc_attr proved_find(const uint8_t *, size_t, uint32_t, uint16_t, bool);
+struct rtnlc_family proved_family_of(uint16_t);
+struct rtnlc_holds proved_holds(uint8_t, uint16_t, bool);
+struct rtnlc_checked proved_check(const uint8_t *, size_t, const struct rtnlc_options *);
+struct rtnlc_shown proved_show(size_t, const uint8_t *, size_t, const struct rtnlc_options *,
+                               uint8_t *, size_t);
+struct rtnlc_put proved_request(uint16_t, uint8_t, uint32_t, bool, uint8_t *, size_t);
+
+uint8_t proved_session_new(struct handle *, const struct rtnlc_options *);
+void proved_session_free(struct handle *);
+struct rtnlc_put proved_session_begin(struct handle *, uint16_t, uint8_t, uint32_t, uint32_t,
+                                      uint8_t *, size_t);
+struct rtnlc_fed proved_session_feed(struct handle *, const uint8_t *, size_t);
+uint8_t proved_session_abandon(struct handle *);
+struct rtnlc_status proved_session_status(struct handle *);
+struct rtnlc_table proved_session_table(struct handle *, uint16_t);
+struct rtnlc_put proved_session_entry(struct handle *, uint16_t, uint32_t, uint8_t *, size_t);
+struct rtnlc_put proved_session_key(struct handle *, uint16_t, uint32_t, uint8_t *, size_t);
+struct rtnlc_found proved_session_find(struct handle *, uint16_t, const uint8_t *, size_t);
+
+uint8_t proved_stream_new(struct rtnlc_stream *, const struct rtnlc_options *);
+struct rtnlc_put proved_stream_begin(struct rtnlc_stream *, uint16_t, uint8_t, uint32_t, uint32_t,
+                                     uint8_t *, size_t);
+struct rtnlc_fed proved_stream_feed(struct rtnlc_stream *, const uint8_t *, size_t,
+                                    struct rtnlc_event *, size_t);
+uint8_t proved_stream_abandon(struct rtnlc_stream *);
+struct rtnlc_status proved_stream_status(const struct rtnlc_stream *);
+
+static const struct rtnlc_options standard = { RTNLC_STANDARD_TOTAL, RTNLC_STANDARD_DATAGRAM,
+	                                           RTNLC_STANDARD_ENTRIES, RTNLC_STANDARD_DEPTH,
+	                                           false };
+
+static const uint8_t *read_at(const uint8_t *bytes)
+{
+	static const uint8_t nothing;
+	return bytes ? bytes : &nothing;
+}
+
+static const struct rtnlc_options *limits_at(const struct rtnlc_options *options)
+{
+	return options ? options : &standard;
+}
+
+struct rtnlc_scanned rtnlc_scan(const uint8_t *bytes, size_t len,
+                                const struct rtnlc_options *options)
+{
+	return proved_scan(read_at(bytes), len, limits_at(options));
+}
+
+struct rtnlc_taped rtnlc_tape(const uint8_t *bytes, size_t len,
+                              const struct rtnlc_options *options, struct rtnlc_event *out,
+                              size_t room)
+{
+	struct rtnlc_event nowhere;
+	return proved_tape(read_at(bytes), len, limits_at(options), out ? out : &nowhere, room);
+}
+
+struct rtnlc_message rtnlc_message_at(const uint8_t *bytes, size_t len, uint32_t place, bool big)
+{
+	return proved_message_at(read_at(bytes), len, place, big);
+}
+
+struct rtnlc_attr rtnlc_attr_at(const uint8_t *bytes, size_t len, uint32_t place, bool big)
+{
+	return proved_attr_at(read_at(bytes), len, place, big);
+}
+
+struct rtnlc_hop rtnlc_hop_at(const uint8_t *bytes, size_t len, uint32_t place, bool big)
+{
+	return proved_hop_at(read_at(bytes), len, place, big);
+}
+
+struct rtnlc_attr rtnlc_find(const uint8_t *bytes, size_t len, uint32_t place, uint16_t number,
+                             bool big)
+{
+	return proved_find(read_at(bytes), len, place, number, big);
+}
+
+struct rtnlc_family rtnlc_family_of(uint16_t kind)
+{
+	return proved_family_of(kind);
+}
+
+struct rtnlc_holds rtnlc_holds(uint8_t context, uint16_t number, bool nested)
+{
+	return proved_holds(context, number, nested);
+}
+
+struct rtnlc_checked rtnlc_check(const uint8_t *bytes, size_t len,
+                                 const struct rtnlc_options *options)
+{
+	return proved_check(read_at(bytes), len, limits_at(options));
+}
+
+struct rtnlc_shown rtnlc_show(size_t number, const uint8_t *bytes, size_t len,
+                              const struct rtnlc_options *options, char *out, size_t room)
+{
+	uint8_t nowhere;
+	uint8_t *to = out ? (uint8_t *)out : &nowhere;
+	return proved_show(number, read_at(bytes), len, limits_at(options), to, room);
+}
+
+struct rtnlc_put rtnlc_request(uint16_t kind, uint8_t family, uint32_t seq, bool big, uint8_t *out,
+                               size_t room)
+{
+	uint8_t nowhere;
+	return proved_request(kind, family, seq, big, out ? out : &nowhere, room);
+}
+
+/* A null pointer is a handle with no session. */
+static struct handle handle_of(const struct rtnlc_session *s)
+{
+	struct handle handle = { s ? s->at : NULL, s && s->at };
+	return handle;
+}
+
+/* After a call the session is where its handle says. */
+static void keep(struct rtnlc_session *s, const struct handle *handle)
+{
+	if (s)
+		s->at = handle->made ? handle->at : NULL;
+}
+
+uint8_t rtnlc_session_new(struct rtnlc_session *s, const struct rtnlc_options *options)
+{
+	struct handle handle = handle_of(s);
+	uint8_t code;
+	if (!s)
+		return RTNLC_NO_SESSION;
+	code = proved_session_new(&handle, limits_at(options));
+	keep(s, &handle);
+	return code;
+}
+
+void rtnlc_session_free(struct rtnlc_session *s)
+{
+	struct handle handle = handle_of(s);
+	proved_session_free(&handle);
+	keep(s, &handle);
+}
+
+struct rtnlc_put rtnlc_session_begin(struct rtnlc_session *s, uint16_t kind, uint8_t family,
+                                     uint32_t seq, uint32_t port, uint8_t *out, size_t room)
+{
+	struct handle handle = handle_of(s);
+	uint8_t nowhere;
+	struct rtnlc_put put =
+	    proved_session_begin(&handle, kind, family, seq, port, out ? out : &nowhere, room);
+	keep(s, &handle);
+	return put;
+}
+
+struct rtnlc_fed rtnlc_session_feed(struct rtnlc_session *s, const uint8_t *bytes, size_t len)
+{
+	struct handle handle = handle_of(s);
+	struct rtnlc_fed fed = proved_session_feed(&handle, read_at(bytes), len);
+	keep(s, &handle);
+	return fed;
+}
+
+uint8_t rtnlc_session_abandon(struct rtnlc_session *s)
+{
+	struct handle handle = handle_of(s);
+	uint8_t code = proved_session_abandon(&handle);
+	keep(s, &handle);
+	return code;
+}
+
+struct rtnlc_status rtnlc_session_status(struct rtnlc_session *s)
+{
+	struct handle handle = handle_of(s);
+	struct rtnlc_status status = proved_session_status(&handle);
+	keep(s, &handle);
+	return status;
+}
+
+struct rtnlc_table rtnlc_session_table(struct rtnlc_session *s, uint16_t kind)
+{
+	struct handle handle = handle_of(s);
+	struct rtnlc_table table = proved_session_table(&handle, kind);
+	keep(s, &handle);
+	return table;
+}
+
+struct rtnlc_put rtnlc_session_entry(struct rtnlc_session *s, uint16_t kind, uint32_t index,
+                                     uint8_t *out, size_t room)
+{
+	struct handle handle = handle_of(s);
+	uint8_t nowhere;
+	struct rtnlc_put put = proved_session_entry(&handle, kind, index, out ? out : &nowhere, room);
+	keep(s, &handle);
+	return put;
+}
+
+struct rtnlc_put rtnlc_session_key(struct rtnlc_session *s, uint16_t kind, uint32_t index,
+                                   uint8_t *out, size_t room)
+{
+	struct handle handle = handle_of(s);
+	uint8_t nowhere;
+	struct rtnlc_put put = proved_session_key(&handle, kind, index, out ? out : &nowhere, room);
+	keep(s, &handle);
+	return put;
+}
+
+struct rtnlc_found rtnlc_session_find(struct rtnlc_session *s, uint16_t kind, const uint8_t *key,
+                                      size_t len)
+{
+	struct handle handle = handle_of(s);
+	struct rtnlc_found found = proved_session_find(&handle, kind, read_at(key), len);
+	keep(s, &handle);
+	return found;
+}
+
+uint8_t rtnlc_stream_new(struct rtnlc_stream *stream, const struct rtnlc_options *options)
+{
+	return stream ? proved_stream_new(stream, limits_at(options)) : RTNLC_NO_STREAM;
+}
+
+struct rtnlc_put rtnlc_stream_begin(struct rtnlc_stream *stream, uint16_t kind, uint8_t family,
+                                    uint32_t seq, uint32_t port, uint8_t *out, size_t room)
+{
+	static const struct rtnlc_put none = { 0, RTNLC_NO_STREAM };
+	uint8_t nowhere;
+	uint8_t *to = out ? out : &nowhere;
+	return stream ? proved_stream_begin(stream, kind, family, seq, port, to, room) : none;
+}
+
+struct rtnlc_fed rtnlc_stream_feed(struct rtnlc_stream *stream, const uint8_t *bytes, size_t len,
+                                   struct rtnlc_event *out, size_t room)
+{
+	static const struct rtnlc_fed none = { 0, 0, 0, 0, false, RTNLC_NO_STREAM };
+	struct rtnlc_event nowhere;
+	struct rtnlc_event *to = out ? out : &nowhere;
+	return stream ? proved_stream_feed(stream, read_at(bytes), len, to, room) : none;
+}
+
+uint8_t rtnlc_stream_abandon(struct rtnlc_stream *stream)
+{
+	return stream ? proved_stream_abandon(stream) : RTNLC_NO_STREAM;
+}
+
+struct rtnlc_status rtnlc_stream_status(const struct rtnlc_stream *stream)
+{
+	/* All bytes of zero are no stream, since a datagram limit is 16 at least. */
+	static const struct rtnlc_stream none;
+	return proved_stream_status(stream ? stream : &none);
+}
+
+/* Words, which no proof is about. */
+const char *rtnlc_code_name(uint8_t code)
+{
+	switch (code) {
+	case RTNLC_OK: return "ok";
+	case RTNLC_CUT: return "cut";
+	case RTNLC_BAD_LENGTH: return "bad length";
+	case RTNLC_SHORT_BODY: return "short body";
+	case RTNLC_TOO_LONG: return "too long";
+	case RTNLC_TOO_DEEP: return "too deep";
+	case RTNLC_TOO_LARGE: return "too large";
+	case RTNLC_TOTAL: return "total";
+	case RTNLC_NOT_WAITING: return "not waiting";
+	case RTNLC_BUSY: return "busy";
+	case RTNLC_SAME_SEQ: return "same sequence number";
+	case RTNLC_MISMATCH: return "mismatch";
+	case RTNLC_BAD_LIMIT: return "bad limit";
+	case RTNLC_NO_MEMORY: return "out of memory";
+	case RTNLC_NO_ROOM: return "no room";
+	case RTNLC_NO_STREAM: return "no stream";
+	case RTNLC_NO_KIND: return "no such family";
+	case RTNLC_NO_SESSION: return "no session";
+	case RTNLC_END: return "end";
+	default: return "unknown code";
+	}
+}
+
+const char *rtnlc_version(void)
+{
+	return RTNLC_VERSION;
+}

@@ -1,0 +1,34 @@
+-- The numbers of the refusals that C is answered beside those of the libraries.
+use Rattle.std.specs.Prelude.{ℕ}
+
+-- the bytes are above the longest region
+abbrev pub too_large : ℕ
+too_large = 6
+
+-- a session is made already
+abbrev pub busy : ℕ
+busy = 9
+
+-- a growth was refused
+abbrev pub no_memory : ℕ
+no_memory = 13
+
+-- the buffer has less room than the answer needs
+abbrev pub no_room : ℕ
+no_room = 17
+
+-- what is kept is no stream
+abbrev pub no_stream : ℕ
+no_stream = 18
+
+-- a message type is of no family
+abbrev pub no_kind : ℕ
+no_kind = 19
+
+-- there is no session
+abbrev pub no_session : ℕ
+no_session = 20
+
+-- nothing stands there
+abbrev pub nothing_there : ℕ
+nothing_there = 255

@@ -1,0 +1,61 @@
+//! An entry, written as a message.
+
+ghost use Rattle.std.specs.Prelude.{◌≡◌, ◌≤◌, ◌+◌, ◌++◌, IfOk, OnErr, length, vec_len};
+ghost use Rattle.std.specs.Prelude.{vec_capacity, slice_get, option_map};
+ghost use Rattle.nl_attr.specs.Written.{items_len};
+ghost use Rattle.nl_route.specs.Views.{attrs_in};
+ghost use Rattle.rtnl_c.specs.Entries.{message_bytes};
+
+use nl_attr::{Depth, Extent, Order, align4, append_bytes};
+use nl_frame::{Header, WriteError};
+use nl_route::{Family, Head, Verb};
+use nl_table::{Entry, Table};
+use std::alloc::Global;
+
+/// The deepest limit: what was read within any is not too deep for it.
+fn deepest() -> Depth {
+    match Depth::new(32) {
+        Ok(depth) => depth,
+        Err(_) => Depth::standard(),
+    }
+}
+
+/// The message of an entry, its numbers in this order.
+fn message<H: Head>(alloc: Global, entry: &Family<H>, order: Order) -> Result<Vec<u8>, WriteError>
+    ensures { IfOk result (λ v. v.items ≡ message_bytes order H.group
+        (H.SIZE + items_len (attrs_in entry.now)) (H.fields entry.now.head) (attrs_in entry.now)) }
+{
+    let body = Extent::length(entry.measure(deepest()))?;
+    let header = Header {
+        len: (16 + body) as u32,
+        kind: H::group().type_of(Verb::New),
+        flags: 0,
+        seq: 0,
+        port: 0,
+    };
+    let end = align4(header.len) as usize;
+    let mut out = Vec::with_capacity(alloc, end)?;
+    append_bytes(&mut out, &header.bytes(order));
+    entry.append_body(order, &mut out);
+    let _done = out.resize(end, 0);
+    Ok(out)
+}
+
+/// The entry at an index of a table, as its message is written; none from the table's length on.
+pub(crate) fn entry_in<H: Head>(
+    alloc: Global,
+    table: &Table<Family<H>>,
+    index: u32,
+) -> Result<Option<Vec<u8>>, WriteError>
+where
+    Family<H>: Entry,
+    ensures { IfOk result (λ r. option_map (λ v. v.items) r
+        ≡ option_map (λ e. message_bytes table.now.order H.group
+        (H.SIZE + items_len (attrs_in e.1)) (H.fields e.1.head) (attrs_in e.1))
+        (slice_get table.now.entries index)) }
+{
+    match table.get(index) {
+        Some(entry) => Ok(Some(message(alloc, entry, table.order())?)),
+        None => Ok(None),
+    }
+}

@@ -1,0 +1,58 @@
+//! Bytes that C is answered in its buffer.
+
+ghost use Rattle.std.specs.Prelude.{◌≡◌, ◌≤◌, ◌++◌, length, drop};
+ghost use Rattle.nl_dump.specs.Request.{request_of};
+ghost use Rattle.rtnl_c.specs.Put.{IsPut, not_put};
+
+use crate::codes::NO_ROOM;
+use nl_attr::Order;
+use nl_dump::Dump;
+
+/// Bytes that were put into a buffer.
+#[repr(C)]
+#[derive(Clone, Copy)]
+pub struct Put {
+    /// How many bytes there are, also where the buffer has less room; 0 where there are none.
+    pub len: usize,
+    /// 0 where they were put; 17 where the buffer has less room, else why there are none.
+    pub code: u8,
+}
+
+impl Put {
+    /// There are no bytes, for this reason.
+    pub(crate) fn none(code: u8) -> Put
+        ensures { result ≡ not_put code }
+    {
+        Put { len: 0, code }
+    }
+
+    /// Puts bytes at the front of a buffer, where it has room for them.
+    pub(crate) fn all(bytes: &[u8], out: &mut [u8]) -> Put
+        ensures { IsPut bytes.now out.old out.new result }
+    {
+        let len = bytes.len();
+        if out.len() < len {
+            return Put { len, code: NO_ROOM };
+        }
+        lay(bytes, out);
+        Put { len, code: 0 }
+    }
+
+    /// Puts the request of a dump.
+    pub(crate) fn request(dump: &Dump, order: Order, out: &mut [u8]) -> Put
+        ensures { IsPut (request_of order dump.now) out.old out.new result }
+    {
+        match dump.put_request(order, out) {
+            Ok(len) => Put { len, code: 0 },
+            Err(len) => Put { len, code: NO_ROOM },
+        }
+    }
+}
+
+/// Puts bytes at the front of a buffer that has room for them.
+fn lay(bytes: &[u8], out: &mut [u8])
+    requires { length bytes.now ≤ length out.old }
+    ensures { out.new ≡ bytes.now ++ drop (length bytes.now) out.old }
+{
+    out[..bytes.len()].copy_from_slice(bytes);
+}

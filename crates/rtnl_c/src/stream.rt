@@ -1,0 +1,257 @@
+//! A stream that C keeps, which takes no memory.
+
+ghost use Rattle.std.specs.Prelude.{◌≡◌};
+ghost use Rattle.nl_route.specs.Types.{route_type};
+ghost use Rattle.rtnl_c.specs.Kinds.{group_in};
+ghost use Rattle.rtnl_c.specs.Streams.{Abandons, Begins, BeginsOne, Feeds, News, Restores};
+ghost use Rattle.rtnl_c.specs.Streams.{Tells, begun_in, flag_in, kept_of, state_in};
+
+use crate::codes::{NO_KIND, NO_ROOM, NO_STREAM};
+use crate::fed::Fed;
+use crate::kinds::group_of;
+use crate::options::{Options, limits, order};
+use crate::put::Put;
+use crate::status::{Last, Status};
+use nl_dump::{Dump, End, Standing, State, Stream};
+use nl_frame::{Event, Limits, Order};
+use nl_route::Group;
+
+/// A stream, as C keeps it.
+#[repr(C)]
+#[derive(Clone, Copy)]
+pub struct Kept {
+    /// How many bytes all datagrams may have: 0 to 2^40.
+    pub total: u64,
+    pub received: u64,
+    pub visits: u64,
+    pub ignored: u64,
+    /// How many bytes a datagram may have: a multiple of 4 from 16 to 1,048,576.
+    pub datagram: u32,
+    /// The entries of a table, of which a stream has none: 0 to 65,536.
+    pub entries: u32,
+    pub seq: u32,
+    pub port: u32,
+    /// The status of a DONE, or the code of an ERROR.
+    pub status: i32,
+    /// A message type of the family: NEW where a call left it.
+    pub kind: u16,
+    pub family: u8,
+    /// As in `Status`.
+    pub state: u8,
+    pub depth: u8,
+    /// 0 or 1, as `damaged` and `interrupted`.
+    pub big: u8,
+    pub damaged: u8,
+    pub interrupted: u8,
+}
+
+/// A flag of C.
+fn flag(byte: u8) -> Option<bool>
+    ensures { result ≡ flag_in byte }
+{
+    match byte {
+        0 => Some(false),
+        1 => Some(true),
+        _ => None,
+    }
+}
+
+/// Where a dump stands that has begun.
+fn begun_state(state: u8, status: i32, dump: Dump) -> Option<State>
+    ensures { result ≡ begun_in state status dump }
+{
+    match state {
+        1 => Some(State::Waiting(dump)),
+        2 => Some(State::Ended(dump, End::Done(status))),
+        3 => Some(State::Ended(dump, End::Error(status))),
+        4 => Some(State::Ended(dump, End::Overrun)),
+        5 => Some(State::Ended(dump, End::Abandoned)),
+        _ => None,
+    }
+}
+
+/// Where the dump that is kept stands.
+fn state_of(kept: &Kept) -> Option<State>
+    ensures { result ≡ state_in kept.now }
+{
+    if kept.state == 0 {
+        return Some(State::Idle);
+    }
+    let kind = group_of(kept.kind)?;
+    let Kept {
+        family,
+        seq,
+        port,
+        ..
+    } = *kept;
+    begun_state(
+        kept.state,
+        kept.status,
+        Dump {
+            kind,
+            family,
+            seq,
+            port,
+        },
+    )
+}
+
+/// The stream that is kept, where one is.
+fn restore(kept: &Kept) -> Option<Stream>
+    ensures { Restores kept.now result }
+{
+    let state = state_of(kept)?;
+    let big = flag(kept.big)?;
+    let damaged = flag(kept.damaged)?;
+    let interrupted = flag(kept.interrupted)?;
+    let limits = Limits::new(kept.depth, kept.datagram, kept.total, kept.entries).ok()?;
+    Stream::restore(Standing {
+        limits: limits.with_order(order(big)),
+        state,
+        ignored: kept.ignored,
+        visits: kept.visits,
+        received: kept.received,
+        damaged,
+        interrupted,
+    })
+    .ok()
+}
+
+/// A stream, as C keeps it.
+fn keep(stream: &Stream) -> Kept
+    ensures { result ≡ kept_of stream.now }
+{
+    let standing = stream.standing();
+    let limits = standing.limits;
+    let Last {
+        seq,
+        port,
+        status,
+        kind,
+        family,
+        state,
+    } = Last::of(standing.state);
+    Kept {
+        total: limits.total(),
+        received: standing.received,
+        visits: standing.visits,
+        ignored: standing.ignored,
+        datagram: limits.datagram(),
+        entries: limits.entries(),
+        seq,
+        port,
+        status,
+        kind,
+        family,
+        state,
+        depth: limits.depth().get(),
+        big: u8::from(limits.order() == Order::Big),
+        damaged: u8::from(standing.damaged),
+        interrupted: u8::from(standing.interrupted),
+    }
+}
+
+/// Keeps a new stream of these limits; 12 where one of them is out of its range.
+#[unsafe(no_mangle)]
+pub extern "C" fn rtnlc_stream_new(kept: &mut Kept, options: &Options) -> u8
+    ensures { News options.now kept.old result kept.new }
+{
+    match limits(options) {
+        Ok(limits) => {
+            *kept = keep(&Stream::new(limits));
+            0
+        }
+        Err(fault) => fault.code(),
+    }
+}
+
+/// Begins a dump in a stream, and puts its request into the buffer.
+fn begin_dump(stream: &mut Stream, dump: Dump, out: &mut [u8]) -> Put
+    ensures { BeginsOne stream.old dump out.old stream.new out.new result }
+{
+    let order = stream.standing().limits.order();
+    match stream.begin(dump) {
+        Ok(()) => Put::request(&dump, order, out),
+        Err(error) => Put::none(error.code()),
+    }
+}
+
+/// Begins a dump of the family of a message type in the stream that is kept, and puts its request
+/// into `out`. 18 where what is kept is no stream, 19 where no family has the type, 17 where `out`
+/// has less room than the request; 9 where a dump waits, 10 for the sequence number of the last
+/// one: then nothing has begun.
+#[unsafe(no_mangle)]
+pub extern "C" fn rtnlc_stream_begin(
+    kept: &mut Kept,
+    kind: u16,
+    family: u8,
+    seq: u32,
+    port: u32,
+    out: &mut [u8],
+) -> Put
+    ensures { Begins kept.old (group_in (route_type kind)) family seq port out.old
+        kept.new out.new result }
+{
+    let Some(restored) = restore(kept) else {
+        return Put::none(NO_STREAM);
+    };
+    let Some(kind) = group_of(kind) else {
+        return Put::none(NO_KIND);
+    };
+    let dump = Dump {
+        kind,
+        family,
+        seq,
+        port,
+    };
+    let len = dump.request_len();
+    if out.len() < len {
+        return Put { len, code: NO_ROOM };
+    }
+    let mut stream = restored;
+    let begun = begin_dump(&mut stream, dump, out);
+    *kept = keep(&stream);
+    begun
+}
+
+/// Feeds a datagram to the stream that is kept.
+#[unsafe(no_mangle)]
+pub extern "C" fn rtnlc_stream_feed(kept: &mut Kept, bytes: &[u8], out: &mut [Event]) -> Fed
+    ensures { Feeds kept.old bytes.now out.old kept.new out.new result }
+{
+    let Some(restored) = restore(kept) else {
+        return Fed::untaken(0, 0, NO_STREAM);
+    };
+    let mut stream = restored;
+    let fed = stream.feed(bytes, out);
+    *kept = keep(&stream);
+    Fed::by_stream(fed)
+}
+
+/// Ends the dump that waits in the stream that is kept, as abandoned; 8 where none does.
+#[unsafe(no_mangle)]
+pub extern "C" fn rtnlc_stream_abandon(kept: &mut Kept) -> u8
+    ensures { Abandons kept.old kept.new result }
+{
+    let Some(restored) = restore(kept) else {
+        return NO_STREAM;
+    };
+    let mut stream = restored;
+    let abandoned = stream.abandon();
+    *kept = keep(&stream);
+    match abandoned {
+        Ok(()) => 0,
+        Err(error) => error.code(),
+    }
+}
+
+/// Where the dump of the stream that is kept stands.
+#[unsafe(no_mangle)]
+pub extern "C" fn rtnlc_stream_status(kept: &Kept) -> Status
+    ensures { Tells kept.now result }
+{
+    match restore(kept) {
+        Some(stream) => Status::of_stream(&stream),
+        None => Status::none(NO_STREAM),
+    }
+}

@@ -1,0 +1,455 @@
+/*
+ * rtnlc: a proved reader of rtnetlink datagrams, for C and C++ (netlink(7), rtnetlink(7),
+ * RFC 3549).
+ *
+ * A datagram is bytes in memory: what one recv(2) on a netlink socket gave. No call opens a
+ * socket, and none keeps a pointer that it was handed. docs/C.md has a table of all calls, and
+ * three loops.
+ *
+ * What the caller owes, and no more:
+ *  - `bytes` points to `len` bytes that can be read. A null pointer is taken where `len` is 0.
+ *  - `out` points to `room` elements that can be written, and that overlap nothing else that the
+ *    call is handed. A null pointer is taken where `room` is 0.
+ *  - `options` points to a struct rtnlc_options, or is null: then the standard limits hold.
+ *  - A session or a stream is in one call at a time.
+ * Any bytes are taken, and each call ends, whatever they hold. A datagram needn't be aligned.
+ *
+ * Threads: no call writes anything but its result, what it was handed to write, and its session.
+ * Any thread may call, and a session or a stream may go from one thread to another between two
+ * calls.
+ * Memory: rtnlc_check and rtnlc_show take some from malloc, realloc and free, and have given all
+ * of it back when they return. A session holds memory until it is freed, and its calls take some.
+ * These two and all calls of a session can't be made from a signal handler; the others take no
+ * memory, and can.
+ * Stack: no call needs more than RTNLC_STACK bytes, however deep the datagram is.
+ *
+ * Places are offsets in bytes, from the front of the bytes that were handed in. `len` fields count
+ * the bytes behind a head, without padding.
+ */
+#ifndef RTNLC_H
+#define RTNLC_H
+
+#include <stdbool.h>
+#include <stddef.h>
+#include <stdint.h>
+
+#ifdef __cplusplus
+extern "C" {
+#endif
+
+/* What a compiler can be told of buffers, where it listens. Both words are gone at the end. */
+#if defined __GNUC__ && !defined __clang__ && __GNUC__ >= 11
+#define RTNLC_READS(pointer, size) __attribute__((access(read_only, pointer, size)))
+#define RTNLC_WRITES(pointer, size) __attribute__((access(write_only, pointer, size)))
+#else
+#define RTNLC_READS(pointer, size)
+#define RTNLC_WRITES(pointer, size)
+#endif
+
+#define RTNLC_VERSION "0.3.0"
+#define RTNLC_STACK 32768
+
+/* Why a call didn't do what it was asked for. */
+enum rtnlc_code {
+	RTNLC_OK = 0,
+	RTNLC_CUT = 1,          /* fewer bytes are left than a head has */
+	RTNLC_BAD_LENGTH = 2,   /* a length is below its head's size, or above the bytes that are left */
+	RTNLC_SHORT_BODY = 3,   /* a message is shorter than the head of its type */
+	RTNLC_TOO_LONG = 4,     /* a container has more than 65,532 bytes */
+	RTNLC_TOO_DEEP = 5,     /* a container opens a level above the depth limit */
+	RTNLC_TOO_LARGE = 6,    /* the datagram is above the datagram limit; nothing was looked at */
+	RTNLC_TOTAL = 7,        /* all datagrams would be above the total limit; nothing was looked at */
+	RTNLC_NOT_WAITING = 8,  /* no dump waits for its answers */
+	RTNLC_BUSY = 9,         /* a dump waits for its answers, or the session is made already */
+	RTNLC_SAME_SEQ = 10,    /* the sequence number is that of the dump before */
+	RTNLC_MISMATCH = 11,    /* a value is of another kind than its attribute holds */
+	RTNLC_BAD_LIMIT = 12,   /* one of the options is out of its range; nothing was looked at */
+	RTNLC_NO_MEMORY = 13,   /* a growth was refused */
+	RTNLC_NO_ROOM = 17,     /* the buffer has less room than the answer needs, which is told */
+	RTNLC_NO_STREAM = 18,   /* null, or what no call leaves in a struct rtnlc_stream */
+	RTNLC_NO_KIND = 19,     /* the message type is of no family that is dumped */
+	RTNLC_NO_SESSION = 20,  /* null, or a session that was never made, or is freed */
+	RTNLC_END = 255         /* nothing more stands there */
+};
+
+/* What a head is. */
+enum rtnlc_sort {
+	RTNLC_MESSAGE = 0,  /* struct nlmsghdr */
+	RTNLC_BYTES = 1,    /* an attribute that holds bytes */
+	RTNLC_LIST = 2,     /* an attribute that holds attributes */
+	RTNLC_HOPS = 3,     /* RTA_MULTIPATH of a route: an attribute that holds next hops */
+	RTNLC_NEXT_HOP = 4  /* struct rtnexthop */
+};
+
+/* Where an attribute stands, which says what its number means. */
+enum rtnlc_context {
+	RTNLC_NO_CONTEXT = 0,
+	RTNLC_LINK = 1,      /* IFLA_* */
+	RTNLC_LINK_INFO = 2, /* IFLA_INFO_* in IFLA_LINKINFO of a link */
+	RTNLC_ADDR = 3,      /* IFA_* */
+	RTNLC_ROUTE = 4,     /* RTA_* of a route, and of each of its next hops */
+	RTNLC_METRICS = 5,   /* RTAX_* in RTA_METRICS of a route */
+	RTNLC_NEIGH = 6,     /* NDA_* */
+	RTNLC_RULE = 7,      /* FRA_* */
+	RTNLC_PLAIN = 8      /* any other list */
+};
+
+/* The limits of a call, of a session or of a stream, each in its range, whichever a call uses. */
+struct rtnlc_options {
+	uint64_t total;    /* bytes of all datagrams of a session or a stream at most: 0 to 2^40 */
+	uint32_t datagram; /* bytes of a datagram at most: a multiple of 4 from 16 to 1,048,576 */
+	uint32_t entries;  /* entries of each table of a session at most: 0 to 65,536 */
+	uint8_t depth;     /* levels that containers may open at most: 0 to 32 */
+	bool big;          /* numbers have their highest byte first, as on s390x */
+};
+
+/* The limits that hold where no options are handed in, with the lowest byte first. */
+#define RTNLC_STANDARD_TOTAL 1073741824
+#define RTNLC_STANDARD_DATAGRAM 65536
+#define RTNLC_STANDARD_ENTRIES 4096
+#define RTNLC_STANDARD_DEPTH 8
+
+/* ---- Whether a datagram is accepted ---- */
+
+struct rtnlc_scanned {
+	uint64_t visits; /* how many attribute bytes were visited */
+	uint32_t place;  /* of the first fault; 0 where there is none */
+	uint8_t code;    /* RTNLC_OK, RTNLC_CUT to RTNLC_TOO_LARGE, or RTNLC_BAD_LIMIT */
+};
+
+/* Checks every head of a datagram, and keeps nothing. The visits never exceed the depth limit plus
+ * one times `len`. */
+RTNLC_READS(1, 2)
+struct rtnlc_scanned rtnlc_scan(const uint8_t *bytes, size_t len,
+                                const struct rtnlc_options *options);
+
+/* ---- Its heads, in one pass ---- */
+
+struct rtnlc_event {
+	uint32_t place;  /* of the head */
+	uint32_t len;    /* bytes behind the head, without padding */
+	uint16_t number; /* a message's type; an attribute's without its two flag bits; 0 of a next hop */
+	uint8_t level;   /* 0 for messages and for the attributes of a body; one more in each container */
+	uint8_t sort;    /* enum rtnlc_sort */
+	bool nested;     /* NLA_F_NESTED */
+	bool net;        /* NLA_F_NET_BYTEORDER */
+};
+
+struct rtnlc_taped {
+	size_t count;    /* how many heads there are, or up to the fault; also above `room` */
+	uint64_t visits;
+	uint32_t place;
+	uint8_t code;    /* as for rtnlc_scan */
+};
+
+/* As rtnlc_scan, and puts an event for each head into `out`, in the order of their places: each
+ * message, and behind it the heads in it. As many as fit are put, which are `count` or `room`, the
+ * lesser, and the rest of `out` is as it was. On a fault those are the heads before it, and that
+ * of a container which is too long or too deep itself; on RTNLC_TOO_LARGE and RTNLC_BAD_LIMIT
+ * there are none. A datagram has at most a quarter as many heads as bytes. */
+RTNLC_READS(1, 2) RTNLC_WRITES(4, 5)
+struct rtnlc_taped rtnlc_tape(const uint8_t *bytes, size_t len,
+                              const struct rtnlc_options *options, struct rtnlc_event *out,
+                              size_t room);
+
+/* ---- One head after another ---- */
+
+struct rtnlc_message {
+	uint32_t place;  /* the one asked for */
+	uint32_t next;   /* where the next message stands */
+	uint32_t len;    /* bytes of the body, which begins at place + 16 */
+	uint32_t seq, port;
+	uint16_t kind, flags;
+	uint8_t code;    /* RTNLC_OK, RTNLC_CUT to RTNLC_SHORT_BODY, RTNLC_TOO_LARGE or RTNLC_END */
+};
+
+struct rtnlc_attr {
+	uint32_t place;
+	uint32_t next;
+	uint32_t len;    /* bytes of the payload, which begins at place + 4 */
+	uint16_t number; /* without the two flag bits */
+	bool nested, net;
+	uint8_t code;    /* RTNLC_OK, RTNLC_CUT, RTNLC_BAD_LENGTH, RTNLC_TOO_LARGE or RTNLC_END */
+};
+
+struct rtnlc_hop {
+	uint32_t place;
+	uint32_t next;
+	uint32_t len;    /* bytes of its attributes, which begin at place + 8 */
+	int32_t ifindex;
+	uint8_t flags, hops;
+	uint8_t code;    /* as for rtnlc_attr */
+};
+
+/* What stands at a place: a message of a datagram, an attribute or a next hop of a region, which
+ * is a part of a datagram. Begin at 0 and go on at `next`, until the code is not RTNLC_OK. Nothing
+ * but the head at that place is looked at. Bytes above 1,048,576 are RTNLC_TOO_LARGE. Where the
+ * code is not RTNLC_OK, `next` is the place, and the other fields are 0. */
+RTNLC_READS(1, 2)
+struct rtnlc_message rtnlc_message_at(const uint8_t *bytes, size_t len, uint32_t place, bool big);
+RTNLC_READS(1, 2)
+struct rtnlc_attr rtnlc_attr_at(const uint8_t *bytes, size_t len, uint32_t place, bool big);
+RTNLC_READS(1, 2)
+struct rtnlc_hop rtnlc_hop_at(const uint8_t *bytes, size_t len, uint32_t place, bool big);
+
+/* The first attribute of this number (without the two flag bits) at a place of a region or behind
+ * it: the one that counts, where a number stands twice. Heads before it are looked at, one after
+ * another, their payloads are not. RTNLC_END where there is none; RTNLC_CUT or RTNLC_BAD_LENGTH at
+ * the first head that breaks a rule, with its place; RTNLC_TOO_LARGE as above. */
+RTNLC_READS(1, 2)
+struct rtnlc_attr rtnlc_find(const uint8_t *bytes, size_t len, uint32_t place, uint16_t number,
+                             bool big);
+
+struct rtnlc_family {
+	uint8_t head_size; /* bytes of the family's head, behind which attributes stand; or 0 */
+	uint8_t context;   /* enum rtnlc_context */
+};
+
+/* What the body of a message of this type begins with: NEW, DEL and SET of links, addresses,
+ * routes, neighbours and rules. Others have no attributes that are read: both fields are 0. */
+struct rtnlc_family rtnlc_family_of(uint16_t kind);
+
+struct rtnlc_holds {
+	uint8_t sort;    /* RTNLC_BYTES, RTNLC_LIST or RTNLC_HOPS; 0 where `context` is no context */
+	uint8_t context; /* of the attributes in it, or in its next hops; else 0 */
+};
+
+/* What an attribute of this number (without the two flag bits) holds, where it stands. */
+struct rtnlc_holds rtnlc_holds(uint8_t context, uint16_t number, bool nested);
+
+/* ---- Its text ---- */
+
+struct rtnlc_checked {
+	uint32_t place;
+	uint8_t code;   /* as for rtnlc_scan, or RTNLC_NO_MEMORY */
+	bool canonical; /* accepted, and written as its messages are */
+};
+
+/* Whether a datagram is written as its messages are: every padding whole and of zeros, and every
+ * byte of a head that is not kept zero. */
+RTNLC_READS(1, 2)
+struct rtnlc_checked rtnlc_check(const uint8_t *bytes, size_t len,
+                                 const struct rtnlc_options *options);
+
+struct rtnlc_shown {
+	size_t len;   /* bytes of the text, also above `room` */
+	uint8_t code; /* RTNLC_OK, RTNLC_BAD_LIMIT or RTNLC_NO_MEMORY */
+};
+
+/* Puts the text that `rtnl show` prints of a datagram of this number into `out`, as far as it
+ * fits, and no zero byte behind it. A refused datagram has a text too, which says why. Where the
+ * code is not RTNLC_OK nothing is put. */
+RTNLC_READS(2, 3) RTNLC_WRITES(5, 6)
+struct rtnlc_shown rtnlc_show(size_t number, const uint8_t *bytes, size_t len,
+                              const struct rtnlc_options *options, char *out, size_t room);
+
+/* ---- The request of a dump ---- */
+
+struct rtnlc_put {
+	size_t len;   /* bytes; on RTNLC_NO_ROOM how many there must be room for; else 0 */
+	uint8_t code; /* where it is not RTNLC_OK, `out` is as it was, and nothing else has happened */
+};
+
+/* Room for any request: that of links has 32 bytes, the others fewer. */
+#define RTNLC_REQUEST 32
+
+/* Puts the request of a dump into `out`: a GET message of the family with the flags NLM_F_REQUEST,
+ * NLM_F_ROOT and NLM_F_MATCH, port id 0, and the family's whole head. `kind` is any message type
+ * of the family, as RTM_GETLINK or RTM_NEWLINK; `family` an address family, or 0 for all.
+ * RTNLC_NO_KIND, or RTNLC_NO_ROOM. */
+RTNLC_WRITES(5, 6)
+struct rtnlc_put rtnlc_request(uint16_t kind, uint8_t family, uint32_t seq, bool big, uint8_t *out,
+                               size_t room);
+
+/* ---- Where a dump stands, of a session and of a stream ---- */
+
+enum rtnlc_state {
+	RTNLC_IDLE = 0,     /* no dump was begun */
+	RTNLC_WAITING = 1,  /* the last one waits for its answers */
+	RTNLC_DONE = 2,     /* it has ended by DONE; a status of 0 or more is no failure */
+	RTNLC_FAILED = 3,   /* by ERROR, whose code is not 0 */
+	RTNLC_OVERRUN = 4,  /* by OVERRUN */
+	RTNLC_ABANDONED = 5 /* by the caller */
+};
+
+struct rtnlc_status {
+	uint64_t received; /* bytes of all datagrams that were looked at, since it was made */
+	uint64_t visits;   /* attribute bytes visited in them: at most depth + 1 times those received */
+	uint64_t ignored;  /* messages of the last dump that were neither entries nor its end */
+	uint32_t seq, port;
+	int32_t status;    /* of DONE, 0 where it has none; or the code of ERROR, a negative errno */
+	uint16_t kind;     /* the NEW type of the last dump's family, as RTM_NEWLINK */
+	uint8_t family;    /* the address family that it asked for */
+	uint8_t state;     /* enum rtnlc_state */
+	bool damaged;      /* a datagram of the last dump was refused */
+	bool interrupted;  /* the kernel's table changed meanwhile, NLM_F_DUMP_INTR: dump again */
+	bool complete;     /* ended by DONE with no failure, neither damaged nor interrupted, and the
+	                    * table of a session missed no entry */
+	uint8_t code;      /* RTNLC_OK, RTNLC_NO_SESSION or RTNLC_NO_STREAM; else all fields are 0 */
+};
+
+struct rtnlc_fed {
+	size_t events;    /* of a stream: those at the front of `out`; on RTNLC_NO_ROOM those that there
+	                   * must be room for; else 0 */
+	uint32_t items;   /* messages that are entries of the dump, those too that a table missed */
+	uint32_t ignored; /* messages that are neither that nor its end */
+	uint32_t place;   /* of the first fault; 0 where there is none */
+	bool ended;       /* one of them ended the dump */
+	uint8_t code;     /* RTNLC_OK, or why the datagram was not taken: then all but `place` and
+	                   * `events` is 0 */
+};
+
+/* ---- Dumps, read into bounded tables ---- */
+
+/* One dump of rtnetlink after another (NLM_F_DUMP of netlink(7)): begin one, send its request,
+ * feed what comes back until it has ended, and look at the table. The session owns its tables; the
+ * caller owns this struct and every buffer, and no pointer into a session is handed out. Begin it
+ * as `struct rtnlc_session s = { 0 };`, end it with rtnlc_session_free, copy it only to move it,
+ * and leave its field alone. All calls but rtnlc_session_new answer RTNLC_NO_SESSION where it is
+ * null, was never made or is freed. */
+struct rtnlc_session {
+	void *at;
+};
+
+/* Makes a session. RTNLC_BAD_LIMIT, RTNLC_NO_MEMORY, or RTNLC_NO_SESSION for a null pointer: then
+ * none is made. RTNLC_BUSY where it is made already, and stays. */
+uint8_t rtnlc_session_new(struct rtnlc_session *s, const struct rtnlc_options *options);
+
+/* Frees a session and all that it holds. One that was never made or is freed is left alone. */
+void rtnlc_session_free(struct rtnlc_session *s);
+
+/* Begins a dump, and puts its request into `out`, as rtnlc_request does. `port` is the port id
+ * that the answers carry: that of the socket, as getsockname(2) says it. The family's table is
+ * emptied; the tables of the other families stay. The first that applies is answered:
+ * RTNLC_NO_SESSION; RTNLC_NO_KIND; RTNLC_NO_ROOM; RTNLC_BUSY; RTNLC_SAME_SEQ; RTNLC_NO_MEMORY. */
+RTNLC_WRITES(6, 7)
+struct rtnlc_put rtnlc_session_begin(struct rtnlc_session *s, uint16_t kind, uint8_t family,
+                                     uint32_t seq, uint32_t port, uint8_t *out, size_t room);
+
+/* Takes a datagram into the dump that waits: all of its entries, or none. The first that applies
+ * is answered: RTNLC_NO_SESSION; RTNLC_NOT_WAITING; RTNLC_TOTAL; RTNLC_TOO_LARGE; RTNLC_CUT to
+ * RTNLC_TOO_DEEP at the first fault; RTNLC_NO_MEMORY, which comes in place of whatever would come
+ * later. Then the dump waits as before, and all tables are as they were; but for RTNLC_NO_SESSION
+ * and RTNLC_NOT_WAITING the dump is damaged from then on. `events` is 0. */
+RTNLC_READS(2, 3)
+struct rtnlc_fed rtnlc_session_feed(struct rtnlc_session *s, const uint8_t *bytes, size_t len);
+
+/* Ends the dump that waits, as abandoned; its table stays. RTNLC_NOT_WAITING or
+ * RTNLC_NO_SESSION. */
+uint8_t rtnlc_session_abandon(struct rtnlc_session *s);
+
+/* Where the last dump stands. */
+struct rtnlc_status rtnlc_session_status(struct rtnlc_session *s);
+
+struct rtnlc_table {
+	uint64_t missed; /* how often a new entry had no place */
+	uint32_t count;  /* entries */
+	uint32_t limit;
+	uint8_t code;    /* RTNLC_OK, RTNLC_NO_KIND or RTNLC_NO_SESSION */
+};
+
+/* The size of a family's table, which holds the entries of the last dump of that family. */
+struct rtnlc_table rtnlc_session_table(struct rtnlc_session *s, uint16_t kind);
+
+/* Puts the entry of an index from 0 on, in order of first appearance, into `out`: one whole
+ * message of the family's NEW type in its canonical bytes, with flags, sequence number and port id
+ * 0. RTNLC_NO_SESSION; RTNLC_NO_KIND; RTNLC_END where the table has no such entry;
+ * RTNLC_NO_MEMORY; RTNLC_NO_ROOM. A message that can't be written is RTNLC_TOO_LONG,
+ * RTNLC_TOO_DEEP or RTNLC_MISMATCH, which no entry of a dump has been seen to be. */
+RTNLC_WRITES(4, 5)
+struct rtnlc_put rtnlc_session_entry(struct rtnlc_session *s, uint16_t kind, uint32_t index,
+                                     uint8_t *out, size_t room);
+
+/* Puts the key of that entry into `out`: bytes that two entries share exactly where they are the
+ * same object. RTNLC_NO_SESSION, RTNLC_NO_KIND, RTNLC_END or RTNLC_NO_ROOM. */
+RTNLC_WRITES(4, 5)
+struct rtnlc_put rtnlc_session_key(struct rtnlc_session *s, uint16_t kind, uint32_t index,
+                                   uint8_t *out, size_t room);
+
+struct rtnlc_found {
+	uint32_t index;
+	uint8_t code; /* RTNLC_OK; RTNLC_END where no entry has the key */
+};
+
+/* The index of the entry with these bytes for its key. */
+RTNLC_READS(3, 4)
+struct rtnlc_found rtnlc_session_find(struct rtnlc_session *s, uint16_t kind, const uint8_t *key,
+                                      size_t len);
+
+/* ---- Dumps of any length, in constant space ---- */
+
+/* Where the dumps of one socket stand, one after another, with no table. The caller keeps it, and
+ * may read it, copy it and store it. Any bytes are taken for one: RTNLC_NO_STREAM where a field is
+ * out of its range or above the bound that is said here, where `ignored` is above `received`,
+ * where anything was counted before the first dump, or where an ERROR has code 0. No call leaves
+ * one so. What is a stream in other numbers than a call leaves, as of a GET type of the family, is
+ * taken too, and a call that answers neither RTNLC_NO_STREAM nor RTNLC_NO_KIND writes it as calls
+ * do. */
+struct rtnlc_stream {
+	uint64_t total;      /* as in struct rtnlc_options */
+	uint64_t received;   /* bytes of all datagrams so far: at most `total` */
+	uint64_t visits;     /* attribute bytes visited: at most `depth` plus one times `received` */
+	uint64_t ignored;    /* messages of the last dump that are neither its items nor its end */
+	uint32_t datagram;   /* as in struct rtnlc_options */
+	uint32_t entries;    /* as there; it says nothing of a stream */
+	uint32_t seq, port;  /* of the last dump */
+	int32_t status;      /* of its DONE, or the code of its ERROR; else 0 */
+	uint16_t kind;       /* the NEW type of its family */
+	uint8_t family;      /* of its request */
+	uint8_t state;       /* enum rtnlc_state; on RTNLC_IDLE those of the last dump say nothing */
+	uint8_t depth, big;  /* as in struct rtnlc_options; big is 0 or 1 */
+	uint8_t damaged;     /* 1 where a datagram of it was refused, else 0 */
+	uint8_t interrupted; /* 1 where an item or its DONE has NLM_F_DUMP_INTR, else 0 */
+};
+
+/* Makes a stream of these limits; those of tables say nothing here. RTNLC_BAD_LIMIT, or
+ * RTNLC_NO_STREAM for a null pointer: then nothing is written. */
+uint8_t rtnlc_stream_new(struct rtnlc_stream *stream, const struct rtnlc_options *options);
+
+/* Begins a dump, and puts its request into `out`, as rtnlc_session_begin does. The first that
+ * applies is answered: RTNLC_NO_STREAM; RTNLC_NO_KIND; RTNLC_NO_ROOM; RTNLC_BUSY;
+ * RTNLC_SAME_SEQ. */
+RTNLC_WRITES(6, 7)
+struct rtnlc_put rtnlc_stream_begin(struct rtnlc_stream *stream, uint16_t kind, uint8_t family,
+                                    uint32_t seq, uint32_t port, uint8_t *out, size_t room);
+
+/* Takes a datagram into the dump that waits. At the front of `out` it leaves the events of its
+ * items: for each the event of its message, as rtnlc_tape has it, and behind it those of the heads
+ * in it. The entries are looked at there, before the datagram's bytes go: nothing of them is kept.
+ * What stands in `out` behind them, or after a refusal, is of no use. Room for a quarter as many
+ * events as the datagram has bytes is always enough.
+ *
+ * The first that applies is answered: RTNLC_NO_STREAM; RTNLC_NOT_WAITING; RTNLC_TOTAL;
+ * RTNLC_TOO_LARGE; RTNLC_CUT to RTNLC_TOO_DEEP at the first fault; RTNLC_NO_ROOM. RTNLC_NO_STREAM,
+ * RTNLC_NOT_WAITING and RTNLC_NO_ROOM leave the stream as it was, so the datagram can be fed again
+ * with more room: for the events of all its heads, those of other messages too. After the others
+ * the dump still waits and is damaged. */
+RTNLC_READS(2, 3) RTNLC_WRITES(4, 5)
+struct rtnlc_fed rtnlc_stream_feed(struct rtnlc_stream *stream, const uint8_t *bytes, size_t len,
+                                   struct rtnlc_event *out, size_t room);
+
+/* Ends the dump that waits, as abandoned. RTNLC_NOT_WAITING or RTNLC_NO_STREAM. */
+uint8_t rtnlc_stream_abandon(struct rtnlc_stream *stream);
+
+/* Where the last dump stands, as of a session. */
+struct rtnlc_status rtnlc_stream_status(const struct rtnlc_stream *stream);
+
+/* ---- Words ---- */
+
+/* What a code says, in a few words, as "bad length": a string that is always there and never
+ * null. */
+const char *rtnlc_code_name(uint8_t code);
+
+/* The version of the library that is linked, as RTNLC_VERSION is that of this header. */
+const char *rtnlc_version(void);
+
+/* Missing so far: writing messages. */
+
+#undef RTNLC_READS
+#undef RTNLC_WRITES
+
+#ifdef __cplusplus
+}
+#endif
+
+#endif
