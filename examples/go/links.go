@@ -1,8 +1,8 @@
 // Links prints the name and the MTU of each link of a recording: links RECORDING.
 package main
 
-// #cgo pkg-config: rtnl
-// #include <rtnl.h>
+// #cgo pkg-config: rtnlc
+// #include <rtnlc.h>
 import "C"
 
 import (
@@ -18,11 +18,11 @@ import (
 const newLink, name, mtu = 16, 3, 4 // RTM_NEWLINK, IFLA_IFNAME and IFLA_MTU
 
 // heads are those of a datagram, or an error where it is refused.
-func heads(datagram []byte) ([]C.struct_rtnl_event, error) {
-	events := make([]C.struct_rtnl_event, len(datagram)/4+1)
+func heads(datagram []byte) ([]C.struct_rtnlc_event, error) {
+	events := make([]C.struct_rtnlc_event, len(datagram)/4+1)
 	first := (*C.uint8_t)(unsafe.Pointer(&datagram[0]))
-	taped := C.rtnl_tape(first, C.size_t(len(datagram)), nil, &events[0], C.size_t(len(events)))
-	if taped.code != C.RTNL_OK {
+	taped := C.rtnlc_tape(first, C.size_t(len(datagram)), nil, &events[0], C.size_t(len(events)))
+	if taped.code != C.RTNLC_OK {
 		return nil, fmt.Errorf("refused with code %d at %d", taped.code, taped.place)
 	}
 	return events[:taped.count], nil
@@ -34,7 +34,7 @@ func links(datagram []byte) ([]map[int][]byte, error) {
 	found := []map[int][]byte{}
 	isLink := false
 	for _, head := range events {
-		if head.sort == C.RTNL_MESSAGE {
+		if head.sort == C.RTNLC_MESSAGE {
 			isLink = head.number == newLink
 			if isLink {
 				found = append(found, map[int][]byte{})
@@ -54,8 +54,11 @@ func printLinks(line string) error {
 	}
 	found, err := links(datagram)
 	for _, link := range found {
+		text := bytes.TrimRight(link[name], "\x00")
+		if len(text) == 0 {
+			text = []byte("-")
+		}
 		if len(link[mtu]) == 4 {
-			text := bytes.TrimRight(link[name], "\x00")
 			fmt.Printf("%s mtu %d\n", text, binary.LittleEndian.Uint32(link[mtu]))
 		}
 	}

@@ -1,6 +1,6 @@
 #!/usr/bin/env python3
 """Prints the name and the MTU of each link of a recording: links.py RECORDING. The shared library
-librtnl.so.0 reads it.
+librtnlc.so.0 reads it.
 """
 import ctypes
 import sys
@@ -9,7 +9,7 @@ LINK, NAME, MTU = 16, 3, 4  # RTM_NEWLINK, IFLA_IFNAME and IFLA_MTU
 
 
 class Event(ctypes.Structure):
-    """struct rtnl_event of rtnl.h."""
+    """struct rtnlc_event of rtnlc.h."""
 
     _fields_ = [
         ("place", ctypes.c_uint32),
@@ -23,7 +23,7 @@ class Event(ctypes.Structure):
 
 
 class Taped(ctypes.Structure):
-    """struct rtnl_taped of rtnl.h."""
+    """struct rtnlc_taped of rtnlc.h."""
 
     _fields_ = [
         ("count", ctypes.c_size_t),
@@ -34,10 +34,10 @@ class Taped(ctypes.Structure):
 
 
 def library():
-    found = ctypes.CDLL("librtnl.so.0")
+    found = ctypes.CDLL("librtnlc.so.0")
     pointers = ctypes.c_void_p, ctypes.POINTER(Event)
-    found.rtnl_tape.argtypes = [ctypes.c_char_p, ctypes.c_size_t, *pointers, ctypes.c_size_t]
-    found.rtnl_tape.restype = Taped
+    found.rtnlc_tape.argtypes = [ctypes.c_char_p, ctypes.c_size_t, *pointers, ctypes.c_size_t]
+    found.rtnlc_tape.restype = Taped
     return found
 
 
@@ -45,7 +45,7 @@ def heads(rtnl, datagram):
     """The heads of a datagram, or an error where it is refused."""
     room = len(datagram) // 4 + 1
     events = (Event * room)()
-    taped = rtnl.rtnl_tape(datagram, len(datagram), None, events, room)
+    taped = rtnl.rtnlc_tape(datagram, len(datagram), None, events, room)
     if taped.code:
         raise ValueError(f"refused with code {taped.code} at {taped.place}")
     return events[: taped.count]
@@ -69,7 +69,9 @@ def main(path):
         datagrams = [bytes.fromhex(line) for line in lines if not line.startswith("#")]
     for datagram in datagrams:
         for link in links(rtnl, datagram):
-            print(link[NAME].rstrip(b"\0").decode(), "mtu", int.from_bytes(link[MTU], "little"))
+            name = link.get(NAME, b"-").rstrip(b"\0").decode(errors="replace")
+            if len(link.get(MTU, b"")) == 4:
+                print(name, "mtu", int.from_bytes(link[MTU], "little"))
 
 
 if __name__ == "__main__":

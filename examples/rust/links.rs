@@ -1,6 +1,6 @@
 //! Prints the name and the MTU of each link of a recording: links RECORDING.
 //!
-//! rustc -L LIB -l rtnl links.rs
+//! rustc -L LIB -l rtnlc links.rs
 
 use std::collections::HashMap;
 use std::ptr::null;
@@ -10,15 +10,17 @@ const LINK: u16 = 16;
 const NAME: u16 = 3;
 const MTU: u16 = 4;
 
-/// `struct rtnl_options` of rtnl.h, of which this program has none.
+/// `struct rtnlc_options` of rtnlc.h, of which this program has none.
 #[repr(C)]
 struct Options {
+    total: u64,
     datagram: u32,
+    entries: u32,
     depth: u8,
     big: bool,
 }
 
-/// `struct rtnl_event` of rtnl.h.
+/// `struct rtnlc_event` of rtnlc.h.
 #[repr(C)]
 #[derive(Clone, Copy, Default)]
 struct Event {
@@ -31,7 +33,7 @@ struct Event {
     net: bool,
 }
 
-/// `struct rtnl_taped` of rtnl.h.
+/// `struct rtnlc_taped` of rtnlc.h.
 #[repr(C)]
 struct Taped {
     count: usize,
@@ -41,7 +43,7 @@ struct Taped {
 }
 
 extern "C" {
-    fn rtnl_tape(
+    fn rtnlc_tape(
         bytes: *const u8,
         len: usize,
         options: *const Options,
@@ -56,7 +58,7 @@ fn heads(datagram: &[u8]) -> Result<Vec<Event>, String> {
     // SAFETY: both pointers are those of slices of these lengths, and null stands for the standard
     // limits.
     let taped = unsafe {
-        rtnl_tape(datagram.as_ptr(), datagram.len(), null(), events.as_mut_ptr(), events.len())
+        rtnlc_tape(datagram.as_ptr(), datagram.len(), null(), events.as_mut_ptr(), events.len())
     };
     if taped.code != 0 {
         return Err(format!("refused with code {} at {}", taped.code, taped.place));
@@ -98,9 +100,10 @@ fn main() -> Result<(), String> {
     let text = std::fs::read_to_string(path).map_err(|error| error.to_string())?;
     for line in text.lines().filter(|line| !line.starts_with('#')) {
         for link in links(&bytes_of(line)?)? {
-            let name = String::from_utf8_lossy(link[&NAME]);
-            let mtu = u32::from_le_bytes(link[&MTU].try_into().map_err(|_| "an MTU")?);
-            println!("{} mtu {}", name.trim_end_matches('\0'), mtu);
+            let name = link.get(&NAME).map_or("-".into(), |it| String::from_utf8_lossy(it));
+            if let Some(Ok(mtu)) = link.get(&MTU).map(|&it| it.try_into()) {
+                println!("{} mtu {}", name.trim_end_matches('\0'), u32::from_le_bytes(mtu));
+            }
         }
     }
     Ok(())
