@@ -8,7 +8,7 @@ set -u
 cd "$(dirname "${BASH_SOURCE[0]}")/.." || exit 1
 
 # All is over a proved program, but where tests/run --quick names the one that ./rtnl runs.
-unset RTNL_PATH RTNL_BUILD
+unset RTNL_PATH RTNL_BUILD DESTDIR libdir
 [ -n "${RTNL_PROGRAM-}" ] || export RTNL_PROVE=1
 tests/proved.py >/dev/null || exit 1
 

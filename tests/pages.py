@@ -6,9 +6,9 @@ heading there, by the anchors that GitHub makes. A link to the glossary of docs/
 word that stands there, and a page links a word once. Each claim on docs/PROOF.md under the name of
 a crate begins with functions of that crate, and has clauses of their contracts in brackets. Each
 function in a table of README.md has the clauses that stand behind it. Each block of Rattle, C, Go,
-Python or Rust on README.md and docs/LIBRARIES.md stands in crates/rtnl_uses, apart from its
-contracts, or in examples/. The table of calls for C on docs/LIBRARIES.md has those of
-include/rtnl.h.
+Python or Rust on README.md, docs/LIBRARIES.md and docs/C.md stands in crates/rtnl_uses, apart from
+its contracts, or in examples/. The tables of calls and of codes on docs/C.md have those of
+include/rtnlc.h.
 
 Then each of these is tried: a fault is planted in a page or in the code, and must be found. The
 last line is 'N passed, M failed', and the status is 1 where a case failed.
@@ -25,11 +25,11 @@ from contracts import Contracts, Texts
 from crates import ROOT, Crates, listed
 
 README, PROOF, THEOREMS = "README.md", "docs/PROOF.md", "docs/THEOREMS.md"
-FORMAT, LIBRARIES = "docs/FORMAT.md", "docs/LIBRARIES.md"
-HEADER = "include/rtnl.h"
+FORMAT, LIBRARIES, C = "docs/FORMAT.md", "docs/LIBRARIES.md", "docs/C.md"
+HEADER = "include/rtnlc.h"
 GLOSSARY = "words"
 # Pages whose blocks of code are compared, and where the code of a block stands.
-SHOWING = [README, LIBRARIES]
+SHOWING = [README, LIBRARIES, C]
 SHOWN = {
     "c": "examples/c/", "go": "examples/go/", "python": "examples/python/",
     "rust": "crates/rtnl_uses/src/",
@@ -253,17 +253,28 @@ def strange_blocks(repository: Repository, page: str) -> Iterator[str]:
     for sort, block in blocks:
         if sort in SHOWN and not any(block in it for it in sources(repository, sort)):
             yield f"no code has this block of {sort}: {block.splitlines()[0]}"
-    if page == LIBRARIES and not {"rust", "c"} <= {sort for sort, _ in blocks}:
-        yield "it has no block of Rattle, or none of C"
+    for of, sort in ((LIBRARIES, "rust"), (C, "c")):
+        if page == of and sort not in {it for it, _ in blocks}:
+            yield f"it has no block of {sort}"
 
 
 def lost_calls(repository: Repository, page: str) -> Iterator[str]:
     """The calls of the header that the page's table of them lacks, and those that it made up."""
     table = "".join(text for name, text in sections(repository.texts[page]) if name == "The calls")
-    declared = set(re.findall(r"\brtnl_\w+(?=\()", repository.texts[HEADER]))
-    shown = set(re.findall(r"`(rtnl_\w+)`", table))
+    declared = set(re.findall(r"\brtnlc_\w+(?=\()", repository.texts[HEADER]))
+    shown = set(re.findall(r"^\| `(rtnlc_\w+)` \|", table, re.M))
     yield from (f"{it} is not in the table" for it in sorted(declared - shown))
     yield from (f"{it} is not in the header" for it in sorted(shown - declared))
+
+
+def lost_codes(repository: Repository, page: str) -> Iterator[str]:
+    """The codes of the header that the page's table of them lacks, and those that it made up."""
+    table = "".join(text for name, text in sections(repository.texts[page]) if name == "The codes")
+    codes = re.search(r"^enum rtnlc_code \{(.*?)^\};", repository.texts[HEADER], re.M | re.S)
+    declared = set(re.findall(r"\b(RTNLC_\w+) = (\d+)", codes[1] if codes else ""))
+    shown = {(it[2], it[1]) for it in re.finditer(r"^\| (\d+) \| `(\w+)` \|", table, re.M)}
+    yield from (f"{' = '.join(it)} is not in the table" for it in sorted(declared - shown))
+    yield from (f"{' = '.join(it)} is not in the header" for it in sorted(shown - declared))
 
 
 # The cases.
@@ -276,7 +287,8 @@ TESTS: List[Tuple[str, Check, Callable[[Repository], List[str]]]] = [
     ("the claims on", wrong_claims, Repository.promising),
     ("the clauses on", wrong_citations, lambda _: [README]),
     ("the code on", strange_blocks, lambda _: SHOWING),
-    ("the calls for C on", lost_calls, lambda _: [LIBRARIES]),
+    ("the calls on", lost_calls, lambda _: [C]),
+    ("the codes on", lost_codes, lambda _: [C]),
 ]
 
 
@@ -347,19 +359,25 @@ FAULTS: Dict[Check, List[Fault]] = {
               "count += 1;", "count += 2;"),
         Fault("a contract that is shown", LIBRARIES, LIBRARIES, "Result<usize, Fault> {\n",
               "Result<usize, Fault>\n    requires { length region.now ≤ LONGEST_REGION }\n{\n"),
-        Fault("another line of C", LIBRARIES, "examples/c/reader.c", "putchar('\\n');",
-              "putchar(' ');"),
-        Fault("another line of Go", LIBRARIES, "examples/go/links.go", "#cgo pkg-config: rtnl",
-              "#cgo LDFLAGS: -lrtnl"),
+        Fault("another line of C", C, "examples/c/notifications.c", "fflush(stdout);",
+              "fflush(stderr);"),
+        Fault("another line of Go", LIBRARIES, "examples/go/links.go", "#cgo pkg-config: rtnlc",
+              "#cgo LDFLAGS: -lrtnlc"),
         Fault("another line of Python", LIBRARIES, "examples/python/links.py",
               "restype = Taped", "restype = Event"),
         Fault("another line of Rust", LIBRARIES, "examples/rust/links.rs", "*const Options",
               "*mut Options"),
         Fault("a page without Rattle", LIBRARIES, LIBRARIES, "```rust\n", "```text\n"),
+        Fault("a page without C", C, C, "```c\n", "```text\n"),
     ],
     lost_calls: [
-        Fault("a call that is missing", LIBRARIES, LIBRARIES, "`rtnl_check`", "it"),
-        Fault("a call that was removed", LIBRARIES, HEADER, " rtnl_check(", " rtnl_find("),
+        Fault("a call that is missing", C, C, "| `rtnlc_check` |", "| it |"),
+        Fault("a call that was removed", C, HEADER, " rtnlc_check(", " rtnlc_find("),
+    ],
+    lost_codes: [
+        Fault("a code that is missing", C, C, "`RTNLC_TOTAL`", "it"),
+        Fault("a code that was removed", C, HEADER, "RTNLC_TOTAL = 7,", ""),
+        Fault("a code of another number", C, HEADER, "RTNLC_TOTAL = 7,", "RTNLC_TOTAL = 14,"),
     ],
 }
 

@@ -17,44 +17,44 @@ static const char *const reasons[] = { "",           "cut",      "bad length",
 static uint8_t *bytes_end, *events_end, *text_end;
 static size_t heads;
 
-static void print_check(const struct datagram *one, const struct rtnl_options *limits)
+static void print_check(const struct datagram *one, const struct rtnlc_options *limits)
 {
-	struct rtnl_checked checked = rtnl_check(one->bytes, one->len, limits);
+	struct rtnlc_checked checked = rtnlc_check(one->bytes, one->len, limits);
 	printf("datagram %lu ", (unsigned long)one->number);
-	if (checked.code == RTNL_OK)
+	if (checked.code == RTNLC_OK)
 		puts(checked.canonical ? "canonical" : "accepted");
-	else if (checked.code == RTNL_TOO_LARGE)
+	else if (checked.code == RTNLC_TOO_LARGE)
 		puts("refused too large");
-	else if (checked.code <= RTNL_TOO_DEEP)
+	else if (checked.code <= RTNLC_TOO_DEEP)
 		printf("refused %s at %lu\n", reasons[checked.code], (unsigned long)checked.place);
 	else
-		fail("a code of rtnl_check", one->number);
+		fail("a code of rtnlc_check", one->number);
 }
 
-/* A text into so much room, at the end of which MARGIN bytes are painted too: as much as fits is put,
- * and no more is touched. */
-static void compare_show(const struct datagram *one, const struct rtnl_options *limits,
+/* A text into so much room, at the end of which MARGIN bytes are painted too: as much as fits is
+ * put, and no more is touched. */
+static void compare_show(const struct datagram *one, const struct rtnlc_options *limits,
                          const char *text, size_t len, size_t room)
 {
 	char *out = (char *)text_end - room - MARGIN;
 	size_t put = room < len ? room : len;
-	struct rtnl_shown shown;
+	struct rtnlc_shown shown;
 	memset(out, PAINT, room + MARGIN);
-	shown = rtnl_show(one->number, one->bytes, one->len, limits, out, room);
+	shown = rtnlc_show(one->number, one->bytes, one->len, limits, out, room);
 	if (shown.code || shown.len != len)
 		fail("the length of a text by its room", one->number);
 	if (memcmp(out, text, put) || !is_painted(out + put, room + MARGIN - put))
 		fail("a text by its room", one->number);
 }
 
-static void print_show(const struct datagram *one, const struct rtnl_options *limits)
+static void print_show(const struct datagram *one, const struct rtnlc_options *limits)
 {
-	struct rtnl_shown none = rtnl_show(one->number, one->bytes, one->len, limits, NULL, 0), shown;
+	struct rtnlc_shown none = rtnlc_show(one->number, one->bytes, one->len, limits, NULL, 0), shown;
 	char *text = (char *)text_end - none.len;
 	char *kept = (char *)taken(none.len);
 	if (none.code || none.len > (size_t)64 * LARGEST)
 		fail("a text's length", one->number);
-	shown = rtnl_show(one->number, one->bytes, one->len, limits, text, none.len);
+	shown = rtnlc_show(one->number, one->bytes, one->len, limits, text, none.len);
 	if (shown.code || shown.len != none.len)
 		fail("the length of a whole text", one->number);
 	memcpy(kept, text, none.len);
@@ -65,7 +65,7 @@ static void print_show(const struct datagram *one, const struct rtnl_options *li
 	free(kept);
 }
 
-static bool is_event(const struct rtnl_event *found, const struct rtnl_event *wanted)
+static bool is_event(const struct rtnlc_event *found, const struct rtnlc_event *wanted)
 {
 	return found->place == wanted->place && found->len == wanted->len &&
 	       found->number == wanted->number && found->level == wanted->level &&
@@ -75,16 +75,16 @@ static bool is_event(const struct rtnl_event *found, const struct rtnl_event *wa
 
 /* A tape with so much room puts the events of the walk, as far as they fit, and touches nothing
  * behind them. */
-static void compare_tape(const struct walk *w, const struct rtnl_options *limits, size_t room)
+static void compare_tape(const struct walk *w, const struct rtnlc_options *limits, size_t room)
 {
-	struct rtnl_event *out = (struct rtnl_event *)events_end - room;
-	struct rtnl_taped taped;
+	struct rtnlc_event *out = (struct rtnlc_event *)events_end - room;
+	struct rtnlc_taped taped;
 	size_t at, put = room < w->count ? room : w->count;
 	memset(out, PAINT, room * sizeof *out);
-	taped = rtnl_tape(w->bytes, w->len, limits, room ? out : NULL, room);
+	taped = rtnlc_tape(w->bytes, w->len, limits, room ? out : NULL, room);
 	if (taped.code != w->code || taped.place != w->place || taped.visits != w->visits)
 		fail("the end of a tape", w->number);
-	if (taped.count != (w->code ? 0 : w->count))
+	if (taped.count != w->count)
 		fail("the count of a tape", w->number);
 	for (at = 0; at < put; at++)
 		if (!is_event(&out[at], &w->events[at]))
@@ -95,16 +95,18 @@ static void compare_tape(const struct walk *w, const struct rtnl_options *limits
 
 /* All calls under these limits; `given` is what they are handed: a pointer to the limits, or
  * null. */
-static void compare_under(struct datagram at_end, struct rtnl_options limits,
-                          const struct rtnl_options *given)
+static void compare_under(struct datagram at_end, struct rtnlc_options limits,
+                          const struct rtnlc_options *given)
 {
 	struct walk w = walked(at_end.bytes, at_end.len, at_end.number, limits);
-	struct rtnl_scanned scanned = rtnl_scan(at_end.bytes, at_end.len, given);
-	struct rtnl_checked checked = rtnl_check(at_end.bytes, at_end.len, given);
+	struct rtnlc_scanned scanned = rtnlc_scan(at_end.bytes, at_end.len, given);
+	struct rtnlc_checked checked = rtnlc_check(at_end.bytes, at_end.len, given);
 	if (scanned.code != w.code || scanned.place != w.place || scanned.visits != w.visits)
 		fail("a scan and the walk", at_end.number);
 	if (scanned.visits > (limits.depth + 1) * (uint64_t)at_end.len)
 		fail("the visits of a scan", at_end.number);
+	if (w.count > at_end.len / 4)
+		fail("more heads than a quarter of the bytes", at_end.number);
 	if (checked.code != w.code || checked.place != w.place || (checked.canonical && w.code))
 		fail("a check and the walk", at_end.number);
 	compare_tape(&w, given, 0);
@@ -118,24 +120,24 @@ static void compare_under(struct datagram at_end, struct rtnl_options limits,
 /* Where the limits are out of their range, each call says so and touches nothing. */
 static void compare_bad(struct datagram at_end, uint32_t datagram, uint8_t depth)
 {
-	struct rtnl_options bad = { datagram, depth, false };
-	struct rtnl_event *out = (struct rtnl_event *)events_end - MARGIN;
+	struct rtnlc_options bad = { 0, datagram, 0, depth, false };
+	struct rtnlc_event *out = (struct rtnlc_event *)events_end - MARGIN;
 	char *text = (char *)text_end - MARGIN;
-	struct rtnl_scanned scanned = rtnl_scan(at_end.bytes, at_end.len, &bad);
-	struct rtnl_checked checked = rtnl_check(at_end.bytes, at_end.len, &bad);
-	struct rtnl_taped taped;
-	struct rtnl_shown shown;
+	struct rtnlc_scanned scanned = rtnlc_scan(at_end.bytes, at_end.len, &bad);
+	struct rtnlc_checked checked = rtnlc_check(at_end.bytes, at_end.len, &bad);
+	struct rtnlc_taped taped;
+	struct rtnlc_shown shown;
 	memset(out, PAINT, MARGIN * sizeof *out);
 	memset(text, PAINT, MARGIN);
-	taped = rtnl_tape(at_end.bytes, at_end.len, &bad, out, MARGIN);
-	shown = rtnl_show(1, at_end.bytes, at_end.len, &bad, text, MARGIN);
-	if (scanned.code != RTNL_BAD_LIMIT || scanned.place || scanned.visits)
+	taped = rtnlc_tape(at_end.bytes, at_end.len, &bad, out, MARGIN);
+	shown = rtnlc_show(1, at_end.bytes, at_end.len, &bad, text, MARGIN);
+	if (scanned.code != RTNLC_BAD_LIMIT || scanned.place || scanned.visits)
 		fail("a scan under bad limits", at_end.number);
-	if (checked.code != RTNL_BAD_LIMIT || checked.place || checked.canonical)
+	if (checked.code != RTNLC_BAD_LIMIT || checked.place || checked.canonical)
 		fail("a check under bad limits", at_end.number);
-	if (taped.code != RTNL_BAD_LIMIT || taped.place || taped.visits || taped.count)
+	if (taped.code != RTNLC_BAD_LIMIT || taped.place || taped.visits || taped.count)
 		fail("a tape under bad limits", at_end.number);
-	if (shown.code != RTNL_BAD_LIMIT || shown.len)
+	if (shown.code != RTNLC_BAD_LIMIT || shown.len)
 		fail("a text under bad limits", at_end.number);
 	if (!is_painted(out, MARGIN * sizeof *out) || !is_painted(text, MARGIN))
 		fail("what bad limits touch", at_end.number);
@@ -144,7 +146,8 @@ static void compare_bad(struct datagram at_end, uint32_t datagram, uint8_t depth
 static void compare(const struct datagram *one, bool big)
 {
 	static const uint8_t depths[] = { 0, 1, 2, 32 };
-	struct rtnl_options limits = { RTNL_STANDARD_DATAGRAM, RTNL_STANDARD_DEPTH, false };
+	struct rtnlc_options limits = { RTNLC_STANDARD_TOTAL, RTNLC_STANDARD_DATAGRAM,
+		                            RTNLC_STANDARD_ENTRIES, RTNLC_STANDARD_DEPTH, false };
 	struct datagram at_end = *one;
 	size_t at;
 	at_end.bytes = bytes_end - one->len;
@@ -169,7 +172,8 @@ static void compare(const struct datagram *one, bool big)
 int main(int count, char **words)
 {
 	bool big = count > 2 && strcmp(words[2], "big") == 0;
-	struct rtnl_options limits = { RTNL_STANDARD_DATAGRAM, RTNL_STANDARD_DEPTH, big };
+	struct rtnlc_options limits = { RTNLC_STANDARD_TOTAL, RTNLC_STANDARD_DATAGRAM,
+		                            RTNLC_STANDARD_ENTRIES, RTNLC_STANDARD_DEPTH, big };
 	struct datagram one = { NULL, 0, 0 };
 	if (count < 2)
 		return 2;

@@ -1,9 +1,17 @@
 # The library under a prefix of its own, as a user builds with it.
 
 prefix=$folder/prefix
-link=$prefix/lib/librtnl.so
-library_things=(include/rtnl.h lib/librtnl.a lib/librtnl.so.0 lib/librtnl.so lib/pkgconfig/rtnl.pc
-  share/rtnl/installed)
+link=$prefix/lib/librtnlc.so
+page=share/man/man3/rtnlc.3
+# Neither is the tester's own.
+unset DESTDIR libdir
+
+# library_in FOLDER: what is put, with the library in this folder of the prefix.
+library_in() {
+  printf '%s\n' include/rtnlc.h "$1"/{librtnlc.a,librtnlc.so.0,librtnlc.so,pkgconfig/rtnlc.pc} \
+    "$page" share/rtnl/installed
+}
+mapfile -t library_things < <(library_in lib)
 
 # each WORD NAME..: a line for each thing that is put or removed.
 each() { printf "$1 $prefix/%s\n" "${@:2}"; }
@@ -35,7 +43,59 @@ leaves_changed() {
 }
 
 # flags: what pkg-config says of the library that is installed.
-flags() { PKG_CONFIG_PATH=$prefix/lib/pkgconfig pkg-config "$@" rtnl; }
+flags() { PKG_CONFIG_PATH=$prefix/lib/pkgconfig pkg-config "$@" rtnlc; }
+
+# has_files FOLDER NAME..: these files are in the folder, and no others.
+has_files() {
+  diff <(cd "$1" && find . ! -type d -printf '%P\n' | sort) <(printf '%s\n' "${@:2}" | sort)
+}
+
+# has_lines FILE LINE..: these lines stand in it.
+has_lines() {
+  local line
+  for line in "${@:2}"; do grep -qxF -- "$line" "$1" || return 1; done
+}
+
+# in_libdir FOLDER WORD..: with install's words, or an environment, the library is in this folder
+# of the prefix, as rtnlc.pc says too, and all of it is removed again.
+in_libdir() {
+  local put=$1
+  mapfile -t files < <(library_in "$put")
+  shift
+  "$@" --library "$prefix" >/dev/null && has_files "$prefix" "${files[@]}" &&
+    has_lines "$prefix/$put/pkgconfig/rtnlc.pc" "prefix=$prefix" "libdir=\${prefix}/$put" &&
+    ./install --remove "$prefix" >/dev/null && [ ! -e "$prefix" ]
+}
+
+# in_both: in one folder and then in another, it is removed from both.
+in_both() {
+  ./install --library "$prefix" >/dev/null &&
+    ./install --library --libdir lib64 "$prefix" >/dev/null &&
+    [ -e "$prefix/lib/librtnlc.a" ] && [ -e "$prefix/lib64/librtnlc.a" ] &&
+    ./install --remove "$prefix" >/dev/null && [ ! -e "$prefix" ]
+}
+
+# staged LIBDIR: a package is made under a folder that nothing names but the record.
+staged() {
+  local stage=$folder/stage
+  mapfile -t files < <(library_in "$1")
+  mkdir "$stage" &&
+    DESTDIR=$stage does 0 "$(library_in "$1" | sed "s|^|installed $stage/usr/|")" \
+      --library --libdir "/usr/$1" /usr &&
+    has_files "$stage/usr" "${files[@]}" &&
+    has_lines "$stage/usr/$1/pkgconfig/rtnlc.pc" prefix=/usr "libdir=\${prefix}/$1" &&
+    [ "$(grep -rlF "$stage" "$stage")" = "$stage/usr/share/rtnl/installed" ] &&
+    DESTDIR=$stage does 0 "$(library_in "$1" | sed "s|^|removed $stage/usr/|")" --remove /usr &&
+    [ -z "$(ls -A "$stage")" ] && rmdir "$stage"
+}
+
+# leaves_own_staged: what stands under the folder already is not replaced.
+leaves_own_staged() {
+  local stage=$folder/stage own=usr/include/rtnlc.h
+  mkdir -p "$stage/usr/include" && echo mine >"$stage/$own" && DESTDIR=$stage does 1 \
+    "install: $stage/$own is there and was not installed by this script; nothing was installed" \
+    --library /usr && has_files "$stage" "$own" && rm -r "$stage"
+}
 
 version=$(sed -n 's/^## //p' CHANGELOG.md | head -n 1)
 program_things=(bin/rtnl share/man/man1/rtnl.1 share/bash-completion/completions/rtnl
@@ -48,6 +108,28 @@ check 'a link in the way' leaves_own
 check 'a link that was changed' leaves_changed
 check 'not both at once' does 2 'install: --library and --remove exclude each other; see --help' \
   --library --remove "$prefix"
+check 'a folder for the program' does 2 'install: --libdir goes with --library; see --help' \
+  --libdir lib64 "$prefix"
+no_dir='install: --libdir has no DIR; see --help'
+check 'no folder' does 2 "$no_dir" --library "$prefix" --libdir
+check 'an empty folder' does 2 "$no_dir" --library --libdir= "$prefix"
+outside=(/usr/lib64 /usr/lib64 .. "$folder" ../lib "$folder/lib" "$prefix" "$prefix"
+  "${prefix}2/lib" "${prefix}2/lib")
+for ((at = 0; at < ${#outside[@]}; at += 2)); do
+  check "${outside[at]} is outside" does 2 \
+    "install: the folder of the library, ${outside[at + 1]}, is not under PREFIX; see --help" \
+    --library --libdir "${outside[at]}" "$prefix"
+done
+check 'nothing is put in any of these' [ ! -e "$prefix" ]
+check 'the library in lib64' in_libdir lib64 ./install --libdir lib64
+check 'the library in a folder of lib' in_libdir lib/x86_64-linux-gnu \
+  env libdir=lib/x86_64-linux-gnu ./install
+check 'the library in a folder by its path' in_libdir lib64 ./install "--libdir=$prefix/lib64/"
+check 'the option before the environment' in_libdir lib32 env libdir=lib64 ./install --libdir lib32
+check 'the library in one folder and in another' in_both
+check 'a package' staged lib
+check 'a package with a folder' staged lib/x86_64-linux-gnu
+check 'a package over another file' leaves_own_staged
 check 'the library is installed' does 0 "$library" --library "$prefix"
 check 'the library is removed' does 0 "$(each removed "${library_things[@]}")" \
   --remove "$prefix"
@@ -60,10 +142,14 @@ check 'both are removed' \
 check 'nothing is left of both' [ ! -e "$prefix" ]
 check 'the library is installed again' does 0 "$library" --library "$prefix"
 check 'and over itself' does 0 "$library" --library "$prefix"
-check 'the link' [ "$(readlink "$prefix/lib/librtnl.so")" = librtnl.so.0 ]
-check 'the header' cmp include/rtnl.h "$prefix/include/rtnl.h"
+check 'the link' [ "$(readlink "$prefix/lib/librtnlc.so")" = librtnlc.so.0 ]
+check 'the header' cmp include/rtnlc.h "$prefix/include/rtnlc.h"
+check 'the version of the header' has_lines include/rtnlc.h "#define RTNLC_VERSION \"$version\""
+check 'the version of the manual page' \
+  has_lines "$prefix/$page" "This page is of version $version."
+check 'nothing of the manual page is still to be replaced' [ -z "$(grep @ "$prefix/$page")" ]
 if has pkg-config 'what pkg-config says'; then
   check 'its version' [ "$(flags --modversion)" = "$version" ]
   check 'its flags' \
-    [ "$(flags --cflags --libs | xargs)" = "-I$prefix/include -L$prefix/lib -lrtnl" ]
+    [ "$(flags --cflags --libs | xargs)" = "-I$prefix/include -L$prefix/lib -lrtnlc" ]
 fi

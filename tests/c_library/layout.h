@@ -5,80 +5,140 @@
 #ifndef LAYOUT_H
 #define LAYOUT_H
 
-#include "rtnl.h"
+#include "rtnlc.h"
 
 #define IS_SIZE(type, size) typedef char size_of_##type[sizeof(struct type) == (size) ? 1 : -1]
 #define IS_AT(type, field, place)                                                                \
 	typedef char place_in_##type##_##field[offsetof(struct type, field) == (place) ? 1 : -1]
 
-IS_SIZE(rtnl_options, 8);
-IS_AT(rtnl_options, datagram, 0);
-IS_AT(rtnl_options, depth, 4);
-IS_AT(rtnl_options, big, 5);
+IS_SIZE(rtnlc_options, 24);
+IS_AT(rtnlc_options, total, 0);
+IS_AT(rtnlc_options, datagram, 8);
+IS_AT(rtnlc_options, entries, 12);
+IS_AT(rtnlc_options, depth, 16);
+IS_AT(rtnlc_options, big, 17);
 
-IS_SIZE(rtnl_scanned, 16);
-IS_AT(rtnl_scanned, visits, 0);
-IS_AT(rtnl_scanned, place, 8);
-IS_AT(rtnl_scanned, code, 12);
+IS_SIZE(rtnlc_scanned, 16);
+IS_AT(rtnlc_scanned, visits, 0);
+IS_AT(rtnlc_scanned, place, 8);
+IS_AT(rtnlc_scanned, code, 12);
 
-IS_SIZE(rtnl_event, 16);
-IS_AT(rtnl_event, place, 0);
-IS_AT(rtnl_event, len, 4);
-IS_AT(rtnl_event, number, 8);
-IS_AT(rtnl_event, level, 10);
-IS_AT(rtnl_event, sort, 11);
-IS_AT(rtnl_event, nested, 12);
-IS_AT(rtnl_event, net, 13);
+IS_SIZE(rtnlc_event, 16);
+IS_AT(rtnlc_event, place, 0);
+IS_AT(rtnlc_event, len, 4);
+IS_AT(rtnlc_event, number, 8);
+IS_AT(rtnlc_event, level, 10);
+IS_AT(rtnlc_event, sort, 11);
+IS_AT(rtnlc_event, nested, 12);
+IS_AT(rtnlc_event, net, 13);
 
-IS_SIZE(rtnl_taped, 24);
-IS_AT(rtnl_taped, count, 0);
-IS_AT(rtnl_taped, visits, 8);
-IS_AT(rtnl_taped, place, 16);
-IS_AT(rtnl_taped, code, 20);
+IS_SIZE(rtnlc_taped, 24);
+IS_AT(rtnlc_taped, count, 0);
+IS_AT(rtnlc_taped, visits, 8);
+IS_AT(rtnlc_taped, place, 16);
+IS_AT(rtnlc_taped, code, 20);
 
-IS_SIZE(rtnl_message, 28);
-IS_AT(rtnl_message, place, 0);
-IS_AT(rtnl_message, next, 4);
-IS_AT(rtnl_message, len, 8);
-IS_AT(rtnl_message, seq, 12);
-IS_AT(rtnl_message, port, 16);
-IS_AT(rtnl_message, kind, 20);
-IS_AT(rtnl_message, flags, 22);
-IS_AT(rtnl_message, code, 24);
+IS_SIZE(rtnlc_message, 28);
+IS_AT(rtnlc_message, place, 0);
+IS_AT(rtnlc_message, next, 4);
+IS_AT(rtnlc_message, len, 8);
+IS_AT(rtnlc_message, seq, 12);
+IS_AT(rtnlc_message, port, 16);
+IS_AT(rtnlc_message, kind, 20);
+IS_AT(rtnlc_message, flags, 22);
+IS_AT(rtnlc_message, code, 24);
 
-IS_SIZE(rtnl_attr, 20);
-IS_AT(rtnl_attr, place, 0);
-IS_AT(rtnl_attr, next, 4);
-IS_AT(rtnl_attr, len, 8);
-IS_AT(rtnl_attr, number, 12);
-IS_AT(rtnl_attr, nested, 14);
-IS_AT(rtnl_attr, net, 15);
-IS_AT(rtnl_attr, code, 16);
+IS_SIZE(rtnlc_attr, 20);
+IS_AT(rtnlc_attr, place, 0);
+IS_AT(rtnlc_attr, next, 4);
+IS_AT(rtnlc_attr, len, 8);
+IS_AT(rtnlc_attr, number, 12);
+IS_AT(rtnlc_attr, nested, 14);
+IS_AT(rtnlc_attr, net, 15);
+IS_AT(rtnlc_attr, code, 16);
 
-IS_SIZE(rtnl_hop, 20);
-IS_AT(rtnl_hop, place, 0);
-IS_AT(rtnl_hop, next, 4);
-IS_AT(rtnl_hop, len, 8);
-IS_AT(rtnl_hop, ifindex, 12);
-IS_AT(rtnl_hop, flags, 16);
-IS_AT(rtnl_hop, hops, 17);
-IS_AT(rtnl_hop, code, 18);
+IS_SIZE(rtnlc_hop, 20);
+IS_AT(rtnlc_hop, place, 0);
+IS_AT(rtnlc_hop, next, 4);
+IS_AT(rtnlc_hop, len, 8);
+IS_AT(rtnlc_hop, ifindex, 12);
+IS_AT(rtnlc_hop, flags, 16);
+IS_AT(rtnlc_hop, hops, 17);
+IS_AT(rtnlc_hop, code, 18);
 
-IS_SIZE(rtnl_family, 2);
-IS_AT(rtnl_family, head_size, 0);
-IS_AT(rtnl_family, context, 1);
+IS_SIZE(rtnlc_family, 2);
+IS_AT(rtnlc_family, head_size, 0);
+IS_AT(rtnlc_family, context, 1);
 
-IS_SIZE(rtnl_holds, 2);
-IS_AT(rtnl_holds, sort, 0);
-IS_AT(rtnl_holds, context, 1);
+IS_SIZE(rtnlc_holds, 2);
+IS_AT(rtnlc_holds, sort, 0);
+IS_AT(rtnlc_holds, context, 1);
 
-IS_SIZE(rtnl_checked, 8);
-IS_AT(rtnl_checked, place, 0);
-IS_AT(rtnl_checked, code, 4);
-IS_AT(rtnl_checked, canonical, 5);
+IS_SIZE(rtnlc_checked, 8);
+IS_AT(rtnlc_checked, place, 0);
+IS_AT(rtnlc_checked, code, 4);
+IS_AT(rtnlc_checked, canonical, 5);
 
-IS_SIZE(rtnl_shown, 16);
-IS_AT(rtnl_shown, len, 0);
-IS_AT(rtnl_shown, code, 8);
+IS_SIZE(rtnlc_shown, 16);
+IS_AT(rtnlc_shown, len, 0);
+IS_AT(rtnlc_shown, code, 8);
+
+IS_SIZE(rtnlc_put, 16);
+IS_AT(rtnlc_put, len, 0);
+IS_AT(rtnlc_put, code, 8);
+
+IS_SIZE(rtnlc_status, 48);
+IS_AT(rtnlc_status, received, 0);
+IS_AT(rtnlc_status, visits, 8);
+IS_AT(rtnlc_status, ignored, 16);
+IS_AT(rtnlc_status, seq, 24);
+IS_AT(rtnlc_status, port, 28);
+IS_AT(rtnlc_status, status, 32);
+IS_AT(rtnlc_status, kind, 36);
+IS_AT(rtnlc_status, family, 38);
+IS_AT(rtnlc_status, state, 39);
+IS_AT(rtnlc_status, damaged, 40);
+IS_AT(rtnlc_status, interrupted, 41);
+IS_AT(rtnlc_status, complete, 42);
+IS_AT(rtnlc_status, code, 43);
+
+IS_SIZE(rtnlc_fed, 24);
+IS_AT(rtnlc_fed, events, 0);
+IS_AT(rtnlc_fed, items, 8);
+IS_AT(rtnlc_fed, ignored, 12);
+IS_AT(rtnlc_fed, place, 16);
+IS_AT(rtnlc_fed, ended, 20);
+IS_AT(rtnlc_fed, code, 21);
+
+IS_SIZE(rtnlc_session, 8);
+IS_AT(rtnlc_session, at, 0);
+
+IS_SIZE(rtnlc_table, 24);
+IS_AT(rtnlc_table, missed, 0);
+IS_AT(rtnlc_table, count, 8);
+IS_AT(rtnlc_table, limit, 12);
+IS_AT(rtnlc_table, code, 16);
+
+IS_SIZE(rtnlc_found, 8);
+IS_AT(rtnlc_found, index, 0);
+IS_AT(rtnlc_found, code, 4);
+
+IS_SIZE(rtnlc_stream, 64);
+IS_AT(rtnlc_stream, total, 0);
+IS_AT(rtnlc_stream, received, 8);
+IS_AT(rtnlc_stream, visits, 16);
+IS_AT(rtnlc_stream, ignored, 24);
+IS_AT(rtnlc_stream, datagram, 32);
+IS_AT(rtnlc_stream, entries, 36);
+IS_AT(rtnlc_stream, seq, 40);
+IS_AT(rtnlc_stream, port, 44);
+IS_AT(rtnlc_stream, status, 48);
+IS_AT(rtnlc_stream, kind, 52);
+IS_AT(rtnlc_stream, family, 54);
+IS_AT(rtnlc_stream, state, 55);
+IS_AT(rtnlc_stream, depth, 56);
+IS_AT(rtnlc_stream, big, 57);
+IS_AT(rtnlc_stream, damaged, 58);
+IS_AT(rtnlc_stream, interrupted, 59);
 
 #endif

@@ -5,7 +5,7 @@
 #ifndef LINES_H
 #define LINES_H
 
-#include "rtnl.h"
+#include "rtnlc.h"
 #include <stdio.h>
 #include <stdlib.h>
 #include <string.h>

@@ -1,15 +1,35 @@
 # The library's public names, what it takes of the C library, and the header against the code.
 
-archive=$folder/library/librtnl.a
-shared=$folder/library/librtnl.so.0
+archive=$folder/library/librtnlc.a
+shared=$folder/library/librtnlc.so.0
 
 # declared: the functions of the header.
-declared() { grep -oE '\brtnl_[a-z_]+\(' include/rtnl.h | tr -d '(' | sort -u; }
+declared() { grep -oE '\brtnlc_[a-z_]+\(' include/rtnlc.h | tr -d '(' | sort -u; }
 
-# names_in FILE [OPTION..]: the names that nm prints of it.
-names_in() { nm -j "${@:2}" "$1" | grep -v ':$' | sed '/^$/d; s/@.*//' | sort -u; }
+# names_in FILE [OPTION..]: the names that nm prints of it, but for that of the version itself.
+names_in() {
+  nm -j "${@:2}" "$1" | grep -v ':$' | sed '/^$/d; s/@.*//; /^RTNLC_0\.3$/d' | sort -u
+}
 
-defines_the_calls() { [ "$(declared | wc -l)" = 9 ] && diff <(declared) <(names_in "$@"); }
+# Each call of the header is one that the programs of this folder make.
+calls_all() {
+  diff <(declared) <(grep -ohE '\brtnlc_[a-z_]+\(' tests/c_library/*.[ch] | tr -d '(' | sort -u)
+}
+
+# Each code of the header is one that words.c asks for the name of.
+names_all_codes() {
+  local codes='/^enum rtnlc_code/,/^};/s/^\t(RTNLC_[A-Z_]+) =.*/\1/p'
+  diff <(sed -nE "$codes" include/rtnlc.h | sort) \
+    <(sed -n '/codes\[\]/,/^};/p' tests/c_library/words.c | grep -oE 'RTNLC_[A-Z_]+' | sort)
+}
+
+defines_the_calls() { [ "$(declared | wc -l)" = 28 ] && diff <(declared) <(names_in "$@"); }
+
+# Each call of the shared library carries the version of its interface.
+carries_version() {
+  diff <(declared | sed 's/$/@@RTNLC_0.3/') \
+    <(nm -D --defined-only "$shared" | awk '$2 == "T" { print $3 }' | sort)
+}
 
 # Only functions on memory, and those that the linker itself names.
 takes_memory_alone() {
@@ -21,7 +41,7 @@ takes_memory_alone() {
 # The code lies where it is loaded, without a change.
 is_position_independent() {
   readelf -dW "$shared" >"$folder/dynamic" &&
-    grep -q 'SONAME.*\[librtnl\.so\.0\]' "$folder/dynamic" && ! grep -q TEXTREL "$folder/dynamic"
+    grep -q 'SONAME.*\[librtnlc\.so\.0\]' "$folder/dynamic" && ! grep -q TEXTREL "$folder/dynamic"
 }
 
 # No code may stand on the stack of a program that loads it.
@@ -35,11 +55,14 @@ keeps_nothing() {
   [ "$(awk '{ print $NF }' "$folder/kept")" = nothing ] || ! cat "$folder/kept"
 }
 
-check 'the names that librtnl.a defines' defines_the_calls "$archive" -g --defined-only
-check 'the names that librtnl.so.0 defines' defines_the_calls "$shared" -D --defined-only
-check 'what librtnl.a takes' takes_memory_alone "$archive" --undefined-only
-check 'what librtnl.so.0 takes' takes_memory_alone "$shared" -D --undefined-only
-check 'librtnl.so.0 is position independent' is_position_independent
-check 'the stack that librtnl.so.0 asks for' has_plain_stack
+check 'the names that librtnlc.a defines' defines_the_calls "$archive" -g --defined-only
+check 'the names that librtnlc.so.0 defines' defines_the_calls "$shared" -D --defined-only
+check 'the version of each name' carries_version
+check 'each call is made here' calls_all
+check 'each code is asked for its name' names_all_codes
+check 'what librtnlc.a takes' takes_memory_alone "$archive" --undefined-only
+check 'what librtnlc.so.0 takes' takes_memory_alone "$shared" -D --undefined-only
+check 'librtnlc.so.0 is position independent' is_position_independent
+check 'the stack that librtnlc.so.0 asks for' has_plain_stack
 check 'the library keeps nothing' keeps_nothing
 check 'the header, the code and what lies between them' tests/c_library/structs.py

@@ -56,14 +56,23 @@ agree() {
   sees_all "$1" "$folder/shared"
 }
 
+# quietly COMMAND..: what it prints is not shown.
+quietly() { "$@" >"$folder/said"; }
+
 stays_in_stack() {
-  head -n 200 "$folder/mutated.little" >"$folder/measured" &&
+  head -n 200 "$folder/mutated.little" | cat - "$folder/recorded.little" >"$folder/measured" &&
     "$folder/$1" <"$folder/measured" >"$folder/stack.found"
 }
 
+# finds PROGRAM SORT ORDER: it finds what a walk finds in every region.
+finds() { sees_all "$1" "$folder/$2.$3" "$3"; }
+
+# says_version PROGRAM: the library's version is the program's.
+says_version() { [ "rtnl $("$folder/$1")" = "$("$program" --version)" ]; }
+
 # all_programs NAME COMMAND..: each program by this compiler, built and run.
 all_programs() {
-  local name=$1
+  local name=$1 order sort program_name
   shift
   check "$name: every.c" built every "every $name" "$@"
   every "every $name"
@@ -73,12 +82,23 @@ all_programs() {
   check "$name: allocations refused" refuses "refused $name"
   check "$name: threads.c" built threads "threads $name" "$@"
   check "$name: threads at once" agree "threads $name"
+  check "$name: find.c" built find "find $name" "$@"
+  for order in little big; do
+    for sort in recorded mutated; do
+      check "$name: what is found in $sort datagrams, $order" finds "find $name" "$sort" "$order"
+    done
+  done
+  for program_name in misuse room; do
+    check "$name: $program_name.c" built "$program_name" "$program_name $name" "$@"
+    check "$name: $program_name.c runs" "$folder/$program_name $name"
+  done
+  check "$name: words.c" built words "words $name" "$@"
+  check "$name: names of codes, and the version" says_version "words $name"
 }
 
 all_programs plain cc -std=c99
 all_programs 'with sanitizers' cc -std=c99 -fsanitize=address,undefined -fno-sanitize-recover=all
 echo "allocations refused: $(<"$folder/refusals")"
-
 check 'stack.c' built stack stack cc -std=c99
 check 'the stack of each call' stays_in_stack stack
 echo "stack: $(paste -sd, "$folder/stack.found")"
@@ -90,19 +110,26 @@ for standard in c11 c17; do
   check "$standard: fixed.c runs" "$folder/fixed"
 done
 for standard in c++11 c++17 c++20; do
-  for name in fixed threads stack; do
+  for name in fixed threads stack find misuse room words session stream session_threads dumps \
+    million; do
     check "$standard: $name.c" built "$name" "$name" c++ "-std=$standard" -x c++
   done
-  check "$standard: refused.c" built refused refused c++ "-std=$standard" "$wraps" -x c++
-  check "$standard: fixed.c runs" "$folder/fixed"
+  for name in refused session_refused; do
+    check "$standard: $name.c" built "$name" "$name" c++ "-std=$standard" "$wraps" -x c++
+  done
+  for name in fixed misuse room words; do
+    check "$standard: $name.c runs" quietly "$folder/$name"
+  done
 done
 check 'c++11: every.c' built every every c++ -std=c++11 -x c++
 check 'c++11: calls on recorded datagrams' compares every recorded little
 
-# ThreadSanitizer sees c/rtnl.c's callers and the C library's functions, not what the proved code
+# ThreadSanitizer sees c/rtnlc.c's callers and the C library's functions, not what the proved code
 # reads.
 echo 'int main(void) { return 0; }' >"$folder/try.c"
+thread_sanitizer=no
 if cc -fsanitize=thread "$folder/try.c" -o "$folder/try" 2>/dev/null && "$folder/try"; then
+  thread_sanitizer=yes
   check 'threads.c under ThreadSanitizer' built threads threads cc -std=c99 -fsanitize=thread
   check 'threads at once under ThreadSanitizer' agree threads
 else

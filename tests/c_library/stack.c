@@ -1,49 +1,147 @@
 /*
  * Measures the stack of each call on containers and on next hops that are 32 levels deep, and on
  * each datagram of a recording. The calls run on a stack of their own, which is painted before.
- * It prints the bytes of each, and its status is 1 where one has more than RTNL_STACK.
+ * It prints the bytes of each, and its status is 1 where one has more than RTNLC_STACK.
  */
 #include "made.h"
 #include <ucontext.h>
 
 #define SIZE  ((size_t)1 << 17)
 #define PAINT 0xa5
+#define ROOM  ((size_t)1 << 17)
+
+/* What is called, and its name. */
+struct measured {
+	const char *name;
+	void (*call)(void);
+	size_t most;
+};
 
 static uint8_t *stack;
 static ucontext_t outside, inside;
 static const uint8_t *bytes;
 static size_t len;
-static const struct rtnl_options widest = { 1 << 20, 32, false };
-static struct rtnl_event events[64];
-static char text[1 << 16];
-static unsigned which;
+static const struct rtnlc_options widest = { 1 << 30, 1 << 20, 64, 32, false };
+static struct rtnlc_event events[1 << 15];
+static struct rtnlc_session session;
+static struct rtnlc_stream stream;
+static struct rtnlc_message first;
+static uint8_t out[ROOM], key[ROOM];
+static size_t key_len;
 static unsigned long code;
 
-static const char *const names[] = { "nothing", "scan",      "tape",  "message_at", "attr_at",
-	                                 "hop_at",  "family_of", "holds", "check",      "show" };
+static void call_nothing(void) {}
+static void call_scan(void) { code = rtnlc_scan(bytes, len, &widest).code; }
+static void call_tape(void) { code = rtnlc_tape(bytes, len, &widest, events, 64).code; }
+static void call_message_at(void) { code = rtnlc_message_at(bytes, len, 0, false).code; }
+static void call_attr_at(void) { code = rtnlc_attr_at(bytes, len, 0, false).code; }
+static void call_hop_at(void) { code = rtnlc_hop_at(bytes, len, 0, false).code; }
+static void call_find(void) { code = rtnlc_find(bytes, len, 0, 9999, false).code; }
+static void call_family_of(void) { code = rtnlc_family_of(16).context; }
+static void call_holds(void) { code = rtnlc_holds(RTNLC_LINK, 18, false).sort; }
+static void call_check(void) { code = rtnlc_check(bytes, len, &widest).code; }
 
-static void call(void)
+static void call_show(void)
 {
-	switch (which) {
-	case 1: code = rtnl_scan(bytes, len, &widest).code; break;
-	case 2: code = rtnl_tape(bytes, len, &widest, events, 64).code; break;
-	case 3: code = rtnl_message_at(bytes, len, 0, false).code; break;
-	case 4: code = rtnl_attr_at(bytes + LINK_HEAD, len - LINK_HEAD, 0, false).code; break;
-	case 5: code = rtnl_hop_at(bytes, len, 0, false).code; break;
-	case 6: code = rtnl_family_of(16).context; break;
-	case 7: code = rtnl_holds(RTNL_LINK, 18, false).sort; break;
-	case 8: code = rtnl_check(bytes, len, &widest).code; break;
-	case 9: code = rtnl_show(1, bytes, len, &widest, text, sizeof text).code; break;
-	default: break;
-	}
+	code = rtnlc_show(1, bytes, len, &widest, (char *)out, sizeof out).code;
 }
 
+static void call_request(void) { code = rtnlc_request(16, 0, 1, false, out, sizeof out).code; }
+
+static void call_session_new(void)
+{
+	rtnlc_session_free(&session);
+	code = rtnlc_session_new(&session, &widest);
+}
+
+static void call_session_begin(void)
+{
+	rtnlc_session_abandon(&session);
+	code = rtnlc_session_begin(&session, first.kind, 0, first.seq, first.port, out, ROOM).code;
+}
+
+static void call_session_feed(void) { code = rtnlc_session_feed(&session, bytes, len).code; }
+static void call_session_status(void) { code = rtnlc_session_status(&session).code; }
+
+static void call_session_table(void)
+{
+	code = rtnlc_session_table(&session, first.kind).code;
+}
+
+static void call_session_entry(void)
+{
+	code = rtnlc_session_entry(&session, first.kind, 0, out, ROOM).code;
+}
+
+static void call_session_key(void)
+{
+	key_len = rtnlc_session_key(&session, first.kind, 0, key, ROOM).len;
+}
+
+static void call_session_find(void)
+{
+	code = rtnlc_session_find(&session, first.kind, key, key_len).code;
+}
+
+static void call_session_abandon(void) { code = rtnlc_session_abandon(&session); }
+static void call_session_free(void) { rtnlc_session_free(&session); }
+
+static void call_stream_new(void) { code = rtnlc_stream_new(&stream, &widest); }
+
+static void call_stream_begin(void)
+{
+	code = rtnlc_stream_begin(&stream, first.kind, 0, first.seq, first.port, out, ROOM).code;
+}
+
+static void call_stream_feed(void)
+{
+	code = rtnlc_stream_feed(&stream, bytes, len, events, sizeof events / sizeof *events).code;
+}
+
+static void call_stream_status(void) { code = rtnlc_stream_status(&stream).code; }
+static void call_stream_abandon(void) { code = rtnlc_stream_abandon(&stream); }
+static void call_code_name(void) { code = rtnlc_code_name(RTNLC_CUT) == NULL; }
+static void call_version(void) { code = rtnlc_version() == NULL; }
+
+/* In an order in which a dump is begun, fed and read. */
+static struct measured all[] = {
+	{ "nothing", call_nothing, 0 },
+	{ "scan", call_scan, 0 },
+	{ "tape", call_tape, 0 },
+	{ "message_at", call_message_at, 0 },
+	{ "attr_at", call_attr_at, 0 },
+	{ "hop_at", call_hop_at, 0 },
+	{ "find", call_find, 0 },
+	{ "family_of", call_family_of, 0 },
+	{ "holds", call_holds, 0 },
+	{ "check", call_check, 0 },
+	{ "show", call_show, 0 },
+	{ "request", call_request, 0 },
+	{ "session_new", call_session_new, 0 },
+	{ "session_begin", call_session_begin, 0 },
+	{ "session_feed", call_session_feed, 0 },
+	{ "session_status", call_session_status, 0 },
+	{ "session_table", call_session_table, 0 },
+	{ "session_entry", call_session_entry, 0 },
+	{ "session_key", call_session_key, 0 },
+	{ "session_find", call_session_find, 0 },
+	{ "session_abandon", call_session_abandon, 0 },
+	{ "session_free", call_session_free, 0 },
+	{ "stream_new", call_stream_new, 0 },
+	{ "stream_begin", call_stream_begin, 0 },
+	{ "stream_feed", call_stream_feed, 0 },
+	{ "stream_status", call_stream_status, 0 },
+	{ "stream_abandon", call_stream_abandon, 0 },
+	{ "code_name", call_code_name, 0 },
+	{ "version", call_version, 0 },
+};
+
+#define CALLS (sizeof all / sizeof *all)
+
 /* How many bytes of the painted stack a call touches. */
-static size_t touched(unsigned call_number)
+static size_t touched(void (*call)(void))
 {
 	size_t at = 0;
-	which = call_number;
-	call();
 	memset(stack, PAINT, SIZE);
 	getcontext(&inside);
 	inside.uc_stack.ss_sp = stack;
@@ -56,26 +154,43 @@ static size_t touched(unsigned call_number)
 	return SIZE - at;
 }
 
-/* The most of each call so far. */
-static size_t most[sizeof names / sizeof *names];
-
+/* All calls twice, since the first of a program may be longer by what the loader does. */
 static void measure(uint8_t *block)
 {
-	unsigned call_number;
+	size_t at, times;
 	bytes = block;
-	for (call_number = 0; call_number < sizeof names / sizeof *names; call_number++) {
-		size_t found = touched(call_number);
-		if (found > most[call_number])
-			most[call_number] = found;
-	}
+	first = rtnlc_message_at(bytes, len, 0, false);
+	for (times = 0; times < 2; times++)
+		for (at = 0; at < CALLS; at++) {
+			size_t found = touched(all[at].call);
+			if (times && found > all[at].most)
+				all[at].most = found;
+		}
 	free(block);
+}
+
+/* Whether the deep datagram came into the table and out of it: the calls did their work. */
+static void hold_deep(size_t levels)
+{
+	bytes = chain_of(levels, &len);
+	first = rtnlc_message_at(bytes, len, 0, false);
+	call_session_new();
+	call_session_begin();
+	call_session_feed();
+	call_session_entry();
+	if (code || rtnlc_session_entry(&session, 16, 0, out, ROOM).len != len)
+		fail("the entry of a deep message", levels);
+	rtnlc_session_free(&session);
+	free((void *)(uintptr_t)bytes);
 }
 
 int main(void)
 {
 	struct datagram one = { NULL, 0, 0 };
-	unsigned at, is_above = 0;
+	size_t at;
+	bool is_above = false;
 	stack = (uint8_t *)taken(SIZE);
+	hold_deep(32);
 	measure(chain_of(32, &len));
 	measure(chain_of(33, &len));
 	measure(hops_of(16, &len));
@@ -84,9 +199,9 @@ int main(void)
 		len = one.len;
 		measure(one.bytes);
 	}
-	for (at = 1; at < sizeof names / sizeof *names; at++) {
-		printf("%s %lu\n", names[at], (unsigned long)(most[at] - most[0]));
-		is_above |= most[at] - most[0] > RTNL_STACK;
+	for (at = 1; at < CALLS; at++) {
+		printf("%s %lu\n", all[at].name, (unsigned long)(all[at].most - all[0].most));
+		is_above |= all[at].most - all[0].most > RTNLC_STACK;
 	}
 	free(stack);
 	return is_above ? 1 : 0;

@@ -1,7 +1,7 @@
 #!/usr/bin/env python3
-"""Compares include/rtnl.h and c/rtnl.c with the code of crates/rtnl_c: the names, types and order
-of the fields of each struct, and the parameters and the result of each call. The status is 1 where
-one differs.
+"""Compares include/rtnlc.h and c/rtnlc.c with the code of crates/rtnl_c: the names, types and
+order of the fields of each struct, and the parameters and the result of each call. The status is 1
+where one differs.
 """
 import glob
 import os
@@ -11,18 +11,28 @@ import sys
 ROOT = os.path.join(os.path.dirname(os.path.abspath(__file__)), "../..")
 # The structs of the header by the code's names.
 NAMES = {
-    "Options": "rtnl_options",
-    "Scanned": "rtnl_scanned",
-    "Event": "rtnl_event",
-    "Taped": "rtnl_taped",
-    "MessageAt": "rtnl_message",
-    "AttrAt": "rtnl_attr",
-    "HopAt": "rtnl_hop",
-    "Family": "rtnl_family",
-    "Holds": "rtnl_holds",
-    "Checked": "rtnl_checked",
-    "Shown": "rtnl_shown",
+    "Options": "rtnlc_options",
+    "Scanned": "rtnlc_scanned",
+    "Event": "rtnlc_event",
+    "Taped": "rtnlc_taped",
+    "MessageAt": "rtnlc_message",
+    "AttrAt": "rtnlc_attr",
+    "HopAt": "rtnlc_hop",
+    "Family": "rtnlc_family",
+    "Holds": "rtnlc_holds",
+    "Checked": "rtnlc_checked",
+    "Shown": "rtnlc_shown",
+    "Kept": "rtnlc_stream",
+    "Fed": "rtnlc_fed",
+    "Put": "rtnlc_put",
+    "Status": "rtnlc_status",
+    "TableSize": "rtnlc_table",
+    "FoundEntry": "rtnlc_found",
 }
+# What C keeps of a session has no field that is compared: c/rtnlc.c makes the one of the other.
+APART = ("rtnlc_session", "Handle")
+# Calls that answer words: they are made in c/rtnlc.c alone.
+WORDS = {"code_name", "version"}
 TYPES = {f"u{bits}": f"uint{bits}_t" for bits in (8, 16, 32, 64)}
 TYPES |= {"i32": "int32_t", "usize": "size_t", "bool": "bool"}
 TYPES |= {name: f"struct {it}" for name, it in NAMES.items()}
@@ -31,7 +41,10 @@ PARAMETERS = {"Global": []} | {name: [it] for name, it in TYPES.items()}
 for name in ("u8", "Event"):
     PARAMETERS[f"&[{name}]"] = [f"const {TYPES[name]} *", "size_t"]
     PARAMETERS[f"&mut [{name}]"] = [f"{TYPES[name]} *", "size_t"]
-PARAMETERS["&Options"] = ["const struct rtnl_options *"]
+PARAMETERS["&Options"] = ["const struct rtnlc_options *"]
+PARAMETERS["&Kept"] = ["const struct rtnlc_stream *"]
+PARAMETERS["&mut Kept"] = ["struct rtnlc_stream *"]
+PARAMETERS["&mut Handle"] = ["struct rtnlc_session *"]
 
 
 def text_of(file):
@@ -75,17 +88,17 @@ def types_of(parameters):
 
 
 def calls_in_c(text, prefix):
-    calls = re.findall(rf"(struct \w+) {prefix}_(\w+)\(([^()]*)\);", text)
+    calls = re.findall(rf"(struct \w+|uint8_t|void) {prefix}_(\w+)\(([^()]*)\);", text)
     return {name: (result, types_of(parameters)) for result, name, parameters in calls}
 
 
 def calls_in_code(text):
     found = {}
-    call = r'pub extern "C" fn rtnl_(\w+)\(([^()]*)\) -> (\w+)'
+    call = r'pub extern "C" fn rtnlc_(\w+)\(([^()]*)\)(?: -> (\w+))?'
     for name, parameters, result in re.findall(call, text):
         kinds = [it.partition(":")[2].strip() for it in parameters.split(",") if it.strip()]
         flat = [kind for it in kinds for kind in PARAMETERS.get(it, [f"unknown {it}"])]
-        found[name] = (TYPES.get(result, result), flat)
+        found[name] = (TYPES.get(result, result) or "void", flat)
     return found
 
 
@@ -96,18 +109,25 @@ def differences(what, one, other):
 
 
 def main():
-    header = plain(text_of("include/rtnl.h"))
+    header = plain(text_of("include/rtnlc.h"))
     files = sorted(glob.glob("crates/rtnl_c/src/*.rt", root_dir=ROOT))
     code = "\n".join(map(text_of, files))
     events = structs_in_code(text_of("crates/nl_attr/src/events.rt"))
     calls = calls_in_code(code)
     # A text is of bytes in the code, and of characters in the header.
-    declared = calls_in_c(header.replace("char *", "uint8_t *"), "rtnl")
-    between = calls_in_c(plain(text_of("c/rtnl.c")), "proved")
-    found = [*differences("struct", structs_in_c(header), structs_in_code(code) | events)]
+    declared = calls_in_c(header.replace(" char *out", " uint8_t *out"), "rtnlc")
+    glue = plain(text_of("c/rtnlc.c")).replace("struct handle *", "struct rtnlc_session *")
+    between = calls_in_c(glue, "proved")
+    structs, known = structs_in_c(header), structs_in_code(code) | events
+    for name in APART:
+        structs.pop(name, None)
+        known.pop(name, None)
+    found = [*differences("struct", structs, known)]
     found += differences("the call", declared, calls)
     found += differences("the proved call", between, calls)
-    print("\n".join(found or [f"{len(calls)} calls, {len(structs_in_c(header))} structs"]))
+    names = {*re.findall(r"\brtnlc_(\w+)\(", header)}
+    found += [f"the call {name} is in C alone" for name in sorted(names - {*calls} - WORDS)]
+    print("\n".join(found or [f"{len(calls)} calls, {len(structs)} structs"]))
     return 1 if found or not calls else 0
 
 

@@ -26,23 +26,23 @@ static uint64_t with_number(uint64_t sum, uint64_t number)
 	return added(sum, &number, sizeof number);
 }
 
-static uint64_t with_event(uint64_t sum, struct rtnl_event event)
+static uint64_t with_event(uint64_t sum, struct rtnlc_event event)
 {
-	struct rtnl_holds holds = rtnl_holds((uint8_t)(event.level + 1), event.number, event.nested);
+	struct rtnlc_holds holds = rtnlc_holds((uint8_t)(event.level + 1), event.number, event.nested);
 	sum = with_number(sum, event.place + ((uint64_t)event.len << 32));
 	sum = with_number(sum, event.number * 65536u + event.level * 256u + event.sort * 4u +
 	                           event.nested * 2u + event.net);
 	return with_number(sum,
-	                   holds.sort * 256u + holds.context + rtnl_family_of(event.number).context);
+	                   holds.sort * 256u + holds.context + rtnlc_family_of(event.number).context);
 }
 
-static uint64_t with_datagram(uint64_t sum, const struct datagram *one, struct rtnl_event *events,
+static uint64_t with_datagram(uint64_t sum, const struct datagram *one, struct rtnlc_event *events,
                               char *text)
 {
-	struct rtnl_scanned scanned = rtnl_scan(one->bytes, one->len, NULL);
-	struct rtnl_taped taped = rtnl_tape(one->bytes, one->len, NULL, events, ROOM);
-	struct rtnl_checked checked = rtnl_check(one->bytes, one->len, NULL);
-	struct rtnl_shown shown = rtnl_show(one->number, one->bytes, one->len, NULL, text, ROOM);
+	struct rtnlc_scanned scanned = rtnlc_scan(one->bytes, one->len, NULL);
+	struct rtnlc_taped taped = rtnlc_tape(one->bytes, one->len, NULL, events, ROOM);
+	struct rtnlc_checked checked = rtnlc_check(one->bytes, one->len, NULL);
+	struct rtnlc_shown shown = rtnlc_show(one->number, one->bytes, one->len, NULL, text, ROOM);
 	size_t at;
 	sum = with_number(sum, scanned.visits + scanned.place * 256u + scanned.code);
 	sum = with_number(sum, taped.count + taped.visits + taped.place * 256u + taped.code);
@@ -52,16 +52,16 @@ static uint64_t with_datagram(uint64_t sum, const struct datagram *one, struct r
 	for (at = 0; at < taped.count; at++)
 		sum = with_event(sum, events[at]);
 	for (at = 0; at < one->len; at += 4) {
-		sum = with_number(sum, rtnl_message_at(one->bytes, one->len, (uint32_t)at, false).next);
-		sum = with_number(sum, rtnl_attr_at(one->bytes, one->len, (uint32_t)at, false).next);
-		sum = with_number(sum, rtnl_hop_at(one->bytes, one->len, (uint32_t)at, false).next);
+		sum = with_number(sum, rtnlc_message_at(one->bytes, one->len, (uint32_t)at, false).next);
+		sum = with_number(sum, rtnlc_attr_at(one->bytes, one->len, (uint32_t)at, false).next);
+		sum = with_number(sum, rtnlc_hop_at(one->bytes, one->len, (uint32_t)at, false).next);
 	}
 	return sum;
 }
 
 static void *sum_of_all(void *to)
 {
-	struct rtnl_event *events = (struct rtnl_event *)taken(ROOM * sizeof *events);
+	struct rtnlc_event *events = (struct rtnlc_event *)taken(ROOM * sizeof *events);
 	char *text = (char *)taken(ROOM);
 	uint64_t sum = 14695981039346656037u;
 	size_t at;

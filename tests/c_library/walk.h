@@ -1,5 +1,5 @@
 /*
- * A walk over a datagram by the cursors, rtnl_family_of and rtnl_holds alone. It keeps an event
+ * A walk over a datagram by the cursors, rtnlc_family_of and rtnlc_holds alone. It keeps an event
  * for each head that it meets, up to the first fault.
  */
 #ifndef WALK_H
@@ -12,8 +12,8 @@
 struct walk {
 	const uint8_t *bytes;
 	size_t len, number;
-	struct rtnl_options limits;
-	struct rtnl_event *events; /* room for len / 4 + 1, more than there are heads */
+	struct rtnlc_options limits;
+	struct rtnlc_event *events; /* room for len / 4 + 1, more than there are heads */
 	size_t count;
 	uint64_t visits;
 	uint32_t place;
@@ -27,10 +27,10 @@ static inline bool stop_at(struct walk *w, uint32_t place, uint8_t code)
 	return false;
 }
 
-static inline struct rtnl_event *met(struct walk *w, uint32_t place, uint32_t len, uint8_t sort,
+static inline struct rtnlc_event *met(struct walk *w, uint32_t place, uint32_t len, uint8_t sort,
                                      unsigned level)
 {
-	struct rtnl_event *event = &w->events[w->count++];
+	struct rtnlc_event *event = &w->events[w->count++];
 	memset(event, 0, sizeof *event);
 	event->place = place;
 	event->len = len;
@@ -46,17 +46,17 @@ static inline bool walk_hops(struct walk *w, uint32_t base, uint32_t len, unsign
 {
 	uint32_t at = 0;
 	for (;;) {
-		struct rtnl_hop hop = rtnl_hop_at(w->bytes + base, len, at, w->limits.big);
+		struct rtnlc_hop hop = rtnlc_hop_at(w->bytes + base, len, at, w->limits.big);
 		if (hop.place != at ||
 		    (hop.code && (hop.next != at || hop.len || hop.ifindex || hop.flags || hop.hops)))
 			fail("fields of a next hop that is none", w->number);
-		if (hop.code == RTNL_END)
+		if (hop.code == RTNLC_END)
 			return true;
 		if (hop.code)
 			return stop_at(w, base + at, hop.code);
 		w->visits += hop.next - at;
-		met(w, base + at, hop.len, RTNL_NEXT_HOP, level);
-		if (!walk_attrs(w, base + at + 8, hop.len, RTNL_ROUTE, level + 1))
+		met(w, base + at, hop.len, RTNLC_NEXT_HOP, level);
+		if (!walk_attrs(w, base + at + 8, hop.len, RTNLC_ROUTE, level + 1))
 			return false;
 		at = hop.next;
 	}
@@ -64,15 +64,15 @@ static inline bool walk_hops(struct walk *w, uint32_t base, uint32_t len, unsign
 
 /* What an attribute holds, where it opens levels: no more bytes and no more levels than may be. */
 static inline bool walk_held(struct walk *w, uint32_t place, uint32_t len,
-                             struct rtnl_holds holds, unsigned level)
+                             struct rtnlc_holds holds, unsigned level)
 {
-	if (holds.sort == RTNL_BYTES)
+	if (holds.sort == RTNLC_BYTES)
 		return true;
 	if (4 + len > LONGEST_CONTAINER)
-		return stop_at(w, place, RTNL_TOO_LONG);
-	if (level + (holds.sort == RTNL_HOPS ? 2 : 1) > w->limits.depth)
-		return stop_at(w, place, RTNL_TOO_DEEP);
-	if (holds.sort == RTNL_HOPS)
+		return stop_at(w, place, RTNLC_TOO_LONG);
+	if (level + (holds.sort == RTNLC_HOPS ? 2 : 1) > w->limits.depth)
+		return stop_at(w, place, RTNLC_TOO_DEEP);
+	if (holds.sort == RTNLC_HOPS)
 		return walk_hops(w, place + 4, len, level + 1);
 	return walk_attrs(w, place + 4, len, holds.context, level + 1);
 }
@@ -82,17 +82,17 @@ static inline bool walk_attrs(struct walk *w, uint32_t base, uint32_t len, uint8
 {
 	uint32_t at = 0;
 	for (;;) {
-		struct rtnl_attr attr = rtnl_attr_at(w->bytes + base, len, at, w->limits.big);
-		struct rtnl_holds holds;
-		struct rtnl_event *event;
+		struct rtnlc_attr attr = rtnlc_attr_at(w->bytes + base, len, at, w->limits.big);
+		struct rtnlc_holds holds;
+		struct rtnlc_event *event;
 		if (attr.place != at || (attr.code && (attr.next != at || attr.len || attr.number ||
 		                                       attr.nested || attr.net)))
 			fail("fields of an attribute that is none", w->number);
-		if (attr.code == RTNL_END)
+		if (attr.code == RTNLC_END)
 			return true;
 		if (attr.code)
 			return stop_at(w, base + at, attr.code);
-		holds = rtnl_holds(context, attr.number, attr.nested);
+		holds = rtnlc_holds(context, attr.number, attr.nested);
 		w->visits += attr.next - at;
 		event = met(w, base + at, attr.len, holds.sort, level);
 		event->number = attr.number;
@@ -108,17 +108,17 @@ static inline bool walk_messages(struct walk *w)
 {
 	uint32_t at = 0;
 	for (;;) {
-		struct rtnl_message message = rtnl_message_at(w->bytes, w->len, at, w->limits.big);
-		struct rtnl_family family = rtnl_family_of(message.kind);
+		struct rtnlc_message message = rtnlc_message_at(w->bytes, w->len, at, w->limits.big);
+		struct rtnlc_family family = rtnlc_family_of(message.kind);
 		if (message.place != at ||
 		    (message.code && (message.next != at || message.len || message.seq || message.port ||
 		                      message.kind || message.flags)))
 			fail("fields of a message that is none", w->number);
-		if (message.code == RTNL_END)
+		if (message.code == RTNLC_END)
 			return true;
 		if (message.code)
 			return stop_at(w, at, message.code);
-		met(w, at, message.len, RTNL_MESSAGE, 0)->number = message.kind;
+		met(w, at, message.len, RTNLC_MESSAGE, 0)->number = message.kind;
 		if (family.head_size && !walk_attrs(w, at + 16 + family.head_size,
 		                                    message.len - family.head_size, family.context, 0))
 			return false;
@@ -128,7 +128,7 @@ static inline bool walk_messages(struct walk *w)
 
 /* Walks over a datagram of at most as many bytes as the limits say. */
 static inline struct walk walked(const uint8_t *bytes, size_t len, size_t number,
-                                 struct rtnl_options limits)
+                                 struct rtnlc_options limits)
 {
 	struct walk w;
 	memset(&w, 0, sizeof w);
@@ -136,9 +136,9 @@ static inline struct walk walked(const uint8_t *bytes, size_t len, size_t number
 	w.len = len;
 	w.number = number;
 	w.limits = limits;
-	w.events = (struct rtnl_event *)taken((len / 4 + 1) * sizeof *w.events);
+	w.events = (struct rtnlc_event *)taken((len / 4 + 1) * sizeof *w.events);
 	if (len > limits.datagram)
-		stop_at(&w, 0, RTNL_TOO_LARGE);
+		stop_at(&w, 0, RTNLC_TOO_LARGE);
 	else
 		walk_messages(&w);
 	return w;

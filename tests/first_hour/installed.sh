@@ -5,12 +5,12 @@ place=$folder/place
 mkdir "$place"
 cat >"$tree/c/build.sh" <<'TEXT'
 #!/usr/bin/env bash
-echo one >"$1/librtnl.a" && echo two >"$1/librtnl.so.0" && ln -s librtnl.so.0 "$1/librtnl.so"
+echo one >"$1/librtnlc.a" && echo two >"$1/librtnlc.so.0" && ln -s librtnlc.so.0 "$1/librtnlc.so"
 TEXT
 chmod +x "$tree/c/build.sh"
 library_crates=(nl_attr nl_route nl_frame nl_table nl_dump rtnl rtnl_c)
-library_things=(include/rtnl.h lib/librtnl.a lib/librtnl.so.0 lib/librtnl.so lib/pkgconfig/rtnl.pc
-  share/rtnl/installed)
+library_things=(include/rtnlc.h lib/librtnlc.a lib/librtnlc.so.0 lib/librtnlc.so lib/pkgconfig/rtnlc.pc
+  share/man/man3/rtnlc.3 share/rtnl/installed)
 not_proved='install: the program is not proved on this machine; --proved proves it first'
 install() { "${from_afar[@]}" "$tree/install" "$@" "$place"; }
 
@@ -55,7 +55,7 @@ rtnl: nl_dump could not be proved and built; see $library_log" failing nl_dump i
 # puts_library NOTE LINES: the library is installed, and the record keeps its note of the program.
 puts_library() {
   ends 0 "$(put "${library_things[@]}")" "$2" install --library && notes "$1" &&
-    [ "$(<"$place/lib/librtnl.so")" = two ]
+    [ "$(<"$place/lib/librtnlc.so")" = two ]
 }
 goes_on_with_library() {
   rm -f "$calls"

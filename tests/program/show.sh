@@ -36,8 +36,8 @@ expect 'help of show' 0 "$any" '' show --help <<<"$finish"
 expect 'help of request, as a command' 0 "$any" '' help request <<<"$finish"
 check 'help, a full device' ends 3 '' "$write_fault" into_full_device --help </dev/null
 check 'help of table, standard output closed' ends 3 '' "$write_fault" into_closed_output table --help </dev/null
-expect 'version' 0 'rtnl 0.1.0' '' --version <<<"$finish"
-expect 'version, in short' 0 'rtnl 0.1.0' '' -V <<<"$finish"
+expect 'version' 0 'rtnl 0.3.0' '' --version <<<"$finish"
+expect 'version, in short' 0 'rtnl 0.3.0' '' -V <<<"$finish"
 check 'version, a full device' ends 3 '' "$write_fault" into_full_device --version </dev/null
 check 'version, standard output closed' ends 3 '' "$write_fault" into_closed_output -V </dev/null
 ln -s "$program" "$folder/rtnl"
