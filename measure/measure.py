@@ -2,6 +2,7 @@
 """Measures what docs/PERFORMANCE.md shows, and prints it as its tables.
 
 usage: measure/measure.py [FOLDER]
+       measure/measure.py --dumps
 
 FOLDER holds recordings of dumps, NAME.hex, one kind of message each, as measure/record.sh makes them; with none,
 examples/. It needs the programs that the gate builds (crates/rtnl_cli/out/rtnl_cli, crates/rtnl_bench/out/rtnl_bench,
@@ -11,6 +12,11 @@ cc, pkg-config and those libraries are installed, and GNU time for memory; what 
 Instructions are those that callgrind counts: of three passes less one pass, halved, over the bytes of the datagrams;
 of a whole program for N datagrams and for twice as many, one less the other. Times are those of the processor, the
 shortest of a hundred. Larger recordings are made by repeating.
+
+With --dumps it prints the tables of a stream and of a session of the C library alone, which takes some five minutes:
+over dumps of routes, and of links like that of examples/links.hex, which it makes up. Beside them it runs programs over
+libmnl and libnl. Packages that are missing are installed where that can be. Instructions are those of a whole program,
+less those of one that only reads the same file.
 """
 import os
 import re
@@ -36,6 +42,17 @@ RUNS = 100
 # The dumps that `ip` shows from a file, by their message type: what it calls them, and what stands before them.
 DUMPS = {20: ("address", 0x47361222), 24: ("route", 0x45311224)}
 
+
+# How many links and routes the dumps have, how many routes a datagram, and the bytes of one of links at most.
+LINKS = 65_536
+FEW, MANY = 10_000, 1_000_000
+ROUTES, DATAGRAM = 300, 32_768
+
+# What the dumps need, as tests/packages.sh takes it.
+PACKAGES = [
+    "cc", "gcc", "pkg-config", "pkg-config", "valgrind", "valgrind", "/usr/bin/time", "time",
+    "/usr/include/libmnl/libmnl.h", "libmnl-dev", "/usr/include/libnl3/netlink/netlink.h", "libnl-3-dev",
+    "/usr/include/libnl3/netlink/route/link.h", "libnl-route-3-dev"]
 
 # What a recording is a dump of, by the type of its first message.
 KINDS = {16: "link", 20: "addr", 24: "route", 28: "neigh", 32: "rule"}
@@ -109,12 +126,12 @@ def whole(command, files):
     return None if first is None or second is None else second - first
 
 
-def peak(command):
+def peak(command, *before):
     """The greatest memory of a command, in megabytes."""
     if not os.path.exists("/usr/bin/time"):
         return None
-    run = subprocess.run(
-        ["/usr/bin/time", "-f", "%M", *command], stdout=subprocess.DEVNULL, stderr=subprocess.PIPE, check=False)
+    timed = [*before, "/usr/bin/time", "-f", "%M", *command]
+    run = subprocess.run(timed, stdout=subprocess.DEVNULL, stderr=subprocess.PIPE, check=False)
     return int(run.stderr.split()[-1]) * 1024 / 1_000_000
 
 
@@ -131,12 +148,13 @@ def compiled(folder, name, package):
     return None if subprocess.run(command, check=False).returncode else program
 
 
-def over_ours(folder):
+def over_ours(folder, name="librtnlc"):
     """The program over our C library, or none where it can't be made."""
-    source, program = os.path.join(TOP, "measure/librtnl.c"), os.path.join(folder, "librtnl")
+    source, program = os.path.join(TOP, "measure", name + ".c"), os.path.join(folder, name)
     if not shutil.which("cc") or subprocess.run([os.path.join(TOP, "c/build.sh"), folder], check=False).returncode:
         return None
-    command = ["cc", "-O2", "-I" + os.path.join(TOP, "include"), "-o", program, source, program + ".a"]
+    archive = os.path.join(folder, "librtnlc.a")
+    command = ["cc", "-O2", "-I" + os.path.join(TOP, "include"), "-o", program, source, archive]
     return None if subprocess.run(command, check=False).returncode else program
 
 
@@ -194,7 +212,7 @@ def library(folder, recordings, costs):
     nl = compiled(folder, "libnl", "libnl-route-3.0")
     ways = [(ours, "scan"), (ours, "tape"), (ours, "cursors"), (mnl, "loops"), (mnl, "callbacks"), (nl,)]
     commands = [list(way) if way[0] else None for way in ways]
-    heads = ["`rtnl_scan`", "`rtnl_tape`", "cursors", "libmnl, loops", "libmnl, callbacks", "libnl"]
+    heads = ["`rtnlc_scan`", "`rtnlc_tape`", "cursors", "libmnl, loops", "libmnl, callbacks", "libnl"]
     rows = [("recording", "bytes", *heads)]
     for name, datagrams in recordings:
         size = sum(map(len, datagrams))
@@ -276,17 +294,36 @@ def hostile(folder):
     table(*rows)
 
 
+def message(kind, body):
+    """A message of a dump, with the sequence number 1 and the port 2."""
+    return struct.pack("<IHHII", 16 + len(body), kind, 2, 1, 2) + body
+
+
+def dumped(messages, each):
+    """The datagrams of a dump, so many messages in each, as a kernel sends them."""
+    datagrams = [b"".join(messages[at:at + each]) for at in range(0, len(messages), each)]
+    return datagrams + [message(3, struct.pack("<i", 0))]
+
+
+def route(attributes):
+    """A route with these attributes."""
+    return message(24, struct.pack("<BBBBBBBBI", 2, 32, 0, 0, 254, 3, 0, 1, 0) + attributes)
+
+
+def number(kind, value, form="<I"):
+    """An attribute that holds a number."""
+    return attribute(kind, struct.pack(form, value))
+
+
+def destination(index):
+    """RTA_DST of one route of many."""
+    return number(1, 0x0A000000 + index, ">I")
+
+
 def dump_of(routes):
-    """The datagrams of a dump of so many routes, as a kernel sends them, with the sequence number 1 and the port 2."""
-    messages = []
-    for number in range(routes):
-        attributes = (
-            attribute(15, struct.pack("<I", 254)) + attribute(1, struct.pack(">I", 0x0A000000 + number))
-            + attribute(6, struct.pack("<I", 100)) + attribute(4, struct.pack("<I", 5)))
-        body = struct.pack("<BBBBBBBBI", 2, 32, 0, 0, 254, 3, 0, 1, 0) + attributes
-        messages.append(struct.pack("<IHHII", 16 + len(body), 24, 2, 1, 2) + body)
-    datagrams = [b"".join(messages[at:at + 64]) for at in range(0, routes, 64)]
-    return datagrams + [struct.pack("<IHHIIi", 20, 3, 2, 1, 2, 0)]
+    """The datagrams of a dump of so many routes."""
+    others = number(6, 100) + number(4, 5)
+    return dumped([route(number(15, 254) + destination(index) + others) for index in range(routes)], 64)
 
 
 def tables(folder):
@@ -304,7 +341,99 @@ def tables(folder):
     table(*rows)
 
 
+def short_route(index):
+    """One with RTA_DST and RTA_OIF: 44 bytes."""
+    return route(destination(index) + number(4, 5))
+
+
+def long_route(index):
+    """One with RTA_TABLE, RTA_DST, RTA_PREFSRC, RTA_GATEWAY, RTA_OIF, RTA_PRIORITY and two metrics: 96 bytes."""
+    from_to = number(7, 0xC0000201, ">I") + number(5, 0xC00002FE, ">I")
+    metrics = attribute(8, number(2, 1400) + number(8, 1360))
+    return route(number(15, 254) + destination(index) + from_to + number(4, 5) + number(6, 100) + metrics)
+
+
+def link_like(recorded, index):
+    """The link that was recorded, with an IFINDEX and an IFNAME of its own, which is its first attribute."""
+    behind = 32 + (struct.unpack_from("<H", recorded, 32)[0] + 3) // 4 * 4
+    family = recorded[16:20] + struct.pack("<i", index + 1) + recorded[24:32]
+    return message(16, family + attribute(3, b"eth%05d\0" % index) + recorded[behind:])
+
+
+def beyond_reading(program, way, file):
+    """The instructions of a program over a file, less those for reading it."""
+    read, all_of_it = (instructions([program, it, file]) for it in ("read", way))
+    return None if read is None or all_of_it is None else all_of_it - read
+
+
+def held(command, *options):
+    """The greatest memory that a program has from malloc, or with --stacks=yes and its stack, in bytes."""
+    with tempfile.NamedTemporaryFile("r", encoding="ascii") as file:
+        massif = ["valgrind", "--tool=massif", "--peak-inaccuracy=0.0", f"--massif-out-file={file.name}", *options]
+        run = subprocess.run(
+            [*massif, *command], stdout=subprocess.DEVNULL, stderr=subprocess.DEVNULL, check=False)
+        found = re.findall(r"^mem_heap_B=(\d+)\nmem_heap_extra_B=(\d+)\nmem_stacks_B=(\d+)$", file.read(), re.M)
+    return max(sum(map(int, it)) for it in found) if run.returncode == 0 else None
+
+
+def resident(command):
+    """The greatest memory of a command, in megabytes: of ten runs, whose parts lie at the same addresses."""
+    found = [peak(command, "setarch", "-R") for _ in range(10)]
+    return None if None in found else max(found)
+
+
+def streams(folder, ours, mnl):
+    """Routes that go through a stream, and through libmnl's loop."""
+    ways = [program and [program, way] for program in (ours, mnl) for way in ("stream", "routes")]
+    costs = [("routes", "bytes", "stream", "stream, with a look", "libmnl", "libmnl, with a look")]
+    held_by = "heap and stack, bytes", "all, megabytes"
+    memory = [("routes", *(f"{name}: {what}" for name in ("stream", "libmnl") for what in held_by))]
+    for name, made in ("44 bytes", short_route), ("96 bytes", long_route):
+        for routes in FEW, MANY:
+            datagrams = dumped([made(index) for index in range(routes)], ROUTES)
+            size, file = sum(map(len, datagrams)), kept(folder, "dump", sized(datagrams))
+            what = f"{routes:,} of {name}"
+            found = (way and beyond_reading(*way, file) for way in ways)
+            costs.append((what, f"{size:,}", *(shown(each, size, "{:.2f}") for each in found)))
+            looks = [way and [*way, file] for way in ways[1::2]]
+            memory.append((what, *(it for way in looks for it in (
+                shown(way and held(way, "--stacks=yes"), 1, "{:,.0f}"), shown(way and resident(way), 1, "{:.2f}")))))
+    table(*costs)
+    table(*memory)
+
+
+def sessions(folder, ours, nl):
+    """Links in the table of a session, and in libnl's cache."""
+    recorded = datagrams_of(os.path.join(TOP, "examples/links.hex"))[0]
+    links = [link_like(recorded, index) for index in range(LINKS)]
+    datagrams = dumped(links, DATAGRAM // len(links[0]))
+    size, file = sum(map(len, datagrams)), kept(folder, "dump", sized(datagrams))
+    rows = [("way", "instructions a byte", "heap, megabytes", "heap, bytes a link", "all, megabytes")]
+    ways = ("session", ours, "links"), ("`nl_cache_add`", nl, "parsed"), ("`nl_cache_pickup`", nl, "pickup")
+    for name, program, way in ways:
+        if program:
+            command = [program, way, file]
+            heap = held(command)
+            rows.append((
+                name, shown(beyond_reading(*command), size, "{:.2f}"), shown(heap, 1_000_000),
+                shown(heap, LINKS, "{:,.0f}"), shown(resident(command))))
+    print(f"{LINKS:,} links, {size:,} bytes of datagrams:\n")
+    table(*rows)
+
+
+def dumps():
+    """What a stream and a session of our C library take, beside libmnl and libnl."""
+    subprocess.run([os.path.join(TOP, "tests/packages.sh"), *PACKAGES], check=False)
+    with tempfile.TemporaryDirectory() as folder:
+        ours = over_ours(folder, "dumps_rtnlc")
+        streams(folder, ours, compiled(folder, "dumps_libmnl", "libmnl"))
+        sessions(folder, ours, compiled(folder, "dumps_libnl", "libnl-route-3.0"))
+
+
 def main():
+    if sys.argv[1:] == ["--dumps"]:
+        dumps()
+        return
     folder = sys.argv[1] if len(sys.argv) > 1 else os.path.join(TOP, "examples")
     names = sorted(name for name in os.listdir(folder) if name.endswith(".hex"))
     recordings = [(name[:-4], datagrams_of(os.path.join(folder, name))) for name in names]

@@ -1,0 +1,75 @@
+/* Goes over a recording's datagrams by the calls of the C library, and counts what it finds; it
+ * keeps nothing.
+ * usage: librtnlc scan|tape|cursors PASSES < BINARY, where each datagram stands behind its
+ * size, four bytes, lowest first. */
+#include <rtnlc.h>
+#include <stdio.h>
+#include <stdlib.h>
+#include <string.h>
+
+static unsigned long count;
+static struct rtnlc_event events[1 << 16];
+
+static void attributes(const uint8_t *region, uint32_t size, uint8_t context);
+
+static void next_hops(const uint8_t *region, uint32_t size)
+{
+	struct rtnlc_hop hop;
+
+	for (uint32_t at = 0; hop = rtnlc_hop_at(region, size, at, false), hop.code == RTNLC_OK; at = hop.next)
+		attributes(region + at + 8, hop.len, RTNLC_ROUTE);
+}
+
+static void attributes(const uint8_t *region, uint32_t size, uint8_t context)
+{
+	struct rtnlc_attr attr;
+
+	for (uint32_t at = 0; attr = rtnlc_attr_at(region, size, at, false), attr.code == RTNLC_OK; at = attr.next) {
+		struct rtnlc_holds holds = rtnlc_holds(context, attr.number, attr.nested);
+
+		count += attr.number + attr.len;
+		if (holds.sort == RTNLC_LIST)
+			attributes(region + at + 4, attr.len, holds.context);
+		else if (holds.sort == RTNLC_HOPS)
+			next_hops(region + at + 4, attr.len);
+	}
+}
+
+static void by_cursors(const uint8_t *bytes, uint32_t size)
+{
+	struct rtnlc_message message;
+
+	for (uint32_t at = 0; message = rtnlc_message_at(bytes, size, at, false), message.code == RTNLC_OK; at = message.next) {
+		struct rtnlc_family family = rtnlc_family_of(message.kind);
+
+		count++;
+		if (family.context != RTNLC_NO_CONTEXT)
+			attributes(bytes + at + 16 + family.head_size, message.len - family.head_size, family.context);
+	}
+}
+
+int main(int argc, char **argv)
+{
+	static uint8_t bytes[1 << 24];
+	static const struct rtnlc_options options = { .datagram = 1 << 20, .depth = RTNLC_STANDARD_DEPTH };
+	size_t size = fread(bytes, 1, sizeof(bytes), stdin);
+	const char *way = argc > 1 ? argv[1] : "scan";
+	int passes = argc > 2 ? atoi(argv[2]) : 1;
+
+	while (passes-- > 0) {
+		for (size_t at = 0; at + 4 <= size;) {
+			uint32_t len;
+
+			memcpy(&len, bytes + at, 4);
+			if (!strcmp(way, "scan"))
+				count += rtnlc_scan(bytes + at + 4, len, &options).visits;
+			else if (!strcmp(way, "tape"))
+				count += rtnlc_tape(bytes + at + 4, len, &options, events, sizeof(events) / sizeof(*events)).count;
+			else
+				by_cursors(bytes + at + 4, len);
+			at += 4 + ((len + 3) & ~3u);
+		}
+	}
+	printf("%lu\n", count);
+	return 0;
+}
