@@ -1,8 +1,9 @@
 #!/usr/bin/env python3
 """Compares names and numbers with the kernel's headers, by the C compiler: those of attributes in
-crates/rtnl/specs, of message types, and the fields of the structs that `show --bytes` names, with
-their places and sizes. What these headers do not have yet is counted, and no failure. The last line
-is 'N passed, M failed', and the status is 1 where one differs.
+crates/*/specs and what else they have of the headers, of message types, and the fields of the
+structs that `show --bytes` names, with their places and sizes. What these headers do not have yet
+is counted, and no failure. The last line is 'N passed, M failed', and the status is 1 where one
+differs.
 """
 import os
 import re
@@ -32,6 +33,14 @@ TYPES = {
     24: "RTM_NEWROUTE", 25: "RTM_DELROUTE", 26: "RTM_GETROUTE",
     28: "RTM_NEWNEIGH", 29: "RTM_DELNEIGH", 30: "RTM_GETNEIGH",
     32: "RTM_NEWRULE", 33: "RTM_DELRULE", 34: "RTM_GETRULE",
+}
+# What else of the headers stands in specs/ as a number.
+FIXED = {
+    "NUMBERS": "(NLA_TYPE_MASK & 0xffff) + 1",
+    "NLA_F_NESTED": "NLA_F_NESTED",
+    "NLA_F_NET_BYTEORDER": "NLA_F_NET_BYTEORDER",
+    "AF_BRIDGE": "AF_BRIDGE",
+    "IDENTIFYING_FLAGS": "(NTF_SELF | NTF_MASTER | NTF_PROXY)",
 }
 STRUCTS = "nlmsghdr rtnexthop ifinfomsg ifaddrmsg rtmsg ndmsg fib_rule_hdr".split()
 FIELD = re.compile(r'\("(\w+)", (\d), ')
@@ -90,6 +99,7 @@ def refused(says: List[str]) -> List[int]:
 
 def main() -> int:
     cases = [*attributes(), *((name, f"{name} == {number}", "0") for number, name in TYPES.items())]
+    cases += ((name, f"{says} == {reference.FIXED[name]}", "0") for name, says in FIXED.items())
     cases += structs()
     others = [cases[at] for at in refused([holds for _, holds, _ in cases])]
     wrong = [others[at][0] for at in refused([is_newer for _, _, is_newer in others])]

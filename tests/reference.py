@@ -3,34 +3,45 @@
 It reads, writes and prints datagrams, feeds them to a dump and makes requests, so that compare.py can hold
 the built program against it. Limits that are not arguments are the standard ones; a session's total is not
 here, since no recording reaches it. The names and forms of attributes, types and bits are those of
-crates/rtnl/specs. An order is a prefix of the module struct: `<` for little, `>` for big.
+crates/rtnl/specs, and the numbers that stand there by name those of the crates below. An order is a prefix of the module struct: `<` for little, `>` for big.
 """
 import os
 import re
 import struct
 
 DEPTH, LARGEST, ENTRIES = 8, 65536, 4096
-SPECS = os.path.join(os.path.dirname(os.path.abspath(__file__)), "../crates/rtnl/specs")
+CRATES = os.path.join(os.path.dirname(os.path.abspath(__file__)), "../crates")
+FAMILY_FILES = "Link", "Addr", "Route", "Neigh", "Rule"
+NAMED = "nl_attr/Fixed", *(f"nl_route/{name}" for name in FAMILY_FILES), "nl_table/Neigh"
+NUMBER = re.compile(r"^([A-Z]\w+) = (\w+)$", re.M)
 ROW = re.compile(r'\((\w+), codes "(\w+)", (\w+)\)|\(codes "(\w+)", (0x[0-9a-f]+)\)')
+
+
+def specs(crate, name):
+    with open(f"{CRATES}/{crate}/specs/{name}.antt", encoding="utf-8") as file:
+        return file.read()
+
+
+FIXED = {name: int(number, 0) for path in NAMED for name, number in NUMBER.findall(specs(*path.split("/")))}
 
 
 def tables(*names):
     """The tables of some files: rows of a number, a name and a form, or of a name and a bit."""
     found, rows = {}, []
     for name in names:
-        with open(f"{SPECS}/{name}.antt", encoding="utf-8") as lines:
-            for line in lines:
-                head, front = re.match(r"(\w+) =\s*$", line), re.match(r"\s+(\w+) \+\+", line)
-                if head:
-                    rows = found.setdefault(head[1], [])
-                if front:
-                    rows += found[front[1]]
-                for number, text, form, bit_name, bit in ROW.findall(line):
-                    rows.append((int(number, 0), text, form) if number else (bit_name, int(bit, 16)))
+        for line in specs("rtnl", name).splitlines():
+            head, front = re.match(r"(\w+) =\s*$", line), re.match(r"\s+(\w+) \+\+", line)
+            if head:
+                rows = found.setdefault(head[1], [])
+            if front:
+                rows += found[front[1]]
+            for number, text, form, bit_name, bit in ROW.findall(line):
+                value = FIXED.get(number) or int(number or bit, 0)
+                rows.append((value, text, form) if number else (bit_name, value))
     return found
 
 
-ROWS = tables("Link", "Addr", "Route", "Neigh", "Rule")
+ROWS = tables(*FAMILY_FILES)
 BITS, CONTROLS = tables("NamedBits"), tables("Types")["controls"]
 CONTEXTS = {
     "Link": "link_rows",

@@ -3,7 +3,7 @@ use Rattle.std.specs.Prelude.{◌≡◌, ◌%◌, ℕ, nat_lt, if◌then◌else�
 use Rattle.nl_attr.specs.declared.order.Order.{Order}
 use Rattle.nl_attr.specs.declared.fault.Fault.{Fault}
 use Rattle.nl_attr.specs.declared.fault.Reason.{Reason}
-use Rattle.nl_attr.specs.declared.tree.TheConstants.{NUMBERS}
+use Rattle.nl_attr.specs.Fixed.{NUMBERS}
 use Rattle.nl_attr.specs.declared.broken.HeadKind.{HeadKind}
 use Rattle.nl_attr.specs.declared.broken.HeadKind.TheVariants.{Attribute, NextHop}
 use Rattle.nl_attr.specs.declared.broken.BrokenHead.{BrokenHead}

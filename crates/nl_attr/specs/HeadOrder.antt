@@ -1,6 +1,6 @@
 -- The heads of a region in the order in which a scan comes to them, up to the fault that ends it, and the event of each.
 use Rattle.std.specs.Prelude.{◌≡◌, ◌<◌, ◌⊎◌, ◌+◌, ◌-◌, ◌%◌, ℕ, zero, suc, false, List, [], ◌∷◌, ◌++◌, length, map, take, drop, Option, Some, None}
-use Rattle.nl_attr.specs.declared.tree.TheConstants.{NUMBERS}
+use Rattle.nl_attr.specs.Fixed.{NUMBERS, SORT_BYTES, SORT_LIST, SORT_HOPS, SORT_NEXT_HOP}
 use Rattle.nl_attr.specs.declared.fault.Fault.{Fault}
 use Rattle.nl_attr.specs.declared.fault.Reason.{Reason}
 use Rattle.nl_attr.specs.declared.fault.Reason.TheVariants.{Cut, BadLength, ShortBody, TooLong, TooDeep}
@@ -9,7 +9,6 @@ use Rattle.nl_attr.specs.declared.tree.Content.{Content}
 use Rattle.nl_attr.specs.declared.tree.Content.TheVariants as content
 use Rattle.nl_attr.specs.declared.order.Order.{Order}
 use Rattle.nl_attr.specs.declared.events.Event.{Event}
-use Rattle.nl_attr.specs.declared.events.TheConstants.{SORT_BYTES, SORT_LIST, SORT_HOPS, SORT_NEXT_HOP}
 use Rattle.nl_attr.specs.Shape.{Shape}
 use Rattle.nl_attr.specs.Numbers.{kind_of}
 use Rattle.nl_attr.specs.Walk.{flags_of, payload_of}

@@ -1,3 +1,4 @@
+pub mod Fixed
 pub mod Numbers
 pub mod Shape
 pub mod Walk

@@ -1,7 +1,7 @@
 -- The events of a list: those of a scan of the region that it fits, in the order of its heads.
 use Rattle.std.specs.Prelude.{◌+◌, ◌==◌, ℕ, if◌then◌else◌, List, [], ◌∷◌, ◌++◌}
 use Rattle.nl_attr.specs.declared.events.Event.{Event}
-use Rattle.nl_attr.specs.declared.events.TheConstants.{SORT_BYTES, SORT_LIST, SORT_HOPS}
+use Rattle.nl_attr.specs.Fixed.{SORT_BYTES, SORT_LIST, SORT_HOPS}
 use Rattle.nl_attr.specs.Numbers.{aligned}
 use Rattle.nl_attr.specs.Tree.{Val, bytes, list, hops, Items, no_items, item, HopItems, no_hops, hop}
 use Rattle.nl_attr.specs.Written.{val_len, items_len}

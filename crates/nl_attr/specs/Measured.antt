@@ -1,7 +1,6 @@
 -- What one walk over a list measures: nothing where it is mismatched, else whether it is too deep, and its length where it is not too long.
 use Rattle.std.specs.Prelude.{ℕ, ◌+◌, ◌-◌, false, ◌||◌, nat_lt, if◌then◌else◌, length, Option, Some, None, Result, Err, ok_or}
-use Rattle.nl_attr.specs.declared.limits.TheConstants.{LONGEST_REGION, LONGEST_ITEM}
-use Rattle.nl_attr.specs.declared.tree.TheConstants.{NUMBERS}
+use Rattle.nl_attr.specs.Fixed.{LONGEST_REGION, LONGEST_ITEM, NUMBERS}
 use Rattle.nl_attr.specs.declared.fault.WriteError.{WriteError}
 use Rattle.nl_attr.specs.declared.fault.WriteError.TheVariants.{Mismatch, TooDeep, TooLong}
 use Rattle.nl_attr.specs.declared.measuring.Extent.{Extent}

@@ -1,6 +1,6 @@
 -- Open regions: what is left to read of them, and how they lie in one another.
 use Rattle.std.specs.Prelude.{◌≡◌, ◌+◌, ◌<◌, ◌≤◌, ℕ, suc, List, [], ◌∷◌, ◌++◌, length, map, Some, None, Result, Ok, Err}
-use Rattle.nl_attr.specs.declared.limits.TheConstants.{LONGEST_REGION, FARTHEST_END}
+use Rattle.nl_attr.specs.Fixed.{LONGEST_REGION, FARTHEST_END}
 use Rattle.nl_attr.specs.declared.fault.ListError.{ListError}
 use Rattle.nl_attr.specs.declared.fault.ListError.TheVariants.{Layout, Memory}
 use Rattle.nl_attr.specs.declared.tree.AttrFlags.{AttrFlags}

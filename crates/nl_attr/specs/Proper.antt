@@ -3,8 +3,7 @@ use Rattle.std.specs.Prelude.{◌<◌, ◌≤◌, ◌+◌, ◌⊎◌, ℕ, FitsS
 use Rattle.std.specs.Int.{w32}
 use Rattle.nl_attr.specs.declared.fault.WriteError.{WriteError}
 use Rattle.nl_attr.specs.declared.fault.WriteError.TheVariants.{Mismatch, TooDeep, TooLong, Memory}
-use Rattle.nl_attr.specs.declared.limits.TheConstants.{LONGEST_REGION, LONGEST_ITEM}
-use Rattle.nl_attr.specs.declared.tree.TheConstants.{NUMBERS}
+use Rattle.nl_attr.specs.Fixed.{LONGEST_REGION, LONGEST_ITEM, NUMBERS}
 use Rattle.nl_attr.specs.declared.tree.Ctx.{Ctx}
 use Rattle.nl_attr.specs.declared.tree.Ctx.TheVariants.{Route}
 use Rattle.nl_attr.specs.declared.tree.Content.{Content}

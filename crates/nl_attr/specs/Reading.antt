@@ -1,6 +1,6 @@
 -- Reading a region from left to right, with the first fault that is met and the bytes visited until then.
 use Rattle.std.specs.Prelude.{◌+◌, ◌%◌, ℕ, zero, suc, List, [], ◌∷◌, length, drop, slice_index, Option, Some, None, Result, Ok, Err}
-use Rattle.nl_attr.specs.declared.tree.TheConstants.{NUMBERS}
+use Rattle.nl_attr.specs.Fixed.{NUMBERS}
 use Rattle.nl_attr.specs.declared.fault.Reason.{Reason}
 use Rattle.nl_attr.specs.declared.fault.Reason.TheVariants.{Cut, BadLength, ShortBody, TooLong, TooDeep}
 use Rattle.nl_attr.specs.declared.fault.Fault.{Fault}

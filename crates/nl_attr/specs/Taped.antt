@@ -1,7 +1,7 @@
 -- What a scan of a region puts and counts, head by head and at its end.
 use Rattle.std.specs.Prelude.{◌≡◌, ◌+◌, ℕ, List, [], ◌∷◌, length, map, drop, Some, None, IfSome}
 use Rattle.nl_attr.specs.declared.events.Event.{Event}
-use Rattle.nl_attr.specs.declared.events.TheConstants.{SORT_BYTES}
+use Rattle.nl_attr.specs.Fixed.{SORT_BYTES}
 use Rattle.nl_attr.specs.declared.order.Order.{Order}
 use Rattle.nl_attr.specs.declared.taping.Taped.{Taped}
 use Rattle.nl_attr.specs.declared.taping.fronts.AttrFront.{AttrFront}

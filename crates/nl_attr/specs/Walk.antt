@@ -1,7 +1,7 @@
 -- What a walk over a region gives, one item at a time.
 use Rattle.std.specs.Prelude.{◌≡◌, ◌≢◌, ◌≤◌, ◌<◌, ◌+◌, ◌/◌, ◌%◌, ◌==◌, ◌||◌, ℕ, nat_lt, if◌then◌else◌, List}
 use Rattle.std.specs.Prelude.{[], ◌∷◌, length, slice_index, take, drop, Option, Some, None, Result, Ok, Err}
-use Rattle.nl_attr.specs.declared.tree.TheConstants.{NUMBERS, NLA_F_NESTED, NLA_F_NET_BYTEORDER}
+use Rattle.nl_attr.specs.Fixed.{NUMBERS, NLA_F_NESTED, NLA_F_NET_BYTEORDER}
 use Rattle.std.specs.Iterator.{Yields, Drains}
 use Rattle.nl_attr.specs.declared.fault.Reason.{Reason}
 use Rattle.nl_attr.specs.declared.fault.Reason.TheVariants.{Cut, BadLength}

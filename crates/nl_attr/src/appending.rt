@@ -3,6 +3,7 @@
 ghost use Rattle.std.specs.Prelude.{◌≡◌, ◌≤◌, ◌<◌, ◌+◌, ◌-◌, ◌++◌, ◌∷◌, length};
 ghost use Rattle.std.specs.Prelude.{take, drop, vec_len, vec_capacity, FitsSigned};
 ghost use Rattle.std.specs.Int.{w32, cast_unsigned};
+ghost use Rattle.nl_attr.specs.Fixed as fixed;
 ghost use Rattle.nl_attr.specs.declared.tree.Hop.{out-Hop};
 ghost use Rattle.nl_attr.specs.Numbers.{aligned, num};
 ghost use Rattle.nl_attr.specs.Layout.{kind_number};
@@ -12,9 +13,8 @@ ghost use Rattle.nl_attr.specs.Written.{written_hops, val_len, items_len, hops_l
 ghost use Rattle.nl_attr.specs.Proper.{IsSized, IsSizedVal, IsSizedHops};
 ghost use Rattle.nl_attr.specs.Proper.{IsRanged, IsRangedVal, IsRangedHops};
 
-use crate::limits::LONGEST_ITEM;
 use crate::order::Order;
-use crate::tree::{Attr, AttrFlags, Hop, NLA_F_NESTED, NLA_F_NET_BYTEORDER, NUMBERS, Value};
+use crate::tree::{Attr, AttrFlags, Hop, NLA_F_NESTED, NLA_F_NET_BYTEORDER, Value};
 use crate::walk::align4;
 
 /// Appends bytes for which there is room. It takes no memory.
@@ -29,7 +29,7 @@ pub fn append_bytes(out: &mut Vec<u8>, bytes: &[u8])
 
 /// The type field of an attribute.
 pub(crate) fn kind_field(number: u16, flags: AttrFlags) -> u16
-    requires { number < NUMBERS }
+    requires { number < fixed.NUMBERS }
     ensures { result ≡ kind_number number flags }
 {
     let net = if flags.net { NLA_F_NET_BYTEORDER } else { 0 };
@@ -39,7 +39,7 @@ pub(crate) fn kind_field(number: u16, flags: AttrFlags) -> u16
 
 /// Appends the head of an attribute, its length still 0.
 fn put_attr_head(out: &mut Vec<u8>, order: Order, number: u16, flags: AttrFlags)
-    requires number { number < NUMBERS }
+    requires number { number < fixed.NUMBERS }
     requires space { vec_len out.old + 4 ≤ vec_capacity out.old }
     ensures items { out.new.items
         ≡ out.old.items ++ (0 ∷ 0 ∷ num (kind_number number flags) 2 order) }
@@ -68,7 +68,7 @@ fn put_hop_head(out: &mut Vec<u8>, order: Order, flags: u8, hops: u8, ifindex: &
 /// Writes the length of the item that begins at `start` into its first two bytes, and pads it.
 fn close_item(out: &mut Vec<u8>, order: Order, start: usize)
     requires begun { start + 2 ≤ vec_len out.old }
-    requires short { vec_len out.old - start ≤ LONGEST_ITEM }
+    requires short { vec_len out.old - start ≤ fixed.LONGEST_ITEM }
     requires space { start + aligned (vec_len out.old - start) ≤ vec_capacity out.old }
     ensures items { out.new.items ≡ take start out.old.items
         ++ with_padding (num (vec_len out.old - start) 2 order ++ drop (start + 2) out.old.items) }
@@ -98,8 +98,8 @@ fn append_value(value: &Value, order: Order, out: &mut Vec<u8>)
 
 #[cycle(appending)]
 fn append_attr(attr: &Attr, order: Order, out: &mut Vec<u8>)
-    requires number { attr.now.number < NUMBERS }
-    requires short { 4 + val_len (value_view attr.now.value) ≤ LONGEST_ITEM }
+    requires number { attr.now.number < fixed.NUMBERS }
+    requires short { 4 + val_len (value_view attr.now.value) ≤ fixed.LONGEST_ITEM }
     requires sized { IsSizedVal (value_view attr.now.value) }
     requires space { vec_len out.old + aligned (4 + val_len (value_view attr.now.value))
         ≤ vec_capacity out.old }
@@ -135,7 +135,7 @@ pub fn append_list(attrs: &[Attr], order: Order, out: &mut Vec<u8>)
 
 #[cycle(appending)]
 fn append_hop(hop: &Hop, order: Order, out: &mut Vec<u8>)
-    requires short { 8 + items_len (attrs_view (out-Hop hop.now).attrs.items) ≤ LONGEST_ITEM }
+    requires short { 8 + items_len (attrs_view (out-Hop hop.now).attrs.items) ≤ fixed.LONGEST_ITEM }
     requires sized { IsSized (attrs_view (out-Hop hop.now).attrs.items) }
     requires space { vec_len out.old + aligned
         (8 + items_len (attrs_view (out-Hop hop.now).attrs.items)) ≤ vec_capacity out.old }

@@ -1,12 +1,13 @@
 //! The head that breaks a rule, at which a scan ends.
 
 ghost use Rattle.std.specs.Prelude.{◌≡◌, ◌≤◌, length};
+ghost use Rattle.nl_attr.specs.Fixed as fixed;
 ghost use Rattle.nl_attr.specs.Heads.{least};
 ghost use Rattle.nl_attr.specs.Broken.{facts_of, head_kind, number_said};
 ghost use Rattle.nl_attr.specs.Region.{head_of, sort_in};
 
 use crate::fault::{Fault, Reason};
-use crate::limits::{LONGEST_REGION, Shape};
+use crate::limits::Shape;
 use crate::order::Order;
 use crate::region::{OpenRegion, Parts};
 use crate::tree::NUMBERS;
@@ -85,7 +86,7 @@ impl OpenRegion<'_> {
     /// keeps the registers of its loop free.
     #[inline(never)]
     pub(crate) fn broken(self, reason: Reason, shape: Shape) -> BrokenHead
-        requires { length self.left.now ≤ LONGEST_REGION }
+        requires { length self.left.now ≤ fixed.LONGEST_REGION }
         ensures { result ≡ facts_of shape.order reason (head_of self.entry) }
     {
         let order = shape.order();

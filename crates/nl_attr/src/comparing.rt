@@ -3,6 +3,7 @@
 ghost use Rattle.std.specs.Prelude.{◌≡◌, ◌≤◌, ◌<◌, ◌+◌, ◌++◌, ◌∷◌, ℕ, List};
 ghost use Rattle.std.specs.Prelude.{length, take, drop, replicate, IfSome};
 ghost use Rattle.std.specs.Int.{w32, cast_unsigned};
+ghost use Rattle.nl_attr.specs.Fixed as fixed;
 ghost use Rattle.nl_attr.specs.declared.tree.Hop.{out-Hop};
 ghost use Rattle.nl_attr.specs.Numbers.{num};
 ghost use Rattle.nl_attr.specs.View.{attrs_view, hops_view, value_view};
@@ -12,9 +13,8 @@ ghost use Rattle.nl_attr.specs.Proper.{IsSized, IsSizedVal, IsSizedHops};
 ghost use Rattle.nl_attr.specs.Compared.{Begins};
 
 use crate::appending::kind_field;
-use crate::limits::LONGEST_ITEM;
 use crate::order::Order;
-use crate::tree::{Attr, Hop, NUMBERS, Value};
+use crate::tree::{Attr, Hop, Value};
 use crate::walk::align4;
 
 /// How long a text is with which bytes begin; none where they don't begin with it.
@@ -41,7 +41,7 @@ pub fn begins_with_zeros(count: usize, bytes: &[u8]) -> Option<usize>
 /// How long an item of `len` bytes is with its padding, where its length stands in its first two
 /// bytes and zeros behind it. Its other bytes have been compared.
 fn closes_item(len: usize, order: Order, bytes: &[u8]) -> Option<usize>
-    requires short { len ≤ LONGEST_ITEM }
+    requires short { len ≤ fixed.LONGEST_ITEM }
     requires inside { len ≤ length bytes.now }
     ensures begins { (body : List ℕ)
         → length body + 2 ≡ len → take (length body) (drop 2 bytes.now) ≡ body
@@ -87,8 +87,8 @@ fn begins_with_value(value: &Value, order: Order, bytes: &[u8]) -> Option<usize>
 /// An attribute with its padding.
 #[cycle(comparing)]
 fn begins_with_attr(attr: &Attr, order: Order, bytes: &[u8]) -> Option<usize>
-    requires number { attr.now.number < NUMBERS }
-    requires short { 4 + val_len (value_view attr.now.value) ≤ LONGEST_ITEM }
+    requires number { attr.now.number < fixed.NUMBERS }
+    requires short { 4 + val_len (value_view attr.now.value) ≤ fixed.LONGEST_ITEM }
     requires sized { IsSizedVal (value_view attr.now.value) }
     ensures begins { Begins (with_padding (attr_item order attr.now.number attr.now.flags
         (written_val order (value_view attr.now.value)))) bytes.now result }
@@ -126,7 +126,7 @@ pub fn begins_with(attrs: &[Attr], order: Order, bytes: &[u8]) -> Option<usize>
 /// A next hop with its padding.
 #[cycle(comparing)]
 fn begins_with_hop(hop: &Hop, order: Order, bytes: &[u8]) -> Option<usize>
-    requires short { 8 + items_len (attrs_view (out-Hop hop.now).attrs.items) ≤ LONGEST_ITEM }
+    requires short { 8 + items_len (attrs_view (out-Hop hop.now).attrs.items) ≤ fixed.LONGEST_ITEM }
     requires sized { IsSized (attrs_view (out-Hop hop.now).attrs.items) }
     ensures begins { Begins (with_padding (hop_item order
         (out-Hop hop.now).flags (out-Hop hop.now).hops (out-Hop hop.now).ifindex

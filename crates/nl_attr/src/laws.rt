@@ -5,6 +5,7 @@ ghost use Rattle.std.specs.Prelude.{◌++◌, drop, ℕ, ℤ, List, length, Fits
 ghost use Rattle.std.specs.Prelude.{All, Contains, map};
 ghost use Rattle.std.specs.Int.{w32, cast_unsigned};
 ghost use Rattle.std.specs.List.Sorted.{IsStrictlyIncreasing};
+ghost use Rattle.nl_attr.specs.Fixed as fixed;
 ghost use Rattle.nl_attr.specs.declared.order.Order.{Order};
 ghost use Rattle.nl_attr.specs.declared.tree.Ctx.{Ctx};
 ghost use Rattle.nl_attr.specs.declared.fault.Reason.{Reason};
@@ -21,7 +22,34 @@ ghost use Rattle.nl_attr.specs.Visits.{Visits};
 ghost use Rattle.nl_attr.specs.Written.{written, items_len};
 ghost use Rattle.nl_attr.specs.Proper.{IsProper, IsRanged};
 
-use crate::limits::LONGEST_REGION;
+use crate::events::{SORT_BYTES, SORT_HOPS, SORT_LIST, SORT_MESSAGE, SORT_NEXT_HOP};
+use crate::limits::{
+    FARTHEST_END, LONGEST_CONTAINER, LONGEST_ITEM, LONGEST_REGION, MOST_LEVELS, MOST_VISITS,
+};
+use crate::tree::{
+    IFLA_LINKINFO, NLA_F_NESTED, NLA_F_NET_BYTEORDER, NUMBERS, RTA_METRICS, RTA_MULTIPATH,
+};
+
+/// The constants of the code are the numbers that the definitions name.
+pub fn constants_are_fixed()
+    ensures attributes { (NUMBERS ≡ fixed.NUMBERS)
+        × (NLA_F_NESTED ≡ fixed.NLA_F_NESTED)
+        × (NLA_F_NET_BYTEORDER ≡ fixed.NLA_F_NET_BYTEORDER)
+        × (IFLA_LINKINFO ≡ fixed.IFLA_LINKINFO)
+        × (RTA_METRICS ≡ fixed.RTA_METRICS)
+        × (RTA_MULTIPATH ≡ fixed.RTA_MULTIPATH) }
+    ensures limits { (LONGEST_REGION ≡ fixed.LONGEST_REGION)
+        × (LONGEST_ITEM ≡ fixed.LONGEST_ITEM)
+        × (LONGEST_CONTAINER ≡ fixed.LONGEST_CONTAINER)
+        × (FARTHEST_END ≡ fixed.FARTHEST_END)
+        × (MOST_LEVELS ≡ fixed.MOST_LEVELS)
+        × (MOST_VISITS ≡ fixed.MOST_VISITS) }
+    ensures sorts { (SORT_MESSAGE ≡ fixed.SORT_MESSAGE)
+        × (SORT_BYTES ≡ fixed.SORT_BYTES)
+        × (SORT_LIST ≡ fixed.SORT_LIST)
+        × (SORT_HOPS ≡ fixed.SORT_HOPS)
+        × (SORT_NEXT_HOP ≡ fixed.SORT_NEXT_HOP) }
+{}
 
 /// Bytes are the form of the number that is read of them, and of no other number of so many bytes.
 pub fn one_number()
@@ -122,7 +150,7 @@ pub fn written_fits()
 /// A list that fits a region can be written, and is as long as the region with its last padding.
 pub fn fitting_is_proper()
     ensures proper { (s : Shape) (ctx : Ctx) (l : ℕ) (bytes : List ℕ) (is : Items)
-        → Fits s is bytes ctx l → length bytes ≤ LONGEST_REGION → IsProper is ctx l s.depth }
+        → Fits s is bytes ctx l → length bytes ≤ fixed.LONGEST_REGION → IsProper is ctx l s.depth }
     ensures len { (s : Shape) (ctx : Ctx) (l : ℕ) (bytes : List ℕ) (is : Items)
         → Fits s is bytes ctx l → items_len is ≡ aligned (length bytes) }
     ensures ranged { (s : Shape) (ctx : Ctx) (l : ℕ) (bytes : List ℕ) (is : Items)

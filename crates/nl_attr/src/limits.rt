@@ -2,6 +2,7 @@
 
 ghost use Rattle.std.specs.Prelude.{◌≡◌, ◌≤◌};
 ghost use Rattle.std.specs.Result.{OkIff};
+ghost use Rattle.nl_attr.specs.Fixed as fixed;
 
 use crate::fault::LimitFault;
 use crate::order::Order;
@@ -35,7 +36,7 @@ pub struct Depth {
 
 impl Model for Depth {
     ghost use Rattle.std.specs.Prelude.{ℕ, ◌≤◌};
-    ghost use Rattle.nl_attr.specs.declared.limits.TheConstants.{MOST_LEVELS};
+    ghost use Rattle.nl_attr.specs.Fixed.{MOST_LEVELS};
 
     ghost Value = { ℕ };
 
@@ -49,7 +50,7 @@ impl Model for Depth {
 impl Depth {
     /// So many levels, or `LimitFault` above 32.
     pub fn new(levels: u8) -> Result<Depth, LimitFault>
-        ensures { OkIff result (levels ≤ MOST_LEVELS) levels }
+        ensures { OkIff result (levels ≤ fixed.MOST_LEVELS) levels }
     {
         if levels > MOST_LEVELS {
             return Err(LimitFault);
@@ -67,7 +68,7 @@ impl Depth {
     /// How many levels.
     pub fn get(self) -> u8
         ensures value { result ≡ self }
-        ensures limit { result ≤ MOST_LEVELS }
+        ensures limit { result ≤ fixed.MOST_LEVELS }
     {
         self.levels
     }
@@ -83,7 +84,7 @@ pub(crate) struct Shape {
 impl Model for Shape {
     ghost use Rattle.std.specs.Prelude.{◌≤◌};
     ghost use Rattle.nl_attr.specs.Shape.{Shape};
-    ghost use Rattle.nl_attr.specs.declared.limits.TheConstants.{MOST_LEVELS};
+    ghost use Rattle.nl_attr.specs.Fixed.{MOST_LEVELS};
 
     ghost Value = { Shape };
 
@@ -109,7 +110,7 @@ impl Shape {
 
     pub(crate) fn depth(self) -> u8
         ensures value { result ≡ self.depth }
-        ensures limit { result ≤ MOST_LEVELS }
+        ensures limit { result ≤ fixed.MOST_LEVELS }
     {
         self.depth.get()
     }

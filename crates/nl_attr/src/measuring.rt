@@ -1,6 +1,7 @@
 //! How long lists are when they are written, and whether they may be.
 
 ghost use Rattle.std.specs.Prelude.{◌≡◌, ◌≤◌, ◌↔◌, Some, IsTrue, IfSome};
+ghost use Rattle.nl_attr.specs.Fixed as fixed;
 ghost use Rattle.nl_attr.specs.Tree.{Items, HopItems};
 ghost use Rattle.nl_attr.specs.View.{attrs_view, hops_view, attr_view, hop_view, value_view};
 ghost use Rattle.nl_attr.specs.Written.{items_len};
@@ -166,7 +167,7 @@ pub fn measure(attrs: &[Attr], ctx: Ctx, depth: Depth) -> Option<Extent>
     ensures deep { IfSome result (λ e. IsTrue e.deep ↔ IsDeep (attrs_view attrs.now) 0 depth) }
     ensures long { IfSome result (λ e. (e.len ≡ None) ↔ IsLong (attrs_view attrs.now)) }
     ensures len { IfSome result (λ e. IfSome e.len (λ n. n ≡ items_len (attrs_view attrs.now))) }
-    ensures limit { IfSome result (λ e. IfSome e.len (λ n. n ≤ LONGEST_REGION)) }
+    ensures limit { IfSome result (λ e. IfSome e.len (λ n. n ≤ fixed.LONGEST_REGION)) }
     // Then it may be appended.
     ensures sized { IfSome result (λ e. IfSome e.len (λ n. IsSized (attrs_view attrs.now))) }
 {

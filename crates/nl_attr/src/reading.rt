@@ -1,11 +1,12 @@
 //! Reading a region of attributes.
 
 ghost use Rattle.std.specs.Prelude.{◌≤◌, ◌+◌, length};
+ghost use Rattle.nl_attr.specs.Fixed as fixed;
 ghost use Rattle.nl_attr.specs.Shape.{shape_of};
 ghost use Rattle.nl_attr.specs.Reads.{ReadsList};
 
 use crate::fault::{ListError, Tally};
-use crate::limits::{Depth, FARTHEST_END, LONGEST_REGION, Shape};
+use crate::limits::{Depth, Shape};
 use crate::order::Order;
 use crate::stack::read_region;
 use crate::tree::{Attr, Ctx};
@@ -26,8 +27,8 @@ pub fn read_list(
     depth: Depth,
 ) -> Tally<Vec<Attr>, ListError>
     requires level { level ≤ depth }
-    requires size { length bytes.now ≤ LONGEST_REGION }
-    requires place { base + length bytes.now ≤ FARTHEST_END }
+    requires size { length bytes.now ≤ fixed.LONGEST_REGION }
+    requires place { base + length bytes.now ≤ fixed.FARTHEST_END }
     ensures { ReadsList (shape_of Order.Little depth) ctx level base bytes.now result }
 {
     read_list_ordered(alloc, bytes, base, ctx, level, depth, Order::Little)
@@ -44,8 +45,8 @@ pub fn read_list_ordered(
     order: Order,
 ) -> Tally<Vec<Attr>, ListError>
     requires level { level ≤ depth }
-    requires size { length bytes.now ≤ LONGEST_REGION }
-    requires place { base + length bytes.now ≤ FARTHEST_END }
+    requires size { length bytes.now ≤ fixed.LONGEST_REGION }
+    requires place { base + length bytes.now ≤ fixed.FARTHEST_END }
     ensures { ReadsList (shape_of order depth) ctx level base bytes.now result }
 {
     let shape = Shape::of(depth, order);

@@ -2,6 +2,7 @@
 
 ghost use Rattle.std.specs.Prelude.{◌≤◌, ◌+◌, ◌-◌, ◌*◌, length, IfOk, IfErr};
 ghost use Rattle.nl_attr.specs.Broken.{fault_in};
+ghost use Rattle.nl_attr.specs.Fixed as fixed;
 ghost use Rattle.nl_attr.specs.Heads.{IsFirstFault, start_of};
 ghost use Rattle.nl_attr.specs.Layout.{Fits};
 ghost use Rattle.nl_attr.specs.Reading.{items_of_region};
@@ -12,7 +13,7 @@ ghost use Rattle.nl_attr.specs.Tree.{Items};
 use crate::broken::BrokenHead;
 use crate::events::Event;
 use crate::fault::{Fault, Tally};
-use crate::limits::{Depth, FARTHEST_END, LONGEST_REGION};
+use crate::limits::Depth;
 use crate::order::Order;
 use crate::taping::{OpenRegions, tape_list};
 use crate::tree::Ctx;
@@ -41,8 +42,8 @@ pub fn scan_list_ordered(
     order: Order,
 ) -> Tally<(), Fault>
     requires level { level ≤ depth }
-    requires size { length bytes.now ≤ LONGEST_REGION }
-    requires place { base + length bytes.now ≤ FARTHEST_END }
+    requires size { length bytes.now ≤ fixed.LONGEST_REGION }
+    requires place { base + length bytes.now ≤ fixed.FARTHEST_END }
     // Whether it is accepted, the fault and the visits are those of a reading from left to right.
     ensures outcome { Scans result
         (items_of_region (shape_of order depth) ctx level base bytes.now) }

@@ -1,7 +1,7 @@
 -- How many messages the events of a stream are of.
 use Rattle.std.specs.Prelude.{◌≡◌, ◌+◌, ◌==◌, ℕ, if◌then◌else◌, List, [], ◌∷◌, length}
 use Rattle.nl_attr.specs.declared.events.Event.{Event}
-use Rattle.nl_attr.specs.declared.events.TheConstants.{SORT_MESSAGE}
+use Rattle.nl_attr.specs.Fixed.{SORT_MESSAGE}
 use Rattle.nl_attr.specs.Shape.{Shape}
 use Rattle.nl_frame.specs.Message.{MessageVal}
 use Rattle.nl_dump.specs.declared.dump.Dump.{Dump}

@@ -3,7 +3,7 @@ use Rattle.std.specs.Prelude.{◌≡◌, ◌≤◌, ℕ, ◌+◌, ◌==◌, ◌&
 use Rattle.std.specs.Prelude.{List, [], ◌∷◌, length, take, drop, Option, Some, None, bit_and}
 use Rattle.std.specs.Ordering.{int_eq}
 use Rattle.nl_attr.specs.declared.events.Event.{Event}
-use Rattle.nl_attr.specs.declared.events.TheConstants.{SORT_MESSAGE}
+use Rattle.nl_attr.specs.Fixed.{SORT_MESSAGE}
 use Rattle.nl_attr.specs.declared.fault.Reason.{Reason}
 use Rattle.nl_attr.specs.declared.order.Order.{Order}
 use Rattle.nl_route.specs.declared.group.Verb.TheVariants.{New}

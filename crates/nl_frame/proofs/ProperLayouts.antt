@@ -1,6 +1,6 @@
 -- Messages that are a layout can be written, and are as long as the datagram with its last padding.
 use Rattle.std.proofs.Common.{◌≡◌, ℕ, ◌+◌, ◌%◌, ◌<◌, ◌≤◌, List, [], ◌∷◌, ◌++◌, length, take, drop, Some, None, refl, sym, ap, subst, ◌∙◌, arith, inl, inr, length-append, length-drop}
-use Rattle.nl_attr.specs.declared.limits.TheConstants.{LONGEST_REGION}
+use Rattle.nl_attr.specs.Fixed.{LONGEST_REGION}
 use Rattle.nl_attr.specs.declared.order.Order.{Order}
 use Rattle.nl_attr.specs.Shape.{Shape}
 use Rattle.nl_attr.specs.Numbers.{aligned, len_of, span_of, AreBytes}

@@ -1,7 +1,7 @@
 -- The loop that scans the messages of a datagram.
 use Rattle.std.proofs.Common.{◌≡◌, ◌≢◌, ℕ, ◌+◌, ◌*◌, ◌^◌, ◌≤◌, ◌<◌, List, [], ◌∷◌, ◌++◌, length, map, slice_set, Option, Some, None, refl, sym, ap, subst, ◌∙◌, inl, inr, IfSome, arith, length-append, length-drop}
 use Rattle.std.proofs.lemmas.List.{append-nil, length-map, map-append}
-use Rattle.nl_attr.specs.declared.limits.TheConstants.{LONGEST_REGION}
+use Rattle.nl_attr.specs.Fixed.{LONGEST_REGION}
 use Rattle.nl_attr.specs.declared.events.Event.{Event}
 use Rattle.nl_attr.specs.declared.fault.Fault.{Fault}
 use Rattle.nl_attr.specs.declared.fault.Reason.{Reason}

@@ -1,7 +1,7 @@
 -- The heads of a datagram in the order in which a scan comes to them, up to the fault that ends it, and the event of each.
 use Rattle.std.specs.Prelude.{◌≡◌, ◌≤◌, ℕ, zero, suc, false, List, [], ◌∷◌, length, map, Option, Some, None}
 use Rattle.nl_attr.specs.declared.events.Event.{Event}
-use Rattle.nl_attr.specs.declared.events.TheConstants.{SORT_MESSAGE}
+use Rattle.nl_attr.specs.Fixed.{SORT_MESSAGE}
 use Rattle.nl_attr.specs.declared.fault.Reason.{Reason}
 use Rattle.nl_attr.specs.declared.order.Order.{Order}
 use Rattle.nl_attr.specs.Shape.{Shape}

@@ -1,6 +1,6 @@
 -- The limits of reading.
 use Rattle.std.specs.Prelude.{◌≡◌, ◌≤◌, ◌%◌, ◌^◌, ℕ}
-use Rattle.nl_attr.specs.declared.limits.TheConstants.{MOST_LEVELS, LONGEST_REGION}
+use Rattle.nl_attr.specs.Fixed.{MOST_LEVELS, LONGEST_REGION}
 use Rattle.nl_attr.specs.declared.order.Order.{Order}
 use Rattle.nl_attr.specs.Shape.{Shape, shape_of}
 

@@ -1,6 +1,6 @@
 -- What one walk over messages measures: whether they are too deep, and their length where it is not too long.
 use Rattle.std.specs.Prelude.{◌≡◌, ◌<◌, ◌≤◌, ◌+◌, ◌⊎◌, ℕ, List, [], ◌∷◌, Option, Some, None}
-use Rattle.nl_attr.specs.declared.limits.TheConstants.{LONGEST_REGION}
+use Rattle.nl_attr.specs.Fixed.{LONGEST_REGION}
 use Rattle.nl_attr.specs.Numbers.{aligned}
 use Rattle.nl_attr.specs.Proper as attrs
 use Rattle.nl_frame.specs.Message.{BodyVal, noop, error, done, overrun, family, get, other, MessageVal}

@@ -1,7 +1,7 @@
 -- Which messages can be written, and why others can't.
 use Rattle.std.specs.Prelude.{◌≢◌, ◌<◌, ◌≤◌, ◌^◌, ◌⊎◌, ℕ, List, [], ◌∷◌, length, Some, None, FitsSigned}
 use Rattle.std.specs.Int.{w32}
-use Rattle.nl_attr.specs.declared.limits.TheConstants.{LONGEST_REGION}
+use Rattle.nl_attr.specs.Fixed.{LONGEST_REGION}
 use Rattle.nl_attr.specs.declared.fault.WriteError.{WriteError as FirstRefusal}
 use Rattle.nl_attr.specs.declared.fault.WriteError.TheVariants as first
 use Rattle.nl_attr.specs.Proper as attrs

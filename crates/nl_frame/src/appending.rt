@@ -3,6 +3,7 @@
 ghost use Rattle.std.specs.Prelude.{◌≡◌, ◌≤◌, ◌<◌, ◌+◌, ◌-◌, ◌++◌, ◌∷◌, [], length};
 ghost use Rattle.std.specs.Prelude.{map, take, drop, vec_len, vec_capacity, FitsSigned};
 ghost use Rattle.std.specs.Int.{w32};
+ghost use Rattle.nl_attr.specs.Fixed as fixed;
 ghost use Rattle.nl_attr.specs.Numbers.{aligned, num};
 ghost use Rattle.nl_attr.specs.Written.{with_padding};
 ghost use Rattle.nl_route.specs.Fields.{signed};
@@ -16,7 +17,7 @@ ghost use Rattle.nl_frame.specs.Measured.{IsSizedBody, IsSized};
 
 use crate::body::{Body, Message};
 use crate::header::Header;
-use nl_attr::{LONGEST_REGION, Order, align4, append_bytes};
+use nl_attr::{Order, align4, append_bytes};
 use nl_route::match_family;
 
 /// Appends a signed number.
@@ -100,7 +101,7 @@ fn append_body(body: &Body, order: Order, out: &mut Vec<u8>)
 /// (`NLMSG_ALIGN`).
 fn close_message(out: &mut Vec<u8>, order: Order, start: usize)
     requires begun { start + 4 ≤ vec_len out.old }
-    requires short { vec_len out.old - start ≤ LONGEST_REGION + 16 }
+    requires short { vec_len out.old - start ≤ fixed.LONGEST_REGION + 16 }
     requires space { start + aligned (vec_len out.old - start) ≤ vec_capacity out.old }
     ensures items { out.new.items ≡ take start out.old.items
         ++ with_padding (num (vec_len out.old - start) 4 order ++ drop (start + 4) out.old.items) }
@@ -115,7 +116,7 @@ fn close_message(out: &mut Vec<u8>, order: Order, start: usize)
 /// Appends a message with its padding.
 fn append_message(message: &Message, order: Order, out: &mut Vec<u8>)
     requires sized { IsSizedBody (body_view message.now.body) }
-    requires short { body_len (body_view message.now.body) ≤ LONGEST_REGION }
+    requires short { body_len (body_view message.now.body) ≤ fixed.LONGEST_REGION }
     requires space { vec_len out.old + aligned (16 + body_len (body_view message.now.body))
         ≤ vec_capacity out.old }
     ensures items { out.new.items
@@ -142,7 +143,7 @@ fn append_message(message: &Message, order: Order, out: &mut Vec<u8>)
 /// have been measured, and there is room for their length.
 pub(crate) fn append_messages(messages: &[Message], order: Order, out: &mut Vec<u8>)
     requires sized { IsSized (map message_view messages.now) }
-    requires short { written_len (map message_view messages.now) ≤ LONGEST_REGION }
+    requires short { written_len (map message_view messages.now) ≤ fixed.LONGEST_REGION }
     requires space { vec_len out.old + written_len (map message_view messages.now)
         ≤ vec_capacity out.old }
     ensures items { out.new.items ≡ out.old.items ++ written order (map message_view messages.now) }

@@ -2,6 +2,7 @@
 
 ghost use Rattle.std.specs.Prelude.{◌≡◌, ◌≤◌, ◌+◌, ◌*◌, length, drop};
 ghost use Rattle.std.specs.Prelude.{slice_index, IfSome, MatchOption};
+ghost use Rattle.nl_attr.specs.Fixed as fixed;
 ghost use Rattle.nl_attr.specs.Outcomes.{HasOutcome};
 ghost use Rattle.nl_route.specs.Families.{head_size};
 ghost use Rattle.nl_frame.specs.Form.{least_body};
@@ -13,7 +14,7 @@ ghost use Rattle.nl_frame.specs.Reading.{body_at, family_body_at, done_at, signe
 use crate::form::Form;
 use crate::header::Header;
 use crate::limits::Limits;
-use nl_attr::{FARTHEST_END, LONGEST_REGION, ListError, Order, Tally};
+use nl_attr::{ListError, Order, Tally};
 use nl_route::{Addr, Group, Link, Neigh, Route, Rule, read_family};
 use std::alloc::Global;
 
@@ -126,8 +127,8 @@ fn read_family(
     limits: &Limits,
 ) -> Tally<Body, ListError>
     requires least { head_size group ≤ length bytes.now }
-    requires size { length bytes.now ≤ LONGEST_REGION }
-    requires place { base + length bytes.now ≤ FARTHEST_END }
+    requires size { length bytes.now ≤ fixed.LONGEST_REGION }
+    requires place { base + length bytes.now ≤ fixed.FARTHEST_END }
     ensures outcome { HasOutcome body_view result
         (family_body_at limits.now.shape group base bytes.now) }
     ensures bound { result.visits ≤ (limits.now.shape.depth + 1) * length bytes.now }
@@ -147,8 +148,8 @@ impl Body {
         limits: &Limits,
     ) -> Tally<Body, ListError>
         requires least { least_body form ≤ length bytes.now }
-        requires size { length bytes.now ≤ LONGEST_REGION }
-        requires place { base + length bytes.now ≤ FARTHEST_END }
+        requires size { length bytes.now ≤ fixed.LONGEST_REGION }
+        requires place { base + length bytes.now ≤ fixed.FARTHEST_END }
         ensures outcome { HasOutcome body_view result
             (body_at limits.now.shape form base bytes.now) }
         ensures bound { result.visits ≤ (limits.now.shape.depth + 1) * length bytes.now }

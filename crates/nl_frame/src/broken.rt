@@ -1,16 +1,17 @@
 //! The header that breaks a rule, at which a scan ends.
 
 ghost use Rattle.std.specs.Prelude.{◌≡◌, ◌≤◌, length};
+ghost use Rattle.nl_attr.specs.Fixed as fixed;
 ghost use Rattle.nl_frame.specs.Broken.{message_facts};
 
 use crate::header::Header;
-use nl_attr::{BrokenHead, Fault, HeadKind, LONGEST_REGION, Order, Reason};
+use nl_attr::{BrokenHead, Fault, HeadKind, Order, Reason};
 
 /// The header at the front, which breaks this rule. A scan comes here once: a function of its own
 /// keeps the registers of its loop free.
 #[inline(never)]
 pub(crate) fn header_at_fault(left: &[u8], place: u32, reason: Reason, order: Order) -> BrokenHead
-    requires { length left.now ≤ LONGEST_REGION }
+    requires { length left.now ≤ fixed.LONGEST_REGION }
     ensures { result ≡ message_facts order reason (record { place = place; left = left.now }) }
 {
     let (number, len) = if left.len() < 16 {

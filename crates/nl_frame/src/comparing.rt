@@ -1,6 +1,7 @@
 //! Messages compared with the bytes that they would be written as.
 
 ghost use Rattle.std.specs.Prelude.{◌≡◌, ◌≤◌, ◌+◌, ◌↔◌, ◌++◌, ◌∷◌, [], length, map, IsTrue, IfSome};
+ghost use Rattle.nl_attr.specs.Fixed as fixed;
 ghost use Rattle.nl_attr.specs.Written.{with_padding};
 ghost use Rattle.nl_attr.specs.Compared.{Begins};
 ghost use Rattle.nl_route.specs.Fields.{signed};
@@ -14,7 +15,7 @@ ghost use Rattle.nl_frame.specs.Measured.{IsSizedBody};
 
 use crate::body::{Body, Message};
 use crate::header::Header;
-use nl_attr::{LONGEST_REGION, Order, align4, begins_with_bytes, begins_with_zeros};
+use nl_attr::{Order, align4, begins_with_bytes, begins_with_zeros};
 use nl_route::match_family;
 
 /// A front, and the bytes behind it.
@@ -79,7 +80,7 @@ fn begins_with_body(body: &Body, order: Order, bytes: &[u8]) -> Option<usize>
 
 /// A message with its padding. The length in its header is compared once its body has been.
 fn begins_with_message(message: &Message, order: Order, bytes: &[u8]) -> Option<usize>
-    requires short { 16 + body_len (body_view message.now.body) ≤ LONGEST_REGION }
+    requires short { 16 + body_len (body_view message.now.body) ≤ fixed.LONGEST_REGION }
     requires sized { IsSizedBody (body_view message.now.body) }
     ensures begins { Begins
         (with_padding (message_item order (message_view message.now))) bytes.now result }

@@ -1,13 +1,14 @@
 //! The message at the front of bytes, and the one at a place of a datagram.
 
 ghost use Rattle.std.specs.Prelude.{◌≡◌, ◌≤◌, length, min};
+ghost use Rattle.nl_attr.specs.Fixed as fixed;
 ghost use Rattle.nl_attr.specs.Numbers.{aligned};
 ghost use Rattle.nl_attr.specs.Walk.{HeadIs};
 ghost use Rattle.nl_frame.specs.Front.{GivesFrame, StandsAt};
 
 use crate::form::Form;
 use crate::header::Header;
-use nl_attr::{Fault, LONGEST_REGION, Order, Reason, align4};
+use nl_attr::{Fault, Order, Reason, align4};
 
 /// A message as it lies in its datagram.
 #[derive(Clone, Copy, Debug)]
@@ -41,7 +42,7 @@ pub(crate) fn frame_len(left: &[u8], order: Order) -> Result<usize, Reason>
 /// How many bytes a message of this length occupies: with its padding, as far as present.
 pub(crate) fn frame_span(left: &[u8], len: usize) -> u32
     requires len { len ≤ length left.now }
-    requires size { length left.now ≤ LONGEST_REGION }
+    requires size { length left.now ≤ fixed.LONGEST_REGION }
     ensures { result ≡ min (aligned len) (length left.now) }
 {
     align4(len as u32).min(left.len() as u32)
@@ -50,7 +51,7 @@ pub(crate) fn frame_span(left: &[u8], len: usize) -> u32
 /// The message at the front, or the first rule that its head breaks.
 #[inline(always)]
 pub(crate) fn front(left: &[u8], order: Order) -> Result<Frame<'_>, Reason>
-    requires { length left.now ≤ LONGEST_REGION }
+    requires { length left.now ≤ fixed.LONGEST_REGION }
     ensures { GivesFrame order left.now result }
 {
     let len = frame_len(left, order)?;
@@ -78,7 +79,7 @@ pub(crate) fn front(left: &[u8], order: Order) -> Result<Frame<'_>, Reason>
 /// place plus the span. Of the body only its least length is looked at, and whether messages from
 /// the datagram's start on come to the place is not asked.
 pub fn message_at(bytes: &[u8], place: u32, order: Order) -> Option<Result<Frame<'_>, Fault>>
-    requires { length bytes.now ≤ LONGEST_REGION }
+    requires { length bytes.now ≤ fixed.LONGEST_REGION }
     ensures { StandsAt order bytes.now place result }
 {
     if bytes.len() <= place as usize {

@@ -3,6 +3,7 @@
 ghost use Rattle.std.specs.Prelude.{◌≡◌, ◌≤◌, ◌+◌, ◌*◌, ◌↔◌, ℕ, List, length};
 ghost use Rattle.std.specs.Prelude.{All, Contains, map};
 ghost use Rattle.std.specs.List.Sorted.{IsStrictlyIncreasing};
+ghost use Rattle.nl_attr.specs.Fixed as fixed;
 ghost use Rattle.nl_attr.specs.declared.order.Order.{Order};
 ghost use Rattle.nl_attr.specs.declared.fault.Reason.{Reason};
 ghost use Rattle.nl_attr.specs.declared.broken.BrokenHead.{BrokenHead};
@@ -20,8 +21,6 @@ ghost use Rattle.nl_frame.specs.Limits.{Bounds, AreLimits};
 ghost use Rattle.nl_frame.specs.OneList.{IsTheList};
 ghost use Rattle.nl_frame.specs.Written.{written, written_len};
 ghost use Rattle.nl_frame.specs.Proper.{IsProper, IsRanged};
-
-use nl_attr::LONGEST_REGION;
 
 /// At most one list of messages is the layout of a datagram.
 pub fn one_layout()
@@ -107,7 +106,7 @@ pub fn written_has_layout()
 /// padding.
 pub fn layout_is_proper()
     ensures proper { (s : Shape) (ms : List MessageVal) (d : List ℕ)
-        → Layout s ms d → length d ≤ LONGEST_REGION → IsProper ms s.depth }
+        → Layout s ms d → length d ≤ fixed.LONGEST_REGION → IsProper ms s.depth }
     ensures len { (s : Shape) (ms : List MessageVal) (d : List ℕ)
         → Layout s ms d → written_len ms ≡ aligned (length d) }
     ensures ranged { (s : Shape) (ms : List MessageVal) (d : List ℕ)

@@ -1,6 +1,7 @@
 //! How long messages are when they are written, and whether they may be.
 
 ghost use Rattle.std.specs.Prelude.{◌≡◌, ◌≤◌, ◌+◌, ◌↔◌, IsTrue, IfSome, map};
+ghost use Rattle.nl_attr.specs.Fixed as fixed;
 ghost use Rattle.nl_frame.specs.Form.{form_of};
 ghost use Rattle.nl_frame.specs.Message.{done};
 ghost use Rattle.nl_frame.specs.View.{body_view, message_view};
@@ -16,7 +17,7 @@ use nl_route::match_family;
 fn plain(head: usize, tail: usize) -> Extent
     requires { head ≤ 20 }
     ensures deep { IsTrue result.deep → ⊥ }
-    ensures len { IsLenOf (LONGEST_REGION + 64) ⊥ (Unit {0}) (head + tail) result.len }
+    ensures len { IsLenOf (fixed.LONGEST_REGION + 64) ⊥ (Unit {0}) (head + tail) result.len }
 {
     let len = if tail > LONGEST_REGION {
         None

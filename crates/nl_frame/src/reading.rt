@@ -2,6 +2,7 @@
 
 ghost use Rattle.std.specs.Prelude.{◌≡◌, ◌≤◌, ◌<◌, ◌+◌, ◌*◌, ◌↔◌, ◌++◌, ◌∷◌, []};
 ghost use Rattle.std.specs.Prelude.{IsTrue, length, map, List, IfOk, IfErr, Err};
+ghost use Rattle.nl_attr.specs.Fixed as fixed;
 ghost use Rattle.nl_attr.specs.Reading.{map_value};
 ghost use Rattle.nl_attr.specs.Outcomes.{HasOutcome};
 ghost use Rattle.nl_frame.specs.Form.{least_body};
@@ -13,7 +14,7 @@ use crate::body::{Body, Message};
 use crate::front::{Frame, front};
 use crate::header::Header;
 use crate::limits::Limits;
-use nl_attr::{FARTHEST_END, Fault, LONGEST_REGION, ListError, Tally};
+use nl_attr::{Fault, ListError, Tally};
 use std::alloc::{AllocError, AllocFailed, Global};
 use thiserror::Error;
 
@@ -87,8 +88,8 @@ fn read_message(
     limits: &Limits,
 ) -> Tally<Message, ListError>
     requires least { least_body frame.now.form ≤ length frame.now.payload.now }
-    requires size { length frame.now.payload.now ≤ LONGEST_REGION }
-    requires place { place + 16 + length frame.now.payload.now ≤ FARTHEST_END }
+    requires size { length frame.now.payload.now ≤ fixed.LONGEST_REGION }
+    requires place { place + 16 + length frame.now.payload.now ≤ fixed.FARTHEST_END }
     ensures outcome { HasOutcome message_view result (map_value (message_of frame.now.header)
         (body_at limits.now.shape frame.now.form (place + 16) frame.now.payload.now)) }
     ensures bound { result.visits ≤ (limits.now.shape.depth + 1) * length frame.now.payload.now }
@@ -118,7 +119,7 @@ fn keep(list: &mut Vec<Message>, message: Message) -> bool
 
 /// The messages of a datagram.
 fn read_messages(alloc: Global, bytes: &[u8], limits: &Limits) -> Tally<Vec<Message>, ListError>
-    requires { length bytes.now ≤ LONGEST_REGION }
+    requires { length bytes.now ≤ fixed.LONGEST_REGION }
     ensures outcome { HasOutcome
         (λ v. map message_view v.items) result (messages_of limits.now.shape 0 bytes.now) }
     ensures bound { result.visits ≤ (limits.now.shape.depth + 1) * length bytes.now }

@@ -2,6 +2,7 @@
 //! head is checked, and its event is put into a buffer.
 
 ghost use Rattle.std.specs.Prelude.{◌≡◌, ◌≤◌, ◌+◌, ◌*◌, length, None, IfSome};
+ghost use Rattle.nl_attr.specs.Fixed as fixed;
 ghost use Rattle.nl_attr.specs.Shape.{shape_of};
 ghost use Rattle.nl_route.specs.Families.{head_size};
 ghost use Rattle.nl_frame.specs.Broken.{IsBrokenHead, IsBrokenIn};
@@ -13,15 +14,13 @@ ghost use Rattle.nl_frame.specs.HeadOrder.{header_event, region_trail, trail_of}
 use crate::broken::header_at_fault;
 use crate::form::Form;
 use crate::front::{Frame, front};
-use nl_attr::{
-    Depth, Event, FARTHEST_END, LONGEST_REGION, OpenRegions, Order, SORT_MESSAGE, Taped, tape_list,
-};
+use nl_attr::{Depth, Event, OpenRegions, Order, SORT_MESSAGE, Taped, tape_list};
 use nl_route::Group;
 
 /// The event of a message's header.
 #[inline(always)]
 fn event_of(frame: &Frame, place: u32) -> Event
-    requires { length frame.now.payload.now ≤ LONGEST_REGION }
+    requires { length frame.now.payload.now ≤ fixed.LONGEST_REGION }
     ensures { result ≡ header_event place frame.now.header.kind (length frame.now.payload.now) }
 {
     let payload = frame.payload;
@@ -49,8 +48,8 @@ fn tape_family<'a>(
     count: usize,
 ) -> Taped
     requires least { head_size group ≤ length payload.now }
-    requires size { length payload.now ≤ LONGEST_REGION }
-    requires place { place + length payload.now ≤ FARTHEST_END }
+    requires size { length payload.now ≤ fixed.LONGEST_REGION }
+    requires place { place + length payload.now ≤ fixed.FARTHEST_END }
     requires count { count ≤ 4294967296 }
     ensures taped { IsTaped (shape_of order depth) (region_trail (shape_of order depth)
         (region_in (Form.Family group) place payload.now)) count out.old out.new result }
@@ -88,8 +87,8 @@ fn tape_body<'a>(
     count: usize,
 ) -> Taped
     requires least { least_body form ≤ length payload.now }
-    requires size { length payload.now ≤ LONGEST_REGION }
-    requires place { place + length payload.now ≤ FARTHEST_END }
+    requires size { length payload.now ≤ fixed.LONGEST_REGION }
+    requires place { place + length payload.now ≤ fixed.FARTHEST_END }
     requires count { count ≤ 4294967296 }
     ensures taped { IsTaped (shape_of order depth) (region_trail (shape_of order depth)
         (region_in form place payload.now)) count out.old out.new result }
@@ -122,8 +121,8 @@ fn tape_frame<'a>(
     count: usize,
 ) -> Taped
     requires least { least_body frame.now.form ≤ length frame.now.payload.now }
-    requires size { length frame.now.payload.now ≤ LONGEST_REGION }
-    requires place { place + 16 + length frame.now.payload.now ≤ FARTHEST_END }
+    requires size { length frame.now.payload.now ≤ fixed.LONGEST_REGION }
+    requires place { place + 16 + length frame.now.payload.now ≤ fixed.FARTHEST_END }
     requires count { count + 1 ≤ 4294967296 }
     ensures taped { IsFrameTaped (shape_of order depth) frame.now place count
         out.old out.new result }
@@ -148,7 +147,7 @@ fn tape_frame<'a>(
 /// The messages of a datagram, in an order that the caller writes as a constant.
 #[inline(always)]
 fn tape_ordered(bytes: &[u8], depth: Depth, order: Order, out: &mut [Event]) -> Taped
-    requires { length bytes.now ≤ LONGEST_REGION }
+    requires { length bytes.now ≤ fixed.LONGEST_REGION }
     ensures taped { IsTaped (shape_of order depth) (trail_of (shape_of order depth)
         (whole bytes.now)) 0 out.old out.new result }
     ensures head { IfSome result.broken
@@ -197,7 +196,7 @@ fn tape_ordered(bytes: &[u8], depth: Depth, order: Order, out: &mut [Event]) -> 
 /// other loop free.
 #[inline(never)]
 fn tape_big(bytes: &[u8], depth: Depth, out: &mut [Event]) -> Taped
-    requires { length bytes.now ≤ LONGEST_REGION }
+    requires { length bytes.now ≤ fixed.LONGEST_REGION }
     ensures taped { IsTaped (shape_of Order.Big depth) (trail_of (shape_of Order.Big depth)
         (whole bytes.now)) 0 out.old out.new result }
     ensures head { IfSome result.broken
@@ -210,7 +209,7 @@ fn tape_big(bytes: &[u8], depth: Depth, out: &mut [Event]) -> Taped
 /// The messages of a datagram, by a loop for each order.
 #[inline(always)]
 pub(crate) fn tape_messages(bytes: &[u8], depth: Depth, order: Order, out: &mut [Event]) -> Taped
-    requires { length bytes.now ≤ LONGEST_REGION }
+    requires { length bytes.now ≤ fixed.LONGEST_REGION }
     ensures taped { IsTaped (shape_of order depth) (trail_of (shape_of order depth)
         (whole bytes.now)) 0 out.old out.new result }
     ensures head { IfSome result.broken

@@ -74,7 +74,8 @@ number_only o w n xs e h =
     let whole : num n w o ++ drop w xs ≡ xs = ap (λ (t : List ℕ). t ++ drop w xs) (sym e) ∙ take-append-drop w xs in
     sym (number_of-num o w n (drop w xs) h) ∙ ap (number_of o w) whole
 
-unsigned_below : (z : ℤ) → FitsSigned w32 z → cast_unsigned w32 z < 256 ^ 4
+-- a signed number is four bytes
+pub unsigned_below : (z : ℤ) → FitsSigned w32 z → cast_unsigned w32 z < 256 ^ 4
 unsigned_below z h = Fits-lt-pow {w = w32} (Fits-of_z {w = w32} h)
 
 signed_only : (o : Order) (z : ℤ) (xs : List ℕ) → take 4 xs ≡ num (cast_unsigned w32 z) 4 o → FitsSigned w32 z → z ≡ cast_signed w32 (number_of o 4 xs)

@@ -1,4 +1,4 @@
--- The head of an address: ifaddrmsg of linux/if_addr.h.
+-- An address: its head, ifaddrmsg of linux/if_addr.h, and the numbers of its attributes.
 use Rattle.std.specs.Prelude.{ℕ, List, [], ◌∷◌, drop, slice_index}
 use Rattle.nl_attr.specs.declared.order.Order.{Order}
 use Rattle.nl_attr.specs.Numbers.{number_of}
@@ -18,3 +18,25 @@ addr_of o bytes = record {
   scope = slice_index bytes 3;
   index = number_of o 4 (drop 4 bytes);
 }
+
+-- ---- the numbers of its attributes, of linux/if_addr.h
+
+-- the address, or the peer's on a point-to-point link
+abbrev pub IFA_ADDRESS : ℕ
+IFA_ADDRESS = 1
+
+-- the local address
+abbrev pub IFA_LOCAL : ℕ
+IFA_LOCAL = 2
+
+-- its label
+abbrev pub IFA_LABEL : ℕ
+IFA_LABEL = 3
+
+-- the broadcast address
+abbrev pub IFA_BROADCAST : ℕ
+IFA_BROADCAST = 4
+
+-- its flags, all 32 bits
+abbrev pub IFA_FLAGS : ℕ
+IFA_FLAGS = 8

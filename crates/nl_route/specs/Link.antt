@@ -1,4 +1,4 @@
--- The head of a link: ifinfomsg of linux/rtnetlink.h.
+-- A link: its head, ifinfomsg of linux/rtnetlink.h, and the numbers of its attributes.
 use Rattle.std.specs.Prelude.{ℕ, List, [], ◌∷◌, drop, slice_index}
 use Rattle.std.specs.Int.{w32, cast_signed}
 use Rattle.nl_attr.specs.declared.order.Order.{Order}
@@ -19,3 +19,25 @@ link_of o bytes = record {
   flags = number_of o 4 (drop 8 bytes);
   change = number_of o 4 (drop 12 bytes);
 }
+
+-- ---- the numbers of its attributes, of linux/if_link.h
+
+-- the name of an interface
+abbrev pub IFLA_IFNAME : ℕ
+IFLA_IFNAME = 3
+
+-- the greatest packet of an interface
+abbrev pub IFLA_MTU : ℕ
+IFLA_MTU = 4
+
+-- the index of the interface that a port belongs to
+abbrev pub IFLA_MASTER : ℕ
+IFLA_MASTER = 10
+
+-- the operational state of an interface
+abbrev pub IFLA_OPERSTATE : ℕ
+IFLA_OPERSTATE = 16
+
+-- the kind of a virtual interface, inside IFLA_LINKINFO
+abbrev pub IFLA_INFO_KIND : ℕ
+IFLA_INFO_KIND = 1

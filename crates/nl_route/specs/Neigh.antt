@@ -1,4 +1,4 @@
--- The head of a neighbour: ndmsg of linux/neighbour.h.
+-- A neighbour: its head, ndmsg of linux/neighbour.h, and the numbers of its attributes.
 use Rattle.std.specs.Prelude.{ℕ, List, [], ◌∷◌, drop, slice_index}
 use Rattle.std.specs.Int.{w32, cast_signed}
 use Rattle.nl_attr.specs.declared.order.Order.{Order}
@@ -19,3 +19,25 @@ neigh_of o bytes = record {
   flags = slice_index bytes 10;
   sort = slice_index bytes 11;
 }
+
+-- ---- the numbers of its attributes, of linux/neighbour.h
+
+-- its network address
+abbrev pub NDA_DST : ℕ
+NDA_DST = 1
+
+-- its link-layer address
+abbrev pub NDA_LLADDR : ℕ
+NDA_LLADDR = 2
+
+-- the VLAN of a bridge's entry
+abbrev pub NDA_VLAN : ℕ
+NDA_VLAN = 5
+
+-- the UDP port of a VXLAN entry
+abbrev pub NDA_PORT : ℕ
+NDA_PORT = 6
+
+-- the VXLAN network identifier
+abbrev pub NDA_VNI : ℕ
+NDA_VNI = 7

@@ -1,4 +1,4 @@
--- The head of a route: rtmsg of linux/rtnetlink.h.
+-- A route: its head, rtmsg of linux/rtnetlink.h, and the numbers of its attributes.
 use Rattle.std.specs.Prelude.{ℕ, List, [], ◌∷◌, drop, slice_index}
 use Rattle.nl_attr.specs.declared.order.Order.{Order}
 use Rattle.nl_attr.specs.Numbers.{number_of}
@@ -24,3 +24,37 @@ route_of o bytes = record {
   sort = slice_index bytes 7;
   flags = number_of o 4 (drop 8 bytes);
 }
+
+-- ---- the numbers of its attributes, of linux/rtnetlink.h
+
+-- its destination
+abbrev pub RTA_DST : ℕ
+RTA_DST = 1
+
+-- its source
+abbrev pub RTA_SRC : ℕ
+RTA_SRC = 2
+
+-- the index of the input interface
+abbrev pub RTA_IIF : ℕ
+RTA_IIF = 3
+
+-- the index of the output interface
+abbrev pub RTA_OIF : ℕ
+RTA_OIF = 4
+
+-- the gateway
+abbrev pub RTA_GATEWAY : ℕ
+RTA_GATEWAY = 5
+
+-- its priority
+abbrev pub RTA_PRIORITY : ℕ
+RTA_PRIORITY = 6
+
+-- the preferred source address
+abbrev pub RTA_PREFSRC : ℕ
+RTA_PREFSRC = 7
+
+-- the routing table, all 32 bits
+abbrev pub RTA_TABLE : ℕ
+RTA_TABLE = 15

@@ -1,4 +1,4 @@
--- The head of a routing rule: fib_rule_hdr of linux/fib_rules.h.
+-- A routing rule: its head, fib_rule_hdr of linux/fib_rules.h, and the numbers of its attributes.
 use Rattle.std.specs.Prelude.{ℕ, List, [], ◌∷◌, drop, slice_index}
 use Rattle.nl_attr.specs.declared.order.Order.{Order}
 use Rattle.nl_attr.specs.Numbers.{number_of}
@@ -20,3 +20,41 @@ rule_of o bytes = record {
   action = slice_index bytes 7;
   flags = number_of o 4 (drop 8 bytes);
 }
+
+-- ---- the numbers of its attributes, of linux/fib_rules.h
+
+-- its destination
+abbrev pub FRA_DST : ℕ
+FRA_DST = 1
+
+-- its source
+abbrev pub FRA_SRC : ℕ
+FRA_SRC = 2
+
+-- the name of the input interface
+abbrev pub FRA_IIFNAME : ℕ
+FRA_IIFNAME = 3
+
+-- the priority of the rule to go on with
+abbrev pub FRA_GOTO : ℕ
+FRA_GOTO = 4
+
+-- its priority
+abbrev pub FRA_PRIORITY : ℕ
+FRA_PRIORITY = 6
+
+-- the firewall mark
+abbrev pub FRA_FWMARK : ℕ
+FRA_FWMARK = 10
+
+-- the routing table, all 32 bits
+abbrev pub FRA_TABLE : ℕ
+FRA_TABLE = 15
+
+-- the mask of the firewall mark
+abbrev pub FRA_FWMASK : ℕ
+FRA_FWMASK = 16
+
+-- the name of the output interface
+abbrev pub FRA_OIFNAME : ℕ
+FRA_OIFNAME = 17

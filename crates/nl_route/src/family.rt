@@ -1,14 +1,13 @@
 //! The body of a family's message, whatever the family.
 
 ghost use Rattle.std.specs.Prelude.{◌≡◌, ◌≤◌, ◌+◌, length};
+ghost use Rattle.nl_attr.specs.Fixed as fixed;
 ghost use Rattle.nl_attr.specs.Shape.{shape_of};
 ghost use Rattle.nl_route.specs.Body.{ReadsBody};
 
 use crate::group::Group;
 use crate::head::Head;
-use nl_attr::{
-    Attr, Depth, FARTHEST_END, LONGEST_REGION, ListError, Order, Tally, read_list_ordered,
-};
+use nl_attr::{Attr, Depth, ListError, Order, Tally, read_list_ordered};
 use std::alloc::Global;
 
 /// The body of a family's message: its head, and the attributes behind it.
@@ -33,8 +32,8 @@ impl<H: Head> Family<H> {
     /// the bytes of the head have no fault.
     pub fn read_body(alloc: Global, bytes: &[u8], base: u32, depth: Depth) -> Tally<Self, ListError>
         requires head { H.SIZE ≤ length bytes.now }
-        requires size { length bytes.now ≤ LONGEST_REGION }
-        requires place { base + length bytes.now ≤ FARTHEST_END }
+        requires size { length bytes.now ≤ fixed.LONGEST_REGION }
+        requires place { base + length bytes.now ≤ fixed.FARTHEST_END }
         ensures { ReadsBody (shape_of Order.Little depth)
             H.SIZE H.ctx H.of H.fields base bytes.now result }
     {
@@ -50,8 +49,8 @@ impl<H: Head> Family<H> {
         order: Order,
     ) -> Tally<Self, ListError>
         requires head { H.SIZE ≤ length bytes.now }
-        requires size { length bytes.now ≤ LONGEST_REGION }
-        requires place { base + length bytes.now ≤ FARTHEST_END }
+        requires size { length bytes.now ≤ fixed.LONGEST_REGION }
+        requires place { base + length bytes.now ≤ fixed.FARTHEST_END }
         ensures { ReadsBody (shape_of order depth)
             H.SIZE H.ctx H.of H.fields base bytes.now result }
     {

@@ -3,6 +3,7 @@
 ghost use Rattle.std.specs.Prelude.{◌≡◌, unwrap_or};
 ghost use Rattle.std.specs.Option.{option_copied};
 ghost use Rattle.nl_route.specs.Fields.{AreRanged, IsHeadOf, IsWrittenHead};
+ghost use Rattle.nl_route.specs.Rule as fixed;
 ghost use Rattle.nl_route.specs.Rule.{rule_fields, rule_of};
 ghost use Rattle.nl_route.specs.Views.{number_view, text_view, bytes_view, attrs_in};
 
@@ -166,28 +167,28 @@ impl Head for RuleHead {
 impl Rule {
     /// The network address of the destination, `FRA_DST`.
     pub fn dst(&self) -> Option<&[u8]>
-        ensures { option_copied result ≡ bytes_view FRA_DST (attrs_in self.now) }
+        ensures { option_copied result ≡ bytes_view fixed.FRA_DST (attrs_in self.now) }
     {
         bytes_of(&self.attrs, FRA_DST)
     }
 
     /// The network address of the source, `FRA_SRC`.
     pub fn src(&self) -> Option<&[u8]>
-        ensures { option_copied result ≡ bytes_view FRA_SRC (attrs_in self.now) }
+        ensures { option_copied result ≡ bytes_view fixed.FRA_SRC (attrs_in self.now) }
     {
         bytes_of(&self.attrs, FRA_SRC)
     }
 
     /// The name of the interface that packets come from, `FRA_IIFNAME`.
     pub fn iifname(&self) -> Option<&[u8]>
-        ensures { option_copied result ≡ text_view FRA_IIFNAME (attrs_in self.now) }
+        ensures { option_copied result ≡ text_view fixed.FRA_IIFNAME (attrs_in self.now) }
     {
         text_of(&self.attrs, FRA_IIFNAME)
     }
 
     /// The name of the interface that packets leave by, `FRA_OIFNAME`.
     pub fn oifname(&self) -> Option<&[u8]>
-        ensures { option_copied result ≡ text_view FRA_OIFNAME (attrs_in self.now) }
+        ensures { option_copied result ≡ text_view fixed.FRA_OIFNAME (attrs_in self.now) }
     {
         text_of(&self.attrs, FRA_OIFNAME)
     }
@@ -196,14 +197,14 @@ impl Rule {
     ///
     /// For a body that was read in the other order, call `target_ordered`.
     pub fn target(&self) -> Option<u32>
-        ensures { result ≡ number_view Order.Little 4 FRA_GOTO (attrs_in self.now) }
+        ensures { result ≡ number_view Order.Little 4 fixed.FRA_GOTO (attrs_in self.now) }
     {
         self.target_ordered(Order::Little)
     }
 
     /// The rule that is gone to, `FRA_GOTO`, its bytes in this order.
     pub fn target_ordered(&self, order: Order) -> Option<u32>
-        ensures { result ≡ number_view order 4 FRA_GOTO (attrs_in self.now) }
+        ensures { result ≡ number_view order 4 fixed.FRA_GOTO (attrs_in self.now) }
     {
         u32_view(&self.attrs, FRA_GOTO, order)
     }
@@ -212,14 +213,14 @@ impl Rule {
     ///
     /// For a body that was read in the other order, call `priority_ordered`.
     pub fn priority(&self) -> Option<u32>
-        ensures { result ≡ number_view Order.Little 4 FRA_PRIORITY (attrs_in self.now) }
+        ensures { result ≡ number_view Order.Little 4 fixed.FRA_PRIORITY (attrs_in self.now) }
     {
         self.priority_ordered(Order::Little)
     }
 
     /// The place among rules, `FRA_PRIORITY`, its bytes in this order.
     pub fn priority_ordered(&self, order: Order) -> Option<u32>
-        ensures { result ≡ number_view order 4 FRA_PRIORITY (attrs_in self.now) }
+        ensures { result ≡ number_view order 4 fixed.FRA_PRIORITY (attrs_in self.now) }
     {
         u32_view(&self.attrs, FRA_PRIORITY, order)
     }
@@ -228,14 +229,14 @@ impl Rule {
     ///
     /// For a body that was read in the other order, call `fwmark_ordered`.
     pub fn fwmark(&self) -> Option<u32>
-        ensures { result ≡ number_view Order.Little 4 FRA_FWMARK (attrs_in self.now) }
+        ensures { result ≡ number_view Order.Little 4 fixed.FRA_FWMARK (attrs_in self.now) }
     {
         self.fwmark_ordered(Order::Little)
     }
 
     /// The mark of packets, `FRA_FWMARK`, its bytes in this order.
     pub fn fwmark_ordered(&self, order: Order) -> Option<u32>
-        ensures { result ≡ number_view order 4 FRA_FWMARK (attrs_in self.now) }
+        ensures { result ≡ number_view order 4 fixed.FRA_FWMARK (attrs_in self.now) }
     {
         u32_view(&self.attrs, FRA_FWMARK, order)
     }
@@ -244,14 +245,14 @@ impl Rule {
     ///
     /// For a body that was read in the other order, call `fwmask_ordered`.
     pub fn fwmask(&self) -> Option<u32>
-        ensures { result ≡ number_view Order.Little 4 FRA_FWMASK (attrs_in self.now) }
+        ensures { result ≡ number_view Order.Little 4 fixed.FRA_FWMASK (attrs_in self.now) }
     {
         self.fwmask_ordered(Order::Little)
     }
 
     /// The bits of the mark that count, `FRA_FWMASK`, its bytes in this order.
     pub fn fwmask_ordered(&self, order: Order) -> Option<u32>
-        ensures { result ≡ number_view order 4 FRA_FWMASK (attrs_in self.now) }
+        ensures { result ≡ number_view order 4 fixed.FRA_FWMASK (attrs_in self.now) }
     {
         u32_view(&self.attrs, FRA_FWMASK, order)
     }
@@ -262,7 +263,7 @@ impl Rule {
     /// For a body that was read in the other order, call `table_id_ordered`.
     pub fn table_id(&self) -> u32
         ensures { result ≡ unwrap_or
-            (number_view Order.Little 4 FRA_TABLE (attrs_in self.now)) self.now.head.table }
+            (number_view Order.Little 4 fixed.FRA_TABLE (attrs_in self.now)) self.now.head.table }
     {
         self.table_id_ordered(Order::Little)
     }
@@ -271,7 +272,7 @@ impl Rule {
     /// such number.
     pub fn table_id_ordered(&self, order: Order) -> u32
         ensures { result ≡ unwrap_or
-            (number_view order 4 FRA_TABLE (attrs_in self.now)) self.now.head.table }
+            (number_view order 4 fixed.FRA_TABLE (attrs_in self.now)) self.now.head.table }
     {
         u32_view(&self.attrs, FRA_TABLE, order).unwrap_or(u32::from(self.head.table))
     }

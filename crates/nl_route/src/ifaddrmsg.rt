@@ -3,6 +3,7 @@
 ghost use Rattle.std.specs.Prelude.{◌≡◌, unwrap_or};
 ghost use Rattle.std.specs.Option.{option_copied};
 ghost use Rattle.nl_route.specs.Fields.{AreRanged, IsHeadOf, IsWrittenHead};
+ghost use Rattle.nl_route.specs.Addr as fixed;
 ghost use Rattle.nl_route.specs.Addr.{addr_fields, addr_of};
 ghost use Rattle.nl_route.specs.Views.{number_view, text_view, bytes_view, attrs_in};
 
@@ -147,28 +148,28 @@ impl Head for AddrHead {
 impl Addr {
     /// The address, or that of the other end of a point-to-point link, `IFA_ADDRESS`.
     pub fn address(&self) -> Option<&[u8]>
-        ensures { option_copied result ≡ bytes_view IFA_ADDRESS (attrs_in self.now) }
+        ensures { option_copied result ≡ bytes_view fixed.IFA_ADDRESS (attrs_in self.now) }
     {
         bytes_of(&self.attrs, IFA_ADDRESS)
     }
 
     /// The local address, `IFA_LOCAL`.
     pub fn local(&self) -> Option<&[u8]>
-        ensures { option_copied result ≡ bytes_view IFA_LOCAL (attrs_in self.now) }
+        ensures { option_copied result ≡ bytes_view fixed.IFA_LOCAL (attrs_in self.now) }
     {
         bytes_of(&self.attrs, IFA_LOCAL)
     }
 
     /// The label of the address, `IFA_LABEL`.
     pub fn label(&self) -> Option<&[u8]>
-        ensures { option_copied result ≡ text_view IFA_LABEL (attrs_in self.now) }
+        ensures { option_copied result ≡ text_view fixed.IFA_LABEL (attrs_in self.now) }
     {
         text_of(&self.attrs, IFA_LABEL)
     }
 
     /// The broadcast address, `IFA_BROADCAST`.
     pub fn broadcast(&self) -> Option<&[u8]>
-        ensures { option_copied result ≡ bytes_view IFA_BROADCAST (attrs_in self.now) }
+        ensures { option_copied result ≡ bytes_view fixed.IFA_BROADCAST (attrs_in self.now) }
     {
         bytes_of(&self.attrs, IFA_BROADCAST)
     }
@@ -178,7 +179,7 @@ impl Addr {
     /// For a body that was read in the other order, call `flags_full_ordered`.
     pub fn flags_full(&self) -> u32
         ensures { result ≡ unwrap_or
-            (number_view Order.Little 4 IFA_FLAGS (attrs_in self.now)) self.now.head.flags }
+            (number_view Order.Little 4 fixed.IFA_FLAGS (attrs_in self.now)) self.now.head.flags }
     {
         self.flags_full_ordered(Order::Little)
     }
@@ -187,7 +188,7 @@ impl Addr {
     /// number.
     pub fn flags_full_ordered(&self, order: Order) -> u32
         ensures { result ≡ unwrap_or
-            (number_view order 4 IFA_FLAGS (attrs_in self.now)) self.now.head.flags }
+            (number_view order 4 fixed.IFA_FLAGS (attrs_in self.now)) self.now.head.flags }
     {
         u32_view(&self.attrs, IFA_FLAGS, order).unwrap_or(u32::from(self.head.flags))
     }

@@ -2,7 +2,9 @@
 
 ghost use Rattle.std.specs.Prelude.{◌≡◌};
 ghost use Rattle.std.specs.Option.{option_copied};
+ghost use Rattle.nl_attr.specs.Fixed as attr_fixed;
 ghost use Rattle.nl_route.specs.Fields.{AreRanged, IsHeadOf, IsWrittenHead};
+ghost use Rattle.nl_route.specs.Link as fixed;
 ghost use Rattle.nl_route.specs.Link.{link_fields, link_of};
 ghost use Rattle.nl_route.specs.Views.{number_view, text_view, items_view, attrs_in};
 
@@ -147,7 +149,7 @@ impl Head for LinkHead {
 impl Link {
     /// The name of the interface, `IFLA_IFNAME`.
     pub fn name(&self) -> Option<&[u8]>
-        ensures { option_copied result ≡ text_view IFLA_IFNAME (attrs_in self.now) }
+        ensures { option_copied result ≡ text_view fixed.IFLA_IFNAME (attrs_in self.now) }
     {
         text_of(&self.attrs, IFLA_IFNAME)
     }
@@ -156,14 +158,14 @@ impl Link {
     ///
     /// For a body that was read in the other order, call `mtu_ordered`.
     pub fn mtu(&self) -> Option<u32>
-        ensures { result ≡ number_view Order.Little 4 IFLA_MTU (attrs_in self.now) }
+        ensures { result ≡ number_view Order.Little 4 fixed.IFLA_MTU (attrs_in self.now) }
     {
         self.mtu_ordered(Order::Little)
     }
 
     /// The greatest packet in bytes, `IFLA_MTU`, its bytes in this order.
     pub fn mtu_ordered(&self, order: Order) -> Option<u32>
-        ensures { result ≡ number_view order 4 IFLA_MTU (attrs_in self.now) }
+        ensures { result ≡ number_view order 4 fixed.IFLA_MTU (attrs_in self.now) }
     {
         u32_view(&self.attrs, IFLA_MTU, order)
     }
@@ -172,7 +174,7 @@ impl Link {
     ///
     /// For a body that was read in the other order, call `master_ordered`.
     pub fn master(&self) -> Option<u32>
-        ensures { result ≡ number_view Order.Little 4 IFLA_MASTER (attrs_in self.now) }
+        ensures { result ≡ number_view Order.Little 4 fixed.IFLA_MASTER (attrs_in self.now) }
     {
         self.master_ordered(Order::Little)
     }
@@ -180,14 +182,14 @@ impl Link {
     /// The index of the interface that this one is a port of, `IFLA_MASTER`, its bytes in this
     /// order.
     pub fn master_ordered(&self, order: Order) -> Option<u32>
-        ensures { result ≡ number_view order 4 IFLA_MASTER (attrs_in self.now) }
+        ensures { result ≡ number_view order 4 fixed.IFLA_MASTER (attrs_in self.now) }
     {
         u32_view(&self.attrs, IFLA_MASTER, order)
     }
 
     /// The operational state, `IFLA_OPERSTATE`: a number of RFC 2863.
     pub fn operstate(&self) -> Option<u8>
-        ensures { result ≡ number_view Order.Little 1 IFLA_OPERSTATE (attrs_in self.now) }
+        ensures { result ≡ number_view Order.Little 1 fixed.IFLA_OPERSTATE (attrs_in self.now) }
     {
         u8_view(&self.attrs, IFLA_OPERSTATE)
     }
@@ -195,7 +197,8 @@ impl Link {
     /// The kind of a virtual interface, as `vlan`: `IFLA_INFO_KIND` in the list of `IFLA_LINKINFO`.
     pub fn kind(&self) -> Option<&[u8]>
         ensures { option_copied result
-            ≡ text_view IFLA_INFO_KIND (items_view IFLA_LINKINFO (attrs_in self.now)) }
+            ≡ text_view fixed.IFLA_INFO_KIND
+                (items_view attr_fixed.IFLA_LINKINFO (attrs_in self.now)) }
     {
         text_of(list_of(&self.attrs, IFLA_LINKINFO), IFLA_INFO_KIND)
     }

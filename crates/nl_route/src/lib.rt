@@ -13,6 +13,7 @@ mod group;
 mod head;
 mod ifaddrmsg;
 mod ifinfomsg;
+pub mod laws;
 mod ndmsg;
 mod rtmsg;
 mod views;

@@ -3,6 +3,7 @@
 ghost use Rattle.std.specs.Prelude.{◌≡◌};
 ghost use Rattle.std.specs.Option.{option_copied};
 ghost use Rattle.nl_route.specs.Fields.{AreRanged, IsHeadOf, IsWrittenHead};
+ghost use Rattle.nl_route.specs.Neigh as fixed;
 ghost use Rattle.nl_route.specs.Neigh.{neigh_fields, neigh_of};
 ghost use Rattle.nl_route.specs.Views.{number_view, bytes_view, attrs_in};
 
@@ -147,14 +148,14 @@ impl Head for NeighHead {
 impl Neigh {
     /// The neighbour's network address, `NDA_DST`.
     pub fn dst(&self) -> Option<&[u8]>
-        ensures { option_copied result ≡ bytes_view NDA_DST (attrs_in self.now) }
+        ensures { option_copied result ≡ bytes_view fixed.NDA_DST (attrs_in self.now) }
     {
         bytes_of(&self.attrs, NDA_DST)
     }
 
     /// The neighbour's link-layer address, `NDA_LLADDR`.
     pub fn lladdr(&self) -> Option<&[u8]>
-        ensures { option_copied result ≡ bytes_view NDA_LLADDR (attrs_in self.now) }
+        ensures { option_copied result ≡ bytes_view fixed.NDA_LLADDR (attrs_in self.now) }
     {
         bytes_of(&self.attrs, NDA_LLADDR)
     }
@@ -163,14 +164,14 @@ impl Neigh {
     ///
     /// For a body that was read in the other order, call `vlan_ordered`.
     pub fn vlan(&self) -> Option<u16>
-        ensures { result ≡ number_view Order.Little 2 NDA_VLAN (attrs_in self.now) }
+        ensures { result ≡ number_view Order.Little 2 fixed.NDA_VLAN (attrs_in self.now) }
     {
         self.vlan_ordered(Order::Little)
     }
 
     /// The NDA_VLAN of a bridge's entry, `NDA_VLAN`, its bytes in this order.
     pub fn vlan_ordered(&self, order: Order) -> Option<u16>
-        ensures { result ≡ number_view order 2 NDA_VLAN (attrs_in self.now) }
+        ensures { result ≡ number_view order 2 fixed.NDA_VLAN (attrs_in self.now) }
     {
         u16_view(&self.attrs, NDA_VLAN, order)
     }
@@ -179,14 +180,14 @@ impl Neigh {
     ///
     /// For a body that was read in the other order, call `vni_ordered`.
     pub fn vni(&self) -> Option<u32>
-        ensures { result ≡ number_view Order.Little 4 NDA_VNI (attrs_in self.now) }
+        ensures { result ≡ number_view Order.Little 4 fixed.NDA_VNI (attrs_in self.now) }
     {
         self.vni_ordered(Order::Little)
     }
 
     /// The VXLAN network identifier, `NDA_VNI`, its bytes in this order.
     pub fn vni_ordered(&self, order: Order) -> Option<u32>
-        ensures { result ≡ number_view order 4 NDA_VNI (attrs_in self.now) }
+        ensures { result ≡ number_view order 4 fixed.NDA_VNI (attrs_in self.now) }
     {
         u32_view(&self.attrs, NDA_VNI, order)
     }
@@ -194,7 +195,7 @@ impl Neigh {
     /// The UDP port of a VXLAN entry, `NDA_PORT`: in network order, whatever the order of other
     /// numbers.
     pub fn port(&self) -> Option<u16>
-        ensures { result ≡ number_view Order.Big 2 NDA_PORT (attrs_in self.now) }
+        ensures { result ≡ number_view Order.Big 2 fixed.NDA_PORT (attrs_in self.now) }
     {
         u16_view(&self.attrs, NDA_PORT, Order::Big)
     }

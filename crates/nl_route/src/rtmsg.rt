@@ -2,8 +2,10 @@
 
 ghost use Rattle.std.specs.Prelude.{◌≡◌, unwrap_or};
 ghost use Rattle.std.specs.Option.{option_copied};
+ghost use Rattle.nl_attr.specs.Fixed as attr_fixed;
 ghost use Rattle.nl_attr.specs.View.{attrs_view, hops_view};
 ghost use Rattle.nl_route.specs.Fields.{AreRanged, IsHeadOf, IsWrittenHead};
+ghost use Rattle.nl_route.specs.Route as fixed;
 ghost use Rattle.nl_route.specs.Route.{route_fields, route_of};
 ghost use Rattle.nl_route.specs.Views.{attrs_in, number_view, bytes_view};
 ghost use Rattle.nl_route.specs.Views.{items_view, hop_items_view};
@@ -175,28 +177,28 @@ impl Head for RouteHead {
 impl Route {
     /// The destination, `RTA_DST`.
     pub fn dst(&self) -> Option<&[u8]>
-        ensures { option_copied result ≡ bytes_view RTA_DST (attrs_in self.now) }
+        ensures { option_copied result ≡ bytes_view fixed.RTA_DST (attrs_in self.now) }
     {
         bytes_of(&self.attrs, RTA_DST)
     }
 
     /// The source, `RTA_SRC`.
     pub fn src(&self) -> Option<&[u8]>
-        ensures { option_copied result ≡ bytes_view RTA_SRC (attrs_in self.now) }
+        ensures { option_copied result ≡ bytes_view fixed.RTA_SRC (attrs_in self.now) }
     {
         bytes_of(&self.attrs, RTA_SRC)
     }
 
     /// The gateway, `RTA_GATEWAY`.
     pub fn gateway(&self) -> Option<&[u8]>
-        ensures { option_copied result ≡ bytes_view RTA_GATEWAY (attrs_in self.now) }
+        ensures { option_copied result ≡ bytes_view fixed.RTA_GATEWAY (attrs_in self.now) }
     {
         bytes_of(&self.attrs, RTA_GATEWAY)
     }
 
     /// The preferred source address, `RTA_PREFSRC`.
     pub fn prefsrc(&self) -> Option<&[u8]>
-        ensures { option_copied result ≡ bytes_view RTA_PREFSRC (attrs_in self.now) }
+        ensures { option_copied result ≡ bytes_view fixed.RTA_PREFSRC (attrs_in self.now) }
     {
         bytes_of(&self.attrs, RTA_PREFSRC)
     }
@@ -205,14 +207,14 @@ impl Route {
     ///
     /// For a body that was read in the other order, call `oif_ordered`.
     pub fn oif(&self) -> Option<u32>
-        ensures { result ≡ number_view Order.Little 4 RTA_OIF (attrs_in self.now) }
+        ensures { result ≡ number_view Order.Little 4 fixed.RTA_OIF (attrs_in self.now) }
     {
         self.oif_ordered(Order::Little)
     }
 
     /// The index of the output interface, `RTA_OIF`, its bytes in this order.
     pub fn oif_ordered(&self, order: Order) -> Option<u32>
-        ensures { result ≡ number_view order 4 RTA_OIF (attrs_in self.now) }
+        ensures { result ≡ number_view order 4 fixed.RTA_OIF (attrs_in self.now) }
     {
         u32_view(&self.attrs, RTA_OIF, order)
     }
@@ -221,14 +223,14 @@ impl Route {
     ///
     /// For a body that was read in the other order, call `iif_ordered`.
     pub fn iif(&self) -> Option<u32>
-        ensures { result ≡ number_view Order.Little 4 RTA_IIF (attrs_in self.now) }
+        ensures { result ≡ number_view Order.Little 4 fixed.RTA_IIF (attrs_in self.now) }
     {
         self.iif_ordered(Order::Little)
     }
 
     /// The index of the input interface, `RTA_IIF`, its bytes in this order.
     pub fn iif_ordered(&self, order: Order) -> Option<u32>
-        ensures { result ≡ number_view order 4 RTA_IIF (attrs_in self.now) }
+        ensures { result ≡ number_view order 4 fixed.RTA_IIF (attrs_in self.now) }
     {
         u32_view(&self.attrs, RTA_IIF, order)
     }
@@ -237,14 +239,14 @@ impl Route {
     ///
     /// For a body that was read in the other order, call `priority_ordered`.
     pub fn priority(&self) -> Option<u32>
-        ensures { result ≡ number_view Order.Little 4 RTA_PRIORITY (attrs_in self.now) }
+        ensures { result ≡ number_view Order.Little 4 fixed.RTA_PRIORITY (attrs_in self.now) }
     {
         self.priority_ordered(Order::Little)
     }
 
     /// The priority of the route, `RTA_PRIORITY`, its bytes in this order.
     pub fn priority_ordered(&self, order: Order) -> Option<u32>
-        ensures { result ≡ number_view order 4 RTA_PRIORITY (attrs_in self.now) }
+        ensures { result ≡ number_view order 4 fixed.RTA_PRIORITY (attrs_in self.now) }
     {
         u32_view(&self.attrs, RTA_PRIORITY, order)
     }
@@ -255,7 +257,7 @@ impl Route {
     /// For a body that was read in the other order, call `table_id_ordered`.
     pub fn table_id(&self) -> u32
         ensures { result ≡ unwrap_or
-            (number_view Order.Little 4 RTA_TABLE (attrs_in self.now)) self.now.head.table }
+            (number_view Order.Little 4 fixed.RTA_TABLE (attrs_in self.now)) self.now.head.table }
     {
         self.table_id_ordered(Order::Little)
     }
@@ -264,21 +266,22 @@ impl Route {
     /// such number.
     pub fn table_id_ordered(&self, order: Order) -> u32
         ensures { result ≡ unwrap_or
-            (number_view order 4 RTA_TABLE (attrs_in self.now)) self.now.head.table }
+            (number_view order 4 fixed.RTA_TABLE (attrs_in self.now)) self.now.head.table }
     {
         u32_view(&self.attrs, RTA_TABLE, order).unwrap_or(u32::from(self.head.table))
     }
 
     /// The metrics: the list of `RTA_METRICS`, empty where there is none.
     pub fn metrics(&self) -> &[Attr]
-        ensures { attrs_view result.now ≡ items_view RTA_METRICS (attrs_in self.now) }
+        ensures { attrs_view result.now ≡ items_view attr_fixed.RTA_METRICS (attrs_in self.now) }
     {
         list_of(&self.attrs, RTA_METRICS)
     }
 
     /// The next hops of `RTA_MULTIPATH`, empty where there are none.
     pub fn hops(&self) -> &[Hop]
-        ensures { hops_view result.now ≡ hop_items_view RTA_MULTIPATH (attrs_in self.now) }
+        ensures { hops_view result.now
+            ≡ hop_items_view attr_fixed.RTA_MULTIPATH (attrs_in self.now) }
     {
         hops_of(&self.attrs, RTA_MULTIPATH)
     }

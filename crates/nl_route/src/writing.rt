@@ -2,6 +2,7 @@
 
 ghost use Rattle.std.specs.Prelude.{◌≡◌, ◌≤◌, ◌+◌, ◌++◌, ◌↔◌, ◌⊎◌, IsTrue};
 ghost use Rattle.std.specs.Prelude.{IfSome, vec_len, vec_capacity};
+ghost use Rattle.nl_attr.specs.Fixed as fixed;
 ghost use Rattle.nl_attr.specs.Shape.{shape_of};
 ghost use Rattle.nl_attr.specs.Written.{items_len};
 ghost use Rattle.nl_attr.specs.Proper.{IsMismatched, IsDeep, IsLong, IsSized, IsRanged};
@@ -11,7 +12,7 @@ ghost use Rattle.nl_route.specs.Views.{attrs_in};
 
 use crate::family::Family;
 use crate::head::Head;
-use nl_attr::{Depth, Extent, LONGEST_REGION, Order, WriteError, append_list, measure};
+use nl_attr::{Depth, Extent, Order, WriteError, append_list, measure};
 
 impl<H: Head> Family<H> {
     /// How many bytes the body is written as, in either order. None where a value is of another
@@ -41,7 +42,7 @@ impl<H: Head> Family<H> {
             (λ e. (e.len ≡ None) ↔ IsLong (attrs_in self.now)) }
         ensures len { IfSome result (λ e. IfSome e.len
             (λ n. n ≡ H.SIZE + items_len (attrs_in self.now))) }
-        ensures limit { IfSome result (λ e. IfSome e.len (λ n. n ≤ H.SIZE + LONGEST_REGION)) }
+        ensures limit { IfSome result (λ e. IfSome e.len (λ n. n ≤ H.SIZE + fixed.LONGEST_REGION)) }
         // Then it may be appended.
         ensures sized { IfSome result
             (λ e. IfSome e.len (λ n. IsSized (attrs_in self.now))) }

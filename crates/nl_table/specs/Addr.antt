@@ -1,7 +1,7 @@
 -- Which fields make the key of an address: this project's own choice.
 use Rattle.std.specs.Prelude.{List, [], ◌∷◌}
 use Rattle.nl_attr.specs.Tree.{Items}
-use Rattle.nl_route.specs.declared.ifaddrmsg.TheConstants.{IFA_ADDRESS, IFA_LOCAL}
+use Rattle.nl_route.specs.Addr.{IFA_ADDRESS, IFA_LOCAL}
 use Rattle.nl_route.specs.declared.ifaddrmsg.AddrHead.{AddrHead}
 use Rattle.nl_route.specs.Views.{bytes_view}
 use Rattle.nl_table.specs.Keys.{KeyField, byte, number, bytes}

@@ -1,14 +1,21 @@
 -- Which fields make the key of a neighbour: this project's own choice.
-use Rattle.std.specs.Prelude.{◌==◌, if◌then◌else◌, List, [], ◌∷◌, bit_and}
+use Rattle.std.specs.Prelude.{ℕ, ◌==◌, if◌then◌else◌, List, [], ◌∷◌, bit_and}
 use Rattle.std.specs.Int.{w32, cast_unsigned}
 use Rattle.nl_attr.specs.declared.order.Order.{Order}
 use Rattle.nl_attr.specs.Tree.{Items}
-use Rattle.nl_route.specs.declared.ndmsg.TheConstants.{NDA_DST, NDA_LLADDR, NDA_VLAN, NDA_VNI}
+use Rattle.nl_route.specs.Neigh.{NDA_DST, NDA_LLADDR, NDA_VLAN, NDA_VNI}
 use Rattle.nl_route.specs.declared.ndmsg.NeighHead.{NeighHead}
 use Rattle.nl_route.specs.Views.{number_view, bytes_view}
-use Rattle.nl_table.specs.declared.families.neigh.TheConstants.{AF_BRIDGE, IDENTIFYING_FLAGS}
 use Rattle.nl_table.specs.Keys.{KeyField, byte, number, bytes}
 use Rattle.nl_table.specs.Attributes.{or_zero, number_at}
+
+-- the family of the entries of a bridge's forwarding table, of linux/socket.h
+abbrev pub AF_BRIDGE : ℕ
+AF_BRIDGE = 7
+
+-- the flags that are part of a key: NTF_SELF 0x02, NTF_MASTER 0x04 and NTF_PROXY 0x08 of linux/neighbour.h
+abbrev pub IDENTIFYING_FLAGS : ℕ
+IDENTIFYING_FLAGS = 0x0e
 
 module _ (o : Order) where
   -- a neighbour of the family AF_BRIDGE, beside what all have: NDA_LLADDR, NDA_VLAN, NDA_VNI

@@ -2,7 +2,7 @@
 use Rattle.std.specs.Prelude.{List, [], ◌∷◌}
 use Rattle.nl_attr.specs.declared.order.Order.{Order}
 use Rattle.nl_attr.specs.Tree.{Items}
-use Rattle.nl_route.specs.declared.rtmsg.TheConstants.{RTA_DST, RTA_GATEWAY, RTA_OIF, RTA_PRIORITY, RTA_SRC, RTA_TABLE}
+use Rattle.nl_route.specs.Route.{RTA_DST, RTA_GATEWAY, RTA_OIF, RTA_PRIORITY, RTA_SRC, RTA_TABLE}
 use Rattle.nl_route.specs.declared.rtmsg.RouteHead.{RouteHead}
 use Rattle.nl_route.specs.Views.{bytes_view}
 use Rattle.nl_table.specs.Keys.{KeyField, byte, number, bytes}

@@ -2,8 +2,8 @@
 use Rattle.std.specs.Prelude.{List, [], ◌∷◌}
 use Rattle.nl_attr.specs.declared.order.Order.{Order}
 use Rattle.nl_attr.specs.Tree.{Items}
-use Rattle.nl_route.specs.declared.fib_rule_hdr.TheConstants.{FRA_DST, FRA_SRC, FRA_IIFNAME, FRA_OIFNAME}
-use Rattle.nl_route.specs.declared.fib_rule_hdr.TheConstants.{FRA_TABLE, FRA_PRIORITY, FRA_GOTO, FRA_FWMARK, FRA_FWMASK}
+use Rattle.nl_route.specs.Rule.{FRA_DST, FRA_SRC, FRA_IIFNAME, FRA_OIFNAME}
+use Rattle.nl_route.specs.Rule.{FRA_TABLE, FRA_PRIORITY, FRA_GOTO, FRA_FWMARK, FRA_FWMASK}
 use Rattle.nl_route.specs.declared.fib_rule_hdr.RuleHead.{RuleHead}
 use Rattle.nl_route.specs.Views.{bytes_view}
 use Rattle.nl_table.specs.Keys.{KeyField, byte, number, bytes}

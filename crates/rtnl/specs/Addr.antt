@@ -1,6 +1,7 @@
 -- The text and the fields of an address: its attributes, and the line of its head.
 use Rattle.std.specs.Prelude.{ℕ, List, [], ◌∷◌, codes}
 use Rattle.std.specs.Fmt.{decimal}
+use Rattle.nl_route.specs.Addr.{IFA_ADDRESS, IFA_LOCAL, IFA_LABEL, IFA_BROADCAST, IFA_FLAGS}
 use Rattle.nl_route.specs.declared.ifaddrmsg.AddrHead.{AddrHead}
 use Rattle.rtnl.specs.Json.{Field, number}
 use Rattle.rtnl.specs.Rows.{Row}
@@ -11,14 +12,14 @@ use Rattle.rtnl.specs.declared.text.attributes.Style.TheVariants.{U32, Text, Add
 -- IFA, of an address
 abbrev pub addr_rows : List (Row Style)
 addr_rows =
-    (1, codes "ADDRESS", Address)
-    ∷ (2, codes "LOCAL", Address)
-    ∷ (3, codes "LABEL", Text)
-    ∷ (4, codes "BROADCAST", Address)
+    (IFA_ADDRESS, codes "ADDRESS", Address)
+    ∷ (IFA_LOCAL, codes "LOCAL", Address)
+    ∷ (IFA_LABEL, codes "LABEL", Text)
+    ∷ (IFA_BROADCAST, codes "BROADCAST", Address)
     ∷ (5, codes "ANYCAST", Address)
     ∷ (6, codes "CACHEINFO", Hex)
     ∷ (7, codes "MULTICAST", Address)
-    ∷ (8, codes "FLAGS", U32)
+    ∷ (IFA_FLAGS, codes "FLAGS", U32)
     ∷ (9, codes "RT_PRIORITY", U32) ∷ []
 
 -- the line of an address's head

@@ -1,6 +1,8 @@
 -- The text and the fields of a link: its attributes, and the line of its head.
 use Rattle.std.specs.Prelude.{ℕ, List, [], ◌∷◌, codes}
 use Rattle.std.specs.Fmt.{decimal, signed_decimal}
+use Rattle.nl_attr.specs.Fixed.{IFLA_LINKINFO}
+use Rattle.nl_route.specs.Link.{IFLA_IFNAME, IFLA_MTU, IFLA_MASTER, IFLA_OPERSTATE, IFLA_INFO_KIND}
 use Rattle.nl_route.specs.declared.ifinfomsg.LinkHead.{LinkHead}
 use Rattle.rtnl.specs.Json.{Field, number, signed}
 use Rattle.rtnl.specs.NamedBits.{link_flags}
@@ -15,15 +17,15 @@ abbrev pub link_rows : List (Row Style)
 link_rows =
     (1, codes "ADDRESS", Hex)
     ∷ (2, codes "BROADCAST", Hex)
-    ∷ (3, codes "IFNAME", Text)
-    ∷ (4, codes "MTU", U32)
+    ∷ (IFLA_IFNAME, codes "IFNAME", Text)
+    ∷ (IFLA_MTU, codes "MTU", U32)
     ∷ (5, codes "LINK", U32)
     ∷ (6, codes "QDISC", Text)
-    ∷ (10, codes "MASTER", U32)
+    ∷ (IFLA_MASTER, codes "MASTER", U32)
     ∷ (13, codes "TXQLEN", U32)
-    ∷ (16, codes "OPERSTATE", U8)
+    ∷ (IFLA_OPERSTATE, codes "OPERSTATE", U8)
     ∷ (17, codes "LINKMODE", U8)
-    ∷ (18, codes "LINKINFO", Hex)
+    ∷ (IFLA_LINKINFO, codes "LINKINFO", Hex)
     ∷ (20, codes "IFALIAS", Text)
     ∷ (27, codes "GROUP", U32)
     ∷ (29, codes "EXT_MASK", U32)
@@ -36,7 +38,7 @@ link_rows =
 -- IFLA_INFO, inside a link's LINKINFO
 abbrev pub link_info_rows : List (Row Style)
 link_info_rows =
-    (1, codes "KIND", Text)
+    (IFLA_INFO_KIND, codes "KIND", Text)
     ∷ (2, codes "DATA", Hex)
     ∷ (3, codes "XSTATS", Hex)
     ∷ (4, codes "SLAVE_KIND", Text)

@@ -1,6 +1,7 @@
 -- The text and the fields of a neighbour: its attributes, and the line of its head.
 use Rattle.std.specs.Prelude.{ℕ, List, [], ◌∷◌, codes}
 use Rattle.std.specs.Fmt.{decimal, signed_decimal}
+use Rattle.nl_route.specs.Neigh.{NDA_DST, NDA_LLADDR, NDA_VLAN, NDA_PORT, NDA_VNI}
 use Rattle.nl_route.specs.declared.ndmsg.NeighHead.{NeighHead}
 use Rattle.rtnl.specs.Json.{Field, number, signed}
 use Rattle.rtnl.specs.NamedBits.{neigh_flags, neigh_states}
@@ -13,13 +14,13 @@ use Rattle.rtnl.specs.declared.text.attributes.Style.TheVariants.{U16, U32, Netw
 -- NDA, of a neighbour
 abbrev pub neigh_rows : List (Row Style)
 neigh_rows =
-    (1, codes "DST", Address)
-    ∷ (2, codes "LLADDR", Hex)
+    (NDA_DST, codes "DST", Address)
+    ∷ (NDA_LLADDR, codes "LLADDR", Hex)
     ∷ (3, codes "CACHEINFO", Hex)
     ∷ (4, codes "PROBES", U32)
-    ∷ (5, codes "VLAN", U16)
-    ∷ (6, codes "PORT", NetworkU16)
-    ∷ (7, codes "VNI", U32)
+    ∷ (NDA_VLAN, codes "VLAN", U16)
+    ∷ (NDA_PORT, codes "PORT", NetworkU16)
+    ∷ (NDA_VNI, codes "VNI", U32)
     ∷ (8, codes "IFINDEX", U32)
     ∷ (9, codes "MASTER", U32) ∷ []
 

@@ -7,7 +7,7 @@ use Rattle.json.specs.Json as json
 use Rattle.nl_attr.specs.declared.order.Order.{Order}
 use Rattle.nl_attr.specs.declared.tree.AttrFlags.{AttrFlags}
 use Rattle.nl_attr.specs.declared.tree.Ctx.{Ctx}
-use Rattle.nl_attr.specs.declared.tree.TheConstants.{NUMBERS}
+use Rattle.nl_attr.specs.Fixed.{NUMBERS}
 use Rattle.nl_attr.specs.Numbers.{number_of}
 use Rattle.nl_attr.specs.Walk.{flags_of}
 use Rattle.rtnl.specs.declared.bytes.notation.Bits.{Bits}

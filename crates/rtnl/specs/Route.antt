@@ -1,6 +1,8 @@
 -- The text and the fields of a route: its attributes, and the line of its head.
 use Rattle.std.specs.Prelude.{ℕ, List, [], ◌∷◌, codes}
 use Rattle.std.specs.Fmt.{decimal}
+use Rattle.nl_attr.specs.Fixed.{RTA_METRICS, RTA_MULTIPATH}
+use Rattle.nl_route.specs.Route.{RTA_DST, RTA_SRC, RTA_IIF, RTA_OIF, RTA_GATEWAY, RTA_PRIORITY, RTA_PREFSRC, RTA_TABLE}
 use Rattle.nl_route.specs.declared.rtmsg.RouteHead.{RouteHead}
 use Rattle.rtnl.specs.Json.{Field, number}
 use Rattle.rtnl.specs.Rows.{Row}
@@ -11,18 +13,18 @@ use Rattle.rtnl.specs.declared.text.attributes.Style.TheVariants.{U8, U16, U32, 
 -- RTA, of a route
 abbrev pub route_rows : List (Row Style)
 route_rows =
-    (1, codes "DST", Address)
-    ∷ (2, codes "SRC", Address)
-    ∷ (3, codes "IIF", U32)
-    ∷ (4, codes "OIF", U32)
-    ∷ (5, codes "GATEWAY", Address)
-    ∷ (6, codes "PRIORITY", U32)
-    ∷ (7, codes "PREFSRC", Address)
-    ∷ (8, codes "METRICS", Hex)
-    ∷ (9, codes "MULTIPATH", Hex)
+    (RTA_DST, codes "DST", Address)
+    ∷ (RTA_SRC, codes "SRC", Address)
+    ∷ (RTA_IIF, codes "IIF", U32)
+    ∷ (RTA_OIF, codes "OIF", U32)
+    ∷ (RTA_GATEWAY, codes "GATEWAY", Address)
+    ∷ (RTA_PRIORITY, codes "PRIORITY", U32)
+    ∷ (RTA_PREFSRC, codes "PREFSRC", Address)
+    ∷ (RTA_METRICS, codes "METRICS", Hex)
+    ∷ (RTA_MULTIPATH, codes "MULTIPATH", Hex)
     ∷ (11, codes "FLOW", U32)
     ∷ (12, codes "CACHEINFO", Hex)
-    ∷ (15, codes "TABLE", U32)
+    ∷ (RTA_TABLE, codes "TABLE", U32)
     ∷ (16, codes "MARK", U32)
     ∷ (18, codes "VIA", Hex)
     ∷ (19, codes "NEWDST", Hex)

@@ -1,6 +1,7 @@
 -- The text and the fields of a routing rule: its attributes, and the line of its head.
 use Rattle.std.specs.Prelude.{ℕ, List, [], ◌∷◌, codes}
 use Rattle.std.specs.Fmt.{decimal}
+use Rattle.nl_route.specs.Rule.{FRA_DST, FRA_SRC, FRA_IIFNAME, FRA_GOTO, FRA_PRIORITY, FRA_FWMARK, FRA_TABLE, FRA_FWMASK, FRA_OIFNAME}
 use Rattle.nl_route.specs.declared.fib_rule_hdr.RuleHead.{RuleHead}
 use Rattle.rtnl.specs.Json.{Field, number}
 use Rattle.rtnl.specs.Rows.{Row}
@@ -11,15 +12,15 @@ use Rattle.rtnl.specs.declared.text.attributes.Style.TheVariants.{U32, Text, Add
 -- FRA, of a routing rule
 abbrev pub rule_rows : List (Row Style)
 rule_rows =
-    (1, codes "DST", Address)
-    ∷ (2, codes "SRC", Address)
-    ∷ (3, codes "IIFNAME", Text)
-    ∷ (4, codes "GOTO", U32)
-    ∷ (6, codes "PRIORITY", U32)
-    ∷ (10, codes "FWMARK", U32)
-    ∷ (15, codes "TABLE", U32)
-    ∷ (16, codes "FWMASK", U32)
-    ∷ (17, codes "OIFNAME", Text) ∷ []
+    (FRA_DST, codes "DST", Address)
+    ∷ (FRA_SRC, codes "SRC", Address)
+    ∷ (FRA_IIFNAME, codes "IIFNAME", Text)
+    ∷ (FRA_GOTO, codes "GOTO", U32)
+    ∷ (FRA_PRIORITY, codes "PRIORITY", U32)
+    ∷ (FRA_FWMARK, codes "FWMARK", U32)
+    ∷ (FRA_TABLE, codes "TABLE", U32)
+    ∷ (FRA_FWMASK, codes "FWMASK", U32)
+    ∷ (FRA_OIFNAME, codes "OIFNAME", Text) ∷ []
 
 -- the line of a rule's head
 unfoldable pub rule_line : RuleHead → List ℕ

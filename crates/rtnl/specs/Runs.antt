@@ -1,13 +1,16 @@
 -- A run over the datagrams of an input: what is found of each, what is printed of it, and the verdict.
 use Rattle.std.specs.Prelude.{◌≡◌, ◌≢◌, ◌+◌, ◌⊎◌, ℕ, List, [], ◌∷◌, ◌++◌, Bool, true, false, Option, Result, Ok, Err, OnOk, OnErr, IfErr}
 use Rattle.std.specs.Io.KnownBytes.{Appends, Consumes}
-use Rattle.rtnl.specs.declared.source.TheConstants.{LONGEST_INPUT}
 use Rattle.rtnl.specs.Lines.{datagrams}
 use Rattle.rtnl.specs.Streams.{AppendsPrefix, ConsumesMoreThan, IsRead, StopsOnce, one_more}
 use Rattle.rtnl.specs.declared.error.RunError.{RunError}
 use Rattle.rtnl.specs.declared.error.RunError.TheVariants.{BadLine, ReadFault, WriteFault, Memory}
 use Rattle.rtnl.specs.declared.error.Verdict.{Verdict}
 use Rattle.rtnl.specs.declared.error.Verdict.TheVariants.{Clean, Blemished}
+
+-- the longest input that is read, in bytes: this project's own limit
+abbrev pub LONGEST_INPUT : ℕ
+LONGEST_INPUT = 16_777_216
 
 -- what is found of datagrams, one finding for each
 abbrev pub EachIs : {X : Type 0} → (List ℕ → X → Type 0) → List (List ℕ) → List X → Type 0

@@ -1,7 +1,7 @@
 -- What is taped of a datagram.
 use Rattle.std.specs.Prelude.{◌≡◌, ◌≤◌, ◌<◌, ◌==◌, ◌||◌, if◌then◌else◌, ℕ, List, [], length, Option, Some, None, Result, Ok, Err, IfSome}
 use Rattle.nl_attr.specs.declared.events.Event.{Event}
-use Rattle.nl_attr.specs.declared.events.TheConstants.{SORT_MESSAGE, SORT_LIST, SORT_HOPS, SORT_NEXT_HOP}
+use Rattle.nl_attr.specs.Fixed.{SORT_MESSAGE, SORT_LIST, SORT_HOPS, SORT_NEXT_HOP}
 use Rattle.nl_attr.specs.declared.tree.Ctx.{Ctx}
 use Rattle.nl_attr.specs.declared.tree.Ctx.TheVariants.{Route, Plain}
 use Rattle.nl_attr.specs.Tree.{holds_of}

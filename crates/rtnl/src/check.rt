@@ -1,6 +1,7 @@
 //! Checking a recording.
 
 ghost use Rattle.std.specs.Prelude.{◌≡◌, ◌+◌, ◌++◌, Ok, OnOk, IfOk};
+ghost use Rattle.rtnl.specs.Runs as fixed;
 ghost use Rattle.rtnl.specs.Checked.{Checks, ChecksInput, ChecksInputJson};
 ghost use Rattle.rtnl.specs.Checked.{ChecksJson, finding_text};
 ghost use Rattle.rtnl.specs.Runs.{Runs};
@@ -12,7 +13,7 @@ use crate::objects;
 use crate::objects::line::Line;
 use crate::run::run;
 use crate::sink::Sink;
-use crate::source::{LONGEST_INPUT, Source};
+use crate::source::Source;
 use crate::text::datagram::{push_number, push_refusal};
 use crate::text::pieces::push;
 use nl_frame::{Limits, is_canonical};
@@ -133,7 +134,7 @@ pub fn run_check<S: Source, W: Sink>(
         W.contents W.is_stalled W.stall_count W.failure_count
         (Checks limits.now) source.old source.new sink.old sink.new result }
     // It takes at most one byte more than the longest input.
-    ensures bounded { ConsumesAtMost (LONGEST_INPUT + 1)
+    ensures bounded { ConsumesAtMost (fixed.LONGEST_INPUT + 1)
         (S.remaining source.old) (S.remaining source.new) }
 {
     run(alloc, source, sink, &Check { limits: *limits })
@@ -159,7 +160,7 @@ pub fn run_check_json<S: Source, W: Sink>(
         W.contents W.is_stalled W.stall_count W.failure_count
         (ChecksJson limits.now) source.old source.new sink.old sink.new result }
     // It takes at most one byte more than the longest input.
-    ensures bounded { ConsumesAtMost (LONGEST_INPUT + 1)
+    ensures bounded { ConsumesAtMost (fixed.LONGEST_INPUT + 1)
         (S.remaining source.old) (S.remaining source.new) }
 {
     run(alloc, source, sink, &CheckJson { limits: *limits })

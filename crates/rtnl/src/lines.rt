@@ -2,6 +2,7 @@
 
 ghost use Rattle.std.specs.List.{list_any, position};
 ghost use Rattle.std.specs.Prelude.{◌≡◌, ◌≤◌, ◌<◌, ◌↔◌, length, map, IfOk, Err};
+ghost use Rattle.rtnl.specs.Runs as fixed;
 ghost use Rattle.rtnl.specs.Lines.{Gives, Reads, compact, datagrams, digits_at, is_blank};
 ghost use Rattle.rtnl.specs.Lines.{is_comment, is_stray, line_at, line_fault_of, lines_left};
 ghost use Rattle.std.specs.Iterator.{YieldsFirstRef, item_count};
@@ -146,7 +147,7 @@ impl<'a> Iterator for Lines<'a> {
 /// The datagrams of the lines of a recording, or the first line that is bad. A byte takes two
 /// digits, so there is room for all bytes from the start.
 pub(crate) fn read_datagrams(alloc: Global, input: &[u8]) -> Result<Datagrams, RunError>
-    requires { length input.now ≤ LONGEST_INPUT }
+    requires { length input.now ≤ fixed.LONGEST_INPUT }
     ensures { Gives (λ ds. ds) result (datagrams input.now) }
 {
     let mut bytes = Vec::with_capacity(alloc, input.len() / 2)?;
@@ -165,9 +166,10 @@ pub(crate) fn read_datagrams(alloc: Global, input: &[u8]) -> Result<Datagrams, R
 /// The datagrams of a recording in memory, one for each line that has one, or the number of the
 /// first line that is bad; a read fault where the recording is longer than 16,777,216 bytes.
 pub fn datagrams(alloc: Global, recording: &[u8]) -> Result<Vec<Vec<u8>>, RunError>
-    ensures large { (result ≡ Err RunError.ReadFault) ↔ (LONGEST_INPUT < length recording.now) }
+    ensures large { (result ≡ Err RunError.ReadFault)
+        ↔ (fixed.LONGEST_INPUT < length recording.now) }
     // Else they are those of its lines, or the first line that is bad, or memory ran out.
-    ensures outcome { length recording.now ≤ LONGEST_INPUT
+    ensures outcome { length recording.now ≤ fixed.LONGEST_INPUT
         → Gives (λ v. map (λ d. d.items) v.items) result (datagrams recording.now) }
 {
     if recording.len() > LONGEST_INPUT {

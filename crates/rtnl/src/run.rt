@@ -2,6 +2,7 @@
 //! datagrams, and the sink.
 
 ghost use Rattle.std.specs.Prelude.{◌+◌, IfOk};
+ghost use Rattle.rtnl.specs.Runs as fixed;
 ghost use Rattle.rtnl.specs.Streams.{ConsumesAtMost};
 ghost use Rattle.rtnl.specs.Runs.{OfInput, Runs};
 
@@ -9,7 +10,7 @@ use crate::error::{RunError, Verdict};
 use crate::lines::read_datagrams;
 use crate::recording::Datagrams;
 use crate::sink::{Sink, give_all};
-use crate::source::{LONGEST_INPUT, Source, read_input};
+use crate::source::{Source, read_input};
 use std::alloc::{AllocError, Global};
 
 /// What is said of the datagrams of a recording.
@@ -43,7 +44,7 @@ pub(crate) fn run<S: Source, W: Sink, C: Command>(
     ensures runs { Runs S.remaining S.is_ended S.failure_count
         W.contents W.is_stalled W.stall_count W.failure_count
         (C.says command.now) source.old source.new sink.old sink.new result }
-    ensures bounded { ConsumesAtMost (LONGEST_INPUT + 1)
+    ensures bounded { ConsumesAtMost (fixed.LONGEST_INPUT + 1)
         (S.remaining source.old) (S.remaining source.new) }
 {
     let input = read_input(alloc, source)?;

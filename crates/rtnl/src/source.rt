@@ -3,6 +3,7 @@
 ghost use Rattle.std.specs.Prelude.{◌≡◌, ℕ, ◌+◌, ◌≤◌, ◌↔◌, ◌⊎◌, List, length};
 ghost use Rattle.std.specs.Prelude.{Option, Some, OnOk, OnErr, IfOk, IfErr, IsTrue};
 ghost use Rattle.std.specs.Io.KnownBytes.{Consumes, ReadConsumes};
+ghost use Rattle.rtnl.specs.Runs as fixed;
 ghost use Rattle.rtnl.specs.Streams.{ConsumesAtMost, ConsumesMoreThan, IsRead, MovesNone, one_more};
 
 use crate::broken::{Broken, moves_none};
@@ -137,18 +138,18 @@ pub const LONGEST_INPUT: usize = 16_777_216;
 pub(crate) fn read_input<S: Source>(alloc: Global, source: &mut S) -> Result<Vec<u8>, RunError>
     ensures all { IfOk result
         (λ input. Consumes (S.remaining source.old) (S.remaining source.new) input.items) }
-    ensures fits { IfOk result (λ input. length input.items ≤ LONGEST_INPUT) }
+    ensures fits { IfOk result (λ input. length input.items ≤ fixed.LONGEST_INPUT) }
     ensures read { OnOk result
         (IsRead S.remaining S.is_ended S.failure_count source.old source.new) }
 
     ensures fault { result ≡ Err RunError.ReadFault →
         (S.failure_count source.new ≡ one_more (S.failure_count source.old))
         ⊎ ((S.failure_count source.new ≡ S.failure_count source.old)
-        × ConsumesMoreThan LONGEST_INPUT (S.remaining source.old) (S.remaining source.new)) }
+        × ConsumesMoreThan fixed.LONGEST_INPUT (S.remaining source.old) (S.remaining source.new)) }
     ensures memory { result ≡ Err RunError.Memory
         → S.failure_count source.new ≡ S.failure_count source.old }
     ensures errors { IfErr result (λ e. (e ≡ RunError.ReadFault) ⊎ (e ≡ RunError.Memory)) }
-    ensures bounded { ConsumesAtMost (LONGEST_INPUT + 1)
+    ensures bounded { ConsumesAtMost (fixed.LONGEST_INPUT + 1)
         (S.remaining source.old) (S.remaining source.new) }
 {
     let mut input = Vec::new(alloc);

@@ -2,6 +2,7 @@
 
 ghost use Rattle.std.specs.Prelude.{◌≡◌, ◌≤◌, ◌+◌, ◌++◌, ◌↔◌, IsTrue};
 ghost use Rattle.std.specs.Prelude.{List, length, drop, Result, IfOk};
+ghost use Rattle.rtnl.specs.Runs as fixed;
 ghost use Rattle.nl_dump.specs.Steps.{Fed, IsWaiting};
 ghost use Rattle.nl_dump.specs.declared.dump.Progress.{Progress as AnyProgress};
 ghost use Rattle.nl_dump.specs.declared.errors.FeedError.{FeedError as AnyFeedError};
@@ -19,7 +20,7 @@ use crate::recording::Datagrams;
 use crate::report::Report;
 use crate::run::{Command, run};
 use crate::sink::Sink;
-use crate::source::{LONGEST_INPUT, Source};
+use crate::source::Source;
 use crate::text::dump::InText;
 use nl_dump::{Dump, Session, State};
 use nl_frame::Limits;
@@ -154,7 +155,7 @@ pub fn run_table<S: Source, W: Sink>(
         W.contents W.is_stalled W.stall_count W.failure_count
         (Tables limits.now dump) source.old source.new sink.old sink.new result }
     // It takes at most one byte more than the longest input.
-    ensures bounded { ConsumesAtMost (LONGEST_INPUT + 1)
+    ensures bounded { ConsumesAtMost (fixed.LONGEST_INPUT + 1)
         (S.remaining source.old) (S.remaining source.new) }
 {
     run(
@@ -191,7 +192,7 @@ pub fn run_table_json<S: Source, W: Sink>(
         W.contents W.is_stalled W.stall_count W.failure_count
         (TablesJson limits.now dump) source.old source.new sink.old sink.new result }
     // It takes at most one byte more than the longest input.
-    ensures bounded { ConsumesAtMost (LONGEST_INPUT + 1)
+    ensures bounded { ConsumesAtMost (fixed.LONGEST_INPUT + 1)
         (S.remaining source.old) (S.remaining source.new) }
 {
     run(

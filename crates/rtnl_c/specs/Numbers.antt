@@ -1,6 +1,6 @@
 -- The numbers that C has for contexts, and the answers to C of bodies and of payloads.
 use Rattle.std.specs.Prelude.{ℕ, ◌==◌, if◌then◌else◌, Bool, false, Option, Some, None}
-use Rattle.nl_attr.specs.declared.events.TheConstants.{SORT_BYTES, SORT_LIST, SORT_HOPS}
+use Rattle.nl_attr.specs.Fixed.{SORT_BYTES, SORT_LIST, SORT_HOPS}
 use Rattle.nl_attr.specs.declared.tree.Content.{Content}
 use Rattle.nl_attr.specs.declared.tree.Content.TheVariants as content
 use Rattle.nl_attr.specs.declared.tree.Ctx.{Ctx}

@@ -2,6 +2,7 @@
 //! here takes memory.
 
 ghost use Rattle.std.specs.Prelude.{◌≡◌, ◌≤◌, ◌<◌, length};
+ghost use Rattle.nl_attr.specs.Fixed as fixed;
 ghost use Rattle.rtnl_c.specs.Cursors.{AttrStands, HopStands, MessageStands};
 ghost use Rattle.rtnl_c.specs.Cursors.{no_attr, no_hop, no_message};
 ghost use Rattle.rtnl_c.specs.Options.{order_in};
@@ -114,9 +115,9 @@ fn hop_none(place: u32, code: u8) -> HopAt
 /// the datagram is above 1,048,576 bytes.
 #[unsafe(no_mangle)]
 pub extern "C" fn rtnlc_message_at(bytes: &[u8], place: u32, big: bool) -> MessageAt
-    ensures stands { length bytes.now ≤ LONGEST_REGION
+    ensures stands { length bytes.now ≤ fixed.LONGEST_REGION
         → MessageStands (order_in big) bytes.now place result }
-    ensures large { LONGEST_REGION < length bytes.now → result ≡ no_message place 6 }
+    ensures large { fixed.LONGEST_REGION < length bytes.now → result ≡ no_message place 6 }
 {
     if bytes.len() > LONGEST_REGION {
         return message_none(place, TOO_LARGE);
@@ -141,9 +142,9 @@ pub extern "C" fn rtnlc_message_at(bytes: &[u8], place: u32, big: bool) -> Messa
 /// the region is above 1,048,576 bytes.
 #[unsafe(no_mangle)]
 pub extern "C" fn rtnlc_attr_at(bytes: &[u8], place: u32, big: bool) -> AttrAt
-    ensures stands { length bytes.now ≤ LONGEST_REGION
+    ensures stands { length bytes.now ≤ fixed.LONGEST_REGION
         → AttrStands (order_in big) bytes.now place result }
-    ensures large { LONGEST_REGION < length bytes.now → result ≡ no_attr place 6 }
+    ensures large { fixed.LONGEST_REGION < length bytes.now → result ≡ no_attr place 6 }
 {
     if bytes.len() > LONGEST_REGION {
         return attr_none(place, TOO_LARGE);
@@ -167,9 +168,9 @@ pub extern "C" fn rtnlc_attr_at(bytes: &[u8], place: u32, big: bool) -> AttrAt
 /// region is above 1,048,576 bytes.
 #[unsafe(no_mangle)]
 pub extern "C" fn rtnlc_hop_at(bytes: &[u8], place: u32, big: bool) -> HopAt
-    ensures stands { length bytes.now ≤ LONGEST_REGION
+    ensures stands { length bytes.now ≤ fixed.LONGEST_REGION
         → HopStands (order_in big) bytes.now place result }
-    ensures large { LONGEST_REGION < length bytes.now → result ≡ no_hop place 6 }
+    ensures large { fixed.LONGEST_REGION < length bytes.now → result ≡ no_hop place 6 }
 {
     if bytes.len() > LONGEST_REGION {
         return hop_none(place, TOO_LARGE);

@@ -3,6 +3,7 @@
 
 ghost use Rattle.std.specs.Prelude.{◌≡◌, ◌≤◌, ◌<◌, ℕ, drop, length};
 ghost use Rattle.nl_attr.specs.declared.tree.Ctx.{Ctx};
+ghost use Rattle.nl_attr.specs.Fixed as fixed;
 ghost use Rattle.nl_attr.specs.Layout.{Fits};
 ghost use Rattle.nl_attr.specs.Shape.{shape_of};
 ghost use Rattle.nl_attr.specs.Tree.{Items};
@@ -23,16 +24,16 @@ use nl_attr::LONGEST_REGION;
 /// view of the list.
 #[unsafe(no_mangle)]
 pub extern "C" fn rtnlc_find(bytes: &[u8], place: u32, number: u16, big: bool) -> AttrAt
-    ensures finds { length bytes.now ≤ LONGEST_REGION
+    ensures finds { length bytes.now ≤ fixed.LONGEST_REGION
         → Finds (order_in big) bytes.now number place result }
-    ensures only { length bytes.now ≤ LONGEST_REGION
+    ensures only { length bytes.now ≤ fixed.LONGEST_REGION
         → (a : AttrAt) → Finds (order_in big) bytes.now number place a → a ≡ result }
     // Of a list that fits the bytes from the place on.
-    ensures first { length bytes.now ≤ LONGEST_REGION
+    ensures first { length bytes.now ≤ fixed.LONGEST_REGION
         → (depth l : ℕ) (ctx : Ctx) (items : Items)
         → Fits (shape_of (order_in big) depth) items (drop place bytes.now) ctx l
         → IsFirst (shape_of (order_in big) depth) ctx l bytes.now place items number result }
-    ensures large { LONGEST_REGION < length bytes.now → result ≡ no_attr place 6 }
+    ensures large { fixed.LONGEST_REGION < length bytes.now → result ≡ no_attr place 6 }
 {
     let mut found = rtnlc_attr_at(bytes, place, big);
     while found.code == 0 && found.number != number {

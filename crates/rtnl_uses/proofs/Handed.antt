@@ -8,7 +8,7 @@ use Rattle.nl_attr.specs.Shape.{Shape}
 use Rattle.nl_attr.specs.HeadOrder.{put_from}
 use Rattle.nl_attr.specs.Views.{first_number}
 use Rattle.nl_attr.specs.declared.order.Order.{Order}
-use Rattle.nl_route.specs.declared.rtmsg.TheConstants.{RTA_OIF}
+use Rattle.nl_route.specs.Route.{RTA_OIF}
 use Rattle.nl_frame.specs.HeadOrder.{events_of}
 use Rattle.nl_frame.specs.Heads.{whole}
 use Rattle.nl_frame.specs.Layout.{Layout}

@@ -1,6 +1,6 @@
 -- What fits a region can be written, and is as long as the region with its last padding.
 use Rattle.std.proofs.Common.{◌≡◌, ℕ, ◌+◌, ◌%◌, ◌^◌, ◌<◌, ◌≤◌, List, ◌∷◌, ◌++◌, length, refl, sym, ap, ◌∙◌, arith, inl, inr, length-append}
-use Rattle.nl_attr.specs.declared.limits.TheConstants.{LONGEST_ITEM, LONGEST_REGION}
+use Rattle.nl_attr.specs.Fixed.{LONGEST_ITEM, LONGEST_REGION}
 use Rattle.nl_attr.specs.declared.order.Order.{Order}
 use Rattle.nl_attr.specs.declared.tree.Ctx.{Ctx}
 use Rattle.nl_attr.specs.declared.tree.Ctx.TheVariants.{Route}

@@ -2,7 +2,7 @@
 use Rattle.std.proofs.Common.{◌≡◌, ℕ, ◌+◌, ◌-◌, ◌<◌, ◌≤◌, Bool, true, false, cond, ltb, ◌||◌, ◌⊎◌, Option, Some, None, refl, sym, ap, subst, arith, inl, inr}
 use Rattle.std.specs.Prelude.{◌↔◌, IsTrue, IfSome}
 use Rattle.std.proofs.lemmas.Bool.{ltb-true, ltb-false}
-use Rattle.nl_attr.specs.declared.limits.TheConstants.{LONGEST_ITEM, LONGEST_REGION}
+use Rattle.nl_attr.specs.Fixed.{LONGEST_ITEM, LONGEST_REGION}
 use Rattle.nl_attr.specs.declared.tree.Ctx.{Ctx}
 use Rattle.nl_attr.specs.declared.tree.Ctx.TheVariants.{Route}
 use Rattle.nl_attr.specs.declared.tree.Content.{Content}

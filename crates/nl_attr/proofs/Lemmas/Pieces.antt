@@ -1,12 +1,13 @@
 -- The item at the front of a region whose head is sound is a piece of it.
-use Rattle.std.proofs.Common.{◌≡◌, ℕ, zero, suc, ◌+◌, ◌-◌, ◌*◌, ◌/◌, ◌≤◌, min, List, [], ◌∷◌, ◌++◌, length, take, drop, None, refl, sym, ap, ◌∙◌, arith, inl, inr, append_assoc, length-drop}
+use Rattle.std.proofs.Common.{◌≡◌, ℕ, zero, suc, ◌+◌, ◌-◌, ◌*◌, ◌/◌, ◌≤◌, min, List, [], ◌∷◌, ◌++◌, length, take, drop, None, refl, sym, ap, ◌∙◌, subst, arith, inl, inr, append_assoc, length-drop}
 use Rattle.std.proofs.lemmas.List.{take-append-drop, length-take, nil_from_length}
 use Rattle.std.proofs.lemmas.Bool.{cases_lt}
 use Rattle.nl_attr.specs.declared.order.Order.{Order}
 use Rattle.nl_attr.specs.Numbers.{AreBytes, num, len_of, span_of}
 use Rattle.nl_attr.specs.Walk.{broken_length}
 use Rattle.nl_attr.specs.Layout.{IsPadded, IsPiece}
-use Rattle.nl_attr.proofs.Lemmas.Numbers.{front_is, front_below}
+use Rattle.std.proofs.Math.Seq.{drop-append_seam, take-append_seam}
+use Rattle.nl_attr.proofs.Lemmas.Numbers.{front_is, front_below, bytes_take, bytes_drop}
 use Rattle.nl_attr.proofs.Lemmas.Reading.{sound_within, span_at_least}
 
 pub take_take : (n m : ℕ) (xs : List ℕ) → n ≤ m → take n (take m xs) ≡ take n xs
@@ -49,3 +50,12 @@ piece_at o h w left le fits e =
     } where
       below : (len n : ℕ) → min ((len + 3) / 4 * 4) n ≤ n
       below len n = omega arith
+
+-- a piece and what is behind it are bytes, as the region is
+pub piece_bytes : {o : Order} {h w : ℕ} {region item pad rest : List ℕ} → AreBytes region → IsPiece o h w region item pad rest → AreBytes item × AreBytes rest
+piece_bytes {region = region} {item = item} {pad = pad} {rest = rest} fit piece =
+    let front : take (length item) region ≡ item = ap (take (length item)) piece.parts ∙ take-append_seam item (pad ++ rest) in
+    let behind : drop (length item) region ≡ pad ++ rest = ap (drop (length item)) piece.parts ∙ drop-append_seam item (pad ++ rest) in (
+      subst AreBytes front (bytes_take (length item) region fit),
+      subst AreBytes (ap (drop (length pad)) behind ∙ drop-append_seam pad rest) (bytes_drop (length pad) (drop (length item) region) (bytes_drop (length item) region fit)),
+    )

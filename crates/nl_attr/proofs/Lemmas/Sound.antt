@@ -4,7 +4,7 @@ use Rattle.std.specs.Prelude.{slice_index}
 use Rattle.std.specs.Int.{w32, cast_unsigned}
 use Rattle.std.proofs.lemmas.Int.{of_z-to_z}
 use Rattle.std.proofs.Math.Facts.{sfits_to_z, Fits-of_lt}
-use Rattle.nl_attr.specs.declared.limits.TheConstants.{LONGEST_CONTAINER}
+use Rattle.nl_attr.specs.Fixed.{LONGEST_CONTAINER}
 use Rattle.nl_attr.proofs.Lemmas.Numbers.{two_bytes, four_bytes, two_fit, four_fit, bytes_take, bytes_drop}
 use Rattle.std.proofs.lemmas.Bool.{ltb-false}
 use Rattle.std.proofs.lemmas.List.{take-append-drop, length-take, nil_from_length}

@@ -1,10 +1,11 @@
 //! Reading a region of attributes where it stands.
 
 ghost use Rattle.std.specs.Prelude.{◌^◌, ◌≤◌, ◌<◌, ◌+◌, length};
+ghost use Rattle.nl_attr.specs.Fixed as fixed;
 ghost use Rattle.nl_attr.specs.Open.{TurnsAt, list_rest, list_spot, Goes, Moves, IsWithinLimits};
 
 use crate::fault::{Fault, ListError};
-use crate::limits::{LONGEST_REGION, MOST_LEVELS, MOST_VISITS, Shape};
+use crate::limits::Shape;
 use crate::region::Parts;
 use crate::stack::regions::{ListRegion, container_fault, keep_bytes, layout};
 use crate::tree::{AttrFlags, holds};
@@ -34,9 +35,9 @@ pub(super) enum Turn<'a> {
 
 /// The turn at an attribute that holds a region: it opens, or breaks a rule.
 fn turn_at<'a>(part: Part<'a>, parts: Parts, base: u32, level: u8, shape: Shape) -> Turn<'a>
-    requires level { level ≤ MOST_LEVELS }
+    requires level { level ≤ fixed.MOST_LEVELS }
     requires place { base + part.place + 4 < 2 ^ 32 }
-    requires size { length part.payload.now ≤ LONGEST_REGION }
+    requires size { length part.payload.now ≤ fixed.LONGEST_REGION }
     ensures { TurnsAt shape level base part.entry parts result }
 {
     let (place, payload) = (part.place, part.payload);
@@ -60,9 +61,9 @@ pub(super) fn read_attrs<'a>(
     shape: Shape,
     visits: &mut u64,
 ) -> Turn<'a>
-    requires limit { shape.depth ≤ MOST_LEVELS }
+    requires limit { shape.depth ≤ fixed.MOST_LEVELS }
     requires limits { IsWithinLimits shape (list_spot region.old) }
-    requires room { visits.old + (list_rest shape region.old).1 ≤ MOST_VISITS }
+    requires room { visits.old + (list_rest shape region.old).1 ≤ fixed.MOST_VISITS }
     ensures goes { Goes shape visits.old (list_rest shape region.old) visits.new region.new result }
     ensures moves { Moves shape (list_spot region.old) region.new result }
 {

@@ -1,6 +1,7 @@
 //! Reading by one loop over a stack of open regions, so that nesting takes no call stack.
 
 ghost use Rattle.std.specs.Prelude.{◌≡◌, ◌≤◌, ◌+◌, ◌-◌, ◌*◌, length};
+ghost use Rattle.nl_attr.specs.Fixed as fixed;
 ghost use Rattle.nl_attr.specs.Reading.{items_of_region};
 ghost use Rattle.nl_attr.specs.View.{attrs_view};
 ghost use Rattle.nl_attr.specs.Outcomes.{IsOutcome};
@@ -11,7 +12,7 @@ mod next_hops;
 mod regions;
 
 use crate::fault::ListError;
-use crate::limits::{FARTHEST_END, LONGEST_REGION, MOST_LEVELS, Shape};
+use crate::limits::Shape;
 use crate::region::Parts;
 use crate::stack::attributes::{Turn, read_attrs};
 use crate::stack::nested::{HopsWaits, Outer, read_nested, waits_for};
@@ -33,10 +34,10 @@ pub(crate) fn read_region(
     visits: &mut u64,
 ) -> Result<Vec<Attr>, ListError>
     requires level { level ≤ shape.depth }
-    requires limit { shape.depth ≤ MOST_LEVELS }
+    requires limit { shape.depth ≤ fixed.MOST_LEVELS }
     requires none { visits.old ≡ 0 }
-    requires size { length bytes.now ≤ LONGEST_REGION }
-    requires place { base + length bytes.now ≤ FARTHEST_END }
+    requires size { length bytes.now ≤ fixed.LONGEST_REGION }
+    requires place { base + length bytes.now ≤ fixed.FARTHEST_END }
     ensures outcome { IsOutcome (λ v. attrs_view v.items) result visits.new
         (items_of_region shape ctx level base bytes.now) }
     ensures bound { visits.new ≤ (shape.depth - level + 1) * length bytes.now }

@@ -1,6 +1,7 @@
 //! Reading where a region opens in one that opened in another: by a stack of those that wait.
 
 ghost use Rattle.std.specs.Prelude.{◌≡◌, ◌≤◌, ◌+◌, suc, length, IfOk};
+ghost use Rattle.nl_attr.specs.Fixed as fixed;
 ghost use Rattle.nl_attr.specs.Shape.{Shape as ShapeOf};
 ghost use Rattle.nl_attr.specs.View.{value_view, attrs_view};
 ghost use Rattle.nl_attr.specs.Outcomes.{IsOutcome};
@@ -12,7 +13,7 @@ ghost use Rattle.nl_attr.specs.Open.{outer_work, NextMoves, LiesUnder, PutsOn};
 ghost use Rattle.arrayvec.specs.ArrayVec.{array_vec_len};
 
 use crate::fault::ListError;
-use crate::limits::{MOST_LEVELS, MOST_VISITS, Shape};
+use crate::limits::Shape;
 use crate::order::Order;
 use crate::region::Parts;
 use crate::stack::attributes::{Opening, Turn, read_attrs};
@@ -115,9 +116,10 @@ fn go_on_hops<'a>(
     shape: Shape,
     visits: &mut u64,
 ) -> Result<Next<'a>, ListError>
-    requires limit { shape.depth ≤ MOST_LEVELS }
+    requires limit { shape.depth ≤ fixed.MOST_LEVELS }
     requires inside { IsIn shape (room_in (list_spot waits.region)) (hops_spot hops) }
-    requires room { visits.old + (hops_then shape waits (hops_rest shape hops)).1 ≤ MOST_VISITS }
+    requires room { visits.old + (hops_then shape waits (hops_rest shape hops)).1
+        ≤ fixed.MOST_VISITS }
     ensures goes { NextGoes shape visits.old
         (hops_then shape waits.entry (hops_rest shape hops.entry)) visits.new result }
     ensures moves { NextMoves shape (list_spot waits.entry.region)
@@ -141,9 +143,9 @@ fn open<'a>(
     shape: Shape,
     visits: &mut u64,
 ) -> Result<Next<'a>, ListError>
-    requires limit { shape.depth ≤ MOST_LEVELS }
+    requires limit { shape.depth ≤ fixed.MOST_LEVELS }
     requires inside { IsIn shape (room_in (list_spot region)) (opening_spot shape region opening) }
-    requires room { visits.old + (opening_rest shape region opening).1 ≤ MOST_VISITS }
+    requires room { visits.old + (opening_rest shape region opening).1 ≤ fixed.MOST_VISITS }
     ensures goes { NextGoes shape visits.old
         (opening_rest shape region.entry opening.entry) visits.new result }
     ensures moves { NextMoves shape (list_spot region.entry)
@@ -171,9 +173,10 @@ fn close<'a>(
     shape: Shape,
     visits: &mut u64,
 ) -> Result<Next<'a>, ListError>
-    requires limit { shape.depth ≤ MOST_LEVELS }
+    requires limit { shape.depth ≤ fixed.MOST_LEVELS }
     requires holds { Holds shape outer }
-    requires room { visits.old + (goes_on shape outer (attrs_view attrs.items)).1 ≤ MOST_VISITS }
+    requires room { visits.old + (goes_on shape outer (attrs_view attrs.items)).1
+        ≤ fixed.MOST_VISITS }
     ensures goes { NextGoes shape visits.old
         (goes_on shape outer.entry (attrs_view attrs.items)) visits.new result }
     ensures moves { NextMoves shape (outer_spot outer.entry) (outer_work outer.entry) result }
@@ -212,11 +215,12 @@ pub(super) fn read_nested<'a>(
     shape: Shape,
     visits: &mut u64,
 ) -> Result<Vec<Attr>, ListError>
-    requires limit { shape.depth ≤ MOST_LEVELS }
+    requires limit { shape.depth ≤ fixed.MOST_LEVELS }
     requires lies { LiesUnder shape outermost region }
     requires inside { IsIn shape (room_in (list_spot region)) (opening_spot shape region opening) }
     requires room { visits.old
-        + (and_then (opening_rest shape region opening) (goes_on shape outermost)).1 ≤ MOST_VISITS }
+        + (and_then (opening_rest shape region opening) (goes_on shape outermost)).1
+        ≤ fixed.MOST_VISITS }
     ensures outcome { IsOutcome (λ v. attrs_view v.items) result visits.new
         (more_visits visits.old (and_then (opening_rest shape region.entry opening.entry)
         (goes_on shape outermost.entry))) }

@@ -1,11 +1,12 @@
 //! Reading a region of next hops.
 
 ghost use Rattle.std.specs.Prelude.{◌≤◌, ◌+◌};
+ghost use Rattle.nl_attr.specs.Fixed as fixed;
 ghost use Rattle.nl_attr.specs.Open.{hops_rest, hops_spot, HopGoes, HopMoves};
 ghost use Rattle.nl_attr.specs.Open.{HopsGo, HopsMove, IsWithinLimits};
 
 use crate::fault::ListError;
-use crate::limits::{MOST_LEVELS, MOST_VISITS, Shape};
+use crate::limits::Shape;
 use crate::stack::attributes::{Opening, Turn, read_attrs};
 use crate::stack::regions::{HopHead, HopsRegion, ListRegion, keep_hop, layout, list_of};
 use crate::tree::Ctx;
@@ -29,9 +30,9 @@ pub(super) fn next_hop<'a>(
     shape: Shape,
     visits: &mut u64,
 ) -> HopTurn<'a>
-    requires limit { shape.depth ≤ MOST_LEVELS }
+    requires limit { shape.depth ≤ fixed.MOST_LEVELS }
     requires limits { IsWithinLimits shape (hops_spot region.old) }
-    requires room { visits.old + (hops_rest shape region.old).1 ≤ MOST_VISITS }
+    requires room { visits.old + (hops_rest shape region.old).1 ≤ fixed.MOST_VISITS }
     ensures goes { HopGoes shape visits.old
         (hops_rest shape region.old) visits.new region.new result }
     ensures moves { HopMoves shape (hops_spot region.old) region.new result }
@@ -73,9 +74,9 @@ pub(super) fn read_hops<'a>(
     shape: Shape,
     visits: &mut u64,
 ) -> HopsTurn<'a>
-    requires limit { shape.depth ≤ MOST_LEVELS }
+    requires limit { shape.depth ≤ fixed.MOST_LEVELS }
     requires limits { IsWithinLimits shape (hops_spot region.old) }
-    requires room { visits.old + (hops_rest shape region.old).1 ≤ MOST_VISITS }
+    requires room { visits.old + (hops_rest shape region.old).1 ≤ fixed.MOST_VISITS }
     ensures goes { HopsGo shape visits.old
         (hops_rest shape region.old) visits.new region.new result }
     ensures moves { HopsMove shape (hops_spot region.old) region.new result }

@@ -1,6 +1,7 @@
 //! Open regions, and what is collected in them.
 
 ghost use Rattle.std.specs.Prelude.{◌^◌, ◌≡◌, ◌≤◌, ◌<◌, ◌+◌, [], ◌∷◌, ◌++◌, length, map, IfOk};
+ghost use Rattle.nl_attr.specs.Fixed as fixed;
 ghost use Rattle.nl_attr.specs.Heads.{broken_container, attr_head, hop_head};
 ghost use Rattle.nl_attr.specs.Reading.{items_of_region, hops_of_region};
 ghost use Rattle.nl_attr.specs.Tree.{bytes as held, item, hop};
@@ -8,7 +9,7 @@ ghost use Rattle.nl_attr.specs.View.{attr_view, hop_view, value_view, attrs_view
 ghost use Rattle.nl_attr.specs.Open.{list_rest, hops_rest, spot_of, list_spot, hops_spot};
 
 use crate::fault::{Fault, ListError, Reason};
-use crate::limits::{LONGEST_CONTAINER, LONGEST_REGION, MOST_LEVELS, Shape};
+use crate::limits::{LONGEST_CONTAINER, Shape};
 use crate::payload::{INLINE, Payload};
 use crate::tree::{Attr, AttrFlags, Content, Ctx, Hop, Value};
 use crate::walk::{CountedAttrs, CountedHopParts};
@@ -48,7 +49,7 @@ pub(crate) fn container_fault(
     level: u8,
     shape: Shape,
 ) -> Option<Reason>
-    requires { level ≤ MOST_LEVELS }
+    requires { level ≤ fixed.MOST_LEVELS }
     ensures { result ≡ broken_container shape level content len }
 {
     let opens = match content {
@@ -90,7 +91,7 @@ pub(super) fn list_of<'a>(
     level: u8,
     shape: Shape,
 ) -> Result<ListRegion<'a>, AllocError>
-    requires { length bytes.now ≤ LONGEST_REGION }
+    requires { length bytes.now ≤ fixed.LONGEST_REGION }
     ensures rest { IfOk result
         (λ r. list_rest shape r ≡ items_of_region shape ctx level base bytes.now) }
     ensures spot { IfOk result (λ r. list_spot r ≡ spot_of shape attr_head base level bytes.now) }
@@ -113,7 +114,7 @@ pub(super) fn hops_of<'a>(
     level: u8,
     shape: Shape,
 ) -> Result<HopsRegion<'a>, AllocError>
-    requires { length bytes.now ≤ LONGEST_REGION }
+    requires { length bytes.now ≤ fixed.LONGEST_REGION }
     ensures rest { IfOk result
         (λ r. hops_rest shape r ≡ hops_of_region shape level base bytes.now) }
     ensures spot { IfOk result (λ r. hops_spot r ≡ spot_of shape hop_head base level bytes.now) }

@@ -1,6 +1,7 @@
 //! What stands at the front of an open region, and what is left behind it.
 
 ghost use Rattle.std.specs.Prelude.{◌^◌, ◌≡◌, ◌≤◌, ◌<◌, ◌+◌, length, Ok};
+ghost use Rattle.nl_attr.specs.Fixed as fixed;
 ghost use Rattle.nl_attr.specs.Heads.{start_of};
 ghost use Rattle.nl_attr.specs.Region.{ctx_in, head_of, sort_in};
 ghost use Rattle.nl_attr.specs.Taped.{IsAttrFront, IsHopFront, hops_start};
@@ -8,7 +9,6 @@ ghost use Rattle.nl_attr.specs.HeadOrder.{sort_of};
 ghost use Rattle.nl_attr.specs.Walk.{HeadIs};
 
 use crate::events::{Event, SORT_BYTES, SORT_HOPS, SORT_LIST, SORT_NEXT_HOP};
-use crate::limits::{FARTHEST_END, LONGEST_REGION, MOST_LEVELS};
 use crate::order::Order;
 use crate::region::{OpenRegion, Parts};
 use crate::tree::{AttrFlags, Content, Ctx, NUMBERS};
@@ -61,7 +61,7 @@ pub(super) fn inside<'a>(
     parts: Parts,
 ) -> OpenRegion<'a>
     requires place { place + head < 2 ^ 32 }
-    requires level { level ≤ MOST_LEVELS }
+    requires level { level ≤ fixed.MOST_LEVELS }
     ensures { head_of result ≡ record {
       place = place + head;
       sort = sort_in parts;
@@ -88,8 +88,8 @@ pub(super) fn attr_front<'a>(
     ctx: Ctx,
     order: Order,
 ) -> AttrFront<'a>
-    requires size { length left.now ≤ LONGEST_REGION }
-    requires place { place + length left.now ≤ FARTHEST_END }
+    requires size { length left.now ≤ fixed.LONGEST_REGION }
+    requires place { place + length left.now ≤ fixed.FARTHEST_END }
     requires sound { HeadIs order 4 2 left.now (Ok len) }
     ensures { IsAttrFront order (start_of ctx level place left.now) result }
 {
@@ -128,9 +128,9 @@ pub(super) fn hop_front<'a>(
     level: u8,
     order: Order,
 ) -> HopFront<'a>
-    requires size { length left.now ≤ LONGEST_REGION }
-    requires place { place + length left.now ≤ FARTHEST_END }
-    requires level { level ≤ MOST_LEVELS }
+    requires size { length left.now ≤ fixed.LONGEST_REGION }
+    requires place { place + length left.now ≤ fixed.FARTHEST_END }
+    requires level { level ≤ fixed.MOST_LEVELS }
     requires sound { HeadIs order 8 2 left.now (Ok len) }
     ensures { IsHopFront order (hops_start level place left.now) result }
 {

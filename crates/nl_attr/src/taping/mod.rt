@@ -2,6 +2,7 @@
 //! stack: each head is checked, and its event is put into a buffer.
 
 ghost use Rattle.std.specs.Prelude.{◌^◌, ◌≡◌, ◌≤◌, ◌+◌, ◌-◌, ◌*◌, drop, length, slice_set};
+ghost use Rattle.nl_attr.specs.Fixed as fixed;
 ghost use Rattle.nl_attr.specs.Heads.{attr_head, start_of};
 ghost use Rattle.nl_attr.specs.Region.{head_of, sort_in};
 ghost use Rattle.nl_attr.specs.Shape.{shape_of};
@@ -12,7 +13,7 @@ mod steps;
 
 use crate::broken::BrokenHead;
 use crate::events::Event;
-use crate::limits::{Depth, FARTHEST_END, LONGEST_REGION, MOST_LEVELS, MOST_VISITS, Shape};
+use crate::limits::{Depth, Shape};
 use crate::order::Order;
 use crate::region::{OpenRegion, Parts};
 use crate::taping::steps::{Turn, step};
@@ -34,8 +35,8 @@ impl Taped {
     /// Adds a head that is visited: puts its event into a buffer, where that goes so far.
     #[inline(always)]
     fn add(&mut self, out: &mut [Event], event: Event, span: u32)
-        requires count { self.old.count ≤ 2 ^ 32 + MOST_VISITS }
-        requires visits { self.old.visits ≤ MOST_VISITS }
+        requires count { self.old.count ≤ 2 ^ 32 + fixed.MOST_VISITS }
+        requires visits { self.old.visits ≤ fixed.MOST_VISITS }
         ensures event { out.new ≡ slice_set out.old self.old.count event }
         ensures counts { self.new ≡ record self.old {
           count = self.old.count + 1;
@@ -77,11 +78,11 @@ fn tape_region<'a>(
     out: &mut [Event],
     count: usize,
 ) -> Taped
-    requires limit { shape.depth ≤ MOST_LEVELS }
+    requires limit { shape.depth ≤ fixed.MOST_LEVELS }
     requires parts { sort_in start.parts ≡ attr_head }
     requires level { start.level ≤ shape.depth }
-    requires size { length start.left.now ≤ LONGEST_REGION }
-    requires place { start.place + length start.left.now ≤ FARTHEST_END }
+    requires size { length start.left.now ≤ fixed.LONGEST_REGION }
+    requires place { start.place + length start.left.now ≤ fixed.FARTHEST_END }
     requires count { count ≤ 2 ^ 32 }
     ensures { IsTaped shape (head_of start.entry) count out.old out.new result }
 {
@@ -140,8 +141,8 @@ pub fn tape_list<'a>(
     count: usize,
 ) -> Taped
     requires level { level ≤ depth }
-    requires size { length bytes.now ≤ LONGEST_REGION }
-    requires place { base + length bytes.now ≤ FARTHEST_END }
+    requires size { length bytes.now ≤ fixed.LONGEST_REGION }
+    requires place { base + length bytes.now ≤ fixed.FARTHEST_END }
     requires count { count ≤ 2 ^ 32 }
     // The heads are those of the region up to its first fault, and so are the visits; where there is
     // a fault, the head that breaks its rule stands in the region at its place.

@@ -1,13 +1,14 @@
 //! One step of a scan: past the head at the front of a region.
 
 ghost use Rattle.std.specs.Prelude.{◌^◌, ◌≤◌, ◌+◌, length};
+ghost use Rattle.nl_attr.specs.Fixed as fixed;
 ghost use Rattle.nl_attr.specs.Heads.{start_of};
 ghost use Rattle.nl_attr.specs.Region.{head_of};
 ghost use Rattle.nl_attr.specs.Taped.{Steps, hops_start};
 
 use crate::events::Event;
 use crate::fault::Reason;
-use crate::limits::{FARTHEST_END, LONGEST_REGION, MOST_LEVELS, MOST_VISITS, Shape};
+use crate::limits::Shape;
 use crate::region::{OpenRegion, Parts};
 use crate::stack::container_fault;
 use crate::taping::Taped;
@@ -35,11 +36,11 @@ fn step_attr<'a>(
     out: &mut [Event],
     taped: &mut Taped,
 ) -> Turn<'a>
-    requires size { length region.left.now ≤ LONGEST_REGION }
-    requires place { region.place + length region.left.now ≤ FARTHEST_END }
-    requires level { region.level ≤ MOST_LEVELS }
-    requires count { taped.old.count ≤ 2 ^ 32 + MOST_VISITS }
-    requires visits { taped.old.visits ≤ MOST_VISITS }
+    requires size { length region.left.now ≤ fixed.LONGEST_REGION }
+    requires place { region.place + length region.left.now ≤ fixed.FARTHEST_END }
+    requires level { region.level ≤ fixed.MOST_LEVELS }
+    requires count { taped.old.count ≤ 2 ^ 32 + fixed.MOST_VISITS }
+    requires visits { taped.old.visits ≤ fixed.MOST_VISITS }
     ensures { Steps shape
         (start_of ctx region.entry.level region.entry.place region.entry.left.now)
         taped.old taped.new out.old out.new result }
@@ -74,11 +75,11 @@ fn step_hop<'a>(
     out: &mut [Event],
     taped: &mut Taped,
 ) -> Turn<'a>
-    requires size { length region.left.now ≤ LONGEST_REGION }
-    requires place { region.place + length region.left.now ≤ FARTHEST_END }
-    requires level { region.level ≤ MOST_LEVELS }
-    requires count { taped.old.count ≤ 2 ^ 32 + MOST_VISITS }
-    requires visits { taped.old.visits ≤ MOST_VISITS }
+    requires size { length region.left.now ≤ fixed.LONGEST_REGION }
+    requires place { region.place + length region.left.now ≤ fixed.FARTHEST_END }
+    requires level { region.level ≤ fixed.MOST_LEVELS }
+    requires count { taped.old.count ≤ 2 ^ 32 + fixed.MOST_VISITS }
+    requires visits { taped.old.visits ≤ fixed.MOST_VISITS }
     ensures { Steps shape (hops_start region.entry.level region.entry.place region.entry.left.now)
         taped.old taped.new out.old out.new result }
 {
@@ -100,11 +101,11 @@ pub(super) fn step<'a>(
     out: &mut [Event],
     taped: &mut Taped,
 ) -> Turn<'a>
-    requires size { length region.left.now ≤ LONGEST_REGION }
-    requires place { region.place + length region.left.now ≤ FARTHEST_END }
-    requires level { region.level ≤ MOST_LEVELS }
-    requires count { taped.old.count ≤ 2 ^ 32 + MOST_VISITS }
-    requires visits { taped.old.visits ≤ MOST_VISITS }
+    requires size { length region.left.now ≤ fixed.LONGEST_REGION }
+    requires place { region.place + length region.left.now ≤ fixed.FARTHEST_END }
+    requires level { region.level ≤ fixed.MOST_LEVELS }
+    requires count { taped.old.count ≤ 2 ^ 32 + fixed.MOST_VISITS }
+    requires visits { taped.old.visits ≤ fixed.MOST_VISITS }
     ensures { Steps shape (head_of region.entry) taped.old taped.new out.old out.new result }
 {
     match region.parts {

@@ -1,10 +1,10 @@
 //! The attributes of a region.
 
 ghost use Rattle.std.specs.Prelude.{◌≡◌, ◌+◌, ◌≤◌, length};
+ghost use Rattle.nl_attr.specs.Fixed as fixed;
 ghost use Rattle.nl_attr.specs.Walk.{IsInFront, IsPart};
 
 use crate::fault::Fault;
-use crate::limits::LONGEST_REGION;
 use crate::order::Order;
 use crate::tree::{AttrFlags, NUMBERS};
 use crate::walk::{flags_in, head_len, kind_at, span_at};
@@ -26,7 +26,7 @@ pub struct Part<'a> {
 /// The attribute at the front of what is left of a region from this place on.
 #[inline(always)]
 pub(super) fn attr_in_front(order: Order, left: &[u8], place: u32) -> Result<Part<'_>, Fault>
-    requires { length left.now ≤ LONGEST_REGION }
+    requires { length left.now ≤ fixed.LONGEST_REGION }
     ensures { IsInFront 4 IsPart
         (record { order = order; place = place; left = left.now }) result }
 {
@@ -57,7 +57,7 @@ pub struct Attrs<'a> {
 impl<'a> Model for Attrs<'a> {
     ghost use Rattle.std.specs.Prelude.{◌+◌, ◌≤◌, length};
     ghost use Rattle.nl_attr.specs.Walk.{Region};
-    ghost use Rattle.nl_attr.specs.declared.limits.TheConstants.{LONGEST_REGION};
+    ghost use Rattle.nl_attr.specs.Fixed.{LONGEST_REGION};
 
     ghost Value = { Region };
 
@@ -71,7 +71,7 @@ impl<'a> Attrs<'a> {
 
     /// A walk over a region whose numbers have their lowest byte first.
     pub fn of(bytes: &'a [u8]) -> Self
-        requires { length bytes.now ≤ LONGEST_REGION }
+        requires { length bytes.now ≤ fixed.LONGEST_REGION }
         ensures { IsAttrsOver Order.Little bytes.now result }
     {
         Attrs::of_ordered(bytes, Order::Little)
@@ -79,7 +79,7 @@ impl<'a> Attrs<'a> {
 
     /// A walk over a region whose numbers are in this order.
     pub fn of_ordered(bytes: &'a [u8], order: Order) -> Self
-        requires { length bytes.now ≤ LONGEST_REGION }
+        requires { length bytes.now ≤ fixed.LONGEST_REGION }
         ensures { IsAttrsOver order bytes.now result }
     {
         Attrs {

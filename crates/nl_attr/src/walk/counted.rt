@@ -2,10 +2,10 @@
 //! visited without its count.
 
 ghost use Rattle.std.specs.Prelude.{◌≡◌, ◌+◌, ◌≤◌, length};
+ghost use Rattle.nl_attr.specs.Fixed as fixed;
 ghost use Rattle.nl_attr.specs.Walk.{GivesHop, GivesPart, span_given};
 
 use crate::fault::Fault;
-use crate::limits::{LONGEST_REGION, MOST_VISITS};
 use crate::order::Order;
 use crate::walk::{Attrs, HopPart, HopParts, Part};
 use std::marker::Model;
@@ -27,7 +27,7 @@ impl<'a> Model for CountedAttrs<'a> {
 impl<'a> CountedAttrs<'a> {
     /// A walk over a region whose numbers are in this order.
     pub(crate) fn over(bytes: &'a [u8], order: Order) -> Self
-        requires { length bytes.now ≤ LONGEST_REGION }
+        requires { length bytes.now ≤ fixed.LONGEST_REGION }
         ensures { result ≡ record { order = order; place = 0; left = bytes.now } }
     {
         CountedAttrs {
@@ -38,7 +38,7 @@ impl<'a> CountedAttrs<'a> {
     /// The next attribute, whose span is added to the visits.
     #[inline(always)]
     pub(crate) fn step(&mut self, visits: &mut u64) -> Option<Result<Part<'a>, Fault>>
-        requires { visits.old ≤ MOST_VISITS }
+        requires { visits.old ≤ fixed.MOST_VISITS }
         ensures steps { GivesPart self.old result self.new }
         ensures counts { visits.new ≡ visits.old + span_given (λ p. p.span) result }
     {
@@ -67,7 +67,7 @@ impl<'a> Model for CountedHopParts<'a> {
 impl<'a> CountedHopParts<'a> {
     /// A walk over a region whose numbers are in this order.
     pub(crate) fn over(bytes: &'a [u8], order: Order) -> Self
-        requires { length bytes.now ≤ LONGEST_REGION }
+        requires { length bytes.now ≤ fixed.LONGEST_REGION }
         ensures { result ≡ record { order = order; place = 0; left = bytes.now } }
     {
         CountedHopParts {
@@ -77,7 +77,7 @@ impl<'a> CountedHopParts<'a> {
 
     /// The next hop, whose span is added to the visits.
     pub(crate) fn step(&mut self, visits: &mut u64) -> Option<Result<HopPart<'a>, Fault>>
-        requires { visits.old ≤ MOST_VISITS }
+        requires { visits.old ≤ fixed.MOST_VISITS }
         ensures steps { GivesHop self.old result self.new }
         ensures counts { visits.new ≡ visits.old + span_given (λ p. p.span) result }
     {

@@ -1,11 +1,11 @@
 //! The next hops of a region.
 
 ghost use Rattle.std.specs.Prelude.{◌≡◌, ◌+◌, ◌≤◌, length, Ok};
+ghost use Rattle.nl_attr.specs.Fixed as fixed;
 ghost use Rattle.nl_attr.specs.Numbers.{span_of};
 ghost use Rattle.nl_attr.specs.Walk.{HeadIs, IsHopPart, IsInFront, ifindex_of};
 
 use crate::fault::Fault;
-use crate::limits::LONGEST_REGION;
 use crate::order::Order;
 use crate::walk::{head_len, span_at};
 use std::marker::Model;
@@ -52,7 +52,7 @@ fn hop_part(order: Order, left: &[u8], len: usize, place: u32, span: u32) -> Hop
 /// The next hop at the front of what is left of a region from this place on.
 #[inline(always)]
 pub(super) fn hop_in_front(order: Order, left: &[u8], place: u32) -> Result<HopPart<'_>, Fault>
-    requires { length left.now ≤ LONGEST_REGION }
+    requires { length left.now ≤ fixed.LONGEST_REGION }
     ensures { IsInFront 8 IsHopPart
         (record { order = order; place = place; left = left.now }) result }
 {
@@ -73,7 +73,7 @@ pub struct HopParts<'a> {
 impl<'a> Model for HopParts<'a> {
     ghost use Rattle.std.specs.Prelude.{◌+◌, ◌≤◌, length};
     ghost use Rattle.nl_attr.specs.Walk.{Region};
-    ghost use Rattle.nl_attr.specs.declared.limits.TheConstants.{LONGEST_REGION};
+    ghost use Rattle.nl_attr.specs.Fixed.{LONGEST_REGION};
 
     ghost Value = { Region };
 
@@ -87,7 +87,7 @@ impl<'a> HopParts<'a> {
 
     /// A walk over a region whose numbers have their lowest byte first.
     pub fn of(bytes: &'a [u8]) -> Self
-        requires { length bytes.now ≤ LONGEST_REGION }
+        requires { length bytes.now ≤ fixed.LONGEST_REGION }
         ensures { IsHopsOver Order.Little bytes.now result }
     {
         HopParts::of_ordered(bytes, Order::Little)
@@ -95,7 +95,7 @@ impl<'a> HopParts<'a> {
 
     /// A walk over a region whose numbers are in this order.
     pub fn of_ordered(bytes: &'a [u8], order: Order) -> Self
-        requires { length bytes.now ≤ LONGEST_REGION }
+        requires { length bytes.now ≤ fixed.LONGEST_REGION }
         ensures { IsHopsOver order bytes.now result }
     {
         HopParts {

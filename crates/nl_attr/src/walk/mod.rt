@@ -1,6 +1,7 @@
 //! Walks over the attributes or the next hops of a region, which allocate nothing.
 
 ghost use Rattle.std.specs.Prelude.{◌≡◌, ◌≤◌, length, min};
+ghost use Rattle.nl_attr.specs.Fixed as fixed;
 ghost use Rattle.nl_attr.specs.Numbers.{aligned, kind_of};
 ghost use Rattle.nl_attr.specs.Walk.{HeadIs, flags_of};
 
@@ -10,7 +11,6 @@ mod cursors;
 mod hops;
 
 use crate::fault::Reason;
-use crate::limits::LONGEST_REGION;
 use crate::order::Order;
 use crate::tree::{AttrFlags, NLA_F_NESTED, NLA_F_NET_BYTEORDER};
 pub use attrs::{Attrs, Part};
@@ -64,7 +64,7 @@ pub(crate) fn flags_in(kind: u16) -> AttrFlags
 /// How many bytes an item of `len` bytes at the front occupies, with padding as far as present.
 #[inline(always)]
 pub(crate) fn span_at(left: &[u8], len: usize) -> usize
-    requires { len ≤ LONGEST_REGION }
+    requires { len ≤ fixed.LONGEST_REGION }
     ensures { result ≡ min (aligned len) (length left.now) }
 {
     (align4(len as u32) as usize).min(left.len())

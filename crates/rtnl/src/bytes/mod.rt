@@ -4,6 +4,7 @@ ghost use Rattle.std.specs.Prelude.{◌≡◌, ◌<◌, ◌≤◌, ◌+◌, ◌+
 ghost use Rattle.rtnl.specs.ByteRows.{ShowsBytes, ShowsInputBytes, opening, refused_at};
 ghost use Rattle.rtnl.specs.ByteRows.{row_printed};
 ghost use Rattle.rtnl.specs.ByteViews.{AddsAllRows, refusal_ending};
+ghost use Rattle.rtnl.specs.Runs as fixed;
 ghost use Rattle.rtnl.specs.Runs.{Runs};
 ghost use Rattle.rtnl.specs.Streams.{ConsumesAtMost};
 ghost use Rattle.rtnl.specs.Tape.{refusal_line};
@@ -21,7 +22,7 @@ use crate::each::Each;
 use crate::error::{RunError, Verdict};
 use crate::run::run;
 use crate::sink::Sink;
-use crate::source::{LONGEST_INPUT, Source};
+use crate::source::Source;
 use crate::tape::{Tape, tape_of};
 use crate::text::datagram::{push_datagram_line, push_refusal};
 use nl_attr::Event;
@@ -195,7 +196,7 @@ pub fn run_show_bytes<S: Source, W: Sink>(
         W.contents W.is_stalled W.stall_count W.failure_count
         (ShowsBytes format limits.now) source.old source.new sink.old sink.new result }
     // It takes at most one byte more than the longest input.
-    ensures bounded { ConsumesAtMost (LONGEST_INPUT + 1)
+    ensures bounded { ConsumesAtMost (fixed.LONGEST_INPUT + 1)
         (S.remaining source.old) (S.remaining source.new) }
 {
     let show = ShowBytes {

@@ -1,5 +1,5 @@
 use Rattle.std.proofs.Common.{◌≡◌, ◌≤◌, ◌+◌, ◌++◌, drop, map, vec_len, vec_capacity}
-use Rattle.nl_attr.specs.declared.limits.TheConstants.{LONGEST_REGION}
+use Rattle.nl_attr.specs.Fixed.{LONGEST_REGION}
 use Rattle.nl_frame.specs.View.{message_view}
 use Rattle.nl_frame.specs.Written.{written, written_len}
 use Rattle.nl_frame.specs.Proper.{IsRanged}

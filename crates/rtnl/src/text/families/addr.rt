@@ -5,19 +5,19 @@ use crate::text::attributes::Style;
 use crate::text::families::HeadLine;
 use crate::text::rows::Row;
 use crate::text::segment::Segment;
-use nl_route::AddrHead;
+use nl_route::{AddrHead, IFA_ADDRESS, IFA_BROADCAST, IFA_FLAGS, IFA_LABEL, IFA_LOCAL};
 use std::alloc::AllocError;
 
 /// The attributes `IFA` of an address.
 pub(crate) const ATTRIBUTES: &[Row<Style>] = &[
-    (1, "ADDRESS", Style::Address),
-    (2, "LOCAL", Style::Address),
-    (3, "LABEL", Style::Text),
-    (4, "BROADCAST", Style::Address),
+    (IFA_ADDRESS, "ADDRESS", Style::Address),
+    (IFA_LOCAL, "LOCAL", Style::Address),
+    (IFA_LABEL, "LABEL", Style::Text),
+    (IFA_BROADCAST, "BROADCAST", Style::Address),
     (5, "ANYCAST", Style::Address),
     (6, "CACHEINFO", Style::Hex),
     (7, "MULTICAST", Style::Address),
-    (8, "FLAGS", Style::U32),
+    (IFA_FLAGS, "FLAGS", Style::U32),
     (9, "RT_PRIORITY", Style::U32),
 ];
 

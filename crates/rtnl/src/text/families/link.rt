@@ -8,22 +8,23 @@ use crate::text::flags::LinkFlags;
 use crate::text::names::push_names;
 use crate::text::rows::Row;
 use crate::text::segment::Segment;
-use nl_route::LinkHead;
+use nl_attr::IFLA_LINKINFO;
+use nl_route::{IFLA_IFNAME, IFLA_INFO_KIND, IFLA_MASTER, IFLA_MTU, IFLA_OPERSTATE, LinkHead};
 use std::alloc::AllocError;
 
 /// The attributes `IFLA` of a link.
 pub(crate) const ATTRIBUTES: &[Row<Style>] = &[
     (1, "ADDRESS", Style::Hex),
     (2, "BROADCAST", Style::Hex),
-    (3, "IFNAME", Style::Text),
-    (4, "MTU", Style::U32),
+    (IFLA_IFNAME, "IFNAME", Style::Text),
+    (IFLA_MTU, "MTU", Style::U32),
     (5, "LINK", Style::U32),
     (6, "QDISC", Style::Text),
-    (10, "MASTER", Style::U32),
+    (IFLA_MASTER, "MASTER", Style::U32),
     (13, "TXQLEN", Style::U32),
-    (16, "OPERSTATE", Style::U8),
+    (IFLA_OPERSTATE, "OPERSTATE", Style::U8),
     (17, "LINKMODE", Style::U8),
-    (18, "LINKINFO", Style::Hex),
+    (IFLA_LINKINFO, "LINKINFO", Style::Hex),
     (20, "IFALIAS", Style::Text),
     (27, "GROUP", Style::U32),
     (29, "EXT_MASK", Style::U32),
@@ -36,7 +37,7 @@ pub(crate) const ATTRIBUTES: &[Row<Style>] = &[
 
 /// The attributes `IFLA_INFO` inside a link's LINKINFO.
 pub(crate) const LINK_INFO: &[Row<Style>] = &[
-    (1, "KIND", Style::Text),
+    (IFLA_INFO_KIND, "KIND", Style::Text),
     (2, "DATA", Style::Hex),
     (3, "XSTATS", Style::Hex),
     (4, "SLAVE_KIND", Style::Text),

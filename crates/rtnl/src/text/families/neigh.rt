@@ -8,18 +8,18 @@ use crate::text::flags::{NeighFlags, NeighState};
 use crate::text::names::push_names;
 use crate::text::rows::Row;
 use crate::text::segment::Segment;
-use nl_route::NeighHead;
+use nl_route::{NDA_DST, NDA_LLADDR, NDA_PORT, NDA_VLAN, NDA_VNI, NeighHead};
 use std::alloc::AllocError;
 
 /// The attributes `NDA` of a neighbour.
 pub(crate) const ATTRIBUTES: &[Row<Style>] = &[
-    (1, "DST", Style::Address),
-    (2, "LLADDR", Style::Hex),
+    (NDA_DST, "DST", Style::Address),
+    (NDA_LLADDR, "LLADDR", Style::Hex),
     (3, "CACHEINFO", Style::Hex),
     (4, "PROBES", Style::U32),
-    (5, "VLAN", Style::U16),
-    (6, "PORT", Style::NetworkU16),
-    (7, "VNI", Style::U32),
+    (NDA_VLAN, "VLAN", Style::U16),
+    (NDA_PORT, "PORT", Style::NetworkU16),
+    (NDA_VNI, "VNI", Style::U32),
     (8, "IFINDEX", Style::U32),
     (9, "MASTER", Style::U32),
 ];

@@ -5,23 +5,27 @@ use crate::text::attributes::Style;
 use crate::text::families::HeadLine;
 use crate::text::rows::Row;
 use crate::text::segment::Segment;
-use nl_route::RouteHead;
+use nl_attr::{RTA_METRICS, RTA_MULTIPATH};
+use nl_route::{
+    RTA_DST, RTA_GATEWAY, RTA_IIF, RTA_OIF, RTA_PREFSRC, RTA_PRIORITY, RTA_SRC, RTA_TABLE,
+    RouteHead,
+};
 use std::alloc::AllocError;
 
 /// The attributes `RTA` of a route.
 pub(crate) const ATTRIBUTES: &[Row<Style>] = &[
-    (1, "DST", Style::Address),
-    (2, "SRC", Style::Address),
-    (3, "IIF", Style::U32),
-    (4, "OIF", Style::U32),
-    (5, "GATEWAY", Style::Address),
-    (6, "PRIORITY", Style::U32),
-    (7, "PREFSRC", Style::Address),
-    (8, "METRICS", Style::Hex),
-    (9, "MULTIPATH", Style::Hex),
+    (RTA_DST, "DST", Style::Address),
+    (RTA_SRC, "SRC", Style::Address),
+    (RTA_IIF, "IIF", Style::U32),
+    (RTA_OIF, "OIF", Style::U32),
+    (RTA_GATEWAY, "GATEWAY", Style::Address),
+    (RTA_PRIORITY, "PRIORITY", Style::U32),
+    (RTA_PREFSRC, "PREFSRC", Style::Address),
+    (RTA_METRICS, "METRICS", Style::Hex),
+    (RTA_MULTIPATH, "MULTIPATH", Style::Hex),
     (11, "FLOW", Style::U32),
     (12, "CACHEINFO", Style::Hex),
-    (15, "TABLE", Style::U32),
+    (RTA_TABLE, "TABLE", Style::U32),
     (16, "MARK", Style::U32),
     (18, "VIA", Style::Hex),
     (19, "NEWDST", Style::Hex),

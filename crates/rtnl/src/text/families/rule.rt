@@ -5,20 +5,23 @@ use crate::text::attributes::Style;
 use crate::text::families::HeadLine;
 use crate::text::rows::Row;
 use crate::text::segment::Segment;
-use nl_route::RuleHead;
+use nl_route::{
+    FRA_DST, FRA_FWMARK, FRA_FWMASK, FRA_GOTO, FRA_IIFNAME, FRA_OIFNAME, FRA_PRIORITY, FRA_SRC,
+    FRA_TABLE, RuleHead,
+};
 use std::alloc::AllocError;
 
 /// The attributes `FRA` of a routing rule.
 pub(crate) const ATTRIBUTES: &[Row<Style>] = &[
-    (1, "DST", Style::Address),
-    (2, "SRC", Style::Address),
-    (3, "IIFNAME", Style::Text),
-    (4, "GOTO", Style::U32),
-    (6, "PRIORITY", Style::U32),
-    (10, "FWMARK", Style::U32),
-    (15, "TABLE", Style::U32),
-    (16, "FWMASK", Style::U32),
-    (17, "OIFNAME", Style::Text),
+    (FRA_DST, "DST", Style::Address),
+    (FRA_SRC, "SRC", Style::Address),
+    (FRA_IIFNAME, "IIFNAME", Style::Text),
+    (FRA_GOTO, "GOTO", Style::U32),
+    (FRA_PRIORITY, "PRIORITY", Style::U32),
+    (FRA_FWMARK, "FWMARK", Style::U32),
+    (FRA_TABLE, "TABLE", Style::U32),
+    (FRA_FWMASK, "FWMASK", Style::U32),
+    (FRA_OIFNAME, "OIFNAME", Style::Text),
 ];
 
 impl HeadLine for RuleHead {
