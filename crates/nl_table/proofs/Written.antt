@@ -1,0 +1,52 @@
+-- What a map is once a value is written through an entry of it.
+use Rattle.std.proofs.Common.{◌≡◌, ℕ, suc, ◌+◌, ◌≤◌, ◌<◌, ◌||◌, nat_lt, Bool, true, false, cond, List, [], ◌∷◌, length, refl, sym, ◌∙◌, subst, inl, inr, arith}
+use Rattle.std.specs.Prelude.{not}
+use Rattle.std.proofs.lemmas.Bool.{cases_lt, lt-ltb, le-ltb}
+use Rattle.std.specs.List.{list_any, position_or_len}
+use Rattle.std.specs.Map.{keys_of}
+use Rattle.std.specs.declared.vec.Vec.{Vec}
+use Rattle.std.specs.declared.cmp.PartialEq as eq
+use Rattle.std.specs.declared.hash.Hash as hash
+use Rattle.std.specs.declared.hash.Hasher as hasher
+use Rattle.std.specs.declared.hash.BuildHasher as builder
+use Rattle.indexmap.specs.declared.map.entry.Entry.TheVariants.{Occupied, Vacant}
+use Rattle.indexmap.specs.declared.map.entry.Entry.{Entry}
+use Rattle.indexmap.specs.declared.map.entry.OccupiedEntry.{OccupiedEntry}
+use Rattle.indexmap.specs.Entry.{entry_index, entry_map, map_with_value, IsEntryFor, IsWritten}
+use Rattle.indexmap.specs.IndexMap.{IndexMap, KeepsRoom, index_map_len, insert_entry, spare}
+use Rattle.nl_table.specs.Pairs.{entries_of}
+
+next_lt : (m n : ℕ) → nat_lt (1 + m) (suc n) ≡ nat_lt m n
+next_lt m n =
+    elim (cases_lt m n) [
+      | inl lt ↦ lt-ltb (1 + m) (suc n) (omega arith) ∙ sym (lt-ltb m n lt)
+      | inr le ↦ le-ltb (1 + m) (suc n) (omega arith) ∙ sym (le-ltb m n le)
+    ]
+
+-- a key is held exactly where its place is among those of the entries
+pub place-held : {Z T : Type 0} (test : List ℕ → Bool) (es : List (Vec ℕ Z × T)) → nat_lt (position_or_len (λ k. test k.items) (keys_of es)) (length es) ≡ list_any test (keys_of (entries_of es))
+place-held test [] = refl
+place-held test (e ∷ es) = by (test e.0.items) (place-held test es)
+  where
+    by : (b : Bool) → nat_lt (position_or_len (λ k. test k.items) (keys_of es)) (length es) ≡ list_any test (keys_of (entries_of es))
+        → nat_lt (cond (not b) (1 + position_or_len (λ k. test k.items) (keys_of es)) 0) (length (e ∷ es)) ≡ (b || list_any test (keys_of (entries_of es)))
+    by true h = lt-ltb 0 (length (e ∷ es)) (omega arith)
+    by false h = next_lt (position_or_len (λ k. test k.items) (keys_of es)) (length es) ∙ h
+
+module _ {K V S A H : Type 0} {g : eq.Ghosts K} {h : hash.Ghosts K} {b : builder.Ghosts S H} {w : hasher.Ghosts H} where
+  -- a key that is held takes a value without room
+  pub room_of_held : (old final : IndexMap K V S) (e : Entry K V S A H g h b w) (d : OccupiedEntry K V S A H g h b w) (v : V) → KeepsRoom old (entry_map e) → entry_index e < index_map_len (entry_map e)
+      → IsWritten e v (Occupied d) → final ≡ d.map.now → spare old ≤ spare final
+  unfolding map_with_value entry_index
+  room_of_held old final (Occupied o) d v room within wrote is = subst (λ (m : IndexMap K V S). spare old ≤ spare m) (sym (is ∙ wrote.1)) room.0
+  room_of_held old final (Vacant e) d v room within wrote is = let no : ⊥ = omega (arith, within) in absurd no
+
+  -- the entries are those after an insertion
+  pub entries_written : (same : K → K → Bool) (old final : IndexMap K V S) (k : K) (e : Entry K V S A H g h b w) (d : OccupiedEntry K V S A H g h b w) (v : V) → IsEntryFor same old k e → IsWritten e v (Occupied d) → final ≡ d.map.now
+      → final.entries ≡ insert_entry same old.entries k v
+  entries_written same old final k e d v for_key wrote is = subst (λ (m : IndexMap K V S). m.entries ≡ insert_entry same old.entries k v) (sym (is ∙ wrote.1)) (for_key.1 v)
+
+  -- and so many more, or as many
+  pub len_written : (final : IndexMap K V S) (n : ℕ) (e : Entry K V S A H g h b w) (d : OccupiedEntry K V S A H g h b w) (v : V) → ((u : V) → index_map_len (map_with_value e u) ≡ n) → IsWritten e v (Occupied d) → final ≡ d.map.now
+      → index_map_len final ≡ n
+  len_written final n e d v len wrote is = subst (λ (m : IndexMap K V S). index_map_len m ≡ n) (sym (is ∙ wrote.1)) (len v)
