@@ -3,7 +3,7 @@ use Rattle.std.proofs.Common.{◌≡◌, ℕ, zero, suc, ◌+◌, ◌-◌, ◌�
 use Rattle.std.proofs.lemmas.Bool.{eq-eqb, ne_eqb}
 use Rattle.std.proofs.lemmas.List.{take_more, get_or-drop, length-take-le}
 use Rattle.nl_attr.specs.declared.events.Event.{Event}
-use Rattle.nl_attr.specs.declared.events.TheConstants.{SORT_MESSAGE}
+use Rattle.nl_attr.specs.Fixed.{SORT_MESSAGE}
 use Rattle.nl_attr.specs.HeadOrder.{put_from}
 use Rattle.nl_attr.proofs.Lemmas.Putting.{put_none, put_nowhere, put_here, put_on, put_untouched}
 use Rattle.nl_attr.specs.declared.order.Order.{Order}

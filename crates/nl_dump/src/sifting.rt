@@ -3,6 +3,7 @@
 ghost use Rattle.std.specs.Prelude.{◌≡◌, ◌≤◌, ◌<◌, ◌+◌, ◌^◌, [], length, take, None};
 ghost use Rattle.std.specs.Prelude.{IfSome};
 ghost use Rattle.std.specs.Option.{option_copied};
+ghost use Rattle.nl_attr.specs.Fixed as fixed;
 ghost use Rattle.nl_attr.specs.HeadOrder.{put_from};
 ghost use Rattle.nl_frame.specs.Form.{least_body};
 ghost use Rattle.nl_dump.specs.Sifting.{status_at, error_at, form_end, end_here, left_at};
@@ -13,7 +14,7 @@ ghost use Rattle.nl_dump.specs.Sifting.{kept, sifted, IsFront};
 use crate::dump::{Dump, End};
 use crate::role::Role;
 use crate::sorting::{is_interrupted, is_marked, marks_end};
-use nl_attr::{Event, LONGEST_REGION, Order, SORT_MESSAGE};
+use nl_attr::{Event, Order, SORT_MESSAGE};
 use nl_frame::{Form, message_at};
 use nl_route::Verb;
 
@@ -76,7 +77,7 @@ fn end_at(form: Form, payload: &[u8], order: Order) -> Option<End>
 
 /// How the message at the front of these bytes ends a dump; where none stands there, it doesn't.
 fn find_end(left: &[u8], order: Order) -> Option<End>
-    requires { length left.now ≤ LONGEST_REGION }
+    requires { length left.now ≤ fixed.LONGEST_REGION }
     ensures { result ≡ end_here order left.now }
 {
     match message_at(left, 0, order) {
@@ -120,7 +121,7 @@ fn has_mark(left: &[u8], order: Order) -> bool
 #[inline(always)]
 fn role_in(left: &[u8], number: u16, order: Order, dump: &Dump) -> Role<()>
     requires least { 16 ≤ length left.now }
-    requires size { length left.now ≤ LONGEST_REGION }
+    requires size { length left.now ≤ fixed.LONGEST_REGION }
     ensures { result ≡ role_here order dump.now number left.now }
 {
     if !belongs(left, order, dump) {
@@ -138,7 +139,7 @@ fn role_in(left: &[u8], number: u16, order: Order, dump: &Dump) -> Role<()>
 /// What the message of an event is to a dump: nothing to it where no header stands there.
 #[inline(always)]
 fn find(bytes: &[u8], event: Event, order: Order, dump: &Dump) -> Found
-    requires { length bytes.now ≤ LONGEST_REGION }
+    requires { length bytes.now ≤ fixed.LONGEST_REGION }
     ensures { result ≡ found_at order dump.now bytes.now event }
 {
     match header_at(bytes, event.place) {
@@ -206,7 +207,7 @@ impl Sifted {
     /// One more head: that of a message is judged.
     #[inline(always)]
     fn at_head(self, event: Event, bytes: &[u8], order: Order, dump: &Dump) -> Sifted
-        requires size { length bytes.now ≤ LONGEST_REGION }
+        requires size { length bytes.now ≤ fixed.LONGEST_REGION }
         requires items { self.items + 1 < 2 ^ 64 }
         requires ignored { self.ignored + 1 < 2 ^ 64 }
         ensures { result ≡ at_head (found_at order dump.now bytes.now) event self }
@@ -239,7 +240,7 @@ impl Sifted {
 /// where they belong.
 #[inline(always)]
 fn front(bytes: &[u8], order: Order, dump: &Dump, out: &[Event], count: usize) -> Sifted
-    requires size { length bytes.now ≤ LONGEST_REGION }
+    requires size { length bytes.now ≤ fixed.LONGEST_REGION }
     requires room { count ≤ length out.now }
     ensures front { IsFront (found_at order dump.now bytes.now) out.now result }
     ensures count { result.events ≤ count }
@@ -272,7 +273,7 @@ pub(crate) fn sift(
     out: &mut [Event],
     count: usize,
 ) -> Sifted
-    requires size { length bytes.now ≤ LONGEST_REGION }
+    requires size { length bytes.now ≤ fixed.LONGEST_REGION }
     requires room { count ≤ length out.old }
     ensures found { result ≡ sifted (found_at order dump.now bytes.now) none_sifted
         (take count out.old) }

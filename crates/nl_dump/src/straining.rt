@@ -1,12 +1,13 @@
 //! A datagram, gone over into the buffer of a stream.
 
 ghost use Rattle.std.specs.Prelude.{◌≡◌, ◌≤◌, ◌+◌, ◌*◌, length, IfOk};
+ghost use Rattle.nl_attr.specs.Fixed as fixed;
 ghost use Rattle.nl_dump.specs.Strained.{Strains, is_room, scan_refusal, strained_of};
 
 use crate::dump::{Dump, End, Progress, Streamed};
 use crate::errors::StreamError;
 use crate::sifting::{Sifted, sift};
-use nl_attr::{Event, LONGEST_REGION, Tally};
+use nl_attr::{Event, Tally};
 use nl_frame::{Counted, Limits, ScanError, tape_datagram};
 
 /// What became of the messages of a datagram.
@@ -36,8 +37,8 @@ pub(crate) fn lacks_room(error: &StreamError) -> bool
 
 /// What was sifted, as it is answered.
 fn answer(sifted: Sifted) -> Strained
-    requires items { sifted.items ≤ LONGEST_REGION }
-    requires ignored { sifted.ignored ≤ LONGEST_REGION }
+    requires items { sifted.items ≤ fixed.LONGEST_REGION }
+    requires ignored { sifted.ignored ≤ fixed.LONGEST_REGION }
     ensures { result ≡ strained_of sifted }
 {
     let Sifted {

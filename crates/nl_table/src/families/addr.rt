@@ -7,10 +7,15 @@ use nl_route::Addr;
 use std::alloc::{AllocError, Global};
 
 impl Entry for Addr {
+    ghost use Rattle.std.specs.Prelude.{refl};
     ghost use Rattle.nl_route.specs.declared.group.Group.TheVariants as group;
-    ghost use Rattle.nl_table.specs.Entries.{entry_key};
+    ghost use Rattle.nl_table.specs.Entries.{entry_fields, entry_key};
+
+    ghost fields_of = { entry_fields group.Addr };
 
     ghost key_of = { entry_key group.Addr };
+
+    ghost key_is = { λ o e. refl };
 
     /// An address is kept under `ifa_family` in 1 byte, `ifa_index` in 4, `ifa_prefixlen` in 1,
     /// `IFA_ADDRESS` and `IFA_LOCAL`. The order is not looked at.

@@ -7,10 +7,15 @@ use nl_route::Link;
 use std::alloc::{AllocError, Global};
 
 impl Entry for Link {
+    ghost use Rattle.std.specs.Prelude.{refl};
     ghost use Rattle.nl_route.specs.declared.group.Group.TheVariants as group;
-    ghost use Rattle.nl_table.specs.Entries.{entry_key};
+    ghost use Rattle.nl_table.specs.Entries.{entry_fields, entry_key};
+
+    ghost fields_of = { entry_fields group.Link };
 
     ghost key_of = { entry_key group.Link };
+
+    ghost key_is = { λ o e. refl };
 
     /// A link is kept under its index, `ifi_index`, in 4 bytes.
     fn key_ordered(&self, alloc: Global, _order: Order) -> Result<Vec<u8>, AllocError> {

@@ -13,10 +13,15 @@ pub(crate) const AF_BRIDGE: u8 = 7;
 pub(crate) const IDENTIFYING_FLAGS: u8 = 0x0e;
 
 impl Entry for Neigh {
+    ghost use Rattle.std.specs.Prelude.{refl};
     ghost use Rattle.nl_route.specs.declared.group.Group.TheVariants as group;
-    ghost use Rattle.nl_table.specs.Entries.{entry_key};
+    ghost use Rattle.nl_table.specs.Entries.{entry_fields, entry_key};
+
+    ghost fields_of = { entry_fields group.Neigh };
 
     ghost key_of = { entry_key group.Neigh };
+
+    ghost key_is = { λ o e. refl };
 
     /// A neighbour is kept under `ndm_family` in 1 byte, `ndm_ifindex` in 4, three of its flags
     /// in 1 (`NTF_SELF`, `NTF_MASTER` and `NTF_PROXY`, the others 0), and `NDA_DST`.

@@ -7,10 +7,15 @@ use nl_route::Route;
 use std::alloc::{AllocError, Global};
 
 impl Entry for Route {
+    ghost use Rattle.std.specs.Prelude.{refl};
     ghost use Rattle.nl_route.specs.declared.group.Group.TheVariants as group;
-    ghost use Rattle.nl_table.specs.Entries.{entry_key};
+    ghost use Rattle.nl_table.specs.Entries.{entry_fields, entry_key};
+
+    ghost fields_of = { entry_fields group.Route };
 
     ghost key_of = { entry_key group.Route };
+
+    ghost key_is = { λ o e. refl };
 
     /// A route is kept under `rtm_family` and `rtm_dst_len` in 1 byte each, `RTA_DST`,
     /// `rtm_src_len` in 1, `RTA_SRC`, `rtm_tos` in 1, its table in 4, `RTA_PRIORITY` in 4,

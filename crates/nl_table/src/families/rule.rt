@@ -18,10 +18,15 @@ fn bytes_of(rule: &Rule, number: u16) -> Option<&[u8]>
 }
 
 impl Entry for Rule {
+    ghost use Rattle.std.specs.Prelude.{refl};
     ghost use Rattle.nl_route.specs.declared.group.Group.TheVariants as group;
-    ghost use Rattle.nl_table.specs.Entries.{entry_key};
+    ghost use Rattle.nl_table.specs.Entries.{entry_fields, entry_key};
+
+    ghost fields_of = { entry_fields group.Rule };
 
     ghost key_of = { entry_key group.Rule };
+
+    ghost key_is = { λ o e. refl };
 
     /// A rule is kept under `family` and `dst_len` in 1 byte each, `FRA_DST`, `src_len` in 1,
     /// `FRA_SRC`, `tos` in 1, its table and `FRA_PRIORITY` in 4 each, `action` in 1, `FRA_GOTO`,
