@@ -7,6 +7,7 @@ mod Digits
 mod Entries
 mod Feeding
 mod Fronts
+mod Headline
 mod Json
 mod Listing
 mod Pieces

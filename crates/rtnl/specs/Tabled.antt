@@ -4,7 +4,7 @@ use Rattle.std.specs.Fmt.{decimal, signed_decimal}
 use Rattle.std.specs.Global.{Vec}
 use Rattle.nl_attr.specs.declared.order.Order.{Order}
 use Rattle.nl_route.specs.Families.{name_of}
-use Rattle.nl_frame.specs.Limits.{Bounds}
+use Rattle.nl_frame.specs.Limits.{AreLimits, Bounds}
 use Rattle.nl_frame.specs.Message.{family}
 use Rattle.nl_dump.specs.declared.dump.Dump.{Dump}
 use Rattle.nl_dump.specs.declared.dump.End.TheVariants.{Done, Error, Overrun, Abandoned}
@@ -13,12 +13,14 @@ use Rattle.nl_dump.specs.declared.dump.State.TheVariants.{Idle, Waiting, Ended}
 use Rattle.nl_dump.specs.declared.dump.Progress.{Progress}
 use Rattle.nl_dump.specs.declared.errors.FeedError.{FeedError}
 use Rattle.nl_dump.specs.declared.errors.FeedError.TheVariants as feed
+use Rattle.nl_dump.specs.Headline.{Headline}
 use Rattle.nl_dump.specs.Items.{Item}
 use Rattle.nl_dump.specs.View.{View, table_at, complete_of}
 use Rattle.nl_dump.specs.Steps.{IsWaiting}
 use Rattle.nl_dump.specs.Whole.{Call, begins, feeds, Calls, SessionOf}
 use Rattle.rtnl.specs.Checked.{number_front}
 use Rattle.rtnl.specs.Datagrams.{refused_line, too_large_line}
+use Rattle.rtnl.specs.Lines.{datagrams}
 use Rattle.rtnl.specs.Messages.{body_text}
 use Rattle.rtnl.specs.Runs.{OfInput}
 use Rattle.rtnl.specs.Text.{◌⨟◌}
@@ -206,3 +208,11 @@ Tables = TablesBy in_text
 -- the report of the datagrams of what was read, written behind what stood in the sink
 abbrev pub TablesInput : Bounds → Dump → Option (List ℕ) → Option (List ℕ) → Option (List ℕ) → Option (List ℕ) → Verdict → Type 0
 TablesInput b d = OfInput (Tables b d)
+
+-- whatever a recording has, every datagram that a run over it feeds is refused at its first fault, with the dump's answer and all tables unchanged, or is taken as its one list,
+-- and the session stays within its limits
+abbrev pub HeadlineOfTables : Type 0
+HeadlineOfTables =
+    (t : Report) (b : Bounds) (d : Dump) (input : List ℕ) (ds : List (List ℕ)) (text : List ℕ) (verdict : Verdict)
+    → AreLimits b → datagrams input ≡ Ok ds → (tables : TablesBy t b d ds text verdict)
+    → Headline b (calls_of d tables.request tables.fed) tables.session tables.run.calls

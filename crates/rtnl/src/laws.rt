@@ -6,6 +6,7 @@ ghost use Rattle.nl_frame.specs.Limits.{Bounds};
 ghost use Rattle.rtnl.specs.Checked.{Checks, ChecksJson, Finding, Finds};
 ghost use Rattle.rtnl.specs.Lines.{line_at, line_fault_of};
 ghost use Rattle.rtnl.specs.Shown.{Answer, Answers, Shows, ShowsJson};
+ghost use Rattle.rtnl.specs.Tabled.{HeadlineOfTables};
 ghost use Rattle.rtnl.specs.declared.error.Verdict.{Verdict};
 
 /// A datagram has one answer: its one layout, or its one refusal. A check finds one thing of it.
@@ -33,4 +34,13 @@ pub fn one_text()
 pub fn bad_lines()
     ensures { (number : ℕ) (line : List ℕ)
         → (line_at number line ≡ Err number) ↔ IsSome (line_fault_of line) }
+{}
+
+/// What `run_table` and `run_table_json` promise of a recording carries the headline: of each
+/// datagram that they feed, it is refused at its first fault, which leaves the dump's answer and all
+/// tables unchanged, or it is taken as the one list of its layout, which is written within the
+/// limits and read again. Visits are at most `depth + 1` times the bytes, and no table has more
+/// entries than its limit.
+pub fn headline_of_tables()
+    ensures { HeadlineOfTables }
 {}

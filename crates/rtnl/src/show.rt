@@ -1,6 +1,7 @@
 //! Showing a recording.
 
-ghost use Rattle.std.specs.Prelude.{◌≡◌, ◌+◌, ◌++◌, IfOk};
+ghost use Rattle.std.specs.Prelude.{◌≡◌, ◌+◌, ◌++◌, IfOk, OnErr};
+ghost use Rattle.rtnl.specs.Runs as fixed;
 ghost use Rattle.rtnl.specs.Streams.{ConsumesAtMost};
 ghost use Rattle.rtnl.specs.Runs.{Runs};
 ghost use Rattle.rtnl.specs.Shown.{Answer, Answers, datagram_text, is_taken};
@@ -12,17 +13,14 @@ use crate::objects;
 use crate::objects::line::Line;
 use crate::run::run;
 use crate::sink::Sink;
-use crate::source::{LONGEST_INPUT, Source};
+use crate::source::Source;
 use crate::text::datagram::{push_datagram_line, push_refusal};
 use crate::text::message::push_messages;
 use nl_frame::{Limits, read_datagram};
 use std::alloc::{AllocError, Global};
 
-/// Appends the text of a datagram, which `run_show` writes of the datagram of this number: its
-/// messages and their attributes, or why it is refused. It answers whether it was taken.
-///
-/// Only memory can be refused; then `out` has its old bytes and a part of the text.
-pub fn push_datagram(
+/// Writes the line of a datagram, and its messages or why it is refused.
+fn push_answer(
     alloc: Global,
     out: &mut Vec<u8>,
     number: usize,
@@ -46,6 +44,30 @@ pub fn push_datagram(
             Ok(false)
         }
     }
+}
+
+/// Appends the text of a datagram, which `run_show` writes of the datagram of this number: its
+/// messages and their attributes, or why it is refused. It answers whether it was taken.
+///
+/// Only memory can be refused; then `out` is as it was.
+pub fn push_datagram(
+    alloc: Global,
+    out: &mut Vec<u8>,
+    number: usize,
+    bytes: &[u8],
+    limits: &Limits,
+) -> Result<bool, AllocError>
+    // The text is that of the datagram's answer under these limits.
+    ensures text { IfOk result (λ taken. (answer : Answer) × Answers limits.now bytes.now answer
+        × (out.new.items ≡ out.old.items
+        ++ datagram_text limits.now.shape.order number bytes.now answer)
+        × (taken ≡ is_taken answer)) }
+    ensures unchanged { OnErr result (out.new.items ≡ out.old.items) }
+{
+    let mut text = Vec::new(alloc);
+    let taken = push_answer(alloc, &mut text, number, bytes, limits)?;
+    out.extend_from_slice(&text)?;
+    Ok(taken)
 }
 
 /// To show datagrams under these limits.
@@ -72,7 +94,7 @@ impl Each for Show {
         number: usize,
         bytes: &[u8],
     ) -> Result<bool, AllocError> {
-        push_datagram(alloc, out, number, bytes, &self.limits)
+        push_answer(alloc, out, number, bytes, &self.limits)
     }
 }
 
@@ -139,7 +161,7 @@ pub fn run_show<S: Source, W: Sink>(
         W.contents W.is_stalled W.stall_count W.failure_count
         (Shows limits.now) source.old source.new sink.old sink.new result }
     // It takes at most one byte more than the longest input.
-    ensures bounded { ConsumesAtMost (LONGEST_INPUT + 1)
+    ensures bounded { ConsumesAtMost (fixed.LONGEST_INPUT + 1)
         (S.remaining source.old) (S.remaining source.new) }
 {
     run(alloc, source, sink, &Show { limits: *limits })
@@ -164,7 +186,7 @@ pub fn run_show_json<S: Source, W: Sink>(
         W.contents W.is_stalled W.stall_count W.failure_count
         (ShowsJson limits.now) source.old source.new sink.old sink.new result }
     // It takes at most one byte more than the longest input.
-    ensures bounded { ConsumesAtMost (LONGEST_INPUT + 1)
+    ensures bounded { ConsumesAtMost (fixed.LONGEST_INPUT + 1)
         (S.remaining source.old) (S.remaining source.new) }
 {
     run(alloc, source, sink, &ShowJson { limits: *limits })

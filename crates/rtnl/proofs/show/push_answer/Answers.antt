@@ -4,7 +4,7 @@ use Rattle.rtnl.specs.Datagrams.{datagram_line}
 use Rattle.rtnl.specs.Messages.{messages_text}
 use Rattle.rtnl.proofs.Refusing.{refuses}
 use Rattle.rtnl.proofs.Showing.{answers_messages, one_more}
-use Rattle.rtnl.proofs.show.push_datagram.Goals as goal
+use Rattle.rtnl.proofs.show.push_answer.Goals as goal
 
 pub returns-in_ok-push_messages-in-Ok : goal.returns-in_ok-push_messages-in-Ok
 returns-in_ok-push_messages-in-Ok c = (
