@@ -2,7 +2,8 @@
 """Builds crates/rtnl_c/out/librtnl_c.a over the libraries that lie built in the crates' folders
 out/, as `rt lib` does at its end. It is for a repository that `rt ci` passed: that command builds
 those libraries anew, but no static library, and `rt lib` would prove all of them once more. Here
-rtnl_c alone is proved again. Nothing is done where the archive is there and no source is newer.
+rtnl_c alone is proved again. Nothing is done where the archive is there and no source, definition
+or proof is newer.
 The status is 1 where a library is missing or older than its sources, or rtnl_c is not proved.
 """
 import os
@@ -25,7 +26,7 @@ def stop(why: str) -> NoReturn:
 
 def is_current(crates: Crates, made: str) -> bool:
     time = os.path.getmtime(made) if os.path.isfile(made) else 0
-    return not any(newer(name, time) for name in [NAME, *below(crates, NAME)])
+    return not any(newer(it, time, "specs", "proofs") for it in [NAME, *below(crates, NAME)])
 
 
 def words(kit: str, crates: Crates, to: str) -> List[str]:
