@@ -16,6 +16,7 @@ mod objects;
 mod recording;
 mod report;
 mod request;
+mod retry;
 mod run;
 mod show;
 mod sink;

@@ -7,6 +7,7 @@ ghost use Rattle.rtnl.specs.Streams.{AppendsPrefix, MovesNone, StopsOnce, one_mo
 
 use crate::broken::{Broken, moves_none};
 use crate::error::RunError;
+use crate::retry::write_on;
 use std::alloc::Global;
 use std::io::Write;
 
@@ -95,7 +96,7 @@ impl Sink for VecSink {
     }
 }
 
-/// Gives bytes on to one of std's writers.
+/// Gives bytes on to one of std's writers. A write that a signal interrupts goes on.
 #[derive(Debug, Drop)]
 pub struct WriteSink<W> {
     writer: W,
@@ -139,7 +140,7 @@ impl<W: Write> Sink for WriteSink<W> {
     }
 
     fn give(&mut self, bytes: &[u8]) -> Result<usize, Broken> {
-        match self.writer.write(bytes) {
+        match write_on(&mut self.writer, bytes) {
             Ok(count) => {
                 self.stalled = moves_none(count, bytes.len());
                 if self.stalled {

@@ -8,6 +8,7 @@ ghost use Rattle.rtnl.specs.Streams.{ConsumesAtMost, ConsumesMoreThan, IsRead, M
 
 use crate::broken::{Broken, moves_none};
 use crate::error::RunError;
+use crate::retry::read_on;
 use std::alloc::Global;
 use std::io::Read;
 
@@ -80,7 +81,7 @@ impl Source for SliceSource<'_> {
     }
 }
 
-/// Gives what one of std's readers gives.
+/// Gives what one of std's readers gives. A read that a signal interrupts goes on.
 #[derive(Debug, Drop)]
 pub struct ReadSource<R> {
     reader: R,
@@ -115,7 +116,7 @@ impl<R: Read> Source for ReadSource<R> {
     }
 
     fn take(&mut self, buffer: &mut [u8]) -> Result<usize, Broken> {
-        match self.reader.read(buffer) {
+        match read_on(&mut self.reader, buffer) {
             Ok(count) => {
                 self.ended = moves_none(count, buffer.len());
                 Ok(count)
