@@ -158,6 +158,8 @@ bad_first_line='rtnl: line 1: bad line'
 . tests/program/json.sh
 . tests/program/bytes.sh
 . tests/program/explain.sh
+. tests/program/terminal.sh
+. tests/program/interrupted.sh
 check 'each line of JSON is one that the schema allows' tests/schema.py "$folder/json"
 
 finish

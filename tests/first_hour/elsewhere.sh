@@ -64,7 +64,7 @@ is_long_rtmon_refused() {
 }
 
 # The bytes of a recording are no recording.
-is_no_text() { ends 1 '' 'rtnl: line 1: bad line' "$user/rtnl" show "$folder/rtmon"; }
+is_no_text() { ends 1 '' "rtnl: $folder/rtmon: line 1: bad line" "$user/rtnl" show "$folder/rtmon"; }
 
 # A trace that strace writes into a pipe, of a program that asks for links.
 is_traced() {

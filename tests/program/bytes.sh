@@ -464,7 +464,7 @@ usage show --color blue
 usage show --bytes --color
 usage show --bytes --format xml
 expect 'bytes of a bad line' 1 '' "$bad_first_line" show --bytes <<<0g
-expect 'bytes of a missing file' 3 '' "$read_fault" show --bytes "$folder/missing"
+expect 'bytes of a missing file' 3 '' "rtnl: $folder/missing: read fault" show --bytes "$folder/missing"
 check 'bytes, a full device' ends 3 '' "$write_fault" into_full_device show --bytes <<<"$finish"
 check 'bytes in colour, a full device' ends 3 '' "$write_fault" \
   into_full_device show --bytes --color always <<<"$short_attribute"

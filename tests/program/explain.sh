@@ -94,12 +94,27 @@ rtnl: standard input: line 1: 5 digits, an odd number; the line looks wrapped' s
 expect 'an explained file of bytes' 1 '' 'rtnl: line 1: bad line
 rtnl: standard input: line 1, column 1: byte 0x7f is no hexadecimal digit; the file is binary' \
   check --explain < <(printf '\177ELF')
-expect 'a missing file, explained' 3 '' "rtnl: read fault
+expect 'an explained byte order mark' 1 '' 'rtnl: line 1: bad line
+rtnl: standard input: line 1, column 1: byte 0xef is no hexadecimal digit; the file begins with a byte order mark' \
+  show --explain < <(printf '\xef\xbb\xbf# note\n%s\n' "$done_line")
+expect 'an explained byte order mark of UTF-16' 1 '' 'rtnl: line 1: bad line
+rtnl: standard input: line 1, column 1: byte 0xff is no hexadecimal digit; the file begins with a byte order mark' \
+  check --explain < <(printf '\xff\xfe1\0004\0')
+expect 'an explained byte order mark of UTF-16, the highest byte first' 1 '' 'rtnl: line 1: bad line
+rtnl: standard input: line 1, column 1: byte 0xfe is no hexadecimal digit; the file begins with a byte order mark' \
+  check --explain < <(printf '\xfe\xff\0001')
+expect 'an explained byte order mark on a later line' 1 '' 'rtnl: line 2: bad line
+rtnl: standard input: line 2, column 1: byte 0xef is no hexadecimal digit; the file is binary' \
+  check --explain < <(printf '# note\n\xef\xbb\xbf00\n')
+expect 'explained bytes that are no byte order mark' 1 '' 'rtnl: line 1: bad line
+rtnl: standard input: line 1, column 1: byte 0xef is no hexadecimal digit; the file is binary' \
+  check --explain < <(printf '\xef\xbb00\n')
+expect 'a missing file, explained' 3 '' "rtnl: $folder/missing: read fault
 rtnl: $folder/missing: No such file or directory (os error 2)" check --explain "$folder/missing"
-expect 'a folder, explained' 3 '' "rtnl: read fault
+expect 'a folder, explained' 3 '' "rtnl: $folder: read fault
 rtnl: $folder: Is a directory (os error 21)" show --explain "$folder"
 expect 'an input that is too long, explained' 3 '' 'rtnl: read fault
-rtnl: standard input: longer than 16777216 bytes' show --explain < <(comment 16777217)
+rtnl: standard input: longer than 16777216 bytes; a recording can be cut at any line' show --explain < <(comment 16777217)
 check 'a full device, explained' ends 3 '' 'rtnl: write fault
 rtnl: standard output: No space left on device (os error 28)' into_full_device check --explain <<<"$done_line"
 check 'errors that cannot be written, explained' ends 1 'datagram 1 refused cut at 0' '' \

@@ -86,7 +86,8 @@ for command in show check "${links[*]}"; do
   read -ra asked <<<"$command"
   expect "JSON, a bad line: $command" 1 '' 'rtnl: line 2: bad line' "${asked[@]}" --format json \
     < <(printf '%s\n' "$finish" 0g)
-  expect "JSON, a missing file: $command" 3 '' "$read_fault" "${asked[@]}" --format json "$folder/missing" </dev/null
+  expect "JSON, a missing file: $command" 3 '' "rtnl: $folder/missing: read fault" "${asked[@]}" --format json \
+    "$folder/missing" </dev/null
   check "JSON, a full device: $command" ends 3 '' "$write_fault" into_full_device "${asked[@]}" --format json \
     <<<"$finish"
   check "JSON, standard output closed: $command" ends 3 '' "$write_fault" into_closed_output "${asked[@]}" \

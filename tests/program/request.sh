@@ -48,8 +48,8 @@ usage request
 usage request --seq 1
 usage request --kind link
 usage request --kind links --seq 1
-for number in 4294967296 -1 0x1 1.0 '' one; do usage request --kind link "--seq=$number"; done
-for option in family=256 family=-1 order=middle port=1 depth=3 entries=3; do
+for number in 4294967296 -1 0x1 1.0 '' one +1 -0; do usage request --kind link "--seq=$number"; done
+for option in family=256 family=-1 family=+2 family=-0 order=middle port=1 depth=3 entries=3; do
   usage "${link_request[@]}" "--$option"
 done
 usage "${link_request[@]}" --seq 2

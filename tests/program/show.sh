@@ -8,7 +8,7 @@ echo "$loopback" >"$folder/link"
 expect 'show FILE' 0 "$loopback_text" '' show "$folder/link" <<<"$finish"
 expect 'show behind the end of options' 0 "$loopback_text" '' show -- "$folder/link" </dev/null
 expect 'show -, which is standard input' 0 "$finish_text" '' show - <<<"$finish"
-expect 'show ./-, which is a file' 3 '' "$read_fault" show ./- <<<"$finish"
+expect 'show ./-, which is a file' 3 '' 'rtnl: ./-: read fault' show ./- <<<"$finish"
 expect 'order little' 0 "$loopback_text" '' show --order little <<<"$loopback"
 expect 'order big' 0 "$loopback_text" '' show --order big <<<"$loopback_big"
 expect 'order big, FILE' 1 "$loopback_refused" '' show --order=big "$folder/link" </dev/null
@@ -58,6 +58,9 @@ usage reveal
 usage show --version
 usage show "$folder/link" "$folder/link"
 usage show $'\xff'
+# Control characters, backslashes and quotes in a name, and how they are shown; a letter beyond ASCII stays.
+odd_name=$'a\n\r\t\x1b[31m\x01\x7f\xc2\x9b\\"\xc3\xa9 b'
+shown_name='a\n\r\t\x1b[31m\x01\x7f\x9b\\\"é b'
 # A file in the place of a command, be it there or not.
 show_line='rtnl: to show a recording: rtnl show'
 check 'a file without a command' names_show "$show_line $folder/link" "$folder/link"
@@ -67,6 +70,20 @@ check 'standard input without a command' names_show "$show_line -" -
 check 'a file without a command, an option behind it' names_show "$show_line links.hex" links.hex --order big
 check 'a file behind the end of options' names_show "$show_line -- -x.hex" -- -x.hex
 check 'a file with a blank in its name' names_show "$show_line \"my links.hex\"" 'my links.hex'
+check 'a file of an odd name without a command' names_show "$show_line \"$shown_name\"" "$odd_name"
+check 'a file of an escape without a command' names_show "$show_line a\\x1b[m.hex" $'a\x1b[m.hex'
+# shows_controls: standard error has a control character beside newlines.
+shows_controls() { LC_ALL=C grep -q $'[\x01-\x09\x0b-\x1f\x7f]' "$folder/errors"; }
+# is_shown_plainly ARGUMENT..: a usage error whose text has so many lines as it would have of a plain word, and no
+# control character.
+is_shown_plainly() {
+  ends 2 '' "$any" "$program" "$@" </dev/null && ! shows_controls && ! grep -q '^forged' "$folder/errors"
+}
+forged=$'x\x1b[2J\nforged'
+check 'an odd name in the text of clap' is_shown_plainly "$forged"
+check 'an odd value in the text of clap' is_shown_plainly table --kind link --port 1 --seq "$forged"
+check 'an odd option in the text of clap' is_shown_plainly show "--$forged"
+check 'an odd argument in the text of clap' is_shown_plainly show x "$forged"
 check 'no name of a file' names_show "$show_line \"\"" ''
 check 'help of an unknown command' names_nothing help links.hex
 check 'an unknown option' names_nothing --links.hex
@@ -74,8 +91,8 @@ check 'an unknown option of a command' names_nothing show --links.hex
 # Arguments are looked at before FILE is opened.
 usage show --order middle "$folder/missing"
 
-expect 'a missing file' 3 '' "$read_fault" show "$folder/missing" <<<"$finish"
-expect 'a folder as FILE' 3 '' "$read_fault" show "$folder" <<<"$finish"
+expect 'a missing file' 3 '' "rtnl: $folder/missing: read fault" show "$folder/missing" <<<"$finish"
+expect 'a folder as FILE' 3 '' "rtnl: $folder: read fault" show "$folder" <<<"$finish"
 expect 'a folder as standard input' 3 '' "$read_fault" <"$folder"
 check 'standard input closed' ends 3 '' "$read_fault" from_closed_input
 check 'a full device' ends 3 '' "$write_fault" into_full_device <<<"$finish"
@@ -83,6 +100,18 @@ check 'standard output closed' ends 3 '' "$write_fault" into_closed_output <<<"$
 check 'a pipe that nobody reads' ends 3 '' "$write_fault" into_pipe_without_reader <<<"$finish"
 check 'a fault that cannot be printed' ends 3 '' '' with_full_errors show "$folder/missing" </dev/null
 check 'nothing for a full device' ends 0 '' '' into_full_device </dev/null
+
+# A file is named wherever it is what failed.
+echo zz >"$folder/bad"
+expect 'a bad line of a FILE' 1 '' "rtnl: $folder/bad: line 1: bad line" show "$folder/bad" <<<"$finish"
+check 'a full device, FILE' ends 3 '' "$write_fault" into_full_device show "$folder/link"
+
+cp "$folder/bad" "$folder/$odd_name"
+expect 'a bad line of a FILE of an odd name' 1 '' "rtnl: $folder/$shown_name: line 1: bad line" show "$folder/$odd_name"
+expect 'the same, explained' 1 '' "rtnl: $folder/$shown_name: line 1: bad line
+rtnl: $folder/$shown_name: line 1, column 1: byte 0x7a is no hexadecimal digit" show --explain "$folder/$odd_name"
+expect 'a missing file of an odd name, explained' 3 '' "rtnl: x$shown_name: read fault
+rtnl: x$shown_name: No such file or directory (os error 2)" check --explain "x$odd_name"
 
 expect 'an odd number of digits' 1 '' "$bad_first_line" < <(printf 'abc')
 expect 'odd digits with blanks' 1 '' "$bad_first_line" <<<'14 00 0'
@@ -120,5 +149,5 @@ expect 'refused between two that are shown' 1 \
 expect 'the longest input' 0 "$finish_text" '' <"$folder/longest"
 expect 'the longest input as FILE' 0 "$finish_text" '' show "$folder/longest" </dev/null
 expect 'an input too long' 3 '' "$read_fault" <"$folder/too_long"
-expect 'a FILE too long' 3 '' "$read_fault" show "$folder/too_long" </dev/null
+expect 'a FILE too long' 3 '' "rtnl: $folder/too_long: read fault" show "$folder/too_long" </dev/null
 check 'out of memory' ends 4 '' 'rtnl: out of memory' in_little_memory <"$folder/longest"

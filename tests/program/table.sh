@@ -131,10 +131,11 @@ entries 0 missed 3 ignored 0 unfed 0 damaged no interrupted no
 received 160 visits 44
 complete no' '' "${links[@]}" --entries 0 <<<"$three_messages"
 
-# 4,097 links of 32 bytes with the indices 1 to 4,097, each a datagram, and what is printed of the first 4,096.
+# many_links COUNT: links of 32 bytes with the indices from 1 on, each a datagram; and what is printed of the first
+# 4,096.
 many_links() {
-  awk 'BEGIN { for (i = 1; i <= 4097; i++)
-    printf "20000000 1000 0200 01000000 39300000 00000000 %02x%02x0000 00000000 00000000\n", i % 256, i / 256 }'
+  awk -v count="$1" 'BEGIN { for (i = 1; i <= count; i++) printf \
+    "20000000 1000 0200 01000000 39300000 00000000 %02x%02x%02x00 00000000 00000000\n", i % 256, i / 256 % 256, i / 65536 }'
 }
 most_entries() {
   awk 'BEGIN { for (i = 1; i <= 4096; i++)
@@ -145,7 +146,7 @@ $(most_entries)
 end done 0
 entries 4096 missed 1 ignored 0 unfed 0 damaged no interrupted no
 received 131124 visits 0
-complete no" '' "${links[@]}" < <(many_links && echo "$finish")
+complete no" '' "${links[@]}" < <(many_links 4097 && echo "$finish")
 
 expect 'table: ended by DONE with a status' 1 'dump link seq 1 port 12345
 end done -16
@@ -330,14 +331,94 @@ check 'table of a recording of rules' is_tabled examples/rules.hex rule 1021 635
 
 expect 'table: a bad line behind the end' 1 '' 'rtnl: line 2: bad line' "${links[@]}" \
   < <(printf '%s\n' "$loopback $finish" zz)
-expect 'table: a missing file' 3 '' "$read_fault" "${links[@]}" "$folder/missing" <<<"$finish"
-expect 'table: a folder as FILE' 3 '' "$read_fault" "${links[@]}" "$folder" <<<"$finish"
+expect 'table: a missing file' 3 '' "rtnl: $folder/missing: read fault" "${links[@]}" "$folder/missing" <<<"$finish"
+expect 'table: a folder as FILE' 3 '' "rtnl: $folder: read fault" "${links[@]}" "$folder" <<<"$finish"
 expect 'table: an input too long' 3 '' "$read_fault" "${links[@]}" <"$folder/too_long"
 check 'table: out of memory' ends 4 '' 'rtnl: out of memory' in_little_memory "${links[@]}" <"$folder/longest"
 check 'table: standard input closed' ends 3 '' "$read_fault" from_closed_input "${links[@]}"
 check 'table: a full device' ends 3 '' "$write_fault" into_full_device "${links[@]}" <<<"$finish"
 check 'table: a full device, empty input' ends 3 '' "$write_fault" into_full_device "${links[@]}" </dev/null
 check 'table: standard output closed' ends 3 '' "$write_fault" into_closed_output "${links[@]}" <<<"$finish"
+
+# ---- the numbers of a dump, which the recording names
+
+# unnamed NAME FIRST ARGUMENT..: these arguments are a usage error whose text begins with this line.
+unnamed() {
+  local name=$1 first=$2
+  shift 2
+  check "table: $name" begins_usage "$first" "$@"
+}
+begins_usage() {
+  local first=$1
+  shift
+  ends 2 '' "$any" "$program" "$@" && [ "$(head -n 1 "$folder/errors")" = "error: $first" ]
+}
+both_ways='needed, or a line `# seq N port N` in the recording'
+here='# seq 1 port 12345'
+
+printf '%s\n' "$here" "$loopback $finish" >"$folder/named"
+expect 'table: numbers of the recording' 0 "$one_link" '' table --kind link <"$folder/named"
+expect 'table: numbers of FILE' 0 "$one_link" '' table "$folder/named" --kind link </dev/null
+expect 'table: numbers of a FILE that can be read only once' 0 "$one_link" '' table --kind link \
+  <(cat "$folder/named") </dev/null
+expect 'table: numbers of the recording, explained' 0 "$one_link" '' table --kind link --explain - <"$folder/named"
+expect 'table: numbers of the recording, order big' 0 "$one_link" '' table --kind link --order big \
+  < <(printf '%s\n' "$here" "$loopback_big $finish_big")
+expect 'table: the greatest numbers of a recording' 0 'dump link seq 4294967295 port 4294967295
+end done 0
+entries 0 missed 0 ignored 0 unfed 0 damaged no interrupted no
+received 20 visits 0
+complete yes' '' table --kind link \
+  < <(printf '%s\n' '# seq 4294967295 port 4294967295' '14000000 0300 0200 ffffffff ffffffff 00000000')
+expect 'table: numbers with leading zeros, blanks behind them' 0 "$one_link" '' table --kind link \
+  < <(printf '# seq 0001 port 00012345 \t\r\n%s\n' "$loopback $finish")
+expect 'table: numbers on the last line, which no newline ends' 0 "$one_link" '' table --kind link \
+  < <(printf '%s\n%s' "$loopback $finish" "$here")
+# The first line that has both numbers, in just this form.
+expect 'table: numbers behind lines that are none' 0 "$one_link" '' table --kind link < <(printf '%s\n' '# note' '#' \
+  '# seq 9' '# seq 9 port' '# seq port' '# seq 9 port 9 9' '#seq 9 port 9' '#  seq 9 port 9' '# seq  9 port 9' \
+  '# SEQ 9 PORT 9' '# seq +9 port 9' '# seq 9 port -0' '# seq -0 port 9' '# seq 4294967296 port 9' '# seq 0x9 port 9' \
+  '# seq 9 port 9.' '## seq 9 port 9' $'# seq 9 port 9\xff' "$here" "$loopback $finish")
+printf '%s\n' "$here" "$loopback $finish" '# seq 2 port 7' \
+  "${loopback_later/01000000 39300000/02000000 07000000} ${finish/01000000 39300000/02000000 07000000}" >"$folder/two"
+expect 'table: numbers of the first of two dumps' 0 "${one_link/unfed 0/unfed 1}" '' table --kind link "$folder/two"
+expect 'table: numbers of the second of two dumps' 0 "dump link seq 2 port 7
+entry 1
+$loopback_later_body
+end done 0
+entries 1 missed 0 ignored 2 unfed 0 damaged no interrupted no
+received 136 visits 32
+complete yes" '' table --kind link --seq 2 --port 7 "$folder/two"
+expect 'table: a sequence number beside the port of the recording' 0 'dump link seq 2 port 12345
+end done 0
+entries 0 missed 0 ignored 0 unfed 0 damaged no interrupted no
+received 20 visits 0
+complete yes' '' table --kind link --seq 2 < <(printf '%s\n' "$here" "${finish/01000000/02000000}")
+expect 'table: a port beside the sequence number of the recording' 0 "$one_link" '' table --kind link --port 12345 \
+  < <(printf '%s\n' '# seq 1 port 7' "$loopback $finish")
+expect 'table: numbers given, others in the recording' 0 "$one_link" '' "${links[@]}" \
+  < <(printf '%s\n' '# seq 9 port 9' "$loopback $finish")
+expect 'table: numbers named, a bad line' 1 '' 'rtnl: line 2: bad line' table --kind link < <(printf '%s\n' "$here" zz)
+expect 'table: numbers named, an input too long' 3 '' "$read_fault" table --kind link \
+  < <(echo "$here" && cat "$folder/longest")
+expect 'table: numbers named, a full table' 1 "$any" 'rtnl: missed 1: the limit is 0 entries; --entries sets another, up to 65536' \
+  table --kind link --entries 0 --explain "$folder/named"
+check 'table: numbers named, a full device' ends 3 '' "$write_fault" into_full_device table --kind link "$folder/named"
+expect 'table: no numbers, a folder as FILE' 3 '' "rtnl: $folder: read fault" table --kind link "$folder" <<<"$finish"
+check 'table: no numbers, standard input closed' ends 3 '' "$read_fault" from_closed_input table --kind link
+unnamed 'no numbers' "--seq and --port are $both_ways; standard input has none" table --kind link <<<"$finish"
+unnamed 'no numbers, empty input' "--seq and --port are $both_ways; standard input has none" table --kind link </dev/null
+unnamed 'no numbers, FILE' "--seq and --port are $both_ways; $folder/link has none" table --kind link "$folder/link"
+unnamed 'no sequence number' "--seq is $both_ways; standard input has none" table --kind link --port 12345 <<<"$finish"
+unnamed 'no port' "--port is $both_ways; $folder/link has none" table --kind link --seq 1 "$folder/link"
+unnamed 'numbers behind a byte order mark' "--seq and --port are $both_ways; standard input has none" \
+  table --kind link < <(printf '\xef\xbb\xbf' && cat "$folder/named")
+unnamed 'no numbers, a missing file' \
+  "--seq and --port are $both_ways; $folder/missing cannot be opened: No such file or directory (os error 2)" \
+  table --kind link "$folder/missing"
+unnamed 'no port, a missing file' \
+  "--port is $both_ways; $folder/a\\nb cannot be opened: No such file or directory (os error 2)" \
+  table --kind link --seq 1 "$folder/"$'a\nb'
 
 expect 'help of table' 0 "$any" '' table --help <<<"$finish"
 usage table
@@ -346,11 +427,16 @@ usage table --kind link --port 12345
 usage table --kind link --seq 1
 usage --kind link --seq 1 --port 12345
 for kind in links LINK '' lin; do usage table --kind "$kind" --seq 1 --port 12345; done
-for number in 4294967296 -1 0x1 1.0 '' one ' 1'; do
+for number in 4294967296 -1 0x1 1.0 '' one ' 1' +1 -0 +0 -00; do
   usage table --kind link --port 12345 --seq "$number"
   usage table --kind link --port 12345 "--seq=$number"
   usage table --kind link --seq 1 "--port=$number"
 done
+for option in family depth entries; do
+  for number in +1 -0 +0 -00; do usage "${links[@]}" "--$option=$number"; done
+done
+unnamed 'a number with a sign' "invalid value '+1' for '--seq <N>': a number is digits alone" \
+  table --kind link --seq +1 --port 12345 </dev/null
 for option in family=256 family=-1 family=0x2 depth=33 depth=-1 depth=256 entries=65537 entries=-1 entries=4294967296 \
   order=middle limit=3; do usage "${links[@]}" "--$option"; done
 usage "${links[@]}" --seq 2

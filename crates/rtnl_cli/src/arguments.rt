@@ -1,18 +1,24 @@
 //! What the arguments of the program ask for.
 
-use crate::commands::{COLORS, FORMATS, ORDERS, Values, rtnl};
+use crate::commands::{COLORS, FORMATS, ORDERS, Values, rtnl, usage_error};
+use crate::heading::{Numbers, is_digits, numbers_in};
+use crate::name::{Escaped, Name, is_escaped};
 use clap::error::ErrorKind;
 use clap::{ArgMatches, Error};
 use nl_attr::Order;
 use rtnl::dump::{Dump, Kind};
 use rtnl::frame::Limits;
 use std::alloc::{AllocError, Global};
+use std::io;
 
 /// What a usage error says of a name that clap lets through and that is not known here.
 const UNKNOWN: &str = "a command or a value is not known";
 
 /// What names standard input in the place of a file.
 const STANDARD_INPUT: &str = "-";
+
+/// The options whose value is a number.
+const NUMBERS: [&str; 5] = ["seq", "port", "family", "depth", "entries"];
 
 /// What is done with a recording.
 #[derive(Clone, Copy, Debug, PartialEq, Eq)]
@@ -45,6 +51,32 @@ pub(crate) enum Color {
     Never,
 }
 
+/// The dump that a table is of, as far as the options say.
+#[derive(Clone, Copy, Debug)]
+pub(crate) struct Sought {
+    pub kind: Kind,
+    pub family: u8,
+    pub seq: Option<u32>,
+    pub port: Option<u32>,
+}
+
+impl Sought {
+    /// Whether the options say both numbers.
+    pub(crate) fn is_whole(self) -> bool {
+        self.seq.is_some() && self.port.is_some()
+    }
+
+    /// The dump, whose numbers are those of the options, and else these.
+    pub(crate) fn dump(self, numbers: Option<Numbers>) -> Option<Dump> {
+        Some(Dump {
+            kind: self.kind,
+            family: self.family,
+            seq: self.seq.or(numbers.map(|found| found.seq))?,
+            port: self.port.or(numbers.map(|found| found.port))?,
+        })
+    }
+}
+
 /// What is done with a recording, how it is printed, and under which limits.
 #[derive(Clone, Copy, Debug)]
 pub(crate) struct Work {
@@ -53,12 +85,42 @@ pub(crate) struct Work {
     pub limits: Limits,
 }
 
+/// Which table is asked for, how it is printed, and under which limits.
+#[derive(Clone, Copy, Debug)]
+pub(crate) struct Table {
+    pub sought: Sought,
+    pub format: Format,
+    pub limits: Limits,
+}
+
+impl Table {
+    /// What is done with this recording, where the options or it say which dump it answers.
+    pub(crate) fn work(&self, input: &[u8]) -> Option<Work> {
+        let numbers = if self.sought.is_whole() {
+            None
+        } else {
+            numbers_in(input)
+        };
+        Some(Work {
+            engine: Engine::Table(self.sought.dump(numbers)?),
+            format: self.format,
+            limits: self.limits,
+        })
+    }
+}
+
 /// What the program is to do.
 #[derive(Debug, Drop)]
 pub(crate) enum Task {
     /// Read a file, or standard input where none or `-` is named.
     Recording {
         work: Work,
+        explain: bool,
+        file: Option<String>,
+    },
+    /// Read one as the answers to a dump, of which it may name the numbers.
+    Table {
+        table: Table,
         explain: bool,
         file: Option<String>,
     },
@@ -79,6 +141,46 @@ pub(crate) enum Parsed {
     Message(Error),
 }
 
+fn names<T>(alloc: Global, table: &[(&'static str, T)]) -> Result<Vec<&'static str>, AllocError> {
+    table.iter().map(|row| row.0).collect(alloc)
+}
+
+/// What the values of options are made of.
+#[derive(Drop)]
+struct Lists {
+    kinds: Vec<&'static str>,
+    formats: Vec<&'static str>,
+    orders: Vec<&'static str>,
+    colors: Vec<&'static str>,
+    depth: String,
+    entries: String,
+}
+
+impl Lists {
+    fn new(alloc: Global) -> Result<Lists, AllocError> {
+        let standard = Limits::standard();
+        Ok(Lists {
+            kinds: Kind::ALL.iter().map(|kind| kind.row().name).collect(alloc)?,
+            formats: names(alloc, FORMATS.as_slice())?,
+            orders: names(alloc, ORDERS.as_slice())?,
+            colors: names(alloc, COLORS.as_slice())?,
+            depth: standard.depth().get().to_string(alloc)?,
+            entries: standard.entries().to_string(alloc)?,
+        })
+    }
+
+    fn values(&self) -> Values<'_> {
+        Values {
+            kinds: self.kinds.as_slice(),
+            formats: self.formats.as_slice(),
+            orders: self.orders.as_slice(),
+            colors: self.colors.as_slice(),
+            depth: self.depth.as_str(),
+            entries: self.entries.as_str(),
+        }
+    }
+}
+
 /// The value of this name in a table.
 fn named<T: Copy>(table: &[(&str, T)], name: &str) -> Option<T> {
     let row = table.iter().find(|row| row.0 == name)?;
@@ -97,12 +199,12 @@ fn order_of(matches: &ArgMatches<'_>) -> Option<Order> {
     named(ORDERS.as_slice(), matches.get_str("order")?)
 }
 
-fn dump_of(matches: &ArgMatches<'_>) -> Option<Dump> {
-    Some(Dump {
+fn sought_of(matches: &ArgMatches<'_>) -> Option<Sought> {
+    Some(Sought {
         kind: kind_of(matches)?,
         family: matches.get_one("family")?,
-        seq: matches.get_one("seq")?,
-        port: matches.get_one("port")?,
+        seq: matches.get_one("seq"),
+        port: matches.get_one("port"),
     })
 }
 
@@ -112,6 +214,19 @@ fn limits_of(matches: &ArgMatches<'_>) -> Option<Limits> {
     let depth = matches.get_one("depth")?;
     let entries = matches.get_one("entries")?;
     Limits::new(depth, standard.datagram(), standard.total(), entries).ok()
+}
+
+fn table_of(matches: &ArgMatches<'_>, file: Option<String>) -> Option<Task> {
+    let table = Table {
+        sought: sought_of(matches)?,
+        format: named(FORMATS.as_slice(), matches.get_str("format")?)?,
+        limits: limits_of(matches)?.with_order(order_of(matches)?),
+    };
+    Some(Task::Table {
+        table,
+        explain: matches.get_flag("explain"),
+        file,
+    })
 }
 
 fn request_of(matches: &ArgMatches<'_>) -> Option<Task> {
@@ -125,21 +240,20 @@ fn request_of(matches: &ArgMatches<'_>) -> Option<Task> {
 
 /// The task of a command, or none where its name or a value of it isn't known.
 fn command_task(name: &str, matches: &ArgMatches<'_>, file: Option<String>) -> Option<Task> {
-    let (engine, limits) = match name {
+    let engine = match name {
         "show" if matches.get_flag("bytes") => {
-            let color = named(COLORS.as_slice(), matches.get_str("color")?)?;
-            (Engine::ShowBytes(color), Limits::standard())
+            Engine::ShowBytes(named(COLORS.as_slice(), matches.get_str("color")?)?)
         }
-        "show" => (Engine::Show, Limits::standard()),
-        "check" => (Engine::Check, Limits::standard()),
-        "table" => (Engine::Table(dump_of(matches)?), limits_of(matches)?),
+        "show" => Engine::Show,
+        "check" => Engine::Check,
+        "table" => return table_of(matches, file),
         "request" => return request_of(matches),
         _ => return None,
     };
     let work = Work {
         engine,
         format: named(FORMATS.as_slice(), matches.get_str("format")?)?,
-        limits: limits.with_order(order_of(matches)?),
+        limits: Limits::standard().with_order(order_of(matches)?),
     };
     Some(Task::Recording {
         work,
@@ -169,37 +283,47 @@ fn task_of(alloc: Global, matches: &ArgMatches<'_>) -> Result<Option<Task>, Allo
     Ok(command_task(name, inner, file))
 }
 
-fn names<T>(alloc: Global, table: &[(&'static str, T)]) -> Result<Vec<&'static str>, AllocError> {
-    table.iter().map(|row| row.0).collect(alloc)
+/// An option whose number has a sign, which clap lets through, and the value.
+fn signed_number<'a>(matches: &ArgMatches<'a>) -> Option<(&'static str, &'a str)> {
+    NUMBERS.iter().find_map(|option| match matches.get_str(option) {
+        Some(value) if !is_digits(value) => Some((*option, value)),
+        _ => None,
+    })
 }
 
 /// The task of these arguments, or help, the version or a usage error.
 fn parse_with(alloc: Global, arguments: &[String], values: Values<'_>) -> Result<Task, Error> {
     let first = arguments.get(1).map(String::as_str);
     let matches = rtnl(alloc, values, first)?.try_get_matches_from(arguments)?;
+    if let Some((name, inner)) = matches.subcommand()
+        && let Some((option, value)) = signed_number(inner)
+    {
+        let message = format!(in alloc;
+            "invalid value '{value}' for '--{option} <N>': a number is digits alone"
+        )?;
+        return Err(usage_error(alloc, values, name, message.as_str())?);
+    }
     match task_of(alloc, &matches)? {
         Some(task) => Ok(task),
-        None => Err(rtnl(alloc, values, None)?.error(ErrorKind::InvalidValue, UNKNOWN)?),
+        None => Err(usage_error(alloc, values, "", UNKNOWN)?),
     }
 }
 
-/// What the arguments, the program's name first, ask for. It fails only for memory.
-pub(crate) fn parse(alloc: Global, arguments: &[String]) -> Result<Parsed, AllocError> {
-    let kinds: Vec<&str> = Kind::ALL.iter().map(|kind| kind.row().name).collect(alloc)?;
-    let formats = names(alloc, FORMATS.as_slice())?;
-    let orders = names(alloc, ORDERS.as_slice())?;
-    let colors = names(alloc, COLORS.as_slice())?;
-    let standard = Limits::standard();
-    let depth = standard.depth().get().to_string(alloc)?;
-    let entries = standard.entries().to_string(alloc)?;
-    let values = Values {
-        kinds: kinds.as_slice(),
-        formats: formats.as_slice(),
-        orders: orders.as_slice(),
-        colors: colors.as_slice(),
-        depth: depth.as_str(),
-        entries: entries.as_str(),
-    };
+/// The arguments as they are shown, where one of them has a character that is escaped.
+fn escaped(alloc: Global, arguments: &[String]) -> Result<Option<Vec<String>>, AllocError> {
+    let is_plain = |argument: &String| !argument.as_str().contains(is_escaped);
+    if arguments.iter().all(is_plain) {
+        return Ok(None);
+    }
+    let shown = arguments
+        .iter()
+        .map(|argument| Escaped(argument.as_str()).to_string(alloc))
+        .try_collect(alloc)?;
+    Ok(Some(shown))
+}
+
+/// What the arguments give, where clap's text shows them as they are.
+fn parsed(alloc: Global, arguments: &[String], values: Values<'_>) -> Result<Parsed, AllocError> {
     match parse_with(alloc, arguments, values) {
         Ok(task) => Ok(Parsed::Task(task)),
         Err(error) => match error.kind() {
@@ -207,6 +331,44 @@ pub(crate) fn parse(alloc: Global, arguments: &[String]) -> Result<Parsed, Alloc
             _ => Ok(Parsed::Message(error)),
         },
     }
+}
+
+/// What the arguments, the program's name first, ask for. It fails only for memory.
+pub(crate) fn parse(alloc: Global, arguments: &[String]) -> Result<Parsed, AllocError> {
+    let lists = Lists::new(alloc)?;
+    let message = match parsed(alloc, arguments, lists.values())? {
+        Parsed::Message(message) => message,
+        task => return Ok(task),
+    };
+    // A text of clap has the arguments in it, so it is made of what is shown of them.
+    if let Some(shown) = escaped(alloc, arguments)?
+        && let Parsed::Message(message) = parsed(alloc, shown.as_slice(), lists.values())?
+    {
+        return Ok(Parsed::Message(message));
+    }
+    Ok(Parsed::Message(message))
+}
+
+/// A usage error of `table`: neither its options nor its recording say both numbers of the dump.
+/// Where the recording could not be opened, `error` says why.
+pub(crate) fn unnamed(
+    alloc: Global,
+    sought: Sought,
+    name: Name<'_>,
+    error: Option<&io::Error>,
+) -> Result<Error, AllocError> {
+    let missing = match (sought.seq, sought.port) {
+        (None, Some(_)) => "--seq is",
+        (Some(_), None) => "--port is",
+        _ => "--seq and --port are",
+    };
+    let ways = format!(in alloc; "{missing} needed, or a line `# seq N port N` in the recording")?;
+    let message = match error {
+        None => format!(in alloc; "{ways}; {name} has none")?,
+        Some(error) => format!(in alloc; "{ways}; {name} cannot be opened: {error}")?,
+    };
+    let lists = Lists::new(alloc)?;
+    usage_error(alloc, lists.values(), "table", message.as_str())
 }
 
 /// What stands where a command should and names none, with the `--` before it; it may be meant as a

@@ -1,26 +1,9 @@
 //! Whether what is printed is coloured.
 
 use crate::arguments::{Color, Format};
+use crate::terminal::{STDOUT, is_terminal};
 use rtnl::RowFormat;
 use std::env::{self, VarError};
-use std::fs;
-
-/// What standard output is, as proc(5) has it.
-const STDOUT: &str = "/proc/self/fd/1";
-
-/// What the names of terminals begin with: pts(4), tty(4), console(4).
-const TERMINALS: [&str; 3] = ["/dev/pts/", "/dev/tty", "/dev/console"];
-
-/// Whether standard output is a terminal. Where that can't be seen it is none.
-fn is_terminal(rt: &HostRuntime) -> bool {
-    match fs::read_link(rt, STDOUT) {
-        Ok(path) => {
-            let name = path.as_str();
-            TERMINALS.iter().any(|front| name.starts_with(*front))
-        }
-        Err(_) => false,
-    }
-}
 
 /// Whether the variable NO_COLOR is set to any text.
 fn is_unwanted(rt: &HostRuntime) -> bool {
@@ -34,7 +17,7 @@ fn is_unwanted(rt: &HostRuntime) -> bool {
 /// How the rows of bytes are printed.
 pub(crate) fn row_format(rt: &HostRuntime, color: Color, format: Format) -> RowFormat {
     let is_coloured = match color {
-        Color::Auto => is_terminal(rt) && !is_unwanted(rt),
+        Color::Auto => is_terminal(rt, STDOUT) && !is_unwanted(rt),
         Color::Always => true,
         Color::Never => false,
     };

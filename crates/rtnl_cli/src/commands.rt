@@ -1,12 +1,16 @@
 //! The commands of the program, with their arguments, options and help.
 
 use crate::arguments::{Color, Format};
-use clap::{Arg, ArgAction, Command, value_parser};
+use clap::error::ErrorKind;
+use clap::{Arg, ArgAction, Command, Error, value_parser};
 use nl_attr::Order;
 use std::alloc::{AllocError, Global};
 
 /// The version of the program and its libraries.
 const VERSION: &str = "0.3.0";
+
+/// The most entries that a table may have.
+pub(crate) const MOST_ENTRIES: i64 = 65536;
 
 /// The byte orders by their names.
 pub(crate) const ORDERS: [(&str, Order); 2] = [("little", Order::Little), ("big", Order::Big)];
@@ -75,6 +79,11 @@ const REQUEST_EXAMPLE: &str = "Example:
 prints
   1c0000001a0001030700000000000000020000000000000000000000";
 
+/// The help of `--seq` where the recording may name the number.
+const SEQ_OF_TABLE: &str =
+    "Sequence number (nlmsg_seq) of the request and its answers [default: that of the \
+    recording's first line `# seq N port N`]";
+
 fn file_argument<'a>(alloc: Global) -> Arg<'a> {
     Arg::new(alloc, "FILE").help(
         "Recording: lines of hexadecimal, one datagram each; `-` or none is standard input",
@@ -135,7 +144,6 @@ fn seq_option<'a>(alloc: Global) -> Arg<'a> {
     Arg::new(alloc, "seq")
         .long("seq")
         .value_name("N")
-        .required(true)
         .value_parser(value_parser!(u32))
         .help("Sequence number (nlmsg_seq) of the request and its answers")
 }
@@ -144,9 +152,8 @@ fn port_option<'a>(alloc: Global) -> Arg<'a> {
     Arg::new(alloc, "port")
         .long("port")
         .value_name("N")
-        .required(true)
         .value_parser(value_parser!(u32))
-        .help("Port id (nlmsg_pid) of the answers")
+        .help("Port id (nlmsg_pid) of the answers [default: that of the same line]")
 }
 
 fn family_option<'a>(alloc: Global) -> Arg<'a> {
@@ -171,7 +178,7 @@ fn entries_option<'a>(alloc: Global, values: Values<'a>) -> Arg<'a> {
     Arg::new(alloc, "entries")
         .long("entries")
         .value_name("N")
-        .value_parser(value_parser!(u32).range(0..=65536))
+        .value_parser(value_parser!(u32).range(0..=MOST_ENTRIES))
         .default_value(values.entries)
         .help("Greatest number of entries in the table, 0 to 65536")
 }
@@ -209,7 +216,7 @@ fn table_command<'a>(alloc: Global, values: Values<'a>) -> Result<Command<'a>, A
         )
         .after_help(TABLE_EXAMPLE)
         .arg(kind_option(alloc, values))?
-        .arg(seq_option(alloc))?
+        .arg(seq_option(alloc).help(SEQ_OF_TABLE))?
         .arg(port_option(alloc))?
         .arg(family_option(alloc))?
         .arg(depth_option(alloc, values))?
@@ -225,9 +232,25 @@ fn request_command<'a>(alloc: Global, values: Values<'a>) -> Result<Command<'a>,
         .about("Prints the request that begins a dump as one line of hexadecimal")
         .after_help(REQUEST_EXAMPLE)
         .arg(kind_option(alloc, values))?
-        .arg(seq_option(alloc))?
+        .arg(seq_option(alloc).required(true))?
         .arg(family_option(alloc))?
         .arg(order_option(alloc, values))
+}
+
+/// The command of this name, if there is one.
+fn command_named<'a>(
+    alloc: Global,
+    values: Values<'a>,
+    name: &str,
+) -> Result<Option<Command<'a>>, AllocError> {
+    let command = match name {
+        "show" => show_command(alloc, values)?,
+        "check" => check_command(alloc, values)?,
+        "table" => table_command(alloc, values)?,
+        "request" => request_command(alloc, values)?,
+        _ => return Ok(None),
+    };
+    Ok(Some(command))
 }
 
 fn with_all_commands<'a>(
@@ -254,13 +277,23 @@ pub(crate) fn rtnl<'a>(
         .version(VERSION)
         .about("Decodes recorded rtnetlink datagrams. Without a command it is `rtnl show`.")
         .after_help(EXAMPLES_AND_STATUSES);
-    let command = match first {
-        Some("show") => show_command(alloc, values)?,
-        Some("check") => check_command(alloc, values)?,
-        Some("table") => table_command(alloc, values)?,
-        Some("request") => request_command(alloc, values)?,
-        _ => return with_all_commands(alloc, values, program),
+    match command_named(alloc, values, first.unwrap_or(""))? {
+        // Nor is the command `help` named, which clap adds.
+        Some(command) => program.disable_help_subcommand(true).subcommand(command),
+        None => with_all_commands(alloc, values, program),
+    }
+}
+
+/// A usage error that the program found itself, with the usage of the command of this name.
+pub(crate) fn usage_error(
+    alloc: Global,
+    values: Values<'_>,
+    name: &str,
+    message: &str,
+) -> Result<Error, AllocError> {
+    let mut command = match command_named(alloc, values, name)? {
+        Some(command) => command.bin_name(format!(in alloc; "rtnl {name}")?.as_str())?,
+        None => rtnl(alloc, values, None)?,
     };
-    // Nor is the command `help` named, which clap adds.
-    program.disable_help_subcommand(true).subcommand(command)
+    command.error(ErrorKind::InvalidValue, message)
 }

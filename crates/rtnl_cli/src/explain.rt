@@ -1,14 +1,25 @@
-//! What `--explain` adds on standard error.
+//! What is said on standard error beside the fixed lines.
 
-use crate::arguments::Engine;
+use crate::arguments::{Engine, Work};
+use crate::hints::{hint_ignored, hint_missed, hint_too_long};
+use crate::name::Name;
 use crate::place::Around;
 use crate::subject::Subject;
 use nl_attr::Reason;
 use rtnl::dump::{Dump, FeedError, Session};
 use rtnl::frame::{Limits, ScanError};
-use rtnl::{LONGEST_INPUT, LineFault, RunError, Tape, datagrams, line_fault, tape_of};
+use rtnl::{LineFault, RunError, Tape, Verdict, datagrams, line_fault, tape_of};
 use std::alloc::AllocError;
 use std::io;
+
+/// How much is said.
+#[derive(Clone, Copy, Debug, PartialEq, Eq)]
+pub(crate) enum Detail {
+    /// What can be done about limits and numbers, as on a terminal.
+    Hints,
+    /// Also why something failed or was refused, as with `--explain`.
+    All,
+}
 
 /// The line of this number, counted from 1.
 fn line_at(input: &[u8], number: u32) -> Option<&[u8]> {
@@ -28,18 +39,33 @@ fn is_binary(byte: u8) -> bool {
     !matches!(byte, b'\t' | b'\r' | b' '..=b'~')
 }
 
+/// Whether an input begins with a byte order mark, that of UTF-8 or one of UTF-16.
+fn begins_with_mark(input: &[u8]) -> bool {
+    matches!(
+        input,
+        [0xef, 0xbb, 0xbf, ..] | [0xff, 0xfe, ..] | [0xfe, 0xff, ..]
+    )
+}
+
+/// What a byte in a line tells of the file that it stands in.
+fn hint_of_byte(input: &[u8], number: u32, column: usize, byte: u8) -> &'static str {
+    if number == 1 && column == 1 && begins_with_mark(input) {
+        "; the file begins with a byte order mark"
+    } else if is_binary(byte) {
+        "; the file is binary"
+    } else {
+        ""
+    }
+}
+
 /// Writes what is wrong with the line of this number.
-fn explain_line(rt: &HostRuntime, name: &str, input: &[u8], number: u32) -> io::Result<()> {
+fn explain_line(rt: &HostRuntime, name: Name<'_>, input: &[u8], number: u32) -> io::Result<()> {
     let Some(line) = line_at(input, number) else {
         return Ok(());
     };
     match line_fault(line) {
         Some(LineFault::Character { column, byte }) => {
-            let hint = if is_binary(byte) {
-                "; the file is binary"
-            } else {
-                ""
-            };
+            let hint = hint_of_byte(input, number, column, byte);
             eprintln!(rt;
                 "rtnl: {name}: line {number}, column {column}: byte 0x{byte:02x} is no \
                 hexadecimal digit{hint}"
@@ -54,20 +80,6 @@ fn explain_line(rt: &HostRuntime, name: &str, input: &[u8], number: u32) -> io::
             eprintln!(rt; "rtnl: {name}: line {number}: {digits} digits, an odd number{hint}")
         }
         None => Ok(()),
-    }
-}
-
-/// Writes why a run failed. The reason of a failed read or write has been written by the caller.
-pub(crate) fn explain_failure(
-    rt: &HostRuntime,
-    name: &str,
-    input: &[u8],
-    error: RunError,
-) -> io::Result<()> {
-    match error {
-        RunError::BadLine(number) => explain_line(rt, name, input, number),
-        RunError::ReadFault => { eprintln!(rt; "rtnl: {name}: longer than {LONGEST_INPUT} bytes") }
-        RunError::WriteFault | RunError::Memory => Ok(()),
     }
 }
 
@@ -156,13 +168,14 @@ fn explain_each(rt: &HostRuntime, found: &[Vec<u8>], limits: &Limits) -> io::Res
     Ok(())
 }
 
-/// Writes why datagrams were refused that answer a dump, up to its end. A new session begins each
-/// dump, so only memory can be refused.
-fn explain_dump(
+/// Writes why datagrams were refused that answer a dump, up to its end, and what can be done about
+/// what was missed or ignored. A new session begins each dump, so only memory can be refused.
+fn tell_dump(
     rt: &HostRuntime,
     found: &[Vec<u8>],
     limits: &Limits,
     dump: Dump,
+    detail: Detail,
 ) -> io::Result<()> {
     let mut session = Session::new(rt.alloc(), *limits)?;
     if session
@@ -174,30 +187,46 @@ fn explain_dump(
     for (index, datagram) in found.iter().enumerate() {
         match session.feed(datagram) {
             Ok(_) => continue,
-            Err(FeedError::NotWaiting) => return Ok(()),
-            Err(error) => explain_refusal(rt, index + 1, datagram, limits, error)?,
+            Err(FeedError::NotWaiting) => break,
+            Err(FeedError::Memory) => return Err(AllocError.into()),
+            Err(error) if detail == Detail::All => {
+                explain_refusal(rt, index + 1, datagram, limits, error)?
+            }
+            Err(_) => continue,
         }
     }
-    Ok(())
+    hint_missed(rt, &session, dump, limits)?;
+    hint_ignored(rt, found, dump, limits)
 }
 
-/// Writes why datagrams of a recording were refused. The recording was read, so only memory can be
-/// refused.
-pub(crate) fn explain_refusals(
-    rt: &HostRuntime,
-    input: &[u8],
-    engine: Engine,
-    limits: &Limits,
-) -> io::Result<()> {
+/// Writes what there is to say of the datagrams of a recording. The recording was read, so only
+/// memory can be refused.
+fn tell_datagrams(rt: &HostRuntime, input: &[u8], work: &Work, detail: Detail) -> io::Result<()> {
     let Ok(found) = datagrams(rt.alloc(), input) else {
         return Err(AllocError.into());
     };
-    match engine {
-        Engine::Show | Engine::ShowBytes(_) | Engine::Check => explain_each(
-            rt,
-            found.as_slice(),
-            limits,
-        ),
-        Engine::Table(dump) => explain_dump(rt, found.as_slice(), limits, dump),
+    let limits = &work.limits;
+    match (work.engine, detail) {
+        (Engine::Table(dump), _) => tell_dump(rt, found.as_slice(), limits, dump, detail),
+        (_, Detail::All) => explain_each(rt, found.as_slice(), limits),
+        (_, Detail::Hints) => Ok(()),
+    }
+}
+
+/// Writes what there is to say of a run over an input, behind the fixed line. The reason of a
+/// failed write is written by the caller.
+pub(crate) fn tell(
+    rt: &HostRuntime,
+    name: Name<'_>,
+    input: &[u8],
+    work: &Work,
+    answer: Result<Verdict, RunError>,
+    detail: Detail,
+) -> io::Result<()> {
+    match (answer, detail) {
+        (Ok(Verdict::Blemished), _) => tell_datagrams(rt, input, work, detail),
+        (Err(RunError::ReadFault), _) => hint_too_long(rt, name),
+        (Err(RunError::BadLine(number)), Detail::All) => explain_line(rt, name, input, number),
+        _ => Ok(()),
     }
 }

@@ -6,22 +6,29 @@ mod arguments;
 mod color;
 mod commands;
 mod explain;
+mod heading;
+mod hints;
+mod name;
 mod place;
 mod subject;
+mod terminal;
 
-use arguments::{Engine, Format, Parsed, Task, Work, unknown_command};
+use arguments::{Engine, Format, Parsed, Sought, Table, Task, Work, unknown_command, unnamed};
 use clap::Error;
 use color::row_format;
-use explain::{explain_failure, explain_refusals};
+use explain::{Detail, tell};
+use hints::hint_too_long;
+use name::{Escaped, Name};
 use rtnl::{
     LONGEST_INPUT, ReadSource, RunError, Sink, SliceSource, Source, VecSink, Verdict, WriteSink,
     run_check, run_check_json, run_request_ordered, run_show, run_show_bytes, run_show_json,
     run_table, run_table_json,
 };
-use std::alloc::Global;
+use std::alloc::{AllocError, Global};
 use std::fs::File;
 use std::io::{self, Read, Write};
 use std::process::ExitCode;
+use terminal::{STDERR, is_terminal};
 
 /// A datagram was refused, a dump is not complete, or a line is bad.
 const BLEMISHED: u8 = 1;
@@ -53,28 +60,35 @@ fn after(rt: &HostRuntime, written: io::Result<()>, status: ExitCode) -> ExitCod
     }
 }
 
-/// The exit status of a run, with a line on standard error where it failed.
-fn outcome(rt: &HostRuntime, answer: Result<Verdict, RunError>) -> ExitCode {
+/// The exit status of a run over a recording of this name, with a line on standard error where it
+/// failed. A file is named where it is what failed.
+fn outcome(rt: &HostRuntime, name: Name<'_>, answer: Result<Verdict, RunError>) -> ExitCode {
     match answer {
         Ok(Verdict::Clean) => ExitCode::SUCCESS,
         Ok(Verdict::Blemished) => ExitCode::from(BLEMISHED),
         Err(error) => {
-            let status = match error {
-                RunError::BadLine(_) => BLEMISHED,
-                RunError::ReadFault | RunError::WriteFault => FAULT,
-                RunError::Memory => MEMORY,
+            let (status, is_of_input) = match error {
+                RunError::BadLine(_) => (BLEMISHED, true),
+                RunError::ReadFault => (FAULT, true),
+                RunError::WriteFault => (FAULT, false),
+                RunError::Memory => (MEMORY, false),
             };
-            failed(eprintln!(rt; "rtnl: {error}"), status)
+            if is_of_input && name.is_file() {
+                failed(eprintln!(rt; "rtnl: {name}: {error}"), status)
+            } else {
+                failed(eprintln!(rt; "rtnl: {error}"), status)
+            }
         }
     }
 }
 
 /// Names the command that shows this file, on standard error.
 fn name_show(rt: &HostRuntime, dashes: &str, file: &str) -> io::Result<()> {
+    let name = Escaped(file);
     if file.is_empty() || file.contains(char::is_whitespace) {
-        eprintln!(rt; "rtnl: to show a recording: rtnl show {dashes}{file:?}")
+        eprintln!(rt; "rtnl: to show a recording: rtnl show {dashes}\"{name}\"")
     } else {
-        eprintln!(rt; "rtnl: to show a recording: rtnl show {dashes}{file}")
+        eprintln!(rt; "rtnl: to show a recording: rtnl show {dashes}{name}")
     }
 }
 
@@ -89,7 +103,7 @@ fn print_message(rt: &HostRuntime, message: &Error, arguments: &[String]) -> Exi
     }
     match printed {
         Ok(()) => ExitCode::SUCCESS,
-        Err(_) => outcome(rt, Err(RunError::WriteFault)),
+        Err(_) => outcome(rt, Name(None), Err(RunError::WriteFault)),
     }
 }
 
@@ -116,25 +130,78 @@ fn run<S: Source, W: Sink>(
 }
 
 /// Runs over what a reader gives; what is printed goes to standard output.
-fn run_over<R: Read + Drop>(rt: &HostRuntime, reader: R, work: &Work) -> ExitCode {
+fn run_over<R: Read + Drop>(rt: &HostRuntime, name: Name<'_>, reader: R, work: &Work) -> ExitCode {
+    let mut source = ReadSource::new(reader);
     let mut sink = WriteSink::new(io::writer(rt));
-    let answer = run(rt, &mut ReadSource::new(reader), &mut sink, work);
-    outcome(rt, answer)
+    let answer = run(rt, &mut source, &mut sink, work);
+    let status = outcome(rt, name, answer);
+    // Where no read failed, the input is too long.
+    let is_too_long = answer == Err(RunError::ReadFault) && source.failures() == 0;
+    if is_too_long && is_terminal(rt, STDERR) {
+        return after(rt, hint_too_long(rt, name), status);
+    }
+    status
 }
 
 /// All that a reader gives, up to the longest input and one byte more.
 fn read_all<R: Read + Drop>(alloc: Global, reader: R) -> io::Result<Vec<u8>> {
-    let mut reader = reader;
     let mut input = Vec::new(alloc);
-    let mut buffer = [0u8; 8192];
-    for _ in 0..=LONGEST_INPUT {
-        let count = reader.read(&mut buffer)?;
-        input.extend_from_slice(&buffer[..count])?;
-        if count == 0 || input.len() > LONGEST_INPUT {
-            break;
+    reader
+        .take(LONGEST_INPUT as u64 + 1)
+        .read_to_end(&mut input)?;
+    Ok(input)
+}
+
+/// The exit status of a read or a write that failed, after the fixed line and, where it is asked
+/// for, the system's reason.
+fn faulty(
+    rt: &HostRuntime,
+    fault: RunError,
+    name: Name<'_>,
+    error: &io::Error,
+    explain: bool,
+) -> ExitCode {
+    if error.kind() == io::ErrorKind::OutOfMemory {
+        return outcome(rt, name, Err(RunError::Memory));
+    }
+    let status = outcome(rt, name, Err(fault));
+    if explain {
+        return followed(eprintln!(rt; "rtnl: {name}: {error}"), status);
+    }
+    status
+}
+
+/// Runs over an input in memory, and says on a terminal what can be done about what was missed.
+fn run_kept(rt: &HostRuntime, name: Name<'_>, input: &[u8], work: &Work) -> ExitCode {
+    let mut source = SliceSource::new(input);
+    let mut sink = WriteSink::new(io::writer(rt));
+    let answer = run(rt, &mut source, &mut sink, work);
+    let status = outcome(rt, name, answer);
+    if answer == Ok(Verdict::Clean) || !is_terminal(rt, STDERR) {
+        return status;
+    }
+    let told = tell(rt, name, input, work, answer, Detail::Hints);
+    after(rt, told, status)
+}
+
+/// Runs over an input in memory, and explains on standard error what failed or was refused.
+fn run_explained(rt: &HostRuntime, name: Name<'_>, input: &[u8], work: &Work) -> ExitCode {
+    let mut source = SliceSource::new(input);
+    let mut sink = VecSink::new(rt.alloc());
+    // A sink in memory fails for memory alone.
+    let answer = match run(rt, &mut source, &mut sink, work) {
+        Err(RunError::WriteFault) => Err(RunError::Memory),
+        answer => answer,
+    };
+    if answer.is_ok() {
+        if let Err(error) = io::writer(rt).write_all(sink.bytes.as_slice()) {
+            let name = Name(Some("standard output"));
+            return faulty(rt, RunError::WriteFault, name, &error, true);
         }
     }
-    Ok(input)
+    let status = outcome(rt, name, answer);
+    let told = tell(rt, name, input, work, answer, Detail::All);
+    after(rt, told, status)
 }
 
 /// All of a file, or of standard input where none is named.
@@ -145,43 +212,63 @@ fn read_file(rt: &HostRuntime, file: Option<&str>) -> io::Result<Vec<u8>> {
     }
 }
 
-/// The exit status of a read or a write that failed, after the fixed line and the system's reason.
-fn faulty(rt: &HostRuntime, fault: RunError, name: &str, error: &io::Error) -> ExitCode {
-    if error.kind() == io::ErrorKind::OutOfMemory {
-        return outcome(rt, Err(RunError::Memory));
+/// Does with a recording what is asked for.
+fn perform_work(rt: &HostRuntime, work: &Work, explain: bool, file: Option<&str>) -> ExitCode {
+    let name = Name(file);
+    if explain {
+        return match read_file(rt, file) {
+            Ok(input) => run_explained(rt, name, input.as_slice(), work),
+            Err(error) => faulty(rt, RunError::ReadFault, name, &error, explain),
+        };
     }
-    let status = outcome(rt, Err(fault));
-    followed(eprintln!(rt; "rtnl: {name}: {error}"), status)
+    match file {
+        None => run_over(rt, name, rt.reader(), work),
+        Some(path) => match File::open(rt, path) {
+            Ok(opened) => run_over(rt, name, opened, work),
+            Err(_) => outcome(rt, name, Err(RunError::ReadFault)),
+        },
+    }
 }
 
-/// Does as `run_over`, and explains on standard error what failed or was refused.
-fn run_explained(rt: &HostRuntime, file: Option<&str>, work: &Work) -> ExitCode {
-    let name = file.unwrap_or("standard input");
-    let input = match read_file(rt, file) {
-        Ok(input) => input,
-        Err(error) => return faulty(rt, RunError::ReadFault, name, &error),
-    };
-    let mut source = SliceSource::new(input.as_slice());
-    let mut sink = VecSink::new(rt.alloc());
-    // A sink in memory fails for memory alone.
-    let answer = match run(rt, &mut source, &mut sink, work) {
-        Err(RunError::WriteFault) => Err(RunError::Memory),
-        answer => answer,
-    };
-    if answer.is_ok() {
-        if let Err(error) = io::writer(rt).write_all(sink.bytes.as_slice()) {
-            return faulty(rt, RunError::WriteFault, "standard output", &error);
-        }
+/// Prints the usage error of a table whose dump isn't known.
+fn print_unnamed(
+    rt: &HostRuntime,
+    sought: Sought,
+    name: Name<'_>,
+    error: Option<&io::Error>,
+) -> ExitCode {
+    match unnamed(rt.alloc(), sought, name, error) {
+        Ok(message) => failed(message.print(rt), USAGE),
+        Err(AllocError) => outcome(rt, name, Err(RunError::Memory)),
     }
-    let status = outcome(rt, answer);
-    let written = match answer {
-        Ok(Verdict::Clean) => Ok(()),
-        Ok(Verdict::Blemished) => {
-            explain_refusals(rt, input.as_slice(), work.engine, &work.limits)
-        }
-        Err(error) => explain_failure(rt, name, input.as_slice(), error),
+}
+
+/// Reads a recording as the answers to a dump. All of it is read first, and once, since it may name
+/// the numbers of the dump.
+fn perform_table(rt: &HostRuntime, table: &Table, explain: bool, file: Option<&str>) -> ExitCode {
+    let (name, sought) = (Name(file), table.sought);
+    let read = match file {
+        None => read_all(rt.alloc(), rt.reader()),
+        Some(path) => match File::open(rt, path) {
+            Ok(opened) => read_all(rt.alloc(), opened),
+            Err(error) if !sought.is_whole() && error.kind() != io::ErrorKind::OutOfMemory => {
+                return print_unnamed(rt, sought, name, Some(&error));
+            }
+            Err(error) => Err(error),
+        },
     };
-    after(rt, written, status)
+    let input = match read {
+        Ok(input) => input,
+        Err(error) => return faulty(rt, RunError::ReadFault, name, &error, explain),
+    };
+    let Some(work) = table.work(input.as_slice()) else {
+        return print_unnamed(rt, sought, name, None);
+    };
+    if explain {
+        run_explained(rt, name, input.as_slice(), &work)
+    } else {
+        run_kept(rt, name, input.as_slice(), &work)
+    }
 }
 
 /// Does what the arguments ask for.
@@ -191,19 +278,12 @@ fn perform(rt: &HostRuntime, task: &Task) -> ExitCode {
             work,
             explain,
             file,
-        } => {
-            let file = file.as_ref().map(String::as_str);
-            if *explain {
-                return run_explained(rt, file, work);
-            }
-            match file {
-                None => run_over(rt, rt.reader(), work),
-                Some(path) => match File::open(rt, path) {
-                    Ok(opened) => run_over(rt, opened, work),
-                    Err(_) => outcome(rt, Err(RunError::ReadFault)),
-                },
-            }
-        }
+        } => perform_work(rt, work, *explain, file.as_ref().map(String::as_str)),
+        Task::Table {
+            table,
+            explain,
+            file,
+        } => perform_table(rt, table, *explain, file.as_ref().map(String::as_str)),
         Task::Request {
             kind,
             family,
@@ -212,7 +292,7 @@ fn perform(rt: &HostRuntime, task: &Task) -> ExitCode {
         } => {
             let mut sink = WriteSink::new(io::writer(rt));
             let answer = run_request_ordered(rt.alloc(), &mut sink, *kind, *family, *seq, *order);
-            outcome(rt, answer)
+            outcome(rt, Name(None), answer)
         }
     }
 }
@@ -222,17 +302,17 @@ fn main(rt: HostRuntime) -> ExitCode {
     let given = match std::env::args(&rt) {
         Ok(given) => given,
         Err(error) => match error.kind() {
-            io::ErrorKind::OutOfMemory => return outcome(&rt, Err(RunError::Memory)),
+            io::ErrorKind::OutOfMemory => return outcome(&rt, Name(None), Err(RunError::Memory)),
             _ => return failed(eprintln!(rt; "rtnl: an argument is not text"), USAGE),
         },
     };
     let arguments: Vec<String> = match given.collect(alloc) {
         Ok(arguments) => arguments,
-        Err(_) => return outcome(&rt, Err(RunError::Memory)),
+        Err(_) => return outcome(&rt, Name(None), Err(RunError::Memory)),
     };
     match arguments::parse(alloc, arguments.as_slice()) {
         Ok(Parsed::Task(task)) => perform(&rt, &task),
         Ok(Parsed::Message(message)) => print_message(&rt, &message, arguments.as_slice()),
-        Err(_) => outcome(&rt, Err(RunError::Memory)),
+        Err(_) => outcome(&rt, Name(None), Err(RunError::Memory)),
     }
 }

@@ -1,0 +1,39 @@
+//! The line of a recording that names the dump which it answers.
+
+use std::str;
+
+/// A sequence number and a port id.
+#[derive(Clone, Copy, Debug, PartialEq, Eq)]
+pub(crate) struct Numbers {
+    pub seq: u32,
+    pub port: u32,
+}
+
+/// Whether a word is digits alone, so that no sign is one.
+pub(crate) fn is_digits(word: &str) -> bool {
+    !word.is_empty() && word.bytes().all(|byte| byte.is_ascii_digit())
+}
+
+/// The number of these digits, where it is below 2^32.
+fn number_of(word: &str) -> Option<u32> {
+    if is_digits(word) {
+        word.parse().ok()
+    } else {
+        None
+    }
+}
+
+/// The numbers in a line `# seq N port N`, which may have blanks at its end.
+fn numbers_of(line: &[u8]) -> Option<Numbers> {
+    let words = line.strip_prefix(b"# seq ")?;
+    let (seq, port) = str::from_utf8(words).ok()?.trim_end().split_once(" port ")?;
+    Some(Numbers {
+        seq: number_of(seq)?,
+        port: number_of(port)?,
+    })
+}
+
+/// The numbers in the first such line of a recording.
+pub(crate) fn numbers_in(input: &[u8]) -> Option<Numbers> {
+    input.split(|byte| *byte == b'\n').find_map(numbers_of)
+}

@@ -1,0 +1,106 @@
+# What standard error has where it is a terminal, read in by ../program.sh: one line more on what can be done.
+
+# on_terminal NAME STATUS OUTPUT ERRORS [ARGUMENT..]: a case as `expect` has it, standard error being a terminal.
+on_terminal() {
+  local name=$1 status=$2 output=$3 errors=$4
+  shift 4
+  check "on a terminal: $name" ends "$status" "$output" "$errors" tests/program/on_terminal.py "$program" "$@"
+}
+
+# A limit, and the option that lifts it. What was missed is counted by messages, a link that came twice by two.
+full="dump link seq 1 port 12345
+entry 1
+$loopback_later_body
+end done 0
+entries 1 missed 1 ignored 0 unfed 0 damaged no interrupted no
+received 160 visits 44
+complete no"
+lifted='rtnl: missed 1: the limit is 1 entries; --entries sets another, up to 65536'
+on_terminal 'a full table' 1 "$full" "$lifted" "${links[@]}" --entries 1 <<<"$three_messages"
+expect 'a full table, explained' 1 "$full" "$lifted" "${links[@]}" --entries 1 --explain <<<"$three_messages"
+expect 'a full table, neither' 1 "$full" '' "${links[@]}" --entries 1 <<<"$three_messages"
+on_terminal 'a full table in JSON' 1 "$any" 'rtnl: missed 3: the limit is 0 entries; --entries sets another, up to 65536' \
+  "${links[@]}" --entries 0 --format json <<<"$three_messages"
+on_terminal 'the standard number of entries' 1 "$any" \
+  'rtnl: missed 1: the limit is 4096 entries; --entries sets another, up to 65536' \
+  "${links[@]}" < <(many_links 4097 && echo "$finish")
+on_terminal 'the greatest number of entries' 1 "$any" \
+  'rtnl: missed 1: the limit is 65536 entries, and no option lifts it' \
+  "${links[@]}" --entries 65536 < <(many_links 65537 && echo "$finish")
+on_terminal 'a full table of rules, damaged' 1 'dump rule seq 1 port 12345
+datagram 1 refused cut at 48
+end done 0
+entries 0 missed 1 ignored 0 unfed 0 damaged yes interrupted no
+received 122 visits 32
+complete no' 'rtnl: missed 1: the limit is 0 entries; --entries sets another, up to 65536' \
+  table --kind rule --seq 1 --port 12345 --entries 0 < <(printf '%s\n' "$cut" "$rule $finish")
+
+# Messages of another dump.
+unheard='dump link seq 2 port 12345
+end none
+entries 0 missed 0 ignored 2 unfed 0 damaged no interrupted no
+received 68 visits 16
+complete no'
+known='rtnl: ignored 2: no message has seq 2 port 12345; all have seq 1 port 12345'
+other_seq=(table --kind link --seq 2 --port 12345)
+on_terminal 'another sequence number' 1 "$unheard" "$known" "${other_seq[@]}" < <(printf '%s\n' "$loopback" "$finish")
+expect 'another sequence number, explained' 1 "$unheard" "$known" "${other_seq[@]}" --explain \
+  < <(printf '%s\n' "$loopback" "$finish")
+expect 'another sequence number, neither' 1 "$unheard" '' "${other_seq[@]}" < <(printf '%s\n' "$loopback" "$finish")
+on_terminal 'another port, order big' 1 'dump link seq 1 port 1
+end none
+entries 0 missed 0 ignored 2 unfed 0 damaged no interrupted no
+received 68 visits 16
+complete no' 'rtnl: ignored 2: no message has seq 1 port 1; all have seq 1 port 12345' \
+  table --kind link --seq 1 --port 1 --order big <<<"$loopback_big $finish_big"
+on_terminal 'messages of two dumps' 1 'dump link seq 3 port 12345
+end none
+entries 0 missed 0 ignored 2 unfed 0 damaged no interrupted no
+received 68 visits 16
+complete no' 'rtnl: ignored 2: no message has seq 3 port 12345; the first has seq 2 port 12345' \
+  table --kind link --seq 3 --port 12345 < <(printf '%s\n' "${loopback/01000000/02000000}" "$finish")
+on_terminal 'another sequence number, and a refused datagram of its own' 1 'dump link seq 1 port 12345
+datagram 1 refused cut at 48
+end none
+entries 0 missed 0 ignored 1 unfed 0 damaged yes interrupted no
+received 78 visits 16
+complete no' 'rtnl: ignored 1: no message has seq 1 port 12345; all have seq 2 port 12345' \
+  "${links[@]}" < <(printf '%s\n' "$cut" "${finish/01000000/02000000}")
+on_terminal 'a dump without its end' 1 "dump link seq 1 port 12345
+entry 1
+$loopback_body
+end none
+entries 1 missed 0 ignored 1 unfed 0 damaged no interrupted no
+received 96 visits 32
+complete no" '' "${links[@]}" < <(printf '%s\n' "$loopback" "${loopback/01000000/02000000}")
+on_terminal 'a dump of another kind without its end' 1 'dump addr seq 1 port 12345
+end none
+entries 0 missed 0 ignored 1 unfed 0 damaged no interrupted no
+received 48 visits 16
+complete no' '' table --kind addr --seq 1 --port 12345 <<<"$loopback"
+on_terminal 'no datagram' 1 "$nothing" '' "${links[@]}" </dev/null
+on_terminal 'a complete table' 0 "$one_link" '' "${links[@]}" <<<"$loopback $finish"
+on_terminal 'a complete table, one message ignored' 0 "$any" '' "${links[@]}" <<<"$finish $loopback"
+
+# An input that is too long.
+too_long="$read_fault
+rtnl: standard input: longer than 16777216 bytes; a recording can be cut at any line"
+too_long_file="rtnl: $folder/too_long: read fault
+rtnl: $folder/too_long: longer than 16777216 bytes; a recording can be cut at any line"
+on_terminal 'an input too long' 3 '' "$too_long" <"$folder/too_long"
+on_terminal 'an input too long, checked' 3 '' "$too_long" check --format json <"$folder/too_long"
+on_terminal 'an input too long, of a table' 3 '' "$too_long" "${links[@]}" <"$folder/too_long"
+on_terminal 'a FILE too long' 3 '' "$too_long_file" show "$folder/too_long" </dev/null
+on_terminal 'a FILE too long, of a table' 3 '' "$too_long_file" "${links[@]}" "$folder/too_long" </dev/null
+expect 'a FILE too long, explained' 3 '' "$too_long_file" show --explain "$folder/too_long" </dev/null
+
+# Nothing more is said of these.
+on_terminal 'the longest input' 0 "$finish_text" '' <"$folder/longest"
+on_terminal 'a refused datagram' 1 "$loopback_refused" '' show --order big "$folder/link"
+on_terminal 'a bad line' 1 '' "$bad_first_line" <<<0g
+on_terminal 'a bad line of a table' 1 '' "$bad_first_line" "${links[@]}" <<<0g
+on_terminal 'a missing file' 3 '' "rtnl: $folder/missing: read fault" show "$folder/missing"
+on_terminal 'a folder' 3 '' "rtnl: $folder: read fault" show "$folder"
+on_terminal 'a folder as a table' 3 '' "rtnl: $folder: read fault" "${links[@]}" "$folder"
+check 'on a terminal: a full device' ends 3 '' "$write_fault" \
+  bash -c 'exec "$@" >/dev/full' full tests/program/on_terminal.py "$program" "${links[@]}" --entries 0 <<<"$three_messages"
