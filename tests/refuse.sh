@@ -183,6 +183,15 @@ table_each 'a table of neighbours in JSON' 0 neighbours neigh --entries 1 --form
 table_each 'a table of rules in JSON' 0 rules rule --format json
 table_each 'a table in JSON, a datagram refused' 1 cut link --format json
 
+# The numbers of a dump from the recording, and a usage error where it has none, or cannot be opened.
+{ echo '# seq 1 port 12345' && cat "$folder/links"; } >"$folder/named"
+refuse_each 'a table whose recording names its numbers' 0 "$folder/named" table --kind link
+check 'a table whose recording names its numbers, its entry' grep -qx 'entry 1' "$folder/found.output"
+refuse_each 'a table without numbers' 2 "$folder/links" table --kind link
+check 'a table without numbers, its usage' grep -q '^error: --seq and --port are needed, ' "$folder/found.errors"
+refuse_each 'a table without numbers, a missing file' 2 /dev/null table --kind link "$folder/missing"
+refuse_each 'a table of a missing file' 3 /dev/null table --kind link --seq 1 --port 1 "$folder/missing"
+
 refuse_each 'a request' 0 /dev/null request --kind link --seq 1
 refuse_each 'a request, order big' 0 /dev/null request --kind route --family 2 --seq 7 --order big
 check 'a request, its bytes' grep -qx 0000001c001a03010000000700000000020000000000000000000000 "$folder/found.output"
@@ -193,6 +202,9 @@ refuse_each 'a bad line of a table' 1 "$folder/bad" table --kind link --seq 1 --
 refuse_each 'a bad line, in JSON' 1 "$folder/bad" show --format json
 refuse_each 'a usage error' 2 /dev/null show --order middle
 refuse_each 'a format that is none' 2 /dev/null show --format xml
+refuse_each 'a number with a sign' 2 /dev/null request --kind link --seq=+1
+refuse_each 'a usage error that shows an escape' 2 /dev/null show $'--\x1b[m'
+check 'a usage error that shows an escape, its text' grep -qF '\x1b[m' "$folder/found.errors"
 refuse_each 'a number out of its range' 2 /dev/null table --kind link --seq 1 --port 1 --depth 33
 refuse_each 'a missing option' 2 /dev/null request --kind link
 refuse_each 'a missing file' 3 /dev/null show "$folder/missing"
@@ -210,6 +222,10 @@ refuse_each 'a refusal in bytes, in colour, explained' 1 "$folder/cut" show --by
 check 'a refusal in bytes, its row' grep -q ' .\[1;31m!! nlmsghdr: cut at 48, 10 bytes left.\[0m$' "$folder/found.output"
 refuse_each 'a refusal of a table, explained' 1 "$folder/cut" table --kind link --seq 1 --port 12345 --explain
 check 'a refusal of a table, explained, its line' [ "$(wc -l <"$folder/found.errors")" = 1 ]
+refuse_each 'a full table, explained' 1 "$folder/links" table --kind link --seq 1 --port 12345 --entries 0 --explain
+check 'a full table, explained, its line' grep -q '^rtnl: missed 1: ' "$folder/found.errors"
+refuse_each 'a table of other numbers, explained' 1 "$folder/links" table --kind link --seq 2 --port 1 --explain
+check 'a table of other numbers, explained, its line' grep -q '^rtnl: ignored 2: ' "$folder/found.errors"
 refuse_each 'a bad line, explained' 1 "$folder/bad" check --explain
 
 # ---- each call of the libraries
