@@ -243,10 +243,16 @@ fn print_unnamed(
     }
 }
 
-/// Reads a recording as the answers to a dump. All of it is read first, and once, since it may name
-/// the numbers of the dump.
+/// Reads a recording as the answers to a dump. It is read only once, so it is kept where it may name
+/// the numbers of the dump, or more may have to be said of it.
 fn perform_table(rt: &HostRuntime, table: &Table, explain: bool, file: Option<&str>) -> ExitCode {
     let (name, sought) = (Name(file), table.sought);
+    if let Some(work) = table.work(b"")
+        && !explain
+        && !is_terminal(rt, STDERR)
+    {
+        return perform_work(rt, &work, explain, file);
+    }
     let read = match file {
         None => read_all(rt.alloc(), rt.reader()),
         Some(path) => match File::open(rt, path) {
