@@ -97,7 +97,7 @@ leaves_own_staged() {
     --library /usr && has_files "$stage" "$own" && rm -r "$stage"
 }
 
-version=$(sed -n 's/^## //p' CHANGELOG.md | head -n 1)
+version=$(sed -n 's/^## \([0-9]\)/\1/p' CHANGELOG.md | head -n 1)
 program_things=(bin/rtnl share/man/man1/rtnl.1 share/bash-completion/completions/rtnl
   share/zsh/site-functions/_rtnl share/fish/vendor_completions.d/rtnl.fish
   share/rtnl/rtnl.jq share/rtnl/rtnl.schema.json)

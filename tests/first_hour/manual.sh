@@ -28,7 +28,7 @@ has_files() {
 has_versions() {
   grep -qxF "This page is of version $version." "$manual" &&
     in_section HISTORY | sed -n 's/^Version \([0-9.]*\) .*/\1/p' | sort |
-    diff - <(sed -n 's/^## //p' CHANGELOG.md | sort)
+    diff - <(sed -n 's/^## \([0-9]\)/\1/p' CHANGELOG.md | sort)
 }
 
 # It refers to others in the end, and to nothing else.

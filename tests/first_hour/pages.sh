@@ -42,7 +42,7 @@ check 'the options that the page names' same in_all_help in_page
 check 'the commands of the page' same commands_in_help commands_on_page
 
 # The newest heading of the changelog is the version that the program prints.
-version=$(sed -n 's/^## //p' CHANGELOG.md | head -n 1)
+version=$(sed -n 's/^## \([0-9]\)/\1/p' CHANGELOG.md | head -n 1)
 check 'the version is a number' grep -qxE '[0-9]+\.[0-9]+\.[0-9]+' <<<"$version"
 check 'the version of the program' ends 0 "rtnl $version" "$version_note" "$user/rtnl" --version
 check 'the version in short' ends 0 "rtnl $version" "$version_note" "$user/rtnl" -V

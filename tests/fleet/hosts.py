@@ -229,7 +229,8 @@ def add(folder: str, name: str, number: int, known: Known) -> None:
         write(f"{folder}/hosts/{name}/{file}", content)
         fault = f"1 hosts/{name}/{file}"
         if NO_DATAGRAM in found:
-            fault += f": rtnl: line {content.index(NO_DATAGRAM) + 1}: bad line"
+            line = content.index(NO_DATAGRAM) + 1
+            fault += f": rtnl: hosts/{name}/{file}: line {line}: bad line"
         else:
             printed += found
         if file != "links.hex" and not sort.is_whole:

@@ -323,7 +323,7 @@ fn escaped(alloc: Global, arguments: &[String]) -> Result<Option<Vec<String>>, A
 }
 
 /// What the arguments give, where clap's text shows them as they are.
-fn parsed(alloc: Global, arguments: &[String], values: Values<'_>) -> Result<Parsed, AllocError> {
+fn given_by(alloc: Global, arguments: &[String], values: Values<'_>) -> Result<Parsed, AllocError> {
     match parse_with(alloc, arguments, values) {
         Ok(task) => Ok(Parsed::Task(task)),
         Err(error) => match error.kind() {
@@ -336,13 +336,13 @@ fn parsed(alloc: Global, arguments: &[String], values: Values<'_>) -> Result<Par
 /// What the arguments, the program's name first, ask for. It fails only for memory.
 pub(crate) fn parse(alloc: Global, arguments: &[String]) -> Result<Parsed, AllocError> {
     let lists = Lists::new(alloc)?;
-    let message = match parsed(alloc, arguments, lists.values())? {
+    let message = match given_by(alloc, arguments, lists.values())? {
         Parsed::Message(message) => message,
         task => return Ok(task),
     };
     // A text of clap has the arguments in it, so it is made of what is shown of them.
     if let Some(shown) = escaped(alloc, arguments)?
-        && let Parsed::Message(message) = parsed(alloc, shown.as_slice(), lists.values())?
+        && let Parsed::Message(message) = given_by(alloc, shown.as_slice(), lists.values())?
     {
         return Ok(Parsed::Message(message));
     }
