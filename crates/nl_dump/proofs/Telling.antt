@@ -1,5 +1,5 @@
 -- The keys of a session's entries tell them apart, since their numbers come from bytes.
-use Rattle.std.proofs.Common.{◌≡◌, ℕ, ◌&&◌, ◌==◌, Bool, true, false, cond, List, [], ◌∷◌, ◌++◌, drop, map, reverse, Option, Some, None, Ok, Err, refl, sym, ap, ◌∙◌, subst, inl, inr}
+use Rattle.std.proofs.Common.{◌≡◌, ℕ, ◌&&◌, ◌==◌, Bool, true, false, cond, List, [], ◌∷◌, ◌++◌, drop, reverse, Option, Some, None, Ok, Err, refl, sym, ap, ◌∙◌, subst, inl, inr}
 use Rattle.std.specs.Prelude.{find, filter_map, option_map, bytes_eq, is_some, ◌↔◌}
 use Rattle.std.specs.List.{AllByRecursion, Contains}
 use Rattle.std.proofs.lemmas.List.Elements.{All-contains, All-from_recursion}
@@ -33,7 +33,7 @@ use Rattle.nl_dump.specs.declared.errors.FeedError.TheVariants as feed
 use Rattle.nl_dump.specs.Items.{Item, item_fields, item_key, body_item, family_item}
 use Rattle.nl_dump.specs.Answer.{belongs, end_in, item_in, up_to_end, items_of}
 use Rattle.nl_dump.specs.View.{View, table_at}
-use Rattle.nl_dump.specs.Whole.{Call, begins, feeds, abandons, Calls, Course, goes_on, with_messages, with_damage, given_up, Dumps, Follows, items_at, SessionOf}
+use Rattle.nl_dump.specs.Whole.{Call, begins, feeds, abandons, Course, goes_on, with_messages, with_damage, given_up, Dumps, items_at}
 use Rattle.nl_dump.specs.Headline.{FeedBytes, EntriesTellApart}
 use Rattle.nl_dump.proofs.Courses.{calls_end}
 

@@ -198,7 +198,7 @@ impl Link {
     pub fn kind(&self) -> Option<&[u8]>
         ensures { option_copied result
             ≡ text_view fixed.IFLA_INFO_KIND
-                (items_view attr_fixed.IFLA_LINKINFO (attrs_in self.now)) }
+            (items_view attr_fixed.IFLA_LINKINFO (attrs_in self.now)) }
     {
         text_of(list_of(&self.attrs, IFLA_LINKINFO), IFLA_INFO_KIND)
     }
