@@ -75,7 +75,7 @@ in_both() {
     ./install --remove "$prefix" >/dev/null && [ ! -e "$prefix" ]
 }
 
-# staged LIBDIR: a package is made under a folder that nothing names but the record.
+# staged LIBDIR: a package is made under a folder that no file names, the record neither.
 staged() {
   local stage=$folder/stage
   mapfile -t files < <(library_in "$1")
@@ -84,7 +84,7 @@ staged() {
       --library --libdir "/usr/$1" /usr &&
     has_files "$stage/usr" "${files[@]}" &&
     has_lines "$stage/usr/$1/pkgconfig/rtnlc.pc" prefix=/usr "libdir=\${prefix}/$1" &&
-    [ "$(grep -rlF "$stage" "$stage")" = "$stage/usr/share/rtnl/installed" ] &&
+    [ -z "$(grep -rlF "$stage" "$stage")" ] &&
     DESTDIR=$stage does 0 "$(library_in "$1" | sed "s|^|removed $stage/usr/|")" --remove /usr &&
     [ -z "$(ls -A "$stage")" ] && rmdir "$stage"
 }

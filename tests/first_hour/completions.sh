@@ -57,7 +57,7 @@ check 'the home folder' takes_home
 check 'a file of another origin' is_blocked bin/rtnl cp "$prefix/bin/other"
 check 'a link of another origin' is_blocked bin/rtnl ln -s other
 check 'a changed file' leaves_changed
-check 'help of the installation' ends 0 "$(sed -n "/^  cat <<'TEXT'\$/,/^TEXT\$/p" install | sed '1d;$d')" '' \
+check 'help of the installation' ends 0 "$(sed -n '/^HELP = """/,/^"""$/p' install | sed '1d;$d')" '' \
   "$user/install" --help
 check 'two prefixes' ends 2 '' 'install: more than one PREFIX; see --help' "$user/install" "$prefix" "$prefix"
 check 'an unknown option' ends 2 '' "install: unknown option '--unknown'; see --help" "$user/install" --unknown
