@@ -68,7 +68,7 @@ def reach(path: str, make: bool, below: Optional[Reached] = None) -> Reached:
         if part in ("", "."):
             continue
         fd, is_new = enter(now.fd, part, make)
-        status, at = os.fstat(fd), os.path.normpath(f"{now.path}/{part}")
+        status, at = os.fstat(fd), os.path.normpath(f"{now.path.rstrip('/')}/{part}")
         if stat.S_ISDIR(status.st_mode):
             now = Reached(fd, at, now.fd, is_new)
             continue

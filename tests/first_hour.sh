@@ -86,6 +86,8 @@ inside=no
 . tests/first_hour/unproved.sh
 . tests/first_hour/ended.sh
 . tests/first_hour/installed.sh
+. tests/first_hour/prepared.sh
+. tests/first_hour/records.sh
 . tests/first_hour/refusals.sh
 
 finish
