@@ -43,7 +43,8 @@ TEXTS = re.compile(r"(LICEN[CS]E|COPYING|COPYRIGHT|NOTICE|UNLICENSE)\b")
 AFTER = re.compile(r"\bthe Rust crate `([\w-]+)`(?: (\d+(?:\.\w+)*))?")
 COPYRIGHT = re.compile(r"^\s*(Copyright\b(?!.*[\[{]yyyy).*\S)", re.M)
 # An Apache licence ends so, and what may come behind it.
-END = re.compile("END OF TERMS AND CONDITIONS(?: APPENDIX: How to apply the Apache License .*)?$")
+END = re.compile("END OF TERMS AND CONDITIONS(?: APPENDIX: How to apply the Apache License .*"
+                 " governing permissions and limitations under the License\\.)?$")
 
 
 def read(path: str) -> str:
@@ -94,7 +95,8 @@ def licences(folder: str) -> Iterator[str]:
 
 def entry(folder: str, uses: List[str]) -> str:
     """What is said of a library that has licence texts."""
-    after = AFTER.search(read(f"{folder}/README.md"))
+    page = f"{folder}/README.md"
+    after = AFTER.search(read(page)) if os.path.exists(page) else None
     named = f", after {' '.join(filter(None, after.groups()))}" if after else ""
     head = f"{os.path.basename(folder)} ({', '.join(uses)}){named}"
     return "\n".join(["", head, *licences(folder), ""])

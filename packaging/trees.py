@@ -1,0 +1,90 @@
+"""The files of a package, in memory, and the archive of them: one content gives the same bytes."""
+import gzip
+import io
+import os
+import stat
+import tarfile
+from typing import Dict, Iterator, NamedTuple
+
+
+class File(NamedTuple):
+    """A file's bytes and mode, or of a link what it points to."""
+
+    text: bytes
+    mode: int
+    is_link: bool = False
+
+
+Tree = Dict[str, File]
+
+
+def read(folder: str) -> Tree:
+    """The files below a folder, by their paths from there."""
+    found: Tree = {}
+    for at, _, names in os.walk(folder):
+        for name in names:
+            path = f"{at}/{name}"
+            place = os.path.relpath(path, folder)
+            if os.path.islink(path):
+                found[place] = File(os.fsencode(os.readlink(path)), 0o777, True)
+                continue
+            with open(path, "rb") as file:
+                found[place] = File(file.read(), stat.S_IMODE(os.stat(path).st_mode))
+    return found
+
+
+def folders(tree: Tree) -> Iterator[str]:
+    """The folders in which the files are, each before those in it."""
+    found = set()
+    for place in tree:
+        while "/" in place:
+            place = place.rpartition("/")[0]
+            found.add(place)
+    return iter(sorted(found))
+
+
+def packed(text: bytes) -> bytes:
+    """As gzip -9n packs it."""
+    to = io.BytesIO()
+    with gzip.GzipFile("", "wb", 9, to, mtime=0) as file:
+        file.write(text)
+    return to.getvalue()
+
+
+def write(tree: Tree, folder: str, time: int) -> None:
+    """Writes the files and folders below a folder, all of this time."""
+    for place in folders(tree):
+        os.makedirs(f"{folder}/{place}", 0o755)
+    for place, file in tree.items():
+        path = f"{folder}/{place}"
+        if file.is_link:
+            os.symlink(file.text, path)
+        else:
+            with open(path, "wb") as to:
+                to.write(file.text)
+            os.chmod(path, file.mode)
+        os.utime(path, (time, time), follow_symlinks=False)
+    for place in [*folders(tree)][::-1]:
+        os.utime(f"{folder}/{place}", (time, time))
+    os.utime(folder, (time, time))
+
+
+def archive(tree: Tree, name: str, time: int) -> bytes:
+    """The archive NAME.tar.gz, in which all is root's, sorted and of this time, below NAME."""
+    to = io.BytesIO()
+    with tarfile.open(fileobj=to, mode="w", format=tarfile.GNU_FORMAT) as tar:
+        for place in ["", *sorted([*folders(tree), *tree])]:
+            entry = tarfile.TarInfo(f"{name}/{place}".rstrip("/"))
+            entry.mtime, entry.uname, entry.gname = time, "root", "root"
+            file = tree.get(place)
+            if file is None:
+                entry.type, entry.mode = tarfile.DIRTYPE, 0o755
+                tar.addfile(entry)
+            elif file.is_link:
+                entry.type, entry.mode = tarfile.SYMTYPE, file.mode
+                entry.linkname = os.fsdecode(file.text)
+                tar.addfile(entry)
+            else:
+                entry.mode, entry.size = file.mode, len(file.text)
+                tar.addfile(entry, io.BytesIO(file.text))
+    return packed(to.getvalue())
