@@ -1,3 +1,5 @@
+/* SPDX-License-Identifier: MIT OR Apache-2.0 */
+/* Copyright (c) 2026 the rtnl authors */
 /*
  * rtnlc: a proved reader of rtnetlink datagrams, for C and C++ (netlink(7), rtnetlink(7),
  * RFC 3549).

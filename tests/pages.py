@@ -5,7 +5,8 @@ Each relative link of each .md file leads to a file of the repository, and its f
 heading there, by the anchors that GitHub makes. A link to the glossary of docs/FORMAT.md is of a
 word that stands there, and a page links a word once. Each claim on docs/PROOF.md under the name of
 a crate begins with functions of that crate, and has clauses of their contracts in brackets. Each
-function in a table of README.md has the clauses that stand behind it. Each block of Rattle, C, Go,
+function in a table of README.md or of SECURITY.md has the clauses that stand behind it, and those
+of SECURITY.md stand in docs/THEOREMS.md. Each block of Rattle, C, Go,
 Python or Rust on README.md, docs/LIBRARIES.md and docs/C.md stands in crates/rtnl_uses, apart from
 its contracts, or in examples/. The tables of calls and of codes on docs/C.md have those of
 include/rtnlc.h.
@@ -25,6 +26,7 @@ from contracts import Contracts, Texts
 from crates import ROOT, Crates, listed
 
 README, PROOF, THEOREMS = "README.md", "docs/PROOF.md", "docs/THEOREMS.md"
+SECURITY = "SECURITY.md"
 FORMAT, LIBRARIES, C = "docs/FORMAT.md", "docs/LIBRARIES.md", "docs/C.md"
 HEADER = "include/rtnlc.h"
 GLOSSARY = "words"
@@ -235,6 +237,16 @@ def wrong_citations(repository: Repository, page: str) -> Iterator[str]:
             yield f"no function {call} has the clauses {names}"
 
 
+def lost_theorems(repository: Repository, page: str) -> Iterator[str]:
+    """What the tables of a page cite that no section of docs/THEOREMS.md has by the same names."""
+    parts = [{*NAME.findall(text)} for _, text in sections(repository.texts[THEOREMS])]
+    for row in ROW.findall(repository.texts[page])[2:]:
+        for theorem in row.split("|")[-2].split(";"):
+            wanted = {*NAME.findall(theorem)}
+            if not wanted or not any(wanted <= part for part in parts):
+                yield f"no section of {THEOREMS} has {theorem.strip()}"
+
+
 # The blocks of code.
 
 
@@ -285,7 +297,8 @@ TESTS: List[Tuple[str, Check, Callable[[Repository], List[str]]]] = [
     ("the links of", lost_links, Repository.pages),
     ("words of the glossary on", lost_words, Repository.pages),
     ("the claims on", wrong_claims, Repository.promising),
-    ("the clauses on", wrong_citations, lambda _: [README]),
+    ("the clauses on", wrong_citations, lambda _: [README, SECURITY]),
+    ("the theorems on", lost_theorems, lambda _: [SECURITY]),
     ("the code on", strange_blocks, lambda _: SHOWING),
     ("the calls on", lost_calls, lambda _: [C]),
     ("the codes on", lost_codes, lambda _: [C]),
@@ -353,6 +366,15 @@ FAULTS: Dict[Check, List[Fault]] = {
         Fault("a function of a table that there isn't", README, README, "`is_canonical`:",
               "`is_canon`:"),
         Fault("a page without clauses", README, README, "`: `", "` `"),
+    ],
+    lost_theorems: [
+        Fault("a theorem that there isn't", SECURITY, SECURITY, "`laws::headline_of_calls`",
+              "`laws::headline_of_call`"),
+        Fault("a clause of another theorem", SECURITY, SECURITY, "`step`, `within`",
+              "`step`, `kept`"),
+        Fault("a theorem that was renamed", SECURITY, THEOREMS, "`laws::stream_is_session`",
+              "`laws::stream_is_it`"),
+        Fault("a promise without a theorem", SECURITY, SECURITY, "`rtnlc_scan`: `scanned`", "it"),
     ],
     strange_blocks: [
         Fault("another line of Rattle", LIBRARIES, "crates/rtnl_uses/src/attributes.rt",

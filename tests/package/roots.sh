@@ -11,7 +11,8 @@ new_root() {
     cp -L /lib64/ld-linux-x86-64.so.2 "$root/lib64" &&
     cp -L "$(ldd /bin/sh | sed -nE 's|.* => (/.*/libc\.so\.6) .*|\1|p')" "$root/lib/x86_64-linux-gnu" &&
     printf '%s\n' 'Package: libc6' 'Status: install ok installed' "Version: $1" 'Architecture: amd64' \
-      'Multi-Arch: same' 'Maintainer: none <none@invalid>' 'Description: none' >"$root/var/lib/dpkg/status"
+      'Multi-Arch: same' 'Maintainer: none <none@invalid>' 'Description: none' \
+      >"$root/var/lib/dpkg/status" && touch "$root/var/lib/dpkg/info/libc6:amd64".{list,md5sums}
 }
 dpkg_in() { dpkg --root="$root" --log=/dev/null "$@" >"$folder/dpkg" 2>&1 </dev/null; }
 in_root() { chroot "$root" "$@"; }
@@ -76,10 +77,10 @@ elif has dpkg 'packages in a root of their own'; then
   check 'the packages are removed' removes
   glibc=$(needed "$folder/usr/usr/bin/rtnl")
   check 'an older C library' needs "${glibc%.*}.$((${glibc##*.} - 1))" "${debs[0]}" \
-    "rtnl depends on libc6 (>= $glibc)"
+    "depends on libc6 (>= $glibc)"
   check 'the same C library' eval 'new_root "$glibc" && dpkg_in -i "$made/${debs[0]}"'
   if [ "$has_library" = yes ]; then
     check 'the development package alone' needs "$glibc" "${debs[2]}" \
-      "librtnlc-dev depends on librtnlc0 (= $version)"
+      "depends on librtnlc0 (= $version)"
   fi
 fi

@@ -23,8 +23,8 @@ elsewhere() { cd "$folder/clone with blanks" && ./package "${how[@]}" >/dev/null
 
 # differs: another time gives other bytes.
 differs() {
-  SOURCE_DATE_EPOCH=1000000000 ./package "${how[@]}" "$folder/other" >/dev/null && time=1000000000 &&
-    ! same "$folder/other" >/dev/null && is_tidy "$folder/other/${debs[0]}" && is_tidy "$folder/other/$archive.tar.gz"
+  SOURCE_DATE_EPOCH=1000000000 ./package "${how[@]}" "$folder/later" >/dev/null && time=1000000000 &&
+    ! same "$folder/later" >/dev/null && is_tidy "$folder/later/${debs[0]}" && is_tidy "$folder/later/$archive.tar.gz"
 }
 
 check 'the same bytes again' again
