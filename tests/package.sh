@@ -15,7 +15,8 @@ folder=$(mktemp -d) || exit 1
 trap 'rm -rf "$folder"' EXIT
 . tests/counting.sh
 
-tests/packages.sh cc gcc objcopy binutils pkg-config pkg-config dpkg-deb dpkg lintian lintian git git
+tests/packages.sh cc gcc objcopy binutils pkg-config pkg-config dpkg-deb dpkg lintian lintian \
+  git git
 
 # has COMMAND WHAT: the command is here, or a line says that this is skipped.
 has() { command -v "$1" >/dev/null || ! echo "skipped: $2, since $1 is not here"; }
@@ -33,7 +34,9 @@ ends() {
 # What is made here, and how ./package is told of it.
 how=()
 said_of_program='program proved where it was built'
-is_proved() { (cd tests && python3 -B -c 'import proved, sys; sys.exit(not proved.is_proved(sys.argv[1]))' "$1"); }
+is_proved() {
+  (cd tests && python3 -B -c 'import proved, sys; sys.exit(not proved.is_proved(sys.argv[1]))' "$1")
+}
 is_proved "$program" || how+=(--unproved) said_of_program='program NOT PROVED where it was built'
 has_library=yes
 if ! RTNL_BUILD=no launch/build.py library 2>/dev/null; then
@@ -43,7 +46,8 @@ fi
 version=$(sed -n 's/^## //p' CHANGELOG.md | head -n 1)
 archive=rtnl-$version-x86_64-linux
 debs=("rtnl_${version}_amd64.deb")
-[ "$has_library" = no ] || debs+=("librtnlc0_${version}_amd64.deb" "librtnlc-dev_${version}_amd64.deb")
+[ "$has_library" = no ] ||
+  debs+=("librtnlc0_${version}_amd64.deb" "librtnlc-dev_${version}_amd64.deb")
 made=$folder/made
 
 . tests/package/notice.sh

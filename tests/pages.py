@@ -371,7 +371,7 @@ FAULTS: Dict[Check, List[Fault]] = {
         Fault("a theorem that there isn't", SECURITY, SECURITY, "`laws::headline_of_calls`",
               "`laws::headline_of_call`"),
         Fault("a clause of another theorem", SECURITY, SECURITY, "`step`, `within`",
-              "`step`, `kept`"),
+              "`step`, `visits`"),
         Fault("a theorem that was renamed", SECURITY, THEOREMS, "`laws::stream_is_session`",
               "`laws::stream_is_it`"),
         Fault("a promise without a theorem", SECURITY, SECURITY, "`rtnlc_scan`: `scanned`", "it"),

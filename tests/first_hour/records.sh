@@ -41,7 +41,8 @@ stays_below() { has_record printf '%s\n' "$1" "file $sum_outside bin/rtnl" && ta
 # is_put: the program is put over an empty prefix.
 is_put() { prepared && put_as "$target" >/dev/null 2>&1; }
 
-# stays_behind PLACE: this folder of what was put is moved out of the prefix, and a link leads to it.
+# stays_behind PLACE: this folder of what was put is moved out of the prefix, and a link leads
+# there.
 stays_behind() {
   local place gone=()
   is_put && mv "$target/$1" "$outside/moved" && ln -s "$outside/moved" "$target/$1" || return
@@ -72,7 +73,8 @@ leaves_linked_folder() {
 # are removed, and those above it left.
 goes_over_old() {
   has_record printf '%s\n' "folder $room" "folder $target" \
-    "folder $target/"{bin,share,share/rtnl} "file $sum_outside bin/rtnl" && takes_program && [ -d "$room" ] && [ ! -e "$target" ]
+    "folder $target/"{bin,share,share/rtnl} "file $sum_outside bin/rtnl" && takes_program &&
+    [ -d "$room" ] && [ ! -e "$target" ]
 }
 
 # Another user's record, or one that every user can write, with the sum of a file of another origin.
@@ -89,9 +91,8 @@ is_open_to_all() {
 # replaces_own: what the record has is replaced, and what was changed since is not.
 replaces_own() {
   is_put && put_as "$target" >/dev/null 2>&1 && echo >>"$target/bin/rtnl" &&
-    listed "$target" >"$folder/before" && ends 1 '' \
-    "install: $target/bin/rtnl is there and was not installed by this script; nothing was installed" \
-    put_as "$target" && listed "$target" | diff "$folder/before" -
+    listed "$target" >"$folder/before" &&
+    is_refused bin/rtnl 'is there and was not installed by this script' && listed "$target" | diff "$folder/before" -
 }
 
 # goes_on: an installation that ended between two files goes on, where the record has the sums of

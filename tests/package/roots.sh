@@ -3,16 +3,19 @@
 
 root=$folder/root
 line=1400000003000200010000003930000000000000
-text=$'datagram 1 bytes 20\nmessage 3 done flags 0x0002 MULTI seq 1 port 12345\n  done status 0 tail -'
+text='datagram 1 bytes 20
+message 3 done flags 0x0002 MULTI seq 1 port 12345
+  done status 0 tail -'
 
 # new_root VERSION: a root that takes this version of the C library for installed.
 new_root() {
-  rm -rf "$root" && mkdir -p "$root"/{lib64,tmp,lib/x86_64-linux-gnu} "$root"/var/lib/dpkg/{info,updates} &&
-    cp -L /lib64/ld-linux-x86-64.so.2 "$root/lib64" &&
-    cp -L "$(ldd /bin/sh | sed -nE 's|.* => (/.*/libc\.so\.6) .*|\1|p')" "$root/lib/x86_64-linux-gnu" &&
-    printf '%s\n' 'Package: libc6' 'Status: install ok installed' "Version: $1" 'Architecture: amd64' \
-      'Multi-Arch: same' 'Maintainer: none <none@invalid>' 'Description: none' \
-      >"$root/var/lib/dpkg/status" && touch "$root/var/lib/dpkg/info/libc6:amd64".{list,md5sums}
+  rm -rf "$root" && mkdir -p "$root"/{lib64,tmp,lib/x86_64-linux-gnu} \
+    "$root"/var/lib/dpkg/{info,updates} && cp -L /lib64/ld-linux-x86-64.so.2 "$root/lib64" &&
+    cp -L "$(ldd /bin/sh | sed -nE 's|.* => (/.*/libc\.so\.6) .*|\1|p')" \
+      "$root/lib/x86_64-linux-gnu" &&
+    printf '%s\n' 'Package: libc6' 'Status: install ok installed' "Version: $1" \
+      'Architecture: amd64' 'Multi-Arch: same' 'Maintainer: none <none@invalid>' \
+      'Description: none' >"$root/var/lib/dpkg/status" && touch "$root/var/lib/dpkg/info/libc6:amd64".{list,md5sums}
 }
 dpkg_in() { dpkg --root="$root" --log=/dev/null "$@" >"$folder/dpkg" 2>&1 </dev/null; }
 in_root() { chroot "$root" "$@"; }
@@ -24,7 +27,7 @@ has_no_tools() { [ -z "$(find "$root" -name 'python*' -o -name 'rt' -o -name cc 
 # installs, removes: all packages at once, and nothing of them is left.
 installs() { dpkg_in -i "${debs[@]/#/"$made/"}" || ! cat "$folder/dpkg"; }
 removes() {
-  dpkg_in -P $(printf '%s\n' "${debs[@]%%_*}" | tac) && [ -z "$(find "$root" -name '*rtnl*' ! -path '*/dpkg/*')" ]
+  dpkg_in -P "${debs[@]%%_*}" && [ -z "$(find "$root" -name '*rtnl*' ! -path '*/dpkg/*')" ]
 }
 
 # needs VERSION DEB LINE: with this version of the C library, dpkg doesn't set the package up.
@@ -47,7 +50,8 @@ unpacks() { mkdir -p "$root/opt" && tar -C "$root/opt" -xzf "$made/$archive.tar.
 flags_unpacked() { PKG_CONFIG_PATH=$unpacked/lib/pkgconfig pkg-config "$@" rtnlc; }
 builds_unpacked() {
   # shellcheck disable=SC2046
-  cc -Wall -Wextra -Werror tests/package/finish.c $(flags_unpacked --cflags --libs) -o "$folder/shared" &&
+  cc -Wall -Wextra -Werror tests/package/finish.c $(flags_unpacked --cflags --libs) \
+    -o "$folder/shared" &&
     cc tests/package/finish.c $(flags_unpacked --cflags) \
       "$(flags_unpacked --variable=libdir)/librtnlc.a" -o "$folder/static"
 }
@@ -69,7 +73,8 @@ elif has dpkg 'packages in a root of their own'; then
   check 'the program of the archive there' shows in_root "/opt/$archive/bin/rtnl" show
   if [ "$has_library" = yes ] && has cc 'a program in C' && has pkg-config 'a program in C'; then
     check 'a program in C is built over the archive' builds_unpacked
-    check 'it runs with the shared library' shows env "LD_LIBRARY_PATH=$unpacked/lib" "$folder/shared"
+    check 'it runs with the shared library' \
+      shows env "LD_LIBRARY_PATH=$unpacked/lib" "$folder/shared"
     check 'it runs with the static library' shows "$folder/static"
     rm -r "$unpacked" && rm "$root/finish"
   fi

@@ -7,8 +7,9 @@ same() {
 }
 again() {
   sleep 1.1
-  (umask 077 && env TZ=Asia/Tokyo LC_ALL=C SOURCE_DATE_EPOCH="$time" ./package "${how[@]}" "$folder/again") \
-    >/dev/null && same "$folder/again" && [ "$(stat -c %a "$folder/again/$archive.tar.gz")" = 644 ]
+  (umask 077 && env TZ=Asia/Tokyo LC_ALL=C SOURCE_DATE_EPOCH="$time" \
+    ./package "${how[@]}" "$folder/again" >/dev/null) && same "$folder/again" &&
+    [ "$(stat -c %a "$folder/again/$archive.tar.gz")" = 644 ]
 }
 
 # cloned: the commit in another place, with what is built here.
@@ -23,8 +24,10 @@ elsewhere() { cd "$folder/clone with blanks" && ./package "${how[@]}" >/dev/null
 
 # differs: another time gives other bytes.
 differs() {
-  SOURCE_DATE_EPOCH=1000000000 ./package "${how[@]}" "$folder/later" >/dev/null && time=1000000000 &&
-    ! same "$folder/later" >/dev/null && is_tidy "$folder/later/${debs[0]}" && is_tidy "$folder/later/$archive.tar.gz"
+  time=1000000000
+  SOURCE_DATE_EPOCH=$time ./package "${how[@]}" "$folder/later" >/dev/null &&
+    ! same "$folder/later" >/dev/null && is_tidy "$folder/later/${debs[0]}" &&
+    is_tidy "$folder/later/$archive.tar.gz"
 }
 
 check 'the same bytes again' again
