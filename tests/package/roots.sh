@@ -15,7 +15,8 @@ new_root() {
       "$root/lib/x86_64-linux-gnu" &&
     printf '%s\n' 'Package: libc6' 'Status: install ok installed' "Version: $1" \
       'Architecture: amd64' 'Multi-Arch: same' 'Maintainer: none <none@invalid>' \
-      'Description: none' >"$root/var/lib/dpkg/status" && touch "$root/var/lib/dpkg/info/libc6:amd64".{list,md5sums}
+      'Description: none' >"$root/var/lib/dpkg/status" &&
+    touch "$root/var/lib/dpkg/info/libc6:amd64".{list,md5sums}
 }
 dpkg_in() { dpkg --root="$root" --log=/dev/null "$@" >"$folder/dpkg" 2>&1 </dev/null; }
 in_root() { chroot "$root" "$@"; }
