@@ -11,6 +11,7 @@ from typing import Iterator, List, NamedTuple, NoReturn, Optional, Tuple
 import record
 from crates import ROOT
 from folders import Folder, Linked, Reached, Taken, reach
+from lines import say
 from record import NotOurs, Record
 from rows import RECORD, Row, filled, version
 from steps import Interrupted, undisturbed
@@ -32,21 +33,6 @@ class Target(NamedTuple):
     stage: str
     shown: str
     libdir: str
-
-
-# What could not be said on standard output.
-unsaid: List[OSError] = []
-
-
-def say(text: str, to: int = 1) -> None:
-    """Writes a line. One that can't be written to standard output is kept in mind."""
-    line = f"{text}\n".encode(errors="surrogateescape")
-    try:
-        while line:
-            line = line[os.write(to, line):]
-    except OSError as error:
-        if to == 1:
-            unsaid.append(error)
 
 
 def complain(text: str) -> None:

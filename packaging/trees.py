@@ -3,8 +3,11 @@ import gzip
 import io
 import os
 import stat
-import tarfile
+import subprocess
+import tempfile
 from typing import Dict, Iterator, NamedTuple
+
+from steps import Failed
 
 
 class File(NamedTuple):
@@ -71,20 +74,12 @@ def write(tree: Tree, folder: str, time: int) -> None:
 
 def archive(tree: Tree, name: str, time: int) -> bytes:
     """The archive NAME.tar.gz, in which all is root's, sorted and of this time, below NAME."""
-    to = io.BytesIO()
-    with tarfile.open(fileobj=to, mode="w", format=tarfile.GNU_FORMAT) as tar:
-        for place in ["", *sorted([*folders(tree), *tree])]:
-            entry = tarfile.TarInfo(f"{name}/{place}".rstrip("/"))
-            entry.mtime, entry.uname, entry.gname = time, "root", "root"
-            file = tree.get(place)
-            if file is None:
-                entry.type, entry.mode = tarfile.DIRTYPE, 0o755
-                tar.addfile(entry)
-            elif file.is_link:
-                entry.type, entry.mode = tarfile.SYMTYPE, file.mode
-                entry.linkname = os.fsdecode(file.text)
-                tar.addfile(entry)
-            else:
-                entry.mode, entry.size = file.mode, len(file.text)
-                tar.addfile(entry, io.BytesIO(file.text))
-    return packed(to.getvalue())
+    with tempfile.TemporaryDirectory() as room:
+        os.mkdir(f"{room}/{name}", 0o755)
+        write(tree, f"{room}/{name}", time)
+        words = ["tar", "-C", room, "--create", "--format=gnu", "--sort=name", "--owner=root:0",
+                 "--group=root:0", name]
+        ran = subprocess.run(words, stdout=subprocess.PIPE, stderr=subprocess.PIPE, check=False)
+    if ran.returncode:
+        raise Failed(f"tar failed: {os.fsdecode(ran.stderr).strip()}")
+    return packed(ran.stdout)

