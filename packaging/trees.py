@@ -73,12 +73,13 @@ def write(tree: Tree, folder: str, time: int) -> None:
 
 
 def archive(tree: Tree, name: str, time: int) -> bytes:
-    """The archive NAME.tar.gz, in which all is root's, sorted and of this time, below NAME."""
+    """The archive NAME.tar.gz, in which all is root's, sorted and of this time, below NAME. It has
+    no entry for a folder, so that none that is there is changed where it is unpacked."""
     with tempfile.TemporaryDirectory() as room:
         os.mkdir(f"{room}/{name}", 0o755)
         write(tree, f"{room}/{name}", time)
-        words = ["tar", "-C", room, "--create", "--format=gnu", "--sort=name", "--owner=root:0",
-                 "--group=root:0", name]
+        words = ["tar", "-C", room, "--create", "--format=gnu", "--owner=root:0", "--group=root:0"]
+        words += ["--", *(f"{name}/{place}" for place in sorted(tree))]
         ran = subprocess.run(words, stdout=subprocess.PIPE, stderr=subprocess.PIPE, check=False)
     if ran.returncode:
         raise Failed(f"tar failed: {os.fsdecode(ran.stderr).strip()}")

@@ -57,10 +57,13 @@ builds_unpacked() {
       "$(flags_unpacked --variable=libdir)/librtnlc.a" -o "$folder/static"
 }
 
+libc=$(dpkg-query -W -f '${Version}' libc6:amd64 2>/dev/null)
 if [ "$(id -u)" != 0 ] || ! chroot / true 2>/dev/null; then
   echo 'skipped: packages in a root of their own, since this is not root'
-elif has dpkg 'packages in a root of their own'; then
-  new_root "$(dpkg-query -W -f '${Version}' libc6)" || exit 1
+elif [ -z "$libc" ]; then
+  echo 'skipped: packages in a root of their own, since the C library is not of Debian'
+else
+  new_root "$libc" || exit 1
   check 'there are no tools in the root' has_no_tools
   check 'the packages are installed' installs
   check 'dpkg has nothing to say of them' eval '[ -z "$(dpkg --root="$root" --audit)" ]'
