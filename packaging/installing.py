@@ -53,15 +53,10 @@ def output(command: List[str], **environment: str) -> str:
     return os.fsdecode(text).rstrip("\n")
 
 
-def open_prefix(target: Target, make: bool) -> Optional[Reached]:
-    """The prefix, open; none where it isn't there and isn't made."""
-    try:
-        stage = reach(target.stage, make) if target.stage else None
-        return reach(target.prefix, make, below=stage)
-    except FileNotFoundError:
-        if make:
-            raise
-        return None
+def open_prefix(target: Target, make: bool) -> Reached:
+    """The prefix, open."""
+    stage = reach(target.stage, make) if target.stage else None
+    return reach(target.prefix, make, below=stage)
 
 
 def content(row: Row, target: Target, program: str, built: str) -> Tuple[bytes, str]:
@@ -93,10 +88,7 @@ def look(target: Target, rows: List[Row]) -> None:
     """Ends where something is in the way, before anything is put."""
     nothing = "; nothing was installed"
     try:
-        reached = open_prefix(target, make=False)
-        if reached is None:
-            return
-        folder = Folder(reached.fd)
+        folder = Folder(open_prefix(target, make=False).fd)
         known = read_record(target, folder, nothing) or Record("")
         for row in rows:
             found = folder.sum(row.place)
@@ -106,7 +98,7 @@ def look(target: Target, rows: List[Row]) -> None:
     except Linked as error:
         stop_on_link(target, error, nothing)
     except OSError:
-        # That is said of the file that can't be put for it.
+        # There is no prefix yet; else it is said of the file that can't be put.
         pass
 
 
@@ -115,7 +107,6 @@ def begin(target: Target) -> Tuple[Folder, Record]:
     above = os.path.dirname(RECORD)
     try:
         reached = open_prefix(target, make=True)
-        assert reached is not None
         folder, made = Folder(reached.fd), ["."] if reached.is_new else []
         with folder.holder(RECORD, made):
             known = read_record(target, folder, "") or Record(f"{target.stage}{target.prefix}")
@@ -188,13 +179,13 @@ def remove(target: Target) -> int:
     status, nothing = 0, "; nothing was removed"
     try:
         reached = open_prefix(target, make=False)
-        folder = Folder(reached.fd) if reached else None
-        known = read_record(target, folder, nothing) if folder else None
+        folder = Folder(reached.fd)
+        known = read_record(target, folder, nothing)
     except Linked as error:
         stop_on_link(target, error, nothing)
-    except NotADirectoryError:
+    except (FileNotFoundError, NotADirectoryError):
         known = None
-    if reached is None or folder is None or known is None:
+    if known is None:
         raise Stopped(1, f"nothing is installed under {target.shown}")
     with undisturbed():
         for why in left(target, folder, known):

@@ -70,19 +70,24 @@ class Record:
         self.written = [sum_of(text, "644")]
 
 
+def stop_on(status: os.stat_result) -> None:
+    """Ends where this is not a file that root or the caller wrote."""
+    if not stat.S_ISREG(status.st_mode):
+        raise NotOurs("is not a file")
+    if status.st_uid not in (0, os.geteuid()):
+        raise NotOurs("is another user's")
+    if status.st_mode & stat.S_IWOTH:
+        raise NotOurs("can be written by every user")
+
+
 def bytes_of(folder: Folder) -> Optional[bytes]:
     """The bytes of the record that root or the caller wrote; none where there is no record."""
     try:
         with folder.holder(RECORD) as (fd, name):
-            status = os.stat(name, dir_fd=fd, follow_symlinks=False)
-            if not stat.S_ISREG(status.st_mode):
-                raise NotOurs("is not a file")
+            # A pipe or a device isn't opened; what is opened is looked at again.
+            stop_on(os.stat(name, dir_fd=fd, follow_symlinks=False))
             with open(os.open(name, READ, dir_fd=fd), "rb") as file:
-                status = os.fstat(file.fileno())
-                if status.st_uid not in (0, os.geteuid()):
-                    raise NotOurs("is another user's")
-                if status.st_mode & stat.S_IWOTH:
-                    raise NotOurs("can be written by every user")
+                stop_on(os.fstat(file.fileno()))
                 return file.read(LONGEST + 1)
     except FileNotFoundError:
         return None

@@ -77,10 +77,10 @@ goes_over_old() {
     [ -d "$room" ] && [ ! -e "$target" ]
 }
 
-# Another user's record, or one that every user can write, with the sum of a file of another origin.
+# is_of_other MODE, is_open_to_all: with the sum of a file of another origin.
 is_of_other() {
   has_record printf 'file %s bin/rtnl\n' "$sum_outside" && rm "$record" &&
-    by cp "$folder/record" "$record" && listed "$target" >"$folder/before" &&
+    by cp "$folder/record" "$record" && by chmod "$1" "$record" && listed "$target" >"$folder/before" &&
     is_left_alone "is another user's"
 }
 is_open_to_all() {
@@ -101,6 +101,14 @@ goes_on() {
     rm "$target/share/rtnl/rtnl.jq" && put_as "$target" >/dev/null 2>&1 &&
     [ "$(grep -c '^file .*bin/rtnl$' "$record")" = 1 ] && [ -e "$target/share/rtnl/rtnl.jq" ] &&
     rm "$target/bin/rtnl" && take_as "$target" >/dev/null
+}
+
+# has_nothing PATH: nothing is installed there, and nothing is made for it.
+has_nothing() {
+  prepared bin/share && by cp "$outside/file" "$target/bin/rtnl" &&
+    by cp "$outside/file" "$target/bin/share/rtnl" && listed "$target" >"$folder/before" &&
+    ends 1 '' "install: nothing is installed under $target$1" take_as "$target$1" &&
+    listed "$target" | diff "$folder/before" -
 }
 
 # record_cases WHO
@@ -127,7 +135,8 @@ record_cases() {
   check "$1: bytes for a record" is_no_record printf '\0\377\n'
   check "$1: a record that every user can write" is_open_to_all
   if [ "$has_users" = yes ]; then
-    check "$1: a record of another user" is_of_other
+    check "$1: a record of another user" is_of_other 644
+    check "$1: a record that another user alone can read" is_of_other 600
   fi
   for place in bin share/man share/man/man1 share/zsh; do
     check "$1: a removal behind a link at $place" stays_behind "$place"
@@ -137,6 +146,10 @@ record_cases() {
   check "$1: a record of an older version" goes_over_old
   check "$1: what was put is replaced, and what was changed is not" replaces_own
   check "$1: an installation that was cut goes on" goes_on
+  check "$1: a removal where nothing is" has_nothing ''
+  check "$1: a removal where a file is" has_nothing /bin/rtnl
+  check "$1: a removal below a file" has_nothing /bin/rtnl/below
+  check "$1: a removal where a file is in place of a folder" has_nothing /bin
 }
 
 runner=()
