@@ -1,0 +1,48 @@
+"""Packets of captures. One of netlink is a datagram behind 16 bytes, of which the last two are the
+netlink protocol, highest byte first."""
+from typing import Dict, Iterator
+
+from output import LONGEST, Damaged, Item, Note, cut
+from source import Source
+
+NETLINK = 253  # LINKTYPE_NETLINK
+COOKED = 16
+ROUTE = 0  # NETLINK_ROUTE
+
+
+class Packets:
+    """Takes the datagrams for rtnetlink out of packets, and counts all others."""
+
+    def __init__(self) -> None:
+        self.others: Dict[str, int] = {}
+
+    def items(self, source: Source, place: str, link_type: int, kept: int,
+              size: int) -> Iterator[Item]:
+        """What a packet gives that begins at the place, of which so many bytes come next."""
+        packet = f"a packet of {kept} bytes"
+        if link_type != NETLINK:
+            self.leave(f"link type {link_type}")
+            source.skip(kept, place, packet)
+            return
+        if kept < COOKED or kept > size:
+            raise Damaged(f"{place}: {kept} bytes of a netlink packet of {size}")
+        protocol = int.from_bytes(source.exactly(COOKED, place, packet)[-2:], "big")
+        if protocol != ROUTE:
+            self.leave(f"netlink protocol {protocol}")
+            source.skip(kept - COOKED, place, packet)
+            return
+        if kept - COOKED > LONGEST:
+            raise Damaged(f"{place}: a datagram of {kept - COOKED} bytes, above {LONGEST}")
+        data = source.exactly(kept - COOKED, place, packet)
+        if kept < size:
+            yield from cut(f"{place}: ", data, size - COOKED)
+        else:
+            yield data
+
+    def leave(self, sort: str) -> None:
+        self.others[sort] = self.others.get(sort, 0) + 1
+
+    def notes(self) -> Iterator[Note]:
+        """How many packets were left out."""
+        for sort, count in self.others.items():
+            yield Note(f"left out: {count} packet{'s' if count > 1 else ''} of {sort}")

@@ -1,0 +1,131 @@
+"""Dumps in hexadecimal, with the offset in front of each row, and with the text beside it or
+without: of xxd, hexdump -C, Wireshark's "copy as hex dump", tshark -x and Go's hex.Dump. Offset 0
+begins a new datagram."""
+import io
+import re
+from typing import BinaryIO, Iterator, NamedTuple, Optional, Tuple
+
+import cooked
+from output import LONGEST, Damaged, Item
+from source import Source, lines
+
+# The offset of a row, and the rest.
+ROW = re.compile(r"\s*([0-9A-Fa-f]{4,16}):?(?:\s+|$)(.*)", re.S)
+GAP = re.compile(r"  +")
+# The width of eight bytes.
+HALF = 23
+GROUPS = re.compile(r"(?:[0-9A-Fa-f]{2})+(?: (?:[0-9A-Fa-f]{2})+)*")
+# A row of this sign stands for rows that are the same as the one before.
+SAME = "*"
+
+
+class Row(NamedTuple):
+    place: int
+    data: bytes
+
+
+def is_text_of(text: str, data: bytes) -> bool:
+    """Whether the text beside a row is that of its bytes: any sign for what isn't printable."""
+    if len(text) == len(data) + 2 and text[0] == text[-1] == "|":
+        text = text[1:-1]
+    else:
+        begin = len(data) - len(data.lstrip(b" "))
+        text, data = text.strip(" "), data[begin:].rstrip(b" ")
+    return len(text) == len(data) and all(
+        not 32 <= byte < 127 or sign == chr(byte) for sign, byte in zip(text, data))
+
+
+def readings(rest: str) -> Iterator[Tuple[str, str]]:
+    """The digits of a row and the text beside them, which are told apart by a gap. There may be
+    another gap behind the first eight bytes."""
+    gaps = [it.span() for it, _ in zip(GAP.finditer(rest), range(2))]
+    if not gaps:
+        yield rest, ""
+        return
+    (begin, end), ends = gaps[0], len(rest)
+    yield rest[:begin], rest[end:]
+    if begin == HALF:
+        begin, behind = gaps[1] if len(gaps) > 1 else (ends, ends)
+        yield f"{rest[:HALF]} {rest[end:begin]}", rest[behind:]
+
+
+def row_of(line: str) -> Optional[Row]:
+    """The row of a line, where it is one."""
+    found = ROW.fullmatch(line)
+    if not found:
+        return None
+    place = int(found[1], 16)
+    if not found[2]:
+        return Row(place, b"")
+    for digits, text in readings(found[2].rstrip(" ")):
+        if GROUPS.fullmatch(digits):
+            data = bytes.fromhex(digits)
+            if not text or is_text_of(text, data):
+                return Row(place, data)
+    return None
+
+
+class Dump:
+    """The rows of one datagram after another."""
+
+    def __init__(self, is_cooked: bool) -> None:
+        self.is_cooked, self.packets = is_cooked, cooked.Packets()
+        self.begin, self.data, self.last, self.repeats = 0, bytearray(), b"", False
+
+    def line(self, number: int, text: str) -> Iterator[Item]:
+        """Takes a line, which may end the datagram before it."""
+        row = row_of(text)
+        if text.strip() == SAME and self.last and not self.repeats:
+            self.repeats = True
+        elif not row:
+            raise Damaged(f"line {number}: no row of a hexadecimal dump")
+        elif row.place == 0:
+            yield from self.end(number)
+            self.begin, self.data = number, bytearray()
+            self.take(row.data, number)
+        else:
+            self.repeat(row.place, number)
+            if not self.begin or row.place != len(self.data):
+                raise Damaged(f"line {number}: offset {row.place:x} does not follow on "
+                              f"{len(self.data)} bytes")
+            self.take(row.data, number)
+
+    def repeat(self, place: int, number: int) -> None:
+        """Puts the rows that are left out in front of the place."""
+        missing = place - len(self.data)
+        if not self.repeats:
+            return
+        if missing <= 0 or missing % len(self.last) or place > LONGEST:
+            raise Damaged(f"line {number}: no rows like the last one lead to offset {place:x}")
+        self.data += self.last * (missing // len(self.last))
+        self.repeats = False
+
+    def take(self, data: bytes, number: int) -> None:
+        self.last = data
+        self.data += data
+        if len(self.data) > LONGEST:
+            raise Damaged(f"line {number}: a datagram above {LONGEST} bytes")
+
+    def end(self, number: int) -> Iterator[Item]:
+        """The datagram up to the line of this number."""
+        if self.repeats:
+            raise Damaged(f"line {number}: no row behind the {SAME}")
+        data = bytes(self.data)
+        if not data:
+            return
+        if self.is_cooked:
+            source = Source(io.BytesIO(data))
+            yield from self.packets.items(source, f"line {self.begin}", cooked.NETLINK, len(data),
+                                          len(data))
+        else:
+            yield data
+
+
+def items(file: BinaryIO, is_cooked: bool = False) -> Iterator[Item]:
+    """Each datagram; if it is cooked, without the 16 bytes that nlmon puts in front."""
+    dump, number = Dump(is_cooked), 0
+    for number, text in lines(file, "utf-8"):
+        if text.strip() and not text.startswith("#"):
+            yield from dump.line(number, text)
+    yield from dump.end(number + 1)
+    yield from dump.packets.notes()

@@ -1,0 +1,93 @@
+"""What a source says, item by item, and how that is written: datagrams and comments as the lines
+of a recording on standard output, all else on standard error."""
+import datetime
+import sys
+from typing import Iterator, Optional, Union
+
+# The greatest datagram that is taken, in bytes.
+LONGEST = 1 << 20
+
+
+class Comment(str):
+    """A comment line of the recording."""
+
+
+class Note(str):
+    """A line for standard error."""
+
+
+class Loss(Note):
+    """A note that something is missing from the recording, so that the status is 1."""
+
+
+Item = Union[bytes, Comment, Note]
+
+
+class Stop(Exception):
+    """Ends the program with a line on standard error."""
+
+    status = 3
+
+
+class Damaged(Stop):
+    """A capture that can't be read further, with the place. What came before it is written."""
+
+    status = 1
+
+
+class Usage(Stop):
+    """Arguments that can't be taken."""
+
+    status = 2
+
+
+def time_comment(seconds: int, microseconds: int) -> Comment:
+    """A time, which stands in front of what was received then."""
+    moment = datetime.datetime.fromtimestamp(seconds, datetime.timezone.utc)
+    return Comment(f"time {moment:%Y-%m-%dT%H:%M:%S}.{microseconds:06}Z")
+
+
+def cut(place: str, data: bytes, size: Optional[int]) -> Iterator[Item]:
+    """A datagram of which only the front is there, and its size, where that is known."""
+    part = f"{len(data)} of {size} bytes" if size else f"{len(data)} bytes of a longer one"
+    yield Comment(f"cut: {part}")
+    yield data
+    yield Loss(f"{place}the datagram was cut: {part} are recorded")
+
+
+def in_line(item: Union[bytes, Comment]) -> str:
+    """The line of a recording. One for no byte would be none."""
+    if isinstance(item, Comment):
+        return f"# {item}"
+    return item.hex() or "# a datagram of 0 bytes"
+
+
+def write(items: Iterator[Item]) -> int:
+    """Writes each item as it comes, and says the status."""
+    status = 0
+    for item in items:
+        if isinstance(item, Note):
+            report(item)
+            status = 1 if isinstance(item, Loss) else status
+            continue
+        try:
+            sys.stdout.write(f"{in_line(item)}\n")
+            sys.stdout.flush()
+        except OSError as error:
+            raise Stop(f"standard output: {error.strerror}") from None
+    return status
+
+
+def shown(name: str) -> str:
+    """The name of a file, without control characters."""
+    return "".join(it if it.isprintable() else it.encode("unicode_escape").decode() for it in name)
+
+
+def report(text: object) -> None:
+    """Writes a line on standard error, where there is one."""
+    if sys.stderr is None:
+        return
+    try:
+        print(f"rtnl-record: {text}", file=sys.stderr, flush=True)
+    except OSError:
+        pass
