@@ -90,9 +90,10 @@ def items(source: Source, packets: Packets) -> Iterator[Item]:
         size = length - FRAME - (BEGINNING if kind == SECTION else 0)
         if size < 0 or length % 4:
             raise Damaged(f"{place}: a block of {length} bytes")
-        yield from section.items(Block(place, number, size))
+        found = [*section.items(Block(place, number, size))]
         if source.exactly(4, place, "a block") != lengths:
             raise Damaged(f"{place}: the lengths of a block differ")
+        yield from found
         kind = source.up_to(4)
         if 0 < len(kind) < 4:
             raise Damaged(f"byte {source.place - len(kind)}: the capture ends within the header "
