@@ -1,6 +1,5 @@
 """The commands of rtnl-record with their arguments, and how they are run."""
 import argparse
-import os
 import signal
 import sys
 from typing import BinaryIO, Callable, Iterator, List, NamedTuple, NoReturn, Optional
@@ -13,7 +12,7 @@ import netlink
 import pcap
 import rtmon
 import strace
-from output import LONGEST, Damaged, Item, Note, Stop, Usage, report, shown, write
+from output import LONGEST, Damaged, Item, Note, Stop, Usage, put, report, shown, write
 
 INPUT = "-"
 DESCRIPTION = """Makes recordings for rtnl: a line of hexadecimal for each rtnetlink datagram, and
@@ -46,6 +45,10 @@ class Parser(argparse.ArgumentParser):
         self.arguments = self.add_argument_group("Arguments")
         self.options = self.add_argument_group("Options")
         self.options.add_argument("-h", "--help", action="help", help="print help")
+
+    def print_help(self, file: object = None) -> None:
+        """Prints the help, or fails: argparse would say nothing where it can't be written."""
+        put(self.format_help())
 
     def error(self, message: str) -> NoReturn:
         raise Usage(f"{shown(message)}; see --help")
@@ -187,7 +190,6 @@ def run(words: List[str]) -> int:
         return write(asked.items(asked))
     except SystemExit:
         # What the help does when it is printed.
-        sys.stdout.flush()
         return 0
 
 
@@ -199,11 +201,7 @@ def main(words: List[str]) -> int:
         return run(words)
     except Stop as stop:
         report(stop)
-        status = stop.status
+        return stop.status
     except OSError as error:
-        report(f"a socket, a read or a write failed: {error.strerror}")
-        status = 3
-    if status == 3 and sys.stdout is not None:
-        # What could not be written is not tried again at the end.
-        os.dup2(os.open(os.devnull, os.O_WRONLY), 1)
-    return status
+        report(f"a socket failed: {error.strerror}")
+        return 3

@@ -1,6 +1,7 @@
 """What a source says, item by item, and how that is written: datagrams and comments as the lines
 of a recording on standard output, all else on standard error."""
 import datetime
+import os
 import sys
 from typing import Iterator, Optional, Union
 
@@ -70,12 +71,18 @@ def write(items: Iterator[Item]) -> int:
             report(item)
             status = 1 if isinstance(item, Loss) else status
             continue
-        try:
-            sys.stdout.write(f"{in_line(item)}\n")
-            sys.stdout.flush()
-        except OSError as error:
-            raise Stop(f"standard output: {error.strerror}") from None
+        put(f"{in_line(item)}\n")
     return status
+
+
+def put(text: str) -> None:
+    """Writes all of a text at once, whether a signal comes or not."""
+    left = memoryview(text.encode())
+    try:
+        while left:
+            left = left[os.write(1, left):]
+    except OSError as error:
+        raise Stop(f"standard output: {error.strerror}") from None
 
 
 def shown(name: str) -> str:

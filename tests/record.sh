@@ -1,14 +1,15 @@
 #!/usr/bin/env bash
-# Runs examples/record.py and examples/from_strace.py. Requests are made by hand; the traces in
-# tests/recording/ are what strace wrote of small programs, and the expected lines are cut from the bytes that
-# it printed. The whole way from a live kernel to a table is gone in a network namespace of its own, where the
-# machine allows one, with what `ip` makes there; a part that can't run says so and isn't counted. The last
-# line is 'N passed, M failed', and the status is 1 where a case failed.
+# Runs rtnl-record. Its arguments; the traces in tests/record/, which strace wrote of small programs, where the
+# expected lines are cut from the bytes that it printed; captures of a live kernel in examples/, and what tools make
+# of them; captures that are made by hand, and changed at random; and the kernel itself, in a network namespace of
+# its own, where the machine allows one, with what `ip` makes there. A part that can't run says so and isn't
+# counted. The last line is 'N passed, M failed', and the status is 1 where a case failed.
 set -u
 cd "$(dirname "${BASH_SOURCE[0]}")/.." || exit 1
 
 # All runs in the namespace, if there can be one.
 if [ "${1-}" != inside ]; then
+  tests/packages.sh ip iproute2 strace strace xxd xxd hexdump bsdextrautils tshark tshark tcpdump tcpdump
   for way in -n -rn; do
     unshare "$way" ip link set lo up 2>/dev/null && exec unshare "$way" tests/record.sh inside
   done
@@ -34,33 +35,32 @@ ends() {
   esac
 }
 
-record() { timeout 30 examples/record.py "$@"; }
-from_strace() { examples/from_strace.py "$@"; }
-without_output() { record "$@" >&-; }
-without_input() { record "$@" <&-; }
+record() { timeout 30 ./rtnl-record "$@"; }
 into_full_device() { "$@" >/dev/full; }
 
-# is_bad NAME ERROR LINE..: these requests are refused with this error.
-is_bad() {
-  local name=$1 error=$2
-  shift 2
-  check "$name" ends 2 '' "record.py: $error" record < <(printf '%s\n' "$@")
+# counts SCRIPT: the cases of a script that counts its own.
+counts() {
+  local line
+  line=$("$1" | tee /dev/fd/2 | tail -n 1)
+  if [[ $line =~ ^([0-9]+)\ passed,\ ([0-9]+)\ failed$ ]]; then
+    passed=$((passed + BASH_REMATCH[1]))
+    failed=$((failed + BASH_REMATCH[2]))
+  else
+    check "$1" false
+  fi
 }
 
-# usage SCRIPT ARGUMENT..: a usage error, reported in one line.
-usage() {
-  local script=$1
-  shift
-  check "usage error: $script $*" ends 2 '' "$script.py: .." "$script" "$@" </dev/null
-}
+# has COMMAND WHAT: the command is here, or a line says that this is skipped.
+has() { command -v "$1" >/dev/null || ! echo "skipped: $2, since $1 is not here"; }
 
-# helps SCRIPT: the help is printed, with its example.
-helps() { "$1" --help >"$folder/output" 2>"$folder/errors" && grep -q '^Example:$' "$folder/output"; }
-
-. tests/recording/requests.sh
-. tests/recording/traces.sh
+. tests/record/arguments.sh
+. tests/record/traces.sh
+. tests/record/captures.sh
+counts tests/record/made.py
+counts tests/record/answers.py
+counts tests/record/fuzz.py
 if [ "${1-}" = inside ]; then
-  . tests/recording/live.sh
+  . tests/record/live.sh
 else
   echo 'skipped: the live way, since no network namespace can be made here'
 fi

@@ -1,0 +1,80 @@
+# The arguments of rtnl-record, what it says of files, and how it ends.
+
+commands=(dump monitor pcap rtmon strace xxd)
+without_output() { record "$@" >&-; }
+without_input() { record "$@" <&-; }
+
+# usage ARGUMENT..: a usage error, reported in one line.
+usage() { check "usage error: $*" ends 2 '' 'rtnl-record: ..' record "$@" </dev/null; }
+
+# helps COMMAND: the help is printed, with its example and the exit statuses.
+helps() {
+  record "$1" --help >"$folder/output" 2>"$folder/errors" && [ ! -s "$folder/errors" ] &&
+    grep -q '^Example:$' "$folder/output" && grep -q '^Exit status:$' "$folder/output"
+}
+
+# helps_all: the help has each command.
+helps_all() {
+  diff <(printf '%s\n' "${commands[@]}") \
+    <(record --help | sed -n '/^Commands:$/,/^$/s/^  \([a-z]*\) .*/\1/p')
+}
+
+for arguments in '' '--unknown' 'other' 'dum link' 'dump' 'dump links' 'dump link addr' 'dump link --family' \
+  'dump link --family -1' 'dump link --family 256' 'dump link --family +1' 'dump link --family 0x1' \
+  'dump link --fam 2' 'dump link --buffer 0' 'dump link --buffer 1048577' 'dump link --buffer 1e3' \
+  'dump link --netns' 'dump link --time' 'monitor links' 'monitor LINK' 'monitor none' 'monitor link --family 2' \
+  'monitor --timeout 1' 'pcap' 'pcap one two' 'rtmon' 'rtmon one two' 'strace one two' 'strace --unknown' \
+  'xxd one two' 'xxd --cook'; do
+  # shellcheck disable=SC2086
+  usage $arguments
+done
+usage dump $'a kind\nin two lines'
+check 'help' helps_all
+for command in "${commands[@]}"; do check "help of $command" helps "$command"; done
+
+read_errors='No such file or directory'
+for command in pcap rtmon strace xxd; do
+  check "$command: no such file" ends 3 '' "rtnl-record: $folder/none: $read_errors" record "$command" "$folder/none"
+  check "$command: a folder" ends 3 '' "rtnl-record: $folder: Is a directory" record "$command" "$folder"
+  check "$command: closed input" ends 3 '' 'rtnl-record: standard input is closed' without_input "$command" -
+  check "$command: closed output" ends 3 '' 'rtnl-record: standard output is closed' without_output "$command" -
+done
+check 'control characters in a name' ends 3 '' 'rtnl-record: no\x1b[31m\nfile: '"$read_errors" \
+  record pcap $'no\e[31m\nfile'
+check 'a name that is damaged, with its capture' ends 1 '' \
+  'rtnl-record: examples/c/stream.c: byte 0: neither pcap nor pcapng' record pcap examples/c/stream.c
+full='rtnl-record: standard output: No space left on device'
+check 'a full device' ends 3 '' "$full" into_full_device record pcap examples/links.pcap
+check 'help, a full device' ends 3 '' "$full" into_full_device record --help
+
+# A reader that goes away ends it at once, without a word, by the signal that is for this.
+leaves_quietly() {
+  yes "$(<examples/rules.xxd)" | ./rtnl-record xxd 2>"$folder/errors" | head -n 3 >"$folder/output"
+  [ "${PIPESTATUS[*]}" = '141 141 0' ] && [ ! -s "$folder/errors" ] && [ "$(wc -l <"$folder/output")" = 3 ]
+}
+check 'a reader that goes away' leaves_quietly
+
+# Each datagram is printed before the next one is there.
+prints_at_once() {
+  local line
+  mkfifo "$folder/pipe" && exec {out}< <(./rtnl-record "$1" - <"$folder/pipe") || return
+  exec {into}>"$folder/pipe"
+  cat "$2" >&"$into"
+  read -r -t 10 line <&"$out"
+  local found=$?
+  exec {into}>&- {out}<&-
+  rm "$folder/pipe"
+  [ "$found" = 0 ] && [ -n "$line" ]
+}
+check 'pcap as it comes' prints_at_once pcap examples/links.pcap
+check 'rtmon as it comes' prints_at_once rtmon examples/links.rtmon
+
+# All modules are of Python 3.8.
+is_of_old_python() {
+  python3 -B - rtnl-record record/*.py tests/record/*.py <<'PY'
+import ast, sys
+for name in sys.argv[1:]:
+    ast.parse(open(name, encoding="utf-8").read(), name, feature_version=(3, 8))
+PY
+}
+check 'the language of the modules' is_of_old_python
