@@ -12,6 +12,8 @@ import sys
 from typing import Dict, Iterator, List, Tuple
 
 sys.dont_write_bytecode = True
+sys.path.insert(0, f"{os.path.dirname(os.path.realpath(__file__))}/../record")
+import groups
 import reference
 
 ROOT = os.path.join(os.path.dirname(os.path.abspath(__file__)), "..")
@@ -82,6 +84,14 @@ def structs() -> Iterator[Tuple[str, str, str]]:
         yield f"struct {name}", f"sizeof(struct {name}) == {place}", "0"
 
 
+def notified() -> Iterator[Tuple[str, str, str]]:
+    """The name of each group of notifications, and that there are no more than those."""
+    for name, number in groups.NUMBERS.items():
+        group = f"RTNLGRP_{name.upper().replace('DECNET', 'DECnet')}"
+        yield group, f"{group} == {number}", f"__RTNLGRP_MAX <= {number}"
+    yield "RTNLGRP_MAX", f"RTNLGRP_MAX <= {len(groups.NAMES)}", "0"
+
+
 def refused(says: List[str]) -> List[int]:
     """Which of these the compiler does not find so."""
     lines = ["#include <stddef.h>", "#include <sys/socket.h>"]
@@ -100,7 +110,7 @@ def refused(says: List[str]) -> List[int]:
 def main() -> int:
     cases = [*attributes(), *((name, f"{name} == {number}", "0") for number, name in TYPES.items())]
     cases += ((name, f"{says} == {reference.FIXED[name]}", "0") for name, says in FIXED.items())
-    cases += structs()
+    cases += [*structs(), *notified()]
     others = [cases[at] for at in refused([holds for _, holds, _ in cases])]
     wrong = [others[at][0] for at in refused([is_newer for _, _, is_newer in others])]
     for name in wrong:
