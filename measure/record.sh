@@ -1,7 +1,7 @@
 #!/usr/bin/env bash
 # Records dumps of a live kernel for measure.py, one NAME.hex a kind: of 223 links, some 6,000 routes and
-# 1,700 neighbours, which it makes in a network namespace of its own. It needs `ip`, unshare, python3, the right to
-# make a namespace, and the program that the gate builds.
+# 1,700 neighbours, which it makes in a network namespace of its own. It needs `ip`, unshare, python3 and the right to
+# make a namespace. The kernel's datagrams are of a page, as for a reader with small buffers.
 # usage: measure/record.sh FOLDER
 set -eu
 top=$(cd "$(dirname "${BASH_SOURCE[0]}")/.." && pwd)
@@ -11,7 +11,6 @@ if [ "${2-}" != inside ]; then
   exec unshare -n "$0" "$1" inside
 fi
 
-program=$top/crates/rtnl_cli/out/rtnl_cli
 
 # What `ip` is asked to make.
 links() {
@@ -42,7 +41,7 @@ neighbours() {
 
 # dump KIND NAME: what the kernel answers.
 dump() {
-  "$program" request --kind "$1" --seq 1 | "$top/examples/record.py" >"$2"
+  "$top/rtnl-record" dump "$1" --buffer 4096 >"$2"
 }
 
 { links; addresses; routes; neighbours; } | ip -batch -

@@ -16,7 +16,14 @@ share/completions/_rtnl share/zsh/site-functions/_rtnl 644
 share/completions/rtnl.fish share/fish/vendor_completions.d/rtnl.fish 644
 share/rtnl.jq share/rtnl/rtnl.jq 644
 share/rtnl.schema.json share/rtnl/rtnl.schema.json 644
+rtnl-record bin/rtnl-record 755
+share/man/man1/rtnl-record.1 share/man/man1/rtnl-record.1 644
+share/completions/rtnl-record.bash share/bash-completion/completions/rtnl-record 644
+share/completions/_rtnl-record share/zsh/site-functions/_rtnl-record 644
+share/completions/rtnl-record.fish share/fish/vendor_completions.d/rtnl-record.fish 644
 """
+# The modules of rtnl-record, each of which is installed, and their folder under the prefix.
+MODULES, MODULES_PLACE = "record", "share/rtnl-record"
 LIBRARY = """
 include/rtnlc.h include/rtnlc.h 644
 built/librtnlc.a @LIBDIR@/librtnlc.a 644
@@ -43,6 +50,13 @@ def rows(table: str, libdir: str) -> List[Row]:
     """The rows of a table, with the library in this folder of the prefix."""
     lines = [line.split() for line in table.strip().splitlines()]
     return [Row(source, place.replace("@LIBDIR@", libdir), mode) for source, place, mode in lines]
+
+
+def program_rows() -> List[Row]:
+    """What is installed of the programs."""
+    names = sorted(it for it in os.listdir(f"{ROOT}/{MODULES}") if it.endswith(".py"))
+    modules = [Row(f"{MODULES}/{it}", f"{MODULES_PLACE}/{it}", "644") for it in names]
+    return [*rows(PROGRAM, ""), *modules]
 
 
 def version() -> str:

@@ -120,8 +120,8 @@ def add_text(parser: Parser) -> None:
 def add_hexdump(parser: Parser) -> None:
     add_text(parser)
     parser.options.add_argument(
-        "--cooked", action="store_true", help="the dumps are of packets of an nlmon device; the 16 "
-        "bytes in front of each datagram are left out")
+        "--cooked", action="store_true", help="the dumps are of packets of an nlmon device; the "
+        "16 bytes in front of each datagram are left out")
 
 
 def opened(name: str) -> BinaryIO:
@@ -171,7 +171,8 @@ COMMANDS = [
 def parser() -> Parser:
     rows = "\n".join(f"  {it.name:<9}{it.line}" for it in COMMANDS)
     whole = Parser(prog="rtnl-record", description=DESCRIPTION, usage="%(prog)s COMMAND ...",
-                   epilog=f"Commands:\n{rows}\n\nrtnl-record COMMAND --help has more.\n\n{STATUSES}")
+                   epilog=f"Commands:\n{rows}\n\nrtnl-record COMMAND --help has more.\n\n"
+                          f"{STATUSES}")
     commands = whole.add_subparsers(dest="command", metavar="COMMAND", required=True,
                                     prog=whole.prog, help=argparse.SUPPRESS)
     for it in COMMANDS:

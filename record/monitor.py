@@ -1,6 +1,6 @@
-"""Records what the kernel notifies of, until an interrupt: each datagram at once. A group is one of
-linux/rtnetlink.h, by its name in lower case without RTNLGRP_; address, route and rule are those of
-all address families; all, the default, is each one that the kernel has and this user may listen
+"""Records what the kernel notifies of, until an interrupt: each datagram at once. A group is one
+of linux/rtnetlink.h, by its name in lower case without RTNLGRP_; address, route and rule are those
+of all address families; all, the default, is each one that the kernel has and this user may listen
 to."""
 import os
 import select

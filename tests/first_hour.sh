@@ -29,7 +29,7 @@ trap 'rm -rf "$folder"' EXIT
 
 # A folder of a user, with links to the launcher, to the installation and to what that installs.
 user=$folder/user
-mkdir "$user" && cp -r examples "$user" && ln -s "$top/rtnl" "$top/install" "$top/share" "$user" || exit 1
+mkdir "$user" && cp -r examples "$user" && ln -s "$top"/{rtnl,rtnl-record,install,share} "$user" || exit 1
 
 # ends STATUS OUTPUT ERRORS COMMAND..: the command ends with this status and writes exactly these texts.
 ends() {
@@ -80,6 +80,7 @@ inside=no
 . tests/first_hour/installation.sh
 . tests/first_hour/manual.sh
 . tests/first_hour/module.sh
+. tests/first_hour/recorder.sh
 . tests/first_hour/completions.sh
 . tests/first_hour/kit.sh
 . tests/first_hour/launcher.sh

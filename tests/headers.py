@@ -1,9 +1,9 @@
 #!/usr/bin/env python3
 """Compares names and numbers with the kernel's headers, by the C compiler: those of attributes in
-crates/*/specs and what else they have of the headers, of message types, and the fields of the
-structs that `show --bytes` names, with their places and sizes. What these headers do not have yet
-is counted, and no failure. The last line is 'N passed, M failed', and the status is 1 where one
-differs.
+crates/*/specs and what else they have of the headers, of message types, the fields of the structs
+that `show --bytes` names, with their places and sizes, and all groups of notifications, in
+record/groups.py. What these headers do not have yet is counted, and no failure. The last line is
+'N passed, M failed', and the status is 1 where one differs.
 """
 import os
 import re

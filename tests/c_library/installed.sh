@@ -100,7 +100,10 @@ leaves_own_staged() {
 version=$(sed -n 's/^## \([0-9]\)/\1/p' CHANGELOG.md | head -n 1)
 program_things=(bin/rtnl share/man/man1/rtnl.1 share/bash-completion/completions/rtnl
   share/zsh/site-functions/_rtnl share/fish/vendor_completions.d/rtnl.fish
-  share/rtnl/rtnl.jq share/rtnl/rtnl.schema.json)
+  share/rtnl/rtnl.jq share/rtnl/rtnl.schema.json bin/rtnl-record share/man/man1/rtnl-record.1
+  share/bash-completion/completions/rtnl-record share/zsh/site-functions/_rtnl-record
+  share/fish/vendor_completions.d/rtnl-record.fish)
+for module in record/*.py; do program_things+=("share/rtnl-record/${module##*/}"); done
 
 library=$(each installed "${library_things[@]}")
 

@@ -23,14 +23,18 @@ shows() {
 # has COMMAND WHAT: the command is here, or a line says that this is skipped.
 has() { command -v "$1" >/dev/null || ! echo "skipped: $2, since $1 is not here"; }
 
+# tools: the commands of a block, without those that the recorder reads captures by.
+tools() { sed -E 's/rtnl-record (pcap|rtmon|strace|xxd) //g' <<<"${commands[*]-}"; }
+
 # is_possible BLOCK: its commands can run here, or a line says that it is skipped.
 is_possible() {
-  local tool
+  local tool used
+  used=$(tools)
   [ "$live" = no ] || has_namespace "$1" || return
   for tool in rtmon xxd jq tshark; do
-    [[ ${commands[*]} != *"$tool "* ]] || has "$tool" "$1" || return
+    [[ $used != *"$tool "* ]] || has "$tool" "$1" || return
   done
-  [[ ${commands[*]} != *"strace "* ]] || can_trace "$1"
+  [[ $used != *"strace "* ]] || can_trace "$1"
 }
 
 # is_left COMMAND: it is a script measure/NAME.sh, which takes long; a block that begins with it is
@@ -43,7 +47,7 @@ is_left() {
 run_block() {
   local page=$1 number command live=no
   count=$((count + ${#commands[@]}))
-  [[ ${commands[*]-} == *@(record.py|rtmon|strace)* ]] && live=yes
+  [[ $(tools) == *@(rtnl-record |rtmon |strace )* ]] && live=yes
   ! is_left "${commands[0]-}" || return 0
   [ "${#commands[@]}" = 0 ] || is_possible "line ${lines[0]} of $page" || return 0
   for number in "${!commands[@]}"; do

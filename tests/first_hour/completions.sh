@@ -36,6 +36,7 @@ is_well_formed() { "$1" -n "$prefix/share/$2"; }
 
 if [ -e /usr/share/bash-completion/bash_completion ]; then
   completed bash
+  completed_recorder bash
   check 'bash: a value behind the sign' completes bash big rtnl show --order = b
 else
   echo 'skipped: completion in bash, since bash-completion is not here'
@@ -43,10 +44,14 @@ fi
 if has fish 'completion in fish'; then
   check 'fish: well formed' is_well_formed fish fish/vendor_completions.d/rtnl.fish
   completed fish
+  check 'fish: well formed, of the recorder' is_well_formed fish fish/vendor_completions.d/rtnl-record.fish
+  completed_recorder fish
   check 'fish: a value behind the sign' completes fish --order=big 'rtnl show --order=b'
 fi
 if has zsh 'completion in zsh'; then
   check 'zsh: well formed' is_well_formed zsh zsh/site-functions/_rtnl
+  check 'zsh: well formed, of the recorder' is_well_formed zsh zsh/site-functions/_rtnl-record
+  check 'zsh: all words of the recorder' has_words_of_recorder "$prefix/share/zsh/site-functions/_rtnl-record"
   check 'zsh: of the command' [ "$(head -n 1 "$prefix/share/zsh/site-functions/_rtnl")" = '#compdef rtnl' ]
 fi
 

@@ -1,4 +1,4 @@
-# What README.md and the manual page say of captures, and of files of rtmon and of traces, in the
+# What README.md and the manual pages say of captures, and of files of rtmon and of traces, in the
 # network namespace.
 
 # shown_of_rtmon: what its file shows, as one line of hexadecimal.
@@ -66,10 +66,18 @@ is_long_rtmon_refused() {
 # The bytes of a recording are no recording.
 is_no_text() { ends 1 '' "rtnl: $folder/rtmon: line 1: bad line" "$user/rtnl" show "$folder/rtmon"; }
 
-# A trace that strace writes into a pipe, of a program that asks for links.
+# The same file by the recorder: a datagram for each message, but the times.
+is_rtmon_recorded() {
+  "$user/rtnl-record" rtmon "$folder/rtmon" | "$user/rtnl" show >"$folder/shown" &&
+    [ "$(sed -n 's/^message \([0-9]*\) .*/\1/p' "$folder/shown" | sort -u)" = 16 ] &&
+    [ "$(grep -c ^datagram "$folder/shown")" = "$(shown_of_rtmon | grep -c '^message 16 ')" ]
+}
+
+# A trace of a program that asks for links, in the file that strace writes.
 is_traced() {
-  strace -f -e trace=recvmsg,recvfrom -e read=all ip link 2>&1 >/dev/null | examples/from_strace.py |
-    "$user/rtnl" show >"$folder/shown" && grep -q '^message 16 newlink ' "$folder/shown" &&
+  strace -f -o "$folder/trace" -e trace=network -e read=all -e write=all ip link >/dev/null 2>&1 &&
+    "$user/rtnl-record" strace "$folder/trace" | "$user/rtnl" show >"$folder/shown" &&
+    grep -q '^message 18 getlink ' "$folder/shown" && grep -q '^message 16 newlink ' "$folder/shown" &&
     grep -q '^message 3 done ' "$folder/shown"
 }
 
@@ -84,12 +92,13 @@ if has_namespace 'recordings from elsewhere'; then
   if has rtmon 'files of rtmon' && has xxd 'files of rtmon'; then
     check 'a file of rtmon' is_rtmon_shown
     check 'a file of rtmon as a table' is_rtmon_tabled
+    check 'a file of rtmon, recorded' is_rtmon_recorded
     check 'a wrapped file of rtmon' is_wrapped_refused
     check 'a file of rtmon, wrapped and joined' is_joined
     check 'a file of rtmon as it is' is_no_text
     check 'a long file of rtmon' is_long_rtmon_refused
   fi
-  if can_trace 'a trace through a pipe'; then check 'a trace through a pipe' is_traced; fi
+  if can_trace 'a trace of links'; then check 'a trace of links' is_traced; fi
 fi
 for file in examples/*.hex; do
   check "the other order of $file" ends 1 "$(awk '!/^#/ && NF {

@@ -8,9 +8,9 @@ shift
 # function_of [COMMAND]: the function that completes it; without one, that which reads a completion in.
 function_of() { complete -p "${1--D}" | sed 's/.*-F \([^ ]*\) .*/\1/'; }
 
-"$(function_of)" rtnl
+"$(function_of)" "$1"
 COMP_WORDS=("$@")
 COMP_CWORD=$(($# - 1))
 COMPREPLY=()
-"$(function_of rtnl)" rtnl "${COMP_WORDS[COMP_CWORD]}" "${COMP_WORDS[COMP_CWORD - 1]}"
+"$(function_of "$1")" "$1" "${COMP_WORDS[COMP_CWORD]}" "${COMP_WORDS[COMP_CWORD - 1]}"
 printf '%s\n' "${COMPREPLY[@]}"

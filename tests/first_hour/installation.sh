@@ -2,7 +2,11 @@
 
 prefix=$folder/prefix
 things=(bin/rtnl share/man/man1/rtnl.1 share/bash-completion/completions/rtnl share/zsh/site-functions/_rtnl
-  share/fish/vendor_completions.d/rtnl.fish share/rtnl/rtnl.jq share/rtnl/rtnl.schema.json share/rtnl/installed)
+  share/fish/vendor_completions.d/rtnl.fish share/rtnl/rtnl.jq share/rtnl/rtnl.schema.json bin/rtnl-record
+  share/man/man1/rtnl-record.1 share/bash-completion/completions/rtnl-record share/zsh/site-functions/_rtnl-record
+  share/fish/vendor_completions.d/rtnl-record.fish)
+for module in record/*.py; do things+=("share/rtnl-record/${module##*/}"); done
+things+=(share/rtnl/installed)
 
 # listed FOLDER: everything in it, with its kind, its mode and the sum of a file.
 listed() { (cd "$1" && find . -printf '%p %y %m\n' -type f -exec sha256sum {} \; | sort); }
@@ -70,4 +74,8 @@ check 'nothing is removed where nothing was installed' ends 1 '' "install: nothi
   "$user/install" --remove "$prefix"
 check 'an installation' installs
 check 'the program that is installed' cmp "$(RTNL_PATH=1 ./rtnl)" "$prefix/bin/rtnl"
+for file in pcap:links.pcap rtmon:links.rtmon strace:rules.strace xxd:rules.xxd; do
+  check "the recorder that is installed: ${file#*:}" ends 0 "$(./rtnl-record "${file%:*}" "examples/${file#*:}")" '' \
+    env -u PYTHONDONTWRITEBYTECODE "$prefix/bin/rtnl-record" "${file%:*}" "examples/${file#*:}"
+done
 check 'the program that is installed, through a link' ends 0 "$finish_text" '' "$user/installed" <<<"$finish_line"

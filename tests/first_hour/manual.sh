@@ -18,16 +18,16 @@ in_section() { sed '/^\.Sh /s/\\&//' "$page" | sed -n "/^\\.Sh $1\$/,/^\\.Sh /{/
 
 has_sections() { [ "$(sed -n '/^\.Sh /s/\\&//; s/^\.Sh //p' "$page" | xargs)" = "$sections" ]; }
 
-# has_files: what is installed.
+# has_files THING..: what is installed of it, and folders of its own.
 has_files() {
-  in_section FILES | sed -n 's/^\.It Pa @PREFIX@.//p' | sort |
-    diff - <(printf '%s\n' "${things[@]}" | sort)
+  in_section FILES | sed -n 's/^\.It Pa @PREFIX@.//p' | sort | diff - <(printf '%s\n' "$@" | sort)
 }
 
-# has_versions: that of the program is the page's, and the history has each one of the changelog.
+is_of_version() { grep -qxF "This page is of version $version." "$manual"; }
+
+# has_versions: the history has each version of the changelog.
 has_versions() {
-  grep -qxF "This page is of version $version." "$manual" &&
-    in_section HISTORY | sed -n 's/^Version \([0-9.]*\) .*/\1/p' | sort |
+  in_section HISTORY | sed -n 's/^Version \([0-9.]*\) .*/\1/p' | sort |
     diff - <(sed -n 's/^## \([0-9]\)/\1/p' CHANGELOG.md | sort)
 }
 
@@ -37,18 +37,25 @@ has_references() {
   grep -q . "$folder/references" && ! grep -v '^\.Xr ' "$folder/references"
 }
 
-check 'the sections of the page' has_sections
-check 'the files of the page' has_files
-check 'the versions of the page' has_versions
-check 'the references of the page' has_references
-check 'nothing of it is still to be replaced' [ -z "$(grep '@' "$manual")" ]
-if has mandoc 'the form of the page'; then
-  check 'the form of the page' is_silent "$manual"
-  check 'the form of the page in the sources' is_silent "$page"
-  check 'a section in another place is found' finds_fault 's/^\.Sh HIS\\&/.Sh HIS/'
-  check 'a wrong order of references is found' finds_fault 's/^\.Xr strace 1 ,/.Xr zsh 1 ,/'
-  check 'a long line is found' finds_fault '/^It opens no socket/s/.*/& & & & &/'
-fi
+# is_formed THING..: the cases of a page whatever it says, with the files that it has.
+is_formed() {
+  check "$of: the sections of the page" has_sections
+  check "$of: the files of the page" has_files "$@"
+  check "$of: the version of the page" is_of_version
+  check "$of: the references of the page" has_references
+  check "$of: nothing of the page is still to be replaced" [ -z "$(grep '@' "$manual")" ]
+  if has mandoc "the form of the page of $of"; then
+    check "$of: the form of the page" is_silent "$manual"
+    check "$of: the form of the page in the sources" is_silent "$page"
+    check "$of: a section in another place is found" finds_fault 's/^\.Sh HIS\\&/.Sh HIS/'
+    check "$of: a wrong order of references is found" finds_fault 's/^\.Xr strace 1 ,/.Xr zsh 1 ,/'
+    check "$of: a long line is found" finds_fault '/^It /s/.*/& & & & & & & & & & & & & & & & & & & &/'
+  fi
+}
 
-run_page 'the manual page' < <(page_as_text "$manual")
-check 'commands of the manual page' runs_all "$manual"
+mapfile -t files_of_rtnl < <(printf '%s\n' "${things[@]}" | grep -v rtnl-record)
+is_formed "${files_of_rtnl[@]}"
+check 'the versions of the page' has_versions
+
+run_page "the page of $of" < <(page_as_text "$manual")
+check "commands of the page of $of" runs_all "$manual"

@@ -66,7 +66,8 @@ class Case(NamedTuple):
     size: int = 1 << 20
 
 
-SLOW, CUT = "no datagram came within 5 seconds", "the datagram was cut: {} of {} bytes are recorded"
+SLOW = "no datagram came within 5 seconds"
+CUT = "the datagram was cut: {} of {} bytes are recorded"
 INTR = "the kernel interrupted the dump: entries may be missing, or not agree"
 
 
@@ -95,11 +96,12 @@ CASES = [
          [message(2, code(1), seq=9).hex(), DONE.hex()]),
     Case("an overrun", [message(4)], [message(4).hex()], refused(errno.EOVERFLOW)),
     Case("an end without its number", [message(3)], [message(3).hex()]),
-    Case("a datagram that was cut", [LINK, DONE], ["# cut: 20 of 32 bytes", LINK[:20].hex(), DONE.hex()],
-         CUT.format(20, 32), 20),
+    Case("a datagram that was cut", [LINK, DONE],
+         ["# cut: 20 of 32 bytes", LINK[:20].hex(), DONE.hex()], CUT.format(20, 32), 20),
     Case("a datagram that was cut, and no more", [LINK + DONE],
          ["# cut: 32 of 52 bytes", LINK.hex()], CUT.format(32, 52), 32),
-    Case("a room of one byte", [DONE], ["# cut: 1 of 20 bytes", DONE.hex()[:2]], CUT.format(1, 20), 1),
+    Case("a room of one byte", [DONE], ["# cut: 1 of 20 bytes", DONE.hex()[:2]],
+         CUT.format(1, 20), 1),
     Case("a length of 0", [bytes(16) + DONE], [(bytes(16) + DONE).hex()]),
     Case("a length above the datagram", [b"\xff" * 32, DONE], ["ff" * 32, DONE.hex()]),
 ]
@@ -113,8 +115,8 @@ def judged(case: Case) -> bool:
     lines = [dump_line(it) for it in found]
     losses = [str(it) for it in found if isinstance(it, dump.Loss)]
     is_asked = link.sent.hex() == request() and link.to == (KERNEL, 0)
-    written = [it for it in lines if it is not None]
-    return is_asked and written == [FIRST, *case.lines] and losses == ([case.loss] if case.loss else [])
+    is_written = [it for it in lines if it is not None] == [FIRST, *case.lines]
+    return is_asked and is_written and losses == ([case.loss] if case.loss else [])
 
 
 def dump_line(item: Item) -> Optional[str]:

@@ -33,9 +33,9 @@ def judged(case: Case) -> List[str]:
     def bound() -> None:
         resource.setrlimit(resource.RLIMIT_AS, (MEMORY, MEMORY))
     try:
-        ran = subprocess.run([sys.executable, f"{ROOT}/rtnl-record", *case.words], input=case.capture,
-                             stdout=subprocess.PIPE, stderr=subprocess.PIPE, timeout=SECONDS,
-                             preexec_fn=bound)
+        ran = subprocess.run([sys.executable, f"{ROOT}/rtnl-record", *case.words],
+                             input=case.capture, stdout=subprocess.PIPE, stderr=subprocess.PIPE,
+                             timeout=SECONDS, preexec_fn=bound)
     except subprocess.TimeoutExpired:
         return [f"no end within {SECONDS} seconds"]
     if case.status == ANY:

@@ -1,12 +1,12 @@
 #!/usr/bin/env python3
 """Changes captures at random, always the same way, and has each source of rtnl-record read 10,000
-of them in this process: it gives datagrams, comments and notes, or says that the capture is
-damaged and where, and nothing else is raised; it takes no 5 seconds. Then the program reads some of
-them, one run each: the status is 0 or 1, what it printed are the lines of a recording, and standard
-error has its own lines alone. What the kernel answers is read in the same way.
+of them in this process: it gives datagrams, comments and notes, or says where the capture is
+damaged, and nothing else is raised; none takes 5 seconds. Then the program reads some of them, one
+run each: the status is 0 or 1, what it printed are the lines of a recording, and standard error has
+its own lines alone. What the kernel answers is read in the same way.
 
-The last line is 'N passed, M failed', with a case for each thousand and for each run; the status is
-1 where one failed.
+The last line is 'N passed, M failed', with a case for each thousand and for each run; the status
+is 1 where one failed.
 """
 import io
 import os
@@ -37,8 +37,8 @@ from output import LONGEST, Comment, Damaged, Item, Note
 SEED, COUNT, CASE, RUNS, SECONDS = 40, 10000, 1000, 40, 5
 NUMBERS = [0, 1, 2, 3, 4, 15, 16, 0x7F, 0x80, 0xFF, 0xFFFF, 0x10000, 0x7FFFFFFF, 0x80000000,
            0xFFFFFFF0, 0xFFFFFFFF]
-WORDS = [b"*", b"|", b"  ", b" = ", b") = ", b"\n", b"\0", b"\xff", b"00000000", b"ffffffffffffffff",
-         b"<unfinished ...>", b"<... recvmsg resumed>", b"recvmsg(3, ", b"iov_base=\"\\x", b" | 000"]
+WORDS = [b"*", b"|", b"  ", b" = ", b") = ", b"\n", b"\0", b"\xff", b"00000000", b"ffffffffffff",
+         b"<unfinished ...>", b"<... recvmsg resumed>", b"recvmsg(3, ", b"iov_base=\"\\x", b" | 0"]
 PLACE = re.compile(r"(?:byte|line) \d+: ")
 LINE = re.compile(r"(?:[0-9a-f]{2})+|# .*")
 SAID = re.compile(r"rtnl-record: standard input: .*")

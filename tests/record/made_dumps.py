@@ -4,7 +4,8 @@ from typing import Iterator
 from case import ONE, TWO, Case, said
 
 # 40 bytes: two rows and a half. The text has letters that look like digits, and blanks.
-LONG = bytes.fromhex("28000000100000000200000000000000" "61622063642020666520313220207c7c" "203132332020207c")
+LONG = bytes.fromhex(
+    "28000000100000000200000000000000" "61622063642020666520313220207c7c" "203132332020207c")
 FORMS = {
     "xxd": """\
 00000000: 2800 0000 1000 0000 0200 0000 0000 0000  (...............
@@ -119,8 +120,8 @@ def damaged() -> Iterator[Case]:
     yield dump("no front", ROW, 1, "", said("line 1: offset 10 does not follow on 0 bytes"))
     yield dump("a datagram above 1 MiB", f"{FIRST}0000: {'00' * ((1 << 20) + 1)}\n", 1, line,
                said("line 2: a datagram above 1048576 bytes"))
-    yield Case("xxd: a line above 16 MiB", ["xxd"], FIRST.encode() + b"0" * (1 << 24) + b"0", 1, "",
-               said("line 2: longer than 16777216 bytes"))
+    yield Case("xxd: a line above 16 MiB", ["xxd"], FIRST.encode() + b"0" * ((1 << 24) + 1), 1,
+               "", said("line 2: longer than 16777216 bytes"))
     yield Case("xxd: bytes", ["xxd"], ONE + b"\xff\n", 1, "", said(f"line 1: {NO_ROW}"))
 
 

@@ -65,8 +65,8 @@ def whole_pcaps() -> Iterator[Case]:
     yield Case("pcap of Ethernet", ["pcap", "-"], pcap(*both, link_type=1), 0, "",
                said("left out: 2 packets of link type 1"))
     yield Case("pcap of other protocols", ["pcap", "-"],
-               pcap(cooked(ONE), cooked(TWO, 16), cooked(ONE, 0x1000), cooked(TWO), cooked(b"", 16)),
-               0, LINES, said("left out: 2 packets of netlink protocol 16",
+               pcap(cooked(ONE), cooked(TWO, 16), cooked(ONE, 0x1000), cooked(TWO),
+                    cooked(b"", 16)), 0, LINES, said("left out: 2 packets of netlink protocol 16",
                               "left out: 1 packet of netlink protocol 4096"))
     yield Case("pcap of an empty datagram", ["pcap", "-"], pcap(cooked(b""), cooked(ONE)), 0,
                f"# a datagram of 0 bytes\n{ONE.hex()}\n")
@@ -93,8 +93,8 @@ def damaged_pcaps() -> Iterator[Case]:
                first, said("byte 76: the capture ends within the header of a packet"))
     yield Case("half a packet", ["pcap", "-"], front + record(cooked(TWO))[:-1], 1, first,
                said("byte 76: the capture ends within a packet of 32 bytes"))
-    yield Case("a packet that is shorter than its header", ["pcap", "-"], front + record(bytes(15)),
-               1, first, said("byte 76: 15 bytes of a netlink packet of 15"))
+    yield Case("a packet that is shorter than its header", ["pcap", "-"],
+               front + record(bytes(15)), 1, first, said("byte 76: 15 bytes of a netlink packet of 15"))
     yield Case("a packet of more bytes than it had", ["pcap", "-"],
                front + record(cooked(TWO), 31), 1, first,
                said("byte 76: 32 bytes of a netlink packet of 31"))

@@ -23,7 +23,8 @@ def cases() -> Iterator[Case]:
                    f"{time}{odd.hex()}\n{time}")
     # A type 15 of another size is no time; a first message that is none says nothing of the order.
     other = message(15, b"1234")
-    yield Case("rtmon without a time", ["rtmon", "-"], other + ONE, 0, f"{other.hex()}\n{ONE.hex()}\n")
+    yield Case("rtmon without a time", ["rtmon", "-"], other + ONE, 0,
+               f"{other.hex()}\n{ONE.hex()}\n")
     yield Case("rtmon of nothing", ["rtmon", "-"], b"", 0, "")
     yield Case("rtmon of a strange time", ["rtmon", "-"],
                message(15, struct.pack("<II", 0xFFFFFFFF, 0xFFFFFFFF)), 0,

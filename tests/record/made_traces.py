@@ -22,8 +22,8 @@ def trace(name: str, lines: List[str], status: int, output: str, errors: str = "
 
 def whole() -> Iterator[Case]:
     recv, send = "recv(3, [...], 65536, 0) = 20", "send(3, [...], 16, 0) = 16"
-    for receive in (recv, "recvfrom(3, [...], 65536, 0, NULL, NULL) = 20", "read(3, 0x1, 999) = 20",
-                    "readv(3, [{iov_base=[...], iov_len=99}], 1) = 20",
+    for receive in (recv, "recvfrom(3, [...], 65536, 0, NULL, NULL) = 20",
+                    "read(3, 0x1, 999) = 20", "readv(3, [{iov_base=[...], iov_len=99}], 1) = 20",
                     "recvmsg(3, {msg_iov=[{iov_base=[...], iov_len=99}], msg_flags=0}, 0) = 20"):
         yield trace(receive, [OPENED, receive, *ROWS], 0, RECEIVED)
     for sent in (send, "sendto(3, [...], 16, 0, NULL, 0) = 16", "write(3, 0x1, 16) = 16",
@@ -39,7 +39,8 @@ def whole() -> Iterator[Case]:
     yield trace("a peek, a failure and an end",
                 [OPENED, "recv(3, [...], 20, MSG_PEEK) = 20", *ROWS, "recv(3, 0x1, 20, 0) = -1 "
                  "EAGAIN (Resource temporarily unavailable)", "recv(3, \"\", 20, 0) = 0",
-                 "recv(3, 0x1, 20, 0) = ? ERESTARTSYS (To be restarted)", recv, *ROWS], 0, RECEIVED)
+                 "recv(3, 0x1, 20, 0) = ? ERESTARTSYS (To be restarted)", recv, *ROWS],
+                0, RECEIVED)
     yield trace("another socket", [OTHER, recv, *ROWS], 1, "", NOTHING)
     yield trace("a file of the same number",
                 [OPENED, "close(3) = 0", "read(3, \"...\", 99) = 20", *ROWS], 1, "", NOTHING)
@@ -59,7 +60,8 @@ def damaged() -> Iterator[Case]:
             ("an odd row", ROWS[1].replace("00 00 00 00", "00 00 00 0 ")),
             ("a place of other letters", ROWS[1].replace("00010", "0001x")),
             ("a row that was cut", ROWS[1][:24]),
-            ("another text", ROWS[1].replace("....", "abcd").replace("00 00 00 00", "61 62 63 65"))):
+            ("another text", ROWS[1].replace("....", "abcd").replace("00 00 00 00", "61 62 63 65"))
+    ):
         yield trace(name, [*front, recv, ROWS[0], row, "close(3) = 0"], 1, SENT,
                     said("line 6: no row of bytes"))
     yield trace("a row that was left out", [*front, recv, ROWS[1]], 1, SENT,

@@ -1,0 +1,34 @@
+# Completion of the command rtnl-record in fish.
+
+set -l commands dump monitor pcap rtmon strace xxd
+set -l groups all address route rule link notify neigh tc ipv4_ifaddr ipv4_mroute \
+    ipv4_route ipv4_rule \
+    ipv6_ifaddr ipv6_mroute ipv6_route ipv6_ifinfo decnet_ifaddr nop2 decnet_route decnet_rule \
+    nop4 ipv6_prefix ipv6_rule nd_useropt phonet_ifaddr phonet_route dcb ipv4_netconf \
+    ipv6_netconf mdb mpls_route nsid mpls_netconf ipv4_mroute_r ipv6_mroute_r nexthop brvlan \
+    mctp_ifaddr tunnel stats ipv4_mcaddr ipv6_mcaddr ipv6_acaddr
+set -l asking '__fish_seen_subcommand_from dump monitor'
+set -l dump '__fish_seen_subcommand_from dump'
+set -l monitor '__fish_seen_subcommand_from monitor'
+set -l dumped '__fish_seen_subcommand_from xxd'
+set -l read '__fish_seen_subcommand_from pcap rtmon strace xxd'
+set -l first "not __fish_seen_subcommand_from $commands"
+
+complete -c rtnl-record -f
+complete -c rtnl-record -n $first -a dump -d 'Ask the kernel for links and the like'
+complete -c rtnl-record -n $first -a monitor -d 'Record what the kernel notifies of'
+complete -c rtnl-record -n $first -a pcap -d 'Read a capture of tcpdump or tshark'
+complete -c rtnl-record -n $first -a rtmon -d 'Read what rtmon wrote'
+complete -c rtnl-record -n $first -a strace -d 'Read what strace wrote of another program'
+complete -c rtnl-record -n $first -a xxd -d 'Read a dump in hexadecimal'
+complete -c rtnl-record -s h -l help -d 'Print help'
+
+complete -c rtnl-record -n $read -F
+complete -c rtnl-record -n $dump -a 'link addr route neigh rule'
+complete -c rtnl-record -n $dump -l family -x -d 'Address family of the request'
+complete -c rtnl-record -n $dump -l buffer -x -d 'Size of the buffer for a datagram'
+complete -c rtnl-record -n $asking -l netns -x -a '(ip netns list 2>/dev/null | cut -d " " -f 1)' \
+    -d 'Network namespace'
+complete -c rtnl-record -n $monitor -a "$groups"
+complete -c rtnl-record -n $monitor -l time -d 'Print the time before each datagram'
+complete -c rtnl-record -n $dumped -l cooked -d 'The dumps are of packets of an nlmon device'

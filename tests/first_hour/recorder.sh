@@ -1,0 +1,49 @@
+# The manual page of rtnl-record and its completions, by its help, as pages.sh, manual.sh and completions.sh have it
+# of rtnl.
+
+# as_recorder COMMAND..: with the recorder for the program that these scripts compare.
+as_recorder() {
+  local of=rtnl-record page=share/man/man1/rtnl-record.1 manual=$prefix/share/man/man1/rtnl-record.1
+  local commands_of=(dump monitor pcap rtmon strace xxd)
+  local sections='NAME SYNOPSIS DESCRIPTION OPTIONS EXIT STATUS DIAGNOSTICS FILES STANDARDS HISTORY EXAMPLES SEE ALSO'
+  "$@"
+}
+
+# words_of OPTION COMMAND: the words that the help of a command names behind an argument.
+groups_in_help() {
+  "$user/rtnl-record" monitor --help | sed -n '/^  GROUP /,/^$/p' | tr '\n' ' ' |
+    sed 's/.*: //' | tr -d ' ' | tr ',' '\n' | sort
+}
+
+mapfile -t files_of_recorder < <(
+  printf '%s\n' "${things[@]}" | grep rtnl-record | sed 's|\(share/rtnl-record\)/.*|\1|' | sort -u
+)
+as_recorder compares_page
+as_recorder is_formed "${files_of_recorder[@]}"
+run_page 'the page of rtnl-record' < <(page_as_text "$prefix/share/man/man1/rtnl-record.1")
+check 'commands of the page of rtnl-record' runs_all "$prefix/share/man/man1/rtnl-record.1"
+
+# options_of COMMAND: its options, in one line.
+options_of() { as_recorder helped "$1" | grep -e '^--' | tr '\n' ' ' | sed 's/ $//'; }
+
+# completed_recorder SHELL: the cases of a shell.
+completed_recorder() {
+  local shell=$1 command
+  check "$shell: all commands of the recorder" completes "$shell" 'dump monitor pcap rtmon strace xxd' rtnl-record ''
+  check "$shell: kinds of a dump" completes "$shell" 'addr link neigh route rule' rtnl-record dump ''
+  check "$shell: groups" completes "$shell" "$(groups_in_help | xargs)" rtnl-record monitor ''
+  check "$shell: another group" completes "$shell" 'neigh' rtnl-record monitor link nei
+  check "$shell: no number of the recorder" completes "$shell" '' rtnl-record dump --buffer ''
+  for command in dump monitor pcap rtmon strace xxd; do
+    check "$shell: options of the recorder's $command" completes "$shell" "$(options_of "$command")" \
+      rtnl-record "$command" --
+  done
+}
+
+# has_words_of_recorder FILE: each command, group and option stands there.
+has_words_of_recorder() {
+  local word
+  while read -r word; do
+    grep -qE -e "(^|[^a-z0-9_-])$word([^a-z0-9_-]|\$)" "$1" || ! echo "$word is missing" || return
+  done < <(as_recorder in_all_help; as_recorder commands_in_help; groups_in_help)
+}
