@@ -11,7 +11,6 @@ if [ "${2-}" != inside ]; then
   exec unshare -n "$0" "$1" inside
 fi
 
-
 # What `ip` is asked to make.
 links() {
   echo 'link set lo up'

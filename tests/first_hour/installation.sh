@@ -56,7 +56,7 @@ is_blocked() {
 # A file that was changed since is left, and all else is removed.
 leaves_changed() {
   "$user/install" "$prefix" >/dev/null 2>&1 && echo '# mine' >>"$prefix/share/zsh/site-functions/_rtnl" &&
-    ends 1 "$(each removed | grep -v /zsh/)" \
+    ends 1 "$(each removed | grep -v '/_rtnl$')" \
       "install: $prefix/share/zsh/site-functions/_rtnl was changed since it was installed; it is left" \
       "$user/install" --remove "$prefix" && [ "$(tail -n 1 "$prefix/share/zsh/site-functions/_rtnl")" = '# mine' ] &&
     rm -r "$prefix/share/zsh" && listed "$prefix" | diff "$folder/before" -
