@@ -2,7 +2,7 @@
 import argparse
 import signal
 import sys
-from typing import BinaryIO, Callable, Iterator, List, NamedTuple, NoReturn, Optional
+from typing import Any, BinaryIO, Callable, Iterator, List, NamedTuple, NoReturn, Optional
 
 import dump
 import groups
@@ -39,7 +39,7 @@ class Command(NamedTuple):
 class Parser(argparse.ArgumentParser):
     """Reports a usage error in one line."""
 
-    def __init__(self, **rest) -> None:  # type: ignore[no-untyped-def]
+    def __init__(self, **rest: Any) -> None:
         super().__init__(add_help=False, allow_abbrev=False,
                          formatter_class=argparse.RawDescriptionHelpFormatter, **rest)
         self.arguments = self.add_argument_group("Arguments")

@@ -74,15 +74,16 @@ class Sockets:
 
     def closed(self, part: Part) -> None:
         found = strace_line.DESCRIPTOR.match(part.text)
-        for process in {part.process, None} if found else ():
-            self.known.pop((process, found[1]), None)
+        if found:
+            self.known.pop((part.process, found[1]), None)
+            self.known.pop((None, found[1]), None)
 
     def has(self, part: Part) -> bool:
         """Whether a call is of such a socket."""
         found = strace_line.DESCRIPTOR.match(part.text)
-        file, protocol = found.groups() if found else ("", None)
+        file, protocol = (found[1], found[2]) if found else ("", None)
         if protocol and not protocol.isdecimal():
-            return protocol == "ROUTE"
+            return bool(protocol == "ROUTE")
         known = self.known.get((part.process, file), self.known.get((None, file)))
         if known is None and part.name not in PLAIN:
             return "AF_NETLINK" in part.text or "nlmsg_len=" in part.text

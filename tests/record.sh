@@ -7,6 +7,8 @@
 set -u
 cd "$(dirname "${BASH_SOURCE[0]}")/.." || exit 1
 
+program=$(tests/proved.py) || exit 1
+
 # All runs in the namespace, if there can be one.
 if [ "${1-}" != inside ]; then
   tests/packages.sh ip iproute2 strace strace xxd xxd hexdump bsdextrautils tshark tshark tcpdump tcpdump
@@ -15,9 +17,9 @@ if [ "${1-}" != inside ]; then
   done
 fi
 
-program=$(tests/proved.py) || exit 1
 folder=$(mktemp -d) || exit 1
-trap 'rm -rf "$folder"' EXIT
+# What a case that failed left running ends with this script.
+trap 'kill $(jobs -p) 2>/dev/null; rm -rf "$folder"' EXIT
 . tests/counting.sh
 
 # ends STATUS OUTPUT ERRORS COMMAND..: the command ends with this status and writes this output and these
@@ -41,7 +43,9 @@ into_full_device() { "$@" >/dev/full; }
 # counts SCRIPT: the cases of a script that counts its own.
 counts() {
   local line
-  line=$("$1" | tee /dev/fd/2 | tail -n 1)
+  "$1" >"$folder/counted" 2>&1
+  sed '$d' "$folder/counted"
+  line=$(tail -n 1 "$folder/counted")
   if [[ $line =~ ^([0-9]+)\ passed,\ ([0-9]+)\ failed$ ]]; then
     passed=$((passed + BASH_REMATCH[1]))
     failed=$((failed + BASH_REMATCH[2]))

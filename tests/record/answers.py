@@ -13,7 +13,7 @@ from typing import List, NamedTuple, Optional, Tuple
 sys.dont_write_bytecode = True
 sys.path.insert(0, f"{os.path.dirname(os.path.realpath(__file__))}/../../record")
 import dump
-from output import Item
+from output import Item, Loss
 
 KERNEL, PORT, SEQ = 0, 4711, 1
 MULTI, INTERRUPTED = 2, 0x10
@@ -37,7 +37,8 @@ class Socket:
     """Hands out datagrams, each with the port id of its sender."""
 
     def __init__(self, datagrams: List[Tuple[int, bytes]]) -> None:
-        self.datagrams, self.sent, self.waits = datagrams, b"", []  # type: ignore[var-annotated]
+        self.datagrams, self.sent = datagrams, b""
+        self.waits: List[float] = []
 
     def getsockname(self) -> Tuple[int, int]:
         return PORT, 0
@@ -113,16 +114,16 @@ def judged(case: Case) -> bool:
     link = Socket([it for data in case.datagrams for it in ((PORT, message(2)), (KERNEL, data))])
     found: List[Item] = [*dump.items(link, "link", 2, case.size)]  # type: ignore[arg-type]
     lines = [dump_line(it) for it in found]
-    losses = [str(it) for it in found if isinstance(it, dump.Loss)]
+    losses = [str(it) for it in found if isinstance(it, Loss)]
     is_asked = link.sent.hex() == request() and link.to == (KERNEL, 0)
     is_written = [it for it in lines if it is not None] == [FIRST, *case.lines]
     return is_asked and is_written and losses == ([case.loss] if case.loss else [])
 
 
 def dump_line(item: Item) -> Optional[str]:
-    if isinstance(item, dump.Loss):
-        return None
-    return f"# {item}" if isinstance(item, dump.Comment) else bytes(item).hex()
+    if isinstance(item, bytes):
+        return item.hex()
+    return None if isinstance(item, Loss) else f"# {item}"
 
 
 def request() -> str:

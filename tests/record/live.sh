@@ -87,6 +87,7 @@ has_lines() { [ "$(wc -l <"$1")" -ge "$2" ]; }
 
 # begins_monitor ARGUMENT..: a monitor runs and its socket is open.
 begins_monitor() {
+  rm -f "$folder/recording" && : >"$folder/recording"
   ./rtnl-record monitor "$@" >"$folder/recording" 2>"$folder/errors" &
   monitor=$!
   lines_come "$folder/recording" 1
@@ -162,13 +163,15 @@ hears_again() {
 
 # A reader that goes away ends a monitor with the next notification.
 monitor_leaves_quietly() {
-  ./rtnl-record monitor neigh 2>"$folder/errors" | head -n 1 >"$folder/output" &
+  : >"$folder/output"
+  ./rtnl-record monitor neigh 2>"$folder/errors" > >(head -n 1 >"$folder/output") &
+  monitor=$!
   lines_come "$folder/output" 1 && ip -6 neigh replace 2001:db8::8 lladdr 02:00:00:00:00:02 dev lo &&
-    timeout 10 tail --pid="$(jobs -p %%)" -f /dev/null && [ ! -s "$folder/errors" ]
-  local found=$?
-  wait
-  return "$found"
+    soon has_ended && [ ! -s "$folder/errors" ] || return
+  wait "$monitor"
+  [ $? = 141 ]
 }
+has_ended() { ! kill -0 "$monitor" 2>/dev/null || grep -q '^State:.Z' "/proc/$monitor/status"; }
 
 # What strace prints of the bytes that rtnl-record receives are the lines that it writes.
 is_traced() {

@@ -80,11 +80,11 @@ def whole() -> Iterator[Case]:
                "00" * (1 << 20) + "\n")
     packet = "0000   00 04 03 38 00 00 00 00 00 00 00 00 00 00 00 {:02x}   ...8............\n"
     rest = "0010   10 00 00 00 01 00 00 00 02 00 00 00 00 00 00 00   ................\n"
-    text = (packet.format(0) + rest + packet.format(16) + rest).encode()
-    yield Case("xxd --cooked", ["xxd", "--cooked"], text, 0, f"{TWO.hex()}\n",
+    both = (packet.format(0) + rest + packet.format(16) + rest).encode()
+    yield Case("xxd --cooked", ["xxd", "--cooked"], both, 0, f"{TWO.hex()}\n",
                said("left out: 1 packet of netlink protocol 16"))
     yield Case("xxd --cooked, a short one", ["xxd", "--cooked", "-"],
-               text + b"0000   00 04\n", 1, f"{TWO.hex()}\n",
+               both + b"0000   00 04\n", 1, f"{TWO.hex()}\n",
                said("line 5: 2 bytes of a netlink packet of 2"))
 
 
