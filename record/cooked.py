@@ -42,7 +42,15 @@ class Packets:
     def leave(self, sort: str) -> None:
         self.others[sort] = self.others.get(sort, 0) + 1
 
+    def counted(self, found: Iterator[Item]) -> Iterator[Item]:
+        """What is found, and how many packets were left out up to its end, or to the damage."""
+        try:
+            yield from found
+        except Damaged:
+            yield from self.notes()
+            raise
+        yield from self.notes()
+
     def notes(self) -> Iterator[Note]:
-        """How many packets were left out."""
         for sort, count in self.others.items():
             yield Note(f"left out: {count} packet{'s' if count > 1 else ''} of {sort}")

@@ -15,8 +15,10 @@ GAP = re.compile(r"  +")
 # The width of eight bytes.
 HALF = 23
 GROUPS = re.compile(r"(?:[0-9A-Fa-f]{2})+(?: (?:[0-9A-Fa-f]{2})+)*")
-# A row of this sign stands for rows that are the same as the one before.
+# A row of this sign stands for rows that are the same as the one before: for so many bytes at most
+# in all, since a few signs could stand for any number.
 SAME = "*"
+MOST_SAME = 1 << 24
 
 
 class Row(NamedTuple):
@@ -71,6 +73,7 @@ class Dump:
     def __init__(self, is_cooked: bool) -> None:
         self.is_cooked, self.packets = is_cooked, cooked.Packets()
         self.begin, self.data, self.last, self.repeats = 0, bytearray(), b"", False
+        self.same = 0
 
     def line(self, number: int, text: str) -> Iterator[Item]:
         """Takes a line, which may end the datagram before it."""
@@ -97,6 +100,9 @@ class Dump:
             return
         if missing <= 0 or missing % len(self.last) or place > LONGEST:
             raise Damaged(f"line {number}: no rows like the last one lead to offset {place:x}")
+        self.same += missing
+        if self.same > MOST_SAME:
+            raise Damaged(f"line {number}: rows left out for more than {MOST_SAME} bytes in all")
         self.data += self.last * (missing // len(self.last))
         self.repeats = False
 
@@ -121,11 +127,15 @@ class Dump:
             yield data
 
 
-def items(file: BinaryIO, is_cooked: bool = False) -> Iterator[Item]:
-    """Each datagram; if it is cooked, without the 16 bytes that nlmon puts in front."""
-    dump, number = Dump(is_cooked), 0
+def found(dump: Dump, file: BinaryIO) -> Iterator[Item]:
+    number = 0
     for number, text in lines(file, "utf-8"):
         if text.strip() and not text.startswith("#"):
             yield from dump.line(number, text)
     yield from dump.end(number + 1)
-    yield from dump.packets.notes()
+
+
+def items(file: BinaryIO, is_cooked: bool = False) -> Iterator[Item]:
+    """Each datagram; if it is cooked, without the 16 bytes that nlmon puts in front."""
+    dump = Dump(is_cooked)
+    yield from dump.packets.counted(found(dump, file))

@@ -21,19 +21,19 @@ LINK_TYPE = 0x03FFFFFF
 
 def items(file: BinaryIO) -> Iterator[Item]:
     """What the capture gives, and last what was left out of it."""
-    source, packets = Source(file), Packets()
-    try:
-        magic = source.exactly(4, "byte 0", "its first bytes")
-        if magic == pcapng.SECTION:
-            yield from pcapng.items(source, packets)
-        elif magic in MAGICS:
-            yield from classic(source, packets, MAGICS[magic])
-        else:
-            raise Damaged("byte 0: neither pcap nor pcapng")
-    except Damaged:
-        yield from packets.notes()
-        raise
-    yield from packets.notes()
+    packets = Packets()
+    yield from packets.counted(found(Source(file), packets))
+
+
+def found(source: Source, packets: Packets) -> Iterator[Item]:
+    """What the packets give, by what the file begins with."""
+    magic = source.exactly(4, "byte 0", "its first bytes")
+    if magic == pcapng.SECTION:
+        yield from pcapng.items(source, packets)
+    elif magic in MAGICS:
+        yield from classic(source, packets, MAGICS[magic])
+    else:
+        raise Damaged("byte 0: neither pcap nor pcapng")
 
 
 def classic(source: Source, packets: Packets, order: str) -> Iterator[Item]:

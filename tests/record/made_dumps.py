@@ -85,7 +85,8 @@ def whole() -> Iterator[Case]:
                said("left out: 1 packet of netlink protocol 16"))
     yield Case("xxd --cooked, a short one", ["xxd", "--cooked", "-"],
                both + b"0000   00 04\n", 1, f"{TWO.hex()}\n",
-               said("line 5: 2 bytes of a netlink packet of 2"))
+               said("left out: 1 packet of netlink protocol 16",
+                    "line 5: 2 bytes of a netlink packet of 2"))
 
 
 def damaged() -> Iterator[Case]:
@@ -111,6 +112,10 @@ def damaged() -> Iterator[Case]:
     for end in ("00000010", "00000018", "0000000f", "00100010", "ffffffffffffff00"):
         yield dump(f"rows up to {end}", f"{FIRST}{ZEROS}*\n{end}\n", 1, line,
                    said(f"line 4: no rows like the last one lead to offset {int(end, 16):x}"))
+    zeros = f"{ROW.replace('10', '00', 1)}*\n00100000\n"
+    yield dump("rows left out for more than 16 MiB", zeros * 17 + zeros * 9999, 1,
+               ("00" * (1 << 20) + "\n") * 16,
+               said("line 51: rows left out for more than 16777216 bytes in all"))
     yield dump("a row is missing", f"{FIRST}{ZEROS}{ROW.replace('10', '20', 1)}", 1, line,
                said("line 3: offset 20 does not follow on 16 bytes"))
     yield dump("a row stands twice", f"{FIRST}{ZEROS}{ROW}{ROW}", 1, line,
