@@ -41,6 +41,13 @@ def whole() -> Iterator[Case]:
                  "EAGAIN (Resource temporarily unavailable)", "recv(3, \"\", 20, 0) = 0",
                  "recv(3, 0x1, 20, 0) = ? ERESTARTSYS (To be restarted)", recv, *ROWS],
                 0, RECEIVED)
+    yield trace("what looks like an answer, in a name",
+                [OPENED, "recvmsg(3, {msg_name=\"a) = 5\", msg_flags=0}, 0) = 20", *ROWS], 0,
+                RECEIVED)
+    yield trace("times and answers with their files, and how long a call took",
+                ["12:00:01.5 socket(AF_NETLINK, SOCK_RAW, NETLINK_ROUTE) = 3<NETLINK:[77]> <0.1>",
+                 "7  12:00:02.5 recv(3<NETLINK:[ROUTE:7]>, [...], 65536, 0)  = 20 <0.000012>",
+                 *ROWS], 0, RECEIVED)
     yield trace("another socket", [OTHER, recv, *ROWS], 1, "", NOTHING)
     yield trace("a file of the same number",
                 [OPENED, "close(3) = 0", "read(3, \"...\", 99) = 20", *ROWS], 1, "", NOTHING)
