@@ -147,7 +147,8 @@ same 'the item at a place is sought by those who ask for one, and in no walk' \
   'crates/nl_attr/src/walk/cursors.rt 2
 crates/nl_dump/src/sifting.rt 1
 crates/nl_frame/src/front.rt 1
-crates/rtnl_c/src/cursors.rt 3'
+crates/rtnl_c/src/cursors.rt 3
+crates/rtnl_cli/src/hints.rt 1'
 
 same 'an attribute of a number is sought for C by one loop over what stands at a place' \
   "$(counts '\brtnlc_attr_at\(')" \

@@ -3,10 +3,11 @@
 use crate::commands::MOST_ENTRIES;
 use crate::heading::Numbers;
 use crate::name::Name;
+use nl_attr::{LONGEST_REGION, Order, SORT_MESSAGE};
 use nl_dump::match_table;
-use rtnl::LONGEST_INPUT;
 use rtnl::dump::{Dump, Session};
-use rtnl::frame::{Limits, ReadError, read_datagram};
+use rtnl::frame::{Limits, message_at};
+use rtnl::{LONGEST_INPUT, Tape, tape_of};
 use std::alloc::{AllocError, Global};
 use std::io;
 
@@ -38,6 +39,20 @@ pub(crate) fn hint_missed(
     }
 }
 
+/// The numbers of the message whose header stands at this place of a datagram.
+fn numbers_at(datagram: &[u8], place: u32, order: Order) -> Option<Numbers> {
+    if datagram.len() > LONGEST_REGION as usize {
+        return None;
+    }
+    match message_at(datagram, place, order)? {
+        Ok(frame) => Some(Numbers {
+            seq: frame.header.seq,
+            port: frame.header.port,
+        }),
+        Err(_) => None,
+    }
+}
+
 /// The numbers of each message of the datagrams that are taken.
 fn numbers_of(
     alloc: Global,
@@ -46,17 +61,14 @@ fn numbers_of(
 ) -> Result<Vec<Numbers>, AllocError> {
     let mut numbers = Vec::new(alloc);
     for datagram in found {
-        match read_datagram(alloc, datagram, limits).into_result() {
-            Ok(messages) => {
-                for message in &messages {
-                    numbers.push(Numbers {
-                        seq: message.seq,
-                        port: message.port,
-                    })?;
-                }
+        let Tape { events, refusal } = tape_of(alloc, datagram, limits)?;
+        if refusal.is_some() {
+            continue;
+        }
+        for event in events.iter().filter(|event| event.sort == SORT_MESSAGE) {
+            if let Some(its) = numbers_at(datagram, event.place, limits.order()) {
+                numbers.push(its)?;
             }
-            Err(ReadError::Memory) => return Err(AllocError),
-            Err(ReadError::Layout(_) | ReadError::TooLarge) => {}
         }
     }
     Ok(numbers)
