@@ -1,5 +1,7 @@
 //! What the arguments of the program ask for.
 
+ghost use Rattle.std.specs.Prelude.{◌≡◌, ◌&&◌, is_some, IsSome, IsSomeAnd, IfSome, MatchOption};
+
 use crate::commands::{COLORS, FORMATS, ORDERS, Values, rtnl, usage_error};
 use crate::heading::{Numbers, is_digits, numbers_in};
 use crate::name::{Escaped, Name, is_escaped};
@@ -62,12 +64,23 @@ pub(crate) struct Sought {
 
 impl Sought {
     /// Whether the options say both numbers.
-    pub(crate) fn is_whole(self) -> bool {
+    pub(crate) fn is_whole(self) -> bool
+        ensures { result ≡ (is_some self.seq && is_some self.port) }
+    {
         self.seq.is_some() && self.port.is_some()
     }
 
     /// The dump, whose numbers are those of the options, and else these.
-    pub(crate) fn dump(self, numbers: Option<Numbers>) -> Option<Dump> {
+    pub(crate) fn dump(self, numbers: Option<Numbers>) -> Option<Dump>
+        ensures asked { IfSome result (λ dump. (dump.kind ≡ self.kind)
+            × (dump.family ≡ self.family)) }
+        ensures seq { IfSome result (λ dump. MatchOption self.seq
+            (IsSomeAnd numbers (λ found. dump.seq ≡ found.seq)) (λ given. dump.seq ≡ given)) }
+        ensures port { IfSome result (λ dump. MatchOption self.port
+            (IsSomeAnd numbers (λ found. dump.port ≡ found.port)) (λ given. dump.port ≡ given)) }
+        ensures named { IsSome numbers → IsSome result }
+        ensures whole { IsSome self.seq → IsSome self.port → IsSome result }
+    {
         Some(Dump {
             kind: self.kind,
             family: self.family,
@@ -95,7 +108,10 @@ pub(crate) struct Table {
 
 impl Table {
     /// What is done with this recording, where the options or it say which dump it answers.
-    pub(crate) fn work(&self, input: &[u8]) -> Option<Work> {
+    pub(crate) fn work(&self, input: &[u8]) -> Option<Work>
+        ensures { IfSome result (λ work. (work.format ≡ self.now.format)
+            × (work.limits ≡ self.now.limits)) }
+    {
         let numbers = if self.sought.is_whole() {
             None
         } else {

@@ -1,5 +1,9 @@
 //! The line of a recording that names the dump which it answers.
 
+ghost use Rattle.std.specs.Prelude.{◌≡◌, ◌≤◌, ◌<◌, ◌^◌, ◌↔◌, All, IsTrue, length};
+ghost use Rattle.std.specs.Option.{SomeIff};
+ghost use Rattle.std.specs.Str.Parse.{IsNumeral, digits_value};
+
 use std::str;
 
 /// A sequence number and a port id.
@@ -10,12 +14,18 @@ pub(crate) struct Numbers {
 }
 
 /// Whether a word is digits alone, so that no sign is one.
-pub(crate) fn is_digits(word: &str) -> bool {
+pub(crate) fn is_digits(word: &str) -> bool
+    ensures { IsTrue result ↔ ((0 < length word.now)
+        × All (λ byte. (48 ≤ byte) × (byte ≤ 57)) word.now) }
+{
     !word.is_empty() && word.bytes().all(|byte| byte.is_ascii_digit())
 }
 
 /// The number of these digits, where it is below 2^32.
-fn number_of(word: &str) -> Option<u32> {
+fn number_of(word: &str) -> Option<u32>
+    ensures { SomeIff result (IsNumeral 10 word.now × (digits_value 10 word.now < 2 ^ 32))
+        (digits_value 10 word.now) }
+{
     if is_digits(word) {
         word.parse().ok()
     } else {

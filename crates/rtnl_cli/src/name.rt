@@ -1,5 +1,8 @@
 //! Names on standard error.
 
+ghost use Rattle.std.specs.Prelude.{◌≡◌, ◌↔◌, ◌⊎◌, IsTrue, is_some};
+ghost use Rattle.std.specs.Char.{is_control};
+
 use std::fmt;
 
 /// A text as between the quotes of a C string: control characters, backslashes and quotes are
@@ -8,7 +11,10 @@ use std::fmt;
 pub(crate) struct Escaped<'a>(pub &'a str);
 
 /// Whether a character is written otherwise than as it is.
-pub(crate) fn is_escaped(character: char) -> bool {
+pub(crate) fn is_escaped(character: char) -> bool
+    ensures { IsTrue result ↔ (IsTrue (is_control character)
+        ⊎ ((character ≡ 34) ⊎ (character ≡ 92))) }
+{
     character.is_control() || matches!(character, '\\' | '"')
 }
 
@@ -36,7 +42,9 @@ impl fmt::Display for Escaped<'_> {
 pub(crate) struct Name<'a>(pub Option<&'a str>);
 
 impl Name<'_> {
-    pub(crate) fn is_file(self) -> bool {
+    pub(crate) fn is_file(self) -> bool
+        ensures { result ≡ is_some self.entry.0 }
+    {
         self.0.is_some()
     }
 }

@@ -1,0 +1,2 @@
+-- What proofs of the program cite.
+mod Digits
