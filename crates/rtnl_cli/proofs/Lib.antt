@@ -1,2 +1,3 @@
 -- What proofs of the program cite.
 mod Digits
+mod Headings

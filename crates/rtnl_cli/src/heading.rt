@@ -1,8 +1,9 @@
 //! The line of a recording that names the dump which it answers.
 
-ghost use Rattle.std.specs.Prelude.{◌≡◌, ◌≤◌, ◌<◌, ◌^◌, ◌↔◌, All, IsTrue, length};
+ghost use Rattle.std.specs.Prelude.{◌≡◌, ◌≤◌, ◌<◌, ◌^◌, ◌↔◌, All, IfSome, IsTrue, List, length, ℕ};
 ghost use Rattle.std.specs.Option.{SomeIff};
 ghost use Rattle.std.specs.Str.Parse.{IsNumeral, digits_value};
+ghost use Rattle.rtnl_cli.specs.Heading.{Names};
 
 use std::str;
 
@@ -34,9 +35,12 @@ fn number_of(word: &str) -> Option<u32>
 }
 
 /// The numbers in a line `# seq N port N`, which may have blanks at its end.
-fn numbers_of(line: &[u8]) -> Option<Numbers> {
-    let words = line.strip_prefix(b"# seq ")?;
-    let (seq, port) = str::from_utf8(words).ok()?.trim_end().split_once(" port ")?;
+fn numbers_of(line: &[u8]) -> Option<Numbers>
+    ensures { IfSome result (λ numbers. (blanks : List ℕ)
+        × Names line.now numbers.seq numbers.port blanks) }
+{
+    let words = str::from_utf8(line).ok()?.strip_prefix("# seq ")?;
+    let (seq, port) = words.trim_end().split_once(" port ")?;
     Some(Numbers {
         seq: number_of(seq)?,
         port: number_of(port)?,

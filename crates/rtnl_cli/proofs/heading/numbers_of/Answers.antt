@@ -1,0 +1,27 @@
+use Rattle.std.proofs.Common.{rules, ◌≡◌, ℕ, List, ◌++◌, drop, codes, sym, ap, ◌∙◌}
+use Rattle.rtnl_cli.specs.Heading.{Names}
+use Rattle.rtnl_cli.proofs.Headings.{parted, put_together}
+use Rattle.rtnl_cli.proofs.heading.numbers_of.Goals as goal
+
+pub returns : goal.returns
+returns c =
+    let pre : List ℕ = codes "# seq " in
+    let mid : List ℕ = codes " port " in
+    let text = c.in_ok-ok.field-0.now in
+    let words = c.in_ok-words.words.now in
+    let seq = c.in_ok-seq.seq.now in
+    let port = c.in_ok-seq.port.now in
+    let strips = c.in_ok-words.ensures.cases in
+    let splits = c.in_ok-seq.ensures.cases in
+    let trims = c.trim_end.ensures.value in
+    let same : c.args.line.now ≡ text = search rules in
+    let head : text ≡ pre ++ words = strips.1.1 ∙ ap (λ rest. pre ++ rest) (sym strips.2) in
+    let inside = parted splits.0 splits.1 mid c.trim_end.result.now seq port splits.2.1.split splits.3 splits.4 in
+    let whole = put_together trims.0 pre seq mid port words c.trim_end.result.now trims.1 inside in
+    (drop trims.0 words, record {
+      seq_digits = seq;
+      port_digits = port;
+      stands = same ∙ (head ∙ whole);
+      is_seq = (c.in_ok-number_of.ensures.0.0, sym c.in_ok-number_of.ensures.1);
+      is_port = (c.in_ok-number_of-2.ensures.0.0, sym c.in_ok-number_of-2.ensures.1);
+    })
