@@ -14,7 +14,7 @@ pub put_together : (m : ℕ) (pre seq mid port words trimmed : List ℕ) → tri
 put_together m pre seq mid port words trimmed cut stands =
     let front : take m words ≡ (seq ++ mid) ++ port = sym cut ∙ stands in
     let whole : words ≡ ((seq ++ mid) ++ port) ++ drop m words =
-      sym (take-append-drop m words) ∙ ap (λ f. f ++ drop m words) front in
+    sym (take-append-drop m words) ∙ ap (λ f. f ++ drop m words) front in
     let inner : pre ++ ((seq ++ mid) ++ port) ≡ ((pre ++ seq) ++ mid) ++ port =
-      sym (append_assoc pre (seq ++ mid) port) ∙ ap (λ f. f ++ port) (sym (append_assoc pre seq mid)) in
+    sym (append_assoc pre (seq ++ mid) port) ∙ ap (λ f. f ++ port) (sym (append_assoc pre seq mid)) in
     ap (λ w. pre ++ w) whole ∙ (sym (append_assoc pre ((seq ++ mid) ++ port) (drop m words)) ∙ ap (λ f. f ++ drop m words) inner)

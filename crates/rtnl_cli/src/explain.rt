@@ -1,5 +1,7 @@
 //! What is said on standard error beside the fixed lines.
 
+ghost use Rattle.std.specs.Prelude.{◌≡◌, ◌↔◌, ◌⊎◌, [], ◌∷◌, IsTrue, take};
+
 use crate::arguments::{Engine, Work};
 use crate::hints::{hint_ignored, hint_missed, hint_too_long};
 use crate::name::Name;
@@ -40,7 +42,10 @@ fn is_binary(byte: u8) -> bool {
 }
 
 /// Whether an input begins with a byte order mark, that of UTF-8 or one of UTF-16.
-fn begins_with_mark(input: &[u8]) -> bool {
+fn begins_with_mark(input: &[u8]) -> bool
+    ensures { IsTrue result ↔ ((take 3 input.now ≡ 0xef ∷ 0xbb ∷ 0xbf ∷ [])
+        ⊎ ((take 2 input.now ≡ 0xff ∷ 0xfe ∷ []) ⊎ (take 2 input.now ≡ 0xfe ∷ 0xff ∷ []))) }
+{
     matches!(
         input,
         [0xef, 0xbb, 0xbf, ..] | [0xff, 0xfe, ..] | [0xfe, 0xff, ..]

@@ -17,11 +17,13 @@ returns c =
     let same : c.args.line.now ≡ text = search rules in
     let head : text ≡ pre ++ words = strips.1.1 ∙ ap (λ rest. pre ++ rest) (sym strips.2) in
     let inside = parted splits.0 splits.1 mid c.trim_end.result.now seq port splits.2.1.split splits.3 splits.4 in
-    let whole = put_together trims.0 pre seq mid port words c.trim_end.result.now trims.1 inside in
-    (drop trims.0 words, record {
-      seq_digits = seq;
-      port_digits = port;
-      stands = same ∙ (head ∙ whole);
-      is_seq = (c.in_ok-number_of.ensures.0.0, sym c.in_ok-number_of.ensures.1);
-      is_port = (c.in_ok-number_of-2.ensures.0.0, sym c.in_ok-number_of-2.ensures.1);
-    })
+    let whole = put_together trims.0 pre seq mid port words c.trim_end.result.now trims.1 inside in (
+      drop trims.0 words,
+      record {
+        seq_digits = seq;
+        port_digits = port;
+        stands = same ∙ (head ∙ whole);
+        is_seq = (c.in_ok-number_of.ensures.0.0, sym c.in_ok-number_of.ensures.1);
+        is_port = (c.in_ok-number_of-2.ensures.0.0, sym c.in_ok-number_of-2.ensures.1);
+      },
+    )
