@@ -1,5 +1,4 @@
 use Rattle.std.proofs.Common.{rules, ◌≡◌, ℕ, List, ◌++◌, drop, codes, sym, ap, ◌∙◌}
-use Rattle.rtnl_cli.specs.Heading.{Names}
 use Rattle.rtnl_cli.proofs.Headings.{parted, put_together}
 use Rattle.rtnl_cli.proofs.heading.numbers_of.Goals as goal
 
