@@ -6,7 +6,6 @@ their mutations and of generated dumps, under many limits; and the requests of `
 'N passed, M failed', and the status is 1 where a case failed.
 """
 import functools
-import glob
 import os
 import random
 import struct
@@ -65,9 +64,8 @@ TABLES = {("route", reference.RTA_TABLE), ("rule", reference.FRA_TABLE)}
 def recordings(order):
     """The recordings, what asks for the dump that each of them is, and its datagrams and each of their messages
     alone, written in this order."""
-    for path in sorted(glob.glob(f"{ROOT}/examples/*.hex") + glob.glob(f"{ROOT}/tests/recordings/*.hex")):
-        file = os.path.relpath(path, ROOT).removesuffix(".hex")
-        with open(path, encoding="ascii") as lines:
+    for file in sorted(RECORDINGS, key=lambda it: f"{it}.hex"):
+        with open(f"{ROOT}/{file}.hex", encoding="ascii") as lines:
             messages = [reference.read(bytes.fromhex(line), "<") for line in lines]
         _, _, sequence, port = messages[0][0][0]
         whole = [reference.written(found, order) for found in messages]
