@@ -54,7 +54,7 @@ fn numbers_at(datagram: &[u8], place: u32, order: Order) -> Option<Numbers> {
 }
 
 /// The numbers of each message of the datagrams that are taken.
-fn numbers_of(
+fn numbers_seen(
     alloc: Global,
     found: &[Vec<u8>],
     limits: &Limits,
@@ -81,7 +81,7 @@ pub(crate) fn hint_ignored(
     dump: Dump,
     limits: &Limits,
 ) -> io::Result<()> {
-    let numbers = numbers_of(rt.alloc(), found, limits)?;
+    let numbers = numbers_seen(rt.alloc(), found, limits)?;
     let Some(first) = numbers.first().copied() else {
         return Ok(());
     };
