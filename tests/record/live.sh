@@ -50,14 +50,18 @@ is_cut() {
     ! grep -v '^#' "$folder/recording" | grep -qE ".{$(($1 * 2 + 1))}"
 }
 
-# While the dump waits for its reader, an address more makes the kernel say that it was interrupted.
+# While the dump waits for its reader, since the pipe is full, an address more makes the kernel say that it was
+# interrupted.
 is_interrupted() {
-  local status
+  local status first second
   seq 3000 | sed 's/.*/addr add 2001:db8:1::&\/128 dev lo nodad/' | ip -batch - || return
   {
     ./rtnl-record dump addr --buffer 4096 2>"$folder/errors"
     echo "$?" >"$folder/status"
-  } | { sleep 1 && ip addr add 2001:db8:2::1/128 dev lo && cat >"$folder/recording"; }
+  } | {
+    read -r first && read -r second && ip addr add 2001:db8:2::1/128 dev lo &&
+      { printf '%s\n' "$first" "$second" && cat; } >"$folder/recording"
+  }
   status=$(<"$folder/status")
   ip -6 addr flush dev lo scope global
   [ "$status" = 1 ] && "$program" show "$folder/recording" | grep ' MULTI,DUMP_INTR ' >/dev/null &&
@@ -119,9 +123,11 @@ notifies() {
   local types=$1
   shift
   begins_monitor "$@" && ip addr add 192.0.2.77/24 dev lo && ip addr del 192.0.2.77/24 dev lo || return
-  sleep 0.3
-  ends_monitor TERM && [ "$("$program" show "$folder/recording" |
-    sed -n 's/^message \([0-9]*\) .*/\1/p' | sort -u | xargs)" = "$types" ]
+  [ -n "$types" ] || sleep 0.5
+  soon has_types "$types" && ends_monitor TERM && has_types "$types"
+}
+has_types() {
+  [ "$("$program" show "$folder/recording" | sed -n 's/^message \([0-9]*\) .*/\1/p' | sort -u | xargs)" = "$1" ]
 }
 
 # Each datagram stands behind its time, which is that of the clock.
