@@ -79,7 +79,7 @@ def archive(tree: Tree, name: str, time: int) -> bytes:
         os.mkdir(f"{room}/{name}", 0o755)
         write(tree, f"{room}/{name}", time)
         words = ["tar", "-C", room, "--create", "--format=gnu", "--owner=root:0", "--group=root:0"]
-        words += ["--", *(f"{name}/{place}" for place in sorted(tree))]
+        words += ["--", *(f"{name}/{it}" for it in sorted(tree, key=lambda it: it.split("/")))]
         ran = subprocess.run(words, stdout=subprocess.PIPE, stderr=subprocess.PIPE, check=False)
     if ran.returncode:
         raise Failed(f"tar failed: {os.fsdecode(ran.stderr).strip()}")

@@ -2,11 +2,11 @@
 # The packages that ./package makes of what is built here: what stands in them, that a commit gives
 # the same bytes twice, what they need of the C library, what lintian says of them, and what is
 # refused. They are installed into a root that has the C library and nothing else, as root, where
-# the program runs, a program in C, and with Python rtnl-record; and NOTICE is compared with the kit. The library is built
-# where it is missing, as tests/c_library.sh has it; but under tests/run --quick, where the program
-# is not proved, there is none then. Packages that are missing are installed where that can be, and
-# what can't run says so and isn't counted. The last line is 'N passed, M failed', and the status is
-# 1 where a case failed.
+# the program runs, a program in C, and with Python rtnl-record; and NOTICE is compared with the
+# kit. The library is built where it is missing, as tests/c_library.sh has it; but under tests/run
+# --quick, where the program is not proved, there is none then. Packages that are missing are
+# installed where that can be, and what can't run says so and isn't counted. The last line is 'N
+# passed, M failed', and the status is 1 where a case failed.
 set -u
 cd "$(dirname "${BASH_SOURCE[0]}")/.." || exit 1
 top=$PWD

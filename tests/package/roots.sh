@@ -3,6 +3,7 @@
 # and so does a program in C that pkg-config built.
 
 root=$folder/root
+chroot=$(command -v chroot)
 line=1400000003000200010000003930000000000000
 text='datagram 1 bytes 20
 message 3 done flags 0x0002 MULTI seq 1 port 12345
@@ -41,7 +42,7 @@ add_python() {
     tar -C "$library" -x && libraries "$program" /usr/bin/env "$library/$standard"/lib-dynload/*.so
 }
 dpkg_in() { dpkg --root="$root" --log=/dev/null "$@" >"$folder/dpkg" 2>&1 </dev/null; }
-in_root() { env PATH=/usr/bin chroot "$root" "$@"; }
+in_root() { PATH=/usr/bin "$chroot" "$root" "$@"; }
 
 # shows COMMAND..: it prints the three lines of a DONE.
 shows() { [ "$("$@" <<<"$line")" = "$text" ]; }
