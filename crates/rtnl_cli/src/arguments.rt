@@ -109,8 +109,10 @@ pub(crate) struct Table {
 impl Table {
     /// What is done with this recording, where the options or it say which dump it answers.
     pub(crate) fn work(&self, input: &[u8]) -> Option<Work>
-        ensures { IfSome result (λ work. (work.format ≡ self.now.format)
+        ensures asked { IfSome result (λ work. (work.format ≡ self.now.format)
             × (work.limits ≡ self.now.limits)) }
+        ensures whole { IsSome self.now.sought.seq → IsSome self.now.sought.port
+            → IsSome result }
     {
         let numbers = if self.sought.is_whole() {
             None
