@@ -1,13 +1,22 @@
-# What standard error has where it is a terminal, read in by ../program.sh: one line more on what can be done.
+# What standard error has where it is a terminal, read in by ../program.sh: one line more on what
+# can be done.
 
-# on_terminal NAME STATUS OUTPUT ERRORS [ARGUMENT..]: a case as `expect` has it, standard error being a terminal.
+if ! python3 -c 'import os; os.openpty()' 2>/dev/null; then
+  echo 'skipped: what a terminal shows, since none can be opened here'
+  return
+fi
+seen_on_terminal() { tests/program/on_terminal.py "$program" "$@"; }
+
+# on_terminal NAME STATUS OUTPUT ERRORS [ARGUMENT..]: a case as `expect` has it, standard error
+# being a terminal.
 on_terminal() {
   local name=$1 status=$2 output=$3 errors=$4
   shift 4
-  check "on a terminal: $name" ends "$status" "$output" "$errors" tests/program/on_terminal.py "$program" "$@"
+  check "on a terminal: $name" ends "$status" "$output" "$errors" seen_on_terminal "$@"
 }
 
-# A limit, and the option that lifts it. What was missed is counted by messages, a link that came twice by two.
+# A limit, and the option that lifts it. What was missed is counted by messages, a link that came
+# twice by two.
 full="dump link seq 1 port 12345
 entry 1
 $loopback_later_body
@@ -17,9 +26,11 @@ received 160 visits 44
 complete no"
 lifted='rtnl: missed 1: the limit is 1 entries; --entries sets another, up to 65536'
 on_terminal 'a full table' 1 "$full" "$lifted" "${links[@]}" --entries 1 <<<"$three_messages"
-expect 'a full table, explained' 1 "$full" "$lifted" "${links[@]}" --entries 1 --explain <<<"$three_messages"
+expect 'a full table, explained' 1 "$full" "$lifted" "${links[@]}" --entries 1 --explain \
+  <<<"$three_messages"
 expect 'a full table, neither' 1 "$full" '' "${links[@]}" --entries 1 <<<"$three_messages"
-on_terminal 'a full table in JSON' 1 "$any" 'rtnl: missed 3: the limit is 0 entries; --entries sets another, up to 65536' \
+on_terminal 'a full table in JSON' 1 "$any" \
+  'rtnl: missed 3: the limit is 0 entries; --entries sets another, up to 65536' \
   "${links[@]}" --entries 0 --format json <<<"$three_messages"
 on_terminal 'the standard number of entries' 1 "$any" \
   'rtnl: missed 1: the limit is 4096 entries; --entries sets another, up to 65536' \
@@ -43,10 +54,12 @@ received 68 visits 16
 complete no'
 known='rtnl: ignored 2: no message has seq 2 port 12345; all have seq 1 port 12345'
 other_seq=(table --kind link --seq 2 --port 12345)
-on_terminal 'another sequence number' 1 "$unheard" "$known" "${other_seq[@]}" < <(printf '%s\n' "$loopback" "$finish")
+on_terminal 'another sequence number' 1 "$unheard" "$known" "${other_seq[@]}" \
+  < <(printf '%s\n' "$loopback" "$finish")
 expect 'another sequence number, explained' 1 "$unheard" "$known" "${other_seq[@]}" --explain \
   < <(printf '%s\n' "$loopback" "$finish")
-expect 'another sequence number, neither' 1 "$unheard" '' "${other_seq[@]}" < <(printf '%s\n' "$loopback" "$finish")
+expect 'another sequence number, neither' 1 "$unheard" '' "${other_seq[@]}" \
+  < <(printf '%s\n' "$loopback" "$finish")
 on_terminal 'another port, order big' 1 'dump link seq 1 port 1
 end none
 entries 0 missed 0 ignored 2 unfed 0 damaged no interrupted no
@@ -58,8 +71,9 @@ end none
 entries 0 missed 0 ignored 2 unfed 0 damaged no interrupted no
 received 68 visits 16
 complete no' 'rtnl: ignored 2: no message has seq 3 port 12345; the first has seq 2 port 12345' \
-  table --kind link --seq 3 --port 12345 < <(printf '%s\n' "${loopback/01000000/02000000}" "$finish")
-on_terminal 'another sequence number, and a refused datagram of its own' 1 'dump link seq 1 port 12345
+  table --kind link --seq 3 --port 12345 \
+  < <(printf '%s\n' "${loopback/01000000/02000000}" "$finish")
+on_terminal 'another sequence number, a refused datagram of its own' 1 'dump link seq 1 port 12345
 datagram 1 refused cut at 48
 end none
 entries 0 missed 0 ignored 1 unfed 0 damaged yes interrupted no
@@ -91,8 +105,8 @@ on_terminal 'an input too long' 3 '' "$too_long" <"$folder/too_long"
 on_terminal 'an input too long, checked' 3 '' "$too_long" check --format json <"$folder/too_long"
 on_terminal 'an input too long, of a table' 3 '' "$too_long" "${links[@]}" <"$folder/too_long"
 on_terminal 'a FILE too long' 3 '' "$too_long_file" show "$folder/too_long" </dev/null
-on_terminal 'a FILE too long, of a table' 3 '' "$too_long_file" "${links[@]}" "$folder/too_long" </dev/null
-expect 'a FILE too long, explained' 3 '' "$too_long_file" show --explain "$folder/too_long" </dev/null
+on_terminal 'a FILE too long, of a table' 3 '' "$too_long_file" "${links[@]}" "$folder/too_long"
+expect 'a FILE too long, explained' 3 '' "$too_long_file" show --explain "$folder/too_long"
 
 # Nothing more is said of these.
 on_terminal 'the longest input' 0 "$finish_text" '' <"$folder/longest"
@@ -102,5 +116,6 @@ on_terminal 'a bad line of a table' 1 '' "$bad_first_line" "${links[@]}" <<<0g
 on_terminal 'a missing file' 3 '' "rtnl: $folder/missing: read fault" show "$folder/missing"
 on_terminal 'a folder' 3 '' "rtnl: $folder: read fault" show "$folder"
 on_terminal 'a folder as a table' 3 '' "rtnl: $folder: read fault" "${links[@]}" "$folder"
+full_on_terminal() { seen_on_terminal "$@" >/dev/full; }
 check 'on a terminal: a full device' ends 3 '' "$write_fault" \
-  bash -c 'exec "$@" >/dev/full' full tests/program/on_terminal.py "$program" "${links[@]}" --entries 0 <<<"$three_messages"
+  full_on_terminal "${links[@]}" --entries 0 <<<"$three_messages"
