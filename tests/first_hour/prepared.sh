@@ -22,7 +22,7 @@ chmod a+x "$folder" && chmod -R a+rwX "$tree" &&
 
 # put_as PREFIX, take_as PREFIX: ./install as the runner of now. It hangs on nothing.
 put_as() {
-  timeout 20 "${runner[@]}" "${from_afar[@]}" "${with[@]}" "$tree/install" "${how[@]}" "$@"
+  timeout 60 "${runner[@]}" "${from_afar[@]}" "${with[@]}" "$tree/install" "${how[@]}" "$@"
 }
 take_as() {
   local how=(--remove)
