@@ -1,4 +1,4 @@
-# Counts cases for the scripts beside it, which read it in.
+# Counts cases for the scripts beside it, which read it in, and waits for what comes soon.
 passed=0
 failed=0
 
@@ -12,6 +12,15 @@ check() {
     failed=$((failed + 1))
     echo "failed: $name"
   fi
+}
+
+# soon COMMAND..: it succeeds within ten seconds.
+soon() {
+  for _ in $(seq 100); do
+    "$@" && return
+    sleep 0.1
+  done
+  return 1
 }
 
 # The last line of a script, and its status.

@@ -40,15 +40,6 @@ ends() {
   [ "$found" = "$status" ] && [ "$(<"$folder/output")" = "$output" ] && [ "$(<"$folder/errors")" = "$errors" ]
 }
 
-# soon COMMAND..: it succeeds within ten seconds.
-soon() {
-  for _ in $(seq 100); do
-    "$@" && return
-    sleep 0.1
-  done
-  return 1
-}
-
 # is_proved PROGRAM: its bytes say so.
 is_proved() { (cd tests && python3 -B -c 'import proved, sys; sys.exit(not proved.is_proved(sys.argv[1]))' "$1"); }
 

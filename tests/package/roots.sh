@@ -77,8 +77,8 @@ builds_in_root() {
 }
 
 # The archive in a folder of the root, and what pkg-config says of it, wherever that is.
-unpacked=$root/opt/$archive
-unpacks() { mkdir -p "$root/opt" && tar -C "$root/opt" -xzf "$made/$archive.tar.gz"; }
+unpacked=$root/$archive
+unpacks() { tar -C "$root" -xzf "$made/$archive.tar.gz"; }
 flags_unpacked() { PKG_CONFIG_PATH=$unpacked/lib/pkgconfig pkg-config "$@" rtnlc; }
 builds_unpacked() {
   # shellcheck disable=SC2046
@@ -109,15 +109,15 @@ else
     check 'it runs there' shows in_root /finish
   fi
   check 'the archive is unpacked' unpacks
-  check 'the program of the archive there' shows in_root "/opt/$archive/bin/rtnl" show
+  check 'the program of the archive there' shows in_root "/$archive/bin/rtnl" show
   if [ "$has_library" = yes ] && has cc 'a program in C' && has pkg-config 'a program in C'; then
     check 'a program in C is built over the archive' builds_unpacked
     check 'it runs with the shared library' \
       shows env "LD_LIBRARY_PATH=$unpacked/lib" "$folder/shared"
     check 'it runs with the static library' shows "$folder/static"
-    rm -r "$unpacked" && rm "$root/finish"
+    rm "$root/finish"
   fi
-  rm -rf "$root/opt"
+  rm -r "$unpacked"
   check 'the packages are removed' removes
   glibc=$(needed "$folder/usr/usr/bin/rtnl")
   check 'an older C library' needs "${glibc%.*}.$((${glibc##*.} - 1))" 3.8 "${debs[0]}" \

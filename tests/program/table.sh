@@ -118,13 +118,14 @@ end done 0
 entries 2 missed 0 ignored 0 unfed 0 damaged no interrupted no
 received 160 visits 44
 complete yes" '' "${links[@]}" <<<"$three_messages"
-expect 'table of one entry at most' 1 "dump link seq 1 port 12345
+full_table="dump link seq 1 port 12345
 entry 1
 $loopback_later_body
 end done 0
 entries 1 missed 1 ignored 0 unfed 0 damaged no interrupted no
 received 160 visits 44
-complete no" '' "${links[@]}" --entries 1 <<<"$three_messages"
+complete no"
+expect 'table of one entry at most' 1 "$full_table" '' "${links[@]}" --entries 1 <<<"$three_messages"
 expect 'table of no entry at most' 1 'dump link seq 1 port 12345
 end done 0
 entries 0 missed 3 ignored 0 unfed 0 damaged no interrupted no

@@ -17,18 +17,10 @@ on_terminal() {
 
 # A limit, and the option that lifts it. What was missed is counted by messages, a link that came
 # twice by two.
-full="dump link seq 1 port 12345
-entry 1
-$loopback_later_body
-end done 0
-entries 1 missed 1 ignored 0 unfed 0 damaged no interrupted no
-received 160 visits 44
-complete no"
 lifted='rtnl: missed 1: the limit is 1 entries; --entries sets another, up to 65536'
-on_terminal 'a full table' 1 "$full" "$lifted" "${links[@]}" --entries 1 <<<"$three_messages"
-expect 'a full table, explained' 1 "$full" "$lifted" "${links[@]}" --entries 1 --explain \
+on_terminal 'a full table' 1 "$full_table" "$lifted" "${links[@]}" --entries 1 <<<"$three_messages"
+expect 'a full table, explained' 1 "$full_table" "$lifted" "${links[@]}" --entries 1 --explain \
   <<<"$three_messages"
-expect 'a full table, neither' 1 "$full" '' "${links[@]}" --entries 1 <<<"$three_messages"
 on_terminal 'a full table in JSON' 1 "$any" \
   'rtnl: missed 3: the limit is 0 entries; --entries sets another, up to 65536' \
   "${links[@]}" --entries 0 --format json <<<"$three_messages"

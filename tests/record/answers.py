@@ -13,6 +13,7 @@ from typing import List, NamedTuple, Optional, Tuple
 sys.dont_write_bytecode = True
 sys.path.insert(0, f"{os.path.dirname(os.path.realpath(__file__))}/../../record")
 import dump
+from case import counted
 from output import Item, Loss
 
 KERNEL, PORT, SEQ = 0, 4711, 1
@@ -108,22 +109,20 @@ CASES = [
 ]
 
 
-def judged(case: Case) -> bool:
-    """Whether the lines are those, and the loss, which is said once. A datagram of another sender
-    is none of them."""
+def judged(case: Case) -> List[str]:
+    """What is wrong with the request, with the lines, and with the loss, which is said once. A
+    datagram of another sender is none of them."""
     link = Socket([it for data in case.datagrams for it in ((PORT, message(2)), (KERNEL, data))])
     found: List[Item] = [*dump.items(link, "link", 2, case.size)]  # type: ignore[arg-type]
-    lines = [dump_line(it) for it in found]
+    lines = [dump_line(it) for it in found if not isinstance(it, Loss)]
     losses = [str(it) for it in found if isinstance(it, Loss)]
-    is_asked = link.sent.hex() == request() and link.to == (KERNEL, 0)
-    is_written = [it for it in lines if it is not None] == [FIRST, *case.lines]
-    return is_asked and is_written and losses == ([case.loss] if case.loss else [])
+    given = [(link.sent.hex(), link.to), lines, losses]
+    expected = [(request(), (KERNEL, 0)), [FIRST, *case.lines], [case.loss] if case.loss else []]
+    return [f"{it} for {other}" for it, other in zip(given, expected) if it != other]
 
 
-def dump_line(item: Item) -> Optional[str]:
-    if isinstance(item, bytes):
-        return item.hex()
-    return None if isinstance(item, Loss) else f"# {item}"
+def dump_line(item: Item) -> str:
+    return item.hex() if isinstance(item, bytes) else f"# {item}"
 
 
 def request() -> str:
@@ -132,11 +131,7 @@ def request() -> str:
 
 
 def main() -> int:
-    failed = [it.name for it in CASES if not judged(it)]
-    for name in failed:
-        print(f"failed: {name}")
-    print(f"{len(CASES) - len(failed)} passed, {len(failed)} failed")
-    return 1 if failed else 0
+    return counted((it.name, judged(it)) for it in CASES)
 
 
 if __name__ == "__main__":

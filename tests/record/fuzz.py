@@ -31,7 +31,7 @@ import made_traces
 import pcap
 import rtmon
 import strace
-from case import Case
+from case import Case, counted
 from output import LONGEST, Comment, Damaged, Item, Note
 
 SEED, COUNT, CASE, RUNS, SECONDS = 40, 10000, 1000, 40, 5
@@ -161,14 +161,8 @@ def ran(sort: Sort) -> Iterator[str]:
 
 
 def main() -> int:
-    passed = failed = 0
-    for sort in sorts():
-        for found in [*mutated(sort), *ran(sort)]:
-            passed, failed = passed + (not found), failed + bool(found)
-            if found:
-                print(f"failed: {sort.name}: {found}")
-    print(f"{passed} passed, {failed} failed")
-    return 1 if failed else 0
+    return counted((sort.name, [found] if found else [])
+                   for sort in sorts() for found in [*mutated(sort), *ran(sort)])
 
 
 if __name__ == "__main__":

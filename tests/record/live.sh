@@ -76,15 +76,6 @@ in_another() {
 }
 makes_namespace() { ip netns add "$1" 2>/dev/null; }
 
-# soon COMMAND..: it succeeds within ten seconds.
-soon() {
-  for _ in $(seq 100); do
-    "$@" && return
-    sleep 0.1
-  done
-  return 1
-}
-
 # lines_come FILE COUNT: the file has so many lines soon.
 lines_come() { soon has_lines "$1" "$2"; }
 has_lines() { [ "$(wc -l <"$1")" -ge "$2" ]; }

@@ -10,21 +10,13 @@ import made_dumps
 import made_pcap
 import made_rtmon
 import made_traces
-from case import judged
+from case import counted, judged
 
 TABLES = [made_pcap.cases, made_rtmon.cases, made_dumps.cases, made_traces.cases]
 
 
 def main() -> int:
-    cases = [case for table in TABLES for case in table()]
-    failed = 0
-    for case in cases:
-        wrong = judged(case)
-        failed += bool(wrong)
-        for line in wrong:
-            print(f"failed: {case.name}: {line}")
-    print(f"{len(cases) - failed} passed, {failed} failed")
-    return 1 if failed else 0
+    return counted((case.name, judged(case)) for table in TABLES for case in table())
 
 
 if __name__ == "__main__":
