@@ -18,7 +18,7 @@ NAMES = {
     "MessageAt": "rtnlc_message",
     "AttrAt": "rtnlc_attr",
     "HopAt": "rtnlc_hop",
-    "Family": "rtnlc_family",
+    "BodyHead": "rtnlc_family",
     "Holds": "rtnlc_holds",
     "Checked": "rtnlc_checked",
     "Shown": "rtnlc_shown",

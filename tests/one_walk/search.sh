@@ -167,7 +167,7 @@ crates/nl_dump/src/straining.rt 1
 crates/nl_frame/src/body.rt 3
 crates/nl_frame/src/reading.rt 3
 crates/nl_frame/src/scanning.rt 1
-crates/nl_route/src/family.rt 2'
+crates/nl_route/src/object.rt 2'
 
 same 'a tally is ended without its visits by those who answer none' "$(counts '\.into_result\(')" \
   'crates/nl_frame/src/canonical.rt 1
@@ -185,10 +185,10 @@ crates/nl_attr/src/stack/mod.rt 1
 crates/nl_dump/src/reading.rt 1
 crates/nl_frame/src/canonical.rt 1
 crates/nl_frame/src/reading.rt 6
-crates/nl_route/src/family.rt 4
+crates/nl_route/src/object.rt 4
 crates/rtnl/src/show.rt 2'
 
-same 'each family is read by one arm' "$(counts 'read_body_ordered \$')" 'crates/nl_route/src/group.rt 5'
+same 'each family is read by one arm' "$(counts 'read_body_ordered \$')" 'crates/nl_route/src/family.rt 5'
 
 same 'a datagram is checked by a check alone' "$(counts '\bis_canonical\(')" \
   'crates/nl_frame/src/canonical.rt 1

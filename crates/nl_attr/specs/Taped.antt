@@ -6,8 +6,8 @@ use Rattle.nl_attr.specs.declared.order.Order.{Order}
 use Rattle.nl_attr.specs.declared.taping.Taped.{Taped}
 use Rattle.nl_attr.specs.declared.taping.fronts.AttrFront.{AttrFront}
 use Rattle.nl_attr.specs.declared.taping.fronts.HopFront.{HopFront}
-use Rattle.nl_attr.specs.declared.taping.steps.Turn.{Turn}
-use Rattle.nl_attr.specs.declared.taping.steps.Turn.TheVariants as turn
+use Rattle.nl_attr.specs.declared.taping.steps.Advance.{Advance}
+use Rattle.nl_attr.specs.declared.taping.steps.Advance.TheVariants as advance
 use Rattle.nl_attr.specs.declared.tree.Ctx.TheVariants.{Route}
 use Rattle.nl_attr.specs.Shape.{Shape}
 use Rattle.nl_attr.specs.Numbers.{kind_of, span_of}
@@ -48,12 +48,12 @@ pub record Adds (S : Shape) (hs : List Head) (before after : Taped) (old new : L
   pub events : new ≡ put_from before.count (map (event_of S.order) hs) old
 
 -- where the head leads, and that it is added where its length is sound
-abbrev pub Steps : Shape → Head → Taped → Taped → List Event → List Event → Turn → Type 0
-Steps S h before after old new (turn.Fails r) = (broken S h ≡ Some r) × Adds S (stopped r h) before after old new
-Steps S h before after old new (turn.Goes rest) =
+abbrev pub Steps : Shape → Head → Taped → Taped → List Event → List Event → Advance → Type 0
+Steps S h before after old new (advance.Fails r) = (broken S h ≡ Some r) × Adds S (stopped r h) before after old new
+Steps S h before after old new (advance.Goes rest) =
     (broken S h ≡ None) × (inner_of S h ≡ None) × (head_of rest ≡ follower S h)
     × Adds S (h ∷ []) before after old new
-Steps S h before after old new (turn.Opens rest inner) =
+Steps S h before after old new (advance.Opens rest inner) =
     (broken S h ≡ None) × (inner_of S h ≡ Some (head_of inner)) × (head_of rest ≡ follower S h)
     × Adds S (h ∷ []) before after old new
 

@@ -8,8 +8,8 @@ use Rattle.std.proofs.Math.Seq.{drop-cons}
 use borrow.Rule.Slice.PartMut.{put_mid}
 use Rattle.nl_attr.specs.declared.order.Order.{Order}
 use Rattle.nl_attr.specs.Numbers.{aligned}
-use Rattle.nl_route.specs.declared.group.Group.{Group}
-use Rattle.nl_route.specs.declared.group.Group.TheVariants.{Link, Addr, Route, Neigh, Rule}
+use Rattle.nl_route.specs.declared.family.Family.{Family}
+use Rattle.nl_route.specs.declared.family.Family.TheVariants.{Link, Addr, Route, Neigh, Rule}
 use Rattle.nl_route.specs.Families.{head_size}
 use Rattle.nl_route.specs.Fields as fields
 use Rattle.nl_route.specs.Fields.{zeros}
@@ -20,7 +20,7 @@ use Rattle.nl_frame.proofs.WrittenLengths.{length-message}
 use Rattle.nl_dump.specs.declared.dump.Dump.{Dump}
 use Rattle.nl_dump.specs.Request.{request_message, request_of}
 
-least_head : (g : Group) → 1 ≤ head_size g
+least_head : (g : Family) → 1 ≤ head_size g
 least_head Link = omega arith
 least_head Addr = omega arith
 least_head Route = omega arith
@@ -28,7 +28,7 @@ least_head Neigh = omega arith
 least_head Rule = omega arith
 
 -- a request is never padded
-no_padding : (g : Group) → aligned (16 + head_size g) ≡ 16 + head_size g
+no_padding : (g : Family) → aligned (16 + head_size g) ≡ 16 + head_size g
 no_padding Link = refl
 no_padding Addr = refl
 no_padding Route = refl

@@ -7,7 +7,7 @@ use Rattle.nl_attr.specs.Fixed.{SORT_MESSAGE}
 use Rattle.nl_attr.specs.HeadOrder.{put_from}
 use Rattle.nl_attr.proofs.Lemmas.Putting.{put_none, put_nowhere, put_here, put_on, put_untouched}
 use Rattle.nl_attr.specs.declared.order.Order.{Order}
-use Rattle.nl_route.specs.declared.group.Verb.TheVariants.{New}
+use Rattle.nl_route.specs.declared.family.Verb.TheVariants.{New}
 use Rattle.nl_route.specs.Families.{type_of}
 use Rattle.nl_dump.specs.declared.dump.Dump.{Dump}
 use Rattle.nl_dump.specs.declared.dump.End.{End}

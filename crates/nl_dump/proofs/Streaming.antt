@@ -12,7 +12,7 @@ use Rattle.nl_frame.specs.declared.scanning.ScanError.TheVariants as scan
 use Rattle.nl_frame.specs.Heads.{IsFirstFault, Visits, whole}
 use Rattle.nl_frame.specs.Layout.{Layout}
 use Rattle.nl_frame.specs.Limits.{Bounds, AreLimits}
-use Rattle.nl_frame.specs.Message.{BodyVal, noop, error, done, overrun, family, get, other, MessageVal}
+use Rattle.nl_frame.specs.Message.{BodyVal, noop, error, done, overrun, object, get, other, MessageVal}
 use Rattle.nl_frame.specs.Outcomes.{IfFault, VisitsUpTo}
 use Rattle.nl_frame.specs.Taped.{as_read}
 use Rattle.nl_frame.specs.HeadOrder.{events_of}
@@ -162,7 +162,7 @@ body_real (error code h tail) = error_real code
 body_real (done None tail) = tt
 body_real (done (Some z) tail) = tt
 body_real (overrun bs) = tt
-body_real (family h is) = tt
+body_real (object h is) = tt
 body_real (get n tail) = tt
 body_real (other bs) = tt
 

@@ -11,14 +11,14 @@ use Rattle.nl_attr.specs.Numbers.{AreBytes}
 use Rattle.nl_attr.specs.Tree.{Items}
 use Rattle.nl_attr.proofs.Lemmas.Numbers.{bytes_drop}
 use Rattle.nl_attr.proofs.Lemmas.Pieces.{piece_bytes}
-use Rattle.nl_route.specs.declared.group.Group.{Group}
-use Rattle.nl_route.specs.declared.group.Verb.TheVariants.{New}
+use Rattle.nl_route.specs.declared.family.Family.{Family}
+use Rattle.nl_route.specs.declared.family.Verb.TheVariants.{New}
 use Rattle.nl_route.specs.Fields.{AreRanged}
 use Rattle.nl_route.specs.Families.{AnyHead, row, fields_of, head_size, type_of}
 use Rattle.nl_route.proofs.Families.{one_or_other}
 use Rattle.nl_frame.specs.Layout.{BodyOf, Layout}
 use Rattle.nl_frame.specs.Form.{form_of}
-use Rattle.nl_frame.specs.Message.{BodyVal, noop, error, done, overrun, family, get, other, MessageVal}
+use Rattle.nl_frame.specs.Message.{BodyVal, noop, error, done, overrun, object, get, other, MessageVal}
 use Rattle.nl_frame.specs.Proper.{IsRanged, IsRangedBody}
 use Rattle.nl_frame.proofs.ProperLayouts.{layout_ranged}
 use Rattle.nl_table.specs.Keys.{AreKeyFields, TellApart}
@@ -45,7 +45,7 @@ IsRead (noop bs) = Unit {0}
 IsRead (error code h tail) = Unit {0}
 IsRead (done status tail) = Unit {0}
 IsRead (overrun bs) = Unit {0}
-IsRead (family h is) = AreRanged (fields_of h) × HasLeaves is
+IsRead (object h is) = AreRanged (fields_of h) × HasLeaves is
 IsRead (get n tail) = Unit {0}
 IsRead (other bs) = Unit {0}
 
@@ -58,8 +58,8 @@ module _ (S : Shape) where
   body_read (error code h tail) m payload fit body r = tt
   body_read (done status tail) m payload fit body r = tt
   body_read (overrun bs) m payload fit body r = tt
-  body_read (family h is) m payload fit body r =
-      (r.0, fitting_leaves S is (drop (head_size h.group) payload) _ 0 (bytes_drop (head_size h.group) payload fit) body.1.2)
+  body_read (object h is) m payload fit body r =
+      (r.0, fitting_leaves S is (drop (head_size h.family) payload) _ 0 (bytes_drop (head_size h.family) payload fit) body.1.2)
   body_read (get n tail) m payload fit body r = tt
   body_read (other bs) m payload fit body r = tt
 
@@ -105,14 +105,14 @@ module _ {X : Type 0} (P : X → Type 0) where
 -- ---- the items of a dump
 
 -- an item of this family whose key has fields that a value can have
-abbrev pub IsKeyed : Order → Group → Item → Type 0
-IsKeyed o k item = (item.0.group ≡ k) × AreKeyFields (item_fields o item)
+abbrev pub IsKeyed : Order → Family → Item → Type 0
+IsKeyed o k item = (item.0.family ≡ k) × AreKeyFields (item_fields o item)
 
 module _ (o : Order) where
-  family_keyed : (k : Group) (h : AnyHead) (is : Items) (x : Item) → AreRanged (fields_of h) → HasLeaves is → family_item k h is ≡ Some x → IsKeyed o k x
+  family_keyed : (k : Family) (h : AnyHead) (is : Items) (x : Item) → AreRanged (fields_of h) → HasLeaves is → family_item k h is ≡ Some x → IsKeyed o k x
   family_keyed k h is x r leaves e =
-      elim (one_or_other k h.group) [
-        | inl w ↦ subst (IsKeyed o k) (some_same (rw w.1 at e)) (sym w.0, key_fits o is leaves h.group h.head r)
+      elim (one_or_other k h.family) [
+        | inl w ↦ subst (IsKeyed o k) (some_same (rw w.1 at e)) (sym w.0, key_fits o is leaves h.family h.head r)
         | inr w ↦ none_some (rw w.1 at e)
       ]
     where
@@ -122,12 +122,12 @@ module _ (o : Order) where
       none_some : None ≡ Some x → IsKeyed o k x
       none_some s = cc
 
-  body_keyed : (k : Group) (b : BodyVal) (x : Item) → IsRead b → body_item k b ≡ Some x → IsKeyed o k x
+  body_keyed : (k : Family) (b : BodyVal) (x : Item) → IsRead b → body_item k b ≡ Some x → IsKeyed o k x
   body_keyed k (noop bs) x r e = cc
   body_keyed k (error code h tail) x r e = cc
   body_keyed k (done status tail) x r e = cc
   body_keyed k (overrun bs) x r e = cc
-  body_keyed k (family h is) x r e = family_keyed k h is x r.0 r.1 e
+  body_keyed k (object h is) x r e = family_keyed k h is x r.0 r.1 e
   body_keyed k (get n tail) x r e = cc
   body_keyed k (other bs) x r e = cc
 
@@ -180,21 +180,21 @@ module _ (S : Shape) where
   dumps_read (abandons (Ok u) ∷ cs) ds fit f = same_read given_up (λ c. refl) f.0 ds f.2 (dumps_read cs f.0 fit f.1)
   dumps_read (abandons (Err e) ∷ cs) ds fit f = subst (AllByRecursion IsCourseRead) (sym f.2) (dumps_read cs f.0 fit f.1)
 
-newest_keyed : (o : Order) (k : Group) (ds : List Course) → AllByRecursion IsCourseRead ds → AllByRecursion (IsKeyed o k) (items_at k ds)
+newest_keyed : (o : Order) (k : Family) (ds : List Course) → AllByRecursion IsCourseRead ds → AllByRecursion (IsKeyed o k) (items_at k ds)
 newest_keyed o k [] r = tt
 newest_keyed o k (c ∷ cs) r =
     elim (one_or_other k c.dump.kind) [
-      | inl w ↦ rw w.1 (subst (λ (g : Group). AllByRecursion (IsKeyed o g) (items_of c.dump c.messages)) (sym w.0) (items_keyed o c.dump c.messages r.0))
+      | inl w ↦ rw w.1 (subst (λ (g : Family). AllByRecursion (IsKeyed o g) (items_of c.dump c.messages)) (sym w.0) (items_keyed o c.dump c.messages r.0))
       | inr w ↦ rw w.1 (newest_keyed o k cs r.1)
     ]
 
 -- ---- the entries of a table
 
 -- an entry under its item's key
-abbrev pub IsEntry : Order → Group → List ℕ × Item → Type 0
+abbrev pub IsEntry : Order → Family → List ℕ × Item → Type 0
 IsEntry o k e = (e.0 ≡ item_key o e.1) × IsKeyed o k e.1
 
-entries_keyed : (o : Order) (k : Group) (limit : ℕ) (items : List Item) → AllByRecursion (IsKeyed o k) items → AllByRecursion (IsEntry o k) (table_of (item_key o) limit items)
+entries_keyed : (o : Order) (k : Family) (limit : ℕ) (items : List Item) → AllByRecursion (IsKeyed o k) items → AllByRecursion (IsEntry o k) (table_of (item_key o) limit items)
 entries_keyed o k limit items keyed =
     filter_map_all (λ key. option_map (λ x. (key, x)) (last_with (item_key o) key items)) (λ key. Unit {0}) (IsEntry o k) entry (kept_keys (item_key o) limit items) (any (kept_keys (item_key o) limit items))
   where
@@ -215,14 +215,14 @@ entries_keyed o k limit items keyed =
             pair_same t = cc
 
 -- two items of a family
-items_apart : (o : Order) (g h : Group) → g ≡ h → (a : (row g).Head) (b : (row h).Head) (is js : Items) → TellApart (key_fields g o a is) (key_fields h o b js)
-items_apart o g h e = subst (λ (h : Group). (a : (row g).Head) (b : (row h).Head) (is js : Items) → TellApart (key_fields g o a is) (key_fields h o b js)) e (apart g o)
+items_apart : (o : Order) (g h : Family) → g ≡ h → (a : (row g).Head) (b : (row h).Head) (is js : Items) → TellApart (key_fields g o a is) (key_fields h o b js)
+items_apart o g h e = subst (λ (h : Family). (a : (row g).Head) (b : (row h).Head) (is js : Items) → TellApart (key_fields g o a is) (key_fields h o b js)) e (apart g o)
 
-both_ways : (o : Order) (k : Group) (e f : List ℕ × Item) → IsEntry o k e → IsEntry o k f → (e.0 ≡ f.0) ↔ (item_fields o e.1 ≡ item_fields o f.1)
+both_ways : (o : Order) (k : Family) (e f : List ℕ × Item) → IsEntry o k e → IsEntry o k f → (e.0 ≡ f.0) ↔ (item_fields o e.1 ≡ item_fields o f.1)
 both_ways o k e f p q =
     let x = e.1 in
     let y = f.1 in
-    let t = items_apart o x.0.group y.0.group (p.1.0 ∙ sym q.1.0) x.0.head y.0.head x.1 y.1 p.1.1 q.1.1 in
+    let t = items_apart o x.0.family y.0.family (p.1.0 ∙ sym q.1.0) x.0.head y.0.head x.1 y.1 p.1.1 q.1.1 in
     (λ same. t.0 (sym p.0 ∙ same ∙ q.0), λ same. p.0 ∙ t.1 same ∙ sym q.0)
 
 pub tell_apart : EntriesTellApart
@@ -234,5 +234,5 @@ tell_apart b cs v fit calls k e f has_e has_f =
     let all : AllByRecursion (IsEntry o k) (table_at k v.tables).entries = subst (AllByRecursion (IsEntry o k)) (sym (ap (λ (c : Content Item). c.entries) (s.tables k))) keyed in
     both_ways o k e f (each k v all e has_e) (each k v all f has_f)
   where
-    each : (k : Group) (v : View) → AllByRecursion (IsEntry b.shape.order k) (table_at k v.tables).entries → (x : List ℕ × Item) → Contains (table_at k v.tables).entries x → IsEntry b.shape.order k x
+    each : (k : Family) (v : View) → AllByRecursion (IsEntry b.shape.order k) (table_at k v.tables).entries → (x : List ℕ × Item) → Contains (table_at k v.tables).entries x → IsEntry b.shape.order k x
     each k v all x has = All-contains (IsEntry b.shape.order k) (table_at k v.tables).entries x (All-from_recursion (IsEntry b.shape.order k) (table_at k v.tables).entries all) has

@@ -20,9 +20,9 @@ use Rattle.nl_attr.specs.HeadOrder as regions
 use Rattle.nl_attr.proofs.Lemmas.Fitting.{ReadAs}
 use Rattle.nl_attr.proofs.Lemmas.Reading.{sound_within}
 use Rattle.nl_attr.proofs.Lemmas.Trail as region
-use Rattle.nl_route.specs.declared.group.Group.{Group}
-use Rattle.nl_route.specs.declared.group.Verb.TheVariants.{New}
-use Rattle.nl_route.specs.Families.{type_of, row, group_of}
+use Rattle.nl_route.specs.declared.family.Family.{Family}
+use Rattle.nl_route.specs.declared.family.Verb.TheVariants.{New}
+use Rattle.nl_route.specs.Families.{type_of, row, family_of}
 use Rattle.nl_route.proofs.Families.{is_family}
 use Rattle.nl_frame.specs.declared.form.Form.{Form}
 use Rattle.nl_frame.specs.declared.form.Form.TheVariants as form
@@ -32,7 +32,7 @@ use Rattle.nl_frame.specs.Front.{form_at, payload_at, span_at}
 use Rattle.nl_frame.specs.Header.{header_of}
 use Rattle.nl_frame.specs.Heads.{Rest, behind, region_of, whole}
 use Rattle.nl_frame.specs.Layout.{BodyOf, Layout}
-use Rattle.nl_frame.specs.Message.{BodyVal, noop, error, done, overrun, family, get, other, MessageVal}
+use Rattle.nl_frame.specs.Message.{BodyVal, noop, error, done, overrun, object, get, other, MessageVal}
 use Rattle.nl_frame.specs.Reading.{signed_of, body_at}
 use Rattle.nl_frame.specs.HeadOrder.{header, inner, Trail, event_of, events_of, region_trail, trail_of, visits_of}
 use Rattle.nl_frame.proofs.Bodies.{body_fit}
@@ -76,25 +76,25 @@ ends_so S (done (Some z) tail) f payload b =
     let is : signed_of S.order payload ≡ z = cc in
     ap (λ x. form_end S.order x payload) b.0 ∙ ap Some (rw (le-ltb (length payload) 4 b.1) (ap Done is))
 ends_so S (overrun bs) f payload b = ap (λ x. form_end S.order x payload) b.0
-ends_so S (family h is) f payload b = ap (λ x. form_end S.order x payload) b.0
+ends_so S (object h is) f payload b = ap (λ x. form_end S.order x payload) b.0
 ends_so S (get n tail) f payload b = ap (λ x. form_end S.order x payload) b.0
 ends_so S (other bs) f payload b = ap (λ x. form_end S.order x payload) b.0
 
 -- a NEW of a family has its body
-brings_so : (S : Shape) (k : Group) (c : BodyVal) (f : Form) (payload : List ℕ) → BodyOf S c f payload → f ≡ form.Family k → is_some (body_item k c) ≡ true
-brings_so S k (noop bs) f payload b e = absurd (let x : form.Noop ≡ form.Family k = sym b.0 ∙ e in cc)
-brings_so S k (error code h tail) f payload b e = absurd (let x : form.Error ≡ form.Family k = sym b.0 ∙ e in cc)
-brings_so S k (done None tail) f payload b e = absurd (let x : form.Done ≡ form.Family k = sym b.0 ∙ e in cc)
-brings_so S k (done (Some z) tail) f payload b e = absurd (let x : form.Done ≡ form.Family k = sym b.0 ∙ e in cc)
-brings_so S k (overrun bs) f payload b e = absurd (let x : form.Overrun ≡ form.Family k = sym b.0 ∙ e in cc)
-brings_so S k (family h is) f payload b e =
-    let x : form.Family (group_of h) ≡ form.Family k = sym b.0 ∙ e in
-    let same : group_of h ≡ k = cc in
-    ap (λ y. is_some {T = Item} (cond y (Some (h, is)) None)) (eq-eqb (row k).new (row h.group).new (ap (λ (g : Group). (row g).new) (sym same)))
-brings_so S k (get n tail) f payload b e = absurd (let x : form.Get ≡ form.Family k = sym b.0 ∙ e in cc)
-brings_so S k (other bs) f payload b e = absurd (let x : form.Other ≡ form.Family k = sym b.0 ∙ e in cc)
+brings_so : (S : Shape) (k : Family) (c : BodyVal) (f : Form) (payload : List ℕ) → BodyOf S c f payload → f ≡ form.Object k → is_some (body_item k c) ≡ true
+brings_so S k (noop bs) f payload b e = absurd (let x : form.Noop ≡ form.Object k = sym b.0 ∙ e in cc)
+brings_so S k (error code h tail) f payload b e = absurd (let x : form.Error ≡ form.Object k = sym b.0 ∙ e in cc)
+brings_so S k (done None tail) f payload b e = absurd (let x : form.Done ≡ form.Object k = sym b.0 ∙ e in cc)
+brings_so S k (done (Some z) tail) f payload b e = absurd (let x : form.Done ≡ form.Object k = sym b.0 ∙ e in cc)
+brings_so S k (overrun bs) f payload b e = absurd (let x : form.Overrun ≡ form.Object k = sym b.0 ∙ e in cc)
+brings_so S k (object h is) f payload b e =
+    let x : form.Object (family_of h) ≡ form.Object k = sym b.0 ∙ e in
+    let same : family_of h ≡ k = cc in
+    ap (λ y. is_some {T = Item} (cond y (Some (h, is)) None)) (eq-eqb (row k).new (row h.family).new (ap (λ (g : Family). (row g).new) (sym same)))
+brings_so S k (get n tail) f payload b e = absurd (let x : form.Get ≡ form.Object k = sym b.0 ∙ e in cc)
+brings_so S k (other bs) f payload b e = absurd (let x : form.Other ≡ form.Object k = sym b.0 ∙ e in cc)
 
-form_new : (k : Group) → form_of (type_of k New) ≡ form.Family k
+form_new : (k : Family) → form_of (type_of k New) ≡ form.Object k
 form_new k = ap (form_for (type_of k New)) (is_family k).new
 
 -- an end; or an item; or neither
@@ -113,7 +113,7 @@ role_so S d m payload b = by (belongs d m) (m.kind == type_of d.kind New) (λ e.
     ends : form_end S.order (form_of m.kind) payload ≡ body_end m.body
     ends = ends_so S m.body (form_of m.kind) payload b
 
-    is_new : (m.kind == type_of d.kind New) ≡ true → form_of m.kind ≡ form.Family d.kind
+    is_new : (m.kind == type_of d.kind New) ≡ true → form_of m.kind ≡ form.Object d.kind
     is_new e = ap form_of (eqb-true m.kind (type_of d.kind New) e) ∙ form_new d.kind
 
     no_item : (x : Option End) → role_by x ≡ role_of x false

@@ -6,7 +6,7 @@ use Rattle.nl_attr.specs.declared.events.Event.{Event}
 use Rattle.nl_attr.specs.Fixed.{SORT_MESSAGE}
 use Rattle.nl_attr.specs.declared.fault.Reason.{Reason}
 use Rattle.nl_attr.specs.declared.order.Order.{Order}
-use Rattle.nl_route.specs.declared.group.Verb.TheVariants.{New}
+use Rattle.nl_route.specs.declared.family.Verb.TheVariants.{New}
 use Rattle.nl_route.specs.Families.{type_of}
 use Rattle.nl_frame.specs.declared.form.Form.{Form}
 use Rattle.nl_frame.specs.declared.form.Form.TheVariants as form
@@ -38,7 +38,7 @@ form_end o form.Noop payload = None
 form_end o form.Error payload = error_at o payload
 form_end o form.Done payload = Some (status_at o payload)
 form_end o form.Overrun payload = Some Overrun
-form_end o (form.Family g) payload = None
+form_end o (form.Object g) payload = None
 form_end o form.Get payload = None
 form_end o form.Other payload = None
 

@@ -8,17 +8,17 @@ use nl_table::Entry;
 pub(crate) trait FromBody: Entry + Drop {
     ghost use Rattle.std.specs.Prelude.{◌≡◌, option_map};
     ghost use Rattle.nl_attr.specs.declared.order.Order.{Order};
-    ghost use Rattle.nl_route.specs.declared.group.Group.{Group};
+    ghost use Rattle.nl_route.specs.declared.family.Family.{Family};
     ghost use Rattle.nl_frame.specs.View.{body_view};
     ghost use Rattle.nl_dump.specs.Items.{Item, item_key, body_item};
 
-    ghost group: { Group };
+    ghost family: { Family };
 
     ghost item: { Self → Item };
 
     /// The entry that a body is.
     fn from_body(body: Body) -> Option<Self>
-        ensures { option_map item result ≡ body_item group (body_view body) };
+        ensures { option_map item result ≡ body_item family (body_view body) };
 
     // Its key is that of what it stands for.
     ghost keyed: { (o : Order) (x : Self) → Self.key_of o x ≡ item_key o (item x) };
@@ -26,10 +26,10 @@ pub(crate) trait FromBody: Entry + Drop {
 
 impl FromBody for Link {
     ghost use Rattle.std.specs.Prelude.{refl};
-    ghost use Rattle.nl_route.specs.declared.group.Group.TheVariants as family;
+    ghost use Rattle.nl_route.specs.declared.family.Family.TheVariants as family;
     ghost use Rattle.nl_dump.specs.Items.{item_of};
 
-    ghost group = { family.Link };
+    ghost family = { family.Link };
 
     ghost item = { item_of family.Link };
 
@@ -45,10 +45,10 @@ impl FromBody for Link {
 
 impl FromBody for Addr {
     ghost use Rattle.std.specs.Prelude.{refl};
-    ghost use Rattle.nl_route.specs.declared.group.Group.TheVariants as family;
+    ghost use Rattle.nl_route.specs.declared.family.Family.TheVariants as family;
     ghost use Rattle.nl_dump.specs.Items.{item_of};
 
-    ghost group = { family.Addr };
+    ghost family = { family.Addr };
 
     ghost item = { item_of family.Addr };
 
@@ -64,10 +64,10 @@ impl FromBody for Addr {
 
 impl FromBody for Route {
     ghost use Rattle.std.specs.Prelude.{refl};
-    ghost use Rattle.nl_route.specs.declared.group.Group.TheVariants as family;
+    ghost use Rattle.nl_route.specs.declared.family.Family.TheVariants as family;
     ghost use Rattle.nl_dump.specs.Items.{item_of};
 
-    ghost group = { family.Route };
+    ghost family = { family.Route };
 
     ghost item = { item_of family.Route };
 
@@ -83,10 +83,10 @@ impl FromBody for Route {
 
 impl FromBody for Neigh {
     ghost use Rattle.std.specs.Prelude.{refl};
-    ghost use Rattle.nl_route.specs.declared.group.Group.TheVariants as family;
+    ghost use Rattle.nl_route.specs.declared.family.Family.TheVariants as family;
     ghost use Rattle.nl_dump.specs.Items.{item_of};
 
-    ghost group = { family.Neigh };
+    ghost family = { family.Neigh };
 
     ghost item = { item_of family.Neigh };
 
@@ -102,10 +102,10 @@ impl FromBody for Neigh {
 
 impl FromBody for Rule {
     ghost use Rattle.std.specs.Prelude.{refl};
-    ghost use Rattle.nl_route.specs.declared.group.Group.TheVariants as family;
+    ghost use Rattle.nl_route.specs.declared.family.Family.TheVariants as family;
     ghost use Rattle.nl_dump.specs.Items.{item_of};
 
-    ghost group = { family.Rule };
+    ghost family = { family.Rule };
 
     ghost item = { item_of family.Rule };
 

@@ -71,7 +71,7 @@ fn end_at(form: Form, payload: &[u8], order: Order) -> Option<End>
         Form::Done => Some(done_at(payload, order)),
         Form::Error => failure_at(payload, order),
         Form::Overrun => Some(End::Overrun),
-        Form::Noop | Form::Family(_) | Form::Get | Form::Other => None,
+        Form::Noop | Form::Object(_) | Form::Get | Form::Other => None,
     }
 }
 

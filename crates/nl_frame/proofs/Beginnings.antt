@@ -9,11 +9,11 @@ use Rattle.nl_attr.proofs.Lemmas.Comparing.{behind, two, not_first, not_second, 
 use Rattle.nl_attr.proofs.Lemmas.Sized.{list_is_sized}
 use Rattle.nl_route.specs.Fields as fields
 use Rattle.nl_route.proofs.Fields.{length-written}
-use Rattle.nl_route.specs.Families.{context_of, group_of}
+use Rattle.nl_route.specs.Families.{context_of, family_of}
 use Rattle.nl_frame.specs.declared.form.Form.{Form}
 use Rattle.nl_frame.specs.Header.{header_fields}
 use Rattle.nl_frame.specs.Form.{form_of}
-use Rattle.nl_frame.specs.Message.{BodyVal, noop, error, done, overrun, family, get, other, MessageVal}
+use Rattle.nl_frame.specs.Message.{BodyVal, noop, error, done, overrun, object, get, other, MessageVal}
 use Rattle.nl_frame.specs.Written.{header_for, body_written, message_item, written_len}
 use Rattle.nl_frame.specs.Proper.{IsMismatchedBody, IsMismatched, IsLongBody, HasLong, IsLong}
 use Rattle.nl_frame.specs.Compared.{AreSized}
@@ -52,7 +52,7 @@ body_is_sized (noop bs) f m s = tt
 body_is_sized (error code h tail) f m s = tt
 body_is_sized (done status tail) f m s = tt
 body_is_sized (overrun bs) f m s = tt
-body_is_sized (family h is) f m s = list_is_sized is (context_of (group_of h)) (λ x. m (inr x)) (λ x. s (inr x))
+body_is_sized (object h is) f m s = list_is_sized is (context_of (family_of h)) (λ x. m (inr x)) (λ x. s (inr x))
 body_is_sized (get n tail) f m s = tt
 body_is_sized (other bs) f m s = tt
 

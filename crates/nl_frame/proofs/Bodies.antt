@@ -16,14 +16,14 @@ use Rattle.nl_attr.proofs.Lemmas.Numbers.{bytes_drop, bytes_take}
 use Rattle.nl_route.specs.Fields.{signed, AreFields}
 use Rattle.nl_route.proofs.Known.{fields_of_read, read_of_fields}
 use Rattle.nl_route.proofs.Families.{any_only, any_fields}
-use Rattle.nl_route.specs.Families.{head_size, context_of, AnyHead, group_of, head_of}
+use Rattle.nl_route.specs.Families.{head_size, context_of, AnyHead, family_of, head_of}
 use Rattle.nl_frame.specs.declared.header.Header.{Header}
 use Rattle.nl_frame.specs.declared.form.Form.{Form}
 use Rattle.nl_frame.specs.declared.form.Form.TheVariants as form
-use Rattle.nl_route.specs.declared.group.Group.{Group}
+use Rattle.nl_route.specs.declared.family.Family.{Family}
 use Rattle.nl_frame.specs.Header.{header_fields, header_of}
 use Rattle.nl_frame.specs.Form.{least_body}
-use Rattle.nl_frame.specs.Message.{BodyVal, noop, error, done, overrun, family, get, other}
+use Rattle.nl_frame.specs.Message.{BodyVal, noop, error, done, overrun, object, get, other}
 use Rattle.nl_frame.specs.Layout.{BodyOf}
 use Rattle.nl_frame.specs.Reading.{signed_of, done_at, body_at}
 use Rattle.nl_frame.proofs.Headers.{Answer, answer_known, answer_fields, answer_of, answer_front, status_known, status_front}
@@ -57,13 +57,13 @@ body_fit S (error z h tail) f place payload b = of_form S f form.Error place pay
 body_fit S (done None tail) f place payload b = of_form S f form.Done place payload (done None tail) b.0 (omega arith, (0, ok_same _ _ (rw (lt-ltb (length payload) 4 b.1) (ap (done None) b.2))))
 body_fit S (done (Some z) tail) f place payload b = of_form S f form.Done place payload (done (Some z) tail) b.0 (omega arith, (0, ok_same _ _ (done_only S.order z tail payload b.1 b.2 b.3)))
 body_fit S (overrun bs) f place payload b = of_form S f form.Overrun place payload (overrun bs) b.0 (omega arith, (0, ok_same _ _ (ap overrun b.1)))
-body_fit S (family h is) f place payload b =
-    let g = group_of h in
+body_fit S (object h is) f place payload b =
+    let g = family_of h in
     let n = head_size g in
     let r = items_fit is S (context_of g) 0 (place + n) (drop n payload) b.1.2 in
     let e : head_of S.order g (take n payload) ≡ h = any_only S.order h (take n payload) b.1.1 in
-    of_form S f (form.Family g) place payload (family h is) b.0
-    (b.1.0, (r.0, ap (map_value (family (head_of S.order g (take n payload)))) r.1 ∙ ap (λ (x : AnyHead). (Ok (family x is), r.0)) e))
+    of_form S f (form.Object g) place payload (object h is) b.0
+    (b.1.0, (r.0, ap (map_value (object (head_of S.order g (take n payload)))) r.1 ∙ ap (λ (x : AnyHead). (Ok (object x is), r.0)) e))
 body_fit S (get n tail) f place payload b = of_form S f form.Get place payload (get n tail) b.0 (omega (arith, ap (length {A = ℕ}) b.1), (0, ok_same _ _ (ap (λ (xs : List ℕ). get (slice_index xs 0) (drop 1 xs)) b.1)))
 body_fit S (other bs) f place payload b = of_form S f form.Other place payload (other bs) b.0 (omega arith, (0, ok_same _ _ (ap other b.1)))
 
@@ -93,8 +93,8 @@ get_body : (S : Shape) (payload : List ℕ) → 1 ≤ length payload → BodyOf 
 get_body S [] le = absurd (omega arith)
 get_body S (x ∷ xs) le = (refl, refl)
 
-family_body : (S : Shape) (g : Group) (payload : List ℕ) (is : Items) → AreBytes payload → head_size g ≤ length payload → Fits S is (drop (head_size g) payload) (context_of g) 0 → BodyOf S (family (head_of S.order g (take (head_size g) payload)) is) (form.Family g) payload
-family_body S g payload is fits le f =
+object_body : (S : Shape) (g : Family) (payload : List ℕ) (is : Items) → AreBytes payload → head_size g ≤ length payload → Fits S is (drop (head_size g) payload) (context_of g) 0 → BodyOf S (object (head_of S.order g (take (head_size g) payload)) is) (form.Object g) payload
+object_body S g payload is fits le f =
     let n = head_size g in
     (refl, (le, any_fields S.order g (take n payload) (bytes_take n payload fits) (omega (arith, length-take n payload, le)), f))
 
@@ -103,10 +103,10 @@ body_sound S form.Noop place payload c v fits le e = subst (λ (x : BodyVal). Bo
 body_sound S form.Error place payload c v fits le e = subst (λ (x : BodyVal). BodyOf S x form.Error payload) (same_ok _ c 0 v e) (refl, le, error_sound S.order payload fits le, refl)
 body_sound S form.Done place payload c v fits le e = subst (λ (x : BodyVal). BodyOf S x form.Done payload) (same_ok (done_at S.order payload) c 0 v e) (done_body S payload fits)
 body_sound S form.Overrun place payload c v fits le e = subst (λ (x : BodyVal). BodyOf S x form.Overrun payload) (same_ok (overrun payload) c 0 v e) (refl, refl)
-body_sound S (form.Family g) place payload c v fits le e =
+body_sound S (form.Object g) place payload c v fits le e =
     let n = head_size g in
-    let m = map_ok (family (head_of S.order g (take n payload))) (items_of_region S (context_of g) 0 (place + n) (drop n payload)) c v e in
-    subst (λ (x : BodyVal). BodyOf S x (form.Family g) payload) m.3
-    (family_body S g payload m.0 fits le (items_sound (length (drop n payload)) S (context_of g) 0 (place + n) (drop n payload) m.0 m.1 (omega arith) (bytes_drop n payload fits) m.2))
+    let m = map_ok (object (head_of S.order g (take n payload))) (items_of_region S (context_of g) 0 (place + n) (drop n payload)) c v e in
+    subst (λ (x : BodyVal). BodyOf S x (form.Object g) payload) m.3
+    (object_body S g payload m.0 fits le (items_sound (length (drop n payload)) S (context_of g) 0 (place + n) (drop n payload) m.0 m.1 (omega arith) (bytes_drop n payload fits) m.2))
 body_sound S form.Get place payload c v fits le e = subst (λ (x : BodyVal). BodyOf S x form.Get payload) (same_ok _ c 0 v e) (get_body S payload le)
 body_sound S form.Other place payload c v fits le e = subst (λ (x : BodyVal). BodyOf S x form.Other payload) (same_ok (other payload) c 0 v e) (refl, refl)

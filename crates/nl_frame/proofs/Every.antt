@@ -70,7 +70,7 @@ in_region S form.Noop place payload h e = absurd cc
 in_region S form.Error place payload h e = absurd cc
 in_region S form.Done place payload h e = absurd cc
 in_region S form.Overrun place payload h e = absurd cc
-in_region S (form.Family g) place payload h e = subst (λ (x : Head). (x.level ≡ 0) × regions.IsLow S x.sort x.level) (some_same _ h e) (refl, omega arith)
+in_region S (form.Object g) place payload h e = subst (λ (x : Head). (x.level ≡ 0) × regions.IsLow S x.sort x.level) (some_same _ h e) (refl, omega arith)
 in_region S form.Get place payload h e = absurd cc
 in_region S form.Other place payload h e = absurd cc
 

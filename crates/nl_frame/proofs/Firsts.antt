@@ -28,7 +28,7 @@ body_scan form.Noop S place payload = record { end = refl; sums = refl }
 body_scan form.Error S place payload = record { end = refl; sums = refl }
 body_scan form.Done S place payload = record { end = refl; sums = refl }
 body_scan form.Overrun S place payload = record { end = refl; sums = refl }
-body_scan (form.Family g) S place payload = map_agrees _ _ _ (items_scan (length (drop (head_size g) payload)) S (context_of g) 0 (place + head_size g) (drop (head_size g) payload))
+body_scan (form.Object g) S place payload = map_agrees _ _ _ (items_scan (length (drop (head_size g) payload)) S (context_of g) 0 (place + head_size g) (drop (head_size g) payload))
 body_scan form.Get S place payload = record { end = refl; sums = refl }
 body_scan form.Other S place payload = record { end = refl; sums = refl }
 

@@ -10,7 +10,7 @@ use Rattle.nl_attr.specs.HeadOrder as region
 use Rattle.nl_attr.proofs.Lemmas.Fitting.{next_span}
 use Rattle.nl_attr.proofs.Lemmas.Listed.{AreEvents, events_on, events_one, items_listed}
 use Rattle.nl_attr.proofs.Lemmas.Reading.{sound_within}
-use Rattle.nl_route.specs.Families.{head_size, context_of, group_of}
+use Rattle.nl_route.specs.Families.{head_size, context_of, family_of}
 use Rattle.nl_frame.specs.declared.header.Header.{Header}
 use Rattle.nl_frame.specs.declared.form.Form.{Form}
 use Rattle.nl_frame.specs.Form.{form_of}
@@ -18,7 +18,7 @@ use Rattle.nl_frame.specs.Front.{span_at, payload_at, broken_message}
 use Rattle.nl_frame.specs.Heads.{Rest, behind, region_in, region_of, whole}
 use Rattle.nl_frame.specs.Layout.{BodyOf, Layout}
 use Rattle.nl_frame.specs.Listed.{body_events, messages_events}
-use Rattle.nl_frame.specs.Message.{BodyVal, noop, error, done, overrun, family, get, other, MessageVal}
+use Rattle.nl_frame.specs.Message.{BodyVal, noop, error, done, overrun, object, get, other, MessageVal}
 use Rattle.nl_frame.specs.Written.{body_len}
 use Rattle.nl_frame.specs.HeadOrder.{header, region_trail, trail_of, header_event, event_of, events_of}
 use Rattle.nl_frame.proofs.Bodies.{body_fit}
@@ -46,11 +46,11 @@ module _ (S : Shape) where
   body_listed (done None tail) f place payload b = subst (λ g. ListedIn (region_in g place payload) []) (sym b.0) (refl, refl)
   body_listed (done (Some z) tail) f place payload b = subst (λ g. ListedIn (region_in g place payload) []) (sym b.0) (refl, refl)
   body_listed (overrun bs) f place payload b = subst (λ g. ListedIn (region_in g place payload) []) (sym b.0) (refl, refl)
-  body_listed (family h is) f place payload b =
-      let g = group_of h in
+  body_listed (object h is) f place payload b =
+      let g = family_of h in
       let at = place + head_size g in
-      subst (λ x. ListedIn (region_in x place payload) (body_events place (family h is))) (sym b.0)
-      (region_listed _ (body_events place (family h is)) (items_listed S is (context_of g) 0 at at (drop (head_size g) payload) b.1.2 (λ some. refl)))
+      subst (λ x. ListedIn (region_in x place payload) (body_events place (object h is))) (sym b.0)
+      (region_listed _ (body_events place (object h is)) (items_listed S is (context_of g) 0 at at (drop (head_size g) payload) b.1.2 (λ some. refl)))
   body_listed (get n tail) f place payload b = subst (λ g. ListedIn (region_in g place payload) []) (sym b.0) (refl, refl)
   body_listed (other bs) f place payload b = subst (λ g. ListedIn (region_in g place payload) []) (sym b.0) (refl, refl)
 

@@ -13,11 +13,11 @@ use Rattle.nl_attr.proofs.Lemmas.Numbers.{bytes_take, bytes_drop}
 use Rattle.nl_route.specs.Fields.{signed}
 use Rattle.nl_route.proofs.Fields.{fields_are_ranged}
 use Rattle.nl_route.proofs.Families.{is_family}
-use Rattle.nl_route.specs.Families.{head_size, context_of, AnyHead, group_of, fields_of}
+use Rattle.nl_route.specs.Families.{head_size, context_of, AnyHead, family_of, fields_of}
 use Rattle.nl_frame.specs.declared.form.Form.{Form}
 use Rattle.nl_frame.specs.Header.{header_fields}
 use Rattle.nl_frame.specs.Form.{form_of}
-use Rattle.nl_frame.specs.Message.{BodyVal, noop, error, done, overrun, family, get, other, MessageVal}
+use Rattle.nl_frame.specs.Message.{BodyVal, noop, error, done, overrun, object, get, other, MessageVal}
 use Rattle.nl_frame.specs.Layout.{BodyOf, Layout}
 use Rattle.nl_frame.specs.Written.{body_len, written_len}
 use Rattle.nl_frame.specs.Proper.{IsMismatchedBody, IsMismatched, IsDeepBody, IsDeep, IsLongBody, HasLong, IsLong, IsProper, IsRangedBody, IsRanged}
@@ -61,10 +61,10 @@ module _ (S : Shape) where
   body_len_is (done None tail) f payload b = ap (λ (x : List ℕ). aligned (16 + length x)) (sym b.2)
   body_len_is (done (Some z) tail) f payload b = ap (λ k. aligned (16 + k)) (tail_len 4 payload tail b.1 b.3)
   body_len_is (overrun bs) f payload b = ap (λ (x : List ℕ). aligned (16 + length x)) (sym b.1)
-  body_len_is (family h is) f payload b =
-      let n = head_size (group_of h) in
+  body_len_is (object h is) f payload b =
+      let n = head_size (family_of h) in
       let region = drop n payload in
-      ap (λ k. aligned (16 + (n + k))) (fitted_len S (context_of (group_of h)) 0 region is b.1.2) ∙ again n (length region) (length payload) (is_family (group_of h)).whole (tail_len n payload region b.1.0 refl)
+      ap (λ k. aligned (16 + (n + k))) (fitted_len S (context_of (family_of h)) 0 region is b.1.2) ∙ again n (length region) (length payload) (is_family (family_of h)).whole (tail_len n payload region b.1.0 refl)
   body_len_is (get n tail) f payload b = let e : 1 + length tail ≡ length (n ∷ tail) = omega arith in ap (λ k. aligned (16 + k)) e ∙ ap (λ (x : List ℕ). aligned (16 + length x)) (sym b.1)
   body_len_is (other bs) f payload b = ap (λ (x : List ℕ). aligned (16 + length x)) (sym b.1)
 
@@ -77,8 +77,8 @@ module _ (S : Shape) where
 
   -- ---- they can be written
 
-  region_is_proper : (x : AnyHead) (is : Items) (payload : List ℕ) → length payload ≤ LONGEST_REGION → Fits S is (drop (head_size (group_of x)) payload) (context_of (group_of x)) 0 → attrs.IsProper is (context_of (group_of x)) 0 S.depth
-  region_is_proper x is payload top f = let n = head_size (group_of x) in fitted_is_proper S (context_of (group_of x)) 0 (drop n payload) is f (omega (arith, length-drop n payload))
+  region_is_proper : (x : AnyHead) (is : Items) (payload : List ℕ) → length payload ≤ LONGEST_REGION → Fits S is (drop (head_size (family_of x)) payload) (context_of (family_of x)) 0 → attrs.IsProper is (context_of (family_of x)) 0 S.depth
+  region_is_proper x is payload top f = let n = head_size (family_of x) in fitted_is_proper S (context_of (family_of x)) 0 (drop n payload) is f (omega (arith, length-drop n payload))
 
   body_matched : (c : BodyVal) (f : Form) (payload : List ℕ) → length payload ≤ LONGEST_REGION → BodyOf S c f payload → IsMismatchedBody c f → ⊥
   body_matched (noop bs) f payload top b h = h b.0
@@ -87,8 +87,8 @@ module _ (S : Shape) where
   body_matched (done None tail) f payload top b (inr h) = omega (arith, b.1, h, ap (length {A = ℕ}) b.2)
   body_matched (done (Some z) tail) f payload top b h = h b.0
   body_matched (overrun bs) f payload top b h = h b.0
-  body_matched (family x is) f payload top b (inl h) = h b.0
-  body_matched (family x is) f payload top b (inr h) = (region_is_proper x is payload top b.1.2).matched h
+  body_matched (object x is) f payload top b (inl h) = h b.0
+  body_matched (object x is) f payload top b (inr h) = (region_is_proper x is payload top b.1.2).matched h
   body_matched (get n tail) f payload top b h = h b.0
   body_matched (other bs) f payload top b h = h b.0
 
@@ -97,7 +97,7 @@ module _ (S : Shape) where
   body_shallow (error z x tail) f payload top b h = h
   body_shallow (done status tail) f payload top b h = h
   body_shallow (overrun bs) f payload top b h = h
-  body_shallow (family x is) f payload top b h = (region_is_proper x is payload top b.1.2).shallow h
+  body_shallow (object x is) f payload top b h = (region_is_proper x is payload top b.1.2).shallow h
   body_shallow (get n tail) f payload top b h = h
   body_shallow (other bs) f payload top b h = h
 
@@ -106,7 +106,7 @@ module _ (S : Shape) where
   body_short (error z x tail) f payload top b h = h
   body_short (done status tail) f payload top b h = h
   body_short (overrun bs) f payload top b h = h
-  body_short (family x is) f payload top b h = (region_is_proper x is payload top b.1.2).short h
+  body_short (object x is) f payload top b h = (region_is_proper x is payload top b.1.2).short h
   body_short (get n tail) f payload top b h = h
   body_short (other bs) f payload top b h = h
 
@@ -145,8 +145,8 @@ module _ (S : Shape) where
   body_ranged (done None tail) f payload fits b = tt
   body_ranged (done (Some z) tail) f payload fits b = (fields_are_ranged S.order (signed z ∷ []) (take 4 payload) b.2).0
   body_ranged (overrun bs) f payload fits b = tt
-  body_ranged (family x is) f payload fits b =
-      let g = group_of x in
+  body_ranged (object x is) f payload fits b =
+      let g = family_of x in
       (fields_are_ranged S.order (fields_of x) (take (head_size g) payload) b.1.1, fitted_is_ranged S (context_of g) 0 (drop (head_size g) payload) is b.1.2)
   body_ranged (get n tail) f payload fits b = subst AreBytes b.1 fits 0
   body_ranged (other bs) f payload fits b = tt

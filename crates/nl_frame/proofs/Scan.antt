@@ -95,7 +95,7 @@ region_place form.Noop place payload h le e = absurd cc
 region_place form.Error place payload h le e = absurd cc
 region_place form.Done place payload h le e = absurd cc
 region_place form.Overrun place payload h le e = absurd cc
-region_place (form.Family g) place payload h le e = start_place (context_of g) place (head_size g) payload h le (some_same _ h e)
+region_place (form.Object g) place payload h le e = start_place (context_of g) place (head_size g) payload h le (some_same _ h e)
 region_place form.Get place payload h le e = absurd cc
 region_place form.Other place payload h le e = absurd cc
 

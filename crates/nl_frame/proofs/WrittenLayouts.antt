@@ -14,14 +14,14 @@ use Rattle.nl_route.specs.Fields.{Field, number, signed, AreFields, AreRanged}
 use Rattle.nl_route.specs.Fields as fields
 use Rattle.nl_route.proofs.Fields.{size_of, length-written, written_has_fields}
 use Rattle.nl_route.proofs.Families.{is_family, size_of_head}
-use Rattle.nl_route.specs.declared.group.Verb.TheVariants.{New}
+use Rattle.nl_route.specs.declared.family.Verb.TheVariants.{New}
 use Rattle.nl_route.specs.Types.{route_type}
-use Rattle.nl_route.specs.Families.{head_size, context_of, type_of, group_of, fields_of}
+use Rattle.nl_route.specs.Families.{head_size, context_of, type_of, family_of, fields_of}
 use Rattle.nl_frame.specs.declared.form.Form.{Form}
 use Rattle.nl_frame.specs.declared.form.Form.TheVariants as form
 use Rattle.nl_frame.specs.Header.{header_fields}
 use Rattle.nl_frame.specs.Form.{form_for, form_of}
-use Rattle.nl_frame.specs.Message.{BodyVal, noop, error, done, overrun, family, get, other, MessageVal}
+use Rattle.nl_frame.specs.Message.{BodyVal, noop, error, done, overrun, object, get, other, MessageVal}
 use Rattle.nl_frame.specs.Layout.{BodyOf, Layout}
 use Rattle.nl_frame.specs.Written.{body_len, header_for, body_written, message_item, written, written_len}
 use Rattle.nl_frame.specs.Proper.{IsMismatchedBody, IsMismatched, IsDeepBody, IsDeep, IsLongBody, HasLong, IsProper, IsRangedBody, IsRanged}
@@ -35,7 +35,7 @@ kind_for form.Noop = 1
 kind_for form.Error = 2
 kind_for form.Done = 3
 kind_for form.Overrun = 4
-kind_for (form.Family g) = type_of g New
+kind_for (form.Object g) = type_of g New
 kind_for form.Get = 18
 kind_for form.Other = 0
 
@@ -45,7 +45,7 @@ form_of-kind_for form.Noop = refl
 form_of-kind_for form.Error = refl
 form_of-kind_for form.Done = refl
 form_of-kind_for form.Overrun = refl
-form_of-kind_for (form.Family g) = ap (form_for (type_of g New)) (is_family g).new
+form_of-kind_for (form.Object g) = ap (form_for (type_of g New)) (is_family g).new
 form_of-kind_for form.Get = refl
 form_of-kind_for form.Other = refl
 
@@ -86,11 +86,11 @@ body_writes S (done (Some z) tail) f r m d s =
     let front = front_written S.order (signed z ∷ []) 4 tail refl (r, tt) in
     (same_form f form.Done m, front.long, front.are, front.rest)
 body_writes S (overrun bs) f r m d s = (same_form f form.Overrun m, refl)
-body_writes S (family h is) f r m d s =
-    let g = group_of h in
+body_writes S (object h is) f r m d s =
+    let g = family_of h in
     let front = front_written S.order (fields_of h) (head_size g) (attrs.written S.order is) (size_of_head h) r.0 in
     let fit = written_fits S (context_of g) 0 is (record { matched = λ x. m (inr x); shallow = d; short = s }) r.1 in
-    (same_form f (form.Family g) (λ x. m (inl x)), (front.long, front.are, subst (λ (xs : List ℕ). Fits S is xs (context_of g) 0) (sym front.rest) fit))
+    (same_form f (form.Object g) (λ x. m (inl x)), (front.long, front.are, subst (λ (xs : List ℕ). Fits S is xs (context_of g) 0) (sym front.rest) fit))
 body_writes S (get n tail) f r m d s = (same_form f form.Get m, refl)
 body_writes S (other bs) f r m d s = (same_form f form.Other m, refl)
 

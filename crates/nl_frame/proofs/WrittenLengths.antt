@@ -9,9 +9,9 @@ use Rattle.nl_route.specs.Fields.{Field, signed}
 use Rattle.nl_route.specs.Fields as fields
 use Rattle.nl_route.proofs.Fields.{size_of, length-written}
 use Rattle.nl_route.proofs.Families.{size_of_head}
-use Rattle.nl_route.specs.Families.{head_size, group_of, fields_of}
+use Rattle.nl_route.specs.Families.{head_size, family_of, fields_of}
 use Rattle.nl_frame.specs.Header.{header_fields}
-use Rattle.nl_frame.specs.Message.{BodyVal, noop, error, done, overrun, family, get, other, MessageVal}
+use Rattle.nl_frame.specs.Message.{BodyVal, noop, error, done, overrun, object, get, other, MessageVal}
 use Rattle.nl_frame.specs.Written.{body_len, header_for, body_written, message_item, written, written_len}
 
 module _ (o : Order) where
@@ -25,7 +25,7 @@ module _ (o : Order) where
   length-body (done None tail) = refl
   length-body (done (Some z) tail) = length-front (signed z ∷ []) tail 4 (length tail) refl refl
   length-body (overrun bs) = refl
-  length-body (family h is) = length-front (fields_of h) (attrs.written o is) (head_size (group_of h)) (items_len is) (size_of_head h) (length-items o is)
+  length-body (object h is) = length-front (fields_of h) (attrs.written o is) (head_size (family_of h)) (items_len is) (size_of_head h) (length-items o is)
   length-body (get n tail) = omega arith
   length-body (other bs) = refl
 

@@ -25,7 +25,7 @@ region_in form.Noop place payload = None
 region_in form.Error place payload = None
 region_in form.Done place payload = None
 region_in form.Overrun place payload = None
-region_in (form.Family g) place payload = Some (start_of (context_of g) 0 (place + head_size g) (drop (head_size g) payload))
+region_in (form.Object g) place payload = Some (start_of (context_of g) 0 (place + head_size g) (drop (head_size g) payload))
 region_in form.Get place payload = None
 region_in form.Other place payload = None
 

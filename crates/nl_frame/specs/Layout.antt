@@ -3,13 +3,13 @@ use Rattle.std.specs.Prelude.{◌≡◌, ◌<◌, ◌≤◌, ℕ, List, [], ◌�
 use Rattle.nl_attr.specs.Shape.{Shape}
 use Rattle.nl_attr.specs.Layout.{IsPiece}
 use Rattle.nl_route.specs.Fields.{signed, AreFields}
-use Rattle.nl_route.specs.Body.{IsFamilyBody}
-use Rattle.nl_route.specs.Families.{head_size, context_of, group_of, fields_of}
+use Rattle.nl_route.specs.Body.{IsObject}
+use Rattle.nl_route.specs.Families.{head_size, context_of, family_of, fields_of}
 use Rattle.nl_frame.specs.declared.form.Form.{Form}
 use Rattle.nl_frame.specs.declared.form.Form.TheVariants as form
 use Rattle.nl_frame.specs.Header.{header_fields}
 use Rattle.nl_frame.specs.Form.{form_of}
-use Rattle.nl_frame.specs.Message.{BodyVal, noop, error, done, overrun, family, get, other, MessageVal}
+use Rattle.nl_frame.specs.Message.{BodyVal, noop, error, done, overrun, object, get, other, MessageVal}
 
 module _ (S : Shape) where
   -- the payload of a message of this form is this body
@@ -21,7 +21,7 @@ module _ (S : Shape) where
   BodyOf (done None tail) f payload = (f ≡ form.Done) × (length payload < 4) × (payload ≡ tail)
   BodyOf (done (Some z) tail) f payload = (f ≡ form.Done) × (4 ≤ length payload) × AreFields S.order (signed z ∷ []) (take 4 payload) × (drop 4 payload ≡ tail)
   BodyOf (overrun bs) f payload = (f ≡ form.Overrun) × (payload ≡ bs)
-  BodyOf (family h is) f payload = (f ≡ form.Family (group_of h)) × IsFamilyBody S (head_size (group_of h)) (fields_of h) (context_of (group_of h)) is payload
+  BodyOf (object h is) f payload = (f ≡ form.Object (family_of h)) × IsObject S (head_size (family_of h)) (fields_of h) (context_of (family_of h)) is payload
   BodyOf (get n tail) f payload = (f ≡ form.Get) × (payload ≡ n ∷ tail)
   BodyOf (other bs) f payload = (f ≡ form.Other) × (payload ≡ bs)
 

@@ -3,8 +3,8 @@ use Rattle.std.specs.Prelude.{◌+◌, ℕ, List, [], ◌∷◌, ◌++◌}
 use Rattle.nl_attr.specs.declared.events.Event.{Event}
 use Rattle.nl_attr.specs.Numbers.{aligned}
 use Rattle.nl_attr.specs.Listed.{items_events}
-use Rattle.nl_route.specs.Families.{head_size, group_of}
-use Rattle.nl_frame.specs.Message.{BodyVal, noop, error, done, overrun, family, get, other, MessageVal}
+use Rattle.nl_route.specs.Families.{head_size, family_of}
+use Rattle.nl_frame.specs.Message.{BodyVal, noop, error, done, overrun, object, get, other, MessageVal}
 use Rattle.nl_frame.specs.Written.{body_len}
 use Rattle.nl_frame.specs.HeadOrder.{header_event}
 
@@ -14,7 +14,7 @@ body_events place (noop bs) = []
 body_events place (error code h tail) = []
 body_events place (done status tail) = []
 body_events place (overrun bs) = []
-body_events place (family h is) = items_events (place + head_size (group_of h)) 0 is
+body_events place (object h is) = items_events (place + head_size (family_of h)) 0 is
 body_events place (get n tail) = []
 body_events place (other bs) = []
 

@@ -3,7 +3,7 @@ use Rattle.std.specs.Prelude.{◌≡◌, ◌<◌, ◌≤◌, ◌+◌, ◌⊎◌,
 use Rattle.nl_attr.specs.Fixed.{LONGEST_REGION}
 use Rattle.nl_attr.specs.Numbers.{aligned}
 use Rattle.nl_attr.specs.Proper as attrs
-use Rattle.nl_frame.specs.Message.{BodyVal, noop, error, done, overrun, family, get, other, MessageVal}
+use Rattle.nl_frame.specs.Message.{BodyVal, noop, error, done, overrun, object, get, other, MessageVal}
 use Rattle.nl_frame.specs.Written.{body_len, written_len}
 use Rattle.nl_frame.specs.Proper.{IsLongBody, HasLong, IsLong}
 
@@ -13,7 +13,7 @@ IsSizedBody (noop bs) = Unit {0}
 IsSizedBody (error code h tail) = Unit {0}
 IsSizedBody (done status tail) = Unit {0}
 IsSizedBody (overrun bs) = Unit {0}
-IsSizedBody (family h is) = attrs.IsSized is
+IsSizedBody (object h is) = attrs.IsSized is
 IsSizedBody (get n tail) = Unit {0}
 IsSizedBody (other bs) = Unit {0}
 

@@ -6,7 +6,7 @@ use Rattle.nl_attr.specs.declared.fault.WriteError.{WriteError as FirstRefusal}
 use Rattle.nl_attr.specs.declared.fault.WriteError.TheVariants as first
 use Rattle.nl_attr.specs.Proper as attrs
 use Rattle.nl_route.specs.Fields.{AreRanged}
-use Rattle.nl_route.specs.Families.{context_of, group_of, fields_of}
+use Rattle.nl_route.specs.Families.{context_of, family_of, fields_of}
 use Rattle.nl_frame.specs.declared.form.Form.{Form}
 use Rattle.nl_frame.specs.declared.form.Form.TheVariants as form
 use Rattle.nl_frame.specs.declared.writing.WriteError.{WriteError}
@@ -14,7 +14,7 @@ use Rattle.nl_frame.specs.declared.writing.WriteError.TheVariants.{Mismatch, Too
 use Rattle.nl_frame.specs.Limits.{Bounds}
 use Rattle.nl_frame.specs.Header.{header_fields}
 use Rattle.nl_frame.specs.Form.{form_of}
-use Rattle.nl_frame.specs.Message.{BodyVal, noop, error, done, overrun, family, get, other, MessageVal}
+use Rattle.nl_frame.specs.Message.{BodyVal, noop, error, done, overrun, object, get, other, MessageVal}
 use Rattle.nl_frame.specs.Written.{written_len}
 
 -- a body of another form, a DONE without status that has four bytes or more, or mismatched attributes
@@ -24,7 +24,7 @@ IsMismatchedBody (error code h tail) f = f ≢ form.Error
 IsMismatchedBody (done None tail) f = (f ≢ form.Done) ⊎ (4 ≤ length tail)
 IsMismatchedBody (done (Some z) tail) f = f ≢ form.Done
 IsMismatchedBody (overrun bs) f = f ≢ form.Overrun
-IsMismatchedBody (family h is) f = (f ≢ form.Family (group_of h)) ⊎ attrs.IsMismatched is (context_of (group_of h))
+IsMismatchedBody (object h is) f = (f ≢ form.Object (family_of h)) ⊎ attrs.IsMismatched is (context_of (family_of h))
 IsMismatchedBody (get n tail) f = f ≢ form.Get
 IsMismatchedBody (other bs) f = f ≢ form.Other
 
@@ -39,7 +39,7 @@ IsDeepBody (noop bs) D = ⊥
 IsDeepBody (error code h tail) D = ⊥
 IsDeepBody (done status tail) D = ⊥
 IsDeepBody (overrun bs) D = ⊥
-IsDeepBody (family h is) D = attrs.IsDeep is 0 D
+IsDeepBody (object h is) D = attrs.IsDeep is 0 D
 IsDeepBody (get n tail) D = ⊥
 IsDeepBody (other bs) D = ⊥
 
@@ -54,7 +54,7 @@ IsLongBody (noop bs) = ⊥
 IsLongBody (error code h tail) = ⊥
 IsLongBody (done status tail) = ⊥
 IsLongBody (overrun bs) = ⊥
-IsLongBody (family h is) = attrs.IsLong is
+IsLongBody (object h is) = attrs.IsLong is
 IsLongBody (get n tail) = ⊥
 IsLongBody (other bs) = ⊥
 
@@ -92,7 +92,7 @@ IsRangedBody (error code h tail) = FitsSigned w32 code × AreRanged (header_fiel
 IsRangedBody (done None tail) = Unit {0}
 IsRangedBody (done (Some z) tail) = FitsSigned w32 z
 IsRangedBody (overrun bs) = Unit {0}
-IsRangedBody (family h is) = AreRanged (fields_of h) × attrs.IsRanged is
+IsRangedBody (object h is) = AreRanged (fields_of h) × attrs.IsRanged is
 IsRangedBody (get n tail) = n < 256
 IsRangedBody (other bs) = Unit {0}
 

@@ -10,9 +10,9 @@ use Rattle.nl_route.specs.Families.{head_size, context_of, head_of}
 use Rattle.nl_frame.specs.declared.header.Header.{Header}
 use Rattle.nl_frame.specs.declared.form.Form.{Form}
 use Rattle.nl_frame.specs.declared.form.Form.TheVariants as form
-use Rattle.nl_route.specs.declared.group.Group.{Group}
+use Rattle.nl_route.specs.declared.family.Family.{Family}
 use Rattle.nl_frame.specs.Header.{header_of}
-use Rattle.nl_frame.specs.Message.{BodyVal, noop, error, done, overrun, family, get, other, MessageVal}
+use Rattle.nl_frame.specs.Message.{BodyVal, noop, error, done, overrun, object, get, other, MessageVal}
 use Rattle.nl_frame.specs.Front.{span_at, payload_at, form_at, broken_message}
 
 -- the signed number in the first four bytes
@@ -33,9 +33,9 @@ unless place None o = o
 unless place (Some r) o = (Err (record { place = place; reason = r }), 0)
 
 module _ (S : Shape) where
-  abbrev pub family_body_at : Group → ℕ → List ℕ → Outcome BodyVal
-  family_body_at g place payload =
-      map_value (family (head_of S.order g (take (head_size g) payload)))
+  abbrev pub object_body_at : Family → ℕ → List ℕ → Outcome BodyVal
+  object_body_at g place payload =
+      map_value (object (head_of S.order g (take (head_size g) payload)))
       (items_of_region S (context_of g) 0 (place + head_size g) (drop (head_size g) payload))
 
   -- the body in the payload at a place, when it is long enough for its form
@@ -44,7 +44,7 @@ module _ (S : Shape) where
   body_at form.Error place payload = (Ok (error (signed_of S.order payload) (header_of S.order (drop 4 payload)) (drop 20 payload)), 0)
   body_at form.Done place payload = (Ok (done_at S.order payload), 0)
   body_at form.Overrun place payload = (Ok (overrun payload), 0)
-  body_at (form.Family g) place payload = family_body_at g place payload
+  body_at (form.Object g) place payload = object_body_at g place payload
   body_at form.Get place payload = (Ok (get (slice_index payload 0) (drop 1 payload)), 0)
   body_at form.Other place payload = (Ok (other payload), 0)
 

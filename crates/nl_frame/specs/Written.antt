@@ -6,10 +6,10 @@ use Rattle.nl_attr.specs.Written.{with_padding, items_len}
 use Rattle.nl_attr.specs.Written as attrs
 use Rattle.nl_route.specs.Fields.{signed}
 use Rattle.nl_route.specs.Fields as fields
-use Rattle.nl_route.specs.Families.{head_size, group_of, fields_of}
+use Rattle.nl_route.specs.Families.{head_size, family_of, fields_of}
 use Rattle.nl_frame.specs.declared.header.Header.{Header}
 use Rattle.nl_frame.specs.Header.{header_fields}
-use Rattle.nl_frame.specs.Message.{BodyVal, noop, error, done, overrun, family, get, other, MessageVal}
+use Rattle.nl_frame.specs.Message.{BodyVal, noop, error, done, overrun, object, get, other, MessageVal}
 
 -- how many bytes a body is written as, in either order
 abbrev pub body_len : BodyVal → ℕ
@@ -18,7 +18,7 @@ body_len (error code h tail) = 20 + length tail
 body_len (done None tail) = length tail
 body_len (done (Some z) tail) = 4 + length tail
 body_len (overrun bs) = length bs
-body_len (family h is) = head_size (group_of h) + items_len is
+body_len (object h is) = head_size (family_of h) + items_len is
 body_len (get n tail) = 1 + length tail
 body_len (other bs) = length bs
 
@@ -34,7 +34,7 @@ module _ (o : Order) where
   body_written (done None tail) = tail
   body_written (done (Some z) tail) = fields.written o (signed z ∷ []) ++ tail
   body_written (overrun bs) = bs
-  body_written (family h is) = fields.written o (fields_of h) ++ attrs.written o is
+  body_written (object h is) = fields.written o (fields_of h) ++ attrs.written o is
   body_written (get n tail) = n ∷ tail
   body_written (other bs) = bs
 

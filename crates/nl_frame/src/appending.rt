@@ -18,7 +18,7 @@ ghost use Rattle.nl_frame.specs.Measured.{IsSizedBody, IsSized};
 use crate::body::{Body, Message};
 use crate::header::Header;
 use nl_attr::{Order, align4, append_bytes};
-use nl_route::match_family;
+use nl_route::match_object;
 
 /// Appends a signed number.
 fn append_signed(out: &mut Vec<u8>, order: Order, number: i32)
@@ -83,7 +83,7 @@ fn append_body(body: &Body, order: Order, out: &mut Vec<u8>)
     ensures room { vec_capacity out.old ≤ vec_capacity out.new }
     ensures ranged { IsRangedBody (body_view body.now) }
 {
-    match_family!(body, Body, family => family.append_body(order, out), {
+    match_object!(body, Body, object => object.append_body(order, out), {
         Body::Noop(bytes) => append_bytes(out, bytes),
         Body::Error {
             code,

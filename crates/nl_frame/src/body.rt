@@ -9,13 +9,13 @@ ghost use Rattle.nl_frame.specs.Form.{least_body};
 ghost use Rattle.nl_frame.specs.Header.{header_of};
 ghost use Rattle.nl_frame.specs.Message.{error, get};
 ghost use Rattle.nl_frame.specs.View.{body_view};
-ghost use Rattle.nl_frame.specs.Reading.{body_at, family_body_at, done_at, signed_of};
+ghost use Rattle.nl_frame.specs.Reading.{body_at, object_body_at, done_at, signed_of};
 
 use crate::form::Form;
 use crate::header::Header;
 use crate::limits::Limits;
 use nl_attr::{ListError, Order, Tally};
-use nl_route::{Addr, Group, Link, Neigh, Route, Rule, read_family};
+use nl_route::{Addr, Family, Link, Neigh, Route, Rule, read_object};
 use std::alloc::Global;
 
 /// What a message holds, by its type (netlink(7), rtnetlink(7)).
@@ -119,23 +119,23 @@ fn read_get(alloc: Global, bytes: &[u8]) -> Option<Body>
 }
 
 /// The body of a family's message.
-fn read_family(
+fn read_object(
     alloc: Global,
     bytes: &[u8],
-    group: Group,
+    family: Family,
     base: u32,
     limits: &Limits,
 ) -> Tally<Body, ListError>
-    requires least { head_size group ≤ length bytes.now }
+    requires least { head_size family ≤ length bytes.now }
     requires size { length bytes.now ≤ fixed.LONGEST_REGION }
     requires place { base + length bytes.now ≤ fixed.FARTHEST_END }
     ensures outcome { HasOutcome body_view result
-        (family_body_at limits.now.shape group base bytes.now) }
+        (object_body_at limits.now.shape family base bytes.now) }
     ensures bound { result.visits ≤ (limits.now.shape.depth + 1) * length bytes.now }
 {
     let depth = limits.depth();
     let order = limits.order();
-    read_family!(group, Body, (alloc, bytes, base, depth, order))
+    read_object!(family, Body, (alloc, bytes, base, depth, order))
 }
 
 impl Body {
@@ -160,7 +160,7 @@ impl Body {
             Form::Error => plain(read_error(alloc, bytes, order)),
             Form::Done => plain(read_done(alloc, bytes, order)),
             Form::Overrun => plain(Vec::from_slice(alloc, bytes).ok().map(Body::Overrun)),
-            Form::Family(group) => read_family(alloc, bytes, group, base, limits),
+            Form::Object(family) => read_object(alloc, bytes, family, base, limits),
             Form::Get => plain(read_get(alloc, bytes)),
             Form::Other => plain(Vec::from_slice(alloc, bytes).ok().map(Body::Other)),
         }

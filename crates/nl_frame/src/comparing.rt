@@ -16,7 +16,7 @@ ghost use Rattle.nl_frame.specs.Measured.{IsSizedBody};
 use crate::body::{Body, Message};
 use crate::header::Header;
 use nl_attr::{Order, align4, begins_with_bytes, begins_with_zeros};
-use nl_route::match_family;
+use nl_route::match_object;
 
 /// A front, and the bytes behind it.
 fn begins_with_both(front: &[u8], tail: &[u8], bytes: &[u8]) -> Option<usize>
@@ -64,7 +64,7 @@ fn begins_with_body(body: &Body, order: Order, bytes: &[u8]) -> Option<usize>
     ensures begins { Begins (body_written order (body_view body.now)) bytes.now result }
     ensures within { IfSome result (λ n. n ≤ length bytes.now) }
 {
-    match_family!(body, Body, family => family.begins_with_body(order, bytes), {
+    match_object!(body, Body, object => object.begins_with_body(order, bytes), {
         Body::Noop(payload) => begins_with_bytes(payload, bytes),
         Body::Error {
             code,

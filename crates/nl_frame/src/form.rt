@@ -3,7 +3,7 @@
 ghost use Rattle.std.specs.Prelude.{◌≡◌};
 ghost use Rattle.nl_frame.specs.Form.{form_of, least_body};
 
-use nl_route::{Group, RouteType, Verb};
+use nl_route::{Family, RouteType, Verb};
 
 /// What a message's body is made of.
 #[derive(Clone, Copy, Debug, PartialEq, Eq)]
@@ -13,7 +13,7 @@ pub enum Form {
     Done,
     Overrun,
     /// NEW, DEL and SET of a family: its head and attributes.
-    Family(Group),
+    Object(Family),
     /// GET of a family: one byte that names the family, and the rest.
     Get,
     /// Any other type: bytes.
@@ -28,7 +28,7 @@ impl Form {
         match RouteType::of(kind) {
             Some(kind) => match kind.verb {
                 Verb::Get => Form::Get,
-                Verb::New | Verb::Del | Verb::Set => Form::Family(kind.group),
+                Verb::New | Verb::Del | Verb::Set => Form::Object(kind.family),
             },
             None => match kind {
                 1 => Form::Noop,
@@ -46,7 +46,7 @@ impl Form {
     {
         match self {
             Form::Error => 20,
-            Form::Family(group) => group.row().head_size,
+            Form::Object(family) => family.row().head_size,
             Form::Get => 1,
             Form::Noop | Form::Done | Form::Overrun | Form::Other => 0,
         }

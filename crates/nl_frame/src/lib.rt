@@ -24,7 +24,7 @@ pub use front::{Frame, message_at};
 pub use header::Header;
 pub use limits::Limits;
 pub use nl_attr::{BrokenHead, Event, HeadKind, LimitFault, Order};
-pub use nl_route::Group;
+pub use nl_route::Family;
 pub use reading::{ReadError, read_datagram};
 pub use scanning::{Counted, ScanError, scan_datagram, tape_datagram};
 pub use writing::{WriteError, write_datagram};

@@ -11,7 +11,7 @@ ghost use Rattle.nl_frame.specs.Measured.{IsLenOf, IsBodyLen, IsMessageLen, IsLe
 use crate::body::{Body, Message};
 use crate::form::Form;
 use nl_attr::{Depth, Extent, LONGEST_REGION, align4};
-use nl_route::match_family;
+use nl_route::match_object;
 
 /// Bytes behind so many others, without attributes.
 fn plain(head: usize, tail: usize) -> Extent
@@ -52,9 +52,9 @@ fn measure_body(body: &Body, form: Form, depth: Depth) -> Option<Extent>
     ensures deep { IfSome result (λ e. IsTrue e.deep ↔ IsDeepBody (body_view body.now) depth) }
     ensures len { IfSome result (λ e. IsBodyLen (body_view body.now) e.len) }
 {
-    match_family!(body, Body, family => {
-        if form == Form::Family(family.group()) {
-            family.measure(depth)
+    match_object!(body, Body, object => {
+        if form == Form::Object(object.family()) {
+            object.measure(depth)
         } else {
             None
         }

@@ -15,7 +15,7 @@ use crate::broken::header_at_fault;
 use crate::form::Form;
 use crate::front::{Frame, front};
 use nl_attr::{Depth, Event, OpenRegions, Order, SORT_MESSAGE, Taped, tape_list};
-use nl_route::Group;
+use nl_route::Family;
 
 /// The event of a message's header.
 #[inline(always)]
@@ -37,28 +37,28 @@ fn event_of(frame: &Frame, place: u32) -> Event
 
 /// The attributes of a family's body.
 #[inline(always)]
-fn tape_family<'a>(
+fn tape_object<'a>(
     regions: &mut OpenRegions<'a>,
     payload: &'a [u8],
-    group: Group,
+    family: Family,
     place: u32,
     depth: Depth,
     order: Order,
     out: &mut [Event],
     count: usize,
 ) -> Taped
-    requires least { head_size group ≤ length payload.now }
+    requires least { head_size family ≤ length payload.now }
     requires size { length payload.now ≤ fixed.LONGEST_REGION }
     requires place { place + length payload.now ≤ fixed.FARTHEST_END }
     requires count { count ≤ 4294967296 }
     ensures taped { IsTaped (shape_of order depth) (region_trail (shape_of order depth)
-        (region_in (Form.Family group) place payload.now)) count out.old out.new result }
+        (region_in (Form.Object family) place payload.now)) count out.old out.new result }
     ensures head { IfSome result.broken (IsBrokenIn (shape_of order depth)
-        (region_in (Form.Family group) place payload.now)) }
+        (region_in (Form.Object family) place payload.now)) }
     ensures bound { result.visits ≤ (depth + 1) * length payload.now }
     ensures count { result.count ≤ count + result.visits }
 {
-    let row = group.row();
+    let row = family.row();
     let bytes = &payload[row.head_size..];
     let base = place + row.head_size as u32;
     tape_list(
@@ -98,8 +98,8 @@ fn tape_body<'a>(
     ensures count { result.count ≤ count + result.visits }
 {
     match form {
-        Form::Family(group) => {
-            tape_family(regions, payload, group, place, depth, order, out, count)
+        Form::Object(family) => {
+            tape_object(regions, payload, family, place, depth, order, out, count)
         }
         Form::Noop | Form::Error | Form::Done | Form::Overrun | Form::Get | Form::Other => Taped {
             broken: None,

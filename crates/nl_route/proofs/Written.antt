@@ -9,7 +9,7 @@ use Rattle.nl_attr.specs.Layout.{Fits}
 use Rattle.nl_attr.specs.Written as attrs
 use Rattle.nl_attr.proofs.Lemmas.Lengths.{length-items, grown}
 use Rattle.nl_route.specs.Fields.{Field, AreFields, AreRanged, written}
-use Rattle.nl_route.specs.Body.{IsFamilyBody, body_written}
+use Rattle.nl_route.specs.Body.{IsObject, body_written}
 use Rattle.nl_route.proofs.Fields.{written_has_fields}
 
 -- the head has the bytes by which a body is longer than its attributes
@@ -21,7 +21,7 @@ head_length o fs is old new m n size e f g h =
 module _ (S : Shape) where
   -- a head in its ranges and attributes that fit what is written of them are the body that is written of both
   pub body_is : (size : ℕ) (fs : List Field) (ctx : Ctx) (is : Items) → length (written S.order fs) ≡ size → AreRanged fs → Fits S is (attrs.written S.order is) ctx 0
-      → IsFamilyBody S size fs ctx is (body_written S.order fs is)
+      → IsObject S size fs ctx is (body_written S.order fs is)
   body_is size fs ctx is e r f =
       let front = written S.order fs in
       let rest = attrs.written S.order is in (

@@ -3,10 +3,10 @@ use Rattle.std.specs.Prelude.{ℕ, ◌+◌, ◌==◌, List, Bool, true, is_some,
 use Rattle.nl_attr.specs.declared.order.Order.{Order}
 use Rattle.nl_attr.specs.declared.tree.Ctx.{Ctx}
 use Rattle.nl_attr.specs.declared.tree.Ctx.TheVariants as ctx
-use Rattle.nl_route.specs.declared.group.Group.{Group}
-use Rattle.nl_route.specs.declared.group.Group.TheVariants.{Link, Addr, Route, Neigh, Rule}
-use Rattle.nl_route.specs.declared.group.Verb.{Verb}
-use Rattle.nl_route.specs.declared.group.Verb.TheVariants.{New, Del, Get, Set}
+use Rattle.nl_route.specs.declared.family.Family.{Family}
+use Rattle.nl_route.specs.declared.family.Family.TheVariants.{Link, Addr, Route, Neigh, Rule}
+use Rattle.nl_route.specs.declared.family.Verb.{Verb}
+use Rattle.nl_route.specs.declared.family.Verb.TheVariants.{New, Del, Get, Set}
 use Rattle.nl_route.specs.declared.ifinfomsg.LinkHead.{LinkHead}
 use Rattle.nl_route.specs.declared.ifaddrmsg.AddrHead.{AddrHead}
 use Rattle.nl_route.specs.declared.rtmsg.RouteHead.{RouteHead}
@@ -31,7 +31,7 @@ pub record Row : Type 1 where
   pub name : List ℕ
 
 -- the row of each family
-abbrev pub row : Group → Row
+abbrev pub row : Family → Row
 row Link = record { Head = LinkHead; size = 16; fields = link_fields; of = link_of; context = ctx.Link; new = 16; name = codes "link" }
 row Addr = record { Head = AddrHead; size = 8; fields = addr_fields; of = addr_of; context = ctx.Addr; new = 20; name = codes "addr" }
 row Route = record { Head = RouteHead; size = 12; fields = route_fields; of = route_of; context = ctx.Route; new = 24; name = codes "route" }
@@ -39,20 +39,20 @@ row Neigh = record { Head = NeighHead; size = 12; fields = neigh_fields; of = ne
 row Rule = record { Head = RuleHead; size = 12; fields = rule_fields; of = rule_of; context = ctx.Rule; new = 32; name = codes "rule" }
 
 -- how many bytes the head of a family has
-abbrev pub head_size : Group → ℕ
+abbrev pub head_size : Family → ℕ
 head_size g = (row g).size
 
 -- the context of the attributes of a family
-abbrev pub context_of : Group → Ctx
+abbrev pub context_of : Family → Ctx
 context_of g = (row g).context
 
 -- the name of a family
-abbrev pub name_of : Group → List ℕ
+abbrev pub name_of : Family → List ℕ
 name_of g = (row g).name
 
 -- two families are one where their types are
-abbrev pub same_group : Group → Group → Bool
-same_group g h = (row g).new == (row h).new
+abbrev pub same_family : Family → Family → Bool
+same_family g h = (row g).new == (row h).new
 
 -- the four types of a family stand one after another
 abbrev pub place_of : Verb → ℕ
@@ -62,11 +62,11 @@ place_of Get = 2
 place_of Set = 3
 
 -- the message type of a family and a verb
-abbrev pub type_of : Group → Verb → ℕ
+abbrev pub type_of : Family → Verb → ℕ
 type_of g v = (row g).new + place_of v
 
 -- a family has all four but SET, which some don't
-abbrev pub has_verb : Group → Verb → Bool
+abbrev pub has_verb : Family → Verb → Bool
 has_verb g New = true
 has_verb g Del = true
 has_verb g Get = true
@@ -74,21 +74,21 @@ has_verb g Set = is_some (route_type (type_of g Set))
 
 -- a head of any family
 pub record AnyHead : Type 0 where
-  pub group : Group
-  pub head : (row group).Head
+  pub family : Family
+  pub head : (row family).Head
 
 -- this head, of this family
-abbrev pub any : (g : Group) → (row g).Head → AnyHead
-any g h = record { group = g; head = h }
+abbrev pub any : (g : Family) → (row g).Head → AnyHead
+any g h = record { family = g; head = h }
 
 -- the family of a head
-abbrev pub group_of : AnyHead → Group
-group_of h = h.group
+abbrev pub family_of : AnyHead → Family
+family_of h = h.family
 
 -- the fields of a head
 abbrev pub fields_of : AnyHead → List Field
-fields_of h = (row h.group).fields h.head
+fields_of h = (row h.family).fields h.head
 
 -- the head that is read of bytes
-abbrev pub head_of : Order → Group → List ℕ → AnyHead
+abbrev pub head_of : Order → Family → List ℕ → AnyHead
 head_of o g bytes = any g ((row g).of o bytes)

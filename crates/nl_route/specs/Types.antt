@@ -1,14 +1,14 @@
 -- The message types of rtnetlink, RTM_NEWLINK of linux/rtnetlink.h and on, and what each says.
 use Rattle.std.specs.Prelude.{ℕ, ◌==◌, if◌then◌else◌, List, [], ◌∷◌, Option, Some, None}
-use Rattle.nl_route.specs.declared.group.Group.{Group}
-use Rattle.nl_route.specs.declared.group.Group.TheVariants.{Link, Addr, Route, Neigh, Rule}
-use Rattle.nl_route.specs.declared.group.RouteType.{RouteType}
-use Rattle.nl_route.specs.declared.group.Verb.{Verb}
-use Rattle.nl_route.specs.declared.group.Verb.TheVariants.{New, Del, Get, Set}
+use Rattle.nl_route.specs.declared.family.Family.{Family}
+use Rattle.nl_route.specs.declared.family.Family.TheVariants.{Link, Addr, Route, Neigh, Rule}
+use Rattle.nl_route.specs.declared.family.RouteType.{RouteType}
+use Rattle.nl_route.specs.declared.family.Verb.{Verb}
+use Rattle.nl_route.specs.declared.family.Verb.TheVariants.{New, Del, Get, Set}
 
 -- this verb of this family
-abbrev pub says : Verb → Group → RouteType
-says v g = record { group = g; verb = v }
+abbrev pub says : Verb → Family → RouteType
+says v g = record { family = g; verb = v }
 
 -- all of them: no other type is a family's
 abbrev pub types : List (ℕ × RouteType)

@@ -4,10 +4,10 @@ use Rattle.nl_attr.specs.declared.order.Order.{Order}
 use Rattle.nl_attr.specs.Tree.{Val, bytes, list, hops, Items, no_items, HopItems, no_hops}
 use Rattle.nl_attr.specs.View.{attrs_view}
 use Rattle.nl_attr.specs.Views.{Entry, first_of, bytes_in, number_in, text_in}
-use Rattle.nl_route.specs.declared.family.Family.{Family}
+use Rattle.nl_route.specs.declared.object.Object.{Object}
 
 -- the attributes of a body
-abbrev pub attrs_in : {H : Type 0} → Family H → Items
+abbrev pub attrs_in : {H : Type 0} → Object H → Items
 attrs_in b = attrs_view b.attrs.items
 
 -- what the value of an attribute says, where there is an attribute

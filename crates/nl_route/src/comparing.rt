@@ -6,11 +6,11 @@ ghost use Rattle.nl_attr.specs.Compared.{Begins};
 ghost use Rattle.nl_route.specs.Body.{body_written};
 ghost use Rattle.nl_route.specs.Views.{attrs_in};
 
-use crate::family::Family;
 use crate::head::Head;
+use crate::object::Object;
 use nl_attr::{Order, begins_with};
 
-impl<H: Head> Family<H> {
+impl<H: Head> Object<H> {
     /// How long the body is, where bytes begin with what it is written as with numbers in this
     /// order, its head first; none where they don't. It takes no memory.
     ///

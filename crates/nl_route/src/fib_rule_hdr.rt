@@ -8,8 +8,8 @@ ghost use Rattle.nl_route.specs.Rule.{rule_fields, rule_of};
 ghost use Rattle.nl_route.specs.Views.{number_view, text_view, bytes_view, attrs_in};
 
 use crate::family::Family;
-use crate::group::Group;
 use crate::head::Head;
+use crate::object::Object;
 use crate::views::{bytes_of, text_of, u32_view};
 use nl_attr::{Ctx, Order, append_bytes, begins_with_bytes};
 
@@ -56,7 +56,7 @@ pub struct RuleHead {
 ///
 /// Each view takes the first attribute of its number, and no other. It is `None` where there is
 /// none, where its value is a list or next hops, and where it has too few bytes for a number.
-pub type Rule = Family<RuleHead>;
+pub type Rule = Object<RuleHead>;
 
 impl RuleHead {
     /// The head in these bytes, the lowest byte of a number first.
@@ -123,7 +123,7 @@ impl RuleHead {
 
 impl Head for RuleHead {
     ghost use Rattle.std.proofs.Common.{lit≤};
-    ghost use Rattle.nl_route.specs.declared.group.Group.TheVariants as group;
+    ghost use Rattle.nl_route.specs.declared.family.Family.TheVariants as family;
     ghost use Rattle.nl_attr.specs.declared.tree.Ctx.TheVariants.{Rule};
     ghost use Rattle.nl_route.specs.Rule.{rule_fields, rule_of};
 
@@ -131,7 +131,7 @@ impl Head for RuleHead {
 
     ghost SIZE = { 12 };
 
-    ghost group = { group.Rule };
+    ghost family = { family.Rule };
 
     ghost ctx = { Rule };
 
@@ -141,8 +141,8 @@ impl Head for RuleHead {
 
     ghost small = { lit≤ tt };
 
-    fn group() -> Group {
-        Group::Rule
+    fn family() -> Family {
+        Family::Rule
     }
 
     fn context() -> Ctx {

@@ -5,10 +5,10 @@ ghost use Rattle.std.specs.Prelude.{take, IfSome, vec_len, vec_capacity};
 ghost use Rattle.nl_attr.specs.declared.order.Order.{Order};
 ghost use Rattle.nl_attr.specs.declared.tree.Ctx.{Ctx};
 ghost use Rattle.nl_attr.specs.Compared.{Begins};
-ghost use Rattle.nl_route.specs.declared.group.Group.{Group};
+ghost use Rattle.nl_route.specs.declared.family.Family.{Family};
 ghost use Rattle.nl_route.specs.Fields.{Field, AreRanged, IsHeadOf, written};
 
-use crate::group::Group;
+use crate::family::Family;
 use nl_attr::{Ctx, Order};
 
 /// The head of a family's body: how many bytes it has, what they say, and the context of the
@@ -19,7 +19,7 @@ pub trait Head: Sized + Drop {
 
     ghost SIZE: { ℕ };
 
-    ghost group: { Group };
+    ghost family: { Family };
 
     ghost ctx: { Ctx };
 
@@ -28,8 +28,8 @@ pub trait Head: Sized + Drop {
     ghost of: { Order → List ℕ → Self };
 
     /// Its family.
-    fn group() -> Group
-        ensures { result ≡ group };
+    fn family() -> Family
+        ensures { result ≡ family };
 
     /// The context of the attributes behind it.
     fn context() -> Ctx

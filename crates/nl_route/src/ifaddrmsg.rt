@@ -8,8 +8,8 @@ ghost use Rattle.nl_route.specs.Addr.{addr_fields, addr_of};
 ghost use Rattle.nl_route.specs.Views.{number_view, text_view, bytes_view, attrs_in};
 
 use crate::family::Family;
-use crate::group::Group;
 use crate::head::Head;
+use crate::object::Object;
 use crate::views::{bytes_of, text_of, u32_view};
 use nl_attr::{Ctx, Order, append_bytes, begins_with_bytes};
 
@@ -43,7 +43,7 @@ pub struct AddrHead {
 ///
 /// Each view takes the first attribute of its number, and no other. It is `None` where there is
 /// none, where its value is a list or next hops, and where it has too few bytes for a number.
-pub type Addr = Family<AddrHead>;
+pub type Addr = Object<AddrHead>;
 
 impl AddrHead {
     /// The head in these bytes, the lowest byte of a number first.
@@ -104,7 +104,7 @@ impl AddrHead {
 
 impl Head for AddrHead {
     ghost use Rattle.std.proofs.Common.{lit≤};
-    ghost use Rattle.nl_route.specs.declared.group.Group.TheVariants as group;
+    ghost use Rattle.nl_route.specs.declared.family.Family.TheVariants as family;
     ghost use Rattle.nl_attr.specs.declared.tree.Ctx.TheVariants.{Addr};
     ghost use Rattle.nl_route.specs.Addr.{addr_fields, addr_of};
 
@@ -112,7 +112,7 @@ impl Head for AddrHead {
 
     ghost SIZE = { 8 };
 
-    ghost group = { group.Addr };
+    ghost family = { family.Addr };
 
     ghost ctx = { Addr };
 
@@ -122,8 +122,8 @@ impl Head for AddrHead {
 
     ghost small = { lit≤ tt };
 
-    fn group() -> Group {
-        Group::Addr
+    fn family() -> Family {
+        Family::Addr
     }
 
     fn context() -> Ctx {

@@ -9,8 +9,8 @@ ghost use Rattle.nl_route.specs.Link.{link_fields, link_of};
 ghost use Rattle.nl_route.specs.Views.{number_view, text_view, items_view, attrs_in};
 
 use crate::family::Family;
-use crate::group::Group;
 use crate::head::Head;
+use crate::object::Object;
 use crate::views::{list_of, text_of, u8_view, u32_view};
 use nl_attr::{Ctx, IFLA_LINKINFO, Order, append_bytes, begins_with_bytes};
 
@@ -44,7 +44,7 @@ pub struct LinkHead {
 ///
 /// Each view takes the first attribute of its number, and no other. It is `None` where there is
 /// none, where its value is a list or next hops, and where it has too few bytes for a number.
-pub type Link = Family<LinkHead>;
+pub type Link = Object<LinkHead>;
 
 impl LinkHead {
     /// The head in these bytes, the lowest byte of a number first.
@@ -105,7 +105,7 @@ impl LinkHead {
 
 impl Head for LinkHead {
     ghost use Rattle.std.proofs.Common.{lit≤};
-    ghost use Rattle.nl_route.specs.declared.group.Group.TheVariants as group;
+    ghost use Rattle.nl_route.specs.declared.family.Family.TheVariants as family;
     ghost use Rattle.nl_attr.specs.declared.tree.Ctx.TheVariants.{Link};
     ghost use Rattle.nl_route.specs.Link.{link_fields, link_of};
 
@@ -113,7 +113,7 @@ impl Head for LinkHead {
 
     ghost SIZE = { 16 };
 
-    ghost group = { group.Link };
+    ghost family = { family.Link };
 
     ghost ctx = { Link };
 
@@ -123,8 +123,8 @@ impl Head for LinkHead {
 
     ghost small = { lit≤ tt };
 
-    fn group() -> Group {
-        Group::Link
+    fn family() -> Family {
+        Family::Link
     }
 
     fn context() -> Ctx {

@@ -8,8 +8,8 @@ ghost use Rattle.nl_route.specs.Neigh.{neigh_fields, neigh_of};
 ghost use Rattle.nl_route.specs.Views.{number_view, bytes_view, attrs_in};
 
 use crate::family::Family;
-use crate::group::Group;
 use crate::head::Head;
+use crate::object::Object;
 use crate::views::{bytes_of, u16_view, u32_view};
 use nl_attr::{Ctx, Order, append_bytes, begins_with_bytes};
 
@@ -43,7 +43,7 @@ pub struct NeighHead {
 ///
 /// Each view takes the first attribute of its number, and no other. It is `None` where there is
 /// none, where its value is a list or next hops, and where it has too few bytes for a number.
-pub type Neigh = Family<NeighHead>;
+pub type Neigh = Object<NeighHead>;
 
 impl NeighHead {
     /// The head in these bytes, the lowest byte of a number first.
@@ -104,7 +104,7 @@ impl NeighHead {
 
 impl Head for NeighHead {
     ghost use Rattle.std.proofs.Common.{lit≤};
-    ghost use Rattle.nl_route.specs.declared.group.Group.TheVariants as group;
+    ghost use Rattle.nl_route.specs.declared.family.Family.TheVariants as family;
     ghost use Rattle.nl_attr.specs.declared.tree.Ctx.TheVariants.{Neigh};
     ghost use Rattle.nl_route.specs.Neigh.{neigh_fields, neigh_of};
 
@@ -112,7 +112,7 @@ impl Head for NeighHead {
 
     ghost SIZE = { 12 };
 
-    ghost group = { group.Neigh };
+    ghost family = { family.Neigh };
 
     ghost ctx = { Neigh };
 
@@ -122,8 +122,8 @@ impl Head for NeighHead {
 
     ghost small = { lit≤ tt };
 
-    fn group() -> Group {
-        Group::Neigh
+    fn family() -> Family {
+        Family::Neigh
     }
 
     fn context() -> Ctx {

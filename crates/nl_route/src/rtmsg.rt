@@ -11,8 +11,8 @@ ghost use Rattle.nl_route.specs.Views.{attrs_in, number_view, bytes_view};
 ghost use Rattle.nl_route.specs.Views.{items_view, hop_items_view};
 
 use crate::family::Family;
-use crate::group::Group;
 use crate::head::Head;
+use crate::object::Object;
 use crate::views::{bytes_of, hops_of, list_of, u32_view};
 use nl_attr::{Attr, Ctx, Hop, Order, RTA_METRICS, RTA_MULTIPATH, append_bytes, begins_with_bytes};
 
@@ -60,7 +60,7 @@ pub struct RouteHead {
 ///
 /// Each view takes the first attribute of its number, and no other. It is `None` where there is
 /// none, where its value is a list or next hops, and where it has too few bytes for a number.
-pub type Route = Family<RouteHead>;
+pub type Route = Object<RouteHead>;
 
 impl RouteHead {
     /// The head in these bytes, the lowest byte of a number first.
@@ -133,7 +133,7 @@ impl RouteHead {
 
 impl Head for RouteHead {
     ghost use Rattle.std.proofs.Common.{lit≤};
-    ghost use Rattle.nl_route.specs.declared.group.Group.TheVariants as group;
+    ghost use Rattle.nl_route.specs.declared.family.Family.TheVariants as family;
     ghost use Rattle.nl_attr.specs.declared.tree.Ctx.TheVariants.{Route};
     ghost use Rattle.nl_route.specs.Route.{route_fields, route_of};
 
@@ -141,7 +141,7 @@ impl Head for RouteHead {
 
     ghost SIZE = { 12 };
 
-    ghost group = { group.Route };
+    ghost family = { family.Route };
 
     ghost ctx = { Route };
 
@@ -151,8 +151,8 @@ impl Head for RouteHead {
 
     ghost small = { lit≤ tt };
 
-    fn group() -> Group {
-        Group::Route
+    fn family() -> Family {
+        Family::Route
     }
 
     fn context() -> Ctx {

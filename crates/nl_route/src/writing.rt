@@ -10,11 +10,11 @@ ghost use Rattle.nl_route.specs.Fields.{AreRanged};
 ghost use Rattle.nl_route.specs.Body.{WritesBody, body_written};
 ghost use Rattle.nl_route.specs.Views.{attrs_in};
 
-use crate::family::Family;
 use crate::head::Head;
+use crate::object::Object;
 use nl_attr::{Depth, Extent, Order, WriteError, append_list, measure};
 
-impl<H: Head> Family<H> {
+impl<H: Head> Object<H> {
     /// How many bytes the body is written as, in either order. None where a value is of another
     /// kind than its attribute holds, or an item or the region of the attributes is too long; how
     /// deep they are says nothing here.

@@ -5,8 +5,8 @@ use Rattle.std.proofs.lemmas.Nat.{and_le_l}
 use Rattle.nl_attr.specs.declared.order.Order.{Order}
 use Rattle.nl_attr.specs.Tree.{Items}
 use Rattle.nl_route.specs.declared.ndmsg.NeighHead.{NeighHead}
-use Rattle.nl_route.specs.declared.group.Group.{Group}
-use Rattle.nl_route.specs.declared.group.Group.TheVariants.{Link, Addr, Route, Neigh, Rule}
+use Rattle.nl_route.specs.declared.family.Family.{Family}
+use Rattle.nl_route.specs.declared.family.Family.TheVariants.{Link, Addr, Route, Neigh, Rule}
 use Rattle.nl_route.specs.Fields.{AreRanged}
 use Rattle.nl_route.specs.Families.{row}
 use Rattle.nl_route.specs.Addr.{IFA_ADDRESS, IFA_LOCAL}
@@ -42,7 +42,7 @@ module _ (o : Order) (is : Items) (leaves : HasLeaves is) where
       by true = (bytes_fit NDA_LLADDR, (two_fit NDA_VLAN, (four_fit NDA_VNI, tt)))
       by false = tt
 
-  pub key_fits : (k : Group) (h : (row k).Head) → AreRanged ((row k).fields h) → AreKeyFields (key_fields k o h is)
+  pub key_fits : (k : Family) (h : (row k).Head) → AreRanged ((row k).fields h) → AreKeyFields (key_fields k o h is)
   key_fits Link h r = (unsigned_below h.index r.1.1.0, tt)
   key_fits Addr h r = (r.0, (r.1.1.1.1.0, (r.1.0, (bytes_fit IFA_ADDRESS, (bytes_fit IFA_LOCAL, tt)))))
   key_fits Route h r = (

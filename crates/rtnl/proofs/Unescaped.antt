@@ -6,8 +6,8 @@ use Rattle.hex.specs.Hex.{encode_lower, encode_with, lower_digits}
 use Rattle.json.specs.Run.{is_plain}
 use Rattle.nl_attr.specs.declared.tree.Ctx.{Ctx}
 use Rattle.nl_attr.specs.declared.tree.Ctx.TheVariants as ctx
-use Rattle.nl_route.specs.declared.group.Group.{Group}
-use Rattle.nl_route.specs.declared.group.Group.TheVariants as group
+use Rattle.nl_route.specs.declared.family.Family.{Family}
+use Rattle.nl_route.specs.declared.family.Family.TheVariants as family
 use Rattle.nl_route.specs.Families.{name_of}
 use Rattle.rtnl.specs.declared.text.attributes.Style.{Style}
 use Rattle.rtnl.specs.Attributes.{attribute_name, attribute_rows, row_of}
@@ -91,12 +91,12 @@ unfolding row_of
 unescaped_name c number = found (attribute_rows c) number (all c)
 
 -- the name of a family
-pub unescaped_family : (g : Group) → IsUnescaped (name_of g)
-unescaped_family group.Link = refl
-unescaped_family group.Addr = refl
-unescaped_family group.Route = refl
-unescaped_family group.Neigh = refl
-unescaped_family group.Rule = refl
+pub unescaped_family : (g : Family) → IsUnescaped (name_of g)
+unescaped_family family.Link = refl
+unescaped_family family.Addr = refl
+unescaped_family family.Route = refl
+unescaped_family family.Neigh = refl
+unescaped_family family.Rule = refl
 
 -- a text that stands for itself
 abbrev Unescaped : Type 0

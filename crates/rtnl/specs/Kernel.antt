@@ -3,11 +3,11 @@ use Rattle.std.specs.Prelude.{ℕ, ◌++◌, ◌==◌, if◌then◌else◌, List
 use Rattle.std.specs.Borrow.{Bor}
 use Rattle.nl_attr.specs.declared.tree.Ctx.{Ctx}
 use Rattle.nl_attr.specs.declared.tree.Ctx.TheVariants.{Link, LinkInfo, Addr, Route, Metrics, Neigh, Rule, Plain}
-use Rattle.nl_route.specs.declared.group.Group.{Group}
-use Rattle.nl_route.specs.declared.group.Group.TheVariants as group
-use Rattle.nl_route.specs.declared.group.RouteType.{RouteType}
-use Rattle.nl_route.specs.declared.group.Verb.{Verb}
-use Rattle.nl_route.specs.declared.group.Verb.TheVariants.{New, Del, Get, Set}
+use Rattle.nl_route.specs.declared.family.Family.{Family}
+use Rattle.nl_route.specs.declared.family.Family.TheVariants as family
+use Rattle.nl_route.specs.declared.family.RouteType.{RouteType}
+use Rattle.nl_route.specs.declared.family.Verb.{Verb}
+use Rattle.nl_route.specs.declared.family.Verb.TheVariants.{New, Del, Get, Set}
 use Rattle.nl_route.specs.Types.{route_type}
 use Rattle.rtnl.specs.Attributes.{row_of}
 use Rattle.rtnl.specs.Further.{further_rows}
@@ -44,12 +44,12 @@ verb_front Del = codes "RTM_DEL"
 verb_front Get = codes "RTM_GET"
 verb_front Set = codes "RTM_SET"
 
-unfoldable pub group_end : Group → List ℕ
-group_end group.Link = codes "LINK"
-group_end group.Addr = codes "ADDR"
-group_end group.Route = codes "ROUTE"
-group_end group.Neigh = codes "NEIGH"
-group_end group.Rule = codes "RULE"
+unfoldable pub family_end : Family → List ℕ
+family_end family.Link = codes "LINK"
+family_end family.Addr = codes "ADDR"
+family_end family.Route = codes "ROUTE"
+family_end family.Neigh = codes "NEIGH"
+family_end family.Rule = codes "RULE"
 
 -- the name of a type of netlink itself
 unfoldable pub control_name : ℕ → Option (List ℕ)
@@ -62,7 +62,7 @@ control_name n =
 -- of a type, by what it says where it is a family's
 abbrev pub name_for : ℕ → Option RouteType → Option (List ℕ)
 name_for n None = control_name n
-name_for n (Some t) = Some (verb_front t.verb ++ group_end t.group)
+name_for n (Some t) = Some (verb_front t.verb ++ family_end t.family)
 
 -- the name of a message type
 abbrev pub message_name : ℕ → Option (List ℕ)

@@ -3,11 +3,11 @@ use Rattle.std.specs.Prelude.{ℕ, ℤ, pos, List, [], Option, Some, None, codes
 use Rattle.std.specs.Fmt.{decimal, signed_decimal}
 use Rattle.std.specs.List.{flat_map}
 use Rattle.nl_attr.specs.declared.order.Order.{Order}
-use Rattle.nl_route.specs.declared.group.Group.{Group}
-use Rattle.nl_route.specs.declared.group.Group.TheVariants as group
-use Rattle.nl_route.specs.Families.{row, AnyHead, group_of, context_of}
+use Rattle.nl_route.specs.declared.family.Family.{Family}
+use Rattle.nl_route.specs.declared.family.Family.TheVariants as family
+use Rattle.nl_route.specs.Families.{row, AnyHead, family_of, context_of}
 use Rattle.nl_frame.specs.declared.header.Header.{Header}
-use Rattle.nl_frame.specs.Message.{BodyVal, noop, error, done, overrun, family, get, other, MessageVal}
+use Rattle.nl_frame.specs.Message.{BodyVal, noop, error, done, overrun, object, get, other, MessageVal}
 use Rattle.rtnl.specs.Link.{link_line}
 use Rattle.rtnl.specs.Addr.{addr_line}
 use Rattle.rtnl.specs.Route.{route_line}
@@ -19,16 +19,16 @@ use Rattle.rtnl.specs.Trees.{indented, items_text}
 use Rattle.rtnl.specs.Types.{flags_table, type_flags, type_name}
 
 -- the line of a family's head
-abbrev pub line_of : (g : Group) → (row g).Head → List ℕ
-line_of group.Link = link_line
-line_of group.Addr = addr_line
-line_of group.Route = route_line
-line_of group.Neigh = neigh_line
-line_of group.Rule = rule_line
+abbrev pub line_of : (g : Family) → (row g).Head → List ℕ
+line_of family.Link = link_line
+line_of family.Addr = addr_line
+line_of family.Route = route_line
+line_of family.Neigh = neigh_line
+line_of family.Rule = rule_line
 
 -- the line of a head
 abbrev pub head_line : AnyHead → List ℕ
-head_line h = line_of h.group h.head
+head_line h = line_of h.family h.head
 
 -- the bytes behind a fixed part, which end the line
 abbrev pub tail_end : List ℕ → List ℕ
@@ -64,7 +64,7 @@ body_text o (noop payload) = bytes_line payload
 body_text o (error code h tail) = error_line code h tail
 body_text o (done status tail) = done_line (status_of status) tail
 body_text o (overrun payload) = bytes_line payload
-body_text o (family h items) = head_line h ⨟ items_text o (indented []) (context_of (group_of h)) items
+body_text o (object h items) = head_line h ⨟ items_text o (indented []) (context_of (family_of h)) items
 body_text o (get n tail) = get_line n tail
 body_text o (other payload) = bytes_line payload
 

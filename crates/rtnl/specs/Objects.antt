@@ -6,11 +6,11 @@ use Rattle.nl_attr.specs.declared.tree.AttrFlags.{AttrFlags}
 use Rattle.nl_attr.specs.declared.tree.Ctx.{Ctx}
 use Rattle.nl_attr.specs.declared.tree.Ctx.TheVariants.{Route}
 use Rattle.nl_attr.specs.Tree.{Val, bytes, list, hops, Items, no_items, item, HopItems, no_hops, hop, holds_of}
-use Rattle.nl_route.specs.declared.group.Group.{Group}
-use Rattle.nl_route.specs.declared.group.Group.TheVariants as group
-use Rattle.nl_route.specs.Families.{row, AnyHead, group_of, context_of, name_of}
+use Rattle.nl_route.specs.declared.family.Family.{Family}
+use Rattle.nl_route.specs.declared.family.Family.TheVariants as family
+use Rattle.nl_route.specs.Families.{row, AnyHead, family_of, context_of, name_of}
 use Rattle.nl_frame.specs.declared.header.Header.{Header}
-use Rattle.nl_frame.specs.Message.{BodyVal, noop, error, done, overrun, family, get, other, MessageVal}
+use Rattle.nl_frame.specs.Message.{BodyVal, noop, error, done, overrun, object, get, other, MessageVal}
 use Rattle.nl_dump.specs.Items.{Item}
 use Rattle.rtnl.specs.Attributes.{attribute_style, row_of}
 use Rattle.rtnl.specs.declared.text.attributes.Style.{Style}
@@ -101,21 +101,21 @@ abbrev mutual
       object (hop_front flags count index ++ (codes "attrs", array (attrs_json o Route attrs)) ∷ []) ∷ hops_json o more
 
 -- the fields of a family's head
-abbrev pub fields_of : (g : Group) → (row g).Head → List Field
-fields_of group.Link = link_fields
-fields_of group.Addr = addr_fields
-fields_of group.Route = route_fields
-fields_of group.Neigh = neigh_fields
-fields_of group.Rule = rule_fields
+abbrev pub fields_of : (g : Family) → (row g).Head → List Field
+fields_of family.Link = link_fields
+fields_of family.Addr = addr_fields
+fields_of family.Route = route_fields
+fields_of family.Neigh = neigh_fields
+fields_of family.Rule = rule_fields
 
 -- the fields of the head of any family
 abbrev pub head_fields : AnyHead → List Field
-head_fields h = fields_of h.group h.head
+head_fields h = fields_of h.family h.head
 
 -- a family's head and its attributes, under the name of the family
 unfoldable pub family_field : Order → AnyHead → Items → Field
 family_field o h items =
-    (name_of (group_of h), object (head_fields h ++ (codes "attrs", array (attrs_json o (context_of (group_of h)) items)) ∷ []))
+    (name_of (family_of h), object (head_fields h ++ (codes "attrs", array (attrs_json o (context_of (family_of h)) items)) ∷ []))
 
 -- an item of a table
 abbrev pub item_field : Order → Item → Field
@@ -153,7 +153,7 @@ body_field o (noop payload) = bytes_field payload
 body_field o (error code h tail) = error_field code h tail
 body_field o (done status tail) = done_field (status_of status) tail
 body_field o (overrun payload) = bytes_field payload
-body_field o (family h items) = family_field o h items
+body_field o (object h items) = family_field o h items
 body_field o (get n tail) = get_field n tail
 body_field o (other payload) = bytes_field payload
 

@@ -70,7 +70,7 @@ entry_line number = codes "entry " ⨟ decimal number ⨟ codes "\n"
 
 -- the body lines of an entry
 abbrev pub item_text : Order → Item → List ℕ
-item_text o item = body_text o (family item.0 item.1)
+item_text o item = body_text o (object item.0 item.1)
 
 -- an entry: its line, and its body lines
 abbrev pub entry_text : Order → ℕ → Item → List ℕ

@@ -49,7 +49,7 @@ body_context form.Noop = Plain
 body_context form.Error = Plain
 body_context form.Done = Plain
 body_context form.Overrun = Plain
-body_context (form.Family g) = context_of g
+body_context (form.Object g) = context_of g
 body_context form.Get = Plain
 body_context form.Other = Plain
 

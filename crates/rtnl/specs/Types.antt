@@ -1,9 +1,9 @@
 -- The names of message types and of their flags.
 use Rattle.std.specs.Prelude.{ℕ, List, [], ◌∷◌, ◌++◌, codes, Option, Some, None}
 use Rattle.bitflags.specs.Sets.{Row as BitRow}
-use Rattle.nl_route.specs.declared.group.RouteType.{RouteType}
-use Rattle.nl_route.specs.declared.group.Verb.{Verb}
-use Rattle.nl_route.specs.declared.group.Verb.TheVariants as verb
+use Rattle.nl_route.specs.declared.family.RouteType.{RouteType}
+use Rattle.nl_route.specs.declared.family.Verb.{Verb}
+use Rattle.nl_route.specs.declared.family.Verb.TheVariants as verb
 use Rattle.nl_route.specs.Families.{name_of}
 use Rattle.nl_route.specs.Types.{route_type}
 use Rattle.rtnl.specs.declared.text.types.FlagNames.{FlagNames}
@@ -36,7 +36,7 @@ verb_flags verb.Set = Common
 -- the name of a message type that says this of a family
 abbrev pub name_for : ℕ → Option RouteType → List ℕ
 name_for kind None = name_in (codes "other") (find_row kind controls)
-name_for kind (Some t) = verb_name t.verb ++ name_of t.group
+name_for kind (Some t) = verb_name t.verb ++ name_of t.family
 
 -- the name of a message type
 unfoldable pub type_name : ℕ → List ℕ

@@ -8,7 +8,8 @@ ghost use Rattle.rtnl.specs.Tabled.{entries_text};
 use crate::report::{Report, Size};
 use crate::text::families::Shown;
 use nl_attr::Order;
-use nl_dump::{Kind, Session, match_table};
+use nl_dump::{Session, match_table};
+use nl_route::Family;
 use nl_table::{Entry, Table};
 use std::alloc::{AllocError, Global};
 
@@ -42,7 +43,7 @@ pub(crate) fn push_table<F: Report>(
     out: &mut Vec<u8>,
     order: Order,
     session: &Session,
-    kind: Kind,
+    kind: Family,
 ) -> Result<Size, AllocError>
     ensures text { OnOk result (out.new.items ≡ out.old.items
         ++ entries_text F.report order 1 (table_at kind session.now.tables).entries) }

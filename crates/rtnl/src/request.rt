@@ -10,8 +10,9 @@ use crate::error::{RunError, Verdict};
 use crate::sink::{Sink, give_all};
 use crate::text::pieces::{push, push_hex};
 use nl_attr::Order;
-use nl_dump::{Dump, Kind};
+use nl_dump::Dump;
 use nl_frame::Limits;
+use nl_route::Family;
 use std::alloc::{AllocError, Global};
 
 #[tactic(auto, unfolding(crate::specs::Requested::bytes_alone))]
@@ -38,7 +39,7 @@ fn text_of(alloc: Global, dump: &Dump, order: Order) -> Result<Vec<u8>, AllocErr
 pub fn run_request<W: Sink>(
     alloc: Global,
     sink: &mut W,
-    kind: Kind,
+    kind: Family,
     family: u8,
     seq: u32,
 ) -> Result<Verdict, RunError>
@@ -58,7 +59,7 @@ pub fn run_request<W: Sink>(
 pub fn run_request_ordered<W: Sink>(
     alloc: Global,
     sink: &mut W,
-    kind: Kind,
+    kind: Family,
     family: u8,
     seq: u32,
     order: Order,

@@ -64,7 +64,7 @@ fn context_of_body(form: Form) -> Ctx
     ensures { result ≡ body_context form }
 {
     match form {
-        Form::Family(group) => group.row().context,
+        Form::Object(family) => family.row().context,
         Form::Noop | Form::Error | Form::Done | Form::Overrun | Form::Get | Form::Other => {
             Ctx::Plain
         }

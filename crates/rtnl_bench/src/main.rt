@@ -6,7 +6,7 @@
 use anyhow::{Result, bail};
 use nl_attr::{Attr, Tally};
 use nl_frame::{Body, Limits, Message, read_datagram, write_datagram};
-use nl_route::match_family;
+use nl_route::match_object;
 use rtnl::{SliceSource, VecSink, run_show};
 use std::alloc::Global;
 
@@ -24,7 +24,7 @@ fn datagrams(alloc: Global, recording: &str) -> Result<Vec<Vec<u8>>> {
 
 /// How many attributes a message has at its first level.
 fn attributes(message: &Message) -> usize {
-    let attrs: &[Attr] = match_family!(&message.body, Body, family => family.attrs.as_slice(), {
+    let attrs: &[Attr] = match_object!(&message.body, Body, object => object.attrs.as_slice(), {
         _ => &[],
     });
     attrs.len()

@@ -10,7 +10,7 @@ use Rattle.nl_dump.specs.declared.tables.Tables.{Tables}
 use Rattle.nl_dump.specs.View.{table_at}
 use Rattle.std.proofs.lemmas.Option.{slice_get-map}
 use Rattle.nl_attr.specs.declared.order.Order.{Order}
-use Rattle.nl_route.specs.declared.group.Group.{Group}
+use Rattle.nl_route.specs.declared.family.Family.{Family}
 use Rattle.nl_frame.specs.Written.{written}
 use Rattle.std.proofs.lemmas.List.{length-map}
 use Rattle.std.proofs.lemmas.Map.Made.{keys_of-map_values}
@@ -28,7 +28,7 @@ module _ {T : Type 0} (f : T → Item) (t : Content T) where
   keys_seen key = ap (position (bytes_eq key)) (keys_of-map_values f t.entries)
 
 -- an entry's message as the program writes it is that of what the entry stands for
-module _ {T : Type 0} (f : T → Item) (k : Group) (image : Order → T → List ℕ) (same : (o : Order) (x : T) → image o x ≡ written o (entry_message k (f x) ∷ [])) where
+module _ {T : Type 0} (f : T → Item) (k : Family) (image : Order → T → List ℕ) (same : (o : Order) (x : T) → image o x ≡ written o (entry_message k (f x) ∷ [])) where
   by_entry : (o : Order) (e : Option (List ℕ × T)) → option_map (λ e. image o e.1) e ≡ option_map (λ (e : List ℕ × Item). written o (entry_message k e.1 ∷ [])) (option_map (λ e. (e.0, f e.1)) e)
   by_entry o None = refl
   by_entry o (Some e) = ap Some (same o e.1)
@@ -40,12 +40,12 @@ module _ {T : Type 0} (f : T → Item) (k : Group) (image : Order → T → List
   items_of = option_map (λ v. v.items)
 
   -- so is an entry of the table of a family
-  pub entry_read : (r : Result (Option (Vec ℕ)) WriteError) (t : Content T) (i : ℕ) (kind : Group) (tables : Tables) → kind ≡ k → table_at k tables ≡ seen f t
+  pub entry_read : (r : Result (Option (Vec ℕ)) WriteError) (t : Content T) (i : ℕ) (kind : Family) (tables : Tables) → kind ≡ k → table_at k tables ≡ seen f t
       → IfOk r (λ v. items_of v ≡ option_map (λ e. image t.order e.1) (slice_get t.entries i)) → IfOk r (λ v. items_of v ≡ entry_bytes i kind (table_at kind tables))
   entry_read r t i kind tables is at h =
-      subst (λ (g : Group). IfOk r (λ v. items_of v ≡ entry_bytes i g (table_at g tables))) (sym is)
+      subst (λ (g : Family). IfOk r (λ v. items_of v ≡ entry_bytes i g (table_at g tables))) (sym is)
       (subst (λ (x : Option (List ℕ)). IfOk r (λ v. items_of v ≡ x)) (entry_seen t i ∙ ap (entry_bytes i k) (sym at)) h)
 
 -- a family's message with nothing behind it
-pub one_message : (o : Order) (k : Group) (h : (row k).Head) (is : Items) → message_bytes o k (head_size k + items_len is) ((row k).fields h) is ≡ written o (entry_message k (any k h, is) ∷ [])
+pub one_message : (o : Order) (k : Family) (h : (row k).Head) (is : Items) → message_bytes o k (head_size k + items_len is) ((row k).fields h) is ≡ written o (entry_message k (any k h, is) ∷ [])
 one_message o k h is = sym (append-nil (message_bytes o k (head_size k + items_len is) ((row k).fields h) is))

@@ -2,9 +2,9 @@
 use Rattle.std.proofs.Common.{◌≡◌, ℕ, ℤ, pos, Bool, true, false, List, Some, Result, Ok, Err, refl, sym, ap, subst, ◌∙◌}
 use Rattle.nl_attr.specs.declared.order.Order.{Order}
 use Rattle.nl_attr.specs.declared.order.Order.TheVariants.{Little, Big}
-use Rattle.nl_route.specs.declared.group.Group.{Group}
-use Rattle.nl_route.specs.declared.group.Group.TheVariants.{Link, Addr, Route, Neigh, Rule}
-use Rattle.nl_route.specs.declared.group.Verb.TheVariants.{New}
+use Rattle.nl_route.specs.declared.family.Family.{Family}
+use Rattle.nl_route.specs.declared.family.Family.TheVariants.{Link, Addr, Route, Neigh, Rule}
+use Rattle.nl_route.specs.declared.family.Verb.TheVariants.{New}
 use Rattle.nl_route.specs.Families.{type_of}
 use Rattle.nl_route.specs.Types.{route_type}
 use Rattle.nl_frame.specs.Limits.{bounds_of}
@@ -20,7 +20,7 @@ use Rattle.nl_dump.specs.Standing.{IsPossible}
 use Rattle.rtnl_c.specs.declared.put.Put.{Put}
 use Rattle.rtnl_c.specs.declared.status.Last.{Last}
 use Rattle.rtnl_c.specs.declared.stream.Kept.{Kept}
-use Rattle.rtnl_c.specs.Kinds.{group_in}
+use Rattle.rtnl_c.specs.Kinds.{family_in}
 use Rattle.rtnl_c.specs.Options.{order_in}
 use Rattle.rtnl_c.specs.Put.{IsPut, not_put}
 use Rattle.rtnl_c.specs.Status.{last_dump, last_of}
@@ -42,13 +42,13 @@ order_back : (o : Order) → order_in (is_big o) ≡ o
 order_back Little = refl
 order_back Big = refl
 
-group_back : (g : Group) → group_in (route_type (type_of g New)) ≡ Some g
+family_back : (g : Family) → family_in (route_type (type_of g New)) ≡ Some g
 unfolding route_type
-group_back Link = refl
-group_back Addr = refl
-group_back Route = refl
-group_back Neigh = refl
-group_back Rule = refl
+family_back Link = refl
+family_back Addr = refl
+family_back Route = refl
+family_back Neigh = refl
+family_back Rule = refl
 
 module _ (s : Standing) where
   -- all of it, with this for its last dump
@@ -73,7 +73,7 @@ module _ (s : Standing) where
   }
 
   dump_back : (d : Dump) (n : ℕ) (z : ℤ) → state_in (kept_with (last_dump d n z)) ≡ state_by (kept_with (last_dump d n z)) (Some d.kind)
-  dump_back d n z = ap (state_by (kept_with (last_dump d n z))) (group_back d.kind)
+  dump_back d n z = ap (state_by (kept_with (last_dump d n z))) (family_back d.kind)
 
   state_back : (st : State) → state_in (kept_with (last_of st)) ≡ Some st
   unfolding route_type

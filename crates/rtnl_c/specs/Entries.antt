@@ -4,8 +4,8 @@ use Rattle.std.specs.Map.{keys_of}
 use Rattle.nl_attr.specs.declared.order.Order.{Order}
 use Rattle.nl_attr.specs.Tree.{Items}
 use Rattle.nl_attr.specs.Written.{with_padding}
-use Rattle.nl_route.specs.declared.group.Group.{Group}
-use Rattle.nl_route.specs.declared.group.Verb.TheVariants.{New}
+use Rattle.nl_route.specs.declared.family.Family.{Family}
+use Rattle.nl_route.specs.declared.family.Verb.TheVariants.{New}
 use Rattle.nl_route.specs.Families.{type_of}
 use Rattle.nl_route.specs.Fields.{Field}
 use Rattle.nl_route.specs.Fields as fields
@@ -36,18 +36,18 @@ no_table code = record { missed = 0; count = 0; limit = 0; code = code }
 abbrev pub size_of : Content Item → TableSize
 size_of t = sized (length t.entries) t.missed t.limit
 
-abbrev pub size_at : View → Option Group → TableSize
+abbrev pub size_at : View → Option Family → TableSize
 size_at v None = no_table no_kind
 size_at v (Some k) = size_of (table_at k v.tables)
 
-abbrev pub table_in : Option View → Option Group → TableSize
+abbrev pub table_in : Option View → Option Family → TableSize
 table_in None kind = no_table no_session
 table_in (Some v) kind = size_at v kind
 
 -- ---- what is put of a table into a buffer
 
 -- where there is a session and the family
-abbrev pub OfTable : (Content Item → Group → List ℕ → List ℕ → Put → Type 0) → Option View → Option Group → List ℕ → List ℕ → Put → Type 0
+abbrev pub OfTable : (Content Item → Family → List ℕ → List ℕ → Put → Type 0) → Option View → Option Family → List ℕ → List ℕ → Put → Type 0
 OfTable P None kind old new a = (a ≡ not_put no_session) × (new ≡ old)
 OfTable P (Some v) None old new a = (a ≡ not_put no_kind) × (new ≡ old)
 OfTable P (Some v) (Some k) old new a = P (table_at k v.tables) k old new a
@@ -55,22 +55,22 @@ OfTable P (Some v) (Some k) old new a = P (table_at k v.tables) k old new a
 -- ---- an entry, as a message
 
 -- the message NEW of an item, with no flags, sequence number and port id
-abbrev pub entry_message : Group → Item → MessageVal
+abbrev pub entry_message : Family → Item → MessageVal
 entry_message k item = record { kind = type_of k New; flags = 0; seq = 0; port = 0; body = family item.0 item.1 }
 
 -- the bytes of a family's message whose body has so many bytes, with these fields and attributes
-abbrev pub front_of : Group → ℕ → Header
+abbrev pub front_of : Family → ℕ → Header
 front_of k len = record { len = 16 + len; kind = type_of k New; flags = 0; seq = 0; port = 0 }
 
-abbrev pub message_bytes : Order → Group → ℕ → List Field → Items → List ℕ
+abbrev pub message_bytes : Order → Family → ℕ → List Field → Items → List ℕ
 message_bytes o k len fs is = with_padding (fields.written o (header_fields (front_of k len)) ++ body_written o fs is)
 
 -- the entry at an index of the table of a family, as its message is written
-abbrev pub entry_bytes : ℕ → Group → Content Item → Option (List ℕ)
+abbrev pub entry_bytes : ℕ → Family → Content Item → Option (List ℕ)
 entry_bytes index k t = option_map (λ e. written t.order (entry_message k e.1 ∷ [])) (slice_get t.entries index)
 
 -- it was put, or it can't be written
-pub data PutsEntry (index : ℕ) (t : Content Item) (k : Group) (old : List ℕ) : List ℕ → Put → Type 0 where
+pub data PutsEntry (index : ℕ) (t : Content Item) (k : Family) (old : List ℕ) : List ℕ → Put → Type 0 where
   puts : (new : List ℕ) (a : Put) → PutsFound (entry_bytes index k t) nothing_there old new a → PutsEntry index t k old new a
   unwritten : (e : WriteError) → PutsEntry index t k old old (not_put (write_code e))
 
@@ -78,7 +78,7 @@ pub data PutsEntry (index : ℕ) (t : Content Item) (k : Group) (old : List ℕ)
 abbrev pub key_bytes : ℕ → Content Item → Option (List ℕ)
 key_bytes index t = option_map (λ e. e.0) (slice_get t.entries index)
 
-abbrev pub PutsKey : ℕ → Content Item → Group → List ℕ → List ℕ → Put → Type 0
+abbrev pub PutsKey : ℕ → Content Item → Family → List ℕ → List ℕ → Put → Type 0
 PutsKey index t k old new a = PutsFound (key_bytes index t) nothing_there old new a
 
 -- ---- the place of a key
@@ -93,10 +93,10 @@ found_if (Some index) = found_at index 0
 abbrev pub place_of : List ℕ → Content Item → Option ℕ
 place_of key t = position (bytes_eq key) (keys_of t.entries)
 
-abbrev pub found_of : View → Option Group → List ℕ → FoundEntry
+abbrev pub found_of : View → Option Family → List ℕ → FoundEntry
 found_of v None key = found_at 0 no_kind
 found_of v (Some k) key = found_if (place_of key (table_at k v.tables))
 
-abbrev pub found_in : Option View → Option Group → List ℕ → FoundEntry
+abbrev pub found_in : Option View → Option Family → List ℕ → FoundEntry
 found_in None kind key = found_at 0 no_session
 found_in (Some v) kind key = found_of v kind key

@@ -9,7 +9,7 @@ use Rattle.nl_attr.specs.Tree.{holds_of}
 use Rattle.nl_route.specs.Families.{context_of, head_size}
 use Rattle.nl_frame.specs.declared.form.Form.{Form}
 use Rattle.nl_frame.specs.declared.form.Form.TheVariants as form
-use Rattle.rtnl_c.specs.declared.numbers.Family.{Family}
+use Rattle.rtnl_c.specs.declared.numbers.BodyHead.{BodyHead}
 use Rattle.rtnl_c.specs.declared.numbers.Holds.{Holds}
 
 -- the number of a context
@@ -36,8 +36,8 @@ context_in n =
     if n == 8 then Some Plain else None)))))))
 
 -- the size of a family's head and the context behind it; nothing of other bodies
-abbrev pub family_answer : Form → Family
-family_answer (form.Family g) = record { head_size = head_size g; context = context_number (context_of g) }
+abbrev pub family_answer : Form → BodyHead
+family_answer (form.Object g) = record { head_size = head_size g; context = context_number (context_of g) }
 family_answer form.Noop = record { head_size = 0; context = 0 }
 family_answer form.Error = record { head_size = 0; context = 0 }
 family_answer form.Done = record { head_size = 0; context = 0 }

@@ -1,7 +1,7 @@
 -- The answers to C of the calls of a session. A handle has a session or none, before a call and after it.
 use Rattle.std.specs.Prelude.{◌≡◌, ◌<◌, ◌≤◌, ℕ, List, length, Option, Some, None, Result, Ok, Err}
 use Rattle.std.specs.Global.{Vec}
-use Rattle.nl_route.specs.declared.group.Group.{Group}
+use Rattle.nl_route.specs.declared.family.Family.{Family}
 use Rattle.nl_frame.specs.Limits.{Bounds, AreLimits}
 use Rattle.nl_dump.specs.declared.dump.Progress.{Progress}
 use Rattle.nl_dump.specs.declared.errors.BeginError.{BeginError}
@@ -40,18 +40,18 @@ PutsBegun (Ok request) old new a = IsPut request.items old new a
 PutsBegun (Err e) old new a = (a ≡ not_put (begin_code e)) × (new ≡ old)
 
 -- a dump of a family begins as `Session::begin` has it, where there is room for its request
-abbrev pub BeginsFamily : View → Group → ℕ → ℕ → ℕ → List ℕ → List ℕ → Put → Option View → Type 0
+abbrev pub BeginsFamily : View → Family → ℕ → ℕ → ℕ → List ℕ → List ℕ → Put → Option View → Type 0
 BeginsFamily before kind family seq port old new a after =
     let request = request_of before.limits.shape.order (dump_of kind family seq port) in
     (length old < length request → (a ≡ put_of (length request) no_room) × (new ≡ old) × (after ≡ Some before))
     × (length request ≤ length old → (r : Result (Vec ℕ) BeginError) × (v : View) × Began before (dump_of kind family seq port) r v × IsWithin v
     × PutsBegun r old new a × (after ≡ Some v))
 
-abbrev pub BeginsKind : View → Option Group → ℕ → ℕ → ℕ → List ℕ → List ℕ → Put → Option View → Type 0
+abbrev pub BeginsKind : View → Option Family → ℕ → ℕ → ℕ → List ℕ → List ℕ → Put → Option View → Type 0
 BeginsKind before None family seq port old new a after = (a ≡ not_put no_kind) × (new ≡ old) × (after ≡ Some before)
 BeginsKind before (Some kind) family seq port old new a after = BeginsFamily before kind family seq port old new a after
 
-abbrev pub Begins : Option View → Option Group → ℕ → ℕ → ℕ → List ℕ → List ℕ → Put → Option View → Type 0
+abbrev pub Begins : Option View → Option Family → ℕ → ℕ → ℕ → List ℕ → List ℕ → Put → Option View → Type 0
 Begins None kind family seq port old new a after = (a ≡ not_put no_session) × (new ≡ old) × (after ≡ None)
 Begins (Some before) kind family seq port old new a after = BeginsKind before kind family seq port old new a after
 

@@ -3,7 +3,7 @@ use Rattle.std.specs.Prelude.{◌≡◌, ◌==◌, ◌<◌, ◌≤◌, ℕ, ℤ,
 use Rattle.nl_attr.specs.declared.events.Event.{Event}
 use Rattle.nl_attr.specs.declared.order.Order.{Order}
 use Rattle.nl_attr.specs.declared.order.Order.TheVariants.{Little, Big}
-use Rattle.nl_route.specs.declared.group.Group.{Group}
+use Rattle.nl_route.specs.declared.family.Family.{Family}
 use Rattle.nl_route.specs.Types.{route_type}
 use Rattle.nl_frame.specs.Limits.{AreLimits, bounds_of}
 use Rattle.nl_dump.specs.declared.dump.Dump.{Dump}
@@ -26,7 +26,7 @@ use Rattle.rtnl_c.specs.declared.status.Status.{Status}
 use Rattle.rtnl_c.specs.declared.stream.Kept.{Kept}
 use Rattle.rtnl_c.specs.Codes.{no_kind, no_room, no_stream}
 use Rattle.rtnl_c.specs.Fed.{stream_fed, untaken}
-use Rattle.rtnl_c.specs.Kinds.{group_in}
+use Rattle.rtnl_c.specs.Kinds.{family_in}
 use Rattle.rtnl_c.specs.Options.{bounds_in, order_in}
 use Rattle.rtnl_c.specs.Put.{IsPut, not_put, put_of}
 use Rattle.rtnl_c.specs.Status.{last_of, no_status, status_by}
@@ -76,12 +76,12 @@ begun_in n status d =
     if n == 5 then Some (Ended d Abandoned) else None))))
 
 -- before the first dump nothing else of it is looked at
-abbrev pub state_by : Kept → Option Group → Option State
+abbrev pub state_by : Kept → Option Family → Option State
 state_by k None = if k.state == 0 then Some Idle else None
 state_by k (Some g) = if k.state == 0 then Some Idle else begun_in k.state k.status (dump_of g k.family k.seq k.port)
 
 abbrev pub state_in : Kept → Option State
-state_in k = state_by k (group_in (route_type k.kind))
+state_in k = state_by k (family_in (route_type k.kind))
 
 -- all of it, where each flag is one
 abbrev pub standing_by : Kept → Option State → Option Bool → Option Bool → Option Bool → Option Standing
@@ -132,12 +132,12 @@ abbrev pub BeginsOne : Standing → Dump → List ℕ → Standing → List ℕ 
 BeginsOne s d before t after a = (r : Result (Unit {0}) BeginError) × StreamBegan s d r t × IsPossible t × PutsBegun (request_of s.limits.shape.order d) r before after a
 
 -- where there is a stream, the family and room for the request
-pub data Begins (old : Kept) (kind : Option Group) (family seq port : ℕ) (before : List ℕ) : Kept → List ℕ → Put → Type 0 where
+pub data Begins (old : Kept) (kind : Option Family) (family seq port : ℕ) (before : List ℕ) : Kept → List ℕ → Put → Type 0 where
   on_none : IsNone old → Begins old kind family seq port before old before (not_put no_stream)
   of_none : (s : Standing) → IsKept old s → kind ≡ None → Begins old kind family seq port before old before (not_put no_kind)
-  lacks : (s : Standing) → IsKept old s → (g : Group) → kind ≡ Some g → (n : ℕ) → n ≡ length (request_of s.limits.shape.order (dump_of g family seq port)) → length before < n
+  lacks : (s : Standing) → IsKept old s → (g : Family) → kind ≡ Some g → (n : ℕ) → n ≡ length (request_of s.limits.shape.order (dump_of g family seq port)) → length before < n
       → Begins old kind family seq port before old before (put_of n no_room)
-  begins : (s t : Standing) → IsKept old s → (g : Group) → kind ≡ Some g → length (request_of s.limits.shape.order (dump_of g family seq port)) ≤ length before
+  begins : (s t : Standing) → IsKept old s → (g : Family) → kind ≡ Some g → length (request_of s.limits.shape.order (dump_of g family seq port)) ≤ length before
       → (after : List ℕ) (a : Put) → BeginsOne s (dump_of g family seq port) before t after a → IsKept (kept_of t) t
       → Begins old kind family seq port before (kept_of t) after a
 

@@ -8,7 +8,7 @@ ghost use Rattle.rtnl_c.specs.Entries.{message_bytes};
 
 use nl_attr::{Depth, Extent, Order, align4, append_bytes};
 use nl_frame::{Header, WriteError};
-use nl_route::{Family, Head, Verb};
+use nl_route::{Head, Object, Verb};
 use nl_table::{Entry, Table};
 use std::alloc::Global;
 
@@ -21,14 +21,14 @@ fn deepest() -> Depth {
 }
 
 /// The message of an entry, its numbers in this order.
-fn message<H: Head>(alloc: Global, entry: &Family<H>, order: Order) -> Result<Vec<u8>, WriteError>
-    ensures { IfOk result (λ v. v.items ≡ message_bytes order H.group
+fn message<H: Head>(alloc: Global, entry: &Object<H>, order: Order) -> Result<Vec<u8>, WriteError>
+    ensures { IfOk result (λ v. v.items ≡ message_bytes order H.family
         (H.SIZE + items_len (attrs_in entry.now)) (H.fields entry.now.head) (attrs_in entry.now)) }
 {
     let body = Extent::length(entry.measure(deepest()))?;
     let header = Header {
         len: (16 + body) as u32,
-        kind: H::group().type_of(Verb::New),
+        kind: H::family().type_of(Verb::New),
         flags: 0,
         seq: 0,
         port: 0,
@@ -44,13 +44,13 @@ fn message<H: Head>(alloc: Global, entry: &Family<H>, order: Order) -> Result<Ve
 /// The entry at an index of a table, as its message is written; none from the table's length on.
 pub(crate) fn entry_in<H: Head>(
     alloc: Global,
-    table: &Table<Family<H>>,
+    table: &Table<Object<H>>,
     index: u32,
 ) -> Result<Option<Vec<u8>>, WriteError>
 where
-    Family<H>: Entry,
+    Object<H>: Entry,
     ensures { IfOk result (λ r. option_map (λ v. v.items) r
-        ≡ option_map (λ e. message_bytes table.now.order H.group
+        ≡ option_map (λ e. message_bytes table.now.order H.family
         (H.SIZE + items_len (attrs_in e.1)) (H.fields e.1.head) (attrs_in e.1))
         (slice_get table.now.entries index)) }
 {

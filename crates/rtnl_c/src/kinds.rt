@@ -2,16 +2,16 @@
 
 ghost use Rattle.std.specs.Prelude.{◌≡◌};
 ghost use Rattle.nl_route.specs.Types.{route_type};
-ghost use Rattle.rtnl_c.specs.Kinds.{group_in};
+ghost use Rattle.rtnl_c.specs.Kinds.{family_in};
 
-use nl_route::{Group, RouteType};
+use nl_route::{Family, RouteType};
 
 /// The family of a message type.
-pub(crate) fn group_of(kind: u16) -> Option<Group>
-    ensures { result ≡ group_in (route_type kind) }
+pub(crate) fn family_of(kind: u16) -> Option<Family>
+    ensures { result ≡ family_in (route_type kind) }
 {
     match RouteType::of(kind) {
-        Some(said) => Some(said.group),
+        Some(said) => Some(said.family),
         None => None,
     }
 }

@@ -11,7 +11,7 @@ use nl_frame::Form;
 /// What the body of a message begins with.
 #[repr(C)]
 #[derive(Clone, Copy)]
-pub struct Family {
+pub struct BodyHead {
     /// How many bytes the family's head has, behind which attributes stand; 0 where the body is no
     /// head and attributes.
     pub head_size: u8,
@@ -84,21 +84,22 @@ fn answer(content: Content) -> Holds
 
 /// What the body of a message of this type begins with.
 #[unsafe(no_mangle)]
-pub extern "C" fn rtnlc_family_of(kind: u16) -> Family
+pub extern "C" fn rtnlc_family_of(kind: u16) -> BodyHead
     ensures { result ≡ family_answer (form_of kind) }
 {
     match Form::of(kind) {
-        Form::Family(group) => {
-            let row = group.row();
-            Family {
+        Form::Object(family) => {
+            let row = family.row();
+            BodyHead {
                 head_size: row.head_size as u8,
                 context: number(row.context),
             }
         }
-        Form::Noop | Form::Error | Form::Done | Form::Overrun | Form::Get | Form::Other => Family {
-            head_size: 0,
-            context: 0,
-        },
+        Form::Noop | Form::Error | Form::Done | Form::Overrun | Form::Get | Form::Other =>
+            BodyHead {
+                head_size: 0,
+                context: 0,
+            },
     }
 }
 

@@ -1,12 +1,12 @@
 //! The request of a dump, which takes no memory.
 
 ghost use Rattle.nl_route.specs.Types.{route_type};
-ghost use Rattle.rtnl_c.specs.Kinds.{group_in};
+ghost use Rattle.rtnl_c.specs.Kinds.{family_in};
 ghost use Rattle.rtnl_c.specs.Options.{order_in};
 ghost use Rattle.rtnl_c.specs.Requests.{Asks};
 
 use crate::codes::NO_KIND;
-use crate::kinds::group_of;
+use crate::kinds::family_of;
 use crate::options::order;
 use crate::put::Put;
 use nl_dump::Dump;
@@ -15,9 +15,9 @@ use nl_dump::Dump;
 /// the type, 17 where `out` has less room.
 #[unsafe(no_mangle)]
 pub extern "C" fn rtnlc_request(kind: u16, family: u8, seq: u32, big: bool, out: &mut [u8]) -> Put
-    ensures { Asks (group_in (route_type kind)) (order_in big) family seq out.old out.new result }
+    ensures { Asks (family_in (route_type kind)) (order_in big) family seq out.old out.new result }
 {
-    let Some(kind) = group_of(kind) else {
+    let Some(kind) = family_of(kind) else {
         return Put::none(NO_KIND);
     };
     let dump = Dump {

@@ -2,7 +2,7 @@
 
 ghost use Rattle.std.specs.Prelude.{◌≡◌, Some, None};
 ghost use Rattle.nl_route.specs.Types.{route_type};
-ghost use Rattle.rtnl_c.specs.Kinds.{group_in};
+ghost use Rattle.rtnl_c.specs.Kinds.{family_in};
 ghost use Rattle.rtnl_c.specs.Options.{bounds_in};
 ghost use Rattle.rtnl_c.specs.Sessions.{Abandoned, AbandonsOne, Begins, BeginsFamily};
 ghost use Rattle.rtnl_c.specs.Sessions.{BeginsKind, Feeds, FeedsOne, Makes, News};
@@ -11,13 +11,13 @@ ghost use Rattle.rtnl_c.specs.Status.{session_status};
 use crate::codes::{BUSY, NO_KIND, NO_MEMORY, NO_ROOM, NO_SESSION};
 use crate::fed::Fed;
 use crate::handle::Handle;
-use crate::kinds::group_of;
+use crate::kinds::family_of;
 use crate::options::{Options, limits};
 use crate::put::Put;
 use crate::status::Status;
 use nl_dump::{Dump, NotWaiting, Session};
 use nl_frame::Limits;
-use nl_route::Group;
+use nl_route::Family;
 use std::alloc::Global;
 
 /// Makes a session of these limits in a handle that has none.
@@ -79,7 +79,7 @@ fn begin_family(session: &mut Session, dump: Dump, out: &mut [u8]) -> Put
 /// Begins a dump of the family of a message type.
 fn begin_kind(
     session: &mut Session,
-    kind: Option<Group>,
+    kind: Option<Family>,
     family: u8,
     seq: u32,
     port: u32,
@@ -114,14 +114,14 @@ pub extern "C" fn rtnlc_session_begin(
     port: u32,
     out: &mut [u8],
 ) -> Put
-    ensures { Begins handle.old.session (group_in (route_type kind)) family seq port
+    ensures { Begins handle.old.session (family_in (route_type kind)) family seq port
         out.old out.new result handle.new.session }
 {
     match handle.take(alloc) {
         None => Put::none(NO_SESSION),
         Some(session) => {
             let mut session = session;
-            let begun = begin_kind(&mut session, group_of(kind), family, seq, port, out);
+            let begun = begin_kind(&mut session, family_of(kind), family, seq, port, out);
             *handle = Handle::of(session);
             begun
         }

@@ -2,19 +2,19 @@
 
 ghost use Rattle.std.specs.Prelude.{◌≡◌};
 ghost use Rattle.nl_route.specs.Types.{route_type};
-ghost use Rattle.rtnl_c.specs.Kinds.{group_in};
+ghost use Rattle.rtnl_c.specs.Kinds.{family_in};
 ghost use Rattle.rtnl_c.specs.Streams.{Abandons, Begins, BeginsOne, Feeds, News, Restores};
 ghost use Rattle.rtnl_c.specs.Streams.{Tells, begun_in, flag_in, kept_of, state_in};
 
 use crate::codes::{NO_KIND, NO_ROOM, NO_STREAM};
 use crate::fed::Fed;
-use crate::kinds::group_of;
+use crate::kinds::family_of;
 use crate::options::{Options, limits, order};
 use crate::put::Put;
 use crate::status::{Last, Status};
 use nl_dump::{Dump, End, Standing, State, Stream};
 use nl_frame::{Event, Limits, Order};
-use nl_route::Group;
+use nl_route::Family;
 
 /// A stream, as C keeps it.
 #[repr(C)]
@@ -77,7 +77,7 @@ fn state_of(kept: &Kept) -> Option<State>
     if kept.state == 0 {
         return Some(State::Idle);
     }
-    let kind = group_of(kept.kind)?;
+    let kind = family_of(kept.kind)?;
     let Kept {
         family,
         seq,
@@ -189,13 +189,13 @@ pub extern "C" fn rtnlc_stream_begin(
     port: u32,
     out: &mut [u8],
 ) -> Put
-    ensures { Begins kept.old (group_in (route_type kind)) family seq port out.old
+    ensures { Begins kept.old (family_in (route_type kind)) family seq port out.old
         kept.new out.new result }
 {
     let Some(restored) = restore(kept) else {
         return Put::none(NO_STREAM);
     };
-    let Some(kind) = group_of(kind) else {
+    let Some(kind) = family_of(kind) else {
         return Put::none(NO_KIND);
     };
     let dump = Dump {

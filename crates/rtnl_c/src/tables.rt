@@ -3,7 +3,7 @@
 ghost use Rattle.std.specs.Prelude.{◌≡◌, length, option_map, option_copied, IfOk};
 ghost use Rattle.nl_route.specs.Types.{route_type};
 ghost use Rattle.nl_dump.specs.View.{table_at};
-ghost use Rattle.rtnl_c.specs.Kinds.{group_in};
+ghost use Rattle.rtnl_c.specs.Kinds.{family_in};
 ghost use Rattle.rtnl_c.specs.Entries.{OfTable, PutsEntry, PutsKey, entry_bytes, key_bytes};
 ghost use Rattle.rtnl_c.specs.Entries.{found_at, found_in, found_of, no_table, place_of};
 ghost use Rattle.rtnl_c.specs.Entries.{size_at, size_of, sized, table_in};
@@ -11,11 +11,11 @@ ghost use Rattle.rtnl_c.specs.Entries.{size_at, size_of, sized, table_in};
 use crate::codes::{END, NO_KIND, NO_SESSION};
 use crate::entry::entry_in;
 use crate::handle::Handle;
-use crate::kinds::group_of;
+use crate::kinds::family_of;
 use crate::put::Put;
 use nl_dump::{Session, match_table};
 use nl_frame::WriteError;
-use nl_route::Group;
+use nl_route::Family;
 use nl_table::{Entry, Table};
 use std::alloc::Global;
 
@@ -68,14 +68,14 @@ fn size<T: Entry>(table: &Table<T>) -> TableSize
 
 /// The size of the table of a family.
 #[tactic(auto, using(crate::proofs::Seen::size_seen))]
-fn size_in(session: &Session, kind: Group) -> TableSize
+fn size_in(session: &Session, kind: Family) -> TableSize
     ensures { result ≡ size_of (table_at kind session.now.tables) }
 {
     match_table!(kind, session, table => size(table))
 }
 
 /// The size of the table of a family, where the family is known.
-fn size_of_kind(session: &Session, kind: Option<Group>) -> TableSize
+fn size_of_kind(session: &Session, kind: Option<Family>) -> TableSize
     ensures { result ≡ size_at session.now kind }
 {
     match kind {
@@ -87,13 +87,13 @@ fn size_of_kind(session: &Session, kind: Option<Group>) -> TableSize
 /// The size of the table of the family of a message type.
 #[unsafe(no_mangle)]
 pub extern "C" fn rtnlc_session_table(alloc: Global, handle: &mut Handle, kind: u16) -> TableSize
-    ensures table { result ≡ table_in handle.old.session (group_in (route_type kind)) }
+    ensures table { result ≡ table_in handle.old.session (family_in (route_type kind)) }
     ensures stays { handle.new.session ≡ handle.old.session }
 {
     match handle.take(alloc) {
         None => table_none(NO_SESSION),
         Some(session) => {
-            let size = size_of_kind(&session, group_of(kind));
+            let size = size_of_kind(&session, family_of(kind));
             *handle = Handle::of(session);
             size
         }
@@ -105,23 +105,23 @@ pub extern "C" fn rtnlc_session_table(alloc: Global, handle: &mut Handle, kind: 
 fn entry(
     alloc: Global,
     session: &Session,
-    kind: Group,
+    kind: Family,
     index: u32,
 ) -> Result<Option<Vec<u8>>, WriteError>
     ensures { IfOk result (λ r. option_map (λ v. v.items) r
         ≡ entry_bytes index kind (table_at kind session.now.tables)) }
 {
     match kind {
-        Group::Link => entry_in(alloc, session.links(), index),
-        Group::Addr => entry_in(alloc, session.addrs(), index),
-        Group::Route => entry_in(alloc, session.routes(), index),
-        Group::Neigh => entry_in(alloc, session.neighs(), index),
-        Group::Rule => entry_in(alloc, session.rules(), index),
+        Family::Link => entry_in(alloc, session.links(), index),
+        Family::Addr => entry_in(alloc, session.addrs(), index),
+        Family::Route => entry_in(alloc, session.routes(), index),
+        Family::Neigh => entry_in(alloc, session.neighs(), index),
+        Family::Rule => entry_in(alloc, session.rules(), index),
     }
 }
 
 /// Puts the entry at an index of the table of a family into a buffer.
-fn put_entry(alloc: Global, session: &Session, kind: Group, index: u32, out: &mut [u8]) -> Put
+fn put_entry(alloc: Global, session: &Session, kind: Family, index: u32, out: &mut [u8]) -> Put
     ensures { PutsEntry index (table_at kind session.now.tables) kind out.old out.new result }
 {
     match entry(alloc, session, kind, index) {
@@ -142,14 +142,14 @@ pub extern "C" fn rtnlc_session_entry(
     index: u32,
     out: &mut [u8],
 ) -> Put
-    ensures entry { OfTable (PutsEntry index) handle.old.session (group_in (route_type kind))
+    ensures entry { OfTable (PutsEntry index) handle.old.session (family_in (route_type kind))
         out.old out.new result }
     ensures stays { handle.new.session ≡ handle.old.session }
 {
     match handle.take(alloc) {
         None => Put::none(NO_SESSION),
         Some(session) => {
-            let put = match group_of(kind) {
+            let put = match family_of(kind) {
                 Some(kind) => put_entry(alloc, &session, kind, index, out),
                 None => Put::none(NO_KIND),
             };
@@ -160,14 +160,14 @@ pub extern "C" fn rtnlc_session_entry(
 }
 
 /// The key of the entry at an index of the table of a family.
-fn key(session: &Session, kind: Group, index: u32) -> Option<&[u8]>
+fn key(session: &Session, kind: Family, index: u32) -> Option<&[u8]>
     ensures { option_copied result ≡ key_bytes index (table_at kind session.now.tables) }
 {
     match_table!(kind, session, table => table.key_at(index))
 }
 
 /// Puts the key of the entry at an index of the table of a family into a buffer.
-fn put_key(session: &Session, kind: Group, index: u32, out: &mut [u8]) -> Put
+fn put_key(session: &Session, kind: Family, index: u32, out: &mut [u8]) -> Put
     ensures { PutsKey index (table_at kind session.now.tables) kind out.old out.new result }
 {
     match key(session, kind, index) {
@@ -187,14 +187,14 @@ pub extern "C" fn rtnlc_session_key(
     index: u32,
     out: &mut [u8],
 ) -> Put
-    ensures key { OfTable (PutsKey index) handle.old.session (group_in (route_type kind))
+    ensures key { OfTable (PutsKey index) handle.old.session (family_in (route_type kind))
         out.old out.new result }
     ensures stays { handle.new.session ≡ handle.old.session }
 {
     match handle.take(alloc) {
         None => Put::none(NO_SESSION),
         Some(session) => {
-            let put = match group_of(kind) {
+            let put = match family_of(kind) {
                 Some(kind) => put_key(&session, kind, index, out),
                 None => Put::none(NO_KIND),
             };
@@ -213,14 +213,14 @@ fn found(index: u32, code: u8) -> FoundEntry
 
 /// The place of a key in the table of a family.
 #[tactic(auto, using(crate::proofs::Seen::keys_seen))]
-fn place(session: &Session, kind: Group, key: &[u8]) -> Option<u32>
+fn place(session: &Session, kind: Family, key: &[u8]) -> Option<u32>
     ensures { result ≡ place_of key.now (table_at kind session.now.tables) }
 {
     match_table!(kind, session, table => table.find(key))
 }
 
 /// Where the entry of a key stands in the table of a family.
-fn find(session: &Session, kind: Option<Group>, key: &[u8]) -> FoundEntry
+fn find(session: &Session, kind: Option<Family>, key: &[u8]) -> FoundEntry
     ensures { result ≡ found_of session.now kind key.now }
 {
     let Some(kind) = kind else {
@@ -241,13 +241,13 @@ pub extern "C" fn rtnlc_session_find(
     kind: u16,
     key: &[u8],
 ) -> FoundEntry
-    ensures found { result ≡ found_in handle.old.session (group_in (route_type kind)) key.now }
+    ensures found { result ≡ found_in handle.old.session (family_in (route_type kind)) key.now }
     ensures stays { handle.new.session ≡ handle.old.session }
 {
     match handle.take(alloc) {
         None => found(0, NO_SESSION),
         Some(session) => {
-            let found = find(&session, group_of(kind), key);
+            let found = find(&session, family_of(kind), key);
             *handle = Handle::of(session);
             found
         }

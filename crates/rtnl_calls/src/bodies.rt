@@ -7,7 +7,7 @@ use crate::rows::{ADDRESS, Bytes, LOOPBACK, NEIGHBOUR, NEXT_HOPS, RULE, Row};
 use crate::said::{Hex, Label, ORDERS, say};
 use crate::stop::Stop;
 use nl_attr::{Depth, ListError, Order, Tally};
-use nl_route::{AddrHead, Family, Head, LinkHead, NeighHead, RouteHead, RuleHead};
+use nl_route::{AddrHead, Head, LinkHead, NeighHead, Object, RouteHead, RuleHead};
 use nl_table::Entry;
 use std::alloc::{AllocError, Global};
 
@@ -22,7 +22,7 @@ fn tally_of<H: Head>(
     alloc: Global,
     datagram: &[u8],
     order: Order,
-) -> Option<Tally<Family<H>, ListError>>
+) -> Option<Tally<Object<H>, ListError>>
     requires { length datagram.now ≤ 112 }
 {
     let body = datagram.get(BODY..)?;
@@ -31,13 +31,13 @@ fn tally_of<H: Head>(
     }
     let depth = Depth::standard();
     Some(match order {
-        Order::Little => Family::read_body(alloc, body, 16, depth),
-        Order::Big => Family::read_body_ordered(alloc, body, 16, depth, order),
+        Order::Little => Object::read_body(alloc, body, 16, depth),
+        Order::Big => Object::read_body_ordered(alloc, body, 16, depth, order),
     })
 }
 
 /// The body of a row, where what reads it is not what is tried.
-pub(crate) fn body_of<H: Head>(alloc: Global, row: Row, order: Order) -> Result<Family<H>, Stop> {
+pub(crate) fn body_of<H: Head>(alloc: Global, row: Row, order: Order) -> Result<Object<H>, Stop> {
     let bytes = Bytes::of(&[row], order)?;
     match tally_of(alloc, bytes.as_slice(), order) {
         Some(tally) => tally.into_result().map_err(|error| Stop::of(error.code())),
@@ -47,7 +47,7 @@ pub(crate) fn body_of<H: Head>(alloc: Global, row: Row, order: Order) -> Result<
 
 /// The label of a call over the row of a family.
 fn label<H: Head>(call: &'static str, order: Order) -> Label {
-    Label::of(call, order, H::group().row().name)
+    Label::of(call, order, H::family().row().name)
 }
 
 /// Reads a body, and writes how much was visited, and what the body is written as.
@@ -71,7 +71,7 @@ fn read<H: Head>(rt: &HostRuntime, row: Row, order: Order) -> Result<(), Stop> {
 
 /// Writes a body behind three bytes.
 fn write<H: Head>(rt: &HostRuntime, row: Row, order: Order) -> Result<(), Stop> {
-    let body: Family<H> = body_of(rt.alloc(), row, order)?;
+    let body: Object<H> = body_of(rt.alloc(), row, order)?;
     let mut out = Vec::from_slice(rt.alloc(), &[1, 2, 3])?;
     let depth = Depth::standard();
     let answer = match order {
@@ -85,10 +85,10 @@ fn write<H: Head>(rt: &HostRuntime, row: Row, order: Order) -> Result<(), Stop> 
 /// Makes the key of an entry.
 fn key<H: Head>(rt: &HostRuntime, row: Row, order: Order) -> Result<(), Stop>
 where
-    Family<H>: Entry,
+    Object<H>: Entry,
 {
     let label = label::<H>("key", order);
-    let entry: Family<H> = body_of(rt.alloc(), row, order)?;
+    let entry: Object<H> = body_of(rt.alloc(), row, order)?;
     let answer = match order {
         Order::Little => entry.key(rt.alloc()),
         Order::Big => entry.key_ordered(rt.alloc(), order),

@@ -4,7 +4,8 @@ use crate::datagrams::limits_in;
 use crate::rows::{ADDRESS, Bytes, END, ETHERNET, LOOPBACK, NEIGHBOUR, NEXT_HOPS, RULE, Row};
 use crate::stop::Stop;
 use nl_attr::Order;
-use nl_dump::{Kind, Session};
+use nl_dump::Session;
+use nl_route::Family;
 use std::alloc::Global;
 
 /// These steps in a new session.
@@ -20,29 +21,29 @@ pub(crate) fn in_session<F: FnOnce(&mut Session) -> Result<(), Stop>>(
 }
 
 /// The first datagram of a dump, an entry.
-pub(crate) fn first_of(kind: Kind) -> [Row; 1] {
+pub(crate) fn first_of(kind: Family) -> [Row; 1] {
     match kind {
-        Kind::Link => [LOOPBACK],
-        Kind::Addr => [ADDRESS],
-        Kind::Route => [NEXT_HOPS],
-        Kind::Neigh => [NEIGHBOUR],
-        Kind::Rule => [RULE],
+        Family::Link => [LOOPBACK],
+        Family::Addr => [ADDRESS],
+        Family::Route => [NEXT_HOPS],
+        Family::Neigh => [NEIGHBOUR],
+        Family::Rule => [RULE],
     }
 }
 
 /// The last one, another link or the entry once more, and the end.
-pub(crate) fn last_of(kind: Kind) -> [Row; 2] {
+pub(crate) fn last_of(kind: Family) -> [Row; 2] {
     match kind {
-        Kind::Link => [ETHERNET, END],
-        Kind::Addr => [ADDRESS, END],
-        Kind::Route => [NEXT_HOPS, END],
-        Kind::Neigh => [NEIGHBOUR, END],
-        Kind::Rule => [RULE, END],
+        Family::Link => [ETHERNET, END],
+        Family::Addr => [ADDRESS, END],
+        Family::Route => [NEXT_HOPS, END],
+        Family::Neigh => [NEIGHBOUR, END],
+        Family::Rule => [RULE, END],
     }
 }
 
 /// Begins a dump, where that is not what is tried.
-pub(crate) fn begun(session: &mut Session, kind: Kind) -> Result<(), Stop> {
+pub(crate) fn begun(session: &mut Session, kind: Family) -> Result<(), Stop> {
     match session.begin(kind, 0, 1, 12_345) {
         Ok(_request) => Ok(()),
         Err(error) => Err(Stop::of(error.code())),

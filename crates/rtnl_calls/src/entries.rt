@@ -2,8 +2,8 @@
 
 use crate::stop::Stop;
 use nl_attr::Depth;
-use nl_dump::{Kind, Session, match_table};
-use nl_route::{Family, Head};
+use nl_dump::{Session, match_table};
+use nl_route::{Family, Head, Object};
 use nl_table::{Entry, Table};
 use std::alloc::Global;
 
@@ -11,9 +11,9 @@ use std::alloc::Global;
 const ROOM: usize = 1024;
 
 /// Appends the key and the body of each entry.
-fn push_entries<H: Head>(out: &mut Vec<u8>, table: &Table<Family<H>>) -> Result<(), Stop>
+fn push_entries<H: Head>(out: &mut Vec<u8>, table: &Table<Object<H>>) -> Result<(), Stop>
 where
-    Family<H>: Entry,
+    Object<H>: Entry,
 {
     for place in 0..table.len() {
         let (Some(key), Some(entry)) = (table.key_at(place), table.get(place)) else {
@@ -28,9 +28,9 @@ where
 }
 
 /// Appends all that a table answers.
-fn push_table<H: Head>(out: &mut Vec<u8>, table: &Table<Family<H>>) -> Result<(), Stop>
+fn push_table<H: Head>(out: &mut Vec<u8>, table: &Table<Object<H>>) -> Result<(), Stop>
 where
-    Family<H>: Entry,
+    Object<H>: Entry,
 {
     out.extend_from_slice(&table.len().to_le_bytes())?;
     out.extend_from_slice(&table.spare().to_le_bytes())?;
@@ -39,9 +39,9 @@ where
 }
 
 /// The key and the body of each entry of a table.
-pub(crate) fn entries_of<H: Head>(alloc: Global, table: &Table<Family<H>>) -> Result<Vec<u8>, Stop>
+pub(crate) fn entries_of<H: Head>(alloc: Global, table: &Table<Object<H>>) -> Result<Vec<u8>, Stop>
 where
-    Family<H>: Entry,
+    Object<H>: Entry,
 {
     let mut entries = Vec::with_capacity(alloc, ROOM)?;
     push_entries(&mut entries, table)?;
@@ -49,14 +49,14 @@ where
 }
 
 /// The same of the table of this kind in a session.
-pub(crate) fn entries_in(alloc: Global, session: &Session, kind: Kind) -> Result<Vec<u8>, Stop> {
+pub(crate) fn entries_in(alloc: Global, session: &Session, kind: Family) -> Result<Vec<u8>, Stop> {
     match_table!(kind, session, table => entries_of(alloc, table))
 }
 
 /// All that the tables of a session hold.
 pub(crate) fn tables_of(alloc: Global, session: &Session) -> Result<Vec<u8>, Stop> {
     let mut tables = Vec::with_capacity(alloc, ROOM)?;
-    for kind in Kind::ALL {
+    for kind in Family::ALL {
         match_table!(kind, session, table => push_table(&mut tables, table)?);
     }
     Ok(tables)

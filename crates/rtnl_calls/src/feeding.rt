@@ -7,13 +7,14 @@ use crate::rows::Bytes;
 use crate::said::{Hex, Label, as_before, say, yes_or_no};
 use crate::stop::Stop;
 use nl_attr::Order;
-use nl_dump::{FeedError, Kind, Progress, Session};
+use nl_dump::{FeedError, Progress, Session};
+use nl_route::Family;
 
 /// Tells what became of a datagram that was taken, and what the dump's table holds.
 fn say_taken(
     rt: &HostRuntime,
     session: &Session,
-    kind: Kind,
+    kind: Family,
     progress: Progress,
     (received, visits): (u64, u64),
     label: Label,
@@ -50,7 +51,7 @@ fn say_refused(
 fn feed(
     rt: &HostRuntime,
     session: &mut Session,
-    kind: Kind,
+    kind: Family,
     bytes: &[u8],
     label: Label,
 ) -> Result<Result<Progress, FeedError>, Stop> {
@@ -71,7 +72,7 @@ fn feed(
 fn feed_until_taken(
     rt: &HostRuntime,
     session: &mut Session,
-    kind: Kind,
+    kind: Family,
     bytes: &[u8],
     label: Label,
 ) -> Result<(), Stop> {
@@ -85,7 +86,7 @@ fn feed_until_taken(
 }
 
 /// The first datagram of a dump.
-fn feed_first(rt: &HostRuntime, kind: Kind, order: Order) -> Result<(), Stop> {
+fn feed_first(rt: &HostRuntime, kind: Family, order: Order) -> Result<(), Stop> {
     let label = Label::of("first feed", order, kind.row().name);
     in_session(rt.alloc(), order, |session| {
         begun(session, kind)?;
@@ -95,7 +96,7 @@ fn feed_first(rt: &HostRuntime, kind: Kind, order: Order) -> Result<(), Stop> {
 }
 
 /// The last datagram of a dump.
-fn feed_last(rt: &HostRuntime, kind: Kind, order: Order) -> Result<(), Stop> {
+fn feed_last(rt: &HostRuntime, kind: Family, order: Order) -> Result<(), Stop> {
     let label = Label::of("last feed", order, kind.row().name);
     in_session(rt.alloc(), order, |session| {
         begun(session, kind)?;
@@ -107,7 +108,7 @@ fn feed_last(rt: &HostRuntime, kind: Kind, order: Order) -> Result<(), Stop> {
 
 /// Dumps of each family in both orders.
 pub(crate) fn feed_dumps(rt: &HostRuntime) -> Result<(), Stop> {
-    for kind in Kind::ALL {
+    for kind in Family::ALL {
         feed_first(rt, kind, Order::Little)?;
         feed_first(rt, kind, Order::Big)?;
         feed_last(rt, kind, Order::Little)?;

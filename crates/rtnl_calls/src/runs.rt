@@ -5,7 +5,8 @@ use crate::rows::{END, ETHERNET, LOOPBACK};
 use crate::said::{Hex, Label, ORDERS, Text, say};
 use crate::stop::Stop;
 use nl_attr::Order;
-use nl_dump::{Dump, Kind};
+use nl_dump::Dump;
+use nl_route::Family;
 use rtnl::{
     Broken, RowFormat, RunError, Sink, SliceSource, VecSink, Verdict, datagrams, run_check,
     run_check_json, run_request, run_request_ordered, run_show, run_show_bytes, run_show_json,
@@ -102,7 +103,7 @@ fn check_json(rt: &HostRuntime, order: Order) -> Result<(), Stop> {
 
 /// The dump of links that the rows answer.
 const LINKS: Dump = Dump {
-    kind: Kind::Link,
+    kind: Family::Link,
     family: 0,
     seq: 1,
     port: 12_345,
@@ -149,8 +150,8 @@ fn request(rt: &HostRuntime, order: Order) -> Result<(), Stop> {
     let mut sink = sink_with_room(rt.alloc())?;
     let label = Label::of("run_request", order, "routes");
     let answer = match order {
-        Order::Little => run_request(rt.alloc(), &mut sink, Kind::Route, 2, 7),
-        Order::Big => run_request_ordered(rt.alloc(), &mut sink, Kind::Route, 2, 7, order),
+        Order::Little => run_request(rt.alloc(), &mut sink, Family::Route, 2, 7),
+        Order::Big => run_request_ordered(rt.alloc(), &mut sink, Family::Route, 2, 7, order),
     };
     say_run(rt, label, answer, &sink)
 }

@@ -6,7 +6,8 @@ use crate::entries::entries_in;
 use crate::said::{Hex, Label, ORDERS, as_before, say};
 use crate::stop::Stop;
 use nl_attr::Order;
-use nl_dump::{BeginError, Kind, Session};
+use nl_dump::{BeginError, Session};
+use nl_route::Family;
 
 /// Makes a session. What is written of it takes no memory.
 fn make(rt: &HostRuntime, order: Order) -> Result<(), Stop> {
@@ -31,7 +32,7 @@ fn say_new(rt: &HostRuntime, session: &Session, label: Label) -> Result<(), Stop
 fn begin(
     rt: &HostRuntime,
     session: &mut Session,
-    kind: Kind,
+    kind: Family,
     (family, seq, port): (u8, u32, u32),
     label: Label,
 ) -> Result<(), Stop> {
@@ -49,7 +50,7 @@ fn begin(
 fn say_begun(
     rt: &HostRuntime,
     session: &Session,
-    kind: Kind,
+    kind: Family,
     request: &[u8],
     label: Label,
 ) -> Result<(), Stop> {
@@ -64,7 +65,7 @@ fn say_begun(
 }
 
 /// The first dump of a session.
-fn begin_first(rt: &HostRuntime, kind: Kind, order: Order) -> Result<(), Stop> {
+fn begin_first(rt: &HostRuntime, kind: Family, order: Order) -> Result<(), Stop> {
     let label = Label::of("first begin", order, kind.row().name);
     in_session(rt.alloc(), order, |session| {
         begin(rt, session, kind, (0, 1, 12_345), label)
@@ -72,7 +73,7 @@ fn begin_first(rt: &HostRuntime, kind: Kind, order: Order) -> Result<(), Stop> {
 }
 
 /// A dump behind one that has ended.
-fn begin_next(rt: &HostRuntime, kind: Kind, order: Order) -> Result<(), Stop> {
+fn begin_next(rt: &HostRuntime, kind: Family, order: Order) -> Result<(), Stop> {
     let label = Label::of("next begin", order, kind.row().name);
     in_session(rt.alloc(), order, |session| {
         begun(session, kind)?;
@@ -91,7 +92,7 @@ pub(crate) fn new_sessions(rt: &HostRuntime) -> Result<(), Stop> {
 
 /// Dumps of each family in both orders.
 pub(crate) fn begin_dumps(rt: &HostRuntime) -> Result<(), Stop> {
-    for kind in Kind::ALL {
+    for kind in Family::ALL {
         begin_first(rt, kind, Order::Little)?;
         begin_first(rt, kind, Order::Big)?;
         begin_next(rt, kind, Order::Little)?;

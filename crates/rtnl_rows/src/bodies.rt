@@ -11,8 +11,8 @@ use crate::trees::{say_attrs, say_hops};
 use nl_attr::{Depth, FARTHEST_END, LONGEST_REGION, ListError, Order, Tally, WriteError};
 use nl_frame::Body;
 use nl_route::{
-    Addr, AddrHead, Family, Group, Head, Link, LinkHead, Neigh, NeighHead, Route, RouteHead, Rule,
-    RuleHead, match_family,
+    Addr, AddrHead, Family, Family, Head, Link, LinkHead, Neigh, NeighHead, Route, RouteHead, Rule,
+    RuleHead, match_object,
 };
 use nl_table::Entry;
 use std::alloc::{AllocError, Global};
@@ -33,7 +33,7 @@ pub(crate) fn has_answered(rt: &HostRuntime, row: &mut Row<'_>) -> Result<bool, 
 /// How a body is read: the family, and by the call for an order or the one that names none.
 #[derive(Clone, Copy)]
 struct Way {
-    group: Group,
+    family: Family,
     order: Option<Order>,
     base: u32,
     depth: Depth,
@@ -43,7 +43,7 @@ impl Way {
     /// The way that words name: `FAMILY [ORDER] [base PLACE] [depth LEVELS]`.
     fn of(row: &mut Row<'_>) -> Result<Way, Stop> {
         Ok(Way {
-            group: row.words.group()?,
+            family: row.words.family()?,
             order: row.words.order(),
             base: row.words.number_of("base", 0)?,
             depth: row.words.depth()?,
@@ -51,11 +51,11 @@ impl Way {
     }
 
     /// The body of this head in these bytes.
-    fn read_family<H: Head>(
+    fn read_object<H: Head>(
         self,
         alloc: Global,
         bytes: &[u8],
-    ) -> Result<Tally<Family<H>, ListError>, Stop>
+    ) -> Result<Tally<Object<H>, ListError>, Stop>
         requires { length bytes.now ≤ LONGEST_REGION }
     {
         let (base, depth) = (self.base, self.depth);
@@ -63,8 +63,8 @@ impl Way {
             return Err(Stop::Wrong(Wrong::Range));
         }
         Ok(match self.order {
-            Some(order) => Family::read_body_ordered(alloc, bytes, base, depth, order),
-            None => Family::read_body(alloc, bytes, base, depth),
+            Some(order) => Object::read_body_ordered(alloc, bytes, base, depth, order),
+            None => Object::read_body(alloc, bytes, base, depth),
         })
     }
 
@@ -72,16 +72,16 @@ impl Way {
     fn read(self, alloc: Global, bytes: &[u8]) -> Result<Tally<Body, ListError>, Stop>
         requires { length bytes.now ≤ LONGEST_REGION }
     {
-        Ok(match self.group {
-            Group::Link => self.read_family::<LinkHead>(alloc, bytes)?.map(Body::Link),
-            Group::Addr => self.read_family::<AddrHead>(alloc, bytes)?.map(Body::Addr),
-            Group::Route => self
-                .read_family::<RouteHead>(alloc, bytes)?
+        Ok(match self.family {
+            Family::Link => self.read_object::<LinkHead>(alloc, bytes)?.map(Body::Link),
+            Family::Addr => self.read_object::<AddrHead>(alloc, bytes)?.map(Body::Addr),
+            Family::Route => self
+                .read_object::<RouteHead>(alloc, bytes)?
                 .map(Body::Route),
-            Group::Neigh => self
-                .read_family::<NeighHead>(alloc, bytes)?
+            Family::Neigh => self
+                .read_object::<NeighHead>(alloc, bytes)?
                 .map(Body::Neigh),
-            Group::Rule => self.read_family::<RuleHead>(alloc, bytes)?.map(Body::Rule),
+            Family::Rule => self.read_object::<RuleHead>(alloc, bytes)?.map(Body::Rule),
         })
     }
 }
@@ -239,7 +239,7 @@ fn say_rule(rt: &HostRuntime, rule: &Rule) -> Result<(), Stop> {
 
 /// Writes a body by the call for the order, or the one that names none, and how long it is to be.
 fn written<H: Head>(
-    body: &Family<H>,
+    body: &Object<H>,
     way: Way,
     out: &mut Vec<u8>,
 ) -> (Option<u32>, Result<(), WriteError>) {
@@ -259,7 +259,7 @@ fn write(rt: &HostRuntime, row: &mut Row<'_>) -> Result<(), Stop> {
         Err(error) => return say(rt, error),
     };
     let mut out = Vec::from_slice(rt.alloc(), &[0xee])?;
-    let (len, answer) = match_family!(&body, Body, family => written(family, way, &mut out), {
+    let (len, answer) = match_object!(&body, Body, object => written(object, way, &mut out), {
         _ => return Err(Stop::Wrong(Wrong::Input)),
     });
     let (len, out) = (Maybe(len), Hex(out.as_slice()));
@@ -285,7 +285,7 @@ fn tell_key(rt: &HostRuntime, row: &mut Row<'_>) -> Result<(), Stop> {
         Ok(body) => body,
         Err(error) => return say(rt, error),
     };
-    let key = match_family!(&body, Body, entry => key_of(rt.alloc(), entry, way.order)?, {
+    let key = match_object!(&body, Body, entry => key_of(rt.alloc(), entry, way.order)?, {
         _ => return Err(Stop::Wrong(Wrong::Input)),
     });
     say(rt, Hex(key.as_slice()))
@@ -326,14 +326,14 @@ macro_rules! say_head_in {
 
 /// `head FAMILY [ORDER]`: the head in so many bytes, and as it is written by each call.
 fn tell_head(rt: &HostRuntime, row: &mut Row<'_>) -> Result<(), Stop> {
-    let (group, order) = (row.words.group()?, row.words.order());
+    let (family, order) = (row.words.family()?, row.words.order());
     let bytes = row.bytes(rt.alloc())?;
     let bytes = bytes.as_slice();
-    match group {
-        Group::Link => say_head_in!(rt, LinkHead, 16, bytes, order),
-        Group::Addr => say_head_in!(rt, AddrHead, 8, bytes, order),
-        Group::Route => say_head_in!(rt, RouteHead, 12, bytes, order),
-        Group::Neigh => say_head_in!(rt, NeighHead, 12, bytes, order),
-        Group::Rule => say_head_in!(rt, RuleHead, 12, bytes, order),
+    match family {
+        Family::Link => say_head_in!(rt, LinkHead, 16, bytes, order),
+        Family::Addr => say_head_in!(rt, AddrHead, 8, bytes, order),
+        Family::Route => say_head_in!(rt, RouteHead, 12, bytes, order),
+        Family::Neigh => say_head_in!(rt, NeighHead, 12, bytes, order),
+        Family::Rule => say_head_in!(rt, RuleHead, 12, bytes, order),
     }
 }

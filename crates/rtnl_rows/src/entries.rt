@@ -3,13 +3,13 @@
 use crate::said::{Hex, Maybe, say, yes_or_no};
 use crate::stop::{Stop, Wrong};
 use nl_attr::{Depth, Order};
-use nl_route::{Family, Head};
+use nl_route::{Head, Object};
 use nl_table::{Entry, Table};
 
 /// Tells how many entries a table has, of how many at most, and how many it missed.
-pub(crate) fn say_count<H: Head>(rt: &HostRuntime, table: &Table<Family<H>>) -> Result<(), Stop>
+pub(crate) fn say_count<H: Head>(rt: &HostRuntime, table: &Table<Object<H>>) -> Result<(), Stop>
 where
-    Family<H>: Entry,
+    Object<H>: Entry,
 {
     let (len, limit, missed) = (table.len(), table.limit(), table.missed());
     let is_empty = yes_or_no(table.is_empty());
@@ -26,11 +26,11 @@ where
 /// Tells the key at a place, the place where it is found, and the body that stands under it.
 pub(crate) fn say_entry<H: Head>(
     rt: &HostRuntime,
-    table: &Table<Family<H>>,
+    table: &Table<Object<H>>,
     place: u32,
 ) -> Result<(), Stop>
 where
-    Family<H>: Entry,
+    Object<H>: Entry,
 {
     let (key, entry) = match (table.key_at(place), table.get(place)) {
         (Some(key), Some(entry)) => (key, entry),
@@ -48,9 +48,9 @@ where
 }
 
 /// Tells all that a table holds, and what stands behind its last entry.
-pub(crate) fn say_entries<H: Head>(rt: &HostRuntime, table: &Table<Family<H>>) -> Result<(), Stop>
+pub(crate) fn say_entries<H: Head>(rt: &HostRuntime, table: &Table<Object<H>>) -> Result<(), Stop>
 where
-    Family<H>: Entry,
+    Object<H>: Entry,
 {
     say_count(rt, table)?;
     for place in 0..=table.len() {

@@ -2,12 +2,12 @@
 
 use crate::rows::Row;
 use crate::said::{say, yes_or_no};
-use crate::shown::{Shown, group_word};
+use crate::shown::{Shown, family_word};
 use crate::stop::{Stop, Wrong};
 use crate::trees::context_word;
 use nl_attr::{Ctx, Fault, LimitFault, ListError, Order};
 use nl_dump::{BeginError, FeedError, NotWaiting};
-use nl_frame::{Form, Group, ReadError};
+use nl_frame::{Family, Form, ReadError};
 use nl_route::{AddrHead, Head, LinkHead, NeighHead, RouteHead, RouteType, RuleHead, Verb};
 use rtnl::RunError;
 use std::alloc::AllocError;
@@ -35,9 +35,9 @@ impl fmt::Display for Shown<'_, Form> {
             Form::Error => f.write_str("error"),
             Form::Done => f.write_str("done"),
             Form::Overrun => f.write_str("overrun"),
-            Form::Family(group) => {
-                let group = group_word(*group);
-                write!(f, "family {group}")
+            Form::Object(family) => {
+                let family = family_word(*family);
+                write!(f, "family {family}")
             }
             Form::Get => f.write_str("get"),
             Form::Other => f.write_str("other"),
@@ -61,11 +61,11 @@ fn say_type(rt: &HostRuntime, kind: u16) -> Result<(), Stop> {
     let (shown, least) = (Shown(&form), form.least());
     match RouteType::of(kind) {
         None => say(rt, format_args!("{kind} {shown} least {least}")),
-        Some(RouteType { group, verb }) => {
-            let (group, verb) = (group_word(group), verb_word(verb));
+        Some(RouteType { family, verb }) => {
+            let (family, verb) = (family_word(family), verb_word(verb));
             say(
                 rt,
-                format_args!("{kind} {shown} least {least} says {verb} {group}"),
+                format_args!("{kind} {shown} least {least} says {verb} {family}"),
             )
         }
     }
@@ -84,24 +84,24 @@ fn list_types(rt: &HostRuntime, row: &mut Row<'_>) -> Result<(), Stop> {
 
 /// `families`: all, in order.
 fn list_families(rt: &HostRuntime) -> Result<(), Stop> {
-    for group in Group::ALL {
-        say(rt, group_word(group))?;
+    for family in Family::ALL {
+        say(rt, family_word(family))?;
     }
     Ok(())
 }
 
 /// `family GROUP`: what holds of a family, and of its type for each verb.
 fn tell_family(rt: &HostRuntime, row: &mut Row<'_>) -> Result<(), Stop> {
-    let group = row.words.group()?;
-    let held = group.row();
+    let family = row.words.family()?;
+    let held = family.row();
     let (name, size, new) = (held.name, held.head_size, held.new_type);
     let (context, has_set) = (context_word(held.context), yes_or_no(held.has_set));
     let sizes = format_args!("{name} head {size} context {context}");
     say(rt, format_args!("{sizes} new {new} set {has_set}"))?;
     for verb in [Verb::New, Verb::Del, Verb::Get, Verb::Set] {
-        let (word, has) = (verb_word(verb), yes_or_no(group.has(verb)));
+        let (word, has) = (verb_word(verb), yes_or_no(family.has(verb)));
         say(rt, format_args!("{word} {has}"))?;
-        say_type(rt, group.type_of(verb))?;
+        say_type(rt, family.type_of(verb))?;
     }
     Ok(())
 }
@@ -114,31 +114,31 @@ fn say_front<H: fmt::Display + Drop>(rt: &HostRuntime, ctx: Ctx, head: H) -> Res
 
 /// `front GROUP [ORDER]`: the head of this family at the front of bytes.
 fn read_front(rt: &HostRuntime, row: &mut Row<'_>) -> Result<(), Stop> {
-    let group = row.words.group()?;
+    let family = row.words.family()?;
     let order = row.words.order().unwrap_or(Order::Little);
     let bytes = row.bytes(rt.alloc())?;
     let bytes = bytes.as_slice();
-    if bytes.len() < group.row().head_size {
+    if bytes.len() < family.row().head_size {
         return Err(Stop::Wrong(Wrong::Input));
     }
-    match group {
-        Group::Link => {
+    match family {
+        Family::Link => {
             let head = LinkHead::read_front(bytes, order);
             say_front(rt, LinkHead::context(), Shown(&head))
         }
-        Group::Addr => {
+        Family::Addr => {
             let head = AddrHead::read_front(bytes, order);
             say_front(rt, AddrHead::context(), Shown(&head))
         }
-        Group::Route => {
+        Family::Route => {
             let head = RouteHead::read_front(bytes, order);
             say_front(rt, RouteHead::context(), Shown(&head))
         }
-        Group::Neigh => {
+        Family::Neigh => {
             let head = NeighHead::read_front(bytes, order);
             say_front(rt, NeighHead::context(), Shown(&head))
         }
-        Group::Rule => {
+        Family::Rule => {
             let head = RuleHead::read_front(bytes, order);
             say_front(rt, RuleHead::context(), Shown(&head))
         }

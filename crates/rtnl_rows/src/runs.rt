@@ -108,10 +108,10 @@ impl Run {
             "show-bytes-json" => Engine::ShowBytes(RowFormat::Json),
             "check" => Engine::Check,
             "check-json" => Engine::CheckJson,
-            "table" => Engine::Table(words.group()?),
-            "table-json" => Engine::TableJson(words.group()?),
-            "request" => Engine::Request(words.group()?),
-            "request-ordered" => Engine::RequestOrdered(words.group()?),
+            "table" => Engine::Table(words.family()?),
+            "table-json" => Engine::TableJson(words.family()?),
+            "request" => Engine::Request(words.family()?),
+            "request-ordered" => Engine::RequestOrdered(words.family()?),
             _ => return Err(Stop::Wrong(Wrong::Word)),
         };
         let limits = words.limits()?;

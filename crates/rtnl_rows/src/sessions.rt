@@ -41,7 +41,7 @@ fn step(rt: &HostRuntime, session: &mut Session, row: &Row<'_>, line: &str) -> R
         "begin" => begin(rt, session, &mut words)?,
         "abandon" => abandon(rt, session)?,
         "shows" => show(rt, session)?,
-        "table" => match_table!(words.group()?, session, table => say_entries(rt, table)?),
+        "table" => match_table!(words.family()?, session, table => say_entries(rt, table)?),
         _ => return Err(Stop::Wrong(Wrong::Word)),
     }
     if words.is_empty() {
@@ -52,7 +52,7 @@ fn step(rt: &HostRuntime, session: &mut Session, row: &Row<'_>, line: &str) -> R
 
 /// Begins a dump, and tells its request, or why it was not begun.
 fn begin(rt: &HostRuntime, session: &mut Session, words: &mut Words<'_>) -> Result<(), Stop> {
-    let kind = words.group()?;
+    let kind = words.family()?;
     let family: u8 = words.number()?;
     let (seq, port): (u32, u32) = (words.number()?, words.number()?);
     match session.begin(kind, family, seq, port) {
@@ -133,7 +133,7 @@ fn fed_first(alloc: Global, kind: Kind, limits: Limits, bytes: &[u8]) -> Result<
 /// `fresh KIND [LIMITS]`: what becomes of each line, a datagram, in a session of its own, whose
 /// dump of all entries of this kind has the sequence number 1 and the port id 12345.
 fn feed_each(rt: &HostRuntime, row: &mut Row<'_>) -> Result<(), Stop> {
-    let kind = row.words.group()?;
+    let kind = row.words.family()?;
     let limits = row.words.limits()?;
     for line in row.lines() {
         say_line(

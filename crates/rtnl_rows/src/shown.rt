@@ -4,7 +4,7 @@ use crate::said::Flags;
 use nl_attr::{AttrFlags, Event, SORT_BYTES, SORT_HOPS, SORT_LIST, SORT_MESSAGE, SORT_NEXT_HOP};
 use nl_dump::{Dump, End, Progress, State};
 use nl_frame::Header;
-use nl_route::{AddrHead, Group, LinkHead, NeighHead, RouteHead, RuleHead};
+use nl_route::{AddrHead, Family, LinkHead, NeighHead, RouteHead, RuleHead};
 use std::fmt;
 
 /// A value, shown.
@@ -86,13 +86,13 @@ impl fmt::Display for Shown<'_, Header> {
 }
 
 /// The word for a family.
-pub(crate) fn group_word(group: Group) -> &'static str {
-    match group {
-        Group::Link => "link",
-        Group::Addr => "addr",
-        Group::Route => "route",
-        Group::Neigh => "neigh",
-        Group::Rule => "rule",
+pub(crate) fn family_word(family: Family) -> &'static str {
+    match family {
+        Family::Link => "link",
+        Family::Addr => "addr",
+        Family::Route => "route",
+        Family::Neigh => "neigh",
+        Family::Rule => "rule",
     }
 }
 
@@ -104,7 +104,7 @@ impl fmt::Display for Shown<'_, Dump> {
             seq,
             port,
         } = *self.0;
-        let kind = group_word(kind);
+        let kind = family_word(kind);
         write!(f, "{kind} family {family} seq {seq} port {port}")
     }
 }

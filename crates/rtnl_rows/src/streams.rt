@@ -111,7 +111,7 @@ fn step(rt: &HostRuntime, pair: &mut Pair, row: &Row<'_>, line: &str) -> Result<
 /// The dump that these words name.
 fn dump_in(words: &mut Words<'_>) -> Result<Dump, Stop> {
     Ok(Dump {
-        kind: words.group()?,
+        kind: words.family()?,
         family: words.number()?,
         seq: words.number()?,
         port: words.number()?,

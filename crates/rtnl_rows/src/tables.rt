@@ -6,7 +6,7 @@ use crate::said::{Maybe, say};
 use crate::stop::{Stop, Wrong};
 use crate::words::number_in;
 use nl_attr::{Depth, LONGEST_REGION, Order};
-use nl_route::{AddrHead, Family, Group, Head, LinkHead, NeighHead, RouteHead, RuleHead};
+use nl_route::{AddrHead, Family, Head, LinkHead, NeighHead, Object, RouteHead, RuleHead};
 use nl_table::{Entry, Put, Table};
 use std::alloc::Global;
 
@@ -21,23 +21,23 @@ pub(crate) fn has_answered(rt: &HostRuntime, row: &mut Row<'_>) -> Result<bool, 
 
 /// `table FAMILY [ORDER] [entries COUNT]`: what a new table answers to each line, a step.
 fn run(rt: &HostRuntime, row: &mut Row<'_>) -> Result<(), Stop> {
-    match row.words.group()? {
-        Group::Link => run_steps::<LinkHead>(rt, row),
-        Group::Addr => run_steps::<AddrHead>(rt, row),
-        Group::Route => run_steps::<RouteHead>(rt, row),
-        Group::Neigh => run_steps::<NeighHead>(rt, row),
-        Group::Rule => run_steps::<RuleHead>(rt, row),
+    match row.words.family()? {
+        Family::Link => run_steps::<LinkHead>(rt, row),
+        Family::Addr => run_steps::<AddrHead>(rt, row),
+        Family::Route => run_steps::<RouteHead>(rt, row),
+        Family::Neigh => run_steps::<NeighHead>(rt, row),
+        Family::Rule => run_steps::<RuleHead>(rt, row),
     }
 }
 
 /// The steps of a table, by the call for its order, or the one that names none.
 fn run_steps<H: Head>(rt: &HostRuntime, row: &mut Row<'_>) -> Result<(), Stop>
 where
-    Family<H>: Entry,
+    Object<H>: Entry,
 {
     let order = row.words.order();
     let entries: u32 = row.words.number_of("entries", 1)?;
-    let mut table: Table<Family<H>> = match order {
+    let mut table: Table<Object<H>> = match order {
         Some(order) => Table::new_ordered(rt.alloc(), entries, order)?,
         None => Table::new(rt.alloc(), entries)?,
     };
@@ -51,12 +51,12 @@ where
 /// `find KEY`, `at PLACE`, or `entries`.
 fn step<H: Head>(
     rt: &HostRuntime,
-    table: &mut Table<Family<H>>,
+    table: &mut Table<Object<H>>,
     row: &Row<'_>,
     line: &str,
 ) -> Result<(), Stop>
 where
-    Family<H>: Entry,
+    Object<H>: Entry,
 {
     match line.split_once(' ').unwrap_or((line, "")) {
         ("reserve", count) => {
@@ -90,11 +90,11 @@ fn say_spare(rt: &HostRuntime, spare: u32) -> Result<(), Stop> {
 }
 
 /// The entry of a body.
-fn entry_in<H: Head>(alloc: Global, bytes: &[u8], order: Order) -> Result<Family<H>, Stop> {
+fn entry_in<H: Head>(alloc: Global, bytes: &[u8], order: Order) -> Result<Object<H>, Stop> {
     if bytes.len() < H::SIZE || bytes.len() > LONGEST_REGION {
         return Err(Stop::Wrong(Wrong::Input));
     }
-    let tally = Family::read_body_ordered(alloc, bytes, 0, Depth::standard(), order);
+    let tally = Object::read_body_ordered(alloc, bytes, 0, Depth::standard(), order);
     match tally.into_result() {
         Ok(entry) => Ok(entry),
         Err(_) => Err(Stop::Wrong(Wrong::Refused)),
@@ -102,11 +102,11 @@ fn entry_in<H: Head>(alloc: Global, bytes: &[u8], order: Order) -> Result<Family
 }
 
 /// Puts the entry of a body under its key, where a place is reserved or none is needed.
-fn put<H: Head>(alloc: Global, table: &mut Table<Family<H>>, bytes: &[u8]) -> Result<Put, Stop>
+fn put<H: Head>(alloc: Global, table: &mut Table<Object<H>>, bytes: &[u8]) -> Result<Put, Stop>
 where
-    Family<H>: Entry,
+    Object<H>: Entry,
 {
-    let entry: Family<H> = entry_in(alloc, bytes, table.order())?;
+    let entry: Object<H> = entry_in(alloc, bytes, table.order())?;
     let key = entry.key_ordered(alloc, table.order())?;
     if table.spare() > 0 || table.len() == table.limit() {
         return Ok(table.put(key, entry));
@@ -117,12 +117,12 @@ where
 /// Puts so many entries of a body, whose bytes from 4 to 7 are their numbers, counted from 0.
 fn put_numbered<H: Head>(
     rt: &HostRuntime,
-    table: &mut Table<Family<H>>,
+    table: &mut Table<Object<H>>,
     row: &Row<'_>,
     rest: &str,
 ) -> Result<(), Stop>
 where
-    Family<H>: Entry,
+    Object<H>: Entry,
 {
     let (count, body) = rest.split_once(' ').unwrap_or((rest, ""));
     let count: u32 = number_in(count)?;

@@ -3,7 +3,7 @@
 use crate::stop::{Stop, Wrong};
 use nl_attr::{AttrFlags, Ctx, Depth, Order, Reason};
 use nl_frame::Limits;
-use nl_route::Group;
+use nl_route::Family;
 use std::num::TryFromIntError;
 
 /// The words that are left.
@@ -125,13 +125,13 @@ impl<'a> Words<'a> {
     }
 
     /// A family.
-    pub(crate) fn group(&mut self) -> Result<Group, Stop> {
+    pub(crate) fn family(&mut self) -> Result<Family, Stop> {
         Ok(match self.word()? {
-            "link" => Group::Link,
-            "addr" => Group::Addr,
-            "route" => Group::Route,
-            "neigh" => Group::Neigh,
-            "rule" => Group::Rule,
+            "link" => Family::Link,
+            "addr" => Family::Addr,
+            "route" => Family::Route,
+            "neigh" => Family::Neigh,
+            "rule" => Family::Rule,
             _ => return Err(Stop::Wrong(Wrong::Word)),
         })
     }

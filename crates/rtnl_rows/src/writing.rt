@@ -16,7 +16,7 @@ use nl_attr::{
     write_list_ordered,
 };
 use nl_frame::{Body, Limits, Message, is_canonical, read_datagram, write_datagram};
-use nl_route::match_family;
+use nl_route::match_object;
 use rtnl::{SliceSource, VecSink, Verdict, run_check};
 use std::alloc::Global;
 use std::mem;
@@ -189,8 +189,8 @@ fn change(
             Ok(())
         }
         ("tail", hex) => set_tail(&mut message.body, row.bytes_of(alloc, hex)?),
-        _ => match_family!(&mut message.body, Body, family => {
-            build(alloc, row, line, &mut family.attrs, hops)
+        _ => match_object!(&mut message.body, Body, object => {
+            build(alloc, row, line, &mut object.attrs, hops)
         }, {
             _ => Err(Stop::Wrong(Wrong::Word)),
         }),

@@ -3,7 +3,7 @@
 ghost use Rattle.std.specs.Prelude.{◌+◌, ◌*◌, ◌≤◌, ◌↔◌, List, IfOk, IsTrue, OnOk, OnErr, length};
 ghost use Rattle.nl_frame.specs.Message.{MessageVal};
 ghost use Rattle.nl_frame.specs.OneList.{IsTheList};
-ghost use Rattle.nl_route.specs.declared.group.Group.{Group};
+ghost use Rattle.nl_route.specs.declared.family.Family.{Family};
 ghost use Rattle.nl_dump.specs.Every.{SameAnswer};
 ghost use Rattle.nl_dump.specs.Steps.{IsWaiting};
 ghost use Rattle.nl_dump.specs.View.{table_at};
@@ -23,7 +23,7 @@ pub fn take_answer(session: &mut Session, datagram: &[u8]) -> Result<bool, FeedE
     ensures visits { session.new.visits
         ≤ (session.new.limits.shape.depth + 1) * session.new.received }
     // and no table has more entries than the limit.
-    ensures tables { (family : Group)
+    ensures tables { (family : Family)
         → length (table_at family session.new.tables).entries ≤ session.new.limits.entries }
 {
     session.feed(datagram)?;

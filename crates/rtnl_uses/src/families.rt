@@ -8,7 +8,7 @@ ghost use Rattle.nl_attr.specs.Tree.{Items};
 ghost use Rattle.nl_attr.specs.Outcomes.{IfLayout};
 ghost use Rattle.nl_attr.specs.declared.order.Order.{Order};
 ghost use Rattle.nl_attr.specs.declared.tree.Ctx.{Ctx};
-ghost use Rattle.nl_route.specs.Body.{IsFamilyBody, attrs_of};
+ghost use Rattle.nl_route.specs.Body.{IsObject, attrs_of};
 ghost use Rattle.nl_route.specs.Link.{link_fields};
 ghost use Rattle.nl_route.specs.Views.{number_view, text_view};
 ghost use Rattle.nl_route.specs.declared.ifinfomsg.LinkHead.{LinkHead};
@@ -30,7 +30,7 @@ pub fn read_named(alloc: Global, body: &[u8], depth: Depth) -> Result<Named, Lis
     requires size { length body.now ≤ LONGEST_REGION }
     // They are those of the first `IFLA_IFNAME` and the first `IFLA_MTU` of the body.
     ensures named { IfOk result (λ n. (head : LinkHead) × (attrs : Items)
-        × IsFamilyBody (shape_of Order.Little depth) 16 (link_fields head) Ctx.Link attrs body.now
+        × IsObject (shape_of Order.Little depth) 16 (link_fields head) Ctx.Link attrs body.now
         × (option_map (λ v. v.items) n.name ≡ text_view IFLA_IFNAME attrs)
         × (n.mtu ≡ number_view Order.Little 4 IFLA_MTU attrs)) }
     // A fault is the one at the least place.

@@ -2,7 +2,7 @@
 
 ghost use Rattle.std.specs.Prelude.{◌≡◌, ℕ, IfOk, OnErr};
 ghost use Rattle.nl_table.specs.Content.{Step};
-ghost use Rattle.nl_route.specs.declared.group.Group.TheVariants as family;
+ghost use Rattle.nl_route.specs.declared.family.Family.TheVariants as family;
 ghost use Rattle.nl_table.specs.Entries.{entry_key};
 
 use nl_route::Link;

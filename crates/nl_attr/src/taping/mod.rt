@@ -16,7 +16,7 @@ use crate::events::Event;
 use crate::limits::{Depth, Shape};
 use crate::order::Order;
 use crate::region::{OpenRegion, Parts};
-use crate::taping::steps::{Turn, step};
+use crate::taping::steps::{Advance, step};
 use crate::tree::Ctx;
 use arrayvec::ArrayVec;
 
@@ -104,15 +104,15 @@ fn tape_region<'a>(
             }
         }
         match step(top, shape, out, &mut taped) {
-            Turn::Fails(reason) => {
+            Advance::Fails(reason) => {
                 taped.broken = Some(top.broken(reason, shape));
                 return taped;
             }
-            Turn::Goes(rest) => {
+            Advance::Goes(rest) => {
                 top.left = rest.left;
                 top.place = rest.place;
             }
-            Turn::Opens(rest, inner) => {
+            Advance::Opens(rest, inner) => {
                 stack.push(rest);
                 top = inner;
             }

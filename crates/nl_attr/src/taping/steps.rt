@@ -18,7 +18,7 @@ use crate::walk::head_len;
 
 /// Where the head at the front of a region leads.
 #[derive(Clone, Copy)]
-pub(super) enum Turn<'a> {
+pub(super) enum Advance<'a> {
     /// To no other: it breaks this rule.
     Fails(Reason),
     /// To what is left behind it.
@@ -35,7 +35,7 @@ fn step_attr<'a>(
     shape: Shape,
     out: &mut [Event],
     taped: &mut Taped,
-) -> Turn<'a>
+) -> Advance<'a>
     requires size { length region.left.now ≤ fixed.LONGEST_REGION }
     requires place { region.place + length region.left.now ≤ fixed.FARTHEST_END }
     requires level { region.level ≤ fixed.MOST_LEVELS }
@@ -49,22 +49,22 @@ fn step_attr<'a>(
     let (left, place, level) = (region.left, region.place, region.level);
     let len = match head_len(order, left, 4) {
         Ok(len) => len,
-        Err(reason) => return Turn::Fails(reason),
+        Err(reason) => return Advance::Fails(reason),
     };
     let attr = attr_front(left, len, place, level, ctx, order);
     let at = taped.count;
     taped.add(out, attr.event, attr.span);
     let content = holds(ctx, attr.event.number, attr.flags);
     let Some(parts) = Parts::of(content) else {
-        return Turn::Goes(attr.rest);
+        return Advance::Goes(attr.rest);
     };
     // A container's event is put again, with its sort; most attributes hold bytes and are done.
     let sort = sort(content);
     Event { sort, ..attr.event }.put(out, at);
     if let Some(reason) = container_fault(content, len, level, shape) {
-        return Turn::Fails(reason);
+        return Advance::Fails(reason);
     }
-    Turn::Opens(attr.rest, inside(attr.payload, place, 4, level, parts))
+    Advance::Opens(attr.rest, inside(attr.payload, place, 4, level, parts))
 }
 
 /// The step past a next hop.
@@ -74,7 +74,7 @@ fn step_hop<'a>(
     shape: Shape,
     out: &mut [Event],
     taped: &mut Taped,
-) -> Turn<'a>
+) -> Advance<'a>
     requires size { length region.left.now ≤ fixed.LONGEST_REGION }
     requires place { region.place + length region.left.now ≤ fixed.FARTHEST_END }
     requires level { region.level ≤ fixed.MOST_LEVELS }
@@ -86,11 +86,11 @@ fn step_hop<'a>(
     let order = shape.order();
     let len = match head_len(order, region.left, 8) {
         Ok(len) => len,
-        Err(reason) => return Turn::Fails(reason),
+        Err(reason) => return Advance::Fails(reason),
     };
     let hop = hop_front(region.left, len, region.place, region.level, order);
     taped.add(out, hop.event, hop.span);
-    Turn::Opens(hop.rest, hop.attrs)
+    Advance::Opens(hop.rest, hop.attrs)
 }
 
 /// The step past the head at the front of a region.
@@ -100,7 +100,7 @@ pub(super) fn step<'a>(
     shape: Shape,
     out: &mut [Event],
     taped: &mut Taped,
-) -> Turn<'a>
+) -> Advance<'a>
     requires size { length region.left.now ≤ fixed.LONGEST_REGION }
     requires place { region.place + length region.left.now ≤ fixed.FARTHEST_END }
     requires level { region.level ≤ fixed.MOST_LEVELS }

@@ -1,19 +1,19 @@
 //! The key of an address. Its fields are those of linux/if_addr.h.
 
 use crate::entry::Entry;
-use crate::key::{Part, key_of_parts};
+use crate::key::{KeyPart, key_of_parts};
 use nl_attr::Order;
 use nl_route::Addr;
 use std::alloc::{AllocError, Global};
 
 impl Entry for Addr {
     ghost use Rattle.std.specs.Prelude.{refl};
-    ghost use Rattle.nl_route.specs.declared.group.Group.TheVariants as group;
+    ghost use Rattle.nl_route.specs.declared.family.Family.TheVariants as family;
     ghost use Rattle.nl_table.specs.Entries.{entry_fields, entry_key};
 
-    ghost fields_of = { entry_fields group.Addr };
+    ghost fields_of = { entry_fields family.Addr };
 
-    ghost key_of = { entry_key group.Addr };
+    ghost key_of = { entry_key family.Addr };
 
     ghost key_is = { λ o e. refl };
 
@@ -23,11 +23,11 @@ impl Entry for Addr {
         key_of_parts!(
             alloc,
             [
-                Part::Byte(self.head.family),
-                Part::Four(self.head.index),
-                Part::Byte(self.head.prefixlen),
-                Part::Bytes(self.address()),
-                Part::Bytes(self.local()),
+                KeyPart::Byte(self.head.family),
+                KeyPart::Four(self.head.index),
+                KeyPart::Byte(self.head.prefixlen),
+                KeyPart::Bytes(self.address()),
+                KeyPart::Bytes(self.local()),
             ],
         )
     }

@@ -8,12 +8,12 @@ use std::alloc::{AllocError, Global};
 
 impl Entry for Link {
     ghost use Rattle.std.specs.Prelude.{refl};
-    ghost use Rattle.nl_route.specs.declared.group.Group.TheVariants as group;
+    ghost use Rattle.nl_route.specs.declared.family.Family.TheVariants as family;
     ghost use Rattle.nl_table.specs.Entries.{entry_fields, entry_key};
 
-    ghost fields_of = { entry_fields group.Link };
+    ghost fields_of = { entry_fields family.Link };
 
-    ghost key_of = { entry_key group.Link };
+    ghost key_of = { entry_key family.Link };
 
     ghost key_is = { λ o e. refl };
 

@@ -1,7 +1,7 @@
 //! The key of a neighbour. Its fields are those of linux/neighbour.h.
 
 use crate::entry::Entry;
-use crate::key::{Part, interface, key_of_parts};
+use crate::key::{KeyPart, interface, key_of_parts};
 use nl_attr::Order;
 use nl_route::Neigh;
 use std::alloc::{AllocError, Global};
@@ -14,12 +14,12 @@ pub(crate) const IDENTIFYING_FLAGS: u8 = 0x0e;
 
 impl Entry for Neigh {
     ghost use Rattle.std.specs.Prelude.{refl};
-    ghost use Rattle.nl_route.specs.declared.group.Group.TheVariants as group;
+    ghost use Rattle.nl_route.specs.declared.family.Family.TheVariants as family;
     ghost use Rattle.nl_table.specs.Entries.{entry_fields, entry_key};
 
-    ghost fields_of = { entry_fields group.Neigh };
+    ghost fields_of = { entry_fields family.Neigh };
 
-    ghost key_of = { entry_key group.Neigh };
+    ghost key_of = { entry_key family.Neigh };
 
     ghost key_is = { λ o e. refl };
 
@@ -29,10 +29,10 @@ impl Entry for Neigh {
     /// An entry of a bridge, whose family is `AF_BRIDGE`, is also kept under `NDA_LLADDR`,
     /// `NDA_VLAN` in 2 bytes and `NDA_VNI` in 4, each number 0 where it is absent.
     fn key_ordered(&self, alloc: Global, order: Order) -> Result<Vec<u8>, AllocError> {
-        let family = Part::Byte(self.head.family);
+        let family = KeyPart::Byte(self.head.family);
         let interface = interface(&self.head.ifindex);
-        let flags = Part::Byte(self.head.flags & IDENTIFYING_FLAGS);
-        let address = Part::Bytes(self.dst());
+        let flags = KeyPart::Byte(self.head.flags & IDENTIFYING_FLAGS);
+        let address = KeyPart::Bytes(self.dst());
         if self.head.family != AF_BRIDGE {
             return key_of_parts!(alloc, [family, interface, flags, address]);
         }
@@ -43,9 +43,9 @@ impl Entry for Neigh {
                 interface,
                 flags,
                 address,
-                Part::Bytes(self.lladdr()),
-                Part::Two(self.vlan_ordered(order).unwrap_or(0)),
-                Part::Four(self.vni_ordered(order).unwrap_or(0)),
+                KeyPart::Bytes(self.lladdr()),
+                KeyPart::Two(self.vlan_ordered(order).unwrap_or(0)),
+                KeyPart::Four(self.vni_ordered(order).unwrap_or(0)),
             ],
         )
     }

@@ -1,19 +1,19 @@
 //! The key of a route. Its fields are those of linux/rtnetlink.h.
 
 use crate::entry::Entry;
-use crate::key::{Part, key_of_parts};
+use crate::key::{KeyPart, key_of_parts};
 use nl_attr::Order;
 use nl_route::Route;
 use std::alloc::{AllocError, Global};
 
 impl Entry for Route {
     ghost use Rattle.std.specs.Prelude.{refl};
-    ghost use Rattle.nl_route.specs.declared.group.Group.TheVariants as group;
+    ghost use Rattle.nl_route.specs.declared.family.Family.TheVariants as family;
     ghost use Rattle.nl_table.specs.Entries.{entry_fields, entry_key};
 
-    ghost fields_of = { entry_fields group.Route };
+    ghost fields_of = { entry_fields family.Route };
 
-    ghost key_of = { entry_key group.Route };
+    ghost key_of = { entry_key family.Route };
 
     ghost key_is = { λ o e. refl };
 
@@ -27,17 +27,17 @@ impl Entry for Route {
         key_of_parts!(
             alloc,
             [
-                Part::Byte(self.head.family),
-                Part::Byte(self.head.dst_len),
-                Part::Bytes(self.dst()),
-                Part::Byte(self.head.src_len),
-                Part::Bytes(self.src()),
-                Part::Byte(self.head.tos),
-                Part::Four(self.table_id_ordered(order)),
-                Part::Four(self.priority_ordered(order).unwrap_or(0)),
-                Part::Byte(self.head.sort),
-                Part::Four(self.oif_ordered(order).unwrap_or(0)),
-                Part::Bytes(self.gateway()),
+                KeyPart::Byte(self.head.family),
+                KeyPart::Byte(self.head.dst_len),
+                KeyPart::Bytes(self.dst()),
+                KeyPart::Byte(self.head.src_len),
+                KeyPart::Bytes(self.src()),
+                KeyPart::Byte(self.head.tos),
+                KeyPart::Four(self.table_id_ordered(order)),
+                KeyPart::Four(self.priority_ordered(order).unwrap_or(0)),
+                KeyPart::Byte(self.head.sort),
+                KeyPart::Four(self.oif_ordered(order).unwrap_or(0)),
+                KeyPart::Bytes(self.gateway()),
             ],
         )
     }

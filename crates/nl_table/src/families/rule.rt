@@ -5,7 +5,7 @@ ghost use Rattle.std.specs.Option.{option_copied};
 ghost use Rattle.nl_route.specs.Views.{attrs_in, bytes_view};
 
 use crate::entry::Entry;
-use crate::key::{Part, key_of_parts};
+use crate::key::{KeyPart, key_of_parts};
 use nl_attr::{Order, find};
 use nl_route::{FRA_IIFNAME, FRA_OIFNAME, Rule};
 use std::alloc::{AllocError, Global};
@@ -19,12 +19,12 @@ fn bytes_of(rule: &Rule, number: u16) -> Option<&[u8]>
 
 impl Entry for Rule {
     ghost use Rattle.std.specs.Prelude.{refl};
-    ghost use Rattle.nl_route.specs.declared.group.Group.TheVariants as group;
+    ghost use Rattle.nl_route.specs.declared.family.Family.TheVariants as family;
     ghost use Rattle.nl_table.specs.Entries.{entry_fields, entry_key};
 
-    ghost fields_of = { entry_fields group.Rule };
+    ghost fields_of = { entry_fields family.Rule };
 
-    ghost key_of = { entry_key group.Rule };
+    ghost key_of = { entry_key family.Rule };
 
     ghost key_is = { λ o e. refl };
 
@@ -38,20 +38,20 @@ impl Entry for Rule {
         key_of_parts!(
             alloc,
             [
-                Part::Byte(self.head.family),
-                Part::Byte(self.head.dst_len),
-                Part::Bytes(self.dst()),
-                Part::Byte(self.head.src_len),
-                Part::Bytes(self.src()),
-                Part::Byte(self.head.tos),
-                Part::Four(self.table_id_ordered(order)),
-                Part::Four(self.priority_ordered(order).unwrap_or(0)),
-                Part::Byte(self.head.action),
-                Part::Four(self.target_ordered(order).unwrap_or(0)),
-                Part::Four(self.fwmark_ordered(order).unwrap_or(0)),
-                Part::Four(self.fwmask_ordered(order).unwrap_or(0)),
-                Part::Bytes(bytes_of(self, FRA_IIFNAME)),
-                Part::Bytes(bytes_of(self, FRA_OIFNAME)),
+                KeyPart::Byte(self.head.family),
+                KeyPart::Byte(self.head.dst_len),
+                KeyPart::Bytes(self.dst()),
+                KeyPart::Byte(self.head.src_len),
+                KeyPart::Bytes(self.src()),
+                KeyPart::Byte(self.head.tos),
+                KeyPart::Four(self.table_id_ordered(order)),
+                KeyPart::Four(self.priority_ordered(order).unwrap_or(0)),
+                KeyPart::Byte(self.head.action),
+                KeyPart::Four(self.target_ordered(order).unwrap_or(0)),
+                KeyPart::Four(self.fwmark_ordered(order).unwrap_or(0)),
+                KeyPart::Four(self.fwmask_ordered(order).unwrap_or(0)),
+                KeyPart::Bytes(bytes_of(self, FRA_IIFNAME)),
+                KeyPart::Bytes(bytes_of(self, FRA_OIFNAME)),
             ],
         )
     }

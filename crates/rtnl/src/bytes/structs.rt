@@ -2,7 +2,7 @@
 
 use crate::bytes::notation::{Bits, Notation};
 use crate::text::types::FlagNames;
-use nl_route::Group;
+use nl_route::Family;
 
 /// A field: its name, how many bytes it has, and how they are read.
 pub(super) type Field = (&'static str, usize, Notation);
@@ -95,12 +95,12 @@ const FIB_RULE_HDR: &[Field] = &[
 ];
 
 /// The head of a family's body.
-pub(super) fn head_of(group: Group) -> &'static [Field] {
-    match group {
-        Group::Link => IFINFOMSG,
-        Group::Addr => IFADDRMSG,
-        Group::Route => RTMSG,
-        Group::Neigh => NDMSG,
-        Group::Rule => FIB_RULE_HDR,
+pub(super) fn head_of(family: Family) -> &'static [Field] {
+    match family {
+        Family::Link => IFINFOMSG,
+        Family::Addr => IFADDRMSG,
+        Family::Route => RTMSG,
+        Family::Neigh => NDMSG,
+        Family::Rule => FIB_RULE_HDR,
     }
 }

@@ -146,7 +146,7 @@ impl<'a> View<'a> {
         let start = self.parts.end();
         let end = start.saturating_add(len as usize);
         match form {
-            Form::Family(group) => self.fields(head_of(group)),
+            Form::Object(family) => self.fields(head_of(family)),
             Form::Error => {
                 self.fields(&NLMSGERR)?;
                 self.header(self.answered(start.saturating_add(4)))?;

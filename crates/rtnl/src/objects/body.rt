@@ -10,7 +10,7 @@ use crate::objects::line::Line;
 use crate::text::families::Shown;
 use nl_attr::Order;
 use nl_frame::{Body, Header};
-use nl_route::match_family;
+use nl_route::match_object;
 use std::alloc::AllocError;
 
 /// Writes the header that an answer with a code is about.
@@ -66,7 +66,7 @@ pub(crate) fn push_body(line: &mut Line, order: Order, body: &Body) -> Result<()
     ensures { OnOk result
         (line.new ≡ line.old ⊕ fields_tokens (body_field order (body_view body.now) ∷ [])) }
 {
-    match_family!(body, Body, family => family.push_field(line, order), {
+    match_object!(body, Body, object => object.push_field(line, order), {
         Body::Noop(payload) | Body::Overrun(payload) | Body::Other(payload) => {
             line.digits("bytes", payload)
         }

@@ -10,7 +10,7 @@ use crate::text::pieces::{push, push_hex};
 use crate::text::segment::Segment;
 use nl_attr::Order;
 use nl_frame::{Body, Header};
-use nl_route::match_family;
+use nl_route::match_object;
 use std::alloc::{AllocError, Global};
 
 /// Writes the bytes behind a fixed part, which end the line.
@@ -91,7 +91,7 @@ pub(crate) fn push_body(
 ) -> Result<(), AllocError>
     ensures { OnOk result (out.new.items ≡ out.old.items ++ body_text order (body_view body.now)) }
 {
-    match_family!(body, Body, family => family.push(alloc, out, order), {
+    match_object!(body, Body, object => object.push(alloc, out, order), {
         Body::Noop(payload) | Body::Overrun(payload) | Body::Other(payload) => {
             push_bytes(out, payload)
         }

@@ -1,7 +1,7 @@
 //! The names that the kernel's headers give message types and attributes, in two parts.
 
 ghost use Rattle.std.specs.Prelude.{◌≡◌, option_map, None};
-ghost use Rattle.rtnl.specs.Kernel.{attribute_name, control_name, group_end, kernel_name};
+ghost use Rattle.rtnl.specs.Kernel.{attribute_name, control_name, family_end, kernel_name};
 ghost use Rattle.rtnl.specs.Kernel.{message_name, named_in, prefix_of, verb_front};
 ghost use Rattle.rtnl.specs.Further.{further_rows};
 ghost use Rattle.rtnl.specs.Rows.{find_row};
@@ -10,7 +10,7 @@ use crate::text::attributes::find;
 use crate::text::further::further;
 use crate::text::rows;
 use nl_attr::Ctx;
-use nl_route::{Group, RouteType, Verb};
+use nl_route::{Family, RouteType, Verb};
 
 /// A name, whose second part stands right behind the first: `IFLA_` and `IFNAME`.
 pub type KernelName = (&'static str, &'static str);
@@ -67,16 +67,16 @@ fn verb_name(verb: Verb) -> &'static str
 }
 
 /// What the name of a family's message type ends with.
-#[tactic(auto, unfolding(crate::specs::Kernel::group_end))]
-fn group_name(group: Group) -> &'static str
-    ensures { result.now ≡ group_end group }
+#[tactic(auto, unfolding(crate::specs::Kernel::family_end))]
+fn family_name(family: Family) -> &'static str
+    ensures { result.now ≡ family_end family }
 {
-    match group {
-        Group::Link => "LINK",
-        Group::Addr => "ADDR",
-        Group::Route => "ROUTE",
-        Group::Neigh => "NEIGH",
-        Group::Rule => "RULE",
+    match family {
+        Family::Link => "LINK",
+        Family::Addr => "ADDR",
+        Family::Route => "ROUTE",
+        Family::Neigh => "NEIGH",
+        Family::Rule => "RULE",
     }
 }
 
@@ -99,7 +99,7 @@ pub fn message_name(kind: u16) -> Option<KernelName>
     ensures { option_map kernel_name result ≡ message_name kind }
 {
     match RouteType::of(kind) {
-        Some(of) => Some((verb_name(of.verb), group_name(of.group))),
+        Some(of) => Some((verb_name(of.verb), family_name(of.family))),
         None => control_name(kind),
     }
 }

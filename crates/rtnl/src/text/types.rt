@@ -58,7 +58,7 @@ pub(crate) fn message_type(kind: u16) -> (&'static str, &'static str, FlagNames)
     match RouteType::of(kind) {
         Some(of) => {
             let (verb, names) = verb_type(of.verb);
-            (verb, of.group.row().name, names)
+            (verb, of.family.row().name, names)
         }
         None => match find_row(rows(), kind) {
             Some((name, names)) => ("", name, names),

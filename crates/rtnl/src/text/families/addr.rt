@@ -23,10 +23,10 @@ pub(crate) const ATTRIBUTES: &[Row<Style>] = &[
 
 impl HeadLine for AddrHead {
     ghost use Rattle.std.specs.Prelude.{refl};
-    ghost use Rattle.nl_route.specs.declared.group.Group.TheVariants as group;
+    ghost use Rattle.nl_route.specs.declared.family.Family.TheVariants as family;
     ghost use Rattle.nl_route.specs.Families.{any};
 
-    ghost as_any = { any group.Addr };
+    ghost as_any = { any family.Addr };
 
     ghost named = { λ h. refl };
 

@@ -46,10 +46,10 @@ pub(crate) const LINK_INFO: &[Row<Style>] = &[
 
 impl HeadLine for LinkHead {
     ghost use Rattle.std.specs.Prelude.{refl};
-    ghost use Rattle.nl_route.specs.declared.group.Group.TheVariants as group;
+    ghost use Rattle.nl_route.specs.declared.family.Family.TheVariants as family;
     ghost use Rattle.nl_route.specs.Families.{any};
 
-    ghost as_any = { any group.Link };
+    ghost as_any = { any family.Link };
 
     ghost named = { λ h. refl };
 

@@ -10,13 +10,13 @@ use crate::objects::line::Line;
 use crate::objects::tree;
 use crate::text::tree::push_attrs;
 use nl_attr::Order;
-use nl_route::{Family, Head};
+use nl_route::{Head, Object};
 use std::alloc::{AllocError, Global};
 
 /// The head of a family, as it is printed.
 pub(crate) trait HeadLine: Head {
     ghost use Rattle.std.specs.Prelude.{◌≡◌, ◌++◌, OnOk};
-    ghost use Rattle.nl_route.specs.Families.{AnyHead, context_of, group_of};
+    ghost use Rattle.nl_route.specs.Families.{AnyHead, context_of, family_of};
     ghost use Rattle.rtnl.specs.Json.{◌⊕◌, fields_tokens};
     ghost use Rattle.rtnl.specs.Messages.{head_line};
     ghost use Rattle.rtnl.specs.Objects.{head_fields};
@@ -34,10 +34,10 @@ pub(crate) trait HeadLine: Head {
             (line.new ≡ line.old ⊕ fields_tokens (head_fields (as_any self.now))) };
 
     // It is of its family.
-    ghost named: { (h : Self) → group_of (as_any h) ≡ Self.Head.group };
+    ghost named: { (h : Self) → family_of (as_any h) ≡ Self.Head.family };
 
     // Its attributes are of its family's context.
-    ghost same: { (h : Self) → Self.Head.ctx ≡ context_of (group_of (as_any h)) };
+    ghost same: { (h : Self) → Self.Head.ctx ≡ context_of (family_of (as_any h)) };
 }
 
 /// A value that is printed in lines.
@@ -61,7 +61,7 @@ pub(crate) trait Shown {
             (line.new ≡ line.old ⊕ fields_tokens (item_field order (item self.now) ∷ [])) };
 }
 
-impl<H: HeadLine> Shown for Family<H> {
+impl<H: HeadLine> Shown for Object<H> {
     ghost use Rattle.nl_attr.specs.View.{attrs_view};
 
     ghost item = { λ b. (H.as_any b.head, attrs_view b.attrs.items) };
@@ -72,7 +72,7 @@ impl<H: HeadLine> Shown for Family<H> {
     }
 
     fn push_field(&self, line: &mut Line, order: Order) -> Result<(), AllocError> {
-        line.key(H::group().row().name)?;
+        line.key(H::family().row().name)?;
         line.begin_object()?;
         self.head.push_fields(line)?;
         tree::push_attrs(line, "attrs", order, H::context(), &self.attrs)?;

@@ -26,10 +26,10 @@ pub(crate) const ATTRIBUTES: &[Row<Style>] = &[
 
 impl HeadLine for NeighHead {
     ghost use Rattle.std.specs.Prelude.{refl};
-    ghost use Rattle.nl_route.specs.declared.group.Group.TheVariants as group;
+    ghost use Rattle.nl_route.specs.declared.family.Family.TheVariants as family;
     ghost use Rattle.nl_route.specs.Families.{any};
 
-    ghost as_any = { any group.Neigh };
+    ghost as_any = { any family.Neigh };
 
     ghost named = { λ h. refl };
 

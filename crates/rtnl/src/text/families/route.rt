@@ -59,10 +59,10 @@ pub(crate) const METRICS: &[Row<Style>] = &[
 
 impl HeadLine for RouteHead {
     ghost use Rattle.std.specs.Prelude.{refl};
-    ghost use Rattle.nl_route.specs.declared.group.Group.TheVariants as group;
+    ghost use Rattle.nl_route.specs.declared.family.Family.TheVariants as family;
     ghost use Rattle.nl_route.specs.Families.{any};
 
-    ghost as_any = { any group.Route };
+    ghost as_any = { any family.Route };
 
     ghost named = { λ h. refl };
 

@@ -7,13 +7,13 @@ use Rattle.rtnl_c.proofs.stream.rtnlc_stream_begin.Goals as goal
 pub returns-in_default : goal.returns-in_default
 returns-in_default c = rw (c.none.ensures) (on_none c.in_default.ensures)
 
-pub returns-in_default-group_of : goal.returns-in_default-group_of
-returns-in_default-group_of c = rw (c.none-in_default-group_of.ensures) (of_none c.in-Some.restored c.in-Some.ensures (sym c.group_of.ensures ∙ c.in_default-group_of.is))
+pub returns-in_default-family_of : goal.returns-in_default-family_of
+returns-in_default-family_of c = rw (c.none-in_default-family_of.ensures) (of_none c.in-Some.restored c.in-Some.ensures (sym c.family_of.ensures ∙ c.in_default-family_of.is))
 
 pub returns-then-out-len : goal.returns-then-out-len
 returns-then-out-len c =
     let s = c.in-Some.restored in
-    lacks s c.in-Some.ensures c.in-Some-group_of.kind (sym c.group_of.ensures ∙ c.in-Some-group_of.is) c.request_len-len.result (c.request_len-len.ensures.request s.limits.shape.order) c.if-out-len.true
+    lacks s c.in-Some.ensures c.in-Some-family_of.kind (sym c.family_of.ensures ∙ c.in-Some-family_of.is) c.request_len-len.result (c.request_len-len.ensures.request s.limits.shape.order) c.if-out-len.true
 
 pub returns : goal.returns
 returns c =
@@ -21,6 +21,6 @@ returns c =
     let b = c.begin_dump-begun in
     let t = b.new.stream in
     let room : c.request_len-len.result ≤ length c.args.out.now = c.if-out-len.false in
-    let fits : length (request_of s.limits.shape.order (dump_of c.in-Some-group_of.kind c.args.family c.args.seq c.args.port)) ≤ length c.args.out.now = omega (arith, room, c.request_len-len.ensures.request s.limits.shape.order) in
+    let fits : length (request_of s.limits.shape.order (dump_of c.in-Some-family_of.kind c.args.family c.args.seq c.args.port)) ≤ length c.args.out.now = omega (arith, room, c.request_len-len.ensures.request s.limits.shape.order) in
     rw (c.keep.ensures)
-    (begins s t c.in-Some.ensures c.in-Some-group_of.kind (sym c.group_of.ensures ∙ c.in-Some-group_of.is) fits b.new.out b.result b.ensures (keeps t b.ensures.2))
+    (begins s t c.in-Some.ensures c.in-Some-family_of.kind (sym c.family_of.ensures ∙ c.in-Some-family_of.is) fits b.new.out b.result b.ensures (keeps t b.ensures.2))

@@ -7,7 +7,7 @@ use Rattle.nl_attr.specs.Shape.{shape_of}
 use Rattle.nl_attr.specs.Outcomes.{IfLayout}
 use Rattle.nl_attr.specs.Heads.{IsFirstFault}
 use Rattle.nl_route.specs.Body.{attrs_of}
-use Rattle.nl_route.proofs.family.Family.read_body_ordered.Goals as goal
+use Rattle.nl_route.proofs.object.Object.read_body_ordered.Goals as goal
 
 -- what holds of a refusal holds of the same one of something else
 same_refusal : {X Y E : Type 0} (Is : X → Y → Type 0) (P : E → Type 0) (r : Result X E) (s : Result Y E) →

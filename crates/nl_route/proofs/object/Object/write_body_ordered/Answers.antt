@@ -6,7 +6,7 @@ use Rattle.nl_attr.proofs.Lemmas.Writes.{Judges, judged, writes}
 use Rattle.nl_attr.proofs.Lemmas.Writing.{written_fits}
 use Rattle.nl_route.specs.Body.{body_written}
 use Rattle.nl_route.proofs.Written.{head_length, body_is}
-use Rattle.nl_route.proofs.family.Family.write_body_ordered.Goals as goal
+use Rattle.nl_route.proofs.object.Object.write_body_ordered.Goals as goal
 
 pub returns : goal.returns
 returns g c =

@@ -7,20 +7,20 @@ use Rattle.nl_attr.proofs.Lemmas.Fronts.{rest_so}
 use Rattle.nl_route.specs.Families.{context_of, head_size}
 use Rattle.nl_frame.proofs.Fronts.{whole_bound}
 use Rattle.nl_frame.proofs.Tapes.{region_taped}
-use Rattle.nl_frame.proofs.taping.tape_family.Goals as goal
+use Rattle.nl_frame.proofs.taping.tape_object.Goals as goal
 
 pub returns-clause-head : goal.returns-clause-head
 returns-clause-head c =
     let a = c.args in
     let S = shape_of a.order a.depth in
-    let start = rest_so (context_of a.group) 0 a.place a.payload.now c.row-row.result.head_size (head_size a.group) c.row-row.ensures.size in
+    let start = rest_so (context_of a.family) 0 a.place a.payload.now c.row-row.result.head_size (head_size a.family) c.row-row.ensures.size in
     (subst (λ (h : Head). IsTaped S h a.count a.out.now c.tape_list.new.out c.tape_list.result) start (rw (c.row-row.ensures.context) at c.tape_list.ensures.taped)).head
 
 pub returns-clause-taped : goal.returns-clause-taped
 returns-clause-taped c =
     let a = c.args in
     let S = shape_of a.order a.depth in
-    let start = rest_so (context_of a.group) 0 a.place a.payload.now c.row-row.result.head_size (head_size a.group) c.row-row.ensures.size in
+    let start = rest_so (context_of a.family) 0 a.place a.payload.now c.row-row.result.head_size (head_size a.family) c.row-row.ensures.size in
     region_taped S _ a.count a.out.now _ c.tape_list.result (subst (λ (h : Head). IsTaped S h a.count a.out.now c.tape_list.new.out c.tape_list.result) start (rw (c.row-row.ensures.context) at c.tape_list.ensures.taped))
 
 -- a level more for each, above none
