@@ -1,7 +1,7 @@
 use Rattle.std.proofs.Common.{append_assoc}
 use Rattle.std.proofs.lemmas.Result.{IfOk-equal}
 use Rattle.rtnl.specs.Messages.{body_text}
-use Rattle.rtnl.proofs.text.families.FamilyShown.push.Goals as goal
+use Rattle.rtnl.proofs.text.families.ObjectShown.push.Goals as goal
 
 pub returns : goal.returns
 unfolding body_text

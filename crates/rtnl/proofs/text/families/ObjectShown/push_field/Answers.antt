@@ -7,7 +7,7 @@ use Rattle.rtnl.specs.Json.{Field, ◌⊕◌, array, fields_tokens}
 use Rattle.rtnl.specs.Objects.{attrs_json, family_field, head_fields}
 use Rattle.rtnl.proofs.Json.{object_field, then_fields}
 use Rattle.rtnl.proofs.Unescaped.{unescaped_family}
-use Rattle.rtnl.proofs.text.families.FamilyShown.push_field.Goals as goal
+use Rattle.rtnl.proofs.text.families.ObjectShown.push_field.Goals as goal
 
 pub key-requires : goal.key-requires
 key-requires g c = rw c.row.ensures.name (unescaped_family c.family.result)
