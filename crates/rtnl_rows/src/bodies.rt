@@ -11,7 +11,7 @@ use crate::trees::{say_attrs, say_hops};
 use nl_attr::{Depth, FARTHEST_END, LONGEST_REGION, ListError, Order, Tally, WriteError};
 use nl_frame::Body;
 use nl_route::{
-    Addr, AddrHead, Family, Family, Head, Link, LinkHead, Neigh, NeighHead, Route, RouteHead, Rule,
+    Addr, AddrHead, Family, Head, Link, LinkHead, Neigh, NeighHead, Object, Route, RouteHead, Rule,
     RuleHead, match_object,
 };
 use nl_table::Entry;
