@@ -9,7 +9,7 @@ import os
 import re
 import subprocess
 import sys
-from typing import Dict, Iterator, List, Tuple
+from typing import Dict, Iterator, List, NamedTuple, Optional, Tuple
 
 sys.dont_write_bytecode = True
 sys.path.insert(0, f"{os.path.dirname(os.path.realpath(__file__))}/../record")
@@ -48,6 +48,15 @@ STRUCTS = "nlmsghdr rtnexthop ifinfomsg ifaddrmsg rtmsg ndmsg fib_rule_hdr".spli
 FIELD = re.compile(r'\("(\w+)", (\d), ')
 
 
+class Attribute(NamedTuple):
+    """An attribute with a name, and the style of its payload, if printed text has the name."""
+
+    context: str
+    number: int
+    name: str
+    style: Optional[str]
+
+
 def further() -> Dict[str, List[Tuple[int, str]]]:
     """The tables of names that printed text leaves out."""
     found: Dict[str, List[Tuple[int, str]]] = {}
@@ -59,13 +68,22 @@ def further() -> Dict[str, List[Tuple[int, str]]]:
     return found
 
 
-def attributes() -> Iterator[Tuple[str, str, str]]:
-    """The name of each attribute, what it is in the headers, and that they are older than it."""
+def attributes() -> Iterator[Attribute]:
+    """Each attribute that has a name."""
     others = further()
-    for context, (prefix, table) in CONTEXTS.items():
-        rows = [(number, name) for number, (name, _) in reference.ATTRIBUTES[context].items()]
-        for number, name in rows + others.get(table, []):
-            yield f"{prefix}_{name}", f"{prefix}_{name} == {number}", f"__{prefix}_MAX <= {number}"
+    for context, (_, table) in CONTEXTS.items():
+        for number, (name, style) in reference.ATTRIBUTES[context].items():
+            yield Attribute(context, number, name, style)
+        for number, name in others.get(table, []):
+            yield Attribute(context, number, name, None)
+
+
+def numbered() -> Iterator[Tuple[str, str, str]]:
+    """The name of each attribute, what it is in the headers, and that they are older than it."""
+    for it in attributes():
+        prefix = CONTEXTS[it.context][0]
+        name = f"{prefix}_{it.name}"
+        yield name, f"{name} == {it.number}", f"__{prefix}_MAX <= {it.number}"
 
 
 def structs() -> Iterator[Tuple[str, str, str]]:
@@ -108,7 +126,7 @@ def refused(says: List[str]) -> List[int]:
 
 
 def main() -> int:
-    cases = [*attributes(), *((name, f"{name} == {number}", "0") for number, name in TYPES.items())]
+    cases = [*numbered(), *((name, f"{name} == {number}", "0") for number, name in TYPES.items())]
     cases += ((name, f"{says} == {reference.FIXED[name]}", "0") for name, says in FIXED.items())
     cases += [*structs(), *notified()]
     others = [cases[at] for at in refused([holds for _, holds, _ in cases])]

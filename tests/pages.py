@@ -9,7 +9,7 @@ function in a table of README.md or of SECURITY.md has the clauses that stand be
 of SECURITY.md stand in docs/THEOREMS.md. Each block of Rattle, C, Go,
 Python or Rust on README.md, docs/LIBRARIES.md and docs/C.md stands in crates/rtnl_uses, apart from
 its contracts, or in examples/. The tables of calls and of codes on docs/C.md have those of
-include/rtnlc.h.
+include/rtnlc.h, and those of attributes and of bits in docs/FORMAT.md the names of crates/*/specs.
 
 Then each of these is tried: a fault is planted in a page or in the code, and must be found. The
 last line is 'N passed, M failed', and the status is 1 where a case failed.
@@ -22,6 +22,8 @@ from typing import Callable, Dict, Iterator, List, NamedTuple, Set, Tuple
 
 sys.dont_write_bytecode = True
 sys.path.insert(0, f"{os.path.dirname(os.path.realpath(__file__))}/../launch")
+import headers
+import reference
 from contracts import Contracts, Texts
 from crates import ROOT, Crates, listed
 
@@ -289,6 +291,47 @@ def lost_codes(repository: Repository, page: str) -> Iterator[str]:
     yield from (f"{' = '.join(it)} is not in the header" for it in sorted(shown - declared))
 
 
+# The names by number.
+
+# How docs/FORMAT.md says where an attribute stands, and in which form its payload is printed.
+STANDS = {
+    "Link": "a link", "LinkInfo": "`LINKINFO` of a link", "Addr": "an address", "Route": "a route",
+    "Metrics": "`METRICS` of a route", "Neigh": "a neighbour", "Rule": "a rule",
+}
+FORMS = {
+    "U8": "`u8`", "U16": "`u16`", "U32": "`u32`", "NetworkU16": "`u16`, in network order",
+    "Text": "`text`", "Address": "`ipv4` or `ipv6`", "Hex": "`hex`", None: "-",
+}
+
+
+def attribute_row(it: headers.Attribute) -> str:
+    """The row of an attribute. One that holds others is printed as such, whatever its style."""
+    holds = reference.content(it.context, it.number, False)
+    form = FORMS[it.style] if holds == "bytes" else "`hops`" if holds == "hops" else "`list`"
+    stands = f"{STANDS[it.context]}, `{headers.CONTEXTS[it.context][0]}_`"
+    return f"| {stands} | {it.number} | `{it.name}` | {form} |"
+
+
+def bits_row(table: str) -> str:
+    """The row of a table of bits, which may begin with those of all messages."""
+    rows, common = reference.BITS[table], reference.BITS["message_flags"]
+    front = ""
+    if rows != common and rows[:len(common)] == common:
+        rows, front = rows[len(common):], "message flags, and "
+    own = ", ".join(f"`{name}` {bit:#x}" for name, bit in rows)
+    return f"| {table.replace('_', ' ')} | {front}{own} |"
+
+
+def lost_names(repository: Repository, page: str) -> Iterator[str]:
+    """The rows of names that the page lacks, by the definitions, and those that it made up."""
+    defined = {*map(attribute_row, headers.attributes()), *map(bits_row, reference.BITS)}
+    tables = ("Attributes by number", "Bits by name")
+    shown = {row for name, text in sections(repository.texts[page]) if name in tables
+             for row in ROW.findall(text)[2:]}
+    yield from (f"there is no row {it}" for it in sorted(defined - shown))
+    yield from (f"no definition has {it}" for it in sorted(shown - defined))
+
+
 # The cases.
 
 Check = Callable[[Repository, str], Iterator[str]]
@@ -302,6 +345,7 @@ TESTS: List[Tuple[str, Check, Callable[[Repository], List[str]]]] = [
     ("the code on", strange_blocks, lambda _: SHOWING),
     ("the calls on", lost_calls, lambda _: [C]),
     ("the codes on", lost_codes, lambda _: [C]),
+    ("the names on", lost_names, lambda _: [FORMAT]),
 ]
 
 
@@ -400,6 +444,17 @@ FAULTS: Dict[Check, List[Fault]] = {
         Fault("a code that is missing", C, C, "`RTNLC_TOTAL`", "it"),
         Fault("a code that was removed", C, HEADER, "RTNLC_TOTAL = 7,", ""),
         Fault("a code of another number", C, HEADER, "RTNLC_TOTAL = 7,", "RTNLC_TOTAL = 14,"),
+    ],
+    lost_names: [
+        Fault("an attribute of another number", FORMAT, FORMAT, "13 | `TXQLEN`", "11 | `TXQLEN`"),
+        Fault("an attribute of another name", FORMAT, FORMAT, "`TXQLEN`", "`TX_QUEUE`"),
+        Fault("an attribute of another form", FORMAT, FORMAT, "`TXQLEN` | `u32`",
+              "`TXQLEN` | `u16`"),
+        Fault("a name that the text has", FORMAT, FORMAT, "`STATS` | -", "`STATS` | `hex`"),
+        Fault("a container as bytes", FORMAT, FORMAT, "`METRICS` | `list`", "`METRICS` | `hex`"),
+        Fault("an attribute that is missing", FORMAT, FORMAT,
+              "| a link, `IFLA_` | 13 | `TXQLEN` | `u32` |\n", ""),
+        Fault("a bit of another number", FORMAT, FORMAT, "`LOWER_UP` 0x10000", "`LOWER_UP` 0x1"),
     ],
 }
 
