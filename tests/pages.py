@@ -3,7 +3,8 @@
 
 Each relative link of each .md file leads to a file of the repository, and its fragment to a
 heading there, by the anchors that GitHub makes. A link to the glossary of docs/FORMAT.md is of a
-word that stands there, and a page links a word once. Each claim on docs/PROOF.md under the name of
+word that stands there, and a page links a word once: where it first uses it, if the word is one of
+those that only the pages use. Each claim on docs/PROOF.md under the name of
 a crate begins with functions of that crate, and has clauses of their contracts in brackets. Each
 function in a table of README.md or of SECURITY.md has the clauses that stand behind it, and those
 of SECURITY.md stand in docs/THEOREMS.md. Each block of Rattle, C, Go,
@@ -28,7 +29,7 @@ from contracts import Contracts, Texts
 from crates import ROOT, Crates, listed
 
 README, PROOF, THEOREMS = "README.md", "docs/PROOF.md", "docs/THEOREMS.md"
-SECURITY = "SECURITY.md"
+SECURITY, CHANGELOG = "SECURITY.md", "CHANGELOG.md"
 FORMAT, LIBRARIES, C = "docs/FORMAT.md", "docs/LIBRARIES.md", "docs/C.md"
 HEADER = "include/rtnlc.h"
 GLOSSARY = "words"
@@ -43,6 +44,9 @@ CODE = (".rt", ".antt", ".c", ".h", ".go", ".py", ".rs")
 FENCED = re.compile(r"^```.*?^```$", re.M | re.S)
 SPAN = re.compile(r"(`+)(?!`)(?:(?!\n\n).)*?(?<!`)\1(?!`)", re.S)
 LINK = re.compile(r"\[([^\[\]]*)\]\(([^()\s]*)\)|^\[([^\[\]]*)\]: *(\S+)", re.M)
+# A word of prose, or a link; and what is no prose of the page's own.
+USE = re.compile(r"\[([^\[\]]*)\]\(([^()\s]*)\)|[A-Za-z]+(?:-[A-Za-z]+)*")
+QUOTED = re.compile(r"^(?:#|>).*$", re.M)
 HEADING = re.compile(r"^(#+) +(.*?)(?: +#+)?$", re.M)
 CLAIM = re.compile(r"^- .*(?:\n  .*)*", re.M)
 NAME = re.compile(r"`([^`]+)`")
@@ -73,6 +77,10 @@ class Repository(NamedTuple):
 
     def pages(self) -> List[str]:
         return sorted(it for it in self.texts if it.endswith(".md"))
+
+    def using(self) -> List[str]:
+        """The pages that link words to the glossary. Packages have CHANGELOG.md as a plain text."""
+        return [it for it in self.pages() if it not in (FORMAT, CHANGELOG)]
 
     def promising(self) -> List[str]:
         """The crates with definitions of their own, on each of which there are claims."""
@@ -116,15 +124,18 @@ def anchors(text: str) -> Set[str]:
     return set(found)
 
 
+def link_of(page: str, shown: str, target: str) -> Link:
+    path, _, fragment = target.partition("#")
+    to = posixpath.normpath(posixpath.join(posixpath.dirname(page), path)) if path else page
+    return Link(" ".join(shown.split()), to if target else "nowhere", fragment)
+
+
 def links(page: str, text: str) -> Iterator[Link]:
     """The links of a page that lead to this repository."""
     for found in LINK.finditer(prose(text)):
         shown, target = (found[1], found[2]) if found[3] is None else (found[3], found[4])
-        if re.match(r"[a-z][a-z0-9+.-]*:", target):
-            continue
-        path, _, fragment = target.partition("#")
-        to = posixpath.normpath(posixpath.join(posixpath.dirname(page), path)) if path else page
-        yield Link(" ".join(shown.split()), to if target else "nowhere", fragment)
+        if not re.match(r"[a-z][a-z0-9+.-]*:", target):
+            yield link_of(page, shown, target)
 
 
 def lost_links(repository: Repository, page: str) -> Iterator[str]:
@@ -140,15 +151,35 @@ def lost_links(repository: Repository, page: str) -> Iterator[str]:
 # The glossary.
 
 
-def glossary(text: str) -> List[Set[str]]:
-    """The words of the glossary: those of a row are forms of one."""
-    section = re.search(r"^## Words$(.*?)^## ", text, re.M | re.S)
-    rows = re.findall(r"^\| ([^|]*) \|", section[1], re.M) if section else []
+def words_in(tables: str) -> List[Set[str]]:
+    """The words of the glossary's tables: those of a row are forms of one."""
+    rows = re.findall(r"^\| ([^|]*) \|", tables, re.M)
     return [set(row.split(", ")) for row in rows if row != "word"]
+
+
+def glossary(text: str) -> List[Set[str]]:
+    """All words of the glossary."""
+    section = re.search(r"^## Words$(.*?)^## ", text, re.M | re.S)
+    return words_in(section[1]) if section else []
+
+
+def own_words(text: str) -> List[Set[str]]:
+    """The words of the glossary that only the pages use: those of its first table."""
+    return words_in("".join(body for name, body in sections(text) if name == "Words"))
 
 
 def singular(word: str) -> str:
     return re.sub(r"ies$", "y", word) if word.endswith("ies") else re.sub(r"s$", "", word)
+
+
+def rows_of(text: str, words: List[Set[str]]) -> Set[int]:
+    """The rows of words that a text is a form of."""
+    forms = {text.lower(), singular(text.lower())}
+    return {at for at, row in enumerate(words) if forms & row}
+
+
+def is_of_glossary(link: Link) -> bool:
+    return (link.to, link.fragment) == (FORMAT, GLOSSARY) and link.text != "glossary"
 
 
 def lost_words(repository: Repository, page: str) -> Iterator[str]:
@@ -156,15 +187,29 @@ def lost_words(repository: Repository, page: str) -> Iterator[str]:
     words = glossary(repository.texts[FORMAT])
     seen: Set[int] = set()
     for link in links(page, repository.texts[page]):
-        if (link.to, link.fragment) != (FORMAT, GLOSSARY) or link.text == "glossary":
-            continue
-        text = link.text.lower()
-        rows = {at for at, forms in enumerate(words) if {text, singular(text)} & forms}
-        if not rows:
-            yield f"[{link.text}] is no word of the glossary"
-        elif seen & rows:
-            yield f"[{link.text}] is linked twice"
-        seen |= rows
+        if is_of_glossary(link):
+            rows = rows_of(link.text, words)
+            if not rows:
+                yield f"[{link.text}] is no word of the glossary"
+            elif seen & rows:
+                yield f"[{link.text}] is linked twice"
+            seen |= rows
+
+
+def unlinked_words(repository: Repository, page: str) -> Iterator[str]:
+    """The words of the pages' own that a page first uses without a link to the glossary. Headings,
+    quotations and the texts of other links are no uses."""
+    words = own_words(repository.texts[FORMAT])
+    if not words:
+        yield "the glossary has no words"
+    seen: Set[int] = set()
+    for found in USE.finditer(QUOTED.sub(" ", prose(repository.texts[page]))):
+        link = link_of(page, found[1], found[2]) if found[2] else None
+        rows = rows_of(found[0], words) if link is None else rows_of(link.text, words)
+        if link is None and rows - seen:
+            yield f"{found[0]} is first used without a link to the glossary"
+        if link is None or is_of_glossary(link):
+            seen |= rows
 
 
 # The claims.
@@ -339,6 +384,7 @@ Check = Callable[[Repository, str], Iterator[str]]
 TESTS: List[Tuple[str, Check, Callable[[Repository], List[str]]]] = [
     ("the links of", lost_links, Repository.pages),
     ("words of the glossary on", lost_words, Repository.pages),
+    ("first uses of words on", unlinked_words, Repository.using),
     ("the claims on", wrong_claims, Repository.promising),
     ("the clauses on", wrong_citations, lambda _: [README, SECURITY]),
     ("the theorems on", lost_theorems, lambda _: [SECURITY]),
@@ -377,6 +423,15 @@ FAULTS: Dict[Check, List[Fault]] = {
         Fault("a word that the glossary lost", PROOF, FORMAT, "| canonical |", "| canonic |"),
         Fault("a word that the glossary never had", PROOF, PROOF, "[canonical](", "[canon]("),
         Fault("a word that is linked twice", PROOF, PROOF, "[canonical](", "[faults]("),
+    ],
+    unlinked_words: [
+        Fault("a word without a link", PROOF, PROOF, "[tape](FORMAT.md#words)", "tape"),
+        Fault("a word before its link", PROOF, PROOF, "# What is proved, and what is not\n",
+              "# What is proved, and what is not\n\nTapes.\n"),
+        Fault("a word in a table before its link", PROOF, PROOF,
+              "# What is proved, and what is not\n", "# What is proved\n\n| a tape |\n"),
+        Fault("a word that is new", PROOF, FORMAT, "\n| canonical |", "\n| page | |\n| canonical |"),
+        Fault("a glossary without words", PROOF, FORMAT, "\n## Words\n", "\n## Glossary\n"),
     ],
     wrong_claims: [
         Fault("a clause that was renamed", "nl_frame", "crates/nl_frame/src/canonical.rt",
