@@ -11,6 +11,8 @@ of SECURITY.md stand in docs/THEOREMS.md. Each block of Rattle, C, Go,
 Python or Rust on README.md, docs/LIBRARIES.md and docs/C.md stands in crates/rtnl_uses, apart from
 its contracts, or in examples/. The tables of calls and of codes on docs/C.md have those of
 include/rtnlc.h, and those of attributes and of bits in docs/FORMAT.md the names of crates/*/specs.
+docs/ARCHITECTURE.md begins with a map of all crates and folders, and lists the files that name the
+family of rules.
 
 Then each of these is tried: a fault is planted in a page or in the code, and must be found. The
 last line is 'N passed, M failed', and the status is 1 where a case failed.
@@ -29,6 +31,7 @@ from contracts import Contracts, Texts
 from crates import ROOT, Crates, listed
 
 README, PROOF, THEOREMS = "README.md", "docs/PROOF.md", "docs/THEOREMS.md"
+ARCHITECTURE = "docs/ARCHITECTURE.md"
 SECURITY, CHANGELOG = "SECURITY.md", "CHANGELOG.md"
 FORMAT, LIBRARIES, C = "docs/FORMAT.md", "docs/LIBRARIES.md", "docs/C.md"
 HEADER = "include/rtnlc.h"
@@ -40,6 +43,7 @@ SHOWN = {
     "rust": "crates/rtnl_uses/src/",
 }
 CODE = (".rt", ".antt", ".c", ".h", ".go", ".py", ".rs")
+CRATE = ("src", "specs", "proofs")
 
 FENCED = re.compile(r"^```.*?^```$", re.M | re.S)
 SPAN = re.compile(r"(`+)(?!`)(?:(?!\n\n).)*?(?<!`)\1(?!`)", re.S)
@@ -56,6 +60,9 @@ NAMES = re.compile(r"`[a-z_]+`(?:, `[a-z_]+`)*")
 ROW = re.compile(r"^\|.*\|$", re.M)
 CITED = re.compile(r"`([\w:]+)`: (`[a-z_]+`(?:, `[a-z_]+`)*)")
 BLOCK = re.compile(r"^```(\w+)\n(.*?)^```$", re.M | re.S)
+# What names the family of rules in the code of a crate, which has no comment then.
+OF_RULES = re.compile(r"(?<!borrow\.)\bRule(?:Head|Entry)?\b|\bmod rule\b")
+COMMENT = re.compile(r"^\s*(?://|--).*$", re.M)
 # A contract, from the line behind a function's to the one before its body.
 CONTRACT = re.compile(r"(?:\n    (?:requires|ensures|//|    ).*)+\n\{$", re.M)
 
@@ -377,6 +384,53 @@ def lost_names(repository: Repository, page: str) -> Iterator[str]:
     yield from (f"no definition has {it}" for it in sorted(shown - defined))
 
 
+# The map, and the room of a family.
+
+# The lines of a screen.
+SCREEN = 45
+
+
+def lost_in_map(repository: Repository, page: str) -> Iterator[str]:
+    """What is wrong with the map, which is all of the page before its first section."""
+    shown = repository.texts[page].partition("\n## ")[0]
+    named = {it.rstrip("/") for it in NAME.findall(FENCED.sub(" ", shown))}
+    folders = {it.partition("/")[0] for it in repository.files if "/" in it and it[0] != "."}
+    there = folders | set(repository.crates)
+    yield from (f"{it} is not on the map" for it in sorted(there - named))
+    for row in ROW.findall(shown)[2:]:
+        for name in NAME.findall(row.split("|")[1]):
+            if name.rstrip("/") not in there:
+                yield f"{name} is not there"
+    if len(shown.splitlines()) > SCREEN:
+        yield f"it has more than {SCREEN} lines"
+
+
+def room(table: str) -> List[List[str]]:
+    """The files that a table lists, by crates: a family's own, and those that all share."""
+    found: List[List[str]] = [[], []]
+    for row in ROW.findall(table)[2:]:
+        crate, *cells = (NAME.findall(it) for it in row.split("|")[1:-1])
+        for files, cell in zip(found, cells):
+            files += [f"crates/{crate[0]}/{it}".rstrip("/") for it in cell]
+    return found
+
+
+def wrong_room(repository: Repository, page: str) -> Iterator[str]:
+    """What is wrong with the files of a family on the page, which are those that name it."""
+    section = dict(sections(repository.texts[page])).get("The room of a family", "")
+    listed_files = room(section)
+    counts = re.search(r"takes (\d+) files.*? in (\d+) files", section, re.S)
+    if not counts or [int(it) for it in counts.groups()] != [len(it) for it in listed_files]:
+        yield f"they are {' and '.join(str(len(it)) for it in listed_files)}"
+    paths = [path for files in listed_files for path in files]
+    yield from (f"{it} is not there" for it in paths if it not in repository.files)
+    parts = [f"crates/{it}/{part}/" for it in repository.promising() for part in CRATE]
+    for path, text in sorted(repository.texts.items()):
+        if path.startswith(tuple(parts)) and OF_RULES.search(COMMENT.sub("", text)):
+            if not any(path == it or path.startswith(f"{it}/") for it in paths):
+                yield f"{path} names the family"
+
+
 # The cases.
 
 Check = Callable[[Repository, str], Iterator[str]]
@@ -392,6 +446,8 @@ TESTS: List[Tuple[str, Check, Callable[[Repository], List[str]]]] = [
     ("the calls on", lost_calls, lambda _: [C]),
     ("the codes on", lost_codes, lambda _: [C]),
     ("the names on", lost_names, lambda _: [FORMAT]),
+    ("the map on", lost_in_map, lambda _: [ARCHITECTURE]),
+    ("the files of a family on", wrong_room, lambda _: [ARCHITECTURE]),
 ]
 
 
@@ -430,7 +486,7 @@ FAULTS: Dict[Check, List[Fault]] = {
               "# What is proved, and what is not\n\nTapes.\n"),
         Fault("a word in a table before its link", PROOF, PROOF,
               "# What is proved, and what is not\n", "# What is proved\n\n| a tape |\n"),
-        Fault("a word that is new", PROOF, FORMAT, "\n| canonical |", "\n| page | |\n| canonical |"),
+        Fault("a word that is new", PROOF, FORMAT, "\n| canonical |", "\n| page | |\n| canon |"),
         Fault("a glossary without words", PROOF, FORMAT, "\n## Words\n", "\n## Glossary\n"),
     ],
     wrong_claims: [
@@ -510,6 +566,24 @@ FAULTS: Dict[Check, List[Fault]] = {
         Fault("an attribute that is missing", FORMAT, FORMAT,
               "| a link, `IFLA_` | 13 | `TXQLEN` | `u32` |\n", ""),
         Fault("a bit of another number", FORMAT, FORMAT, "`LOWER_UP` 0x10000", "`LOWER_UP` 0x1"),
+    ],
+    lost_in_map: [
+        Fault("a crate that the map lacks", ARCHITECTURE, ARCHITECTURE, "| `nl_table` |", "| |"),
+        Fault("a folder that the map lacks", ARCHITECTURE, ARCHITECTURE, "| `share/` |", "| |"),
+        Fault("a folder that there isn't", ARCHITECTURE, ARCHITECTURE, "| `share/` |",
+              "| `share/`, `shared/` |"),
+        Fault("a map that is too long", ARCHITECTURE, ARCHITECTURE, "| `share/` |",
+              "| | |\n" * 20 + "| `share/` |"),
+    ],
+    wrong_room: [
+        Fault("a file of a family that there isn't", ARCHITECTURE, ARCHITECTURE, "`src/tree.rt`",
+              "`src/trees.rt`"),
+        Fault("a file of a family that is not listed", ARCHITECTURE, ARCHITECTURE,
+              "`src/tree.rt`, ", ""),
+        Fault("a file that came to name a family", ARCHITECTURE, "crates/nl_frame/src/limits.rt",
+              "pub struct Limits", "pub struct Rule"),
+        Fault("another number of files", ARCHITECTURE, ARCHITECTURE, "takes 10 files",
+              "takes 9 files"),
     ],
 }
 
