@@ -1,37 +1,36 @@
 #!/usr/bin/env python3
 """Holds what the built program prints with `show --bytes`, as text and as JSON, against
-reference_bytes.py and against what `show` and `check` print of the same datagrams, in both byte
-orders: of each recording, whole and each of its messages alone; of 20,000 mutations of messages of
-the recordings, half of them in each order; of generated ones, changed and cut ones, and hostile
-ones. The last line is 'N passed, M failed', and the status is 1 where a case failed.
+reference_bytes.py, and what `show` and `check` print of the same datagrams against
+reference_lines.py, which share one reading. That is in both byte orders: of each recording, whole
+and each of its messages alone; of 20,000 mutations of messages of the recordings, half of them in
+each order; of generated ones, changed and cut ones, and hostile ones. The last line is
+'N passed, M failed', and the status is 1 where a case failed.
 """
+import functools
 import itertools
 import json
 import random
 import re
-import subprocess
 import sys
-from concurrent.futures import ProcessPoolExecutor
 
 sys.dont_write_bytecode = True
 import compare
-import forms
+import datagrams
 import mutations
 import reference
 import reference_bytes
-import schema
+from compare import difference, ran
+from datagrams import ORDERS
 
 # So many mutations of each recording, of datagrams of up to so many of its messages.
 MUTATIONS, TOGETHER = 1000, 3
-# Of the groups of compare.py the first, which is of the recordings, is taken whole, and of the
-# next each so many-th datagram; those behind them are mutations of whole recordings.
-GROUPS, STEP = 6, 8
+# The first group of datagrams, which is of the recordings, is taken whole, and of the next each
+# so many-th.
+STEP = 8
 BLOCK = re.compile(r"^datagram \d+ bytes \d+$", re.M)
 ROW = re.compile(r"^ *(\d+) ((?: [0-9a-f]{2}){1,16})(?:( {2,})(\S.*))?$", re.M)
-FAULT = re.compile(r'^\{"datagram":(\d+),"offset":(\d+),.*"fault":"([a-z ]+)"\}$', re.M)
 FAULTY = re.compile(r"!! (.*): ([a-z ]+?)(?: at \d+, \d+ bytes left)?")
 FLAGS = "NESTED", "NET_BYTEORDER"
-REFUSED = re.compile(r"^datagram (\d+) refused ([a-z ]+?)(?: at (\d+))?$", re.M)
 
 
 # The datagrams.
@@ -40,7 +39,7 @@ REFUSED = re.compile(r"^datagram (\d+) refused ([a-z ]+?)(?: at (\d+))?$", re.M)
 def mutated(order):
     """The name of each recording, and mutations of its messages, the same in each run."""
     choose = random.Random(f"bytes {order}")
-    found = list(compare.recordings(order))
+    found = list(datagrams.recordings(order))
     others = [text for *_, alone in found for text in alone]
     for file, _, _, alone in found:
         few = [b"".join(alone[at : at + TOGETHER]) for at in range(0, len(alone), TOGETHER)]
@@ -51,97 +50,18 @@ def loosened(order):
     """Messages whose paddings hold anything, or are missing."""
     choose = random.Random(f"loosened {order}")
     for _ in range(500):
-        found = [compare.message(choose, order) for _ in range(choose.randrange(1, 4))]
-        yield reference.written([compare.loosened(choose, it, order) for it in found], order)
+        found = [datagrams.message(choose, order) for _ in range(choose.randrange(1, 4))]
+        yield reference.written([datagrams.loosened(choose, it, order) for it in found], order)
 
 
 def groups(order):
     """The name of each group, its datagrams, and whether it is a short one."""
-    for number, (name, datagrams) in enumerate(itertools.islice(compare.groups(order), GROUPS)):
-        yield name, datagrams[:: STEP if number else 1], True
+    for number, (name, found) in enumerate(datagrams.groups(order)):
+        yield name, found[:: STEP if number else 1], True
     yield "loosened", list(loosened(order)), True
-    yield from ((name, datagrams, True) for name, datagrams in forms.hostile(order))
-    for file, datagrams in mutated(order):
-        yield f"mutated {file}", datagrams, False
-
-
-# What `show` prints of an accepted datagram, made of its parts alone.
-
-WORDS = {
-    **{"ifi_family": "link family", "ifa_family": "addr family", "rtm_family": "route family"},
-    **{"ndm_family": "neigh family", "family": "rule family", "rtgen_family": "get family"},
-    **{"ifa_prefixlen": "prefix", "ndm_ifindex": "index", "error": "error code"},
-    **{"status": "done status", "nlmsg_len": "answers len", "nlmsg_type": "type"},
-    **{"nlmsg_flags": "flags", "nlmsg_seq": "seq", "nlmsg_pid": "port", "rtnh_flags": "hop flags"},
-    **{"rtnh_hops": "hops", "rtnh_ifindex": "index"},
-}
-# The names that `show` prints, by those of the kernel.
-SHORT = {
-    reference_bytes.PREFIXES[context] + name: name
-    for context, rows in reference.ATTRIBUTES.items()
-    for name, _ in rows.values()
-}
-CONTAINERS = {"IFLA_LINKINFO": "list", "RTA_METRICS": "list", "RTA_MULTIPATH": "hops"}
-
-
-def said(found):
-    """The words and the values of parts; of an answered header no names are printed."""
-    for part in found:
-        if part.value is not None:
-            word = WORDS.get(part.name) or re.sub("^(ifi|ifa|rtm|ndm)_", "", part.name)
-            is_answered = part.name in ("nlmsg_type", "nlmsg_flags")
-            yield f"{word} {part.value.split()[0] if is_answered else part.value}"
-
-
-def message_lines(data, head, body):
-    """The lines of a message and of its body, but for attributes, by the parts of both."""
-    _, kind, flags, sequence, port = (part.value for part in head)
-    number, *name = kind.split()
-    name = re.sub("^(rtm|nlmsg)_", "", name[0].lower()) if name else "other"
-    yield f"message {number} {name} flags {flags} seq {sequence} port {port}"
-    values = " ".join(said(body))
-    sort = reference_bytes.SORTS.get(int(number), "bytes")
-    rest = "".join(data[it.offset : it.end].hex() for it in body if it.name in ("tail", "payload"))
-    if sort == "bytes":
-        yield f"  bytes {rest or '-'}"
-    elif sort in reference.HEADS:
-        yield f"  {values}"
-    else:
-        yield f"  {values or 'done status 0'} tail {rest or '-'}"
-
-
-def items(found, at):
-    """How many items the container has whose head is this part."""
-    heads = (it for it in found[at + 1 :] if it.name in ("rta_len", "rtnh_len", "nlmsg_len"))
-    inside = itertools.takewhile(lambda it: it.level > found[at].level, heads)
-    return sum(it.level == found[at].level + 1 for it in inside)
-
-
-def attribute_line(data, found, at):
-    """The line of the attribute whose head is this part."""
-    number, *words = found[at + 1].value.split()
-    name = next((word for word in words if word not in FLAGS), None)
-    flags = [word for word in words if word != name]
-    shown = ",".join(word.lower().removesuffix("_byteorder") for word in flags) or "-"
-    front = f"{' ' * found[at].indent}attr {number} {SHORT.get(name, '-')} {shown}"
-    if name in CONTAINERS or "NESTED" in flags:
-        return f"{front} {CONTAINERS.get(name, 'list')} {items(found, at)}"
-    payload = found[at + 2] if found[at].value != "4" else None
-    value = payload and (payload.value or f"hex {data[payload.offset : payload.end].hex()}")
-    return f"{front} {value or 'hex -'}"
-
-
-def shown_again(number, data, found):
-    """The lines of an accepted datagram."""
-    yield f"datagram {number} bytes {len(data)}"
-    for at, part in enumerate(found):
-        if part.name == "nlmsg_len" and part.indent == 0:
-            body = itertools.takewhile(lambda it: it.indent == 2, found[at + 5 :])
-            yield from message_lines(data, found[at : at + 5], list(body))
-        elif part.name == "rta_len":
-            yield attribute_line(data, found, at)
-        elif part.name == "rtnh_len":
-            yield " " * part.indent + " ".join(said(found[at + 1 : at + 4]))
+    yield from ((name, found, True) for name, found in datagrams.hostile(order))
+    for file, found in mutated(order):
+        yield f"mutated {file}", found, False
 
 
 # What is wrong with what was printed, or nothing.
@@ -158,15 +78,6 @@ def fault_of_bytes(blocks, datagrams):
         if "".join(row[1] for row in rows or ()).replace(" ", "") != (data or b"").hex():
             return f"datagram {number}: other bytes"
     return None
-
-
-def fault_of_lines(wanted, text):
-    """The first line that is another one."""
-    wanted = list(wanted)
-    if text == "".join(f"{line}\n" for line in wanted):
-        return None
-    pairs = itertools.zip_longest([*wanted, ""], text.split("\n"))
-    return "expected %r, found %r" % next(it for it in pairs if it[0] != it[1])
 
 
 def typed(name, value):
@@ -202,32 +113,12 @@ def fault_of_forms(blocks, text):
     return next((f"the text has {row}, JSON {it}" for row, it in pairs if row != it), None)
 
 
-def fault_of_values(text, datagrams, found):
-    """Which line `show` prints otherwise of an accepted datagram than it is made of its parts."""
-    wanted = []
-    for number, (data, parts) in enumerate(zip(datagrams, found), 1):
-        if any(part.fault for part in parts):
-            wanted += [f"datagram {number} bytes {len(data)}", None]
-        else:
-            wanted += shown_again(number, data, parts)
-    printed = text.split("\n")[:-1]
-    printed = [None if line.startswith("refused ") else line for line in printed]
-    pairs = itertools.zip_longest(wanted, printed)
-    return next((f"made {one!r}, found {other!r}" for one, other in pairs if one != other), None)
-
-
-def fault_of_faults(text, checked):
-    """How the faults of the rows are others than the refusals of a check."""
-    rows = [(number, reason, place) for number, place, reason in FAULT.findall(text)]
-    refusals = [(number, why, place or "0") for number, why, place in REFUSED.findall(checked)]
-    pairs = itertools.zip_longest(rows, refusals)
-    return next((f"{row} in place of {it}" for row, it in pairs if row != it), None)
-
-
 def fault_of_schema(allowed, text):
     """Which row the schema doesn't allow, whatever the number of its datagram."""
+    if not allowed:
+        return None
     for row in dict.fromkeys(line.partition(",")[2] for line in text.splitlines()):
-        fault = allowed.fault(json.loads(f'{{"datagram":1,{row}'))
+        fault = allowed["show"].fault(json.loads(f'{{"datagram":1,{row}'))
         if fault:
             return f"{row}: {fault}"
     return None
@@ -236,61 +127,43 @@ def fault_of_schema(allowed, text):
 # The cases.
 
 
-def ran(recording, *arguments):
-    """What the program prints, its status and its errors."""
-    command = [compare.PROGRAM, *arguments]
-    run = subprocess.run(command, input=recording, capture_output=True, text=True)
-    return run.stdout, (run.returncode, run.stderr)
-
-
-def cases(order, allowed, datagrams, is_short):
+def cases(order, lines_schema, found, is_short):
     """The name of each case, and what is wrong in it; a short group has two more."""
-    recording = "".join(f"{data.hex()}\n" for data in datagrams)
-    found = [reference_bytes.parts(data, compare.ORDERS[order]) for data in datagrams]
-    numbered = [(number, *it) for number, it in enumerate(zip(datagrams, found), 1)]
-    by_bytes = "show", "--bytes", "--order", order
-    text, end = ran(recording, *by_bytes)
-    objects, *ends = ran(recording, *by_bytes, "--format", "json")
-    shown, shown_end = ran(recording, "show", "--order", order)
-    checked, checked_end = ran(recording, "check", "--order", order)
+    recording, of = compare.as_lines(found), ORDERS[order]
+    numbered = [(*it, reference_bytes.parts(it[1], of)) for it in enumerate(found, 1)]
+    status = int(any(part.fault for *_, parts in numbered for part in parts))
+
+    def differs(rows, *options):
+        """What is printed with these options, and where it isn't these rows of each datagram."""
+        printed = ran(recording, "show", "--bytes", "--order", order, *options)
+        wanted = "".join(f"{line}\n" for it in numbered for line in rows(*it))
+        return printed[0], difference((wanted, status, ""), printed)
+
+    text, fault = differs(reference_bytes.lines)
+    yield "rows", fault
+    objects, fault = differs(reference_bytes.objects, "--format", "json")
+    yield "rows in JSON", fault
     blocks = [ROW.findall(block) for block in BLOCK.split(text)[1:]]
-    others = [one for one in (*ends, shown_end, checked_end) if one != end]
-    yield "the end", others and f"{end} and {others[0]}"
-    yield "each byte once", fault_of_bytes(blocks, datagrams)
-    lines = (line for it in numbered for line in reference_bytes.lines(*it))
-    yield "rows", fault_of_lines(lines, text)
-    lines = (line for it in numbered for line in reference_bytes.objects(*it))
-    yield "rows in JSON", fault_of_lines(lines, objects)
+    yield "each byte once", fault_of_bytes(blocks, found)
     yield "text and JSON", fault_of_forms(blocks, objects)
-    yield "values", fault_of_values(shown, datagrams, found)
-    yield "faults", fault_of_faults(objects, checked)
+    for command in ("show", "check"):
+        faults = compare.of_each(lines_schema, order, command, recording, found)
+        yield from ((f"{what} of {command}", fault) for what, fault in faults.items())
     if is_short:
-        text, _ = ran(recording, *by_bytes, "--color", "always")
-        lines = (line for it in numbered for line in reference_bytes.lines(*it, has_colour=True))
-        yield "rows in colour", fault_of_lines(lines, text)
-        yield "schema", allowed and fault_of_schema(allowed, objects)
+        in_colour = functools.partial(reference_bytes.lines, has_colour=True)
+        yield "rows in colour", differs(in_colour, "--color", "always")[1]
+        yield "schema", fault_of_schema(lines_schema.allowed, objects)
 
 
 def of_order(order, has_schema):
-    """How many cases of an order passed, and those that failed."""
-    passed, failed, allowed = 0, [], schema.Allowed("show") if has_schema else None
-    for name, *group in groups(compare.ORDERS[order]):
-        for case, fault in cases(order, allowed, *group):
-            passed += not fault
-            if fault:
-                failed.append(f"FAILED {case} of {name} datagrams, {order}: {fault}"[:1000])
-    return passed, failed
-
-
-def main():
-    has_schema = itertools.repeat(schema.has_libraries())
-    with ProcessPoolExecutor(len(compare.ORDERS)) as lanes:
-        results = list(lanes.map(of_order, compare.ORDERS, has_schema))
-    passed = sum(count for count, _ in results)
-    failed = [line for _, lines in results for line in lines]
-    print(*failed, f"{passed} passed, {len(failed)} failed", sep="\n")
-    return 1 if failed else 0
+    """The name of each case of an order, and what is wrong in it."""
+    schema = compare.Schema(has_schema)
+    return [
+        (f"{case} of {name} datagrams, {order}", fault and f"{fault:.1000}")
+        for name, *group in groups(ORDERS[order])
+        for case, fault in cases(order, schema, *group)
+    ]
 
 
 if __name__ == "__main__":
-    sys.exit(main())
+    sys.exit(compare.main(of_order))

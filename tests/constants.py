@@ -13,6 +13,7 @@ from typing import Iterator, List
 
 sys.dont_write_bytecode = True
 sys.path.insert(0, f"{os.path.dirname(os.path.realpath(__file__))}/../launch")
+from counting import counted
 from crates import ROOT, files
 
 # The libraries whose contracts a caller reads; those of the other crates' functions are their own.
@@ -75,14 +76,9 @@ def tries() -> Iterator[bool]:
 
 def main() -> int:
     names = fixed()
-    results = [*tries(), len(names) > 40]
-    for name in CRATES:
-        found = list(found_in(name, names))
-        print(*found, sep="\n", end="\n" if found else "")
-        results.append(not found)
-    failed = results.count(False)
-    print(f"{len(results) - failed} passed, {failed} failed")
-    return 1 if failed else 0
+    tried = enumerate([*tries(), len(names) > 40], 1)
+    cases = [(f"the search, try {number}", [] if it else ["it fails"]) for number, it in tried]
+    return counted([*cases, *((name, list(found_in(name, names))) for name in CRATES)])
 
 
 if __name__ == "__main__":

@@ -9,33 +9,16 @@ import os
 import re
 import subprocess
 import sys
-from typing import Dict, Iterator, List, NamedTuple, Optional, Tuple
+from typing import Iterator, List, NamedTuple, Optional, Tuple
 
 sys.dont_write_bytecode = True
 sys.path.insert(0, f"{os.path.dirname(os.path.realpath(__file__))}/../record")
 import groups
 import reference
+from counting import counted
 
 ROOT = os.path.join(os.path.dirname(os.path.abspath(__file__)), "..")
 HEADERS = ("netlink", "rtnetlink", "if_link", "if_addr", "neighbour", "fib_rules")
-# What the names of a context's attributes begin with, and its table of further names.
-CONTEXTS: Dict[str, Tuple[str, str]] = {
-    "Link": ("IFLA", "further_link"),
-    "LinkInfo": ("IFLA_INFO", "further_link_info"),
-    "Addr": ("IFA", "further_addr"),
-    "Route": ("RTA", "further_route"),
-    "Metrics": ("RTAX", "further_metrics"),
-    "Neigh": ("NDA", "further_neigh"),
-    "Rule": ("FRA", "further_rule"),
-}
-TYPES = {
-    1: "NLMSG_NOOP", 2: "NLMSG_ERROR", 3: "NLMSG_DONE", 4: "NLMSG_OVERRUN",
-    16: "RTM_NEWLINK", 17: "RTM_DELLINK", 18: "RTM_GETLINK", 19: "RTM_SETLINK",
-    20: "RTM_NEWADDR", 21: "RTM_DELADDR", 22: "RTM_GETADDR",
-    24: "RTM_NEWROUTE", 25: "RTM_DELROUTE", 26: "RTM_GETROUTE",
-    28: "RTM_NEWNEIGH", 29: "RTM_DELNEIGH", 30: "RTM_GETNEIGH",
-    32: "RTM_NEWRULE", 33: "RTM_DELRULE", 34: "RTM_GETRULE",
-}
 # What else of the headers stands in specs/ as a number.
 FIXED = {
     "NUMBERS": "(NLA_TYPE_MASK & 0xffff) + 1",
@@ -57,33 +40,22 @@ class Attribute(NamedTuple):
     style: Optional[str]
 
 
-def further() -> Dict[str, List[Tuple[int, str]]]:
-    """The tables of names that printed text leaves out."""
-    found: Dict[str, List[Tuple[int, str]]] = {}
-    for line in open(f"{ROOT}/crates/rtnl/specs/Further.antt", encoding="utf-8"):
-        if head := re.match(r"(further_\w+) =", line):
-            rows = found.setdefault(head[1], [])
-        for number, name in re.findall(r'\((\d+), codes "(\w+)", tt\)', line):
-            rows.append((int(number), name))
-    return found
-
-
 def attributes() -> Iterator[Attribute]:
     """Each attribute that has a name."""
-    others = further()
-    for context, (_, table) in CONTEXTS.items():
+    others = reference.tables("Further")
+    for context in reference.PREFIXES:
         for number, (name, style) in reference.ATTRIBUTES[context].items():
             yield Attribute(context, number, name, style)
-        for number, name in others.get(table, []):
+        for number, name, _ in others.get(f"further_{context}", []):
             yield Attribute(context, number, name, None)
 
 
 def numbered() -> Iterator[Tuple[str, str, str]]:
     """The name of each attribute, what it is in the headers, and that they are older than it."""
     for it in attributes():
-        prefix = CONTEXTS[it.context][0]
-        name = f"{prefix}_{it.name}"
-        yield name, f"{name} == {it.number}", f"__{prefix}_MAX <= {it.number}"
+        prefix = reference.PREFIXES[it.context]
+        name = f"{prefix}{it.name}"
+        yield name, f"{name} == {it.number}", f"__{prefix}MAX <= {it.number}"
 
 
 def structs() -> Iterator[Tuple[str, str, str]]:
@@ -126,16 +98,14 @@ def refused(says: List[str]) -> List[int]:
 
 
 def main() -> int:
-    cases = [*numbered(), *((name, f"{name} == {number}", "0") for number, name in TYPES.items())]
+    types = reference.TYPES.items()
+    cases = [*numbered(), *((name, f"{name} == {number}", "0") for number, name in types)]
     cases += ((name, f"{says} == {reference.FIXED[name]}", "0") for name, says in FIXED.items())
     cases += [*structs(), *notified()]
     others = [cases[at] for at in refused([holds for _, holds, _ in cases])]
     wrong = [others[at][0] for at in refused([is_newer for _, _, is_newer in others])]
-    for name in wrong:
-        print(f"failed: {name}")
     print("newer than these headers:", *(name for name, _, _ in others if name not in wrong))
-    print(f"{len(cases) - len(wrong)} passed, {len(wrong)} failed")
-    return 1 if wrong else 0
+    return counted((name, ["not so there"] if name in wrong else []) for name, *_ in cases)
 
 
 if __name__ == "__main__":

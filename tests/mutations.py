@@ -1,17 +1,18 @@
-"""Mutations of datagrams: each changes the length of a message or of an attribute, or a type, cuts a datagram,
-or puts a message or an attribute elsewhere. A head is found by the second reading, never by the program.
+"""Mutations of datagrams: each changes the length of a message or of an attribute, or a type, cuts
+a datagram, or puts a message or an attribute elsewhere. A head is found by the second reading,
+never by the program.
 """
 import struct
 
 import reference
+from reference import ATTRIBUTE, HOP, MESSAGE
 
-MESSAGE, ATTRIBUTE, HOP = "IHHII", "HH", "HBBi"
 TYPES = (*reference.KINDS, 0, 5, 15, 23, 27, 31, 35, 40, 65535)
 NUMBERS = sorted({0, 8, 9, 18, 40, 16383}.union(*reference.ATTRIBUTES.values()))
 
 
 class Heads(reference.Reading):
-    """A reading that notes each head: its place and form, where its item ends, and where the region ends."""
+    """A reading that notes each head: its place, its form, and where its item and region end."""
 
     def __init__(self, data, order):
         super().__init__(data, order)
@@ -46,7 +47,8 @@ def with_number(data, place, form, number, order):
 
 
 def with_length(choose, data, order, *forms):
-    """One length changed, mostly to a limit, or to about what a head has, the item, or the rest of its region."""
+    """One length changed, mostly to a limit, or to about what a head has, the item, or the rest of
+    its region."""
     place, form, behind, end = some_head(choose, data, order, *forms)
     greatest = 256 ** struct.calcsize(order + form[0]) - 1
     near = [
@@ -86,8 +88,8 @@ def cut(choose, data, _, order):
 
 
 def spliced(choose, data, others, order):
-    """A message or an attribute of another datagram put before one, or in its place, the lengths of what holds
-    it mended or not."""
+    """A message or an attribute of another datagram put before one, or in its place, the lengths
+    of what holds it mended or not."""
     other = choose.choice(others)
     begin, _, behind, _ = choose.choice(heads(other, order))
     item = other[begin:behind] + bytes(begin - behind & 3)
@@ -99,7 +101,8 @@ def spliced(choose, data, others, order):
     for holder, form, behind, _ in heads(data, order):
         if holder < place < behind:
             length = behind - holder + len(text) - len(data)
-            text = with_number(text, holder, form[0], length % 256 ** struct.calcsize(order + form[0]), order)
+            length %= 256 ** struct.calcsize(order + form[0])
+            text = with_number(text, holder, form[0], length, order)
     return text
 
 
@@ -107,7 +110,8 @@ WAYS = message_length, attribute_length, other_type, cut, spliced
 
 
 def mutated(choose, ways, data, others, order):
-    """The datagram mutated in each of these ways, as long as it has a head, until it is another one."""
+    """The datagram mutated in each of these ways, as long as it has a head, until it is another
+    one."""
     text = data
     while text == data:
         for way in ways:
@@ -116,8 +120,8 @@ def mutated(choose, ways, data, others, order):
 
 
 def mutations(choose, count, whole, alone, others, order):
-    """So many datagrams, each way of mutation as often as the others: of whole ones and of their messages alone,
-    longer ones more often, and some of them mutated twice."""
+    """So many datagrams, each way of mutation as often as the others: of whole ones and of their
+    messages alone, longer ones more often, and some of them mutated twice."""
     for number in range(count):
         ways = [WAYS[number % len(WAYS)], *choose.choices(WAYS, k=choose.random() < 0.2)]
         texts = choose.choice((whole, alone))

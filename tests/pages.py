@@ -28,6 +28,7 @@ sys.path.insert(0, f"{os.path.dirname(os.path.realpath(__file__))}/../launch")
 import headers
 import reference
 from contracts import Contracts, Texts
+from counting import counted
 from crates import ROOT, Crates, listed
 
 README, PROOF, THEOREMS = "README.md", "docs/PROOF.md", "docs/THEOREMS.md"
@@ -347,8 +348,9 @@ def lost_codes(repository: Repository, page: str) -> Iterator[str]:
 
 # How docs/FORMAT.md says where an attribute stands, and in which form its payload is printed.
 STANDS = {
-    "Link": "a link", "LinkInfo": "`LINKINFO` of a link", "Addr": "an address", "Route": "a route",
-    "Metrics": "`METRICS` of a route", "Neigh": "a neighbour", "Rule": "a rule",
+    "link": "a link", "link_info": "`LINKINFO` of a link", "addr": "an address",
+    "route": "a route", "metrics": "`METRICS` of a route", "neigh": "a neighbour",
+    "rule": "a rule",
 }
 FORMS = {
     "U8": "`u8`", "U16": "`u16`", "U32": "`u32`", "NetworkU16": "`u16`, in network order",
@@ -360,7 +362,7 @@ def attribute_row(it: headers.Attribute) -> str:
     """The row of an attribute. One that holds others is printed as such, whatever its style."""
     holds = reference.content(it.context, it.number, False)
     form = FORMS[it.style] if holds == "bytes" else "`hops`" if holds == "hops" else "`list`"
-    stands = f"{STANDS[it.context]}, `{headers.CONTEXTS[it.context][0]}_`"
+    stands = f"{STANDS[it.context]}, `{reference.PREFIXES[it.context]}`"
     return f"| {stands} | {it.number} | `{it.name}` | {form} |"
 
 
@@ -609,13 +611,7 @@ def cases(repository: Repository) -> Iterator[Tuple[str, List[str]]]:
 
 
 def main() -> int:
-    passed = failed = 0
-    for name, wrong in cases(read_repository()):
-        passed, failed = passed + (not wrong), failed + bool(wrong)
-        if wrong:
-            print(f"failed: {name}", *wrong, sep="\n  ")
-    print(f"{passed} passed, {failed} failed")
-    return 1 if failed else 0
+    return counted(cases(read_repository()))
 
 
 if __name__ == "__main__":

@@ -6,168 +6,71 @@ of reference.py and of Further.antt in crates/rtnl/specs.
 """
 import functools
 import json
-import struct
 from typing import NamedTuple, Optional
 
 import reference
-from reference import BITS, NESTED, NET
+from reference import (
+    ATTRIBUTE, BITS, HEADS, HOP, KINDS, MESSAGE, NESTED, NET, NEW, OTHER, PREFIXES, SORTS, TYPES,
+    Field,
+)
+from reference_lines import names, typed, word
 
 WIDTH = 16
-MESSAGE, ATTRIBUTE, HOP = "IHHII", "HH", "HBBi"
 CUT = {MESSAGE: "nlmsghdr", ATTRIBUTE: "rtattr", HOP: "rtnexthop"}
-PREFIXES = {
-    "Link": "IFLA_",
-    "LinkInfo": "IFLA_INFO_",
-    "Addr": "IFA_",
-    "Route": "RTA_",
-    "Metrics": "RTAX_",
-    "Neigh": "NDA_",
-    "Rule": "FRA_",
-    "Plain": "",
+ITEMS = {
+    ATTRIBUTE: [Field("H", "rta_len", "len"), Field("H", "rta_type", "type")],
+    HOP: [Field("H", "rtnh_len", "len"), *HEADS["hop"].fields],
 }
+ATTRIBUTE_FLAGS = ("NESTED", NESTED), ("NET_BYTEORDER", NET)
 FURTHER = reference.tables("Further")
 
 
 def kernel_names(context):
     """The kernel's names of the attributes of a context, by their numbers."""
-    names = {number: name for number, name, _ in FURTHER.get(f"further_{context.lower()}", [])}
-    names.update({number: name for number, (name, _) in reference.ATTRIBUTES[context].items()})
-    return {number: PREFIXES[context] + name for number, name in names.items()}
+    found = {number: name for number, name, _ in FURTHER.get(f"further_{context}", [])}
+    found.update({number: name for number, (name, _) in reference.ATTRIBUTES[context].items()})
+    return {number: PREFIXES[context] + name for number, name in found.items()}
 
 
 NAMES = {context: kernel_names(context) for context in PREFIXES}
-TYPES = {
-    number: ("NLMSG_" if number <= reference.OVERRUN else "RTM_") + name.upper()
-    for number, (name, _) in reference.KINDS.items()
-}
 
 
-# The fields of heads: each has a name, a letter of the module struct, and what its number is as
-# text and in JSON.
+# What a number or a payload is, as text and in JSON.
 
 
-class Head:
-    def __init__(self, *found):
-        self.form = "".join(letter for _, letter, _ in found)
-        sizes = [struct.calcsize(f"={letter}") for letter in self.form]
-        self.fields = [(name, size, values) for (name, _, values), size in zip(found, sizes)]
-        self.size = sum(sizes)
+def numbered(number, digits, rows=()):
+    text = word(number, digits)
+    return f"{text} {word(names(rows, number))}" if rows else text, number
 
 
-def decimal(number):
-    return str(number), number
+@functools.lru_cache(100_000)
+def of_field(field, number):
+    rows = BITS.get(field.bits, ())
+    return numbered(number, field.digits, rows) if field.name else (None, None)
 
 
-def nothing(_):
-    return None, None
-
-
-def bits(digits, rows=None):
-    """A number behind 0x, of so many digits, and the names of its bits where they have some."""
-
-    @functools.lru_cache(10_000)
-    def values(number):
-        names = f" {reference.names(rows, number)}" if rows else ""
-        return f"0x{number:0{digits}x}{names}", number
-
-    return values
-
-
-def fields(letter, *names, values=decimal):
-    return [(name, letter, values) for name in names]
-
-
-HEADS = {
-    "Link": Head(
-        *fields("B", "ifi_family"),
-        *fields("B", "__ifi_pad", values=nothing),
-        *fields("H", "ifi_type"),
-        *fields("i", "ifi_index"),
-        *fields("I", "ifi_flags", values=bits(8, BITS["link_flags"])),
-        *fields("I", "ifi_change", values=bits(8)),
-    ),
-    "Addr": Head(
-        *fields("B", "ifa_family", "ifa_prefixlen"),
-        *fields("B", "ifa_flags", values=bits(2)),
-        *fields("B", "ifa_scope"),
-        *fields("I", "ifa_index"),
-    ),
-    "Route": Head(
-        *fields("B", "rtm_family", "rtm_dst_len", "rtm_src_len", "rtm_tos", "rtm_table"),
-        *fields("B", "rtm_protocol", "rtm_scope", "rtm_type"),
-        *fields("I", "rtm_flags", values=bits(8)),
-    ),
-    "Neigh": Head(
-        *fields("B", "ndm_family"),
-        *fields("B", "ndm_pad1", values=nothing),
-        *fields("H", "ndm_pad2", values=nothing),
-        *fields("i", "ndm_ifindex"),
-        *fields("H", "ndm_state", values=bits(4, BITS["neigh_states"])),
-        *fields("B", "ndm_flags", values=bits(2, BITS["neigh_flags"])),
-        *fields("B", "ndm_type"),
-    ),
-    "Rule": Head(
-        *fields("B", "family", "dst_len", "src_len", "tos", "table"),
-        *fields("B", "res1", "res2", values=nothing),
-        *fields("B", "action"),
-        *fields("I", "flags", values=bits(8)),
-    ),
-    "get": Head(*fields("B", "rtgen_family")),
-    "done": Head(*fields("i", "status")),
-    "bytes": Head(),
-}
-SORTS = {reference.ERROR: "error", reference.DONE: "done"}
-SORTS.update({**dict.fromkeys(reference.GETS, "get"), **reference.FAMILIES})
-NEXT_HOP = Head(
-    *fields("H", "rtnh_len"),
-    *fields("B", "rtnh_flags", values=bits(2, BITS["hop_flags"])),
-    *fields("B", "rtnh_hops"),
-    *fields("i", "rtnh_ifindex"),
-)
-
-
-def message_type(kind):
+def of_header(kind, flags):
+    """The fields of a message's header whose names go by its type."""
+    _, rows = KINDS.get(kind, OTHER)
     name = TYPES.get(kind)
-    return (f"{kind} {name}", name) if name else decimal(kind)
+    type_of = (f"{kind} {name}", name) if name else (str(kind), kind)
+    return {"nlmsg_type": type_of, "nlmsg_flags": numbered(flags, "4", rows)}
 
 
-@functools.cache
-def header(kind, *before):
-    """The header of a message of this type, which says the names of the flags; behind others."""
-    _, rows = reference.KINDS.get(kind, ("", BITS["message_flags"]))
-    return Head(
-        *before,
-        *fields("I", "nlmsg_len"),
-        *fields("H", "nlmsg_type", values=message_type),
-        *fields("H", "nlmsg_flags", values=bits(4, rows)),
-        *fields("I", "nlmsg_seq", "nlmsg_pid"),
-    )
+@functools.lru_cache(100_000)
+def of_attribute(context, kind):
+    number = kind & 0x3FFF
+    name = NAMES[context].get(number)
+    found = [str(number), name, *names(ATTRIBUTE_FLAGS, kind)]
+    return {"rta_type": (" ".join(filter(None, found)), name or number)}
 
 
-@functools.cache
-def attribute(context):
-    """The head of an attribute in this context."""
-
-    @functools.cache
-    def values(kind):
-        number, flags = kind & 0x3FFF, (("NESTED", NESTED), ("NET_BYTEORDER", NET))
-        name = NAMES[context].get(number)
-        words = [str(number), name, *(flag for flag, bit in flags if kind & bit)]
-        return " ".join(filter(None, words)), name or number
-
-    return Head(*fields("H", "rta_len"), *fields("H", "rta_type", values=values))
+def of_payload(form, data, is_net, order):
+    sort, value = typed(form, data, is_net, order)
+    return (None, None) if sort == "hex" else (f"{sort} {value}", value)
 
 
 # The parts of a datagram.
-
-
-def payload(form, text, is_net, order):
-    """What a payload of this form is as text and in JSON."""
-    found = reference.value_text(form, text, is_net, order)
-    sort, _, value = found.partition(" ")
-    if sort == "hex":
-        return nothing(text)
-    return found, int(value) if sort in ("u8", "u16", "u32") else value
 
 
 class Part(NamedTuple):
@@ -202,29 +105,33 @@ class Parts(reference.Reading):
             self.parts.append(Part(self.behind, end, level, indent, name, *values, fault))
             self.behind = end
 
-    def note_fields(self, head, level, indent, fault=None):
-        """A part for each field of this head, the first with the fault."""
-        for (name, size, values), number in zip(head.fields, self.fields(head.form, self.behind)):
-            self.note(self.behind + size, level, indent, name, values(number), fault)
+    def note_fields(self, found, level, indent, fault=None, **values):
+        """A part for each of these fields, the first with the fault; some have another value."""
+        for field in found:
+            (number,) = self.fields(field.letter, self.behind)
+            value = values.get(field.kernel) or of_field(field, number)
+            self.note(self.behind + field.size(), level, indent, field.kernel, value, fault)
             fault = None
 
     def note_head(self, form, fault=None):
         """The head that begins here."""
         level, context = self.region
         if form == MESSAGE:
-            (kind,) = self.fields("H", self.behind + 4)
-            self.note_fields(header(kind), 0, 0, fault)
+            values = of_header(*self.fields("HH", self.behind + 4))
+            self.note_fields(HEADS["message"].fields, 0, 0, fault, **values)
             self.under = 0, 2
-        else:
-            self.under = level, 4 + 2 * level
-            self.note_fields(NEXT_HOP if form == HOP else attribute(context), *self.under, fault)
+            return
+        self.under = level, 4 + 2 * level
+        is_hop = form == HOP
+        values = {} if is_hop else of_attribute(context, *self.fields("H", self.behind + 2))
+        self.note_fields(ITEMS[form], *self.under, fault, **values)
 
     def note_payload(self, end, kind):
         """The payload of an attribute of this type, where it holds bytes."""
         context, number = self.region[1], kind & 0x3FFF
         if reference.content(context, number, kind & NESTED) == "bytes":
             _, form = reference.ATTRIBUTES[context].get(number, ("", "Hex"))
-            values = payload(form, self.data[self.behind : end], kind & NET, self.order)
+            values = of_payload(form, self.data[self.behind : end], kind & NET, self.order)
             self.note(end, *self.under, NAMES[context].get(number, "payload"), values)
 
     def note_padding(self, end):
@@ -232,14 +139,12 @@ class Parts(reference.Reading):
 
     def note_body(self, end, kind):
         """A body, but for attributes. Of one that is too short for its type nothing is kept."""
-        sort, left = SORTS.get(kind, "bytes"), end - self.behind
-        if sort == "error" and left >= 20:
-            head = header(*self.fields("H", self.behind + 8), *fields("i", "error"))
-        else:
-            head = HEADS.get(sort, HEADS["bytes"])
-        if left >= head.size:
-            self.note_fields(head, 0, 2)
-        if sort not in reference.HEADS:
+        sort, head = SORTS.get(kind, "bytes"), HEADS[SORTS.get(kind, "bytes")]
+        if end - self.behind >= head.size:
+            is_error = sort == "error"
+            values = of_header(*self.fields("HH", self.behind + 8)) if is_error else {}
+            self.note_fields(head.fields, 0, 2, **values)
+        if sort not in NEW:
             self.note(end, 0, 2, "payload" if sort == "bytes" else "tail")
 
     # What the reading does, and what is noted of it.

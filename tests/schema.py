@@ -21,6 +21,7 @@ import sys
 from typing import Any, Dict, Iterator, List, Optional, Tuple
 
 sys.dont_write_bytecode = True
+from counting import counted
 
 ROOT = os.path.dirname(os.path.dirname(os.path.realpath(__file__)))
 COMMANDS = "show", "check", "table"
@@ -40,6 +41,7 @@ KEYWORDS |= {"minimum", "maximum", "pattern", *NOTES}
 
 # A value of JSON, and what is wrong where something is.
 Json = Any
+REFERENCE: Any = importlib.import_module("reference")
 Fault = Optional[str]
 
 
@@ -234,11 +236,6 @@ def fault_of_cover() -> Fault:
 
 # Numbers, texts, and fields that do not belong together.
 
-# The integers of each head, in their order, by the letters of the module struct: those of the
-# kernel's headers. Those of families are in reference.py.
-HEADS = {"message": "HHII", "error": "i", "answered": "IHHII", "done": "i", "get": "B"}
-HEADS["hop"] = "BBi"
-FAMILIES = "link", "addr", "route", "neigh", "rule"
 # The least and the greatest integer of a letter, and of each that is no part of a head.
 LETTERS = {"B": (0, 255), "H": (0, 65535), "I": (0, 2**32 - 1), "i": (-(2**31), 2**31 - 1)}
 RANGES = {
@@ -275,9 +272,11 @@ def integers(whole: Json, name: str) -> List[str]:
 
 
 def heads() -> Dict[str, str]:
-    """The letters of each head."""
-    reference: Any = importlib.import_module("reference")
-    return {**HEADS, **{it: reference.HEADS[it.capitalize()].replace("x", "") for it in FAMILIES}}
+    """The letters of the module struct for the integers of each head, by the second reading."""
+    found = {name: head.form.replace("x", "") for name, head in REFERENCE.HEADS.items()}
+    del found["bytes"]
+    answered = found["message"]
+    return {**found, "error": "i", "answered": answered, "message": answered[1:]}
 
 
 def ranges(whole: Json) -> Iterator[Tuple[str, Tuple[int, int]]]:
@@ -319,18 +318,15 @@ def bodies() -> Dict[str, Json]:
 
 def fault_of_types() -> Fault:
     """Which number, name and body of a message go together and should not, or should and don't."""
-    reference: Any = importlib.import_module("reference")
-    allowed, sorts = Allowed("show"), {1: "bytes", 2: "error", 3: "done", 4: "bytes"}
-    sorts.update({kind: name.lower() for kind, name in reference.FAMILIES.items()})
-    sorts.update(dict.fromkeys(reference.GETS, "get"))
-    names = [name for name, _ in reference.KINDS.values()] + ["other"]
+    allowed = Allowed("show")
+    names = [name for name, _ in REFERENCE.KINDS.values()] + ["other"]
     for kind in (*range(40), 65535):
-        name, _ = reference.KINDS.get(kind, ("other", None))
+        name, _ = REFERENCE.KINDS.get(kind, REFERENCE.OTHER)
         for other in names:
             for sort, body in bodies().items():
                 head = {"message": kind, "type": other, "flags": 0, "flag_names": []}
                 message = {**head, "seq": 0, "port": 0, sort: body}
-                is_right = other == name and sort == sorts.get(kind, "bytes")
+                is_right = other == name and sort == REFERENCE.SORTS.get(kind, "bytes")
                 if allowed.has({"datagram": 1, "bytes": 16, "messages": [message]}) != is_right:
                     return f"{kind}, {other}, {sort}"
     return None
@@ -445,15 +441,10 @@ def cases() -> Iterator[Tuple[str, Fault]]:
 
 
 def main(paths: List[str]) -> int:
-    passed = failed = 0
-    if has_libraries():
-        for name, fault in ((it, fault_of_lines(read(it))) for it in paths) if paths else cases():
-            passed, failed = passed + (not fault), failed + bool(fault)
-            if fault:
-                print(f"FAILED {name}: {fault}")
-    if not paths:
-        print(f"{passed} passed, {failed} failed")
-    return 1 if failed else 0
+    found = ((it, fault_of_lines(read(it))) for it in paths) if paths else cases()
+    if not has_libraries():
+        found = iter(())
+    return counted((name, [fault] if fault else []) for name, fault in found)
 
 
 if __name__ == "__main__":

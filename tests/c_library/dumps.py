@@ -15,7 +15,7 @@ import zlib
 
 sys.dont_write_bytecode = True
 sys.path.insert(0, os.path.join(os.path.dirname(os.path.abspath(__file__)), ".."))
-import compare
+import datagrams
 import mutations
 import reading
 import reference
@@ -40,9 +40,9 @@ def shorter(choose, message, count):
 def bridged(choose, message):
     """A neighbour as one of a bridge, with a VLAN and a VNI, of which some are too short."""
     fields, (sort, (_, *values), rest) = message
-    added = [(reference.NDA_VLAN, 2), (reference.NDA_VNI, 4)]
+    added = [(reference.FIXED["NDA_VLAN"], 2), (reference.FIXED["NDA_VNI"], 4)]
     texts = [choose.choice((bytes(size - 1), bytes(size), b"\1" * size)) for _, size in added]
-    rest = rest + [(kind, "Neigh", "bytes", text) for (kind, _), text in zip(added, texts)]
+    rest = rest + [(kind, "neigh", "bytes", text) for (kind, _), text in zip(added, texts)]
     return fields, (sort, (reference.BRIDGE, *values), rest)
 
 
@@ -50,7 +50,7 @@ def pools(choose, order):
     """Short messages by their family, and all that can stand in their place."""
     found = {name: [] for name in reference.NEW}
     others = []
-    for _, (name, *_), _, alone in compare.recordings(order):
+    for _, (name, *_), _, alone in datagrams.recordings(order):
         others += [text for text in alone if len(text) <= 300]
         for text in alone:
             (message,) = reference.read(text, order)
@@ -125,7 +125,7 @@ class Maker:
         found = []
         while rest:
             count = choose.choice((1, 2, 3))
-            found.append(compare.joined(choose, rest[:count]))
+            found.append(datagrams.joined(choose, rest[:count]))
             rest = rest[count:]
         return found
 
@@ -136,8 +136,8 @@ class Maker:
         if way == 0:
             return text[: choose.randrange(len(text) + 1)]
         if way == 1:
-            place = choose.choice(compare.CHANGES + tuple(range(16, 48, 4)))
-            byte = choose.choice(compare.CHANGES)
+            place = choose.choice(datagrams.CHANGES + tuple(range(16, 48, 4)))
+            byte = choose.choice(datagrams.CHANGES)
             return text[:place] + bytes([byte]) + text[place + 1 :] if place < len(text) else text
         if way == 2:
             near = (0, 15, 16, len(text) - 1, len(text), len(text) + 1, len(text) + 4, 2**32 - 1)
@@ -233,8 +233,8 @@ class Script:
         for longest in (65532, 65533):
             inner = struct.pack(self.maker.order + "HH", longest - 4, 1) + bytes(longest - 8)
             outer = struct.pack(self.maker.order + "HH", longest, 0x8000 | 1) + inner
-            link = reference.HEADS["Link"], (0, 1, longest, 0, 0)
-            body = struct.pack(self.maker.order + link[0], *link[1]) + outer
+            form = self.maker.order + reference.HEADS["link"].form
+            body = struct.pack(form, 0, 1, longest, 0, 0) + outer
             text = struct.pack(self.maker.order + "IHHII", 16 + len(body), 16, 2, 9, 9) + body
             self.session_of((1 << 30, 1 << 20, 4096, 8), [("link", (9, 9), [text])])
 
@@ -284,7 +284,7 @@ def differs(command, script):
 
 def main(count, *command):
     counts = collections.Counter()
-    for order in compare.ORDERS.values():
+    for order in datagrams.ORDERS.values():
         maker = Maker(random.Random(f"dumps {order}"), order)
         for begun in range(0, int(count), CHUNK):
             script = Script(maker, counts)

@@ -2,10 +2,10 @@
 # thousand dumps against a second reading, a million routes, refused allocations, threads and
 # valgrind.
 
-tests/c_library/datagrams.py asked >"$folder/asked" || exit 1
+tests/c_library/print_datagrams.py asked >"$folder/asked" || exit 1
 while read -r name _; do
   for order in little big; do
-    tests/c_library/datagrams.py "$name" "$order" >"$folder/${name//\//_}.$order" || exit 1
+    tests/c_library/print_datagrams.py "$name" "$order" >"$folder/${name//\//_}.$order" || exit 1
   done
 done <"$folder/asked"
 

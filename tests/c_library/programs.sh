@@ -2,7 +2,7 @@
 
 for order in little big; do
   for sort in recorded mutated; do
-    tests/c_library/datagrams.py "$sort" "$order" >"$folder/$sort.$order" || exit 1
+    tests/c_library/print_datagrams.py "$sort" "$order" >"$folder/$sort.$order" || exit 1
     for command in check show; do
       "$program" "$command" --order "$order" "$folder/$sort.$order" \
         >"$folder/$command.$sort.$order"

@@ -1,17 +1,17 @@
 """What the calls on a session and on a stream answer, by docs/FORMAT.md alone. It adds to the
-second reading, ../reference.py, the events of a datagram, the limits of a session, and the bytes of
-keys.
+second reading, ../reference.py, the events of a datagram and the limits of a session.
 """
 import struct
 import zlib
 
 import reference
+from reference import ATTRIBUTE, HOP
 
 MESSAGE, BYTES, LIST, HOPS, NEXT_HOP = range(5)
 IDLE, WAITING, DONE, FAILED, OVERRUN, ABANDONED = range(6)
 CODES = {"cut": 1, "bad length": 2, "short body": 3, "too long": 4, "too deep": 5, "too large": 6}
 TOTAL, NOT_WAITING, BUSY, SAME_SEQ, NO_KIND = 7, 8, 9, 10, 19
-HEAD, FLAGS = {"HH": 4, "HBBi": 8}, reference.NESTED | reference.NET
+FLAGS = reference.NESTED | reference.NET
 
 
 class Tape(reference.Reading):
@@ -37,7 +37,7 @@ class Tape(reference.Reading):
 
     def region(self, place, end, level, context):
         """The events of a region's own items."""
-        for place, behind, (kind, *_) in self.visited(place, end, "HH" if context else "HBBi"):
+        for place, behind, (kind, *_) in self.visited(place, end, ATTRIBUTE if context else HOP):
             if context is None:
                 yield place, behind - place - 8, 0, level, NEXT_HOP, 0, 0
                 continue
@@ -60,54 +60,6 @@ class Tape(reference.Reading):
 def sum_of(rows):
     """The sum of the bytes of these events."""
     return zlib.crc32(b"".join(struct.pack("<IIHBBBB", *row) for row in rows))
-
-
-# The fields of each key in their order, with how many bytes they have: fields of the head by their
-# names below, `#` the number that an attribute begins with, and `*` the bytes of one.
-NAMED = {
-    "Link": ("family", "type", "index", "flags", "change"),
-    "Addr": ("family", "prefix", "flags", "scope", "index"),
-    "Route": (
-        *("family", "dst_len", "src_len", "tos", "table"),
-        *("protocol", "scope", "type", "flags"),
-    ),
-    "Neigh": ("family", "index", "state", "flags", "type"),
-    "Rule": ("family", "dst_len", "src_len", "tos", "table", "action", "flags"),
-}
-KEYS = {
-    "Link": "index:4",
-    "Addr": "family:1 index:4 prefix:1 *1 *2",
-    "Route": "family:1 dst_len:1 *1 src_len:1 *2 tos:1 table:4 #6:4 type:1 #4:4 *5",
-    "Neigh": "family:1 index:4 flags:1 *1",
-    "Bridge": "family:1 index:4 flags:1 *1 *2 #5:2 #7:4",
-    "Rule": (
-        "family:1 dst_len:1 *1 src_len:1 *2 tos:1 table:4 #6:4 action:1 #4:4 #10:4 #16:4 *3 *17"
-    ),
-}
-
-
-def key_bytes(context, values, found, order):
-    """The bytes of the key of an entry."""
-    head = dict(zip(NAMED[context], values))
-    if context in ("Route", "Rule"):
-        head["table"] = reference.first_number(found, 15, "I", order, head["table"])
-    if context == "Neigh":
-        head["flags"] &= reference.KEY_FLAGS
-        context = "Bridge" if head["family"] == reference.BRIDGE else context
-    text = b""
-    for field in KEYS[context].split():
-        name, _, size = field.partition(":")
-        if name[0] == "*":
-            value = reference.first(found, int(name[1:]))
-            text += b"\0" if value is None else b"\1" + struct.pack("<Q", len(value)) + value
-            continue
-        if name[0] == "#":
-            form = {"2": "H", "4": "I"}[size]
-            value = reference.first_number(found, int(name[1:]), form, order)
-        else:
-            value = head[name] % 256 ** int(size)
-        text += value.to_bytes(int(size), "little")
-    return text
 
 
 class Session:
@@ -167,7 +119,7 @@ class Session:
         """Takes a message, and says whether it is an item."""
         ignored = self.dump.ignored
         self.dump.take(*fields, body)
-        return self.dump.ignored == ignored and body[0] in reference.HEADS
+        return self.dump.ignored == ignored and body[0] in reference.NEW
 
     def end(self):
         if self.dump.end:
@@ -194,7 +146,7 @@ class Session:
         found, missed = (dump.table, dump.missed) if dump else ({}, 0)
         fields = reference.NEW[name], 0, 0, 0
         entries = [reference.written([(fields, body)], self.order) for body in found.values()]
-        return entries, [key_bytes(*body, self.order) for body in found.values()], missed
+        return entries, list(found), missed
 
 
 def within(heads, items):

@@ -11,9 +11,10 @@ import sys
 from typing import List, NamedTuple, Optional, Tuple
 
 sys.dont_write_bytecode = True
-sys.path.insert(0, f"{os.path.dirname(os.path.realpath(__file__))}/../../record")
+TESTS = os.path.dirname(os.path.dirname(os.path.realpath(__file__)))
+sys.path[:0] = [f"{TESTS}/../record", TESTS]
 import dump
-from case import counted
+from counting import counted
 from output import Item, Loss
 
 KERNEL, PORT, SEQ = 0, 4711, 1

@@ -4,7 +4,7 @@ import os
 import resource
 import subprocess
 import sys
-from typing import Iterable, List, NamedTuple, Tuple
+from typing import List, NamedTuple
 
 ROOT = os.path.dirname(os.path.dirname(os.path.dirname(os.path.realpath(__file__))))
 # The status of a case of which only the time counts.
@@ -45,15 +45,3 @@ def judged(case: Case) -> List[str]:
     found = (ran.returncode, ran.stdout.decode(), ran.stderr.decode())
     expected = (case.status, case.output, case.errors)
     return [f"{it!r:.300} for {other!r:.300}" for it, other in zip(found, expected) if it != other]
-
-
-def counted(cases: Iterable[Tuple[str, List[str]]]) -> int:
-    """Prints what is wrong with each case of these names, and last how many passed and failed.
-    Returns the exit status."""
-    passed = failed = 0
-    for name, wrong in cases:
-        passed, failed = passed + (not wrong), failed + bool(wrong)
-        for line in wrong:
-            print(f"failed: {name}: {line}")
-    print(f"{passed} passed, {failed} failed")
-    return 1 if failed else 0

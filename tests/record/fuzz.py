@@ -21,7 +21,7 @@ from typing import BinaryIO, Callable, Iterator, List, NamedTuple
 sys.dont_write_bytecode = True
 HERE = os.path.dirname(os.path.realpath(__file__))
 ROOT = os.path.dirname(os.path.dirname(HERE))
-sys.path.insert(0, f"{ROOT}/record")
+sys.path[:0] = [f"{ROOT}/record", f"{ROOT}/tests"]
 import dump
 import hexdump
 import made_dumps
@@ -31,7 +31,8 @@ import made_traces
 import pcap
 import rtmon
 import strace
-from case import Case, counted
+from case import Case
+from counting import counted
 from output import LONGEST, Comment, Damaged, Item, Note
 
 SEED, COUNT, CASE, RUNS, SECONDS = 40, 10000, 1000, 40, 5

@@ -3,14 +3,17 @@
 made_pcap.py, made_rtmon.py, made_dumps.py and made_traces.py. The last line is
 'N passed, M failed', and the status is 1 where a case failed.
 """
+import os
 import sys
 
 sys.dont_write_bytecode = True
+sys.path.insert(0, os.path.dirname(os.path.dirname(os.path.realpath(__file__))))
 import made_dumps
 import made_pcap
 import made_rtmon
 import made_traces
-from case import counted, judged
+from case import judged
+from counting import counted
 
 TABLES = [made_pcap.cases, made_rtmon.cases, made_dumps.cases, made_traces.cases]
 
