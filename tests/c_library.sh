@@ -12,8 +12,6 @@ set -u
 cd "$(dirname "${BASH_SOURCE[0]}")/.." || exit 1
 top=$PWD
 program=$(tests/proved.py) || exit 1
-folder=$(mktemp -d) || exit 1
-trap 'rm -rf "$folder"' EXIT
 . tests/counting.sh
 
 tests/packages.sh cc gcc c++ g++ objcopy binutils pkg-config pkg-config mandoc mandoc groff groff-base \
@@ -21,9 +19,6 @@ tests/packages.sh cc gcc c++ g++ objcopy binutils pkg-config pkg-config mandoc m
 # What is installed is what is proved.
 export RTNL_PROVE=1
 c/build.sh "$folder/library" || exit 1
-
-# has COMMAND WHAT: the command is here, or a line says that this is skipped.
-has() { command -v "$1" >/dev/null || ! echo "skipped: $2, since $1 is not here"; }
 
 . tests/c_library/names.sh
 . tests/c_library/header.sh

@@ -1,4 +1,7 @@
-# Counts cases for the scripts beside it, which read it in, and waits for what comes soon.
+# What the scripts of cases share, which read it in: a folder that goes with the script, the count
+# of cases, and what many cases ask.
+folder=$(mktemp -d) || exit 1
+trap 'rm -rf "$folder"' EXIT
 passed=0
 failed=0
 
@@ -12,6 +15,19 @@ check() {
     failed=$((failed + 1))
     echo "failed: $name"
   fi
+}
+
+# has COMMAND WHAT: the command is here, or a line says that this is skipped.
+has() { command -v "$1" >/dev/null || ! echo "skipped: $2, since $1 is not here"; }
+
+# ends STATUS OUTPUT ERRORS COMMAND..: the command ends with this status and writes exactly this.
+ends() {
+  local status=$1 output=$2 errors=$3 found
+  shift 3
+  "$@" >"$folder/output" 2>"$folder/errors"
+  found=$?
+  [ "$found" = "$status" ] && [ "$(<"$folder/output")" = "$output" ] &&
+    [ "$(<"$folder/errors")" = "$errors" ]
 }
 
 # soon COMMAND..: it succeeds within ten seconds.

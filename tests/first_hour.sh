@@ -23,28 +23,14 @@ if [ "${1-}" != inside ]; then
 fi
 
 top=$PWD
-folder=$(mktemp -d) || exit 1
-trap 'rm -rf "$folder"' EXIT
 . tests/counting.sh
 
 # A folder of a user, with links to the launcher, to the installation and to what that installs.
 user=$folder/user
 mkdir "$user" && cp -r examples "$user" && ln -s "$top"/{rtnl,rtnl-record,install,share} "$user" || exit 1
 
-# ends STATUS OUTPUT ERRORS COMMAND..: the command ends with this status and writes exactly these texts.
-ends() {
-  local status=$1 output=$2 errors=$3 found
-  shift 3
-  "$@" >"$folder/output" 2>"$folder/errors"
-  found=$?
-  [ "$found" = "$status" ] && [ "$(<"$folder/output")" = "$output" ] && [ "$(<"$folder/errors")" = "$errors" ]
-}
-
-# is_proved PROGRAM: its bytes say so.
-is_proved() { (cd tests && python3 -B -c 'import proved, sys; sys.exit(not proved.is_proved(sys.argv[1]))' "$1"); }
-
 # What standard error has beside --version, and behind an installation.
-if is_proved "$(RTNL_PATH=1 ./rtnl)"; then
+if tests/proved.py "$(RTNL_PATH=1 ./rtnl)"; then
   version_note='rtnl: this program is proved on this machine'
   install_note=''
 else

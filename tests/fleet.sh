@@ -11,8 +11,6 @@ export LC_ALL=C.UTF-8
 program=$(tests/proved.py) && program=$(realpath "$program") || exit 1
 tests/packages.sh sqlite3 sqlite3
 page=docs/FLEET.md
-folder=$(mktemp -d) || exit 1
-trap 'rm -rf "$folder"' EXIT
 . tests/counting.sh
 . tests/first_hour/blocks.sh
 

@@ -4,8 +4,6 @@
 # failed.
 set -u
 cd "$(dirname "${BASH_SOURCE[0]}")/.." || exit 1
-folder=$(mktemp -d) || exit 1
-trap 'rm -rf "$folder"' EXIT
 . tests/counting.sh
 
 small=$folder/small

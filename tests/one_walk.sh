@@ -6,8 +6,6 @@
 set -u
 cd "$(dirname "${BASH_SOURCE[0]}")/.." || exit 1
 . tests/counting.sh
-folder=$(mktemp -d) || exit 1
-trap 'rm -rf "$folder"' EXIT
 
 # field NAME EDIT: the text behind this name.
 field() { sed -n "s/^$1: //p" "$2"; }

@@ -12,33 +12,15 @@ cd "$(dirname "${BASH_SOURCE[0]}")/.." || exit 1
 top=$PWD
 unset DESTDIR libdir SOURCE_DATE_EPOCH RTNL_PROVE RTNL_BUILD RTNL_PATH
 program=$(tests/proved.py) || exit 1
-folder=$(mktemp -d) || exit 1
-trap 'rm -rf "$folder"' EXIT
 . tests/counting.sh
 
 tests/packages.sh cc gcc objcopy binutils pkg-config pkg-config dpkg-deb dpkg lintian lintian \
   git git
 
-# has COMMAND WHAT: the command is here, or a line says that this is skipped.
-has() { command -v "$1" >/dev/null || ! echo "skipped: $2, since $1 is not here"; }
-
-# ends STATUS OUTPUT ERRORS COMMAND..: the command ends with this status and writes exactly this.
-ends() {
-  local status=$1 output=$2 errors=$3 found
-  shift 3
-  "$@" >"$folder/output" 2>"$folder/errors"
-  found=$?
-  [ "$found" = "$status" ] && [ "$(<"$folder/output")" = "$output" ] &&
-    [ "$(<"$folder/errors")" = "$errors" ]
-}
-
 # What is made here, and how ./package is told of it.
 how=()
 said_of_program='program proved where it was built'
-is_proved() {
-  (cd tests && python3 -B -c 'import proved, sys; sys.exit(not proved.is_proved(sys.argv[1]))' "$1")
-}
-is_proved "$program" || how+=(--unproved) said_of_program='program NOT PROVED where it was built'
+tests/proved.py "$program" || how+=(--unproved) said_of_program='program NOT PROVED where it was built'
 has_library=yes
 [ -n "${RTNL_PROGRAM-}" ] || c/build.sh "$folder/library" || exit 1
 if ! RTNL_BUILD=no launch/build.py library 2>/dev/null; then

@@ -6,8 +6,6 @@
 set -u
 cd "$(dirname "${BASH_SOURCE[0]}")/.." || exit 1
 program=$(tests/proved.py) || exit 1
-folder=$(mktemp -d) || exit 1
-trap 'rm -rf "$folder"' EXIT
 . tests/counting.sh
 
 # What stands for some text, whatever it is: the texts of clap are not ours.

@@ -17,10 +17,9 @@ if [ "${1-}" != inside ]; then
   done
 fi
 
-folder=$(mktemp -d) || exit 1
+. tests/counting.sh
 # What a case that failed left running ends with this script.
 trap 'kill $(jobs -p) 2>/dev/null; rm -rf "$folder"' EXIT
-. tests/counting.sh
 
 # ends STATUS OUTPUT ERRORS COMMAND..: the command ends with this status and writes this output and these
 # errors; where these end in '..', one line that begins so.
@@ -53,9 +52,6 @@ counts() {
     check "$1" false
   fi
 }
-
-# has COMMAND WHAT: the command is here, or a line says that this is skipped.
-has() { command -v "$1" >/dev/null || ! echo "skipped: $2, since $1 is not here"; }
 
 . tests/record/arguments.sh
 . tests/record/traces.sh

@@ -6,11 +6,9 @@
 set -u
 cd "$(dirname "${BASH_SOURCE[0]}")/.." || exit 1
 program=$(tests/proved.py) || exit 1
-folder=$(mktemp -d) || exit 1
-trap 'rm -rf "$folder"' EXIT
+. tests/counting.sh
 library=$folder/refuse.so
 mark=$folder/refused
-. tests/counting.sh
 
 # The program asks the C library for memory by no function that the library here doesn't count.
 asks_by_counted_functions() {

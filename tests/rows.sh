@@ -5,8 +5,6 @@
 # failed, a table has no row, or the program fails or prints another line.
 set -u
 cd "$(dirname "${BASH_SOURCE[0]}")/.." || exit 1
-folder=$(mktemp -d) || exit 1
-trap 'rm -rf "$folder"' EXIT
 . tests/counting.sh
 
 # rows FILE: each row of a table in a line, its lines parted by tabs. Bytes that are named are no row.

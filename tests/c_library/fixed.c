@@ -2,21 +2,13 @@
  * What include/rtnlc.h says of codes, sorts, contexts and limits, of null pointers and of the
  * largest datagrams, held against what the calls answer.
  */
+#include "expect.h"
 #include "layout.h"
 #include "made.h"
 
 #define LARGEST (1 << 20)
 
 static const struct rtnlc_options widest = { 0, LARGEST, 0, 32, false };
-static size_t failures;
-
-static void expect(const char *what, unsigned long found, unsigned long wanted)
-{
-	if (found == wanted)
-		return;
-	failures++;
-	fprintf(stderr, "%s: expected %lu, found %lu\n", what, wanted, found);
-}
 
 /* What a scan and a check of a block find, which is freed then. */
 static void expect_scan(const char *what, uint8_t *bytes, size_t len,

@@ -3,7 +3,7 @@
  * session KIND SEQ PORT ORDER ENTRIES <RECORDING. Of each entry it looks at the key, and at what
  * too little room gets.
  */
-#include "lines.h"
+#include "asked.h"
 
 #define ROOM (1 << 17)
 
@@ -22,12 +22,6 @@ static const char *word(uint16_t kind)
 static const char *said(bool so)
 {
 	return so ? "yes" : "no";
-}
-
-static void must(bool holds, const char *what, size_t number)
-{
-	if (!holds)
-		fail(what, number);
 }
 
 /* Feeds all datagrams, up to the end of the dump, and prints those that are refused. */
@@ -119,9 +113,7 @@ int main(int words, char **word_at)
 	uint16_t kind;
 	if (words != 6)
 		return 2;
-	kind = (uint16_t)strtoul(word_at[1], NULL, 10);
-	seq = (uint32_t)strtoul(word_at[2], NULL, 10);
-	port = (uint32_t)strtoul(word_at[3], NULL, 10);
+	read_asked(word_at, &kind, &seq, &port);
 	limits.big = !strcmp(word_at[4], "big");
 	limits.entries = (uint32_t)strtoul(word_at[5], NULL, 10);
 	must(rtnlc_session_new(&s, &limits) == RTNLC_OK, "a new session", 0);

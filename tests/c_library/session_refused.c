@@ -5,6 +5,7 @@
  * of a session that was never refused, and nothing is left allocated. It says how many
  * allocations were refused.
  */
+#include "asked.h"
 #include "refusing.h"
 
 #define ROOM  (1 << 17)
@@ -23,19 +24,6 @@ static struct rtnlc_options limits = { RTNLC_STANDARD_TOTAL, RTNLC_STANDARD_DATA
 static struct datagram all[MOST];
 static size_t count;
 static uint8_t out[ROOM];
-
-static void must(bool holds, const char *what, size_t number)
-{
-	if (!holds)
-		fail(what, number);
-}
-
-static uint64_t added(uint64_t sum, const uint8_t *bytes, size_t len)
-{
-	for (; len; len--)
-		sum = (sum ^ *bytes++) * 1099511628211u;
-	return sum;
-}
 
 /* A sum of all entries of a family, and of their keys. */
 static uint64_t sum_of(struct rtnlc_session *s, uint16_t kind, uint32_t entries)
@@ -227,9 +215,7 @@ int main(int words, char **word)
 	uint32_t seq, port;
 	if (words != 5)
 		return 2;
-	kind = (uint16_t)strtoul(word[1], NULL, 10);
-	seq = (uint32_t)strtoul(word[2], NULL, 10);
-	port = (uint32_t)strtoul(word[3], NULL, 10);
+	read_asked(word, &kind, &seq, &port);
 	limits.big = !strcmp(word[4], "big");
 	while (count < MOST && next_datagram(stdin, &all[count])) {
 		count++;

@@ -4,7 +4,7 @@
  * thread to thread, each datagram and each entry in another one. All come to what one thread
  * alone comes to.
  */
-#include "lines.h"
+#include "asked.h"
 #include <pthread.h>
 
 #define ROOM    (1 << 17)
@@ -28,19 +28,6 @@ static struct datagram all[MOST];
 static size_t count;
 static uint16_t kind;
 static uint32_t seq, port;
-
-static void must(bool holds, const char *what, size_t number)
-{
-	if (!holds)
-		fail(what, number);
-}
-
-static uint64_t added(uint64_t sum, const uint8_t *bytes, size_t len)
-{
-	for (; len; len--)
-		sum = (sum ^ *bytes++) * 1099511628211u;
-	return sum;
-}
 
 static void begin(struct baton *it)
 {
@@ -140,9 +127,7 @@ int main(int words, char **word)
 	size_t at;
 	if (words != 4)
 		return 2;
-	kind = (uint16_t)strtoul(word[1], NULL, 10);
-	seq = (uint32_t)strtoul(word[2], NULL, 10);
-	port = (uint32_t)strtoul(word[3], NULL, 10);
+	read_asked(word, &kind, &seq, &port);
 	while (count < MOST && next_datagram(stdin, &all[count]))
 		count++;
 	must(count > 0, "no datagrams", 0);

@@ -5,7 +5,7 @@
  * handed these messages alone, must come to the table of the first.
  */
 #include "alike.h"
-#include "lines.h"
+#include "asked.h"
 
 #define ROOM (1 << 15)
 
@@ -18,12 +18,6 @@ static uint8_t some[1 << 17], same[1 << 17];
 static uint16_t kind;
 static uint32_t seq, port;
 static unsigned long items;
-
-static void must(bool holds, const char *what, size_t number)
-{
-	if (!holds)
-		fail(what, number);
-}
 
 /* Whether a message ends the dump: DONE, OVERRUN, or an error of a code that isn't 0. */
 static bool is_end(const struct datagram *one, const struct rtnlc_message *it)
@@ -129,9 +123,7 @@ int main(int words, char **word)
 	uint8_t request[RTNLC_REQUEST];
 	if (words != 5)
 		return 2;
-	kind = (uint16_t)strtoul(word[1], NULL, 10);
-	seq = (uint32_t)strtoul(word[2], NULL, 10);
-	port = (uint32_t)strtoul(word[3], NULL, 10);
+	read_asked(word, &kind, &seq, &port);
 	limits.big = !strcmp(word[4], "big");
 	must(!rtnlc_stream_new(&stream, &limits) && !rtnlc_session_new(&whole, &limits) &&
 	         !rtnlc_session_new(&parts, &limits),

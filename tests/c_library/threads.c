@@ -2,7 +2,7 @@
  * Four threads make every call on every datagram of a recording at once. Each comes to the sum
  * of all answers to which one alone came before.
  */
-#include "lines.h"
+#include "asked.h"
 #include <pthread.h>
 
 #define THREADS 4
@@ -10,16 +10,6 @@
 
 static struct datagram *all;
 static size_t count;
-
-/* A sum of bytes in which their order counts. */
-static uint64_t added(uint64_t sum, const void *block, size_t size)
-{
-	const uint8_t *bytes = (const uint8_t *)block;
-	size_t at;
-	for (at = 0; at < size; at++)
-		sum = (sum ^ bytes[at]) * 1099511628211u;
-	return sum;
-}
 
 static uint64_t with_number(uint64_t sum, uint64_t number)
 {

@@ -1,6 +1,7 @@
 /*
  * What a wrong use gets, row by row as docs/C.md has it, but for what is undefined there.
  */
+#include "expect.h"
 #include <rtnlc.h>
 #include <stdio.h>
 #include <string.h>
@@ -17,15 +18,6 @@ static uint8_t zeros[LARGEST + 1];
 static const struct rtnlc_options none = { 0, 0, 0, 0, false };
 static uint8_t out[64];
 static struct rtnlc_event events[4];
-static size_t failures;
-
-static void expect(const char *what, unsigned long found, unsigned long wanted)
-{
-	if (found == wanted)
-		return;
-	failures++;
-	fprintf(stderr, "wrong: %s: expected %lu, found %lu\n", what, wanted, found);
-}
 
 /* A code, and the bytes or the room that it tells of. */
 static void expect_put(const char *what, struct rtnlc_put put, uint8_t code, size_t len)

@@ -20,9 +20,6 @@ shows() {
   diff <(masked "$folder/expected") <(masked "$folder/found")
 }
 
-# has COMMAND WHAT: the command is here, or a line says that this is skipped.
-has() { command -v "$1" >/dev/null || ! echo "skipped: $2, since $1 is not here"; }
-
 # tools: the commands of a block, without those that the recorder reads captures by.
 tools() { sed -E 's/rtnl-record (pcap|rtmon|strace|xxd) //g' <<<"${commands[*]-}"; }
 

@@ -2,12 +2,19 @@
 
 # ---- accepted datagrams
 
-loopback_bytes='datagram 1 bytes 48
-    0  30 00 00 00                                      nlmsg_len 48
-    4  10 00                                            nlmsg_type 16 RTM_NEWLINK
+# rows_of_header LENGTH BYTE TYPE BYTE: the rows of a header; its length and its type are these bytes.
+rows_of_header() {
+  cat <<END
+    0  $2 00 00 00                                      nlmsg_len $1
+    4  $4 00                                            nlmsg_type $3
     6  02 00                                            nlmsg_flags 0x0002 MULTI
     8  01 00 00 00                                      nlmsg_seq 1
    12  39 30 00 00                                      nlmsg_pid 12345
+END
+}
+
+loopback_bytes="datagram 1 bytes 48
+$(rows_of_header 48 30 '16 RTM_NEWLINK' 10)
    16  00                                                 ifi_family 0
    17  00                                                 __ifi_pad
    18  04 03                                              ifi_type 772
@@ -20,7 +27,7 @@ loopback_bytes='datagram 1 bytes 48
    39  00                                                   padding
    40  08 00                                                rta_len 8
    42  04 00                                                rta_type 4 IFLA_MTU
-   44  00 00 01 00                                          IFLA_MTU u32 65536'
+   44  00 00 01 00                                          IFLA_MTU u32 65536"
 expect 'bytes of a link' 0 "$loopback_bytes" '' show --bytes <<<"$loopback"
 expect 'bytes of a link, FILE' 0 "$loopback_bytes" '' show --bytes "$folder/link" </dev/null
 expect 'bytes of a link, as text' 0 "$loopback_bytes" '' show --format text --bytes <<<"$loopback"
@@ -105,12 +112,8 @@ expect 'bytes of messages without attributes' 0 'datagram 1 bytes 124
 # rows_of_link LENGTH BYTE: the rows of the header and the head of a link of zeros; its length is
 # this byte.
 rows_of_link() {
+  rows_of_header "$1" "$2" '16 RTM_NEWLINK' 10
   cat <<END
-    0  $2 00 00 00                                      nlmsg_len $1
-    4  10 00                                            nlmsg_type 16 RTM_NEWLINK
-    6  02 00                                            nlmsg_flags 0x0002 MULTI
-    8  01 00 00 00                                      nlmsg_seq 1
-   12  39 30 00 00                                      nlmsg_pid 12345
    16  00                                                 ifi_family 0
    17  00                                                 __ifi_pad
    18  00 00                                              ifi_type 0
@@ -123,12 +126,8 @@ zero_link='1000 0200 01000000 39300000 00000000 00000000 00000000 00000000'
 
 # rows_of_route LENGTH BYTE: the same of a route.
 rows_of_route() {
+  rows_of_header "$1" "$2" '24 RTM_NEWROUTE' 18
   cat <<END
-    0  $2 00 00 00                                      nlmsg_len $1
-    4  18 00                                            nlmsg_type 24 RTM_NEWROUTE
-    6  02 00                                            nlmsg_flags 0x0002 MULTI
-    8  01 00 00 00                                      nlmsg_seq 1
-   12  39 30 00 00                                      nlmsg_pid 12345
    16  02                                                 rtm_family 2
    17  00                                                 rtm_dst_len 0
    18  00                                                 rtm_src_len 0
