@@ -48,7 +48,7 @@ LINKS = 65_536
 FEW, MANY = 10_000, 1_000_000
 ROUTES, DATAGRAM = 300, 32_768
 
-# What the dumps need, as tests/packages.sh takes it.
+# What the dumps need, as tests/helpers/install_packages.sh takes it.
 PACKAGES = [
     "cc", "gcc", "pkg-config", "pkg-config", "valgrind", "valgrind", "/usr/bin/time", "time",
     "/usr/include/libmnl/libmnl.h", "libmnl-dev", "/usr/include/libnl3/netlink/netlink.h", "libnl-3-dev",
@@ -423,7 +423,7 @@ def sessions(folder, ours, nl):
 
 def dumps():
     """What a stream and a session of our C library take, beside libmnl and libnl."""
-    subprocess.run([os.path.join(TOP, "tests/packages.sh"), *PACKAGES], check=False)
+    subprocess.run([os.path.join(TOP, "tests/helpers/install_packages.sh"), *PACKAGES], check=False)
     with tempfile.TemporaryDirectory() as folder:
         ours = over_ours(folder, "dumps_rtnlc")
         streams(folder, ours, compiled(folder, "dumps_libmnl", "libmnl"))

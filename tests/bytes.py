@@ -9,11 +9,13 @@ each order; of generated ones, changed and cut ones, and hostile ones. The last 
 import functools
 import itertools
 import json
+import os
 import random
 import re
 import sys
 
 sys.dont_write_bytecode = True
+sys.path.insert(0, f"{os.path.dirname(os.path.realpath(__file__))}/helpers")
 import compare
 import datagrams
 import mutations
@@ -67,9 +69,9 @@ def groups(order):
 # What is wrong with what was printed, or nothing.
 
 
-def fault_of_bytes(blocks, datagrams):
+def fault_of_bytes(blocks, found):
     """Which datagram has not each of its bytes once, in order, in the rows of its block."""
-    for number, (rows, data) in enumerate(itertools.zip_longest(blocks, datagrams), 1):
+    for number, (rows, data) in enumerate(itertools.zip_longest(blocks, found), 1):
         place = 0
         for offset, digits, *_ in rows or ():
             if int(offset) != place:
@@ -157,11 +159,11 @@ def cases(order, lines_schema, found, is_short):
 
 def of_order(order, has_schema):
     """The name of each case of an order, and what is wrong in it."""
-    schema = compare.Schema(has_schema)
+    lines_schema = compare.Schema(has_schema)
     return [
         (f"{case} of {name} datagrams, {order}", fault and f"{fault:.1000}")
         for name, *group in groups(ORDERS[order])
-        for case, fault in cases(order, schema, *group)
+        for case, fault in cases(order, lines_schema, *group)
     ]
 
 

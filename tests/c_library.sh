@@ -11,11 +11,11 @@
 set -u
 cd "$(dirname "${BASH_SOURCE[0]}")/.." || exit 1
 top=$PWD
-program=$(tests/proved.py) || exit 1
-. tests/counting.sh
+program=$(tests/helpers/proved.py) || exit 1
+. tests/helpers/cases.sh
 
-tests/packages.sh cc gcc c++ g++ objcopy binutils pkg-config pkg-config mandoc mandoc groff groff-base \
-  go golang-go rustc rustc valgrind valgrind
+tests/helpers/install_packages.sh cc gcc c++ g++ objcopy binutils pkg-config pkg-config \
+  mandoc mandoc groff groff-base go golang-go rustc rustc valgrind valgrind
 # What is installed is what is proved.
 export RTNL_PROVE=1
 c/build.sh "$folder/library" || exit 1

@@ -4,7 +4,7 @@
 # the status is 1 where one differs.
 set -u
 cd "$(dirname "${BASH_SOURCE[0]}")/.." || exit 1
-. tests/counting.sh
+. tests/helpers/cases.sh
 
 # block SORT PAGE: the page's first block of this sort.
 block() { awk -v "fence=\`\`\`$1" '/^```/ { if (inside) exit; inside = $0 == fence; next } inside' "$2"; }

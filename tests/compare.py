@@ -13,6 +13,7 @@ import sys
 from concurrent.futures import ProcessPoolExecutor
 
 sys.dont_write_bytecode = True
+sys.path.insert(0, f"{os.path.dirname(os.path.realpath(__file__))}/helpers")
 import datagrams
 import proved
 import reference
@@ -23,7 +24,6 @@ from datagrams import ORDERS
 
 PROGRAM = proved.program()
 STANDARD = {"order": "little", "family": 0, "depth": reference.DEPTH, "entries": reference.ENTRIES}
-STANDARD["format"] = "text"
 SEQUENCES = (0, 1, 258, 0x01020304, 2**32 - 1)
 GOOD = f"{bytes.fromhex('1400000003000200010000003930000000000000').hex()}\n"
 # Recordings with a bad line, and its number.
@@ -75,19 +75,19 @@ class Schema:
         return None
 
 
-def forms(schema, arguments, recording, objects, sizes):
+def forms(lines_schema, arguments, recording, objects, sizes):
     """What a run prints otherwise than these objects in JSON, and the text of them."""
     command = arguments[0]
     status = int(any("refused" in it or it.get("complete") is False for it in objects))
-    # The address family stands in the request alone, and changes nothing here.
-    family = options(family=2) if command == "table" else []
-    printed, *ends = text = ran(recording, *arguments, *family)
+    # The address family stands in the request alone, and text is what is printed without a format.
+    same = ["--family", "2", "--format", "text"] if command == "table" else []
+    text = ran(recording, *arguments, *same)
     lines, *others = in_json = ran(recording, *arguments, "--format", "json")
     found, again = lines.split("\n")[:-1], ""
     try:
         read = [json.loads(line) for line in found]
         again = reference_lines.text(command, read, sizes)
-        fault = schema.fault(command, found, read)
+        fault = lines_schema.fault(command, found, read)
     except (AttributeError, LookupError, TypeError, ValueError) as error:
         fault = f"no text of the JSON: {error!r}"
     wanted = reference_lines.text(command, objects, sizes)
@@ -98,20 +98,20 @@ def forms(schema, arguments, recording, objects, sizes):
     }
 
 
-def of_each(schema, order, command, recording, found):
+def of_each(lines_schema, order, command, recording, found):
     """The same of `show` or `check`, over a recording of these datagrams."""
     objects = [*reference_lines.of_each(command, found, ORDERS[order])]
     arguments, sizes = [command, *options(order=order)], [len(data) for data in found]
-    return forms(schema, arguments, recording, objects, sizes)
+    return forms(lines_schema, arguments, recording, objects, sizes)
 
 
-def of_table(schema, order, asked, found, fed=None):
+def of_table(lines_schema, order, asked, found, fed=None):
     """The same of one dump."""
     kind, seq, port, depth, entries = asked
     dump = reference.Dump(kind, seq, port, ORDERS[order], depth, entries)
     objects = [*reference_lines.tabled(found, dump)]
     asked = options(order=order, kind=kind, seq=seq, port=port, depth=depth, entries=entries)
-    return forms(schema, ["table", *asked], as_lines(fed or found), objects, ())
+    return forms(lines_schema, ["table", *asked], as_lines(fed or found), objects, ())
 
 
 def of_request(order, kind, family, seq):
@@ -127,19 +127,19 @@ def of_bad_line(arguments, recording, line):
     return {it: difference(wanted, ran(recording, *arguments, *ways[it])) for it in ways}
 
 
-def runs(schema, order):
+def runs(lines_schema, order):
     """The name of each group of runs, and what differs in each of these, by what is compared."""
     of = ORDERS[order]
     every = datagrams.groups(of), datagrams.mutated_groups(of), datagrams.hostile(of)
     for name, found in itertools.chain(*every):
         for command in ("check", "show"):
-            each = [of_each(schema, order, command, as_lines(found), found)]
+            each = [of_each(lines_schema, order, command, as_lines(found), found)]
             yield f"{command} of {name} datagrams", each
     for command in ("check", "show"):
         files = datagrams.recorded_files()
-        yield f"{command} of files", (of_each(schema, order, command, *it) for it in files)
+        yield f"{command} of files", (of_each(lines_schema, order, command, *it) for it in files)
     for name, found in datagrams.table_groups(of):
-        yield f"table of {name} datagrams", (of_table(schema, order, *it) for it in found)
+        yield f"table of {name} datagrams", (of_table(lines_schema, order, *it) for it in found)
     for kind in reference.NEW:
         numbers = itertools.product((0, 2, 7, 10, 255), SEQUENCES)
         yield f"request of {kind}", (of_request(order, kind, *it) for it in numbers)

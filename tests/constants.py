@@ -12,7 +12,8 @@ import sys
 from typing import Iterator, List
 
 sys.dont_write_bytecode = True
-sys.path.insert(0, f"{os.path.dirname(os.path.realpath(__file__))}/../launch")
+HERE = os.path.dirname(os.path.realpath(__file__))
+sys.path[:0] = [f"{HERE}/../launch", f"{HERE}/helpers"]
 from counting import counted
 from crates import ROOT, files
 

@@ -8,11 +8,11 @@ set -u
 cd "$(dirname "${BASH_SOURCE[0]}")/.." || exit 1
 export LC_ALL=C.UTF-8
 
-program=$(tests/proved.py) && program=$(realpath "$program") || exit 1
-tests/packages.sh sqlite3 sqlite3
+program=$(tests/helpers/proved.py) && program=$(realpath "$program") || exit 1
+tests/helpers/install_packages.sh sqlite3 sqlite3
 page=docs/FLEET.md
-. tests/counting.sh
-. tests/first_hour/blocks.sh
+. tests/helpers/cases.sh
+. tests/getting_started/blocks.sh
 
 # make NAME COUNT: a folder of a user with so many hosts, where the commands are run from here on.
 make() {

@@ -12,12 +12,13 @@ import sys
 from typing import Iterator, List, NamedTuple, Optional, Tuple
 
 sys.dont_write_bytecode = True
-sys.path.insert(0, f"{os.path.dirname(os.path.realpath(__file__))}/../record")
+TESTS = os.path.dirname(os.path.realpath(__file__))
+sys.path[:0] = [f"{TESTS}/../record", f"{TESTS}/helpers"]
 import groups
 import reference
 from counting import counted
 
-ROOT = os.path.join(os.path.dirname(os.path.abspath(__file__)), "..")
+ROOT = os.path.dirname(TESTS)
 HEADERS = ("netlink", "rtnetlink", "if_link", "if_addr", "neighbour", "fib_rules")
 # What else of the headers stands in specs/ as a number.
 FIXED = {

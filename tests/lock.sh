@@ -4,7 +4,7 @@
 # failed.
 set -u
 cd "$(dirname "${BASH_SOURCE[0]}")/.." || exit 1
-. tests/counting.sh
+. tests/helpers/cases.sh
 
 small=$folder/small
 low=$small/crates/low

@@ -11,16 +11,17 @@ set -u
 cd "$(dirname "${BASH_SOURCE[0]}")/.." || exit 1
 top=$PWD
 unset DESTDIR libdir SOURCE_DATE_EPOCH RTNL_PROVE RTNL_BUILD RTNL_PATH
-program=$(tests/proved.py) || exit 1
-. tests/counting.sh
+program=$(tests/helpers/proved.py) || exit 1
+. tests/helpers/cases.sh
 
-tests/packages.sh cc gcc objcopy binutils pkg-config pkg-config dpkg-deb dpkg lintian lintian \
-  git git
+tests/helpers/install_packages.sh cc gcc objcopy binutils pkg-config pkg-config dpkg-deb dpkg \
+  lintian lintian git git
 
 # What is made here, and how ./package is told of it.
 how=()
 said_of_program='program proved where it was built'
-tests/proved.py "$program" || how+=(--unproved) said_of_program='program NOT PROVED where it was built'
+tests/helpers/proved.py "$program" ||
+  how+=(--unproved) said_of_program='program NOT PROVED where it was built'
 has_library=yes
 [ -n "${RTNL_PROGRAM-}" ] || c/build.sh "$folder/library" || exit 1
 if ! RTNL_BUILD=no launch/build.py library 2>/dev/null; then

@@ -24,7 +24,8 @@ import sys
 from typing import Callable, Dict, Iterator, List, NamedTuple, Set, Tuple
 
 sys.dont_write_bytecode = True
-sys.path.insert(0, f"{os.path.dirname(os.path.realpath(__file__))}/../launch")
+HERE = os.path.dirname(os.path.realpath(__file__))
+sys.path[:0] = [f"{HERE}/../launch", f"{HERE}/helpers"]
 import headers
 import reference
 from contracts import Contracts, Texts

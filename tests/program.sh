@@ -5,8 +5,8 @@
 # and the status is 1 where a case failed.
 set -u
 cd "$(dirname "${BASH_SOURCE[0]}")/.." || exit 1
-program=$(tests/proved.py) || exit 1
-. tests/counting.sh
+program=$(tests/helpers/proved.py) || exit 1
+. tests/helpers/cases.sh
 
 # What stands for some text, whatever it is: the texts of clap are not ours.
 any='(some text)'

@@ -5,8 +5,8 @@
 # one. What is explained may also be left out, and then it says so. The last line is 'N passed, M failed', and the status is 1 where a case failed.
 set -u
 cd "$(dirname "${BASH_SOURCE[0]}")/.." || exit 1
-program=$(tests/proved.py) || exit 1
-. tests/counting.sh
+program=$(tests/helpers/proved.py) || exit 1
+. tests/helpers/cases.sh
 library=$folder/refuse.so
 mark=$folder/refused
 
@@ -136,7 +136,7 @@ refuse_each 'a DONE in bytes, in JSON' 0 "$folder/done" show --bytes --format js
 check 'a DONE in bytes, in JSON, its rows' cmp -s "$folder/done.objects" "$folder/found.output"
 
 # A shorter one, since each line takes memory.
-addresses=tests/recordings/loopback_addresses.hex
+addresses=tests/data/recordings/loopback_addresses.hex
 refuse_each "$addresses in bytes, in JSON" 0 /dev/null show --bytes --format json "$addresses"
 check "$addresses in bytes, in JSON, its datagrams" \
   [ "$(grep -c '^{"datagram":[12],"offset":0,' "$folder/found.output")" = 2 ]

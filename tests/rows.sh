@@ -1,11 +1,11 @@
 #!/usr/bin/env bash
-# Gives the program of crates/rtnl_rows each table of tests/rows: rows of calls with their input and what they are to
+# Gives the program of crates/rtnl_rows each table of tests/data/rows: rows of calls with their input and what they are to
 # answer. It prints the table with what the calls do answer, so a row holds where both are the same. A case is a row,
 # once for each compiler that built the program. The last line is 'N passed, M failed', and the status is 1 where a row
 # failed, a table has no row, or the program fails or prints another line.
 set -u
 cd "$(dirname "${BASH_SOURCE[0]}")/.." || exit 1
-. tests/counting.sh
+. tests/helpers/cases.sh
 
 # rows FILE: each row of a table in a line, its lines parted by tabs. Bytes that are named are no row.
 rows() {
@@ -49,7 +49,7 @@ try() {
 }
 
 program=crates/rtnl_rows/out/rtnl_rows
-for table in tests/rows/*.rows; do
+for table in tests/data/rows/*.rows; do
   try "$program" "$table"
   if [ -e "$program.by-rattle" ]; then
     try "$program.by-rattle" "$table"

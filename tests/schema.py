@@ -4,11 +4,11 @@
   tests/schema.py          tests the schema
   tests/schema.py FILE ..  says which lines of these files it does not allow
 
-The test goes over lines in schema/, worked by hand, that have each object, each field and each
-word; over all that comes of them where one thing is changed, which must not be allowed; over the
-ranges of numbers; and over the lines that the pages and other tests show. Two libraries read the
-schema: jsonschema, and fastjsonschema, which compiles it, for the many lines of forms.py; here
-they must agree. The last line is 'N passed, M failed', and the status is 1 where a case failed.
+The test goes over lines in data/lines_of_json/, worked by hand, that have each object, each field
+and each word; over all that comes of them where one thing is changed, which must not be allowed;
+over the ranges of numbers; and over the lines that the pages and other tests show. Two libraries
+read the schema: jsonschema, and fastjsonschema, which compiles it, for the many lines of
+compare.py; here they must agree. The last line is 'N passed, M failed', and the status is 1 where a case failed.
 """
 import copy
 import importlib
@@ -21,13 +21,14 @@ import sys
 from typing import Any, Dict, Iterator, List, Optional, Tuple
 
 sys.dont_write_bytecode = True
+sys.path.insert(0, f"{os.path.dirname(os.path.realpath(__file__))}/helpers")
 from counting import counted
 
 ROOT = os.path.dirname(os.path.dirname(os.path.realpath(__file__)))
 COMMANDS = "show", "check", "table"
 # Files that show lines, and what stands in front of one.
 PAGES = ["README.md", "share/man/man1/rtnl.1"]
-PAGES += ["tests/rows/json.rows", "tests/rows/bytes.rows"]
+PAGES += ["tests/data/rows/json.rows", "tests/data/rows/bytes.rows"]
 PAGES += ["tests/refuse.sh", "tests/refuse/rows.sh"]
 SHOWN = re.compile(r'(?:= )?(\{".*)')
 # The libraries, and the Python of Debian, to which its packages of them belong.
@@ -53,7 +54,7 @@ def has_libraries() -> bool:
 
     if not found():
         wanted = [word for it in LIBRARIES for word in (f"{PACKAGES}/{it}", f"python3-{it}")]
-        subprocess.run([f"{ROOT}/tests/packages.sh", *wanted], check=False)
+        subprocess.run([f"{ROOT}/tests/helpers/install_packages.sh", *wanted], check=False)
         is_there = all(os.path.exists(f"{PACKAGES}/{it}") for it in LIBRARIES)
         if is_there and os.path.realpath(sys.executable) != os.path.realpath(DEBIAN):
             os.execv(DEBIAN, [DEBIAN, *sys.argv])
@@ -151,7 +152,7 @@ def fault_of_notes() -> Fault:
 
 
 def hand_made(command: str) -> List[Json]:
-    with open(f"{ROOT}/tests/schema/{command}.jsonl", encoding="utf-8") as lines:
+    with open(f"{ROOT}/tests/data/lines_of_json/{command}.jsonl", encoding="utf-8") as lines:
         return [json.loads(line) for line in lines]
 
 

@@ -1,7 +1,7 @@
 # The library beside libmnl, libnl and iproute2's libnetlink: in one program, in either order, and
 # by names alone.
 
-tests/packages.sh /usr/include/libmnl/libmnl.h libmnl-dev \
+tests/helpers/install_packages.sh /usr/include/libmnl/libmnl.h libmnl-dev \
   /usr/include/libnl3/netlink/route/link.h libnl-route-3-dev
 libnl=(-isystem /usr/include/libnl3)
 

@@ -1,6 +1,6 @@
 #!/usr/bin/env python3
 """dumps.py COUNT COMMAND..: holds dumps.c, run by this command, against reading.py, over so many
-dumps in each byte order. They are made of the messages of examples/ and of tests/recordings/,
+dumps in each byte order. They are made of the messages of examples/ and of tests/data/recordings/,
 the same in each run, and mutated: flags, types, lengths, sequence numbers, port ids, datagrams
 that are cut or come twice, small limits, and too little room. It says how many of what there were;
 the status is 1 where an answer differs, or where some answer that could come never did.
@@ -14,7 +14,7 @@ import sys
 import zlib
 
 sys.dont_write_bytecode = True
-sys.path.insert(0, os.path.join(os.path.dirname(os.path.abspath(__file__)), ".."))
+sys.path.insert(0, f"{os.path.dirname(os.path.realpath(__file__))}/../helpers")
 import datagrams
 import mutations
 import reading

@@ -1,7 +1,7 @@
 # The header by itself: as C and as C++ of several versions, the macros that it leaves, its names,
 # and what gcc says of wrong uses.
 
-tests/packages.sh clang clang
+tests/helpers/install_packages.sh clang clang
 
 # is_clean COMMAND..: this compiler takes the header alone, twice, without a word.
 is_clean() {

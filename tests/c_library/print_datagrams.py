@@ -1,8 +1,8 @@
 #!/usr/bin/env python3
 """Prints datagrams as lines of hexadecimal.
 
-  print_datagrams.py recorded ORDER  those of examples/ and of tests/recordings/, and each of their
-                                     messages alone
+  print_datagrams.py recorded ORDER  those of examples/ and of tests/data/recordings/, and each of
+                                     their messages alone
   print_datagrams.py mutated ORDER   mutations of them, the same in each run
   print_datagrams.py NAME ORDER      those of the recording NAME
   print_datagrams.py asked           a line for each recording: its name, the family's word and NEW
@@ -15,7 +15,7 @@ import random
 import sys
 
 sys.dont_write_bytecode = True
-sys.path.insert(0, os.path.join(os.path.dirname(os.path.abspath(__file__)), ".."))
+sys.path.insert(0, f"{os.path.dirname(os.path.realpath(__file__))}/../helpers")
 import datagrams
 import mutations
 import reference

@@ -1,5 +1,5 @@
 """What the calls on a session and on a stream answer, by docs/FORMAT.md alone. It adds to the
-second reading, ../reference.py, the events of a datagram and the limits of a session.
+second reading, ../helpers/reference.py, the events of a datagram and the limits of a session.
 """
 import struct
 import zlib

@@ -1,5 +1,5 @@
 #!/usr/bin/env bash
-# Runs rtnl-record. Its arguments; the traces in tests/record/, which strace wrote of small programs, where the
+# Runs rtnl-record. Its arguments; the traces in tests/rtnl_record/, which strace wrote of small programs, where the
 # expected lines are cut from the bytes that it printed; captures of a live kernel in examples/, and what tools make
 # of them; captures that are made by hand, and changed at random; and the kernel itself, in a network namespace of
 # its own, where the machine allows one, with what `ip` makes there. A part that can't run says so and isn't
@@ -7,17 +7,17 @@
 set -u
 cd "$(dirname "${BASH_SOURCE[0]}")/.." || exit 1
 
-program=$(tests/proved.py) || exit 1
+program=$(tests/helpers/proved.py) || exit 1
 
 # All runs in the namespace, if there can be one.
 if [ "${1-}" != inside ]; then
-  tests/packages.sh ip iproute2 strace strace xxd xxd hexdump bsdextrautils tshark tshark tcpdump tcpdump
+  tests/helpers/install_packages.sh ip iproute2 strace strace xxd xxd hexdump bsdextrautils tshark tshark tcpdump tcpdump
   for way in -n -rn; do
-    unshare "$way" ip link set lo up 2>/dev/null && exec unshare "$way" tests/record.sh inside
+    unshare "$way" ip link set lo up 2>/dev/null && exec unshare "$way" tests/rtnl_record.sh inside
   done
 fi
 
-. tests/counting.sh
+. tests/helpers/cases.sh
 # What a case that failed left running ends with this script.
 trap 'kill $(jobs -p) 2>/dev/null; rm -rf "$folder"' EXIT
 
@@ -53,14 +53,14 @@ counts() {
   fi
 }
 
-. tests/record/arguments.sh
-. tests/record/traces.sh
-. tests/record/captures.sh
-counts tests/record/made.py
-counts tests/record/answers.py
-counts tests/record/fuzz.py
+. tests/rtnl_record/arguments.sh
+. tests/rtnl_record/traces.sh
+. tests/rtnl_record/captures.sh
+counts tests/rtnl_record/made.py
+counts tests/rtnl_record/answers.py
+counts tests/rtnl_record/fuzz.py
 if [ "${1-}" = inside ]; then
-  . tests/record/live.sh
+  . tests/rtnl_record/live.sh
 else
   echo 'skipped: the live way, since no network namespace can be made here'
 fi

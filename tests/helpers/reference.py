@@ -14,7 +14,7 @@ from typing import Any, Dict, List, NamedTuple
 
 DEPTH, LARGEST, ENTRIES = 8, 65536, 4096
 ENDS = {"<": "little", ">": "big"}
-ROOT = os.path.dirname(os.path.dirname(os.path.realpath(__file__)))
+ROOT = os.path.realpath(f"{os.path.dirname(os.path.realpath(__file__))}/../..")
 NUMBER = re.compile(r"^([A-Z]\w+) = (\w+)$", re.M)
 ROW = re.compile(r'\((\w+), codes "(\w+)", (\w+)\)|\(codes "(\w+)", (0x[0-9a-f]+)\)')
 

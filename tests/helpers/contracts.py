@@ -7,7 +7,7 @@ import sys
 from typing import Dict, Iterator, List, NamedTuple, Optional, Set, Tuple
 
 sys.dont_write_bytecode = True
-sys.path.insert(0, f"{os.path.dirname(os.path.realpath(__file__))}/../launch")
+sys.path.insert(0, f"{os.path.dirname(os.path.realpath(__file__))}/../../launch")
 from crates import Crates, below
 
 # Texts of files by their paths in the repository.

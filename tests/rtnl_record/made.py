@@ -7,7 +7,7 @@ import os
 import sys
 
 sys.dont_write_bytecode = True
-sys.path.insert(0, os.path.dirname(os.path.dirname(os.path.realpath(__file__))))
+sys.path.insert(0, f"{os.path.dirname(os.path.realpath(__file__))}/../helpers")
 import made_dumps
 import made_pcap
 import made_rtmon

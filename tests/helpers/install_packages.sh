@@ -1,6 +1,6 @@
 #!/usr/bin/env bash
-# packages.sh FILE PACKAGE ..: installs each package whose command, or file, is not here, where
-# the user is root and there is apt-get; else it says what is missing.
+# install_packages.sh FILE PACKAGE ..: installs each package whose command, or file, is not here,
+# where the user is root and there is apt-get; else it says what is missing.
 set -u
 missing=()
 while [ "$#" -ge 2 ]; do

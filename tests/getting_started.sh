@@ -10,27 +10,27 @@ cd "$(dirname "${BASH_SOURCE[0]}")/.." || exit 1
 # All is over a proved program, but where tests/run --quick names the one that ./rtnl runs.
 unset RTNL_PATH RTNL_BUILD DESTDIR libdir
 [ -n "${RTNL_PROGRAM-}" ] || export RTNL_PROVE=1
-tests/proved.py >/dev/null || exit 1
+tests/helpers/proved.py >/dev/null || exit 1
 
 if [ "${1-}" != inside ]; then
-  tests/packages.sh mandoc mandoc xxd xxd jq jq strace strace tshark tshark ip iproute2 \
+  tests/helpers/install_packages.sh mandoc mandoc xxd xxd jq jq strace strace tshark tshark ip iproute2 \
     /usr/share/bash-completion/bash_completion bash-completion zsh zsh fish fish
   # The first run builds the program where it isn't built from these sources.
   ./rtnl --version >/dev/null || exit 1
   for way in -n -rn; do
-    unshare "$way" ip link set lo up 2>/dev/null && exec unshare "$way" tests/first_hour.sh inside
+    unshare "$way" ip link set lo up 2>/dev/null && exec unshare "$way" tests/getting_started.sh inside
   done
 fi
 
 top=$PWD
-. tests/counting.sh
+. tests/helpers/cases.sh
 
 # A folder of a user, with links to the launcher, to the installation and to what that installs.
 user=$folder/user
 mkdir "$user" && cp -r examples "$user" && ln -s "$top"/{rtnl,rtnl-record,install,share} "$user" || exit 1
 
 # What standard error has beside --version, and behind an installation.
-if tests/proved.py "$(RTNL_PATH=1 ./rtnl)"; then
+if tests/helpers/proved.py "$(RTNL_PATH=1 ./rtnl)"; then
   version_note='rtnl: this program is proved on this machine'
   install_note=''
 else
@@ -50,22 +50,22 @@ can_trace() {
 inside=no
 [ "${1-}" = inside ] && ip link set lo up && inside=yes
 
-. tests/first_hour/blocks.sh
-. tests/first_hour/commands.sh
-. tests/first_hour/pages.sh
-. tests/first_hour/elsewhere.sh
-. tests/first_hour/installation.sh
-. tests/first_hour/manual.sh
-. tests/first_hour/module.sh
-. tests/first_hour/recorder.sh
-. tests/first_hour/completions.sh
-. tests/first_hour/kit.sh
-. tests/first_hour/launcher.sh
-. tests/first_hour/unproved.sh
-. tests/first_hour/ended.sh
-. tests/first_hour/installed.sh
-. tests/first_hour/prepared.sh
-. tests/first_hour/records.sh
-. tests/first_hour/refusals.sh
+. tests/getting_started/blocks.sh
+. tests/getting_started/commands.sh
+. tests/getting_started/pages.sh
+. tests/getting_started/elsewhere.sh
+. tests/getting_started/installation.sh
+. tests/getting_started/manual.sh
+. tests/getting_started/module.sh
+. tests/getting_started/recorder.sh
+. tests/getting_started/completions.sh
+. tests/getting_started/kit.sh
+. tests/getting_started/launcher.sh
+. tests/getting_started/unproved.sh
+. tests/getting_started/ended.sh
+. tests/getting_started/installed.sh
+. tests/getting_started/prepared.sh
+. tests/getting_started/records.sh
+. tests/getting_started/refusals.sh
 
 finish

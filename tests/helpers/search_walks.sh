@@ -1,5 +1,5 @@
 #!/usr/bin/env bash
-# search.sh FOLDER: looks through the sources of all crates in a folder, but for the tests and the examples of
+# search_walks.sh FOLDER: looks through the sources of all crates in a folder, but for the tests and the examples of
 # callers, for a walk over attribute bytes beside that of a reading and that of a scan, for one of these that
 # is made twice, or for one that isn't counted. It prints what it finds, and its status is then 1.
 set -u

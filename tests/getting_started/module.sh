@@ -2,7 +2,7 @@
 
 # asks COMMAND PROGRAM TEXT: what jq prints of the lines of this command.
 asks() {
-  ends 0 "$3" '' jq -L "$prefix/share/rtnl" -c "include \"rtnl\"; $2" "tests/schema/$1.jsonl"
+  ends 0 "$3" '' jq -L "$prefix/share/rtnl" -c "include \"rtnl\"; $2" "tests/data/lines_of_json/$1.jsonl"
 }
 
 # gives PROGRAM TEXT: what jq prints of nothing.

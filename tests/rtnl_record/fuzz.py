@@ -21,7 +21,7 @@ from typing import BinaryIO, Callable, Iterator, List, NamedTuple
 sys.dont_write_bytecode = True
 HERE = os.path.dirname(os.path.realpath(__file__))
 ROOT = os.path.dirname(os.path.dirname(HERE))
-sys.path[:0] = [f"{ROOT}/record", f"{ROOT}/tests"]
+sys.path[:0] = [f"{ROOT}/record", f"{ROOT}/tests/helpers"]
 import dump
 import hexdump
 import made_dumps

@@ -1,6 +1,6 @@
 # What rtnl-record makes of the traces beside this file.
 
-traces=tests/record
+traces=tests/rtnl_record
 
 # rows FILE FROM TO: the bytes that strace printed in these lines, which are rows, as they were received.
 rows() {

@@ -71,7 +71,7 @@ check 'rtmon as it comes' prints_at_once rtmon examples/links.rtmon
 
 # All modules are of Python 3.8.
 is_of_old_python() {
-  python3 -B - rtnl-record record/*.py tests/record/*.py <<'PY'
+  python3 -B - rtnl-record record/*.py tests/rtnl_record/*.py <<'PY'
 import ast, sys
 for name in sys.argv[1:]:
     ast.parse(open(name, encoding="utf-8").read(), name, feature_version=(3, 8))

@@ -1,6 +1,7 @@
 """The datagrams, and the dumps, that compare.py, bytes.py and c_library/ hand over: those of
-examples/ and of tests/recordings/, whole, cut and changed, mutations of each recording, generated
-ones, and hostile ones. They are the same in each run, and made by the second reading alone.
+examples/ and of tests/data/recordings/, whole, cut and changed, mutations of each recording,
+generated ones, and hostile ones. They are the same in each run, and made by the second reading
+alone.
 """
 import functools
 import glob
@@ -19,11 +20,11 @@ RECORDINGS = {
     "examples/routes": "route",
     "examples/neighbours": "neigh",
     "examples/rules": "rule",
-    "tests/recordings/loopback_addresses": "addr",
-    "tests/recordings/loopback_routes": "route",
-    "tests/recordings/loopback_routes_ipv6": "route",
-    "tests/recordings/no_neighbours": "neigh",
-    "tests/recordings/default_rules": "rule",
+    "tests/data/recordings/loopback_addresses": "addr",
+    "tests/data/recordings/loopback_routes": "route",
+    "tests/data/recordings/loopback_routes_ipv6": "route",
+    "tests/data/recordings/no_neighbours": "neigh",
+    "tests/data/recordings/default_rules": "rule",
 }
 MUTATIONS, FED = 1000, 10
 KINDS = (*reference.SORTS, 0, 1, 4, 5, 15, 23, 27, 31, 35, 40, 65535)
@@ -64,7 +65,7 @@ def recordings(order):
 
 def recorded_files():
     """Each recording as it lies, and the datagrams on its lines, without a blank in them."""
-    for folder in ("examples", "tests/recordings"):
+    for folder in ("examples", "tests/data/recordings"):
         for path in sorted(glob.glob(f"{ROOT}/{folder}/*.hex")):
             with open(path, encoding="ascii") as file:
                 text = file.read()

@@ -12,7 +12,7 @@ from typing import List, NamedTuple, Optional, Tuple
 
 sys.dont_write_bytecode = True
 TESTS = os.path.dirname(os.path.dirname(os.path.realpath(__file__)))
-sys.path[:0] = [f"{TESTS}/../record", TESTS]
+sys.path[:0] = [f"{TESTS}/../record", f"{TESTS}/helpers"]
 import dump
 from counting import counted
 from output import Item, Loss

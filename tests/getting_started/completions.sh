@@ -5,7 +5,7 @@ completes() {
   [ "$("in_$1" "${@:3}" 2>"$folder/errors" | sort | tr '\n' ' ')" = "$2${2:+ }" ] && [ ! -s "$folder/errors" ]
 }
 
-in_bash() { tests/first_hour/in_bash.sh "$prefix" "$@" | grep .; }
+in_bash() { tests/getting_started/in_bash.sh "$prefix" "$@" | grep .; }
 
 in_fish() {
   XDG_DATA_HOME=$folder/fish XDG_CONFIG_HOME=$folder/fish XDG_DATA_DIRS=$prefix/share:/usr/share \
