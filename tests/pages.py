@@ -379,7 +379,7 @@ def bits_row(table: str) -> str:
 
 def lost_names(repository: Repository, page: str) -> Iterator[str]:
     """The rows of names that the page lacks, by the definitions, and those that it made up."""
-    defined = {*map(attribute_row, headers.attributes()), *map(bits_row, reference.BITS)}
+    defined = {*map(attribute_row, headers.attributes()), *map(bits_row, reference.tables("NamedBits"))}
     tables = ("Attributes by number", "Bits by name")
     shown = {row for name, text in sections(repository.texts[page]) if name in tables
              for row in ROW.findall(text)[2:]}
