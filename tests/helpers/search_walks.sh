@@ -131,7 +131,7 @@ crates/nl_attr/src/taping/mod.rt 3
 crates/nl_frame/src/taping.rt 1'
 
 same 'a datagram is scanned by the calls that are made for it, and in no reading' \
-  "$(counts '\b(scan_datagram|tape_datagram|tape_(messages|ordered|big|frame|body|family))\(')" \
+  "$(counts '\b(scan_datagram|tape_datagram|tape_(messages|ordered|big|frame|body|object))\(')" \
   'crates/nl_dump/src/straining.rt 1
 crates/nl_frame/src/scanning.rt 4
 crates/nl_frame/src/taping.rt 9
