@@ -10,7 +10,7 @@ pub data BodyVal : Type 0 where
   error : ℤ → Header → List ℕ → BodyVal
   done : Option ℤ → List ℕ → BodyVal
   overrun : List ℕ → BodyVal
-  family : AnyHead → Items → BodyVal
+  object : AnyHead → Items → BodyVal
   get : ℕ → List ℕ → BodyVal
   other : List ℕ → BodyVal
 
