@@ -1,9 +1,8 @@
 -- The heads of a region in the order in which a scan comes to them, up to the fault that ends it, and the event of each.
-use Rattle.std.specs.Prelude.{◌≡◌, ◌<◌, ◌⊎◌, ◌+◌, ◌-◌, ◌%◌, ℕ, zero, suc, false, List, [], ◌∷◌, ◌++◌, length, map, take, drop, Option, Some, None}
+use Rattle.std.specs.Prelude.{◌≡◌, ◌<◌, ◌⊎◌, ◌+◌, ◌-◌, ◌%◌, ℕ, false, List, ◌++◌, length, take, drop, Option, Some, None}
 use Rattle.nl_attr.specs.Fixed.{NUMBERS, SORT_BYTES, SORT_LIST, SORT_HOPS, SORT_NEXT_HOP}
 use Rattle.nl_attr.specs.declared.fault.Fault.{Fault}
 use Rattle.nl_attr.specs.declared.fault.Reason.{Reason}
-use Rattle.nl_attr.specs.declared.fault.Reason.TheVariants.{Cut, BadLength, ShortBody, TooLong, TooDeep}
 use Rattle.nl_attr.specs.declared.tree.AttrFlags.{AttrFlags}
 use Rattle.nl_attr.specs.declared.tree.Content.{Content}
 use Rattle.nl_attr.specs.declared.tree.Content.TheVariants as content
@@ -12,65 +11,32 @@ use Rattle.nl_attr.specs.declared.events.Event.{Event}
 use Rattle.nl_attr.specs.Shape.{Shape}
 use Rattle.nl_attr.specs.Numbers.{kind_of}
 use Rattle.nl_attr.specs.Walk.{flags_of, payload_of}
-use Rattle.nl_attr.specs.Heads.{Sort, attr_head, hop_head, Head, content_at, broken, IsSound, follower, inner_of, span_at, FaultAt, IsFirstFault}
-use Rattle.nl_attr.specs.Visits.{spans}
+use Rattle.nl_attr.specs.Heads.{Sort, attr_head, hop_head, Head, content_at, unsound, IsSound, heads}
+use Rattle.nl_attr.specs.Grammar.{TrailOf, unless}
+use Rattle.nl_attr.specs.Grammar as grammar
 
 -- ---- the heads in their order
-
--- heads of some kind, and the place and the rule of the fault behind them, where there is one
-abbrev pub TrailOf : Type 0 → Type 0
-TrailOf H = List H × Option (ℕ × Reason)
 
 -- the heads of a region, and the fault behind them
 abbrev pub Trail : Type 0
 Trail = TrailOf Head
 
--- the second follows where no fault ends the first
-abbrev pub and_on : {H : Type 0} → TrailOf H → TrailOf H → TrailOf H
-and_on (hs, None) t = (hs ++ t.0, t.1)
-and_on (hs, Some f) t = (hs, Some f)
-
--- the heads inside an item, where it holds heads
-abbrev pub inner_trail : Option Head → (Head → Trail) → Trail
-inner_trail None f = ([], None)
-inner_trail (Some k) f = f k
-
--- a head that breaks a rule is visited where its length is sound
-abbrev pub stopped : Reason → Head → List Head
-stopped Cut h = []
-stopped BadLength h = []
-stopped ShortBody h = h ∷ []
-stopped TooLong h = h ∷ []
-stopped TooDeep h = h ∷ []
-
--- nothing is left; or the head breaks a rule; or it comes, then the heads inside its item, then those behind it
-abbrev pub trail_turn : List ℕ → Option Reason → Head → Trail → Trail → Trail
-trail_turn [] r h i t = ([], None)
-trail_turn (b ∷ bs) (Some r) h i t = (stopped r h, Some (h.place, r))
-trail_turn (b ∷ bs) None h i t = (h ∷ (and_on i t).0, (and_on i t).1)
-
 module _ (S : Shape) where
-  -- The number bounds the heads. The length of the region is enough.
-  unfoldable pub trail_at : ℕ → Head → Trail
-  trail_at zero h = ([], None)
-  trail_at (suc n) h = trail_turn h.left (broken S h) h (inner_trail (inner_of S h) (λ k. trail_at n k)) (trail_at n (follower S h))
-
   -- the heads of the region that begins with this one, and the fault that ends them
   abbrev pub trail_of : Head → Trail
-  trail_of h = trail_at (length h.left) h
-
-  -- the place of a head, and how many bytes its item occupies
-  abbrev pub visit_of : Head → ℕ × ℕ
-  visit_of h = (h.place, span_at S h)
+  trail_of = grammar.trail_of (heads S)
 
   -- how many bytes the items of these heads occupy
   abbrev pub visits_of : List Head → ℕ
-  visits_of hs = spans (map visit_of hs)
+  visits_of = grammar.visits_of (heads S)
+
+  -- a head, where its length is sound
+  abbrev pub counted : Head → List Head
+  counted h = unless (unsound S h) h
 
   -- what ends the heads: no head of the region breaks a rule, or this is the first fault
   abbrev pub IsEnd : Head → Option (ℕ × Reason) → Type 0
-  IsEnd start None = (p : ℕ) (r : Reason) → FaultAt S start p r → ⊥
-  IsEnd start (Some f) = IsFirstFault S start f.0 f.1
+  IsEnd = grammar.IsEnd (heads S)
 
   -- a head comes before that end: any head where there is no fault, else each before the fault, and the one there where its length is sound
   abbrev pub ComesBefore : Option (ℕ × Reason) → Head → Type 0

@@ -1,5 +1,5 @@
--- Which heads stand where, what each breaks, and what a walk over them visits.
-use Rattle.std.specs.Prelude.{◌≡◌, ◌≢◌, ◌<◌, ◌≤◌, ◌+◌, ◌%◌, ℕ, nat_lt, if◌then◌else◌, List, [], length, drop, Option, Some, None}
+-- The heads of attributes and of next hops: which stand where, and what each breaks.
+use Rattle.std.specs.Prelude.{◌≡◌, ◌+◌, ◌%◌, ℕ, nat_lt, if◌then◌else◌, List, drop, Option, Some, None}
 use Rattle.nl_attr.specs.Fixed.{LONGEST_CONTAINER, NUMBERS}
 use Rattle.nl_attr.specs.declared.fault.Reason.{Reason}
 use Rattle.nl_attr.specs.declared.fault.Reason.TheVariants.{TooLong, TooDeep}
@@ -9,7 +9,9 @@ use Rattle.nl_attr.specs.declared.tree.Content.{Content}
 use Rattle.nl_attr.specs.declared.tree.Content.TheVariants as content
 use Rattle.nl_attr.specs.declared.order.Order.{Order}
 use Rattle.nl_attr.specs.Shape.{Shape}
-use Rattle.nl_attr.specs.Numbers.{aligned, len_of, kind_of, span_of}
+use Rattle.nl_attr.specs.Grammar.{Grammar}
+use Rattle.nl_attr.specs.Grammar as grammar
+use Rattle.nl_attr.specs.Numbers.{len_of, kind_of, span_of}
 use Rattle.nl_attr.specs.Walk.{flags_of, broken_length, payload_of}
 use Rattle.nl_attr.specs.Tree.{holds_of}
 
@@ -80,9 +82,13 @@ module _ (S : Shape) where
   abbrev pub span_at : Head → ℕ
   span_at h = span_of S.order 2 h.left
 
+  -- the rule of its length that a head breaks
+  abbrev pub unsound : Head → Option Reason
+  unsound h = broken_length S.order (least h.sort) 2 h.left
+
   -- its length is there and within bounds
   abbrev pub IsSound : Head → Type 0
-  IsSound h = broken_length S.order (least h.sort) 2 h.left ≡ None
+  IsSound h = unsound h ≡ None
 
   -- the head behind an item and its padding
   abbrev pub follower : Head → Head
@@ -97,16 +103,27 @@ module _ (S : Shape) where
   abbrev pub inner_of : Head → Option Head
   inner_of h = inner_at h.sort h.place h.ctx h.level h.left
 
-  -- the heads that stand in the region that begins with the head `start`
-  pub data HeadAt (start : Head) : Head → Type 0 where
-    first : start.left ≢ [] → HeadAt start start
-    next : (h : Head) → HeadAt start h → IsSound h → aligned (len_at h) < length h.left → HeadAt start (follower h)
-    inner : (h k : Head) → HeadAt start h → broken h ≡ None → inner_of h ≡ Some k → least h.sort < len_at h → HeadAt start k
+  -- the heads of attributes and of next hops: what leads on, and what a walk counts, is a head whose length is sound
+  unfoldable pub heads : Grammar Head
+  heads = record {
+    place = λ h. h.place;
+    left = λ h. h.left;
+    broken = broken;
+    unsound = unsound;
+    uncounted = unsound;
+    visited = span_at;
+    follower = follower;
+    inner = inner_of;
+  }
+
+  -- the heads that stand in the region that begins with the first
+  abbrev pub HeadAt : Head → Head → Type 0
+  HeadAt = grammar.HeadAt heads
 
   -- a head at this place breaks a rule, and none that comes before it
   abbrev pub FaultAt : Head → ℕ → Reason → Type 0
-  FaultAt start place r = (h : Head) × HeadAt start h × (h.place ≡ place) × (broken h ≡ Some r)
+  FaultAt = grammar.FaultAt heads
 
   -- no fault is at an earlier place
   abbrev pub IsFirstFault : Head → ℕ → Reason → Type 0
-  IsFirstFault start place r = FaultAt start place r × ((q : ℕ) (s : Reason) → FaultAt start q s → place ≤ q)
+  IsFirstFault = grammar.IsFirstFault heads

@@ -4,6 +4,7 @@ pub mod Shape
 pub mod Walk
 pub mod Tree
 pub mod Layout
+pub mod Grammar
 pub mod Heads
 pub mod Region
 pub mod Visits

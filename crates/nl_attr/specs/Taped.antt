@@ -15,7 +15,7 @@ use Rattle.nl_attr.specs.Walk.{flags_of, payload_of}
 use Rattle.nl_attr.specs.Broken.{IsBrokenHead, fault_in}
 use Rattle.nl_attr.specs.Heads.{hop_head, Head, start_of, broken, follower, inner_of}
 use Rattle.nl_attr.specs.Region.{head_of}
-use Rattle.nl_attr.specs.HeadOrder.{trail_of, event_of, put_from, stopped, visits_of, fault_of}
+use Rattle.nl_attr.specs.HeadOrder.{trail_of, event_of, put_from, counted, visits_of, fault_of}
 
 -- the head with which a region of next hops begins
 abbrev pub hops_start : ℕ → ℕ → List ℕ → Head
@@ -49,7 +49,7 @@ pub record Adds (S : Shape) (hs : List Head) (before after : Taped) (old new : L
 
 -- where the head leads, and that it is added where its length is sound
 abbrev pub Steps : Shape → Head → Taped → Taped → List Event → List Event → Advance → Type 0
-Steps S h before after old new (advance.Fails r) = (broken S h ≡ Some r) × Adds S (stopped r h) before after old new
+Steps S h before after old new (advance.Fails r) = (broken S h ≡ Some r) × Adds S (counted S h) before after old new
 Steps S h before after old new (advance.Goes rest) =
     (broken S h ≡ None) × (inner_of S h ≡ None) × (head_of rest ≡ follower S h)
     × Adds S (h ∷ []) before after old new

@@ -9,9 +9,9 @@ use Rattle.nl_attr.specs.Shape.{Shape}
 use Rattle.nl_attr.specs.Heads.{Head, Sort, attr_head, hop_head, content_at}
 use Rattle.nl_attr.specs.HeadOrder.{sort_of, event_at}
 use Rattle.nl_attr.specs.HeadOrder as regions
-use Rattle.nl_frame.specs.Heads.{Rest, behind, region_of, whole}
+use Rattle.nl_frame.specs.Heads.{inner, Rest, behind, region_of, whole}
 use Rattle.nl_frame.specs.Message.{MessageVal}
-use Rattle.nl_frame.specs.HeadOrder.{inner, event_of, region_trail}
+use Rattle.nl_frame.specs.HeadOrder.{event_of, region_trail}
 use Rattle.nl_dump.specs.declared.dump.Dump.{Dump}
 use Rattle.nl_dump.specs.Items.{Item}
 use Rattle.nl_dump.specs.Answer.{item_in, up_to_end}

@@ -7,10 +7,9 @@ use Rattle.nl_frame.specs.Heads.{IsFirstFault, Visits, whole}
 use Rattle.nl_frame.specs.Layout.{Layout}
 use Rattle.nl_frame.specs.Limits.{Bounds}
 use Rattle.nl_frame.specs.Message.{MessageVal}
-use Rattle.nl_frame.proofs.Apart.{one_first_fault}
-use Rattle.nl_frame.proofs.Every.{one_sum}
 use Rattle.nl_frame.proofs.Firsts.{ok_sound, one_layout}
 use Rattle.nl_frame.proofs.Layouts.{messages_fit}
+use Rattle.nl_frame.proofs.Scan.{one_first_fault, one_sum}
 use Rattle.nl_dump.specs.declared.dump.Dump.{Dump}
 use Rattle.nl_dump.specs.declared.dump.End.TheVariants.{Abandoned}
 use Rattle.nl_dump.specs.declared.dump.Progress.{Progress}

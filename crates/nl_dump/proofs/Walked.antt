@@ -15,11 +15,13 @@ use Rattle.nl_attr.specs.Shape.{Shape}
 use Rattle.nl_attr.specs.Heads.{Head, Sort, attr_head, hop_head, content_at}
 use Rattle.nl_attr.specs.Reading.{Outcome}
 use Rattle.nl_attr.specs.Scanned.{without}
-use Rattle.nl_attr.specs.HeadOrder.{and_on, sort_of, event_at}
+use Rattle.nl_attr.specs.Grammar.{and_on}
+use Rattle.nl_attr.specs.HeadOrder.{sort_of, event_at}
 use Rattle.nl_attr.specs.HeadOrder as regions
 use Rattle.nl_attr.proofs.Lemmas.Fitting.{ReadAs}
 use Rattle.nl_attr.proofs.Lemmas.Reading.{sound_within}
-use Rattle.nl_attr.proofs.Lemmas.Trail as region
+use Rattle.nl_attr.proofs.Lemmas.First as region
+use Rattle.nl_attr.proofs.Lemmas.Grammars.{front}
 use Rattle.nl_route.specs.declared.family.Family.{Family}
 use Rattle.nl_route.specs.declared.family.Verb.TheVariants.{New}
 use Rattle.nl_route.specs.Families.{type_of, row, family_of}
@@ -30,14 +32,15 @@ use Rattle.nl_frame.specs.declared.header.Header.{Header}
 use Rattle.nl_frame.specs.Form.{form_of, form_for}
 use Rattle.nl_frame.specs.Front.{form_at, payload_at, span_at}
 use Rattle.nl_frame.specs.Header.{header_of}
-use Rattle.nl_frame.specs.Heads.{Rest, behind, region_of, whole}
+use Rattle.nl_frame.specs.Heads.{header, inner, Rest, behind, region_of, whole}
 use Rattle.nl_frame.specs.Layout.{BodyOf, Layout}
 use Rattle.nl_frame.specs.Message.{BodyVal, noop, error, done, overrun, object, get, other, MessageVal}
 use Rattle.nl_frame.specs.Reading.{signed_of, body_at}
-use Rattle.nl_frame.specs.HeadOrder.{header, inner, Trail, event_of, events_of, region_trail, trail_of, visits_of}
+use Rattle.nl_frame.specs.HeadOrder.{Trail, event_of, events_of, region_trail, trail_of, visits_of}
 use Rattle.nl_frame.proofs.Bodies.{body_fit}
 use Rattle.nl_frame.proofs.Layouts.{IsMessage, header_in, message_is, messages_fit, some_of}
-use Rattle.nl_frame.proofs.Trails.{front, reads, trail_ends, trail_goes}
+use Rattle.nl_frame.proofs.Firsts.{reads}
+use Rattle.nl_frame.proofs.Trails.{trail_ends, trail_goes}
 use Rattle.nl_dump.specs.declared.dump.Dump.{Dump}
 use Rattle.nl_dump.specs.declared.dump.End.{End}
 use Rattle.nl_dump.specs.declared.dump.End.TheVariants.{Done, Error}
@@ -376,9 +379,9 @@ module _ (S : Shape) (d : Dump) (bytes : List ℕ) where
       let read = messages_fit S ms 0 bytes f in
       by (trail_of S (whole bytes)).1 (visits_of S (trail_of S (whole bytes)).0) read.0 (sym (ap without read.1) ∙ reads S bytes)
     where
-      by : (o : Option (ℕ × Reason)) (v n : ℕ) → ◌≡◌ {A = Outcome (Unit {0})} (Ok tt, n) (region.end_of S o, v) → o ≡ None
+      by : (o : Option (ℕ × Reason)) (v n : ℕ) → ◌≡◌ {A = Outcome (Unit {0})} (Ok tt, n) (region.end_of o, v) → o ≡ None
       by None v n e = refl
-      by (Some g) v n e = absurd (let x : ◌≡◌ {A = Result (Unit {0}) Fault} (Ok tt) (region.end_of S (Some g)) = ap (λ (p : Outcome (Unit {0})). p.0) e in cc)
+      by (Some g) v n e = absurd (let x : ◌≡◌ {A = Result (Unit {0}) Fault} (Ok tt) (region.end_of (Some g)) = ap (λ (p : Outcome (Unit {0})). p.0) e in cc)
 
   -- what is found of the events of a datagram of these messages, and which of them are kept
   pub sieved : (ms : List MessageVal) → Layout S ms bytes → Sieved d ms (sifted look none_sifted (events_of S (whole bytes))) × (kept look none_sifted (events_of S (whole bytes)) ≡ item_events S d ms bytes)

@@ -2,9 +2,9 @@
 use Rattle.std.specs.Prelude.{ℕ, if◌then◌else◌, List, [], ◌∷◌, ◌++◌, map, is_some}
 use Rattle.nl_attr.specs.declared.events.Event.{Event}
 use Rattle.nl_attr.specs.Shape.{Shape}
-use Rattle.nl_frame.specs.Heads.{Rest, behind, region_of, whole}
+use Rattle.nl_frame.specs.Heads.{header, Rest, behind, region_of, whole}
 use Rattle.nl_frame.specs.Message.{MessageVal}
-use Rattle.nl_frame.specs.HeadOrder.{header, event_of, region_trail}
+use Rattle.nl_frame.specs.HeadOrder.{event_of, region_trail}
 use Rattle.nl_dump.specs.declared.dump.Dump.{Dump}
 use Rattle.nl_dump.specs.Answer.{item_in, up_to_end}
 

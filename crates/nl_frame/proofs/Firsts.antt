@@ -1,105 +1,95 @@
 -- What is read ends at the first fault, or there is none, and the visits are those of the heads up to there.
-use Rattle.std.proofs.Common.{◌≡◌, ℕ, zero, suc, ◌+◌, ◌≤◌, ◌↔◌, List, [], ◌∷◌, length, drop, Option, Some, None, Result, Ok, Err, refl, sym, ap, subst, ◌∙◌, arith}
-use Rattle.std.specs.List.{AllByRecursion}
+use Rattle.std.proofs.Common.{◌≡◌, ◌≢◌, ℕ, zero, suc, ◌+◌, ◌≤◌, ◌↔◌, List, [], ◌∷◌, length, drop, map, Option, Some, None, Result, Ok, Err, refl, sym, ap, subst, ◌∙◌, arith}
+use Rattle.std.proofs.lemmas.List.{nil_from_length}
 use Rattle.nl_attr.specs.declared.fault.Reason.{Reason}
 use Rattle.nl_attr.specs.declared.fault.Fault.{Fault}
 use Rattle.nl_attr.specs.Shape.{Shape}
-use Rattle.nl_attr.specs.Numbers.{AreBytes, span_of}
-use Rattle.nl_attr.specs.Heads.{Head, IsSound}
-use Rattle.nl_attr.specs.Visits.{Rises}
+use Rattle.nl_attr.specs.Numbers.{AreBytes}
+use Rattle.nl_attr.specs.Grammar.{and_on, visits_of}
+use Rattle.nl_attr.specs.Heads.{Head}
+use Rattle.nl_attr.specs.Heads as region
 use Rattle.nl_attr.specs.Reading.{Outcome}
-use Rattle.nl_attr.proofs.Lemmas.Scan.{Scan}
-use Rattle.nl_attr.proofs.Lemmas.First.{SameEnd, Agrees, map_agrees, then_agrees, items_scan}
-use Rattle.nl_attr.proofs.Lemmas.Visited.{UpTo, Rises-to, All-map}
+use Rattle.nl_attr.specs.Scanned.{without}
+use Rattle.nl_attr.proofs.Lemmas.First.{Agrees, map_agrees, then_agrees, agrees_so, end_of}
+use Rattle.nl_attr.proofs.Lemmas.First as regions
+use Rattle.nl_attr.proofs.Lemmas.Grammars.{front}
+use Rattle.nl_attr.proofs.Lemmas.Reading.{or_else_none}
 use Rattle.nl_route.specs.Families.{head_size, context_of}
 use Rattle.nl_frame.specs.declared.form.Form.{Form}
 use Rattle.nl_frame.specs.declared.form.Form.TheVariants as form
 use Rattle.nl_frame.specs.Header.{header_of}
 use Rattle.nl_frame.specs.Message.{MessageVal}
-use Rattle.nl_frame.specs.Front.{form_at, span_at, payload_at, broken_message}
+use Rattle.nl_frame.specs.Front.{form_at, payload_at, broken_frame, broken_message}
 use Rattle.nl_frame.specs.Layout.{Layout}
-use Rattle.nl_frame.specs.Reading.{message_of, message_at, body_at, unless, messages_at, messages_of}
-use Rattle.nl_frame.specs.Heads.{Rest, behind, region_in, region_of, InnerAt, FaultAt, IsFirstFault, Visits, whole}
+use Rattle.nl_frame.specs.Reading.{message_of, message_at, body_at, messages_of}
+use Rattle.nl_frame.specs.Heads.{header, inner, Rest, behind, region_in, region_of, heads, FaultAt, IsFirstFault, Visits, whole}
+use Rattle.nl_frame.specs.HeadOrder.{Trail, region_trail, trail_of}
 use Rattle.nl_frame.proofs.Layouts.{messages_fit, messages_sound}
-use Rattle.nl_frame.proofs.Scan.{region_scan, turn, frame_scan, Finds, frame_finds, FrameVisited, frame_covers}
+use Rattle.nl_frame.proofs.Scan.{fills, laws}
+use Rattle.nl_frame.proofs.Steps.{messages_none, messages_cut, messages_step}
+use Rattle.nl_frame.proofs.Trails.{trail_ends, trail_stops, trail_goes}
 
-body_scan : (f : Form) (S : Shape) (place : ℕ) (payload : List ℕ) → Agrees (body_at S f place payload) (region_scan S (region_in f place payload))
-body_scan form.Noop S place payload = record { end = refl; sums = refl }
-body_scan form.Error S place payload = record { end = refl; sums = refl }
-body_scan form.Done S place payload = record { end = refl; sums = refl }
-body_scan form.Overrun S place payload = record { end = refl; sums = refl }
-body_scan (form.Object g) S place payload = map_agrees _ _ _ (items_scan (length (drop (head_size g) payload)) S (context_of g) 0 (place + head_size g) (drop (head_size g) payload))
-body_scan form.Get S place payload = record { end = refl; sums = refl }
-body_scan form.Other S place payload = record { end = refl; sums = refl }
+-- ---- reading agrees with a walk over the heads
 
-unless_agrees : {A : Type 0} (b : ℕ) (bs : List ℕ) (r : Option Reason) (place : ℕ) (o : Outcome A) (s : Scan) → Agrees o s → Agrees (unless place r o) (turn (b ∷ bs) r place s)
-unless_agrees b bs None place o s a = a
-unless_agrees b bs (Some r) place o s a = record { end = refl; sums = refl }
+module _ (S : Shape) where
+  pub any_visits : (hs : List Head) → visits_of (heads S) (map inner hs) ≡ visits_of (region.heads S) hs
+  unfolding heads region.heads
+  any_visits [] = refl
+  any_visits (h ∷ hs) = ap (λ (n : ℕ). region.span_at S h + n) (any_visits hs)
 
-pub messages_scan : (n : ℕ) (S : Shape) (place : ℕ) (left : List ℕ) → Agrees (messages_at S n place left) (frame_scan n S (record { place = place; left = left }))
-unfolding messages_at frame_scan
-messages_scan zero S place left = record { end = refl; sums = refl }
-messages_scan (suc n) S place [] = record { end = refl; sums = refl }
-messages_scan (suc n) S place (b ∷ bs) =
-    let left = b ∷ bs in
-    let r : Rest = record { place = place; left = left } in
-    unless_agrees b bs (broken_message S.order left) place _ _
-    (then_agrees (message_at S place left) _ (region_scan S (region_of S r)) (frame_scan n S (behind S r))
-    (map_agrees (message_of (header_of S.order left)) _ _ (body_scan (form_at S.order left) S (place + 16) (payload_at S.order left)))
-    (λ m. map_agrees _ _ _ (messages_scan n S (place + span_at S.order left) (drop (span_at S.order left) left))))
+  body_agrees : (f : Form) (place : ℕ) (payload : List ℕ) → Agrees (heads S) (body_at S f place payload) (region_trail S (region_in f place payload))
+  body_agrees form.Noop place payload = record { end = refl; sums = refl }
+  body_agrees form.Error place payload = record { end = refl; sums = refl }
+  body_agrees form.Done place payload = record { end = refl; sums = refl }
+  body_agrees form.Overrun place payload = record { end = refl; sums = refl }
+  body_agrees (form.Object g) place payload =
+      let a = regions.reads S (context_of g) 0 (place + head_size g) (drop (head_size g) payload) in
+      map_agrees (heads S) _ _ _ (record { end = a.end; sums = a.sums ∙ sym (any_visits _) })
+  body_agrees form.Get place payload = record { end = refl; sums = refl }
+  body_agrees form.Other place payload = record { end = refl; sums = refl }
+
+  same_agrees : {A : Type 0} (o p : Outcome A) (t u : Trail) → o ≡ p → t ≡ u → Agrees (heads S) p u → Agrees (heads S) o t
+  same_agrees {A} o p t u e f a = subst (λ (q : Outcome A). Agrees (heads S) q t) (sym e) (subst (λ (x : Trail). Agrees (heads S) p x) (sym f) a)
+
+  messages_agree : (n : ℕ) (r : Rest) → length r.left ≤ n → Agrees (heads S) (messages_of S r.place r.left) (trail_of S r)
+  unfolding heads
+  messages_agree zero r le = same_agrees _ (Ok [], 0) _ ([], None) (messages_none S r.place r.left (nil_from_length r.left (omega arith))) (trail_ends S r (nil_from_length r.left (omega arith))) (record { end = refl; sums = refl })
+  messages_agree (suc n) r le = by r.left (broken_message S.order r.left) refl refl (λ e. messages_agree n (behind S r) (let f = fills S r e in omega (arith, le, f.low, f.rest))) where
+    by : (xs : List ℕ) (o : Option Reason) → r.left ≡ xs → broken_message S.order r.left ≡ o → (broken_frame S.order r.left ≡ None → Agrees (heads S) (messages_of S (behind S r).place (behind S r).left) (trail_of S (behind S r))) → Agrees (heads S) (messages_of S r.place r.left) (trail_of S r)
+    by [] o e is more = same_agrees _ (Ok [], 0) _ ([], None) (messages_none S r.place r.left e) (trail_ends S r e) (record { end = refl; sums = refl })
+    by (x ∷ xs) (Some why) e is more =
+        let some : r.left ≢ [] = subst (λ ys. ys ≢ []) (sym e) (λ f. absurd cc) in
+        same_agrees _ (Err (record { place = r.place; reason = why }), 0) _ ([], Some (r.place, why)) (messages_cut S r.place r.left why some is) (trail_stops S r why some is) (record { end = refl; sums = refl })
+    by (x ∷ xs) None e is more =
+        let some : r.left ≢ [] = subst (λ ys. ys ≢ []) (sym e) (λ f. absurd cc) in
+        let body = map_agrees (heads S) (message_of (header_of S.order r.left)) _ _ (body_agrees (form_at S.order r.left) (r.place + 16) (payload_at S.order r.left)) in
+        let all = then_agrees (heads S) (message_at S r.place r.left) _ (region_trail S (region_of S r)) (trail_of S (behind S r)) body (λ m. map_agrees (heads S) (λ ms. m ∷ ms) _ _ (more (or_else_none _ _ is).0)) in
+        same_agrees _ _ _ (front (header r ∷ []) (and_on (region_trail S (region_of S r)) (trail_of S (behind S r)))) (messages_step S r.place r.left some is) (trail_goes S r some is) (record { end = all.end; sums = omega (arith, all.sums) })
 
 module _ (S : Shape) (d : List ℕ) where
-  err_end : (f : Fault) (v : ℕ) → messages_of S 0 d ≡ (Err f, v) → (frame_scan (length d) S (whole d)).1 ≡ Some (f.place, f.reason)
-  err_end f v e = subst (λ (o : Outcome (List MessageVal)). SameEnd o.0 (frame_scan (length d) S (whole d)).1) e (messages_scan (length d) S 0 d).end
+  agrees : Agrees (heads S) (messages_of S 0 d) (trail_of S (whole d))
+  agrees = messages_agree S (length d) (whole d) (omega arith)
 
-  ok_end : (ms : List MessageVal) (v : ℕ) → messages_of S 0 d ≡ (Ok ms, v) → (frame_scan (length d) S (whole d)).1 ≡ None
-  ok_end ms v e = subst (λ (o : Outcome (List MessageVal)). SameEnd o.0 (frame_scan (length d) S (whole d)).1) e (messages_scan (length d) S 0 d).end
+  -- a reading ends as the heads do, and its visits are theirs
+  pub reads : without (messages_of S 0 d) ≡ (end_of (trail_of S (whole d)).1, visits_of (heads S) (trail_of S (whole d)).0)
+  reads = agrees_so (heads S) (messages_of S 0 d) (trail_of S (whole d)) agrees
 
   -- a fault that is met is the first one
   pub err_first : (f : Fault) (v : ℕ) → messages_of S 0 d ≡ (Err f, v) → IsFirstFault S (whole d) f.place f.reason
-  err_first f v e = subst (Finds S (whole d)) (err_end f v e) (frame_finds (length d) S (whole d) (omega arith))
+  err_first f v e = regions.err_first (heads S) (laws S) (header (whole d)) (messages_of S 0 d) agrees f v e
 
   -- where a list is read no head has a fault
   pub ok_sound : (ms : List MessageVal) (v : ℕ) → messages_of S 0 d ≡ (Ok ms, v) → (p : ℕ) (r : Reason) → FaultAt S (whole d) p r → ⊥
-  ok_sound ms v e = subst (Finds S (whole d)) (ok_end ms v e) (frame_finds (length d) S (whole d) (omega arith))
-
-  narrow : (q : ℕ) (vs : List (ℕ × ℕ)) (p m : ℕ) → p ≤ suc q → Rises p m vs → AllByRecursion (λ w. FrameVisited S (whole d) w × (w.0 ≤ q)) vs → Rises p (suc q) vs
-  narrow q [] p m le r h = le
-  narrow q (w ∷ vs) p m le r h = (r.0, omega (arith, h.0.1), narrow q vs (suc w.0) m (omega (arith, h.0.1)) r.2 h.1)
+  ok_sound ms v e = regions.ok_sound (heads S) (laws S) (header (whole d)) (messages_of S 0 d) agrees ms v e
 
   -- the visits are those of the heads up to the fault
   pub err_visits : (f : Fault) (v : ℕ) → messages_of S 0 d ≡ (Err f, v) → Visits S (whole d) f.place v
-  err_visits f v e =
-      let s = frame_scan (length d) S (whole d) in
-      let a = messages_scan (length d) S 0 d in
-      let c = frame_covers (length d) S (whole d) (omega arith) in
-      let end = err_end f v e in
-      let each : AllByRecursion (λ w. FrameVisited S (whole d) w × (w.0 ≤ f.place)) s.0 = subst (λ o. AllByRecursion (λ w. FrameVisited S (whole d) w × UpTo o w.0) s.0) end c.each in
-      record {
-        all = s.0;
-        rises = narrow f.place s.0 0 (length d) (omega arith) (Rises-to 0 (0 + length d) (length d) s.0 (omega arith) c.rises) each;
-        each = All-map _ _ (λ w h. (h.0.0, h.0.1, h.0.2, h.0.3, h.0.4, omega (arith, h.0.3, h.1))) s.0 each;
-        every = λ w h. c.every w (h.0, h.1, h.2, h.3, h.4) (subst (λ o. UpTo o w.0) (sym end) (omega (arith, h.3, h.5)));
-        sums = ap (λ (o : Outcome (List MessageVal)). o.1) (sym e) ∙ a.sums;
-      }
+  err_visits f v e = regions.err_visits (heads S) (laws S) (header (whole d)) (messages_of S 0 d) agrees f v e
 
   -- or all of them
   pub ok_visits : (ms : List MessageVal) (v : ℕ) → messages_of S 0 d ≡ (Ok ms, v) → Visits S (whole d) (length d) v
-  ok_visits ms v e =
-      let s = frame_scan (length d) S (whole d) in
-      let a = messages_scan (length d) S 0 d in
-      let c = frame_covers (length d) S (whole d) (omega arith) in
-      let end = ok_end ms v e in
-      record {
-        all = s.0;
-        rises = Rises-to 0 (0 + length d) (suc (length d)) s.0 (omega arith) c.rises;
-        each = within s.0 0 (0 + length d) (omega arith) c.rises (subst (λ o. AllByRecursion (λ w. FrameVisited S (whole d) w × UpTo o w.0) s.0) end c.each);
-        every = λ w h. c.every w (h.0, h.1, h.2, h.3, h.4) (subst (λ o. UpTo o w.0) (sym end) tt);
-        sums = ap (λ (o : Outcome (List MessageVal)). o.1) (sym e) ∙ a.sums;
-      } where
-        within : (vs : List (ℕ × ℕ)) (p m : ℕ) → m ≤ length d → Rises p m vs → AllByRecursion (λ w. FrameVisited S (whole d) w × Unit {0}) vs → AllByRecursion (λ w. (k : Head) × InnerAt S (whole d) k × IsSound S k × (k.place ≡ w.0) × (span_of S.order 2 k.left ≡ w.1) × (k.place ≤ length d)) vs
-        within [] p m le r h = tt
-        within (w ∷ vs) p m le r h = let k = h.0.0 in ((k.0, k.1, k.2, k.3, k.4, omega (arith, k.3, r.1)), within vs (suc w.0) m le r.2 h.1)
+  unfolding heads
+  ok_visits ms v e = let n : 0 + length d ≡ length d = omega arith in subst (λ (q : ℕ). Visits S (whole d) q v) n (regions.ok_visits (heads S) (laws S) (header (whole d)) (messages_of S 0 d) agrees ms v e)
 
   -- some list is the layout exactly where no head has a fault
   pub layout_or_fault : AreBytes d → ((ms : List MessageVal) × Layout S ms d) ↔ ((p : ℕ) (r : Reason) → FaultAt S (whole d) p r → ⊥)

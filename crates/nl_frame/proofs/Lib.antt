@@ -1,14 +1,10 @@
-pub mod Apart
 pub mod Appended
 pub mod Beginnings
 pub mod Bodies
-pub mod Every
 pub mod Extents
-pub mod Few
 pub mod Firsts
 pub mod Fronts
 pub mod Headers
-pub mod InOrder
 pub mod Kept
 pub mod Layouts
 pub mod Listed
@@ -18,11 +14,9 @@ pub mod ProperLayouts
 pub mod Scan
 pub mod Scanned
 pub mod Steps
-pub mod Sums
 pub mod Tapes
 pub mod Outcomes
 mod Datagrams
-pub mod OneHead
 pub mod Trails
 pub mod Within
 pub mod Writable

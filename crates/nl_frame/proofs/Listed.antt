@@ -5,7 +5,7 @@ use Rattle.nl_attr.specs.Shape.{Shape}
 use Rattle.nl_attr.specs.Numbers.{aligned}
 use Rattle.nl_attr.specs.Heads.{Head}
 use Rattle.nl_attr.specs.Listed.{rounded}
-use Rattle.nl_attr.specs.HeadOrder.{and_on}
+use Rattle.nl_attr.specs.Grammar.{and_on}
 use Rattle.nl_attr.specs.HeadOrder as region
 use Rattle.nl_attr.proofs.Lemmas.Fitting.{next_span}
 use Rattle.nl_attr.proofs.Lemmas.Listed.{AreEvents, events_on, events_one, items_listed}
@@ -15,12 +15,12 @@ use Rattle.nl_frame.specs.declared.header.Header.{Header}
 use Rattle.nl_frame.specs.declared.form.Form.{Form}
 use Rattle.nl_frame.specs.Form.{form_of}
 use Rattle.nl_frame.specs.Front.{span_at, payload_at, broken_message}
-use Rattle.nl_frame.specs.Heads.{Rest, behind, region_in, region_of, whole}
+use Rattle.nl_frame.specs.Heads.{header, Rest, behind, region_in, region_of, whole}
 use Rattle.nl_frame.specs.Layout.{BodyOf, Layout}
 use Rattle.nl_frame.specs.Listed.{body_events, messages_events}
 use Rattle.nl_frame.specs.Message.{BodyVal, noop, error, done, overrun, object, get, other, MessageVal}
 use Rattle.nl_frame.specs.Written.{body_len}
-use Rattle.nl_frame.specs.HeadOrder.{header, region_trail, trail_of, header_event, event_of, events_of}
+use Rattle.nl_frame.specs.HeadOrder.{region_trail, trail_of, header_event, event_of, events_of}
 use Rattle.nl_frame.proofs.Bodies.{body_fit}
 use Rattle.nl_frame.proofs.Layouts.{message_is, some_of}
 use Rattle.nl_frame.proofs.ProperLayouts.{body_len_is, payload_in}

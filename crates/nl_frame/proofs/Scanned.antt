@@ -13,12 +13,12 @@ use Rattle.nl_attr.specs.Numbers.{AreBytes}
 use Rattle.nl_attr.specs.Reading.{Outcome}
 use Rattle.nl_attr.specs.Scanned.{without}
 use Rattle.nl_attr.specs.HeadOrder.{fault_of}
-use Rattle.nl_attr.proofs.Lemmas.Scanned.{not_ok, not_err, same_fault, same_sum}
-use Rattle.nl_attr.proofs.Lemmas.Trail.{end_of}
+use Rattle.nl_attr.proofs.Lemmas.Scanned.{was_ok, was_err}
+use Rattle.nl_attr.proofs.Lemmas.First.{end_of}
 use Rattle.nl_frame.specs.declared.scanning.ScanError.{ScanError}
 use Rattle.nl_frame.specs.declared.scanning.ScanError.TheVariants.{TooLarge, Layout as Fails}
 use Rattle.nl_frame.specs.Broken.{IsBrokenHead}
-use Rattle.nl_frame.specs.Heads.{IsFirstFault, Visits, whole}
+use Rattle.nl_frame.specs.Heads.{IsFirstFault, whole}
 use Rattle.nl_frame.specs.Layout.{Layout}
 use Rattle.nl_frame.specs.Limits.{Bounds}
 use Rattle.nl_frame.specs.Scans.{ScansDatagram}
@@ -27,19 +27,17 @@ use Rattle.nl_frame.specs.Reading.{messages_of}
 use Rattle.nl_frame.specs.Taped.{IsTaped, Ends, HasEnd, IfBroken, as_read}
 use Rattle.nl_frame.specs.Outcomes.{IfFault, VisitsUpTo}
 use Rattle.nl_frame.specs.HeadOrder.{events_of, event_of, trail_of, visits_of}
-use Rattle.nl_frame.proofs.Firsts.{err_first, err_visits, ok_visits}
-use Rattle.nl_frame.proofs.Layouts.{messages_fit}
-use Rattle.nl_frame.proofs.Outcomes.{ok_fits}
-use Rattle.nl_frame.proofs.Trails.{reads}
+use Rattle.nl_frame.proofs.Firsts.{reads, err_first, err_visits, ok_visits}
+use Rattle.nl_frame.proofs.Outcomes.{ok_fits, err_none}
 
 -- how a reading ends that meets this fault, or none
 abbrev ends_with : Option Fault → Result (Unit {0}) Fault
 ends_with None = Ok tt
 ends_with (Some f) = Err f
 
-end_is : (S : Shape) (e : Option (ℕ × Reason)) → end_of S e ≡ ends_with (fault_of e)
-end_is S None = refl
-end_is S (Some f) = refl
+end_is : (e : Option (ℕ × Reason)) → end_of e ≡ ends_with (fault_of e)
+end_is None = refl
+end_is (Some f) = refl
 
 says : {Y : Type 0} (r : Result (Unit {0}) ScanError) (v m : ℕ) (x : Option BrokenHead) (o : Outcome Y) → without o ≡ (ends_with (fault_in x), m) → Ends x r → v ≡ m → HasEnd r v o
 says (Ok y) v m None o w i j = w ∙ ap (λ (k : ℕ). (Ok tt, k)) (sym j)
@@ -61,7 +59,7 @@ module _ (S : Shape) (d : List ℕ) where
   says_so old new t r is ends =
       let o = trail_of S (whole d) in
       says r t.visits (visits_of S o.0) t.broken (messages_of S 0 d)
-      (reads S d ∙ ap (λ (e : Result (Unit {0}) Fault). (e, visits_of S o.0)) (end_is S o.1 ∙ ap ends_with (sym is.fault))) ends is.visits
+      (reads S d ∙ ap (λ (e : Result (Unit {0}) Fault). (e, visits_of S o.0)) (end_is o.1 ∙ ap ends_with (sym is.fault))) ends is.visits
 
   -- and so many heads are counted
   pub count_of : (old new : List Event) (t : Taped) → IsTaped S (trail_of S (whole d)) 0 old new t → t.count ≡ length (events_of S (whole d))
@@ -71,37 +69,25 @@ module _ (S : Shape) (d : List ℕ) where
     -- some list is the layout
     pub fits_of : (r : Result X ScanError) (v : ℕ) → AreBytes d → HasEnd r v (messages_of S 0 d) → IfOk r (λ _. (ms : List MessageVal) × Layout S ms d)
     fits_of (Err f) v b w = tt
-    fits_of (Ok x) v b w = split (messages_of S 0 d) refl w where
-      split : (o : Outcome (List MessageVal)) → messages_of S 0 d ≡ o → without o ≡ (Ok tt, v) → (ms : List MessageVal) × Layout S ms d
-      split (Ok ms, n) e w = (ms, ok_fits S d ms n b e)
-      split (Err f, n) e w = not_ok f n v w
+    fits_of (Ok x) v b w = let o = was_ok (messages_of S 0 d) v w in (o.0, ok_fits S d o.0 v b o.1)
 
     -- the fault is the first
     pub first_of : (r : Result X ScanError) (v : ℕ) → HasEnd r v (messages_of S 0 d) → IfErr (as_read r) (λ e. IfFault e (λ f. IsFirstFault S (whole d) f.place f.reason))
     first_of (Ok x) v w = tt
     first_of (Err TooLarge) v w = tt
-    first_of (Err (Fails b)) v w = split (messages_of S 0 d) refl w where
-      split : (o : Outcome (List MessageVal)) → messages_of S 0 d ≡ o → without o ≡ (Err b.fault, v) → IsFirstFault S (whole d) b.fault.place b.fault.reason
-      split (Ok is, n) e w = not_err b.fault n v w
-      split (Err g, n) e w = subst (λ (x : Fault). IsFirstFault S (whole d) x.place x.reason) (same_fault g b.fault n v w) (err_first S d g n e)
+    first_of (Err (Fails b)) v w = err_first S d b.fault v (was_err (messages_of S 0 d) b.fault v w)
 
     -- no list is the layout
     pub none_of : (r : Result X ScanError) (v : ℕ) → HasEnd r v (messages_of S 0 d) → IfErr (as_read r) (λ e. IfFault e (λ _. (ms : List MessageVal) → Layout S ms d → ⊥))
     none_of (Ok x) v w = tt
     none_of (Err TooLarge) v w = tt
-    none_of (Err (Fails b)) v w = λ ms l. let f = b.fault in let h = messages_fit S ms 0 d l in not_err f h.0 v (sym (ap without h.1) ∙ w)
+    none_of (Err (Fails b)) v w = err_none S d b.fault v (was_err (messages_of S 0 d) b.fault v w)
 
     -- the visits are those up to the end
     pub visits_of_scan : (r : Result X ScanError) (v : ℕ) → HasEnd r v (messages_of S 0 d) → VisitsUpTo S d (as_read r) v
-    visits_of_scan (Ok x) v w = split (messages_of S 0 d) refl w where
-      split : (o : Outcome (List MessageVal)) → messages_of S 0 d ≡ o → without o ≡ (Ok tt, v) → Visits S (whole d) (length d) v
-      split (Ok ms, n) e w = subst (Visits S (whole d) (length d)) (same_sum (Ok tt, n) (Ok tt, v) w) (ok_visits S d ms n e)
-      split (Err f, n) e w = not_ok f n v w
+    visits_of_scan (Ok x) v w = let o = was_ok (messages_of S 0 d) v w in ok_visits S d o.0 v o.1
     visits_of_scan (Err TooLarge) v w = absurd w
-    visits_of_scan (Err (Fails b)) v w = split (messages_of S 0 d) refl w where
-      split : (o : Outcome (List MessageVal)) → messages_of S 0 d ≡ o → without o ≡ (Err b.fault, v) → Visits S (whole d) b.fault.place v
-      split (Ok is, n) e w = not_err b.fault n v w
-      split (Err g, n) e w = subst (λ (x : Fault). Visits S (whole d) x.place v) (same_fault g b.fault n v w) (subst (Visits S (whole d) g.place) (same_sum (Err g, n) (Err b.fault, v) w) (err_visits S d g n e))
+    visits_of_scan (Err (Fails b)) v w = err_visits S d b.fault v (was_err (messages_of S 0 d) b.fault v w)
 
     -- it isn't refused for its size
     not_large : (r : Result X ScanError) (v : ℕ) → HasEnd r v (messages_of S 0 d) → r ≡ Err TooLarge → ⊥

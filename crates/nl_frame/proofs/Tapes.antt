@@ -1,5 +1,5 @@
 -- The loop that scans the messages of a datagram.
-use Rattle.std.proofs.Common.{◌≡◌, ◌≢◌, ℕ, ◌+◌, ◌*◌, ◌^◌, ◌≤◌, ◌<◌, List, [], ◌∷◌, ◌++◌, length, map, slice_set, Option, Some, None, refl, sym, ap, subst, ◌∙◌, inl, inr, IfSome, arith, length-append, length-drop}
+use Rattle.std.proofs.Common.{◌≡◌, ◌≢◌, ℕ, ◌+◌, ◌*◌, ◌^◌, ◌≤◌, ◌<◌, List, [], ◌∷◌, ◌++◌, length, map, slice_set, Option, Some, None, refl, sym, ap, subst, ◌∙◌, IfSome, arith, length-append, length-drop}
 use Rattle.std.proofs.lemmas.List.{append-nil, length-map, map-append}
 use Rattle.nl_attr.specs.Fixed.{LONGEST_REGION}
 use Rattle.nl_attr.specs.declared.events.Event.{Event}
@@ -10,43 +10,50 @@ use Rattle.nl_attr.specs.declared.taping.Taped.{Taped}
 use Rattle.nl_attr.specs.Broken.{fault_in}
 use Rattle.nl_attr.specs.Shape.{Shape}
 use Rattle.nl_attr.specs.Heads.{Head}
-use Rattle.nl_attr.specs.Visits.{spans}
-use Rattle.nl_attr.specs.HeadOrder.{and_on, fault_of, put_from}
+use Rattle.nl_attr.specs.Grammar.{and_on, first, next, inside}
+use Rattle.nl_attr.specs.Grammar as grammar
+use Rattle.nl_attr.specs.HeadOrder.{fault_of, put_from}
 use Rattle.nl_attr.specs.HeadOrder as region
-use Rattle.nl_attr.specs.Taped as regions
-use Rattle.nl_attr.proofs.Lemmas.First.{sum_append}
+use Rattle.nl_attr.specs.Heads as regions
+use Rattle.nl_attr.specs.Taped as taped_regions
+use Rattle.nl_attr.proofs.Lemmas.Grammars.{front, front_front, weigh-append, behind_then, inside_then}
 use Rattle.nl_attr.proofs.Lemmas.Putting.{put_none, put_on, put_one}
 use Rattle.nl_attr.proofs.Lemmas.Reading.{or_else_none}
 use Rattle.nl_frame.specs.declared.front.Frame.{Frame}
 use Rattle.nl_frame.specs.Front.{span_at, broken_message, IsFrame}
 use Rattle.nl_frame.specs.Broken.{IsBrokenHead, IsBrokenIn, message_facts}
-use Rattle.nl_frame.specs.Heads.{Rest, MessageAt, behind, first, region_in, region_of, whole}
+use Rattle.nl_frame.specs.Heads.{AnyHead, header, inner, Rest, HeadAt, some_inner, behind, region_in, region_of, heads, whole}
 use Rattle.nl_frame.specs.Taped.{IsTaped, IsFrameTaped}
-use Rattle.nl_frame.specs.HeadOrder.{AnyHead, header, inner, Trail, region_trail, trail_of, visits_in, visits_of, event_of, header_event}
+use Rattle.nl_frame.specs.HeadOrder.{Trail, region_trail, trail_of, visits_of, event_of, header_event}
 use Rattle.nl_frame.proofs.Fronts.{step_bound, whole_bound, small}
-use Rattle.nl_frame.proofs.Scan.{message_then, behind_reached}
-use Rattle.nl_frame.proofs.Trails.{front, front_front, trail_ends, trail_stops, trail_goes, visits_in_append, visits_in_region}
+use Rattle.nl_frame.proofs.Firsts.{any_visits}
+use Rattle.nl_frame.proofs.Scan.{laws}
+use Rattle.nl_frame.proofs.Trails.{trail_ends, trail_stops, trail_goes}
 
 module _ (S : Shape) where
   -- ---- a body
+
+  -- a head of a region stands in it as one of a datagram does
+  any_head : (s h : Head) → regions.HeadAt S s h → grammar.HeadAt (heads S) (inner s) (inner h)
+  unfolding heads regions.heads
+  any_head s h (first e) = first e
+  any_head s h (next k p a some) = next (inner k) (any_head s k p) a some
+  any_head s h (inside k j p b is some) = inside (inner k) (inner j) (any_head s k p) b (ap some_inner is) some
 
   -- the heads of a region, as those of a datagram
   pub region_events : (hs : List Head) → map (region.event_of S.order) hs ≡ map (event_of S.order) (map inner hs)
   region_events [] = refl
   region_events (h ∷ hs) = ap (λ (es : List Event). region.event_of S.order h ∷ es) (region_events hs)
 
-  pub region_taped : (h : Head) (count : ℕ) (old new : List Event) (t : Taped) → regions.IsTaped S h count old new t → IsTaped S (region_trail S (Some h)) count old new t
+  pub region_taped : (h : Head) (count : ℕ) (old new : List Event) (t : Taped) → taped_regions.IsTaped S h count old new t → IsTaped S (region_trail S (Some h)) count old new t
   region_taped h count old new t is = record {
     fault = is.fault;
-    visits = is.visits ∙ ap spans (sym (visits_in_region S (region.trail_of S h).0));
+    visits = is.visits ∙ sym (any_visits S (region.trail_of S h).0);
     counted = is.counted ∙ ap (λ (n : ℕ). count + n) (sym (length-map (region.trail_of S h).0 inner));
     events = is.events ∙ ap (λ (es : List Event). put_from count es old) (region_events (region.trail_of S h).0);
   }
 
   -- ---- the state of the loop
-
-  visits_append : (hs gs : List AnyHead) → visits_of S (hs ++ gs) ≡ visits_of S hs + visits_of S gs
-  visits_append hs gs = ap spans (visits_in_append S hs gs) ∙ sum_append (visits_in S hs) (visits_in S gs)
 
   -- these heads were found, and this is left
   pub record IsTaping (d : List ℕ) (old : List Event) (count visits place : ℕ) (left : List ℕ) (out : List Event) : Type 0 where
@@ -55,7 +62,7 @@ module _ (S : Shape) where
     pub counted : count ≡ length hs
     pub seen : visits ≡ visits_of S hs
     pub events : out ≡ put_from 0 (map (event_of S.order) hs) old
-    pub reach : (m : Rest) → MessageAt S (record { place = place; left = left }) m → MessageAt S (whole d) m
+    pub reach : (h : AnyHead) → HeadAt S (record { place = place; left = left }) h → HeadAt S (whole d) h
     pub size : place + length left ≡ length d
     pub bound : visits ≤ (S.depth + 1) * place
     pub few : count ≤ place + visits
@@ -71,6 +78,7 @@ module _ {S : Shape} {d : List ℕ} {old : List Event} {count visits place : ℕ
   -- these are all heads, and this is what ends them
   ends_so : (hs : List AnyHead) (o : Option (ℕ × Reason)) (x : Option BrokenHead) (n v : ℕ) (new : List Event) → trail_of S (whole d) ≡ (hs, o) → fault_in x ≡ fault_of o → n ≡ length hs → v ≡ visits_of S hs → new ≡ put_from 0 (map (event_of S.order) hs) old
       → IsTaped S (trail_of S (whole d)) 0 old new (record { broken = x; count = n; visits = v })
+  unfolding heads
   ends_so hs o x n v new e f c s p = record {
     fault = f ∙ ap (λ (t : Trail). fault_of t.1) (sym e);
     visits = s ∙ ap (λ (t : Trail). visits_of S t.0) (sym e);
@@ -80,7 +88,7 @@ module _ {S : Shape} {d : List ℕ} {old : List Event} {count visits place : ℕ
 
   -- nothing is left
   pub tells_none : left ≡ [] → IsTaped S (trail_of S (whole d)) 0 old out (record { broken = None; count = count; visits = visits })
-  unfolding rest
+  unfolding rest heads
   tells_none e = ends_so now.hs None None count visits out
       (now.same ∙ ap (front now.hs) (trail_ends S rest e) ∙ ap (λ (l : List AnyHead). (l, None)) (append-nil now.hs)) refl now.counted now.seen now.events
 
@@ -93,8 +101,8 @@ module _ {S : Shape} {d : List ℕ} {old : List Event} {count visits place : ℕ
 
   -- and is the head that does
   pub header_breaks : (why : Reason) (x : BrokenHead) → left ≢ [] → broken_message S.order left ≡ Some why → x ≡ message_facts S.order why (record { place = place; left = left }) → IsBrokenHead S (whole d) x
-  unfolding rest
-  header_breaks why x some e is = subst (IsBrokenHead S (whole d)) (sym is) (inl (rest, now.reach rest (first some), e, refl))
+  unfolding rest heads
+  header_breaks why x some e is = subst (IsBrokenHead S (whole d)) (sym is) (header rest, now.reach (header rest) (first some), e, refl)
 
   -- ---- a message
 
@@ -151,8 +159,8 @@ module _ {S : Shape} {d : List ℕ} {old : List Event} {count visits place : ℕ
     counts hs = omega (arith, found_length, length-append found hs)
 
     sees : (hs : List AnyHead) → visits_of S (found ++ hs) ≡ visits + visits_of S hs
-    unfolding found
-    sees hs = omega (arith, now.seen, visits_append S found hs, visits_append S now.hs (header rest ∷ []))
+    unfolding found heads
+    sees hs = omega (arith, now.seen, weigh-append (heads S) (heads S).visited found hs, weigh-append (heads S) (heads S).visited now.hs (header rest ∷ []))
 
     stops_at : (i t : Trail) (g : ℕ × Reason) → i.1 ≡ Some g → and_on i t ≡ (i.0, Some g)
     stops_at (hs, None) t g e = absurd (let x : ◌≡◌ {A = Option (ℕ × Reason)} None (Some g) = e in cc)
@@ -177,9 +185,9 @@ module _ {S : Shape} {d : List ℕ} {old : List Event} {count visits place : ℕ
 
     -- a head in the body stands in the datagram
     breaks_inside : (o : Option Head) (b : BrokenHead) → region_of S rest ≡ o → IsBrokenIn S o b → IsBrokenHead S (whole d) b
-    unfolding rest
+    unfolding rest heads
     breaks_inside None b e x = absurd x
-    breaks_inside (Some h) b e x = inr (x.0, (rest, h, now.reach rest (first some), is.sound, e, x.1), x.2, x.3)
+    breaks_inside (Some h) b e x = (inner x.0, now.reach (inner x.0) (inside_then (heads S) (laws S) (header rest) (inner h) (inner x.0) some is.sound (ap some_inner e) (any_head S h x.0 x.1)), x.2, x.3)
 
     pub inner_breaks : (o : Option BrokenHead) (b : BrokenHead) → o ≡ Some b → IfSome o (IsBrokenIn S (region_in f.form (place + 16) f.payload.now)) → IsBrokenHead S (whole d) b
     inner_breaks o b e x = breaks_inside (region_in f.form (place + 16) f.payload.now) b region_is (subst (λ (y : Option BrokenHead). IfSome y (IsBrokenIn S (region_in f.form (place + 16) f.payload.now))) e x)
@@ -189,11 +197,9 @@ module _ {S : Shape} {d : List ℕ} {old : List Event} {count visits place : ℕ
     unfolding rest onward
     onward_is = rw (is.span, is.rest) refl
 
-    onward_reach : (m : Rest) → MessageAt S onward m → MessageAt S (whole d) m
-    unfolding rest onward
-    onward_reach m p =
-        let q : MessageAt S (behind S rest) m = subst (λ (r : Rest). MessageAt S r m) onward_is p in
-        now.reach m (message_then S rest (behind S rest) m (behind_reached S rest m some (or_else_none _ _ is.sound).0 q) q)
+    onward_reach : (h : AnyHead) → HeadAt S onward h → HeadAt S (whole d) h
+    unfolding rest onward heads
+    onward_reach h p = now.reach h (behind_then (heads S) (laws S) (header rest) h some (or_else_none _ _ is.sound).0 (subst (λ (r : Rest). HeadAt S r h) onward_is p))
 
     module _ (new : List Event) (t : Taped) (taped : IsFrameTaped S f place count out new t) where
       -- a head in it breaks a rule

@@ -1,16 +1,15 @@
 -- The head of a datagram that breaks a rule, which a fault is about.
-use Rattle.std.specs.Prelude.{◌≡◌, ◌⊎◌, ℕ, nat_lt, if◌then◌else◌, List, length, Option, Some, None}
+use Rattle.std.specs.Prelude.{◌≡◌, ℕ, nat_lt, if◌then◌else◌, List, length, Option, Some, None}
 use Rattle.nl_attr.specs.declared.order.Order.{Order}
 use Rattle.nl_attr.specs.declared.fault.Reason.{Reason}
 use Rattle.nl_attr.specs.declared.broken.HeadKind.TheVariants.{Message}
 use Rattle.nl_attr.specs.declared.broken.BrokenHead.{BrokenHead}
 use Rattle.nl_attr.specs.Shape.{Shape}
-use Rattle.nl_attr.specs.Heads.{Head, broken}
-use Rattle.nl_attr.specs.Broken.{facts_of, length_said}
+use Rattle.nl_attr.specs.Heads.{Head}
+use Rattle.nl_attr.specs.Broken.{length_said}
 use Rattle.nl_attr.specs.Broken as region
 use Rattle.nl_frame.specs.Header.{header_of}
-use Rattle.nl_frame.specs.Front.{broken_message}
-use Rattle.nl_frame.specs.Heads.{Rest, MessageAt, InnerAt}
+use Rattle.nl_frame.specs.Heads.{AnyHead, header, inner, Rest, HeadAt, broken}
 
 -- the type of a message, where its header is not cut
 abbrev pub kind_said : Order → List ℕ → Option ℕ
@@ -27,19 +26,15 @@ message_facts o why r = record {
   left = length r.left;
 }
 
+-- of a head that breaks this rule
+abbrev pub facts_of : Order → Reason → AnyHead → BrokenHead
+facts_of o why (header r) = message_facts o why r
+facts_of o why (inner h) = region.facts_of o why h
+
 module _ (S : Shape) where
-  module _ (s : Rest) (b : BrokenHead) where
-    -- the header of a message breaks this rule, and these are its facts
-    abbrev pub IsBrokenHeader : Type 0
-    IsBrokenHeader = (r : Rest) × MessageAt S s r × (broken_message S.order r.left ≡ Some b.fault.reason) × (b ≡ message_facts S.order b.fault.reason r)
-
-    -- the head of an attribute or of a next hop does, and these are its facts
-    abbrev pub IsBrokenInner : Type 0
-    IsBrokenInner = (k : Head) × InnerAt S s k × (broken S k ≡ Some b.fault.reason) × (b ≡ facts_of S.order b.fault.reason k)
-
-    -- some head does
-    abbrev pub IsBrokenHead : Type 0
-    IsBrokenHead = IsBrokenHeader ⊎ IsBrokenInner
+  -- a head of the bytes from s on breaks this rule, and these are its facts
+  abbrev pub IsBrokenHead : Rest → BrokenHead → Type 0
+  IsBrokenHead s b = (h : AnyHead) × HeadAt S s h × (broken S h ≡ Some b.fault.reason) × (b ≡ facts_of S.order b.fault.reason h)
 
   -- a head does of the region of a message's attributes, where there is one
   abbrev pub IsBrokenIn : Option Head → BrokenHead → Type 0

@@ -1,10 +1,11 @@
 -- Which heads stand where in a datagram, what each breaks, and what reading it visits.
-use Rattle.std.specs.Prelude.{◌≡◌, ◌≢◌, ◌<◌, ◌≤◌, ◌+◌, ◌⊎◌, ℕ, List, [], length, drop, Option, Some, None}
+use Rattle.std.specs.Prelude.{◌+◌, ℕ, List, drop, Option, Some, None}
 use Rattle.nl_attr.specs.declared.fault.Reason.{Reason}
 use Rattle.nl_attr.specs.Shape.{Shape}
-use Rattle.nl_attr.specs.Numbers.{aligned, len_of, span_of}
-use Rattle.nl_attr.specs.Heads.{Head, HeadAt, IsSound, broken, start_of}
-use Rattle.nl_attr.specs.Visits.{VisitsBy}
+use Rattle.nl_attr.specs.Grammar.{Grammar}
+use Rattle.nl_attr.specs.Grammar as grammar
+use Rattle.nl_attr.specs.Heads.{Head, start_of}
+use Rattle.nl_attr.specs.Heads as region
 use Rattle.nl_route.specs.Families.{head_size, context_of}
 use Rattle.nl_frame.specs.declared.form.Form.{Form}
 use Rattle.nl_frame.specs.declared.form.Form.TheVariants as form
@@ -29,38 +30,81 @@ region_in (form.Object g) place payload = Some (start_of (context_of g) 0 (place
 region_in form.Get place payload = None
 region_in form.Other place payload = None
 
+-- a head of a datagram: the header of a message, with the bytes from there on; or the head of an attribute or of a next hop
+pub data AnyHead : Type 0 where
+  header : Rest → AnyHead
+  inner : Head → AnyHead
+
+-- where a head stands, in bytes from the front of the datagram
+abbrev pub place_of : AnyHead → ℕ
+place_of (header r) = r.place
+place_of (inner h) = h.place
+
+-- the bytes from there to the end of the datagram, or of its region
+abbrev pub left_of : AnyHead → List ℕ
+left_of (header r) = r.left
+left_of (inner h) = h.left
+
+-- a head of a region, where there is one
+abbrev pub some_inner : Option Head → Option AnyHead
+some_inner None = None
+some_inner (Some h) = Some (inner h)
+
 module _ (S : Shape) where
   -- behind a message and its padding
   abbrev pub behind : Rest → Rest
   behind r = record { place = r.place + span_at S.order r.left; left = drop (span_at S.order r.left) r.left }
 
-  -- the message heads of the bytes from s on
-  pub data MessageAt (s : Rest) : Rest → Type 0 where
-    first : s.left ≢ [] → MessageAt s s
-    next : (r : Rest) → MessageAt s r → broken_frame S.order r.left ≡ None → aligned (len_of S.order 4 r.left) < length r.left → MessageAt s (behind r)
-
   -- the region of a message's attributes, where its body is a family's
   abbrev pub region_of : Rest → Option Head
   region_of r = region_in (form_at S.order r.left) (r.place + 16) (payload_at S.order r.left)
 
-  -- the attribute heads and hop heads, which stand in the regions of messages that break no rule
-  abbrev pub InnerAt : Rest → Head → Type 0
-  InnerAt s k = (r : Rest) × (h : Head) × MessageAt s r × (broken_message S.order r.left ≡ None) × (region_of r ≡ Some h) × HeadAt S h k
+  -- the first rule that a head breaks
+  abbrev pub broken : AnyHead → Option Reason
+  broken (header r) = broken_message S.order r.left
+  broken (inner h) = region.broken S h
+
+  -- the rule of its length that it breaks: of a header its own alone, not that of a short body
+  abbrev pub unsound : AnyHead → Option Reason
+  unsound (header r) = broken_frame S.order r.left
+  unsound (inner h) = region.unsound S h
+
+  -- the rule for which it is not counted: of a header any
+  abbrev pub uncounted : AnyHead → Option Reason
+  uncounted (header r) = broken_message S.order r.left
+  uncounted (inner h) = region.unsound S h
+
+  -- a header is no visit
+  abbrev pub visited : AnyHead → ℕ
+  visited (header r) = 0
+  visited (inner h) = region.span_at S h
+
+  -- the next message, attribute or next hop
+  abbrev pub follower : AnyHead → AnyHead
+  follower (header r) = header (behind r)
+  follower (inner h) = inner (region.follower S h)
+
+  -- the first head in a message, or inside an item
+  abbrev pub inner_of : AnyHead → Option AnyHead
+  inner_of (header r) = some_inner (region_of r)
+  inner_of (inner h) = some_inner (region.inner_of S h)
+
+  -- the heads of datagrams: messages, and in those that break no rule attributes and next hops
+  unfoldable pub heads : Grammar AnyHead
+  heads = record { place = place_of; left = left_of; broken = broken; unsound = unsound; uncounted = uncounted; visited = visited; follower = follower; inner = inner_of }
+
+  -- the heads that stand in the bytes from r on
+  abbrev pub HeadAt : Rest → AnyHead → Type 0
+  HeadAt r = grammar.HeadAt heads (header r)
 
   -- a head at this place breaks a rule, and none that comes before it
   abbrev pub FaultAt : Rest → ℕ → Reason → Type 0
-  FaultAt s place reason =
-      ((r : Rest) × MessageAt s r × (r.place ≡ place) × (broken_message S.order r.left ≡ Some reason))
-      ⊎ ((k : Head) × InnerAt s k × (k.place ≡ place) × (broken S k ≡ Some reason))
+  FaultAt r = grammar.FaultAt heads (header r)
 
   -- no fault is at an earlier place
   abbrev pub IsFirstFault : Rest → ℕ → Reason → Type 0
-  IsFirstFault s place r = FaultAt s place r × ((q : ℕ) (t : Reason) → FaultAt s q t → place ≤ q)
+  IsFirstFault r = grammar.IsFirstFault heads (header r)
 
-  -- the item at a place up to q has this span
-  abbrev pub IsVisit : Rest → ℕ → ℕ × ℕ → Type 0
-  IsVisit s q v = (k : Head) × InnerAt s k × IsSound S k × (k.place ≡ v.0) × (span_of S.order 2 k.left ≡ v.1) × (k.place ≤ q)
-
-  -- the visits of the attribute heads and hop heads, up to q
+  -- the visits of the attribute heads and hop heads, up to a place
   abbrev pub Visits : Rest → ℕ → ℕ → Type 0
-  Visits s q total = VisitsBy (IsVisit s q) q total
+  Visits r = grammar.Visits heads (header r)

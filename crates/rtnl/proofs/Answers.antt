@@ -7,7 +7,7 @@ use Rattle.nl_frame.specs.Limits.{Bounds}
 use Rattle.nl_frame.specs.Message.{MessageVal}
 use Rattle.nl_frame.specs.Layout.{Layout}
 use Rattle.nl_frame.specs.Written.{written}
-use Rattle.nl_frame.proofs.Apart.{one_first_fault}
+use Rattle.nl_frame.proofs.Scan.{one_first_fault}
 use Rattle.nl_frame.proofs.Firsts.{one_layout, ok_sound}
 use Rattle.nl_frame.proofs.Layouts.{messages_fit}
 use Rattle.nl_frame.specs.Heads.{IsFirstFault, whole}

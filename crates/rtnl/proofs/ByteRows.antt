@@ -5,12 +5,12 @@ use Rattle.std.proofs.lemmas.List.{append-nil}
 use Rattle.std.proofs.lemmas.Grind.{flat_map-append}
 use Rattle.nl_attr.specs.declared.fault.Reason.{Reason}
 use Rattle.nl_attr.specs.Shape.{Shape}
-use Rattle.nl_attr.proofs.Lemmas.Scan.{head_lies, span_within}
+use Rattle.nl_attr.proofs.Lemmas.Grammars.{head_lies}
 use Rattle.nl_frame.specs.declared.reading.ReadError.{ReadError}
 use Rattle.nl_frame.specs.declared.scanning.ScanError.{ScanError}
 use Rattle.nl_frame.specs.declared.scanning.ScanError.TheVariants.{TooLarge, Layout as Fails}
-use Rattle.nl_frame.specs.Heads.{FaultAt, Rest, whole}
-use Rattle.nl_frame.proofs.Scan.{message_lies, message_region}
+use Rattle.nl_frame.specs.Heads.{FaultAt, Rest, header, heads, whole}
+use Rattle.nl_frame.proofs.Scan.{laws}
 use Rattle.nl_frame.specs.Limits.{Bounds}
 use Rattle.rtnl.specs.declared.bytes.rows.RowFormat.{RowFormat}
 use Rattle.rtnl.specs.declared.bytes.rows.RowFormat.TheVariants.{Text, Coloured, Json}
@@ -114,13 +114,8 @@ taken_is (Err r) (Some x) false i e = refl
 
 -- a fault is at one of the bytes
 fault_within : (S : Shape) (s : Rest) (p : ℕ) (r : Reason) → FaultAt S s p r → p < s.place + length s.left
-fault_within S s p r (inl f) = let l = message_lies S s f.0 f.1 in omega (arith, l.high, l.some, f.2)
-fault_within S s p r (inr f) =
-    let i = f.1 in
-    let l = message_lies S s i.0 i.2 in
-    let m = message_region S i.0 i.1 i.3 i.4 in
-    let k = head_lies S i.1 f.0 i.5 in
-    omega (arith, l.high, m.1, k.high, k.some, f.2, span_within S.order 4 i.0.left)
+unfolding heads
+fault_within S s p r f = let l = head_lies (heads S) (laws S) (header s) f.0 f.1 in omega (arith, l.high, l.some, f.2)
 
 is_at_byte : (b : Bounds) (d : List ℕ) (a : Answer) (o : Option ScanError) → Answers b d a → IsRefusalOf a o → IsAtByte d o
 is_at_byte b d (Ok ms) None is i = tt

@@ -25,7 +25,7 @@ use Rattle.nl_attr.specs.Reading.{Outcome, and_then, map_value, more_visits, loo
 use Rattle.nl_attr.proofs.Lemmas.Numbers.{number_of-num, kind_of-num, index_of-num, past_head, past_hop, flags_at, count_at, head_length, head_then, hop_then}
 use Rattle.nl_attr.proofs.Lemmas.Reading.{items_step, hops_step}
 use Rattle.nl_attr.specs.Walk.{payload_of}
-use Rattle.nl_attr.proofs.Lemmas.Scan.{no_length}
+use Rattle.nl_attr.proofs.Lemmas.Grammars.{no_length}
 
 -- a piece at the front, as the fields of its head have it
 pub record IsCut (o : Order) (h w : ℕ) (left it rest : List ℕ) : Type 0 where

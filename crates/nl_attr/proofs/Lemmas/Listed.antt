@@ -14,16 +14,17 @@ use Rattle.nl_attr.specs.Numbers.{aligned, len_of, span_of}
 use Rattle.nl_attr.specs.Walk.{broken_length, payload_of}
 use Rattle.nl_attr.specs.Tree.{Val, bytes, list, hops, Items, no_items, item, HopItems, no_hops, hop, holds_of}
 use Rattle.nl_attr.specs.Layout.{FitsVal, Fits, FitsHops}
-use Rattle.nl_attr.specs.Heads.{hop_head, Head, content_at, broken, broken_container, follower, inner_in, inner_of, or_else, start_of}
+use Rattle.nl_attr.specs.Heads.{hop_head, Head, content_at, broken, broken_container, follower, inner_in, inner_of, or_else, start_of, heads}
 use Rattle.nl_attr.specs.Written.{val_len, items_len}
-use Rattle.nl_attr.specs.HeadOrder.{TrailOf, and_on, inner_trail, trail_of, sort_of, attr_event, hop_event, event_of}
+use Rattle.nl_attr.specs.Grammar.{TrailOf, and_on, inner_trail}
+use Rattle.nl_attr.specs.HeadOrder.{trail_of, sort_of, attr_event, hop_event, event_of}
 use Rattle.nl_attr.specs.Listed.{sort_of_val, val_events, items_events, hops_events, rounded}
 use Rattle.nl_attr.proofs.Lemmas.Fitted.{hop_size, val_len_is, items_len_is, hops_len_is}
 use Rattle.nl_attr.proofs.Lemmas.Fitting.{attr_is, cut_piece, next_span, val_fit}
 use Rattle.nl_attr.proofs.Lemmas.Numbers.{past_hop}
 use Rattle.nl_attr.proofs.Lemmas.Reading.{sound_within}
-use Rattle.nl_attr.proofs.Lemmas.Scan.{some_left}
-use Rattle.nl_attr.proofs.Lemmas.Trail.{trail_ends, trail_goes}
+use Rattle.nl_attr.proofs.Lemmas.Grammars.{some_left, trail_ends, trail_goes}
+use Rattle.nl_attr.proofs.Lemmas.Scan.{laws}
 
 -- ---- the events of heads
 
@@ -49,16 +50,17 @@ module _ (S : Shape) where
   -- a head that breaks no rule, what is inside its item, and what is behind it
   item_listed : (h k : Head) (o : Option Head) (e : Event) (es fs : List Event) → h.left ≢ [] → broken S h ≡ None → inner_of S h ≡ o → follower S h ≡ k → rounded (event_of S.order h) ≡ e
       → AreEvents (event_of S.order) (inner_trail o (trail_of S)) es → Listed k fs → Listed h (e ∷ (es ++ fs))
+  unfolding heads
   item_listed h k o e es fs some sound inside next is a b =
       subst (λ t. AreEvents (event_of S.order) t (e ∷ (es ++ fs)))
-      (sym (trail_goes S h some sound
-      ∙ ap (λ (x : Option Head). (h ∷ (and_on (inner_trail x (trail_of S)) (trail_of S (follower S h))).0, (and_on (inner_trail x (trail_of S)) (trail_of S (follower S h))).1)) inside
+      (sym (trail_goes (heads S) (laws S) h o some sound inside
       ∙ ap (λ (x : Head). (h ∷ (and_on (inner_trail o (trail_of S)) (trail_of S x)).0, (and_on (inner_trail o (trail_of S)) (trail_of S x)).1)) next))
       (events_one (event_of S.order) h e (and_on (inner_trail o (trail_of S)) (trail_of S k)) (es ++ fs) is (events_on (event_of S.order) (inner_trail o (trail_of S)) (trail_of S k) es fs a b))
 
   -- nothing is left
   none_listed : (h : Head) → h.left ≡ [] → Listed h []
-  none_listed h e = subst (λ t. AreEvents (event_of S.order) t []) (sym (trail_ends S h e)) (refl, refl)
+  unfolding heads
+  none_listed h e = subst (λ t. AreEvents (event_of S.order) t []) (sym (trail_ends (heads S) (laws S) h e)) (refl, refl)
 
   -- ---- an attribute
 

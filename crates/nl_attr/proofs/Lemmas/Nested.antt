@@ -20,7 +20,7 @@ use Rattle.nl_attr.specs.Reading.{Outcome, and_then, more_visits, items_of_regio
 use Rattle.nl_attr.specs.Open.{list_rest, goes_on, next_rest, NextGoes, FailsAs, Spot, list_spot, outer_spot, outer_room, Holds, levels_in, IsWithinLimits, Room, IsIn, spot_end, outer_work, next_work, Advances, NextMoves, LiesUnder, PutsOn}
 use Rattle.nl_attr.proofs.Lemmas.Reading.{more_then}
 use Rattle.nl_attr.proofs.Lemmas.Outcomes.{then_more}
-use Rattle.nl_attr.proofs.Lemmas.Bounds.{items_bound}
+use Rattle.nl_attr.proofs.Lemmas.First.{read_bound}
 
 -- ---- outcomes
 
@@ -211,7 +211,7 @@ pub nested_begins : (S : Shape) (n : ℕ) (f : Outer) (r : ListRegion) (o : Outc
 nested_begins S n f r o l = record { same = refl; nests = (lies_first S (outer_spot f) l.limits, l.holds, l.inside) }
 
 pub whole_bound : (S : Shape) (ctx : Ctx) (l base : ℕ) (left : List ℕ) → (items_of_region S ctx l base left).1 ≤ (S.depth - l + 1) * length left
-whole_bound S ctx l base left = items_bound (length left) S ctx l base left (omega arith)
+whole_bound S ctx l base left = read_bound S ctx l base left
 
 pub whole_fits : (k n x : ℕ) → k ≤ 33 → n ≤ LONGEST_REGION → x ≤ k * n → x ≤ MOST_VISITS
 whole_fits k n x a b le = omega (arith, mul-le-mul_left k b)

@@ -25,7 +25,7 @@ use Rattle.nl_attr.specs.Heads.{attr_head, broken_container}
 use Rattle.nl_attr.specs.Reading.{Outcome, and_then, more_visits, items_of_region, hops_of_region, value_at}
 use Rattle.nl_attr.specs.Region.{content_in, sort_in}
 use Rattle.nl_attr.specs.Open.{before, TurnsAt, items_left, list_rest, hops_rest, list_goes_on, opening_rest, Goes, list_spot, levels_in, IsWithinLimits, Moves}
-use Rattle.nl_attr.proofs.Lemmas.Bounds.{tests_none}
+use Rattle.nl_attr.proofs.Lemmas.Scan.{tests_none}
 use Rattle.nl_attr.proofs.Lemmas.Reading.{map_then}
 use Rattle.nl_attr.proofs.Lemmas.Turns.{Turns}
 use Rattle.nl_attr.proofs.Lemmas.Steps.{collected, list_breaks, list_opens, passes}

@@ -18,9 +18,7 @@ use Rattle.nl_attr.specs.Reading.{Outcome, items_of_region}
 use Rattle.nl_attr.specs.Outcomes.{IsOutcome, HasOutcome, IfLayout, VisitsUpTo}
 use Rattle.nl_attr.proofs.Lemmas.Fitting.{items_fit}
 use Rattle.nl_attr.proofs.Lemmas.Sound.{items_sound}
-use Rattle.nl_attr.proofs.Lemmas.First.{read_first}
-use Rattle.nl_attr.proofs.Lemmas.Exact.{read_all_visits}
-use Rattle.nl_attr.proofs.Lemmas.Visited.{read_visits}
+use Rattle.nl_attr.proofs.Lemmas.First.{read_first, read_visits, read_all_visits}
 
 module _ (S : Shape) (ctx : Ctx) (l place : ℕ) (left : List ℕ) where
   fits_of : (r : Result (Vec Attr) ListError) (v : ℕ) → AreBytes left → IsOutcome (λ (x : Vec Attr). attrs_view x.items) r v (items_of_region S ctx l place left) → IfOk r (λ x. Fits S (attrs_view x.items) left ctx l)

@@ -1,6 +1,8 @@
 -- The loop over a stack of open regions.
-use Rattle.std.proofs.Common.{◌≡◌, ◌≢◌, ℕ, suc, ◌+◌, ◌-◌, ◌*◌, ◌≤◌, ◌<◌, true, false, List, [], ◌∷◌, ◌++◌, length, drop, map, Option, Some, None, refl, sym, ap, subst, ◌∙◌, arith, append_assoc, length-drop, length-append, eqb, IfSome}
+use Rattle.std.proofs.Common.{◌≡◌, ◌≢◌, ℕ, suc, ◌+◌, ◌-◌, ◌*◌, ◌≤◌, ◌<◌, true, false, List, [], ◌∷◌, ◌++◌, length, drop, map, Option, Some, None, refl, sym, ap, subst, ◌∙◌, arith, length-append, eqb, IfSome}
 use Rattle.std.proofs.lemmas.Bool.{eqb-true}
+use Rattle.std.specs.List.{All}
+use Rattle.std.proofs.lemmas.List.Elements.{All-head, All-tail}
 use Rattle.std.proofs.lemmas.List.{append-nil, length-map, map-append, nil_from_length}
 use Rattle.nl_attr.specs.Fixed.{FARTHEST_END, LONGEST_REGION, MOST_VISITS}
 use Rattle.nl_attr.specs.declared.fault.Reason.{Reason}
@@ -9,35 +11,16 @@ use Rattle.nl_attr.specs.declared.broken.BrokenHead.{BrokenHead}
 use Rattle.nl_attr.specs.declared.taping.Taped.{Taped}
 use Rattle.nl_attr.specs.declared.tree.Ctx.{Ctx}
 use Rattle.nl_attr.specs.Shape.{Shape}
-use Rattle.nl_attr.specs.Numbers.{span_of}
 use Rattle.nl_attr.specs.Broken.{IsBrokenHead, facts_of, fault_in}
-use Rattle.nl_attr.specs.Heads.{Sort, attr_head, Head, HeadAt, first, least, broken, follower, inner_of, start_of}
-use Rattle.nl_attr.specs.Visits.{spans}
-use Rattle.nl_attr.specs.HeadOrder.{Trail, and_on, inner_trail, stopped, trail_of, event_of, put_from, visit_of, visits_of, fault_of}
+use Rattle.nl_attr.specs.Grammar.{and_on, first}
+use Rattle.nl_attr.specs.Heads.{Sort, attr_head, Head, HeadAt, IsSound, broken, follower, inner_of, start_of, heads}
+use Rattle.nl_attr.specs.HeadOrder.{Trail, counted, trail_of, event_of, put_from, visits_of, fault_of}
 use Rattle.nl_attr.specs.Taped.{Adds, IsTaped}
-use Rattle.nl_attr.proofs.Lemmas.Reading.{sound_within, span_at_least, payload_length}
-use Rattle.nl_attr.proofs.Lemmas.Scan.{sound_of, span_within, inner_at_place, least_some, head_then, follower_reached, inside_reached}
-use Rattle.nl_attr.proofs.Lemmas.First.{items_scan, sum_append}
-use Rattle.nl_attr.proofs.Lemmas.Visited.{item_bounds}
-use Rattle.nl_attr.proofs.Lemmas.Every.{IsLow, inner_is}
-use Rattle.nl_attr.proofs.Lemmas.Bounds.{items_bound}
+use Rattle.nl_attr.proofs.Lemmas.Grammars.{front, front_on, front_front, weigh-append, behind_then, inside_then, each, trail_ends, trail_stops, trail_goes}
+use Rattle.nl_attr.proofs.Lemmas.Scan.{IsLow, sound_of, inner_is, inner_fills, fills, laws}
+use Rattle.nl_attr.proofs.Lemmas.First.{walk_low}
 use Rattle.nl_attr.proofs.Lemmas.Nested.{whole_fits}
-use Rattle.nl_attr.proofs.Lemmas.Trail.{scan_is, trail_ends, trail_stops, trail_goes}
 use Rattle.nl_attr.proofs.Lemmas.Putting.{put_none, put_on, put_untouched}
-use Rattle.nl_attr.proofs.Lemmas.Standing.{trail_few}
-
--- ---- trails
-
--- behind these heads
-abbrev pub front : List Head → Trail → Trail
-front hs t = (hs ++ t.0, t.1)
-
-front_on : (hs : List Head) (x y : Trail) → and_on (front hs x) y ≡ front hs (and_on x y)
-front_on hs (gs, None) y = ap (λ (l : List Head). (l, y.1)) (append_assoc hs gs y.0)
-front_on hs (gs, Some f) y = refl
-
-front_front : (hs gs : List Head) (t : Trail) → front hs (front gs t) ≡ front (hs ++ gs) t
-front_front hs gs t = ap (λ (l : List Head). (l, t.1)) (sym (append_assoc hs gs t.0))
 
 module _ (S : Shape) where
   -- the heads of the regions that wait, the last of the list first
@@ -56,19 +39,6 @@ module _ (S : Shape) where
   resume_fault : (fs : List Head) (hs : List Head) (f : ℕ × Reason) → resume fs (hs, Some f) ≡ (hs, Some f)
   resume_fault [] hs f = refl
   resume_fault (g ∷ fs) hs f = ap (λ (x : Trail). and_on x (trail_of S g)) (resume_fault fs hs f)
-
-  -- a head that breaks no rule comes, then those in it, then those behind it
-  goes_then : (h : Head) (o : Option Head) → h.left ≢ [] → broken S h ≡ None → inner_of S h ≡ o → trail_of S h ≡ front (h ∷ []) (and_on (inner_trail o (trail_of S)) (trail_of S (follower S h)))
-  goes_then h o some b is = trail_goes S h some b ∙ ap (λ (k : Option Head). (h ∷ (and_on (inner_trail k (trail_of S)) (trail_of S (follower S h))).0, (and_on (inner_trail k (trail_of S)) (trail_of S (follower S h))).1)) is
-
-  visits_append : (hs gs : List Head) → visits_of S (hs ++ gs) ≡ visits_of S hs + visits_of S gs
-  visits_append hs gs = ap spans (map-append (visit_of S) hs gs) ∙ sum_append (map (visit_of S) hs) (map (visit_of S) gs)
-
-  -- the visits of a region of attributes have the bound of reading
-  pub visits_bound : (ctx : Ctx) (l place : ℕ) (left : List ℕ) → visits_of S (trail_of S (start_of ctx l place left)).0 ≤ (S.depth - l + 1) * length left
-  visits_bound ctx l place left =
-      let a = items_scan (length left) S ctx l place left in
-      omega (arith, a.sums, ap (λ (s : List (ℕ × ℕ) × Option (ℕ × Reason)). spans s.0) (scan_is S (length left) (start_of ctx l place left)), items_bound (length left) S ctx l place left (omega arith))
 
   -- ---- where regions stand
 
@@ -93,40 +63,30 @@ module _ (S : Shape) where
   levels_pop start l [] f a = (tt, subst (λ (n : ℕ). IsAtLevel start n f) (omega arith) a.0)
   levels_pop start l (g ∷ fs) f a = let p = levels_pop start (l + 1) fs f a.1 in ((a.0, p.0), subst (λ (n : ℕ). IsAtLevel start n f) (omega arith) p.1)
 
-  -- what is left behind a head is less
-  pub shorter : (h : Head) → broken S h ≡ None → (length (follower S h).left + 4 ≤ length h.left) × ((follower S h).place + length (follower S h).left ≡ h.place + length h.left)
-  shorter h e =
-      let w = sound_within S.order (least h.sort) 2 h.left (sound_of S h.sort h.ctx h.level h.left e) in
-      let m = least_some h.sort in
-      let d = length-drop (span_of S.order 2 h.left) h.left in
-      (omega (arith, w.low, w.high, span_at_least S.order 2 h.left w.high, d), omega (arith, d, span_within S.order 2 h.left))
-
   follower_level : (start : Head) (l : ℕ) (h : Head) → h.left ≢ [] → broken S h ≡ None → IsAtLevel start l h → IsAtLevel start l (follower S h)
+  unfolding heads
   follower_level start l h some e s =
-      let d = shorter h e in
+      let f = fills S h (sound_of S h e) in
       record {
-        reach = λ k p. s.reach k (head_then S h (follower S h) k (follower_reached S h k some (sound_of S h.sort h.ctx h.level h.left e) p) p);
+        reach = λ k p. s.reach k (behind_then (heads S) (laws S) h k some (sound_of S h e) p);
         level = s.level;
         low = s.low;
-        size = omega (arith, d.0, s.size);
-        place = omega (arith, d.1, s.place);
+        size = omega (arith, f.rest, s.size);
+        place = omega (arith, f.rest, s.place);
       }
 
-  -- and so is what is left behind it together with what is in it
+  -- what is left behind a head is less, together with what is in it
   pub inner_less : (h k : Head) → broken S h ≡ None → inner_of S h ≡ Some k → length (follower S h).left + (length k.left + 4) ≤ length h.left
-  inner_less h k e is =
-      let w = sound_within S.order (least h.sort) 2 h.left (sound_of S h.sort h.ctx h.level h.left e) in
-      let m = least_some h.sort in
-      let at = inner_at_place S h.sort h.place h.ctx h.level h.left k is in
-      omega (arith, ap (length {A = ℕ}) at.1, payload_length S.order (least h.sort) 2 h.left w, w.high, span_at_least S.order 2 h.left w.high, length-drop (span_of S.order 2 h.left) h.left)
+  inner_less h k e is = let f = fills S h (sound_of S h e) in omega (arith, f.rest, f.high, f.some, (inner_fills S h k e is).1)
 
   inner_level : (start : Head) (l : ℕ) (h k : Head) → h.left ≢ [] → broken S h ≡ None → inner_of S h ≡ Some k → IsAtLevel start l h → IsAtLevel start (l + 1) k × (l + 1 ≤ S.depth)
+  unfolding heads
   inner_level start l h k some e is s =
-      let i = inner_is S h.sort h.ctx h.place h.level h.left k s.low e is in
-      let b = item_bounds S h k e is in
-      let less = inner_less h k e is in
-      let reach : (j : Head) → HeadAt S k j → HeadAt S start j = λ j p. s.reach j (head_then S h k j (inside_reached S h k j some e is p) p) in
-      (record { reach = reach; level = omega (arith, i.level, s.level); low = i.low; size = omega (arith, less, s.size); place = omega (arith, b.1, span_within S.order 2 h.left, s.place) }, omega (arith, i.room, s.level))
+      let i = inner_is S h k e is in
+      let low = i.low s.low in
+      let f = fills S h (sound_of S h e) in
+      let n = inner_fills S h k e is in
+      (record { reach = λ j p. s.reach j (inside_then (heads S) (laws S) h k j some e is p); level = omega (arith, i.level, s.level); low = low.0; size = omega (arith, n.1, f.high, f.rest, s.size); place = omega (arith, n.0, n.1, f.high, f.rest, s.place) }, omega (arith, low.1, s.level))
 
   -- ---- what is added
 
@@ -135,7 +95,7 @@ module _ (S : Shape) where
   adds_then hs gs a b c old mid new x y = record {
     broken = y.broken ∙ x.broken;
     count = omega (arith, x.count, y.count, length-append hs gs);
-    visits = omega (arith, x.visits, y.visits, visits_append hs gs);
+    visits = omega (arith, x.visits, y.visits, weigh-append (heads S) (heads S).visited hs gs);
     events = y.events
         ∙ ap (λ (xs : List Event). put_from b.count (map (event_of S.order) gs) xs) x.events
         ∙ ap (λ (n : ℕ). put_from n (map (event_of S.order) gs) (put_from a.count (map (event_of S.order) hs) old)) (x.count ∙ ap (λ (n : ℕ). a.count + n) (sym (length-map hs (event_of S.order))))
@@ -151,6 +111,16 @@ work (h ∷ hs) = suc (length h.left) + work hs
 pub work_push : (fs : List Head) (f : Head) → work (fs ++ f ∷ []) ≡ work fs + suc (length f.left)
 work_push [] f = omega arith
 work_push (g ∷ fs) f = omega (arith, work_push fs f)
+
+-- each head occupies a byte and more
+few : (S : Shape) (start : Head) (hs : List Head) → All (λ h. HeadAt S start h × IsSound S h) hs → length hs ≤ visits_of S hs
+unfolding heads
+few S start [] a = omega arith
+few S start (h ∷ hs) a = let f = fills S h (All-head (λ h. HeadAt S start h × IsSound S h) h hs a).1 in omega (arith, few S start hs (All-tail (λ h. HeadAt S start h × IsSound S h) h hs a), f.some, f.low, f.high)
+
+trail_few : (S : Shape) (start : Head) → length (trail_of S start).0 ≤ visits_of S (trail_of S start).0
+unfolding heads
+trail_few S start = few S start (trail_of S start).0 (each (heads S) (laws S) start)
 
 -- ---- the state of the loop
 
@@ -179,11 +149,12 @@ begins S start count old fs none kind level size place = subst (λ (xs : List He
 module _ {S : Shape} {start : Head} {count : ℕ} {old : List Event} {fs : List Head} {top : Head} {t : Taped} {out : List Event} (now : IsTaping S start count old fs top t out) where
   -- the region at hand is at its end, and the last that waits goes on
   pub pops : (gs : List Head) (b : Head) → top.left ≡ [] → fs ≡ gs ++ b ∷ [] → IsTaping S start count old gs b t out
+  unfolding heads
   pops gs b e is =
       let all = levels_pop S start start.level gs b (subst (AllAtLevels S start start.level) is now.below) in
       record {
         hs = now.hs;
-        same = now.same ∙ ap (λ (x : Trail). front now.hs (resume S fs x)) (trail_ends S top e) ∙ ap (λ (xs : List Head). front now.hs (resume S xs ([], None))) is ∙ ap (front now.hs) (resume_push S gs b ([], None));
+        same = now.same ∙ ap (λ (x : Trail). front now.hs (resume S fs x)) (trail_ends (heads S) (laws S) top e) ∙ ap (λ (xs : List Head). front now.hs (resume S xs ([], None))) is ∙ ap (front now.hs) (resume_push S gs b ([], None));
         adds = now.adds;
         below = all.0;
         stands = all.1;
@@ -195,9 +166,10 @@ module _ {S : Shape} {start : Head} {count : ℕ} {old : List Event} {fs : List 
 
   -- it holds no region
   pub goes : (n : Head) (u : Taped) (new : List Event) → top.left ≢ [] → broken S top ≡ None → inner_of S top ≡ None → n ≡ follower S top → Adds S (top ∷ []) t u out new → IsTaping S start count old fs n u new
+  unfolding heads
   goes n u new some b none next a = subst (λ (x : Head). IsTaping S start count old fs x u new) (sym next) (record {
     hs = now.hs ++ top ∷ [];
-    same = comes (trail_of S (follower S top)) (goes_then S top None some b none);
+    same = comes (trail_of S (follower S top)) (trail_goes (heads S) (laws S) top None some b none);
     adds = adds_then S now.hs (top ∷ []) (begun count) t u old out new now.adds a;
     below = now.below;
     stands = follower_level S start (start.level + length fs) top some b now.stands;
@@ -205,12 +177,13 @@ module _ {S : Shape} {start : Head} {count : ℕ} {old : List Event} {fs : List 
 
   -- it holds one
   pub opens : (n k : Head) (gs : List Head) (u : Taped) (new : List Event) → top.left ≢ [] → broken S top ≡ None → inner_of S top ≡ Some k → n ≡ follower S top → gs ≡ fs ++ n ∷ [] → Adds S (top ∷ []) t u out new → IsTaping S start count old gs k u new
+  unfolding heads
   opens n k gs u new some b inner next push a =
       let pushed : gs ≡ fs ++ follower S top ∷ [] = push ∙ ap (λ (x : Head). fs ++ x ∷ []) next in
       let i = inner_level S start (start.level + length fs) top k some b inner now.stands in
       subst (λ (xs : List Head). IsTaping S start count old xs k u new) (sym pushed) (record {
         hs = now.hs ++ top ∷ [];
-        same = comes (and_on (trail_of S k) (trail_of S (follower S top))) (goes_then S top (Some k) some b inner)
+        same = comes (and_on (trail_of S k) (trail_of S (follower S top))) (trail_goes (heads S) (laws S) top (Some k) some b inner)
             ∙ ap (front (now.hs ++ top ∷ [])) (sym (resume_push S fs (follower S top) (trail_of S k)));
         adds = adds_then S now.hs (top ∷ []) (begun count) t u old out new now.adds a;
         below = levels_push S start start.level fs (follower S top) now.below (follower_level S start (start.level + length fs) top some b now.stands);
@@ -221,10 +194,10 @@ module _ {S : Shape} {start : Head} {count : ℕ} {old : List Event} {fs : List 
   pub small : start.sort ≡ attr_head → start.level ≤ S.depth → S.depth ≤ 32 → length start.left ≤ LONGEST_REGION → (t.visits ≤ MOST_VISITS) × (t.count ≤ count + MOST_VISITS)
   small kind l d size =
       let same : start_of start.ctx start.level start.place start.left ≡ start = at start.sort kind in
-      let bound = subst (λ (h : Head). visits_of S (trail_of S h).0 ≤ (S.depth - start.level + 1) * length start.left) same (visits_bound S start.ctx start.level start.place start.left) in
+      let bound = subst (λ (h : Head). visits_of S (trail_of S h).0 ≤ (S.depth - start.level + 1) * length start.left) same (walk_low S start.ctx start.level start.place start.left) in
       let fits = whole_fits (S.depth - start.level + 1) (length start.left) (visits_of S (trail_of S start).0) (omega (arith, d)) size bound in
       let rest = (resume S fs (trail_of S top)).0 in
-      let total : visits_of S (trail_of S start).0 ≡ visits_of S now.hs + visits_of S rest = ap (λ (x : Trail). visits_of S x.0) now.same ∙ visits_append S now.hs rest in
+      let total : visits_of S (trail_of S start).0 ≡ visits_of S now.hs + visits_of S rest = ap (λ (x : Trail). visits_of S x.0) now.same ∙ weigh-append (heads S) (heads S).visited now.hs rest in
       let heads : length (trail_of S start).0 ≡ length now.hs + length rest = ap (λ (x : Trail). length x.0) now.same ∙ length-append now.hs rest in
       (omega (arith, fits, total, now.adds.visits), omega (arith, fits, heads, trail_few S start, now.adds.count)) where
         at : (s : Sort) → s ≡ attr_head → ◌≡◌ {A = Head} (record { place = start.place; sort = attr_head; ctx = start.ctx; level = start.level; left = start.left }) (record { place = start.place; sort = s; ctx = start.ctx; level = start.level; left = start.left })
@@ -234,8 +207,9 @@ module _ {S : Shape} {start : Head} {count : ℕ} {old : List Event} {fs : List 
 
   -- all is accepted
   pub tells_none : top.left ≡ [] → fs ≡ [] → IsTaped S start count old out t
+  unfolding heads
   tells_none e is =
-      let all : trail_of S start ≡ (now.hs, None) = now.same ∙ ap (λ (x : Trail). front now.hs (resume S fs x)) (trail_ends S top e) ∙ ap (λ (xs : List Head). front now.hs (resume S xs ([], None))) is ∙ ap (λ (l : List Head). (l, None)) (append-nil now.hs) in
+      let all : trail_of S start ≡ (now.hs, None) = now.same ∙ ap (λ (x : Trail). front now.hs (resume S fs x)) (trail_ends (heads S) (laws S) top e) ∙ ap (λ (xs : List Head). front now.hs (resume S xs ([], None))) is ∙ ap (λ (l : List Head). (l, None)) (append-nil now.hs) in
       record {
         fault = ap fault_in now.adds.broken ∙ ap (λ (x : Trail). fault_of x.1) (sym all);
         head = subst (λ (o : Option BrokenHead). IfSome o (λ b. IsBrokenHead S start b)) (sym now.adds.broken) tt;
@@ -245,10 +219,11 @@ module _ {S : Shape} {start : Head} {count : ℕ} {old : List Event} {fs : List 
       }
 
   -- the head at hand breaks a rule
-  pub tells_fault : (r : Reason) (x : BrokenHead) (u : Taped) (new : List Event) → top.left ≢ [] → broken S top ≡ Some r → x ≡ facts_of S.order r top → Adds S (stopped r top) t u out new → IsTaped S start count old new (record u { broken = Some x })
+  pub tells_fault : (r : Reason) (x : BrokenHead) (u : Taped) (new : List Event) → top.left ≢ [] → broken S top ≡ Some r → x ≡ facts_of S.order r top → Adds S (counted S top) t u out new → IsTaped S start count old new (record u { broken = Some x })
+  unfolding heads
   tells_fault r x u new some b is a =
-      let all : trail_of S start ≡ (now.hs ++ stopped r top, Some (top.place, r)) = now.same ∙ ap (λ (x : Trail). front now.hs (resume S fs x)) (trail_stops S top r some b) ∙ ap (front now.hs) (resume_fault S fs (stopped r top) (top.place, r)) in
-      let sum = adds_then S now.hs (stopped r top) (begun count) t u old out new now.adds a in
+      let all : trail_of S start ≡ (now.hs ++ counted S top, Some (top.place, r)) = now.same ∙ ap (λ (x : Trail). front now.hs (resume S fs x)) (trail_stops (heads S) (laws S) top r some b) ∙ ap (front now.hs) (resume_fault S fs (counted S top) (top.place, r)) in
+      let sum = adds_then S now.hs (counted S top) (begun count) t u old out new now.adds a in
       subst (λ (y : BrokenHead). IsTaped S start count old new (record u { broken = Some y })) (sym is) (record {
         fault = ap (λ (x : Trail). fault_of x.1) (sym all);
         head = (top, now.stands.reach top (first some), b, refl);
@@ -284,4 +259,4 @@ module _ {S : Shape} {start : Head} {count : ℕ} {old new : List Event} {t : Ta
 
 -- the visits have the bound of reading
 pub taped_bound : (S : Shape) (ctx : Ctx) (l place : ℕ) (left : List ℕ) (count : ℕ) (old new : List Event) (t : Taped) → IsTaped S (start_of ctx l place left) count old new t → t.visits ≤ (S.depth - l + 1) * length left
-taped_bound S ctx l place left count old new t is = omega (arith, is.visits, visits_bound S ctx l place left)
+taped_bound S ctx l place left count old new t is = omega (arith, is.visits, walk_low S ctx l place left)

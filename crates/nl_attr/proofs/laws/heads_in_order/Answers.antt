@@ -1,14 +1,40 @@
-use Rattle.nl_attr.proofs.Lemmas.InOrder.{all, each, end_is, in_order}
+use Rattle.std.proofs.Common.{inl, inr, ℕ, Option, Some, None, arith}
+use Rattle.std.proofs.Math.Nat.{eq-or-lt_of_le}
+use Rattle.nl_attr.specs.declared.fault.Reason.{Reason}
+use Rattle.nl_attr.specs.Shape.{Shape}
+use Rattle.nl_attr.specs.Grammar.{UpTo}
+use Rattle.nl_attr.specs.Heads.{Head, HeadAt, IsSound, heads}
+use Rattle.nl_attr.specs.HeadOrder.{ComesBefore, IsEnd, trail_of}
+use Rattle.nl_attr.proofs.Lemmas.Grammars.{all, counts_before, each, end_is, in_order}
+use Rattle.nl_attr.proofs.Lemmas.Scan.{laws}
 use Rattle.nl_attr.proofs.laws.heads_in_order.Goals as goal
 
 pub returns-clause-each : goal.returns-clause-each
-returns-clause-each c = each
+unfolding heads
+returns-clause-each c = λ S. each (heads S) (laws S)
 
 pub returns-clause-order : goal.returns-clause-order
-returns-clause-order c = in_order
+unfolding heads
+returns-clause-order c = λ S. in_order (heads S) (laws S)
 
 pub returns-clause-end : goal.returns-clause-end
-returns-clause-end c = end_is
+returns-clause-end c = λ S. end_is (heads S) (laws S)
+
+-- what counts up to the end comes before it
+comes : (S : Shape) (h : Head) (o : Option (ℕ × Reason)) → IsSound S h → UpTo o h.place → ComesBefore S o h
+comes S h None e u = tt
+comes S h (Some f) e u = elim (eq-or-lt_of_le u) [ inl at ↦ inr (at, e) | inr lt ↦ inl lt ]
+
+-- and what comes before it counts
+counts : (S : Shape) (s h : Head) (o : Option (ℕ × Reason)) → IsEnd S s o → HeadAt S s h → ComesBefore S o h → IsSound S h × UpTo o h.place
+unfolding heads
+counts S s h None is p b = (counts_before (heads S) (laws S) s h None is p (λ r. r), tt)
+counts S s h (Some f) is p (inl lt) = (counts_before (heads S) (laws S) s h (Some f) is p (λ le. omega (arith, lt, le)), omega (arith, lt))
+counts S s h (Some f) is p (inr at) = (at.1, omega (arith, at.0))
 
 pub returns-clause-all : goal.returns-clause-all
-returns-clause-all c = all
+unfolding heads
+returns-clause-all c = λ S s h. let a = all (heads S) (laws S) s h in (
+  λ x. let y = a.0 x in (y.0.0, comes S h (trail_of S s).1 y.0.1 y.1),
+  λ x. let y = counts S s h (trail_of S s).1 (end_is (heads S) (laws S) s) x.0 x.1 in a.1 ((x.0, y.0), y.1),
+)

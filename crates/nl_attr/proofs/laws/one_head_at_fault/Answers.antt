@@ -1,5 +1,10 @@
-use Rattle.nl_attr.proofs.Lemmas.Apart.{one_head_at_fault}
+use Rattle.std.proofs.Common.{refl}
+use Rattle.nl_attr.specs.Broken.{facts_of}
+use Rattle.nl_attr.specs.Heads.{heads}
+use Rattle.nl_attr.proofs.Lemmas.Grammars.{one_broken}
+use Rattle.nl_attr.proofs.Lemmas.Scan.{laws}
 use Rattle.nl_attr.proofs.laws.one_head_at_fault.Goals as goal
 
 pub returns : goal.returns
-returns c = one_head_at_fault
+unfolding heads
+returns c = λ S s b d. one_broken (heads S) (laws S) s (facts_of S.order) b d (λ r h. refl)

@@ -1,4 +1,4 @@
-use Rattle.nl_frame.proofs.Apart.{one_first_fault}
+use Rattle.nl_frame.proofs.Scan.{one_first_fault}
 use Rattle.nl_frame.proofs.laws.one_first_fault.Goals as goal
 
 pub returns : goal.returns

@@ -1,5 +1,4 @@
-use Rattle.nl_frame.proofs.Every.{one_sum}
-use Rattle.nl_frame.proofs.Sums.{some_sum}
+use Rattle.nl_frame.proofs.Scan.{one_sum, some_sum}
 use Rattle.nl_frame.proofs.laws.one_sum.Goals as goal
 
 pub returns-clause-some : goal.returns-clause-some

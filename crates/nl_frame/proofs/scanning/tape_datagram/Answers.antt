@@ -1,6 +1,6 @@
 use Rattle.std.proofs.Common.{arith}
 use Rattle.nl_frame.specs.Heads.{whole}
-use Rattle.nl_frame.proofs.Few.{few_events}
+use Rattle.nl_frame.proofs.Trails.{few_events}
 use Rattle.nl_frame.proofs.Scanned.{says_so, count_of, head_is, scans}
 use Rattle.nl_frame.proofs.scanning.tape_datagram.Goals as goal
 
