@@ -2,14 +2,9 @@ pub mod Rows
 pub mod Signed
 pub mod Reading
 pub mod Loop
-pub mod Turns
-pub mod Steps
 pub mod Going
 pub mod Opens
 pub mod Nested
-pub mod Outcomes
-pub mod Hops
-pub mod Kept
 pub mod Reads
 pub mod Writes
 pub mod Numbers
@@ -20,7 +15,6 @@ pub mod First
 pub mod Pieces
 pub mod Walk
 pub mod Sound
-pub mod Regions
 pub mod Exact
 pub mod Texts
 pub mod Opened
@@ -30,7 +24,6 @@ pub mod Means
 pub mod Writing
 pub mod Fitted
 pub mod Comparing
-pub mod Sized
 pub mod Fronts
 pub mod Putting
 pub mod Taping

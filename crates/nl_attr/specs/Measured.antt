@@ -46,14 +46,9 @@ abbrev mutual
   -- a value, of an attribute that holds this
   pub extent_of_val : Val → Content → ℕ → Option Extent
   extent_of_val (bytes bs) content.Bytes room = Some (record { deep = false; len = Some (length bs) })
-  extent_of_val (bytes bs) (content.List c) room = None
-  extent_of_val (bytes bs) content.Hops room = None
-  extent_of_val (list is) content.Bytes room = None
   extent_of_val (list is) (content.List c) room = container_extent 1 room (extent_of is c (room - 1))
-  extent_of_val (list is) content.Hops room = None
-  extent_of_val (hops hs) content.Bytes room = None
-  extent_of_val (hops hs) (content.List c) room = None
   extent_of_val (hops hs) content.Hops room = container_extent 2 room (extent_of_hops hs (room - 1))
+  extent_of_val v c room = None
 
   -- a list of which containers may open so many levels
   pub extent_of : Items → Ctx → ℕ → Option Extent

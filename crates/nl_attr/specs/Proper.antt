@@ -15,14 +15,9 @@ abbrev mutual
   -- a value of another kind than its attribute holds, or one with such a value in it
   pub IsMismatchedVal : Val → Content → Type 0
   IsMismatchedVal (bytes bs) content.Bytes = ⊥
-  IsMismatchedVal (bytes bs) (content.List c) = Unit {0}
-  IsMismatchedVal (bytes bs) content.Hops = Unit {0}
-  IsMismatchedVal (list is) content.Bytes = Unit {0}
   IsMismatchedVal (list is) (content.List c) = IsMismatched is c
-  IsMismatchedVal (list is) content.Hops = Unit {0}
-  IsMismatchedVal (hops hs) content.Bytes = Unit {0}
-  IsMismatchedVal (hops hs) (content.List c) = Unit {0}
   IsMismatchedVal (hops hs) content.Hops = IsMismatchedHops hs
+  IsMismatchedVal v c = Unit {0}
 
   -- some number has more than 14 bits, or some value is of another kind than its attribute holds
   pub IsMismatched : Items → Ctx → Type 0

@@ -2,7 +2,7 @@
 use Rattle.std.specs.Prelude.{◌+◌, ◌%◌, ℕ, zero, suc, List, [], ◌∷◌, length, drop, slice_index, Option, Some, None, Result, Ok, Err}
 use Rattle.nl_attr.specs.Fixed.{NUMBERS}
 use Rattle.nl_attr.specs.declared.fault.Reason.{Reason}
-use Rattle.nl_attr.specs.declared.fault.Reason.TheVariants.{Cut, BadLength, ShortBody, TooLong, TooDeep}
+use Rattle.nl_attr.specs.declared.fault.Reason.TheVariants.{Cut, BadLength}
 use Rattle.nl_attr.specs.declared.fault.Fault.{Fault}
 use Rattle.nl_attr.specs.declared.tree.Ctx.{Ctx}
 use Rattle.nl_attr.specs.declared.tree.Ctx.TheVariants.{Route}
@@ -37,9 +37,7 @@ more_visits n o = (o.0, n + o.1)
 abbrev pub fault_visits : Reason → ℕ → ℕ
 fault_visits Cut n = 0
 fault_visits BadLength n = 0
-fault_visits ShortBody n = n
-fault_visits TooLong n = n
-fault_visits TooDeep n = n
+fault_visits r n = n
 
 -- a look at the head of an item of this span: the item is visited, or the head breaks this rule
 abbrev pub look_at : ℕ → ℕ → Option Reason → Outcome (Unit {0})

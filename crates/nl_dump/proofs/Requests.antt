@@ -16,7 +16,7 @@ use Rattle.nl_route.specs.Fields.{zeros}
 use Rattle.nl_route.proofs.Fields.{length-zeros, length-written}
 use Rattle.nl_frame.specs.Header.{header_fields}
 use Rattle.nl_frame.specs.Written.{body_len, header_for, message_item}
-use Rattle.nl_frame.proofs.WrittenLengths.{length-message}
+use Rattle.nl_frame.proofs.WrittenLayouts.{length-message}
 use Rattle.nl_dump.specs.declared.dump.Dump.{Dump}
 use Rattle.nl_dump.specs.Request.{request_message, request_of}
 

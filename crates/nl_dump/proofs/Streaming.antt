@@ -157,14 +157,10 @@ error_real z = by (int_eq z (pos 0)) refl
     by false e = λ h. let x : true ≡ false = sym (ap (λ y. int_eq y (pos 0)) h) ∙ e in cc
 
 body_real : (c : BodyVal) → IsReal (body_end c)
-body_real (noop bs) = tt
 body_real (error code h tail) = error_real code
 body_real (done None tail) = tt
 body_real (done (Some z) tail) = tt
-body_real (overrun bs) = tt
-body_real (object h is) = tt
-body_real (get n tail) = tt
-body_real (other bs) = tt
+body_real c = tt
 
 end_real : (d : Dump) (ms : List MessageVal) → IsReal (end_of d ms)
 end_real d [] = tt

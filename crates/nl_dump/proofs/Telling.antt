@@ -41,27 +41,17 @@ use Rattle.nl_dump.proofs.Courses.{calls_end}
 
 -- a body whose head and attributes come from bytes
 abbrev pub IsRead : BodyVal → Type 0
-IsRead (noop bs) = Unit {0}
-IsRead (error code h tail) = Unit {0}
-IsRead (done status tail) = Unit {0}
-IsRead (overrun bs) = Unit {0}
 IsRead (object h is) = AreRanged (fields_of h) × HasLeaves is
-IsRead (get n tail) = Unit {0}
-IsRead (other bs) = Unit {0}
+IsRead b = Unit {0}
 
 abbrev pub AreRead : List MessageVal → Type 0
 AreRead = AllByRecursion (λ m. IsRead m.body)
 
 module _ (S : Shape) where
   body_read : (b : BodyVal) (m : MessageVal) (payload : List ℕ) → AreBytes payload → BodyOf S b (form_of m.kind) payload → IsRangedBody b → IsRead b
-  body_read (noop bs) m payload fit body r = tt
-  body_read (error code h tail) m payload fit body r = tt
-  body_read (done status tail) m payload fit body r = tt
-  body_read (overrun bs) m payload fit body r = tt
   body_read (object h is) m payload fit body r =
       (r.0, fitting_leaves S is (drop (head_size h.family) payload) _ 0 (bytes_drop (head_size h.family) payload fit) body.1.2)
-  body_read (get n tail) m payload fit body r = tt
-  body_read (other bs) m payload fit body r = tt
+  body_read b m payload fit body r = tt
 
   layout_read : (ms : List MessageVal) (d : List ℕ) → AreBytes d → Layout S ms d → IsRanged ms → AreRead ms
   layout_read [] d fit layout r = tt
@@ -123,13 +113,8 @@ module _ (o : Order) where
       none_some s = cc
 
   body_keyed : (k : Family) (b : BodyVal) (x : Item) → IsRead b → body_item k b ≡ Some x → IsKeyed o k x
-  body_keyed k (noop bs) x r e = cc
-  body_keyed k (error code h tail) x r e = cc
-  body_keyed k (done status tail) x r e = cc
-  body_keyed k (overrun bs) x r e = cc
   body_keyed k (object h is) x r e = family_keyed k h is x r.0 r.1 e
-  body_keyed k (get n tail) x r e = cc
-  body_keyed k (other bs) x r e = cc
+  body_keyed k b x r e = cc
 
   item_keyed : (d : Dump) (m : MessageVal) (x : Item) → IsRead m.body → item_in d m ≡ Some x → IsKeyed o d.kind x
   item_keyed d m x r e = by (belongs d m && (m.kind == type_of d.kind New)) e
@@ -173,12 +158,9 @@ module _ (S : Shape) where
       subst (AllByRecursion IsCourseRead) (sym f.2.2)
       (goes_read (with_messages ms) (λ c h. append_all (λ m. IsRead m.body) c.messages ms h read) f.0 (dumps_read cs f.0 fit.1 f.1))
   dumps_read (feeds bytes (Err feed.NotWaiting) ∷ cs) ds fit f = subst (AllByRecursion IsCourseRead) (sym f.2) (dumps_read cs f.0 fit.1 f.1)
-  dumps_read (feeds bytes (Err feed.Total) ∷ cs) ds fit f = same_read with_damage (λ c. refl) f.0 ds f.2 (dumps_read cs f.0 fit.1 f.1)
-  dumps_read (feeds bytes (Err feed.TooLarge) ∷ cs) ds fit f = same_read with_damage (λ c. refl) f.0 ds f.2 (dumps_read cs f.0 fit.1 f.1)
-  dumps_read (feeds bytes (Err (feed.Layout l)) ∷ cs) ds fit f = same_read with_damage (λ c. refl) f.0 ds f.2 (dumps_read cs f.0 fit.1 f.1)
-  dumps_read (feeds bytes (Err feed.Memory) ∷ cs) ds fit f = same_read with_damage (λ c. refl) f.0 ds f.2 (dumps_read cs f.0 fit.1 f.1)
   dumps_read (abandons (Ok u) ∷ cs) ds fit f = same_read given_up (λ c. refl) f.0 ds f.2 (dumps_read cs f.0 fit f.1)
   dumps_read (abandons (Err e) ∷ cs) ds fit f = subst (AllByRecursion IsCourseRead) (sym f.2) (dumps_read cs f.0 fit f.1)
+  dumps_read (c ∷ cs) ds fit f = same_read with_damage (λ c. refl) f.0 ds f.2 (dumps_read cs f.0 fit.1 f.1)
 
 newest_keyed : (o : Order) (k : Family) (ds : List Course) → AllByRecursion IsCourseRead ds → AllByRecursion (IsKeyed o k) (items_at k ds)
 newest_keyed o k [] r = tt

@@ -117,11 +117,7 @@ module _ (s : Standing) (bytes : List ℕ) where
   one_answer (Ok p) (Err (feed.Layout g)) t w a b = absurd (no_layout a.1.1 g a.1.3.layout b.1)
   one_answer (Ok p) (Ok q) t w a b = one_taking p q t w a b
   one_answer (Err feed.Memory) q t w a b = absurd a
-  one_answer (Err feed.NotWaiting) (Err feed.Memory) t w a b = absurd b
-  one_answer (Err feed.Total) (Err feed.Memory) t w a b = absurd b
-  one_answer (Err feed.TooLarge) (Err feed.Memory) t w a b = absurd b
-  one_answer (Err (feed.Layout f)) (Err feed.Memory) t w a b = absurd b
-  one_answer (Ok p) (Err feed.Memory) t w a b = absurd b
+  one_answer r (Err feed.Memory) t w a b = absurd b
 
 -- ---- a session's call and a stream's are so
 
@@ -147,12 +143,8 @@ plain_stream s t bytes old new (Ok x) l h = (h.0, (h.1.0, h.1.1, h.1.2, h.1.3, h
 
 -- what lacked room left the stream as it was
 lacked_same : (s t : Standing) (bytes : List ℕ) (old new : List Event) (q : Result Streamed StreamError) → lacked_by q ≡ true → StreamFed s bytes old q t new → t ≡ s
-lacked_same s t bytes old new (Err stream.NotWaiting) l h = cc
-lacked_same s t bytes old new (Err stream.Total) l h = cc
-lacked_same s t bytes old new (Err stream.TooLarge) l h = cc
-lacked_same s t bytes old new (Err (stream.Layout f)) l h = cc
 lacked_same s t bytes old new (Err (stream.Room n)) l h = h.4
-lacked_same s t bytes old new (Ok x) l h = cc
+lacked_same s t bytes old new q l h = cc
 
 lacked_step : (c : StreamCall) (s t : Standing) → lacked c ≡ true → StreamStep s c t → t ≡ s
 lacked_step (stream_begins d q) s t l h = cc
@@ -177,9 +169,7 @@ begin_same d u v (Err begin.SameSeq) (Ok y) t m h k = absurd (k.1 h.1)
 begin_same d u v (Err begin.SameSeq) (Err begin.Busy) t m h k = absurd (h.0 k.0)
 begin_same d u v (Err begin.SameSeq) (Err begin.SameSeq) t m h k = (refl, k.2 ∙ sym (ap standing_of h.2))
 begin_same d u v (Err begin.Memory) q t m h k = absurd m
-begin_same d u v (Ok x) (Err begin.Memory) t m h k = absurd k
-begin_same d u v (Err begin.Busy) (Err begin.Memory) t m h k = absurd k
-begin_same d u v (Err begin.SameSeq) (Err begin.Memory) t m h k = absurd k
+begin_same d u v r (Err begin.Memory) t m h k = absurd k
 
 waiting_of : (s : State) (d : Dump) → s ≡ Waiting d → IsWaiting s
 waiting_of s d e = subst IsWaiting (sym e) tt
@@ -196,17 +186,12 @@ abandon_same u v (Err e) (Err f) t h k = (refl, k.1 ∙ sym (ap standing_of h.1)
 step_same : (t : StreamCall) (c : Call) (u v : View) (s w : Standing) → s ≡ standing_of u → lacked t ≡ false → AsksTheSame t c → Step u c v → StreamStep s t w → Meet t c w v
 step_same (stream_begins d q) (begins e r) u v s w is l asks h k =
     begin_same d u v r q w asks.1 (subst (λ x. Began u x r v) (sym asks.0) h) (subst (λ x. StreamBegan x d q w) is k)
-step_same (stream_begins d q) (feeds bytes r) u v s w is l asks h k = absurd asks
-step_same (stream_begins d q) (abandons r) u v s w is l asks h k = absurd asks
-step_same (stream_feeds bytes old q new) (begins e r) u v s w is l asks h k = absurd asks
 step_same (stream_feeds bytes old q new) (feeds other r) u v s w is l asks h k =
     let a = plain_session u v bytes r asks.1 (subst (λ x. Fed u x r v) (sym asks.0) h) in
     let b = plain_stream (standing_of u) w bytes old new q l (subst (λ x. StreamFed x bytes old q w new) is k) in
     one_answer (standing_of u) bytes (fed q) r w (standing_of v) b a
-step_same (stream_feeds bytes old q new) (abandons r) u v s w is l asks h k = absurd asks
-step_same (stream_abandons q) (begins e r) u v s w is l asks h k = absurd asks
-step_same (stream_abandons q) (feeds bytes r) u v s w is l asks h k = absurd asks
 step_same (stream_abandons q) (abandons r) u v s w is l asks h k = abandon_same u v r q w h (subst (λ x. StreamAbandons x q w) is k)
+step_same t c u v s w is l asks h k = absurd asks
 
 -- ---- all calls
 

@@ -64,7 +64,6 @@ is_marked flags = not (bit_and flags 16 == 0)
 
 -- how it ends a dump
 ends_so : (S : Shape) (c : BodyVal) (f : Form) (payload : List ℕ) → BodyOf S c f payload → form_end S.order f payload ≡ body_end c
-ends_so S (noop bs) f payload b = ap (λ x. form_end S.order x payload) b.0
 ends_so S (error code h tail) f payload b =
     let r = (body_fit S (error code h tail) f 0 payload b).1 in
     let read : ReadAs (body_at S form.Error 0 payload) (error code h tail) = subst (λ x. ReadAs (body_at S x 0 payload) (error code h tail)) b.0 r in
@@ -78,10 +77,7 @@ ends_so S (done (Some z) tail) f payload b =
     let same : ◌≡◌ {A = Result BodyVal Fault} (Ok (done (Some (signed_of S.order payload)) (drop 4 payload))) (Ok (done (Some z) tail)) = rw (le-ltb (length payload) 4 b.1) at (ap (λ (p : Outcome BodyVal). p.0) read.1) in
     let is : signed_of S.order payload ≡ z = cc in
     ap (λ x. form_end S.order x payload) b.0 ∙ ap Some (rw (le-ltb (length payload) 4 b.1) (ap Done is))
-ends_so S (overrun bs) f payload b = ap (λ x. form_end S.order x payload) b.0
-ends_so S (object h is) f payload b = ap (λ x. form_end S.order x payload) b.0
-ends_so S (get n tail) f payload b = ap (λ x. form_end S.order x payload) b.0
-ends_so S (other bs) f payload b = ap (λ x. form_end S.order x payload) b.0
+ends_so S c f payload b = ap (λ x. form_end S.order x payload) b.0
 
 -- a NEW of a family has its body
 brings_so : (S : Shape) (k : Family) (c : BodyVal) (f : Form) (payload : List ℕ) → BodyOf S c f payload → f ≡ form.Object k → is_some (body_item k c) ≡ true

@@ -34,13 +34,10 @@ error_at o payload = if int_eq (signed_of o payload) (pos 0) then None else Some
 
 -- how a body of this form ends a dump
 abbrev pub form_end : Order → Form → List ℕ → Option End
-form_end o form.Noop payload = None
 form_end o form.Error payload = error_at o payload
 form_end o form.Done payload = Some (status_at o payload)
 form_end o form.Overrun payload = Some Overrun
-form_end o (form.Object g) payload = None
-form_end o form.Get payload = None
-form_end o form.Other payload = None
+form_end o f payload = None
 
 -- nothing where no whole message stands there
 abbrev pub unbroken : Option Reason → Option End → Option End

@@ -10,10 +10,8 @@ use Rattle.nl_dump.specs.View.{View, is_success}
 
 -- an ERROR with code 0 ends no dump
 abbrev pub IsRealEnd : End → Type 0
-IsRealEnd (Done z) = Unit {0}
 IsRealEnd (Error z) = z ≢ pos 0
-IsRealEnd Overrun = Unit {0}
-IsRealEnd Abandoned = Unit {0}
+IsRealEnd e = Unit {0}
 
 -- before the first dump nothing was taken
 abbrev pub IsReached : State → Standing → Type 0
@@ -39,12 +37,8 @@ new_standing b = record { limits = b; state = Idle; ignored = 0; visits = 0; rec
 
 -- the dump ended by DONE with no failure, and no datagram of it was refused, nor was it interrupted
 abbrev pub is_whole : State → Standing → Bool
-is_whole Idle s = false
-is_whole (Waiting d) s = false
 is_whole (Ended d (Done z)) s = is_success z && (not s.damaged && not s.interrupted)
-is_whole (Ended d (Error z)) s = false
-is_whole (Ended d Overrun) s = false
-is_whole (Ended d Abandoned) s = false
+is_whole state s = false
 
 abbrev pub whole_of : Standing → Bool
 whole_of s = is_whole s.state s

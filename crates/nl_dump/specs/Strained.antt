@@ -25,11 +25,8 @@ scan_refusal (unscanned.Layout b) = Fault b.fault
 
 -- the buffer is too short
 abbrev pub is_room : StreamError → Bool
-is_room NotWaiting = false
-is_room Total = false
-is_room TooLarge = false
-is_room (Fault f) = false
 is_room (Room n) = true
+is_room e = false
 
 -- what was sifted, as it is answered
 abbrev pub strained_of : Sifted → Strained

@@ -40,12 +40,8 @@ StreamCalls b (c ∷ cs) s = (t : Standing) × StreamCalls b cs t × StreamStep 
 
 -- a datagram for whose events the buffer was too short: a session has no such answer
 abbrev pub lacked_by : Result Streamed StreamError → Bool
-lacked_by (Ok s) = false
-lacked_by (Err stream.NotWaiting) = false
-lacked_by (Err stream.Total) = false
-lacked_by (Err stream.TooLarge) = false
-lacked_by (Err (stream.Layout f)) = false
 lacked_by (Err (stream.Room n)) = true
+lacked_by r = false
 
 abbrev pub lacked : StreamCall → Bool
 lacked (stream_begins d r) = false
@@ -69,30 +65,19 @@ Beside R (t ∷ ts) cs = either (lacked t) (Beside R ts cs) (with_first (R t) (B
 
 -- it was refused no memory
 abbrev pub BeginsWithMemory : Result (Vec ℕ) BeginError → Type 0
-BeginsWithMemory (Ok request) = Unit {0}
-BeginsWithMemory (Err begin.Busy) = Unit {0}
-BeginsWithMemory (Err begin.SameSeq) = Unit {0}
 BeginsWithMemory (Err begin.Memory) = ⊥
+BeginsWithMemory r = Unit {0}
 
 abbrev pub FeedsWithMemory : Result Progress FeedError → Type 0
-FeedsWithMemory (Ok p) = Unit {0}
-FeedsWithMemory (Err feed.NotWaiting) = Unit {0}
-FeedsWithMemory (Err feed.Total) = Unit {0}
-FeedsWithMemory (Err feed.TooLarge) = Unit {0}
-FeedsWithMemory (Err (feed.Layout f)) = Unit {0}
 FeedsWithMemory (Err feed.Memory) = ⊥
+FeedsWithMemory r = Unit {0}
 
 -- the same is asked, and the session had the memory
 abbrev pub AsksTheSame : StreamCall → Call → Type 0
 AsksTheSame (stream_begins d q) (begins e r) = (d ≡ e) × BeginsWithMemory r
-AsksTheSame (stream_begins d q) (feeds bytes r) = ⊥
-AsksTheSame (stream_begins d q) (abandons r) = ⊥
-AsksTheSame (stream_feeds bytes old q new) (begins e r) = ⊥
 AsksTheSame (stream_feeds bytes old q new) (feeds fed r) = (bytes ≡ fed) × FeedsWithMemory r
-AsksTheSame (stream_feeds bytes old q new) (abandons r) = ⊥
-AsksTheSame (stream_abandons q) (begins e r) = ⊥
-AsksTheSame (stream_abandons q) (feeds bytes r) = ⊥
 AsksTheSame (stream_abandons q) (abandons r) = Unit {0}
+AsksTheSame s c = ⊥
 
 -- ---- the same answers
 
@@ -117,14 +102,9 @@ fed (Err e) = Err (as_feed e)
 -- the same is answered
 abbrev pub AnswersTheSame : StreamCall → Call → Type 0
 AnswersTheSame (stream_begins d q) (begins e r) = q ≡ begun r
-AnswersTheSame (stream_begins d q) (feeds bytes r) = ⊥
-AnswersTheSame (stream_begins d q) (abandons r) = ⊥
-AnswersTheSame (stream_feeds bytes old q new) (begins e r) = ⊥
 AnswersTheSame (stream_feeds bytes old q new) (feeds other r) = fed q ≡ r
-AnswersTheSame (stream_feeds bytes old q new) (abandons r) = ⊥
-AnswersTheSame (stream_abandons q) (begins e r) = ⊥
-AnswersTheSame (stream_abandons q) (feeds bytes r) = ⊥
 AnswersTheSame (stream_abandons q) (abandons r) = q ≡ r
+AnswersTheSame s c = ⊥
 
 -- whatever the calls, a stream and a session that were asked the same have answered the same, and stand where the other does
 abbrev pub StreamIsSession : Type 0

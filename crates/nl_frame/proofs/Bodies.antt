@@ -1,20 +1,20 @@
 -- What is read of a payload is its body, and nothing else is.
-use Rattle.std.proofs.Common.{◌≡◌, ℕ, ◌+◌, ◌≤◌, ℤ, List, [], ◌∷◌, length, take, drop, Some, None, Result, Ok, refl, sym, ap, subst, ◌∙◌, arith, inl, inr}
+use Rattle.std.proofs.Common.{◌≡◌, ℕ, ◌+◌, ◌≤◌, ℤ, List, [], ◌∷◌, length, take, drop, Some, None, Result, Ok, refl, sym, ap, subst, ◌∙◌, arith, inl, inr, ◌-◌}
 use Rattle.std.proofs.lemmas.Bool.{le-ltb, lt-ltb, cases_lt}
-use Rattle.std.proofs.lemmas.List.{length-take}
+use Rattle.std.proofs.lemmas.List.{length-take, take-take, drop-take, drop-drop}
 use Rattle.std.specs.Prelude.{slice_index}
 use Rattle.nl_attr.specs.declared.order.Order.{Order}
 use Rattle.nl_attr.specs.declared.fault.Fault.{Fault}
 use Rattle.nl_attr.specs.Shape.{Shape}
-use Rattle.nl_attr.specs.Numbers.{AreBytes}
+use Rattle.nl_attr.specs.Numbers.{AreBytes, number_of}
 use Rattle.nl_attr.specs.Tree.{Items}
 use Rattle.nl_attr.specs.Layout.{Fits}
 use Rattle.nl_attr.specs.Reading.{Outcome, map_value, items_of_region}
 use Rattle.nl_attr.proofs.Lemmas.Fitting.{ReadAs, items_fit}
-use Rattle.nl_attr.proofs.Lemmas.Sound.{items_sound, map_ok}
-use Rattle.nl_attr.proofs.Lemmas.Numbers.{bytes_drop, bytes_take}
-use Rattle.nl_route.specs.Fields.{signed, AreFields}
-use Rattle.nl_route.proofs.Known.{fields_of_read, read_of_fields}
+use Rattle.nl_attr.proofs.Lemmas.Sound.{items_sound, map_ok, same_ok}
+use Rattle.nl_attr.proofs.Lemmas.Numbers.{bytes_drop, bytes_take, number_take}
+use Rattle.nl_route.specs.Fields.{signed, AreFields, Field}
+use Rattle.nl_route.proofs.Known.{fields_of_read, read_of_fields, IsKnown, value_at, signed_at}
 use Rattle.nl_route.proofs.Families.{any_only, any_fields}
 use Rattle.nl_route.specs.Families.{head_size, context_of, AnyHead, family_of, head_of}
 use Rattle.nl_frame.specs.declared.header.Header.{Header}
@@ -26,7 +26,72 @@ use Rattle.nl_frame.specs.Form.{least_body}
 use Rattle.nl_frame.specs.Message.{BodyVal, noop, error, done, overrun, object, get, other}
 use Rattle.nl_frame.specs.Layout.{BodyOf}
 use Rattle.nl_frame.specs.Reading.{signed_of, done_at, body_at}
-use Rattle.nl_frame.proofs.Headers.{Answer, answer_known, answer_fields, answer_of, answer_front, status_known, status_front}
+use Rattle.std.specs.Int.{w32, cast_signed}
+
+-- ---- what is read of the fixed fields at the front of a message or a body
+
+pub header_known : IsKnown 16 header_fields header_of
+header_known =
+    record {
+      is = λ o v bytes. refl;
+      made = λ fs. record { len = value_at fs 0; kind = value_at fs 1; flags = value_at fs 2; seq = value_at fs 3; port = value_at fs 4 };
+      back = λ v. refl;
+      size_is = λ v. refl;
+    }
+
+-- the status of a DONE
+abbrev pub status_fields : ℤ → List Field
+status_fields z = signed z ∷ []
+
+pub status_known : IsKnown 4 status_fields signed_of
+status_known = record { is = λ o v bytes. refl; made = λ fs. signed_at fs 0; back = λ v. refl; size_is = λ v. refl }
+
+-- the code of an ERROR and the header that it answers
+abbrev pub Answer : Type 0
+Answer = ℤ × Header
+
+abbrev pub answer_fields : Answer → List Field
+answer_fields a = signed a.0 ∷ header_fields a.1
+
+abbrev pub answer_of : Order → List ℕ → Answer
+answer_of o bytes = (signed_of o bytes, header_of o (drop 4 bytes))
+
+pub answer_known : IsKnown 20 answer_fields answer_of
+answer_known =
+    record {
+      is = λ o v bytes. rw (drop-drop 4 4 bytes, drop-drop 6 4 bytes, drop-drop 8 4 bytes, drop-drop 12 4 bytes) refl;
+      made = λ fs. (signed_at fs 0, record { len = value_at fs 1; kind = value_at fs 2; flags = value_at fs 3; seq = value_at fs 4; port = value_at fs 5 });
+      back = λ v. refl;
+      size_is = λ v. refl;
+    }
+
+-- a number is read of its own bytes alone
+number_front : (o : Order) (w k n : ℕ) (xs : List ℕ) → k + w ≤ n → number_of o w (drop k (take n xs)) ≡ number_of o w (drop k xs)
+number_front o w k n xs le =
+    let e : n ≡ k + (n - k) = omega arith in
+    ap (λ (m : ℕ). number_of o w (drop k (take m xs))) e
+    ∙ ap (number_of o w) (drop-take k (n - k) xs)
+    ∙ sym (number_take o w (take (n - k) (drop k xs)))
+    ∙ ap (number_of o w) (take-take w (n - k) (drop k xs) (omega arith))
+    ∙ number_take o w (drop k xs)
+
+header_same : {a b c d e f g h i j : ℕ} → a ≡ b → c ≡ d → e ≡ f → g ≡ h → i ≡ j → ◌≡◌ {A = Header} (record { len = a; kind = c; flags = e; seq = g; port = i }) (record { len = b; kind = d; flags = f; seq = h; port = j })
+header_same p q r s t = cc
+
+-- a header is read of the first 16 bytes alone, and so are the others
+pub header_front : (o : Order) (xs : List ℕ) → header_of o (take 16 xs) ≡ header_of o xs
+header_front o xs = header_same (number_front o 4 0 16 xs (omega arith)) (number_front o 2 4 16 xs (omega arith)) (number_front o 2 6 16 xs (omega arith)) (number_front o 4 8 16 xs (omega arith)) (number_front o 4 12 16 xs (omega arith))
+
+pub status_front : (o : Order) (xs : List ℕ) → signed_of o (take 4 xs) ≡ signed_of o xs
+status_front o xs = ap (cast_signed w32) (number_front o 4 0 4 xs (omega arith))
+
+answer_same : {y z : ℤ} {v w : Header} → y ≡ z → v ≡ w → ◌≡◌ {A = Answer} (y, v) (z, w)
+answer_same p q = cc
+
+pub answer_front : (o : Order) (xs : List ℕ) → answer_of o (take 20 xs) ≡ answer_of o xs
+answer_front o xs =
+    answer_same (ap (cast_signed w32) (number_front o 4 0 20 xs (omega arith)))
+    (ap (header_of o) (drop-take 4 16 xs) ∙ header_front o (drop 4 xs))
 
 -- ---- what is a body is read
 
@@ -68,9 +133,6 @@ body_fit S (get n tail) f place payload b = of_form S f form.Get place payload (
 body_fit S (other bs) f place payload b = of_form S f form.Other place payload (other bs) b.0 (omega arith, (0, ok_same _ _ (ap other b.1)))
 
 -- ---- what is read is a body
-
-same_ok : (x y : BodyVal) (v w : ℕ) → ◌≡◌ {A = Outcome BodyVal} (Ok x, v) (Ok y, w) → x ≡ y
-same_ok x y v w e = let g : ◌≡◌ {A = Result BodyVal Fault} (Ok x) (Ok y) = ap (λ (p : Outcome BodyVal). p.0) e in cc
 
 error_sound : (o : Order) (payload : List ℕ) → AreBytes payload → 20 ≤ length payload → AreFields o (signed (signed_of o payload) ∷ header_fields (header_of o (drop 4 payload))) (take 20 payload)
 error_sound o payload fits le =

@@ -1,16 +1,16 @@
 -- The layout of a datagram is what is read of it.
 use Rattle.std.proofs.Common.{◌≡◌, ◌≢◌, ℕ, zero, suc, ◌+◌, ◌≤◌, List, [], ◌∷◌, length, take, drop, Option, Some, None, Result, Ok, Err, refl, sym, ap, subst, ◌∙◌, arith}
-use Rattle.std.proofs.lemmas.List.{length-take, nil_from_length}
+use Rattle.std.proofs.lemmas.List.{take-take, length-take, nil_from_length}
 use Rattle.nl_attr.specs.declared.fault.Reason.{Reason}
 use Rattle.nl_attr.specs.declared.fault.Fault.{Fault}
 use Rattle.nl_attr.specs.Shape.{Shape}
 use Rattle.nl_attr.specs.Numbers.{AreBytes, len_of}
 use Rattle.nl_attr.specs.Layout.{IsPiece}
 use Rattle.nl_attr.specs.Reading.{Outcome, map_value}
-use Rattle.nl_attr.proofs.Lemmas.Pieces.{take_take, piece_at}
-use Rattle.nl_attr.proofs.Lemmas.Reading.{sound_within, rest_shorter, or_else_none}
+use Rattle.nl_attr.proofs.Lemmas.Pieces.{piece_at}
+use Rattle.nl_attr.proofs.Lemmas.Reading.{one_result, sound_within, rest_shorter, or_else_none}
 use Rattle.nl_attr.proofs.Lemmas.Fitting.{ReadAs, then_read, map_read, along, IsCut, cut_piece}
-use Rattle.nl_attr.proofs.Lemmas.Sound.{then_ok, map_ok}
+use Rattle.nl_attr.proofs.Lemmas.Sound.{same_ok, then_ok, map_ok}
 use Rattle.nl_attr.proofs.Lemmas.Numbers.{bytes_drop, bytes_take}
 use Rattle.nl_route.specs.Fields.{AreFields}
 use Rattle.nl_route.proofs.Known.{fields_of_read, read_of_fields}
@@ -23,9 +23,8 @@ use Rattle.nl_frame.specs.Front.{form_at, span_at, payload_at, broken_frame, bro
 use Rattle.nl_frame.specs.Layout.{BodyOf, Layout}
 use Rattle.nl_frame.specs.Reading.{message_of, message_at, body_at, unless, messages_at, messages_of}
 use Rattle.nl_frame.proofs.Steps.{messages_step, messages_none}
-use Rattle.nl_frame.proofs.Headers.{header_known, header_front}
+use Rattle.nl_frame.proofs.Bodies.{header_known, header_front, body_fit, body_sound}
 use Rattle.nl_frame.proofs.Fronts.{sound_of, long_of}
-use Rattle.nl_frame.proofs.Bodies.{body_fit, body_sound}
 
 pub some_of : (left : List ℕ) → 16 ≤ length left → left ≢ []
 some_of [] h = absurd (omega arith)
@@ -39,7 +38,7 @@ two p q = cc
 
 unless_ok : {A : Type 0} (place : ℕ) (r : Option Reason) (o : Outcome A) (x : A) (v : ℕ) → unless place r o ≡ (Ok x, v) → (r ≡ None) × (o ≡ (Ok x, v))
 unless_ok place None o x v e = (refl, e)
-unless_ok {A} place (Some r) o x v e = absurd (let f : ◌≡◌ {A = Result A Fault} (Err (record { place = place; reason = r })) (Ok x) = ap (λ (p : Outcome A). p.0) e in cc)
+unless_ok place (Some r) o x v e = absurd (let f = one_result e in cc)
 
 -- the header of a message with these bytes
 abbrev pub header_in : MessageVal → List ℕ → Header
@@ -58,7 +57,7 @@ module _ (S : Shape) where
   message_is m left it pad rest p are long =
       let cut = cut_piece S.order 16 4 left it pad rest p in
       let w = sound_within S.order 16 4 left cut.sound in
-      let front : take 16 it ≡ take 16 left = ap (take 16) (sym cut.item) ∙ take_take 16 (len_of S.order 4 left) left w.low in
+      let front : take 16 it ≡ take 16 left = ap (take 16) (sym cut.item) ∙ take-take 16 (len_of S.order 4 left) left w.low in
       let head : header_of S.order left ≡ header_in m it = sym (header_front S.order left) ∙ ap (header_of S.order) (sym front) ∙ sym (read_of_fields header_known S.order (header_in m it) (take 16 it) are) in
       let form : form_at S.order left ≡ form_of m.kind = ap (λ (x : Header). form_of x.kind) head in
       let payload : payload_at S.order left ≡ drop 16 it = ap (drop 16) cut.item in
@@ -79,16 +78,13 @@ module _ (S : Shape) where
       along _ _ (m ∷ ms) (messages_step S place left (some_of left w.head) is.sound)
       (then_read (message_at S place left) _ m (m ∷ ms) message (map_read (λ xs. m ∷ xs) _ ms more))
 
-  empty_layout : (ms : List MessageVal) (v w : ℕ) (left : List ℕ) → left ≡ [] → ◌≡◌ {A = Outcome (List MessageVal)} (Ok [], w) (Ok ms, v) → Layout S ms left
-  empty_layout ms v w left e f = subst (λ (x : List MessageVal). Layout S x left) (let g : ◌≡◌ {A = Result (List MessageVal) Fault} (Ok []) (Ok ms) = ap (λ (p : Outcome (List MessageVal)). p.0) f in let j : [] ≡ ms = cc in j) e
-
   message_layout : (left : List ℕ) (c : BodyVal) (ms : List MessageVal) → AreBytes left → broken_frame S.order left ≡ None → BodyOf S c (form_at S.order left) (payload_at S.order left) → Layout S ms (drop (span_at S.order left) left) → Layout S (message_of (header_of S.order left) c ∷ ms) left
   message_layout left c ms fits e body more =
       let w = sound_within S.order 16 4 left e in
       let n = len_of S.order 4 left in
       let it = take n left in
       let len : n ≡ length it = omega (arith, length-take n left, w.high) in
-      let front : take 16 it ≡ take 16 left = take_take 16 n left w.low in
+      let front : take 16 it ≡ take 16 left = take-take 16 n left w.low in
       let known : AreFields S.order (header_fields (header_of S.order (take 16 it))) (take 16 it) = fields_of_read header_known S.order (take 16 it) (bytes_take 16 it (bytes_take n left fits)) (omega (arith, length-take 16 it, len, w.low)) in
       let same : header_of S.order (take 16 it) ≡ header_of S.order left = ap (header_of S.order) front ∙ header_front S.order left in
       let h = header_of S.order left in
@@ -98,8 +94,8 @@ module _ (S : Shape) where
 
   pub messages_sound : (n place : ℕ) (left : List ℕ) (ms : List MessageVal) (v : ℕ) → length left ≤ n → AreBytes left → messages_at S n place left ≡ (Ok ms, v) → Layout S ms left
   unfolding messages_at
-  messages_sound zero place left ms v h fits e = empty_layout ms v 0 left (nil_from_length left (omega arith)) e
-  messages_sound (suc n) place [] ms v h fits e = empty_layout ms v 0 [] refl e
+  messages_sound zero place left ms v h fits e = subst (λ (x : List MessageVal). Layout S x left) (same_ok [] ms 0 v e) (nil_from_length left (omega arith))
+  messages_sound (suc n) place [] ms v h fits e = subst (λ (x : List MessageVal). Layout S x []) (same_ok [] ms 0 v e) refl
   messages_sound (suc n) place (b ∷ bs) ms v h fits e =
       let left = b ∷ bs in
       let u = unless_ok place (broken_message S.order left) _ ms v e in

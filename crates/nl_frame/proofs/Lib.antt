@@ -1,14 +1,10 @@
-pub mod Appended
 pub mod Beginnings
 pub mod Bodies
 pub mod Extents
 pub mod Firsts
 pub mod Fronts
-pub mod Headers
-pub mod Kept
 pub mod Layouts
 pub mod Listed
-pub mod Loop
 pub mod OneList
 pub mod ProperLayouts
 pub mod Scan
@@ -16,9 +12,6 @@ pub mod Scanned
 pub mod Steps
 pub mod Tapes
 pub mod Outcomes
-mod Datagrams
 pub mod Trails
 pub mod Within
-pub mod Writable
 pub mod WrittenLayouts
-pub mod WrittenLengths

@@ -41,18 +41,14 @@ module _ (S : Shape) where
   -- ---- a body
 
   body_listed : (c : BodyVal) (f : Form) (place : ℕ) (payload : List ℕ) → BodyOf S c f payload → ListedIn (region_in f place payload) (body_events place c)
-  body_listed (noop bs) f place payload b = subst (λ g. ListedIn (region_in g place payload) []) (sym b.0) (refl, refl)
-  body_listed (error z h tail) f place payload b = subst (λ g. ListedIn (region_in g place payload) []) (sym b.0) (refl, refl)
-  body_listed (done None tail) f place payload b = subst (λ g. ListedIn (region_in g place payload) []) (sym b.0) (refl, refl)
-  body_listed (done (Some z) tail) f place payload b = subst (λ g. ListedIn (region_in g place payload) []) (sym b.0) (refl, refl)
-  body_listed (overrun bs) f place payload b = subst (λ g. ListedIn (region_in g place payload) []) (sym b.0) (refl, refl)
   body_listed (object h is) f place payload b =
       let g = family_of h in
       let at = place + head_size g in
       subst (λ x. ListedIn (region_in x place payload) (body_events place (object h is))) (sym b.0)
       (region_listed _ (body_events place (object h is)) (items_listed S is (context_of g) 0 at at (drop (head_size g) payload) b.1.2 (λ some. refl)))
-  body_listed (get n tail) f place payload b = subst (λ g. ListedIn (region_in g place payload) []) (sym b.0) (refl, refl)
-  body_listed (other bs) f place payload b = subst (λ g. ListedIn (region_in g place payload) []) (sym b.0) (refl, refl)
+  body_listed (done None tail) f place payload b = subst (λ g. ListedIn (region_in g place payload) []) (sym b.0) (refl, refl)
+  body_listed (done (Some z) tail) f place payload b = subst (λ g. ListedIn (region_in g place payload) []) (sym b.0) (refl, refl)
+  body_listed c f place payload b = subst (λ g. ListedIn (region_in g place payload) []) (sym b.0) (refl, refl)
 
   -- ---- all
 

@@ -1,14 +1,16 @@
--- Messages are the layout of what they are written as.
+-- How many bytes messages are written as, and that they are the layout of these bytes.
 use Rattle.std.proofs.Common.{◌≡◌, ◌≢◌, ℕ, ◌+◌, ◌-◌, ◌<◌, ◌≤◌, List, [], ◌∷◌, ◌++◌, length, take, drop, replicate, Some, None, refl, sym, ap, subst, ◌∙◌, arith, inl, inr, append_assoc, length-append}
 use Rattle.std.proofs.lemmas.Bool.{cases_eq}
-use Rattle.std.proofs.lemmas.List.{length-replicate, take_at, drop_at}
+use Rattle.std.proofs.lemmas.List.{take_at, drop_at}
 use Rattle.nl_attr.specs.Fixed.{LONGEST_REGION}
 use Rattle.nl_attr.specs.declared.order.Order.{Order}
 use Rattle.nl_attr.specs.Shape.{Shape}
 use Rattle.nl_attr.specs.Numbers.{aligned, num}
-use Rattle.nl_attr.specs.Layout.{IsPiece, Fits}
-use Rattle.nl_attr.specs.Written.{with_padding}
+use Rattle.nl_attr.specs.Layout.{Fits}
+use Rattle.nl_attr.specs.Written.{with_padding, items_len}
 use Rattle.nl_attr.specs.Written as attrs
+use Rattle.nl_attr.proofs.Lemmas.Lengths.{length-padded, length-items}
+use Rattle.nl_attr.proofs.Lemmas.Pieces.{made}
 use Rattle.nl_attr.proofs.Lemmas.Writing.{written_fits}
 use Rattle.nl_route.specs.Fields.{Field, number, signed, AreFields, AreRanged}
 use Rattle.nl_route.specs.Fields as fields
@@ -25,7 +27,29 @@ use Rattle.nl_frame.specs.Message.{BodyVal, noop, error, done, overrun, object, 
 use Rattle.nl_frame.specs.Layout.{BodyOf, Layout}
 use Rattle.nl_frame.specs.Written.{body_len, header_for, body_written, message_item, written, written_len}
 use Rattle.nl_frame.specs.Proper.{IsMismatchedBody, IsMismatched, IsDeepBody, IsDeep, IsLongBody, HasLong, IsProper, IsRangedBody, IsRanged}
-use Rattle.nl_frame.proofs.WrittenLengths.{length-message}
+
+-- ---- lengths
+
+module _ (o : Order) where
+  -- fields and what is behind them
+  length-front : (fs : List Field) (tail : List ℕ) (n k : ℕ) → size_of fs ≡ n → length tail ≡ k → length (fields.written o fs ++ tail) ≡ n + k
+  length-front fs tail n k e f = omega (arith, length-append (fields.written o fs) tail, length-written o fs, e, f)
+
+  pub length-body : (c : BodyVal) → length (body_written o c) ≡ body_len c
+  length-body (error z h tail) = length-front (signed z ∷ header_fields h) tail 20 (length tail) refl refl
+  length-body (done (Some z) tail) = length-front (signed z ∷ []) tail 4 (length tail) refl refl
+  length-body (object h is) = length-front (fields_of h) (attrs.written o is) (head_size (family_of h)) (items_len is) (size_of_head h) (length-items o is)
+  length-body (get n tail) = omega arith
+  length-body c = refl
+
+  pub length-message : (m : MessageVal) → length (message_item o m) ≡ 16 + body_len m.body
+  length-message m = length-front (header_fields (header_for m)) (body_written o m.body) 16 (body_len m.body) refl (length-body m.body)
+
+  pub length-messages : (ms : List MessageVal) → length (written o ms) ≡ written_len ms
+  length-messages [] = refl
+  length-messages (m ∷ ms) =
+      let it = message_item o m in
+      length-append (with_padding it) (written o ms) ∙ ap (λ k. k + length (written o ms)) (length-padded it ∙ ap aligned (length-message m)) ∙ ap (λ k. aligned (16 + body_len m.body) + k) (length-messages ms)
 
 -- ---- forms that aren't different are the same
 
@@ -41,13 +65,8 @@ kind_for form.Other = 0
 
 form_of-kind_for : (f : Form) → form_of (kind_for f) ≡ f
 unfolding route_type
-form_of-kind_for form.Noop = refl
-form_of-kind_for form.Error = refl
-form_of-kind_for form.Done = refl
-form_of-kind_for form.Overrun = refl
 form_of-kind_for (form.Object g) = ap (form_for (type_of g New)) (is_family g).new
-form_of-kind_for form.Get = refl
-form_of-kind_for form.Other = refl
+form_of-kind_for f = refl
 
 same_form : (f g : Form) → (f ≢ g → ⊥) → f ≡ g
 same_form f g h = elim (cases_eq (kind_for f) (kind_for g)) [
@@ -96,21 +115,6 @@ body_writes S (other bs) f r m d s = (same_form f form.Other m, refl)
 
 -- ---- messages
 
-gap_after : (n : ℕ) → n + (aligned n - n) ≡ aligned n
-gap_after n = omega arith
-
--- a message as it is written is a piece
-made : (o : Order) (it body rest : List ℕ) → it ≡ num (length it) 4 o ++ body → 16 ≤ length it → length it ≤ LONGEST_REGION → IsPiece o 16 4 (with_padding it ++ rest) it (replicate (aligned (length it) - length it) 0) rest
-made o it body rest says low high =
-    record {
-      parts = append_assoc it (replicate (aligned (length it) - length it) 0) rest;
-      least = low;
-      fits = omega (arith, high);
-      body = body;
-      says = says;
-      padded = inl (ap (λ k. length it + k) (length-replicate {A = ℕ} (aligned (length it) - length it) 0) ∙ gap_after (length it));
-    }
-
 module _ (S : Shape) where
   messages_write : (ms : List MessageVal) → IsRanged ms → (IsMismatched ms → ⊥) → (IsDeep ms S.depth → ⊥) → (HasLong ms → ⊥) → written_len ms ≤ LONGEST_REGION → Layout S ms (written S.order ms)
   messages_write [] r m d s top = refl
@@ -127,7 +131,7 @@ module _ (S : Shape) where
         it,
         replicate (aligned (length it) - length it) 0,
         written o ms,
-        made o it (behind ++ payload) (written o ms) says front.long (omega (arith, len, high)),
+        made o 16 4 it (behind ++ payload) (written o ms) says front.long (omega (arith, len, high)),
         subst (λ (k : ℕ). AreFields o (header_fields (record { len = k; kind = x.kind; flags = x.flags; seq = x.seq; port = x.port })) (take 16 it)) (sym len) front.are,
         subst (λ (xs : List ℕ). BodyOf S x.body (form_of x.kind) xs) (sym front.rest) (body_writes S x.body (form_of x.kind) r.4 (λ y. m (inl y)) (λ y. d (inl y)) (λ y. s (inl y))),
         messages_write ms r.5 (λ y. m (inr y)) (λ y. d (inr y)) (λ y. s (inr y)) (omega (arith, top)),

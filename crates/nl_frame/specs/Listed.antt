@@ -10,13 +10,8 @@ use Rattle.nl_frame.specs.HeadOrder.{header_event}
 
 -- the heads of the attributes in a body at a place
 abbrev pub body_events : ℕ → BodyVal → List Event
-body_events place (noop bs) = []
-body_events place (error code h tail) = []
-body_events place (done status tail) = []
-body_events place (overrun bs) = []
 body_events place (object h is) = items_events (place + head_size (family_of h)) 0 is
-body_events place (get n tail) = []
-body_events place (other bs) = []
+body_events place b = []
 
 -- each message, then the heads in its body; the next stands behind its padding
 abbrev pub messages_events : ℕ → List MessageVal → List Event

@@ -9,13 +9,8 @@ use Rattle.nl_frame.specs.Proper.{IsLongBody, HasLong, IsLong}
 
 -- the lengths of attributes and next hops have 16 bits, and their numbers 14
 abbrev pub IsSizedBody : BodyVal → Type 0
-IsSizedBody (noop bs) = Unit {0}
-IsSizedBody (error code h tail) = Unit {0}
-IsSizedBody (done status tail) = Unit {0}
-IsSizedBody (overrun bs) = Unit {0}
 IsSizedBody (object h is) = attrs.IsSized is
-IsSizedBody (get n tail) = Unit {0}
-IsSizedBody (other bs) = Unit {0}
+IsSizedBody b = Unit {0}
 
 -- the same of the bodies of all messages
 abbrev pub IsSized : List MessageVal → Type 0

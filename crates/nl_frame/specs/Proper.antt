@@ -35,13 +35,8 @@ IsMismatched (m ∷ ms) = IsMismatchedBody m.body (form_of m.kind) ⊎ IsMismatc
 
 -- some container in a body opens a level above the depth D
 abbrev pub IsDeepBody : BodyVal → ℕ → Type 0
-IsDeepBody (noop bs) D = ⊥
-IsDeepBody (error code h tail) D = ⊥
-IsDeepBody (done status tail) D = ⊥
-IsDeepBody (overrun bs) D = ⊥
 IsDeepBody (object h is) D = attrs.IsDeep is 0 D
-IsDeepBody (get n tail) D = ⊥
-IsDeepBody (other bs) D = ⊥
+IsDeepBody b D = ⊥
 
 -- some container opens a level above the depth D
 abbrev pub IsDeep : List MessageVal → ℕ → Type 0
@@ -50,13 +45,8 @@ IsDeep (m ∷ ms) D = IsDeepBody m.body D ⊎ IsDeep ms D
 
 -- something in a body is too long
 abbrev pub IsLongBody : BodyVal → Type 0
-IsLongBody (noop bs) = ⊥
-IsLongBody (error code h tail) = ⊥
-IsLongBody (done status tail) = ⊥
-IsLongBody (overrun bs) = ⊥
 IsLongBody (object h is) = attrs.IsLong is
-IsLongBody (get n tail) = ⊥
-IsLongBody (other bs) = ⊥
+IsLongBody b = ⊥
 
 -- something in some body is too long
 abbrev pub HasLong : List MessageVal → Type 0
@@ -87,14 +77,11 @@ pub record IsProper (ms : List MessageVal) (D : ℕ) : Type 0 where
 
 -- each number of a body is in the range of its type
 abbrev pub IsRangedBody : BodyVal → Type 0
-IsRangedBody (noop bs) = Unit {0}
 IsRangedBody (error code h tail) = FitsSigned w32 code × AreRanged (header_fields h)
-IsRangedBody (done None tail) = Unit {0}
 IsRangedBody (done (Some z) tail) = FitsSigned w32 z
-IsRangedBody (overrun bs) = Unit {0}
 IsRangedBody (object h is) = AreRanged (fields_of h) × attrs.IsRanged is
 IsRangedBody (get n tail) = n < 256
-IsRangedBody (other bs) = Unit {0}
+IsRangedBody b = Unit {0}
 
 -- each number is in the range of its type, as every one of the program is
 abbrev pub IsRanged : List MessageVal → Type 0

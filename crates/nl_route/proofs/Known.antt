@@ -49,10 +49,8 @@ value_in (signed z) = 0
 value_in (pad w) = 0
 
 abbrev pub signed_in : Field → ℤ
-signed_in (byte n) = pos 0
-signed_in (number w n) = pos 0
 signed_in (signed z) = z
-signed_in (pad w) = pos 0
+signed_in f = pos 0
 
 abbrev pub value_at : List Field → ℕ → ℕ
 value_at [] i = 0

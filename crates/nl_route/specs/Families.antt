@@ -67,10 +67,8 @@ type_of g v = (row g).new + place_of v
 
 -- a family has all four but SET, which some don't
 abbrev pub has_verb : Family → Verb → Bool
-has_verb g New = true
-has_verb g Del = true
-has_verb g Get = true
 has_verb g Set = is_some (route_type (type_of g Set))
+has_verb g v = true
 
 -- a head of any family
 pub record AnyHead : Type 0 where

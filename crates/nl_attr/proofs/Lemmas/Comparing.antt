@@ -1,5 +1,5 @@
 -- Bytes that begin with one text and then another.
-use Rattle.std.proofs.Common.{◌≡◌, ℕ, ◌+◌, ◌-◌, List, [], ◌∷◌, ◌++◌, length, take, drop, replicate, Option, Some, None, refl, sym, ap, subst, ◌∙◌, arith, length-append, length-drop}
+use Rattle.std.proofs.Common.{◌≡◌, ℕ, ◌+◌, ◌-◌, ◌≤◌, List, [], ◌∷◌, ◌++◌, length, take, drop, replicate, Option, Some, None, refl, sym, ap, subst, ◌∙◌, arith, length-append, length-drop}
 use Rattle.std.proofs.lemmas.List.{take-take, take_at, drop_at, drop-take, take-append-drop, take_rest, drop-drop}
 use Rattle.nl_attr.specs.declared.order.Order.{Order}
 use Rattle.nl_attr.specs.Numbers.{aligned, num}
@@ -60,26 +60,46 @@ behind-behind : (m n : ℕ) (r : Option ℕ) → behind m (behind n r) ≡ behin
 behind-behind m n None = refl
 behind-behind m n (Some k) = ap (λ j. Some j) (omega arith)
 
--- one text further, where the whole has been compared so far
-pub further : (a b whole bytes : List ℕ) (m n : ℕ) → Begins a (drop m bytes) (Some n) → ((r : Option ℕ) → Begins (a ++ b) (drop m bytes) r → Begins whole bytes (behind m r))
-    → (r : Option ℕ) → Begins b (drop (m + n) bytes) r → Begins whole bytes (behind (m + n) r)
-further a b whole bytes m n p old r q =
-    let more : Begins b (drop n (drop m bytes)) r = subst (λ (xs : List ℕ). Begins b xs r) (sym (drop-drop n m bytes)) q in
-    subst (λ (r : Option ℕ). Begins whole bytes r) (behind-behind m n r) (old (behind n r) (two a b (drop m bytes) n r p more))
-
--- all has been compared
-pub all_done : (rest whole bytes : List ℕ) (m : ℕ) → rest ≡ [] → ((r : Option ℕ) → Begins rest (drop m bytes) r → Begins whole bytes (behind m r)) → Begins whole bytes (Some m)
-all_done rest whole bytes m e old =
-    let none : Begins rest (drop m bytes) (Some 0) = subst (λ (xs : List ℕ). Begins xs (drop m bytes) (Some 0)) (sym e) (refl, refl) in
-    let z : m + 0 ≡ m = omega arith in
-    subst (λ k. Begins whole bytes (Some k)) z (old (Some 0) none)
-
 -- bytes from a place on
 pub from : (text bytes : List ℕ) (n : ℕ) (r : Option ℕ) → Begins text (take (length bytes - n) (drop n bytes)) r → Begins text (drop n bytes) r
 from text bytes n r p = subst (λ (xs : List ℕ). Begins text xs r) (take_rest bytes n) p
 
 pub length-from : (n : ℕ) (bytes : List ℕ) → length (take (length bytes - n) (drop n bytes)) ≡ length bytes - n
 length-from n bytes = ap (length {A = ℕ}) (take_rest bytes n) ∙ length-drop n bytes
+
+-- ---- part by part
+
+-- bytes are compared with the whole of a text as far as so many bytes, and the rest of the text is left
+pub record IsComparing (whole rest bytes : List ℕ) (done : ℕ) : Type 0 where
+  pub within : done ≤ length bytes
+  pub left : (r : Option ℕ) → Begins rest (drop done bytes) r → Begins whole bytes (behind done r)
+
+pub compares : (whole bytes : List ℕ) → IsComparing whole whole bytes 0
+compares whole bytes = record { within = omega arith; left = λ r p. subst (λ (x : Option ℕ). Begins whole bytes x) (none_behind r) p } where
+  none_behind : (r : Option ℕ) → r ≡ behind 0 r
+  none_behind None = refl
+  none_behind (Some n) = ap (λ k. Some k) (omega arith)
+
+-- a part that isn't there
+pub part_differs : (one rest whole bytes : List ℕ) (done : ℕ) → IsComparing whole (one ++ rest) bytes done → Begins one (take (length bytes - done) (drop done bytes)) None → Begins whole bytes None
+part_differs one rest whole bytes done i p = i.left None (not_first one rest (drop done bytes) (from one bytes done None p))
+
+-- and one that is
+pub part_begins : (one rest whole bytes : List ℕ) (done n : ℕ) → IsComparing whole (one ++ rest) bytes done → Begins one (take (length bytes - done) (drop done bytes)) (Some n) → n ≤ length (take (length bytes - done) (drop done bytes))
+    → IsComparing whole rest bytes (done + n)
+part_begins one rest whole bytes done n i p le = record {
+  within = omega (arith, i.within, le, length-from done bytes);
+  left = λ r q.
+      let more : Begins rest (drop n (drop done bytes)) r = subst (λ (xs : List ℕ). Begins rest xs r) (sym (drop-drop n done bytes)) q in
+      subst (λ (r : Option ℕ). Begins whole bytes r) (behind-behind done n r) (i.left (behind n r) (two one rest (drop done bytes) n r (from one bytes done (Some n) p) more));
+}
+
+-- all has been compared
+pub all_done : (whole rest bytes : List ℕ) (done : ℕ) → rest ≡ [] → IsComparing whole rest bytes done → Begins whole bytes (Some done)
+all_done whole rest bytes done e i =
+    let none : Begins rest (drop done bytes) (Some 0) = subst (λ (xs : List ℕ). Begins xs (drop done bytes) (Some 0)) (sym e) (refl, refl) in
+    let z : done + 0 ≡ done = omega arith in
+    subst (λ k. Begins whole bytes (Some k)) z (i.left (Some 0) none)
 
 -- ---- attributes and next hops
 

@@ -23,7 +23,7 @@ use Rattle.nl_attr.specs.Layout.{IsPadded, IsPiece, kind_number, FitsVal, Fits, 
 use Rattle.nl_attr.specs.Heads.{broken_container}
 use Rattle.nl_attr.specs.Reading.{Outcome, and_then, map_value, more_visits, look_at, items_at, items_of_region, hops_of_region, value_at, attr_at}
 use Rattle.nl_attr.proofs.Lemmas.Numbers.{number_of-num, kind_of-num, index_of-num, past_head, past_hop, flags_at, count_at, head_length, head_then, hop_then}
-use Rattle.nl_attr.proofs.Lemmas.Reading.{items_step, hops_step}
+use Rattle.nl_attr.proofs.Lemmas.Reading.{one_result, items_step, hops_step}
 use Rattle.nl_attr.specs.Walk.{payload_of}
 use Rattle.nl_attr.proofs.Lemmas.Grammars.{no_length}
 
@@ -185,18 +185,16 @@ mutual
 
   pub val_fit : (v : Val) (c : Content) (S : Shape) (l place : ℕ) (payload : List ℕ) → FitsVal S v c payload (length payload + 4) l → (broken_container S l c (length payload + 4) ≡ None) × ReadAs (value_at S c l place payload) v
   val_fit (bytes bs) content.Bytes S l place payload f = (refl, (0, ap (λ x. (Ok (bytes x), 0)) f))
-  val_fit (bytes bs) (content.List c) S l place payload f = absurd f
-  val_fit (bytes bs) content.Hops S l place payload f = absurd f
-  val_fit (list is) content.Bytes S l place payload f = absurd f
   val_fit (list is) (content.List c) S l place payload f = (tests_pass (ltb LONGEST_CONTAINER (length payload + 4)) (ltb S.depth (l + 1)) (le-ltb LONGEST_CONTAINER (length payload + 4) f.0) (le-ltb S.depth (l + 1) f.1), map_read list _ is (items_fit is S c (l + 1) place payload f.2))
-  val_fit (list is) content.Hops S l place payload f = absurd f
-  val_fit (hops hs) content.Bytes S l place payload f = absurd f
-  val_fit (hops hs) (content.List c) S l place payload f = absurd f
   val_fit (hops hs) content.Hops S l place payload f = (tests_pass (ltb LONGEST_CONTAINER (length payload + 4)) (ltb S.depth (l + 2)) (le-ltb LONGEST_CONTAINER (length payload + 4) f.0) (le-ltb S.depth (l + 2) f.1), map_read hops _ hs (hops_fit hs S (l + 1) place payload f.2))
+  val_fit v c S l place payload f = absurd f
 
--- at most one list fits a region
-ok_same : {A : Type 0} (o : Outcome A) (x y : A) → ReadAs o x → ReadAs o y → x ≡ y
-ok_same {A} o x y h k = let e : ◌≡◌ {A = Result A Fault} (Ok x) (Ok y) = ap (λ (p : Outcome A). p.0) (sym h.1 ∙ k.1) in cc
+-- at most one list fits a region, and what is read of it is that list
+pub read_result : {A : Type 0} (o : Outcome A) (x : A) (r : Result A Fault) (v : ℕ) → ReadAs o x → o ≡ (r, v) → Ok x ≡ r
+read_result o x r v h e = one_result (sym h.1 ∙ e)
 
 pub one_list : (is js : Items) (S : Shape) (ctx : Ctx) (l : ℕ) (left : List ℕ) → Fits S is left ctx l → Fits S js left ctx l → is ≡ js
-one_list is js S ctx l left f g = ok_same (items_of_region S ctx l 0 left) is js (items_fit is S ctx l 0 left f) (items_fit js S ctx l 0 left g)
+one_list is js S ctx l left f g =
+    let j = items_fit js S ctx l 0 left g in
+    let same = read_result (items_of_region S ctx l 0 left) is (Ok js) j.0 (items_fit is S ctx l 0 left f) j.1 in
+    cc

@@ -96,15 +96,12 @@ closed o xs field s n vlen f h len all =
 pub grown : (m n : ℕ) (xs ys zs : List ℕ) → ys ≡ xs ++ zs → m ≡ length xs → n ≡ length ys → n ≡ m + length zs
 grown m n xs ys zs e f g = g ∙ ap (length {A = ℕ}) e ∙ length-append xs zs ∙ ap (λ k. k + length zs) (sym f)
 
--- what is there behind a head without its length, once the length is stored
-pub item_closed : (o : Order) (old tail payload all : List ℕ) (s vlen n : ℕ) → all ≡ (old ++ (0 ∷ 0 ∷ tail)) ++ payload → s ≡ length old → vlen - s ≡ n
-    → take s all ++ with_padding (num (vlen - s) 2 o ++ drop (s + 2) all) ≡ old ++ with_padding (num n 2 o ++ (tail ++ payload))
-item_closed o old tail payload all s vlen n e f g =
+-- what is there behind a head whose length isn't known yet, once the length is stored in its field
+pub item_closed : (o : Order) (w : ℕ) (old field tail payload all : List ℕ) (s vlen n : ℕ) → length field ≡ w → all ≡ (old ++ (field ++ tail)) ++ payload → s ≡ length old → vlen - s ≡ n
+    → take s all ++ with_padding (num (vlen - s) w o ++ drop (s + w) all) ≡ old ++ with_padding (num n w o ++ (tail ++ payload))
+item_closed o w old field tail payload all s vlen n size e f g =
     let x = tail ++ payload in
-    let a : all ≡ old ++ (0 ∷ 0 ∷ x) = e ∙ append_assoc old (0 ∷ 0 ∷ tail) payload in
-    let b : all ≡ (old ++ (0 ∷ 0 ∷ [])) ++ x = a ∙ sym (append_assoc old (0 ∷ 0 ∷ []) x) in
-    let front : take s all ≡ old = ap (take s) a ∙ take_at old (0 ∷ 0 ∷ x) s (sym f) in
-    let back : drop (s + 2) all ≡ x = ap (drop (s + 2)) b ∙ drop_at (old ++ (0 ∷ 0 ∷ [])) x (s + 2) (length-append old (0 ∷ 0 ∷ []) ∙ ap (λ k. k + 2) (sym f)) in
-    ap (λ (p : List ℕ × List ℕ × ℕ). p.0 ++ with_padding (num p.2 2 o ++ p.1)) (three front back g) where
-      three : {a b c d : List ℕ} {m n : ℕ} → a ≡ b → c ≡ d → m ≡ n → ◌≡◌ {A = List ℕ × List ℕ × ℕ} (a, c, m) (b, d, n)
-      three p q r = cc
+    let a : all ≡ old ++ (field ++ x) = e ∙ append_assoc old (field ++ tail) payload ∙ ap (λ (ys : List ℕ). old ++ ys) (append_assoc field tail payload) in
+    let front : take s all ≡ old = ap (take s) a ∙ take_at old (field ++ x) s (sym f) in
+    let back : drop (s + w) all ≡ x = ap (drop (s + w)) (a ∙ sym (append_assoc old field x)) ∙ drop_at (old ++ field) x (s + w) (omega (arith, length-append old field, size, f)) in
+    rw (front, back, g) refl

@@ -82,14 +82,9 @@ module _ (S : Shape) where
   val_event_is : (v : Val) (c : Content) (place l n len : ℕ) (flags : AttrFlags) (payload : List ℕ) → FitsVal S v c payload len l
       → rounded (attr_event place l n flags (sort_of c) (length payload)) ≡ attr_event place l n flags (sort_of_val v) (val_len v)
   val_event_is (bytes bs) content.Bytes place l n len flags payload f = ap (λ (x : List ℕ). attr_event place l n flags (sort_of content.Bytes) (length x)) f
-  val_event_is (bytes bs) (content.List c) place l n len flags payload f = absurd f
-  val_event_is (bytes bs) content.Hops place l n len flags payload f = absurd f
-  val_event_is (list is) content.Bytes place l n len flags payload f = absurd f
   val_event_is (list is) (content.List c) place l n len flags payload f = ap (attr_event place l n flags (sort_of (content.List c))) (sym (items_len_is S is payload c (l + 1) f.2))
-  val_event_is (list is) content.Hops place l n len flags payload f = absurd f
-  val_event_is (hops hs) content.Bytes place l n len flags payload f = absurd f
-  val_event_is (hops hs) (content.List c) place l n len flags payload f = absurd f
   val_event_is (hops hs) content.Hops place l n len flags payload f = ap (attr_event place l n flags (sort_of content.Hops)) (sym (hops_len_is S hs payload (l + 1) f.2))
+  val_event_is v c place l n len flags payload f = absurd f
 
   -- ---- all
 
@@ -118,14 +113,9 @@ module _ (S : Shape) where
 
     val_listed : (v : Val) (c : Content) (l place len : ℕ) (payload : List ℕ) → FitsVal S v c payload len l → AreEvents (event_of S.order) (inner_trail (inner_in c place (l + 1) payload) (trail_of S)) (val_events place (l + 1) v)
     val_listed (bytes bs) content.Bytes l place len payload f = (refl, refl)
-    val_listed (bytes bs) (content.List c) l place len payload f = absurd f
-    val_listed (bytes bs) content.Hops l place len payload f = absurd f
-    val_listed (list is) content.Bytes l place len payload f = absurd f
     val_listed (list is) (content.List c) l place len payload f = items_listed is c (l + 1) place place payload f.2 (λ some. refl)
-    val_listed (list is) content.Hops l place len payload f = absurd f
-    val_listed (hops hs) content.Bytes l place len payload f = absurd f
-    val_listed (hops hs) (content.List c) l place len payload f = absurd f
     val_listed (hops hs) content.Hops l place len payload f = hops_listed hs (l + 1) place place payload f.2 (λ some. refl)
+    val_listed v c l place len payload f = absurd f
 
     hops_listed : (hs : HopItems) (l place q : ℕ) (left : List ℕ) → FitsHops S hs left l → (left ≢ [] → place ≡ q) → Listed (record { place = place; sort = hop_head; ctx = Route; level = l; left = left }) (hops_events q l hs)
     hops_listed no_hops l place q left f at = none_listed (record { place = place; sort = hop_head; ctx = Route; level = l; left = left }) f

@@ -110,14 +110,9 @@ means_attr n v r MV MR P L k A SV SR h = test (ltb 16383 n) refl where
 mutual
   val_means : (v : Val) (c : Content) (room l D : ℕ) → room ≡ D - l → Means (IsMismatchedVal v c) (IsDeepVal v l D) (HasLongVal v) (val_len v) (IsSizedVal v) (extent_of_val v c room)
   val_means (bytes bs) content.Bytes room l D e = (λ h. h, λ h. h, (λ h. h, refl, tt))
-  val_means (bytes bs) (content.List c) room l D e = tt
-  val_means (bytes bs) content.Hops room l D e = tt
-  val_means (list is) content.Bytes room l D e = tt
   val_means (list is) (content.List c) room l D e = opened_means 1 room l D _ _ _ _ _ (extent_of is c (room - 1)) (omega arith) e (list_means is c (room - 1) (l + 1) D (omega (arith, e)))
-  val_means (list is) content.Hops room l D e = tt
-  val_means (hops hs) content.Bytes room l D e = tt
-  val_means (hops hs) (content.List c) room l D e = tt
   val_means (hops hs) content.Hops room l D e = opened_means 2 room l D _ _ _ _ _ (extent_of_hops hs (room - 1)) (omega arith) e (hops_mean hs (room - 1) (l + 1) D (omega (arith, e)))
+  val_means v c room l D e = tt
 
   pub list_means : (is : Items) (ctx : Ctx) (room l D : ℕ) → room ≡ D - l → Means (IsMismatched is ctx) (IsDeep is l D) (IsLong is) (items_len is) (IsSized is) (extent_of is ctx room)
   list_means no_items ctx room l D e = (λ h. h, λ h. h, (none, refl, tt)) where

@@ -6,7 +6,6 @@ use Rattle.nl_attr.specs.Fixed.{LONGEST_REGION, MOST_VISITS}
 use Rattle.nl_attr.specs.declared.fault.Fault.{Fault}
 use Rattle.nl_attr.specs.declared.fault.ListError.{ListError}
 use Rattle.nl_attr.specs.declared.fault.ListError.TheVariants.{Layout, Memory}
-use Rattle.nl_attr.specs.declared.tree.Ctx.{Ctx}
 use Rattle.nl_attr.specs.declared.stack.regions.ListRegion.{ListRegion}
 use Rattle.nl_attr.specs.declared.stack.nested.Outer.{Outer}
 use Rattle.nl_attr.specs.declared.stack.nested.Outer.TheVariants as outer
@@ -16,11 +15,35 @@ use Rattle.nl_attr.specs.Shape.{Shape}
 use Rattle.nl_attr.specs.Tree.{Items}
 use Rattle.nl_attr.specs.Heads.{Sort}
 use Rattle.nl_attr.specs.Outcomes.{IsOutcome}
-use Rattle.nl_attr.specs.Reading.{Outcome, and_then, more_visits, items_of_region}
+use Rattle.nl_attr.specs.Reading.{Outcome, and_then, more_visits}
 use Rattle.nl_attr.specs.Open.{list_rest, goes_on, next_rest, NextGoes, FailsAs, Spot, list_spot, outer_spot, outer_room, Holds, levels_in, IsWithinLimits, Room, IsIn, spot_end, outer_work, next_work, Advances, NextMoves, LiesUnder, PutsOn}
 use Rattle.nl_attr.proofs.Lemmas.Reading.{more_then}
-use Rattle.nl_attr.proofs.Lemmas.Outcomes.{then_more}
-use Rattle.nl_attr.proofs.Lemmas.First.{read_bound}
+
+-- ---- an outcome with which something goes on
+
+pub then_more : {A B : Type 0} (o : Outcome A) (f : A → Outcome B) → o.1 ≤ (and_then o f).1
+then_more (Ok x, v) f = omega arith
+then_more (Err d, v) f = omega arith
+
+pub then_same : {A B : Type 0} (n m : ℕ) (o : Outcome A) (p : Outcome A) (g : A → Outcome B) → more_visits n o ≡ more_visits m p → more_visits n (and_then o g) ≡ more_visits m (and_then p g)
+then_same n m o p g e = sym (more_then n o g) ∙ ap (λ x. and_then x g) e ∙ more_then m p g
+
+pub then_done : {A B : Type 0} (n m : ℕ) (o : Outcome A) (x : A) (g : A → Outcome B) → more_visits n o ≡ (Ok x, m) → more_visits n (and_then o g) ≡ more_visits m (g x)
+then_done n m o x g e = sym (more_then n o g) ∙ ap (λ y. and_then y g) e
+
+pub fails_within : {A : Type 0} (n m : ℕ) (o : Outcome A) (e : ListError) → FailsAs n o m e → m ≤ n + o.1
+fails_within {A = A} n m o (Layout f) e = omega (arith, ap (λ (p : Outcome A). p.1) e)
+fails_within {A = A} n m o Memory e = e
+
+pub same_visits : {A : Type 0} (n m : ℕ) (o : Outcome A) (p : Outcome A) → more_visits n o ≡ more_visits m p → n + o.1 ≡ m + p.1
+same_visits {A = A} n m o p e = ap (λ (x : Outcome A). x.1) e
+
+pub done_visits : {A : Type 0} (n m : ℕ) (o : Outcome A) (x : A) → more_visits n o ≡ (Ok x, m) → n + o.1 ≡ m
+done_visits {A = A} n m o x e = ap (λ (y : Outcome A). y.1) e
+
+-- what is read first is among the visits
+pub first_visits : {A B : Type 0} (n m : ℕ) (o : Outcome B) (p : Outcome A) (g : A → Outcome B) → more_visits n o ≡ more_visits m (and_then p g) → m + p.1 ≤ n + o.1
+first_visits n m o p g e = omega (arith, same_visits n m o (and_then p g) e, then_more p g)
 
 -- ---- outcomes
 
@@ -210,8 +233,8 @@ lies_first S s limits = record { level = refl; inside = omega arith; limits = li
 pub nested_begins : (S : Shape) (n : ℕ) (f : Outer) (r : ListRegion) (o : Outcome Items) → LiesUnder S f r → IsBetween S (room_of (outer_spot f)) (more_visits n (and_then o (goes_on S f))) n (f ∷ []) o (list_spot r)
 nested_begins S n f r o l = record { same = refl; nests = (lies_first S (outer_spot f) l.limits, l.holds, l.inside) }
 
-pub whole_bound : (S : Shape) (ctx : Ctx) (l base : ℕ) (left : List ℕ) → (items_of_region S ctx l base left).1 ≤ (S.depth - l + 1) * length left
-whole_bound S ctx l base left = read_bound S ctx l base left
-
 pub whole_fits : (k n x : ℕ) → k ≤ 33 → n ≤ LONGEST_REGION → x ≤ k * n → x ≤ MOST_VISITS
 whole_fits k n x a b le = omega (arith, mul-le-mul_left k b)
+
+pub most_fit : (S : Shape) (l : ℕ) (left : List ℕ) → S.depth ≤ 32 → length left ≤ LONGEST_REGION → (S.depth - l + 1) * length left ≤ MOST_VISITS
+most_fit S l left low size = whole_fits (S.depth - l + 1) (length left) ((S.depth - l + 1) * length left) (omega (arith, low)) size (omega arith)

@@ -1,8 +1,9 @@
 -- Reading step by step, whatever number bounds the items.
-use Rattle.std.proofs.Common.{◌≡◌, ℕ, zero, suc, ◌+◌, ◌-◌, ◌*◌, ◌/◌, ◌%◌, ◌<◌, ◌≤◌, ◌≢◌, min, Bool, true, false, cond, ltb, ◌||◌, List, [], ◌∷◌, length, take, drop, Option, Some, None, Ok, Err, refl, sym, ap, ◌∙◌, arith, length-drop, add_assoc}
+use Rattle.std.proofs.Common.{◌≡◌, ℕ, zero, suc, ◌+◌, ◌-◌, ◌*◌, ◌/◌, ◌%◌, ◌<◌, ◌≤◌, ◌≢◌, min, Bool, true, false, cond, ltb, ◌||◌, List, [], ◌∷◌, length, take, drop, Option, Some, None, Result, Ok, Err, refl, sym, ap, ◌∙◌, arith, length-drop, add_assoc}
 use Rattle.std.proofs.lemmas.Bool.{ltb-false}
 use Rattle.std.proofs.lemmas.List.{length-take, drop-take}
 use Rattle.nl_attr.specs.Fixed.{LONGEST_CONTAINER}
+use Rattle.nl_attr.specs.declared.fault.Fault.{Fault}
 use Rattle.nl_attr.specs.declared.fault.Reason.{Reason}
 use Rattle.nl_attr.specs.declared.fault.Reason.TheVariants.{Cut, BadLength, TooLong, TooDeep}
 use Rattle.nl_attr.specs.declared.tree.Ctx.{Ctx}
@@ -20,6 +21,10 @@ use Rattle.std.specs.Prelude.{slice_index}
 use Rattle.nl_attr.specs.Walk.{payload_of}
 
 -- ---- outcomes
+
+-- the one result of an outcome
+pub one_result : {A : Type 0} {r s : Result A Fault} {v w : ℕ} → ◌≡◌ {A = Outcome A} (r, v) (s, w) → r ≡ s
+one_result {A} e = ap (λ (p : Outcome A). p.0) e
 
 pub and_then_both : {A B : Type 0} (o p : Outcome A) (f g : A → Outcome B) → o ≡ p → ((x : A) → f x ≡ g x) → and_then o f ≡ and_then p g
 and_then_both (Ok x, v) p f g e h = ap (λ (r : Outcome _). (r.0, v + r.1)) (h x) ∙ ap (λ q. and_then q g) e
@@ -47,10 +52,8 @@ pub record IsWithin (o : Order) (h w : ℕ) (left : List ℕ) : Type 0 where
   pub high : len_of o w left ≤ length left
 
 pub tests_within : (a b c : Bool) → cond a (Some Cut) (cond (b || c) (Some BadLength) None) ≡ None → (a ≡ false) × (b ≡ false) × (c ≡ false)
-tests_within true b c e = absurd cc
-tests_within false true c e = absurd cc
-tests_within false false true e = absurd cc
 tests_within false false false e = (refl, refl, refl)
+tests_within a b c e = absurd cc
 
 pub sound_within : (o : Order) (h w : ℕ) (left : List ℕ) → broken_length o h w left ≡ None → IsWithin o h w left
 sound_within o h w left e =
@@ -80,12 +83,8 @@ mutual
   unfolding items_at
 
   pub items_enough : (n m : ℕ) (S : Shape) (ctx : Ctx) (l place : ℕ) (left : List ℕ) → length left ≤ n → length left ≤ m → items_at S n ctx l place left ≡ items_at S m ctx l place left
-  items_enough zero zero S ctx l place left h k = refl
-  items_enough zero (suc m) S ctx l place [] h k = refl
   items_enough zero (suc m) S ctx l place (b ∷ bs) h k = absurd (omega arith)
-  items_enough (suc n) zero S ctx l place [] h k = refl
   items_enough (suc n) zero S ctx l place (b ∷ bs) h k = absurd (omega arith)
-  items_enough (suc n) (suc m) S ctx l place [] h k = refl
   items_enough (suc n) (suc m) S ctx l place (b ∷ bs) h k =
       let left = b ∷ bs in
       look_same place (span_of S.order 2 left) (broken_in S ctx l attr_head left) _ _ (λ sound.
@@ -95,14 +94,11 @@ mutual
       and_then_both _ _ _ _
       (value_same (content_at S.order ctx left) (payload_of S.order 4 2 left) _ _ _ _ (λ c. items_enough n m S c (l + 1) (place + 4) (payload_of S.order 4 2 left) pn pm) (hops_enough n m S (l + 1) (place + 4) (payload_of S.order 4 2 left) pn pm))
       (λ v. ap (map_value (item (kind_of S.order left % 16384) (flags_of (kind_of S.order left)) v)) (items_enough n m S ctx l (place + span_of S.order 2 left) (drop (span_of S.order 2 left) left) (rest_shorter S.order 4 2 n left (omega arith) w h) (rest_shorter S.order 4 2 m left (omega arith) w k))))
+  items_enough n m S ctx l place left h k = refl
 
   pub hops_enough : (n m : ℕ) (S : Shape) (l place : ℕ) (left : List ℕ) → length left ≤ n → length left ≤ m → hops_at S n l place left ≡ hops_at S m l place left
-  hops_enough zero zero S l place left h k = refl
-  hops_enough zero (suc m) S l place [] h k = refl
   hops_enough zero (suc m) S l place (b ∷ bs) h k = absurd (omega arith)
-  hops_enough (suc n) zero S l place [] h k = refl
   hops_enough (suc n) zero S l place (b ∷ bs) h k = absurd (omega arith)
-  hops_enough (suc n) (suc m) S l place [] h k = refl
   hops_enough (suc n) (suc m) S l place (b ∷ bs) h k =
       let left = b ∷ bs in
       look_same place (span_of S.order 2 left) (broken_length S.order 8 2 left) _ _ (λ sound.
@@ -110,6 +106,7 @@ mutual
       and_then_both _ _ _ _
       (items_enough n m S Route (l + 1) (place + 8) (payload_of S.order 8 2 left) (payload_shorter S.order 8 2 n left (omega arith) h) (payload_shorter S.order 8 2 m left (omega arith) k))
       (λ is. ap (map_value (hop (slice_index left 2) (slice_index left 3) (ifindex_of S.order left) is)) (hops_enough n m S l (place + span_of S.order 2 left) (drop (span_of S.order 2 left) left) (rest_shorter S.order 8 2 n left (omega arith) w h) (rest_shorter S.order 8 2 m left (omega arith) w k))))
+  hops_enough n m S l place left h k = refl
 
 -- ---- one item after the other
 

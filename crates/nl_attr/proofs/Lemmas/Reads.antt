@@ -1,8 +1,8 @@
 -- What a call answers that reads a region, from the outcome of the reading.
-use Rattle.std.proofs.Common.{◌≤◌, ◌+◌, ◌-◌, ◌*◌, ℕ, List, length}
+use Rattle.std.proofs.Common.{◌≤◌, ◌+◌, ◌-◌, ◌*◌, ℕ, List, length, Result, Ok, Err, arith}
 use Rattle.std.specs.Global.{Vec}
 use Rattle.nl_attr.specs.declared.fault.ListError.{ListError}
-use Rattle.nl_attr.specs.declared.fault.Tally.{Tally}
+use Rattle.nl_attr.specs.declared.fault.ListError.TheVariants.{Layout, Memory}
 use Rattle.nl_attr.specs.declared.tree.Attr.{Attr}
 use Rattle.nl_attr.specs.declared.tree.Ctx.{Ctx}
 use Rattle.nl_attr.specs.Numbers.{AreBytes}
@@ -10,19 +10,35 @@ use Rattle.nl_attr.specs.Shape.{Shape}
 use Rattle.nl_attr.specs.View.{attrs_view}
 use Rattle.nl_attr.specs.Reading.{items_of_region}
 use Rattle.nl_attr.specs.Reads.{ReadsList}
-use Rattle.nl_attr.specs.Outcomes.{HasOutcome}
-use Rattle.nl_attr.proofs.Lemmas.Kept.{region_kept}
-use Rattle.nl_attr.proofs.Lemmas.Regions.{region_fits, region_only, region_first, region_none, region_visits}
+use Rattle.nl_attr.specs.Outcomes.{IsOutcome}
+use Rattle.nl_attr.proofs.Lemmas.First.{read_first, read_visits, read_all_visits}
+use Rattle.nl_attr.proofs.Lemmas.Fitted.{items_allowed}
+use Rattle.nl_attr.proofs.Lemmas.Fitting.{items_fit, read_result}
+use Rattle.nl_attr.proofs.Lemmas.Sound.{items_sound}
 
-module _ (S : Shape) (ctx : Ctx) (l place : ℕ) (left : List ℕ) where
-  pub reads_list : (t : Tally (Vec Attr) ListError) → AreBytes left → HasOutcome (λ (v : Vec Attr). attrs_view v.items) t (items_of_region S ctx l place left) → t.visits ≤ (S.depth - l + 1) * length left → ReadsList S ctx l place left t
-  reads_list t fits e bound = record {
+module _ (S : Shape) (ctx : Ctx) (l place : ℕ) (left : List ℕ) (fits : AreBytes left) where
+  pub reads_list : (r : Result (Vec Attr) ListError) (v : ℕ) → IsOutcome (λ (x : Vec Attr). attrs_view x.items) r v (items_of_region S ctx l place left) → v ≤ (S.depth - l + 1) * length left
+      → ReadsList S ctx l place left (record { result = r; visits = v })
+  reads_list (Ok x) v e bound =
+      let f = items_sound (length left) S ctx l place left (attrs_view x.items) v (omega arith) fits e in
+      record {
+        outcome = e;
+        fits = f;
+        only = λ is g. let same = read_result _ is _ v (items_fit is S ctx l place left g) e in cc;
+        first = tt;
+        none = tt;
+        visits = read_all_visits S ctx l place left (attrs_view x.items) v e;
+        bound = bound;
+        kept = (items_allowed S (attrs_view x.items) left ctx l f).kept;
+      }
+  reads_list (Err (Layout f)) v e bound = record {
     outcome = e;
-    fits = region_fits S ctx l place left t fits e;
-    only = region_only S ctx l place left t e;
-    first = region_first S ctx l place left t e;
-    none = region_none S ctx l place left t e;
-    visits = region_visits S ctx l place left t e;
+    fits = tt;
+    only = tt;
+    first = read_first S ctx l place left f v e;
+    none = λ is g. let same = read_result _ is _ v (items_fit is S ctx l place left g) e in cc;
+    visits = read_visits S ctx l place left f v e;
     bound = bound;
-    kept = region_kept S ctx l place left t fits e;
+    kept = tt;
   }
+  reads_list (Err Memory) v e bound = record { outcome = tt; fits = tt; only = tt; first = tt; none = tt; visits = tt; bound = bound; kept = tt }

@@ -1,5 +1,5 @@
 -- A list that is read fits the region.
-use Rattle.std.proofs.Common.{◌≡◌, ℕ, zero, suc, ◌+◌, ◌/◌, ◌%◌, ◌^◌, ◌<◌, ◌≤◌, Bool, true, false, cond, eqb, ltb, List, [], ◌∷◌, ◌++◌, length, take, drop, Option, Some, None, Result, Ok, Err, refl, sym, ap, subst, ◌∙◌, arith}
+use Rattle.std.proofs.Common.{◌≡◌, ℕ, zero, suc, ◌+◌, ◌/◌, ◌%◌, ◌^◌, ◌<◌, ◌≤◌, Bool, true, false, cond, eqb, ltb, List, [], ◌∷◌, ◌++◌, length, take, drop, Option, Some, None, Ok, Err, refl, sym, ap, subst, ◌∙◌, arith}
 use Rattle.std.specs.Prelude.{slice_index}
 use Rattle.std.specs.Int.{w32, cast_unsigned}
 use Rattle.std.proofs.lemmas.Int.{of_z-to_z}
@@ -7,10 +7,9 @@ use Rattle.std.proofs.Math.Facts.{sfits_to_z, Fits-of_lt}
 use Rattle.nl_attr.specs.Fixed.{LONGEST_CONTAINER}
 use Rattle.nl_attr.proofs.Lemmas.Numbers.{two_bytes, four_bytes, two_fit, four_fit, bytes_take, bytes_drop}
 use Rattle.std.proofs.lemmas.Bool.{ltb-false}
-use Rattle.std.proofs.lemmas.List.{take-append-drop, length-take, nil_from_length}
+use Rattle.std.proofs.lemmas.List.{take-append-drop, take-take, length-take, nil_from_length}
 use Rattle.nl_attr.specs.declared.fault.Reason.{Reason}
 use Rattle.nl_attr.specs.declared.fault.Reason.TheVariants.{TooLong, TooDeep}
-use Rattle.nl_attr.specs.declared.fault.Fault.{Fault}
 use Rattle.nl_attr.specs.declared.tree.Ctx.{Ctx}
 use Rattle.nl_attr.specs.declared.tree.Ctx.TheVariants.{Route}
 use Rattle.nl_attr.specs.declared.tree.Content.{Content}
@@ -23,30 +22,30 @@ use Rattle.nl_attr.specs.Tree.{Val, bytes, list, hops, Items, no_items, item, Ho
 use Rattle.nl_attr.specs.Layout.{kind_number, FitsVal, Fits, FitsHops}
 use Rattle.nl_attr.specs.Heads.{attr_head, broken_in, broken_container, content_at}
 use Rattle.nl_attr.specs.Reading.{Outcome, and_then, map_value, look_at, value_by, items_at, hops_at}
-use Rattle.nl_attr.proofs.Lemmas.Reading.{IsWithin, sound_within, or_else_none, payload_shorter, rest_shorter}
-use Rattle.nl_attr.proofs.Lemmas.Pieces.{piece_at, take_take}
+use Rattle.nl_attr.proofs.Lemmas.Reading.{one_result, IsWithin, sound_within, or_else_none, payload_shorter, rest_shorter}
+use Rattle.nl_attr.proofs.Lemmas.Pieces.{piece_at}
 use Rattle.nl_attr.specs.Walk.{payload_of}
+
+pub same_ok : {A : Type 0} (x y : A) (v w : ℕ) → ◌≡◌ {A = Outcome A} (Ok x, v) (Ok y, w) → x ≡ y
+same_ok x y v w e = let r = one_result e in cc
 
 pub then_ok : {A B : Type 0} (o : Outcome A) (g : A → Outcome B) (y : B) (v : ℕ) → and_then o g ≡ (Ok y, v) → (x : A) × (u : ℕ) × (w : ℕ) × (o ≡ (Ok x, u)) × (g x ≡ (Ok y, w))
 then_ok {A} {B} (Ok x, u) g y v e = (x, u, (g x).1, refl, ap (λ (p : Outcome B). (p.0, (g x).1)) e)
-then_ok {A} {B} (Err d, u) g y v e = absurd (let f : ◌≡◌ {A = Result B Fault} (Err d) (Ok y) = ap (λ (p : Outcome B). p.0) e in cc)
+then_ok {A} {B} (Err d, u) g y v e = absurd (let f = one_result e in cc)
 
 pub map_ok : {A B : Type 0} (f : A → B) (o : Outcome A) (y : B) (v : ℕ) → map_value f o ≡ (Ok y, v) → (x : A) × (u : ℕ) × (o ≡ (Ok x, u)) × (f x ≡ y)
-map_ok {A} {B} f (Ok x, u) y v e = (x, u, refl, (let g : ◌≡◌ {A = Result B Fault} (Ok (f x)) (Ok y) = ap (λ (p : Outcome B). p.0) e in cc))
-map_ok {A} {B} f (Err d, u) y v e = absurd (let g : ◌≡◌ {A = Result B Fault} (Err d) (Ok y) = ap (λ (p : Outcome B). p.0) e in cc)
+map_ok {A} {B} f (Ok x, u) y v e = (x, u, refl, same_ok (f x) y u v e)
+map_ok {A} {B} f (Err d, u) y v e = absurd (let g = one_result e in cc)
 
 look_ok : {B : Type 0} (place span : ℕ) (r : Option Reason) (g : Unit {0} → Outcome B) (y : B) (v : ℕ) → and_then (look_at place span r) g ≡ (Ok y, v) → (r ≡ None) × (w : ℕ) × (g tt ≡ (Ok y, w))
 look_ok {B} place span None g y v e = (refl, (g tt).1, ap (λ (p : Outcome B). (p.0, (g tt).1)) e)
-look_ok {B} place span (Some r) g y v e = absurd (let f : ◌≡◌ {A = Result B Fault} (Err (record { place = place; reason = r })) (Ok y) = ap (λ (p : Outcome B). p.0) e in cc)
+look_ok {B} place span (Some r) g y v e = absurd (let f = one_result e in cc)
 
 kind_back : (kind p q : ℕ) → kind < 65536 → kind / 32768 ≡ p → kind / 16384 % 2 ≡ q → kind % 16384 + cond (eqb q 1) 16384 0 + cond (eqb p 1) 32768 0 ≡ kind
-kind_back kind zero zero h e f = omega arith
-kind_back kind zero (suc zero) h e f = omega arith
 kind_back kind zero (suc (suc q)) h e f = absurd (omega arith)
-kind_back kind (suc zero) zero h e f = omega arith
-kind_back kind (suc zero) (suc zero) h e f = omega arith
 kind_back kind (suc zero) (suc (suc q)) h e f = absurd (omega arith)
 kind_back kind (suc (suc p)) q h e f = absurd (omega arith)
+kind_back kind p q h e f = omega arith
 
 kind_whole : (kind : ℕ) → kind < 65536 → kind_number (kind % 16384) (flags_of kind) ≡ kind
 kind_whole kind h = kind_back kind (kind / 32768) (kind / 16384 % 2) h refl refl
@@ -57,7 +56,7 @@ attr_says o (a ∷ b ∷ c ∷ d ∷ xs) fits w =
     let left = a ∷ b ∷ c ∷ d ∷ xs in
     let k = len_of o 2 left in
     sym (take-append-drop 4 (take k left))
-    ∙ ap (λ (t : List ℕ). t ++ drop 4 (take k left)) (take_take 4 k left w.low)
+    ∙ ap (λ (t : List ℕ). t ++ drop 4 (take k left)) (take-take 4 k left w.low)
     ∙ ap (λ (t : List ℕ). t ++ (c ∷ d ∷ drop 4 (take k left))) (sym (two_bytes o a b (c ∷ d ∷ xs) (fits 0) (fits 1)))
     ∙ ap (λ (t : List ℕ). num k 2 o ++ (t ++ drop 4 (take k left))) (sym (two_bytes o c d xs (fits 2) (fits 3)))
 attr_says _ _ fits w = absurd (omega (arith, w.head))
@@ -73,7 +72,7 @@ both_pass false false e = (refl, refl)
 
 value_sound : (c : Content) (S : Shape) (l len : ℕ) (payload : List ℕ) (is : Ctx → Outcome Items) (hs : Unit {0} → Outcome HopItems) (v : Val) (u : ℕ) → broken_container S l c len ≡ None → value_by c payload is hs ≡ (Ok v, u)
     → ((k : Ctx) (x : Items) (w : ℕ) → is k ≡ (Ok x, w) → Fits S x payload k (l + 1)) → ((x : HopItems) (w : ℕ) → hs tt ≡ (Ok x, w) → FitsHops S x payload (l + 1)) → FitsVal S v c payload len l
-value_sound content.Bytes S l len payload is hs v u e f g h = subst (λ (x : Val). FitsVal S x content.Bytes payload len l) (let i : ◌≡◌ {A = Result Val Fault} (Ok (bytes payload)) (Ok v) = ap (λ (p : Outcome Val). p.0) f in let j : bytes payload ≡ v = cc in j) refl
+value_sound content.Bytes S l len payload is hs v u e f g h = subst (λ (x : Val). FitsVal S x content.Bytes payload len l) (same_ok (bytes payload) v 0 u f) refl
 value_sound (content.List c) S l len payload is hs v u e f g h =
     let m = map_ok list (is c) v u f in
     let b = both_pass (ltb LONGEST_CONTAINER len) (ltb S.depth (l + 1)) e in
@@ -82,12 +81,6 @@ value_sound content.Hops S l len payload is hs v u e f g h =
     let m = map_ok hops (hs tt) v u f in
     let b = both_pass (ltb LONGEST_CONTAINER len) (ltb S.depth (l + 2)) e in
     subst (λ (x : Val). FitsVal S x content.Hops payload len l) m.3 (ltb-false _ _ b.0, ltb-false _ _ b.1, h m.0 m.1 m.2)
-
-empty_fits : (is : Items) (v w : ℕ) (left : List ℕ) (ctx : Ctx) (l : ℕ) (S : Shape) → left ≡ [] → ◌≡◌ {A = Outcome Items} (Ok no_items, w) (Ok is, v) → Fits S is left ctx l
-empty_fits is v w left ctx l S e f = subst (λ (x : Items). Fits S x left ctx l) (let g : ◌≡◌ {A = Result Items Fault} (Ok no_items) (Ok is) = ap (λ (p : Outcome Items). p.0) f in let j : no_items ≡ is = cc in j) e
-
-empty_hops : (hs : HopItems) (v w : ℕ) (left : List ℕ) (l : ℕ) (S : Shape) → left ≡ [] → ◌≡◌ {A = Outcome HopItems} (Ok no_hops, w) (Ok hs, v) → FitsHops S hs left l
-empty_hops hs v w left l S e f = subst (λ (x : HopItems). FitsHops S x left l) (let g : ◌≡◌ {A = Result HopItems Fault} (Ok no_hops) (Ok hs) = ap (λ (p : Outcome HopItems). p.0) f in let j : no_hops ≡ hs = cc in j) e
 
 attr_fits : (left : List ℕ) (ctx : Ctx) (l : ℕ) (S : Shape) (v : Val) (more : Items) → AreBytes left → broken_length S.order 4 2 left ≡ None → FitsVal S v (content_at S.order ctx left) (payload_of S.order 4 2 left) (len_of S.order 2 left) l
     → Fits S more (drop (span_of S.order 2 left) left) ctx l → Fits S (item (kind_of S.order left % 16384) (flags_of (kind_of S.order left)) v more) left ctx l
@@ -117,7 +110,7 @@ hop_says o (a ∷ b ∷ c ∷ d ∷ e ∷ f ∷ g ∷ h ∷ xs) fits w =
     let left = a ∷ b ∷ c ∷ d ∷ e ∷ f ∷ g ∷ h ∷ xs in
     let k = len_of o 2 left in
     sym (take-append-drop 8 (take k left))
-    ∙ ap (λ (t : List ℕ). t ++ drop 8 (take k left)) (take_take 8 k left w.low)
+    ∙ ap (λ (t : List ℕ). t ++ drop 8 (take k left)) (take-take 8 k left w.low)
     ∙ ap (λ (t : List ℕ). t ++ (c ∷ d ∷ e ∷ f ∷ g ∷ h ∷ drop 8 (take k left))) (sym (two_bytes o a b (c ∷ d ∷ e ∷ f ∷ g ∷ h ∷ xs) (fits 0) (fits 1)))
     ∙ ap (λ (t : List ℕ). num k 2 o ++ (c ∷ d ∷ (t ++ drop 8 (take k left)))) (sym (four_bytes o e f g h xs (fits 4) (fits 5) (fits 6) (fits 7)))
 hop_says _ _ fits w = absurd (omega (arith, w.head))
@@ -144,8 +137,8 @@ mutual
   unfolding items_at
 
   pub items_sound : (n : ℕ) (S : Shape) (ctx : Ctx) (l place : ℕ) (left : List ℕ) (is : Items) (v : ℕ) → length left ≤ n → AreBytes left → items_at S n ctx l place left ≡ (Ok is, v) → Fits S is left ctx l
-  items_sound zero S ctx l place left is v h fits e = empty_fits is v 0 left ctx l S (nil_from_length left (omega arith)) e
-  items_sound (suc n) S ctx l place [] is v h fits e = empty_fits is v 0 [] ctx l S refl e
+  items_sound zero S ctx l place left is v h fits e = subst (λ (x : Items). Fits S x left ctx l) (same_ok no_items is 0 v e) (nil_from_length left (omega arith))
+  items_sound (suc n) S ctx l place [] is v h fits e = subst (λ (x : Items). Fits S x [] ctx l) (same_ok no_items is 0 v e) refl
   items_sound (suc n) S ctx l place (b ∷ bs) is v h fits e =
       let left = b ∷ bs in
       let a = look_ok place (span_of S.order 2 left) (broken_in S ctx l attr_head left) _ is v e in
@@ -162,8 +155,8 @@ mutual
       (attr_fits left ctx l S c.0 m.0 fits s.0 val (items_sound n S ctx l (place + span_of S.order 2 left) (drop (span_of S.order 2 left) left) m.0 m.1 (rest_shorter S.order 4 2 n left (omega arith) w h) (bytes_drop (span_of S.order 2 left) left fits) m.2))
 
   pub hops_sound : (n : ℕ) (S : Shape) (l place : ℕ) (left : List ℕ) (hs : HopItems) (v : ℕ) → length left ≤ n → AreBytes left → hops_at S n l place left ≡ (Ok hs, v) → FitsHops S hs left l
-  hops_sound zero S l place left hs v h fits e = empty_hops hs v 0 left l S (nil_from_length left (omega arith)) e
-  hops_sound (suc n) S l place [] hs v h fits e = empty_hops hs v 0 [] l S refl e
+  hops_sound zero S l place left hs v h fits e = subst (λ (x : HopItems). FitsHops S x left l) (same_ok no_hops hs 0 v e) (nil_from_length left (omega arith))
+  hops_sound (suc n) S l place [] hs v h fits e = subst (λ (x : HopItems). FitsHops S x [] l) (same_ok no_hops hs 0 v e) refl
   hops_sound (suc n) S l place (b ∷ bs) hs v h fits e =
       let left = b ∷ bs in
       let a = look_ok place (span_of S.order 2 left) (broken_length S.order 8 2 left) _ hs v e in

@@ -38,18 +38,13 @@ module _ (M D L : Type 0) where
 
   module _ {X : Type 0} where
     pub mismatch_is : (r : Result X WriteError) → Judges (Refusal M D L) r → (r ≡ Err Mismatch) ↔ M
-    mismatch_is (Ok x) j = (λ e. absurd (cc), λ m. absurd (j.0 m))
     mismatch_is (Err Mismatch) j = (λ e. j, λ m. refl)
-    mismatch_is (Err TooDeep) j = (λ e. absurd (cc), λ m. absurd (j.0 m))
-    mismatch_is (Err TooLong) j = (λ e. absurd (cc), λ m. absurd (j.0 m))
-    mismatch_is (Err Memory) j = (λ e. absurd (cc), λ m. absurd (j.0 m))
+    mismatch_is r j = (λ e. absurd (cc), λ m. absurd (j.0 m))
 
     pub deep_is : (r : Result X WriteError) → Judges (Refusal M D L) r → (r ≡ Err TooDeep) ↔ ((M → ⊥) × D)
-    deep_is (Ok x) j = (λ e. absurd (cc), λ d. absurd (j.1 d.1))
     deep_is (Err Mismatch) j = (λ e. absurd (cc), λ d. absurd (d.0 j))
     deep_is (Err TooDeep) j = (λ e. j, λ d. refl)
-    deep_is (Err TooLong) j = (λ e. absurd (cc), λ d. absurd (j.1 d.1))
-    deep_is (Err Memory) j = (λ e. absurd (cc), λ d. absurd (j.1 d.1))
+    deep_is r j = (λ e. absurd (cc), λ d. absurd (j.1 d.1))
 
     pub long_is : (r : Result X WriteError) → Judges (Refusal M D L) r → (r ≡ Err TooLong) ↔ ((M → ⊥) × (D → ⊥) × L)
     long_is (Ok x) j = (λ e. absurd (cc), λ l. absurd (j.2 l.2))

@@ -1,9 +1,7 @@
--- What is written is read again.
-use Rattle.std.proofs.Common.{◌≡◌, ℕ, ◌+◌, ◌-◌, ◌%◌, ◌<◌, ◌≤◌, List, ◌∷◌, ◌++◌, length, replicate, refl, sym, ap, ◌∙◌, arith, inl, inr, append_assoc}
-use Rattle.std.proofs.lemmas.List.{length-replicate}
+-- What can be written is sized, and is read again.
+use Rattle.std.proofs.Common.{◌≡◌, ℕ, ◌+◌, ◌-◌, ◌%◌, ◌<◌, ◌≤◌, ◌∷◌, ◌++◌, length, replicate, refl, sym, ap, arith, inl, inr}
 use Rattle.std.specs.Int.{w32, cast_unsigned}
 use Rattle.nl_attr.specs.Fixed.{LONGEST_ITEM}
-use Rattle.nl_attr.specs.declared.order.Order.{Order}
 use Rattle.nl_attr.specs.declared.tree.Ctx.{Ctx}
 use Rattle.nl_attr.specs.declared.tree.Ctx.TheVariants.{Route}
 use Rattle.nl_attr.specs.declared.tree.Content.{Content}
@@ -11,25 +9,43 @@ use Rattle.nl_attr.specs.declared.tree.Content.TheVariants as content
 use Rattle.nl_attr.specs.Shape.{Shape}
 use Rattle.nl_attr.specs.Numbers.{aligned, num}
 use Rattle.nl_attr.specs.Tree.{Val, bytes, list, hops, Items, no_items, item, HopItems, no_hops, hop, holds_of}
-use Rattle.nl_attr.specs.Layout.{IsPiece, kind_number, FitsVal, Fits, FitsHops}
-use Rattle.nl_attr.specs.Written.{with_padding, attr_item, hop_item, written, written_val, written_hops, val_len, items_len, hops_len}
-use Rattle.nl_attr.specs.Proper.{IsMismatched, IsMismatchedVal, IsMismatchedHops, IsDeep, IsDeepVal, IsDeepHops, HasLong, HasLongVal, HasLongHops, IsProper, IsRanged, IsRangedVal, IsRangedHops}
+use Rattle.nl_attr.specs.Layout.{kind_number, FitsVal, Fits, FitsHops}
+use Rattle.nl_attr.specs.Written.{attr_item, hop_item, written, written_val, written_hops, val_len, items_len, hops_len}
+use Rattle.nl_attr.specs.Proper.{IsMismatched, IsMismatchedVal, IsMismatchedHops, IsDeep, IsDeepVal, IsDeepHops, HasLong, HasLongVal, HasLongHops, IsProper, IsRanged, IsRangedVal, IsRangedHops, IsSized, IsSizedVal, IsSizedHops}
+use Rattle.nl_attr.proofs.Lemmas.Pieces.{made}
 use Rattle.nl_attr.proofs.Lemmas.Lengths.{length-val, length-items, length-attr, length-hop}
 
-gap_after : (n : ℕ) → n + (aligned n - n) ≡ aligned n
-gap_after n = omega arith
+-- ---- what is neither mismatched nor too long is sized
 
--- an item as it is written is a piece
-made : (o : Order) (h : ℕ) (it body rest : List ℕ) → it ≡ num (length it) 2 o ++ body → h ≤ length it → length it ≤ LONGEST_ITEM → IsPiece o h 2 (with_padding it ++ rest) it (replicate (aligned (length it) - length it) 0) rest
-made o h it body rest says low high =
-    record {
-      parts = append_assoc it (replicate (aligned (length it) - length it) 0) rest;
-      least = low;
-      fits = omega (arith, high);
-      body = body;
-      says = says;
-      padded = inl (ap (λ k. length it + k) (length-replicate {A = ℕ} (aligned (length it) - length it) 0) ∙ gap_after (length it));
-    }
+below : (a b : ℕ) → (b ≤ a → ⊥) → a < b
+below a b h = omega (arith, h)
+
+not_above : (a b : ℕ) → (a < b → ⊥) → b ≤ a
+not_above a b h = omega (arith, h)
+
+mutual
+  val_is_sized : (v : Val) (c : Content) → (IsMismatchedVal v c → ⊥) → (HasLongVal v → ⊥) → IsSizedVal v
+  val_is_sized (bytes bs) c m s = tt
+  val_is_sized (list is) (content.List c) m s = list_is_sized is c m (λ x. s (inr x))
+  val_is_sized (hops hs) content.Hops m s = hops_are_sized hs m (λ x. s (inr x))
+  val_is_sized v c m s = absurd (m tt)
+
+  pub list_is_sized : (is : Items) (ctx : Ctx) → (IsMismatched is ctx → ⊥) → (HasLong is → ⊥) → IsSized is
+  list_is_sized no_items ctx m s = tt
+  list_is_sized (item n flags v more) ctx m s = (
+    below _ _ (λ x. m (inl x)),
+    not_above _ _ (λ x. s (inl x)),
+    val_is_sized v (holds_of ctx n flags) (λ x. m (inr (inl x))) (λ x. s (inr (inl x))),
+    list_is_sized more ctx (λ x. m (inr (inr x))) (λ x. s (inr (inr x))),
+  )
+
+  hops_are_sized : (hs : HopItems) → (IsMismatchedHops hs → ⊥) → (HasLongHops hs → ⊥) → IsSizedHops hs
+  hops_are_sized no_hops m s = tt
+  hops_are_sized (hop flags count index attrs more) m s = (
+    not_above _ _ (λ x. s (inl x)),
+    list_is_sized attrs Route (λ x. m (inl x)) (λ x. s (inr (inl (inr x)))),
+    hops_are_sized more (λ x. m (inr x)) (λ x. s (inr (inr x))),
+  )
 
 -- a region that is written ends at an aligned place
 mutual
@@ -41,26 +57,15 @@ mutual
   hops_whole no_hops = refl
   hops_whole (hop flags count index attrs more) = omega (arith, hops_whole more)
 
-not_above : (a b : ℕ) → (a < b → ⊥) → b ≤ a
-not_above a b h = omega (arith, h)
-
-under : (k : ℕ) → (16384 ≤ k → ⊥) → k < 16384
-under k h = omega (arith, h)
-
 module _ (S : Shape) where
   mutual
     writes_val : (v : Val) (c : Content) (l len : ℕ) → len ≡ 4 + val_len v → len ≤ LONGEST_ITEM → (IsMismatchedVal v c → ⊥) → (IsDeepVal v l S.depth → ⊥) → (HasLongVal v → ⊥) → IsRangedVal v → FitsVal S v c (written_val S.order v) len l
     writes_val (bytes bs) content.Bytes l len e f m d s r = refl
-    writes_val (bytes bs) (content.List c) l len e f m d s r = absurd (m tt)
-    writes_val (bytes bs) content.Hops l len e f m d s r = absurd (m tt)
-    writes_val (list is) content.Bytes l len e f m d s r = absurd (m tt)
     writes_val (list is) (content.List c) l len e f m d s r =
         (omega (arith, e, f, items_whole is), not_above S.depth (l + 1) (λ x. d (inl x)), writes_items is c (l + 1) r m (λ x. d (inr x)) (λ x. s (inr x)))
-    writes_val (list is) content.Hops l len e f m d s r = absurd (m tt)
-    writes_val (hops hs) content.Bytes l len e f m d s r = absurd (m tt)
-    writes_val (hops hs) (content.List c) l len e f m d s r = absurd (m tt)
     writes_val (hops hs) content.Hops l len e f m d s r =
         (omega (arith, e, f, hops_whole hs), not_above S.depth (l + 2) (λ x. d (inl x)), writes_hops hs (l + 1) r m (λ x. d (inr x)) (λ x. s (inr x)))
+    writes_val v c l len e f m d s r = absurd (m tt)
 
     writes_items : (is : Items) (ctx : Ctx) (l : ℕ) → IsRanged is → (IsMismatched is ctx → ⊥) → (IsDeep is l S.depth → ⊥) → (HasLong is → ⊥) → Fits S is (written S.order is) ctx l
     writes_items no_items ctx l r m d s = refl
@@ -76,9 +81,9 @@ module _ (S : Shape) where
           replicate (aligned (length it) - length it) 0,
           written S.order more,
           payload,
-          made S.order 4 it body (written S.order more) says (omega (arith, len)) high,
+          made S.order 4 2 it body (written S.order more) says (omega (arith, len)) (omega (arith, high)),
           says,
-          under n (λ x. m (inl x)),
+          below n _ (λ x. m (inl x)),
           writes_val v (holds_of ctx n flags) l (length it) size high (λ x. m (inr (inl x))) (λ x. d (inl x)) (λ x. s (inr (inl x))) r.0,
           writes_items more ctx l r.1 (λ x. m (inr (inr x))) (λ x. d (inr x)) (λ x. s (inr (inr x))),
         )
@@ -97,7 +102,7 @@ module _ (S : Shape) where
           replicate (aligned (length it) - length it) 0,
           written_hops S.order more,
           payload,
-          made S.order 8 it body (written_hops S.order more) says (omega (arith, len)) high,
+          made S.order 8 2 it body (written_hops S.order more) says (omega (arith, len)) (omega (arith, high)),
           says,
           r.0,
           writes_items attrs Route (l + 1) r.1 (λ x. m (inl x)) (λ x. d (inl x)) (λ x. s (inr (inl (inr x)))),

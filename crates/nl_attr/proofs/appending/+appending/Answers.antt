@@ -1,16 +1,13 @@
-use Rattle.std.proofs.Common.{◌≡◌, ◌+◌, ◌-◌, ◌∷◌, ◌++◌, length, drop, arith, ap, sym, ◌∙◌, List, ℕ, subst, append_assoc, vec_len}
+use Rattle.std.proofs.Common.{◌≡◌, ◌+◌, ◌-◌, [], ◌∷◌, ◌++◌, length, drop, arith, ap, refl, ◌∙◌, List, ℕ, append_assoc, vec_len}
 use Rattle.std.specs.Int.{w32, cast_unsigned}
 use Rattle.nl_attr.specs.declared.tree.Attr.{Attr}
-use Rattle.nl_attr.specs.declared.tree.Hop.{Hop, out-Hop}
+use Rattle.nl_attr.specs.declared.tree.Hop.{out-Hop}
 use Rattle.nl_attr.specs.Numbers.{num}
 use Rattle.nl_attr.specs.Layout.{kind_number}
-use Rattle.nl_attr.specs.Tree.{Items, HopItems}
-use Rattle.nl_attr.specs.View.{HopFront, attrs_view, hops_view, value_view}
-use Rattle.nl_attr.specs.Written.{with_padding, attr_item, hop_item, written, written_val, written_hops, val_len, items_len, hops_len}
-use Rattle.nl_attr.specs.Proper.{IsSized, IsSizedHops, IsRanged, IsRangedHops}
-use Rattle.nl_attr.proofs.Lemmas.Extents.{from_place}
+use Rattle.nl_attr.specs.View.{attrs_view, hops_view, value_view}
+use Rattle.nl_attr.specs.Written.{with_padding, attr_item, hop_item, written, written_val, written_hops, val_len, items_len}
 use Rattle.nl_attr.proofs.Lemmas.Lengths.{length-val, length-items, length-padded_attr, length-padded_hop, item_closed, grown}
-use Rattle.nl_attr.proofs.Lemmas.Opened.{attr_is, hop_is}
+use Rattle.nl_attr.proofs.Lemmas.Opened.{next_attr, next_hop}
 use Rattle.nl_attr.proofs.appending.+appending.Goals as goal
 
 pub append_attr-close_item-requires-clause-short : goal.append_attr-close_item-requires-clause-short
@@ -43,7 +40,7 @@ append_attr-returns-clause-items t c =
     let payload = written_val o (value_view x.value) in
     let n : vec_len c.append_value.new.out - c.len-start.result ≡ 4 + length payload = omega (arith, d, c.put_attr_head.ensures.len, c.len-start.ensures) in
     let all = c.append_value.ensures.items ∙ ap (λ (ys : List ℕ). ys ++ payload) c.put_attr_head.ensures.items in
-    c.close_item.ensures.items ∙ item_closed o c.args.out.now.items (num (kind_number x.number x.flags) 2 o) payload _ c.len-start.result _ _ all (c.len-start.ensures ∙ c.args.out.now.ok.0) n
+    c.close_item.ensures.items ∙ item_closed o 2 c.args.out.now.items (0 ∷ 0 ∷ []) (num (kind_number x.number x.flags) 2 o) payload _ c.len-start.result _ _ refl all (c.len-start.ensures ∙ c.args.out.now.ok.0) n
 
 pub append_hop-returns-clause-items : goal.append_hop-returns-clause-items
 append_hop-returns-clause-items t c =
@@ -53,46 +50,39 @@ append_hop-returns-clause-items t c =
     let payload = written o (attrs_view h.attrs.items) in
     let n : vec_len c.append_list.new.out - c.len-start.result ≡ 8 + length payload = omega (arith, d, ap (λ (ys : List Attr). length (written o (attrs_view ys))) c.deref.ensures.value, c.put_hop_head.ensures.len, c.len-start.ensures) in
     let all = c.append_list.ensures.items ∙ ap (λ (ys : List Attr). c.put_hop_head.new.out.items ++ written o (attrs_view ys)) c.deref.ensures.value ∙ ap (λ (ys : List ℕ). ys ++ payload) c.put_hop_head.ensures.items in
-    c.close_item.ensures.items ∙ item_closed o c.args.out.now.items (h.flags ∷ h.hops ∷ num (cast_unsigned w32 h.ifindex) 4 o) payload _ c.len-start.result _ _ all (c.len-start.ensures ∙ c.args.out.now.ok.0) n
+    c.close_item.ensures.items ∙ item_closed o 2 c.args.out.now.items (0 ∷ 0 ∷ []) (h.flags ∷ h.hops ∷ num (cast_unsigned w32 h.ifindex) 4 o) payload _ c.len-start.result _ _ refl all (c.len-start.ensures ∙ c.args.out.now.ok.0) n
 
 pub append_list-loop-attr-preserved : goal.append_list-loop-attr-preserved
 append_list-loop-attr-preserved t c =
     let o = c.args.order in
-    let xs = c.args.attrs.now in
     let x = c.attr-item.result in
-    let rest = attrs_view (drop (c.loop-attr.attr-index + 1) xs) in
+    let i = rw (next_attr c.args.attrs.now c.loop-attr.attr-index x c.loop-attr-test.true c.attr-item.is) at c.loop-attr.invariant in
     let one = with_padding (attr_item o x.number x.flags (written_val o (value_view x.value))) in
-    let d = ap (λ (ys : List Attr). attrs_view ys) (from_place xs c.loop-attr.attr-index x c.loop-attr-test.true c.attr-item.is) ∙ attr_is x (drop (c.loop-attr.attr-index + 1) xs) in
-    let i = c.loop-attr.invariant in
-    let sized = subst (λ (ys : Items). IsSized ys) d i.sized in
+    let rest = written o (attrs_view (drop (c.loop-attr.attr-index + 1) c.args.attrs.now)) in
     let g = grown _ _ _ _ one c.append_attr.ensures.items c.loop-attr.out.ok.0 c.append_attr.new.out.ok.0 in
     let size = length-padded_attr o x.number x.flags (value_view x.value) in
     record {
-      sized = sized.3;
-      space = omega (arith, i.space, ap items_len d, g, size, c.append_attr.ensures.room);
-      len = omega (arith, i.len, ap items_len d, g, size);
-      whole = ap (λ (ys : List ℕ). ys ++ written o rest) c.append_attr.ensures.items ∙ append_assoc c.loop-attr.out.items one (written o rest) ∙ sym (ap (λ (ys : Items). c.loop-attr.out.items ++ written o ys) d) ∙ i.whole;
+      sized = i.sized.3;
+      space = omega (arith, i.space, g, size, c.append_attr.ensures.room);
+      len = omega (arith, i.len, g, size);
+      whole = ap (λ (ys : List ℕ). ys ++ rest) c.append_attr.ensures.items ∙ append_assoc c.loop-attr.out.items one rest ∙ i.whole;
       room = omega (arith, i.room, c.append_attr.ensures.room);
-      ranged = λ r. i.ranged (subst (λ (ys : Items). IsRanged ys) (sym d) (c.append_attr.ensures.ranged, r));
+      ranged = λ r. i.ranged (c.append_attr.ensures.ranged, r);
     }
 
 pub append_hops-loop-hop-preserved : goal.append_hops-loop-hop-preserved
 append_hops-loop-hop-preserved t c =
     let o = c.args.order in
-    let xs = c.args.hops.now in
     let x = c.hop-item.result in
     let h = out-Hop x in
-    let rest = hops_view (drop (c.loop-hop.hop-index + 1) xs) in
-    let inner = attrs_view h.attrs.items in
-    let one = with_padding (hop_item o h.flags h.hops h.ifindex (written o inner)) in
-    let d = ap (λ (ys : List Hop). hops_view ys) (from_place xs c.loop-hop.hop-index x c.loop-hop-test.true c.hop-item.is) ∙ ap (λ (f : HopFront). f rest) (hop_is x) in
-    let i = c.loop-hop.invariant in
-    let sized = subst IsSizedHops d i.sized in
+    let i = rw (next_hop c.args.hops.now c.loop-hop.hop-index x c.loop-hop-test.true c.hop-item.is) at c.loop-hop.invariant in
+    let one = with_padding (hop_item o h.flags h.hops h.ifindex (written o (attrs_view h.attrs.items))) in
+    let rest = written_hops o (hops_view (drop (c.loop-hop.hop-index + 1) c.args.hops.now)) in
     let g = grown _ _ _ _ one c.append_hop.ensures.items c.loop-hop.out.ok.0 c.append_hop.new.out.ok.0 in
     record {
-      sized = sized.2;
-      space = omega (arith, i.space, ap hops_len d, g, length-padded_hop o h.flags h.hops h.ifindex inner, c.append_hop.ensures.room);
-      whole = ap (λ (ys : List ℕ). ys ++ written_hops o rest) c.append_hop.ensures.items ∙ append_assoc c.loop-hop.out.items one (written_hops o rest) ∙ sym (ap (λ (ys : HopItems). c.loop-hop.out.items ++ written_hops o ys) d) ∙ i.whole;
+      sized = i.sized.2;
+      space = omega (arith, i.space, g, length-padded_hop o h.flags h.hops h.ifindex (attrs_view h.attrs.items), c.append_hop.ensures.room);
+      whole = ap (λ (ys : List ℕ). ys ++ rest) c.append_hop.ensures.items ∙ append_assoc c.loop-hop.out.items one rest ∙ i.whole;
       room = omega (arith, i.room, c.append_hop.ensures.room);
-      ranged = λ r. i.ranged (subst IsRangedHops (sym d) (c.append_hop.ensures.ranged.0, c.append_hop.ensures.ranged.1, r));
+      ranged = λ r. i.ranged (c.append_hop.ensures.ranged.0, c.append_hop.ensures.ranged.1, r);
     }

@@ -1,10 +1,12 @@
-use Rattle.std.proofs.Common.{◌≡◌, ◌+◌, ◌-◌, ◌++◌, List, ℕ, ap, ◌∙◌, arith, vec_len}
+use Rattle.std.proofs.Common.{◌≡◌, ◌+◌, ◌-◌, [], ◌∷◌, ◌++◌, List, ℕ, ap, sym, ◌∙◌, arith, append_assoc, vec_len}
 use Rattle.nl_route.specs.Fields as fields
 use Rattle.nl_route.specs.Fields.{number}
-use Rattle.std.proofs.Common.{[], ◌∷◌}
 use Rattle.nl_frame.specs.View.{body_view}
 use Rattle.nl_frame.specs.Written.{body_len, body_written}
-use Rattle.nl_frame.proofs.Appended.{message_closed}
+use Rattle.nl_attr.specs.Numbers.{num}
+use Rattle.nl_attr.specs.Written.{with_padding}
+use Rattle.nl_attr.proofs.Lemmas.Lengths.{item_closed}
+use Rattle.nl_attr.proofs.Lemmas.Numbers.{length-num}
 use Rattle.nl_frame.proofs.appending.append_message.Goals as goal
 
 pub returns-clause-items : goal.returns-clause-items
@@ -16,4 +18,5 @@ returns-clause-items c =
     let body = body_written o (body_view m.body) in
     let all = c.append_body.ensures.items ∙ ap (λ (ys : List ℕ). ys ++ body) c.put.ensures.items in
     let n : vec_len c.append_body.new.out - c.len-start.result ≡ 16 + body_len (body_view m.body) = omega (arith, c.append_body.ensures.len, c.put.ensures.len, c.len-start.ensures) in
-    c.close_message.ensures.items ∙ message_closed o old tail body _ c.len-start.result _ _ all (c.len-start.ensures ∙ c.args.out.now.ok.0) n
+    c.close_message.ensures.items ∙ item_closed o 4 old (num 0 4 o) tail body _ c.len-start.result _ _ (length-num o 0 4) all (c.len-start.ensures ∙ c.args.out.now.ok.0) n
+    ∙ ap (λ (ys : List ℕ). old ++ with_padding ys) (sym (append_assoc (num (16 + body_len (body_view m.body)) 4 o) tail body))

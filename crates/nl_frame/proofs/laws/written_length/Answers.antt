@@ -1,4 +1,4 @@
-use Rattle.nl_frame.proofs.WrittenLengths.{length-messages}
+use Rattle.nl_frame.proofs.WrittenLayouts.{length-messages}
 use Rattle.nl_frame.proofs.laws.written_length.Goals as goal
 
 pub returns : goal.returns

@@ -26,24 +26,9 @@ returns-in_err-measure_message-clause-mismatch c =
     let i = subst (λ (ms : List MessageVal). IsMeasuring c.args.depth whole ms c.loop-message.all) d c.loop-message.invariant in
     (λ h. i.mismatched (inl (c.in_err-measure_message.ensures.mismatch.0 refl)), λ h. c.from_residual.ensures)
 
-pub returns-clause-mismatch : goal.returns-clause-mismatch
-returns-clause-mismatch c =
-    let xs = c.args.messages.now in
-    let whole = map message_view xs in
-    let d = ap (map message_view) (past_end xs c.loop-message.message-index c.loop-message-test.false) in
+pub returns : goal.returns
+returns c =
+    let whole = map message_view c.args.messages.now in
+    let d = ap (map message_view) (past_end c.args.messages.now c.loop-message.message-index c.loop-message-test.false) in
     let i = subst (λ (ms : List MessageVal). IsMeasuring c.args.depth whole ms c.loop-message.all) d c.loop-message.invariant in
-    (λ h. absurd (cc), λ h. absurd (i.mismatch h))
-
-pub returns-clause-deep : goal.returns-clause-deep
-returns-clause-deep c =
-    let xs = c.args.messages.now in
-    let whole = map message_view xs in
-    let d = ap (map message_view) (past_end xs c.loop-message.message-index c.loop-message-test.false) in
-    whole_deep c.args.depth whole c.loop-message.all (subst (λ (ms : List MessageVal). IsMeasuring c.args.depth whole ms c.loop-message.all) d c.loop-message.invariant)
-
-pub returns-clause-len : goal.returns-clause-len
-returns-clause-len c =
-    let xs = c.args.messages.now in
-    let whole = map message_view xs in
-    let d = ap (map message_view) (past_end xs c.loop-message.message-index c.loop-message-test.false) in
-    whole_len c.args.depth whole c.loop-message.all (subst (λ (ms : List MessageVal). IsMeasuring c.args.depth whole ms c.loop-message.all) d c.loop-message.invariant)
+    record { mismatch = (λ h. absurd (cc), λ h. absurd (i.mismatch h)); deep = whole_deep c.args.depth whole c.loop-message.all i; len = whole_len c.args.depth whole c.loop-message.all i }

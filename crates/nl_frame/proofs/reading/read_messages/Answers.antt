@@ -4,9 +4,9 @@ use Rattle.std.specs.Global.{Vec}
 use Rattle.nl_attr.specs.Reading.{map_value}
 use Rattle.nl_attr.specs.Outcomes.{IsOutcome}
 use Rattle.nl_frame.specs.declared.body.Message.{Message}
-use Rattle.nl_frame.specs.Reading.{message_of, body_at, messages_of}
+use Rattle.nl_frame.specs.Reading.{message_of, body_at}
 use Rattle.nl_frame.specs.View.{message_view}
-use Rattle.nl_frame.proofs.Loop.{not_empty, fails_outcome, nothing_left, head_breaks, sum_is_small, whole_is_bound, next}
+use Rattle.nl_frame.proofs.Steps.{body_fails, nothing_left, head_breaks, sum_is_small, whole_is_bound, next}
 use Rattle.nl_frame.proofs.reading.read_messages.Goals as goal
 
 pub returns-in-Err-clause-outcome : goal.returns-in-Err-clause-outcome
@@ -27,8 +27,7 @@ returns-in-Err-result-clause-outcome c =
     let f = c.in-Ok.frame in
     let s = c.args.limits.now.shape in
     let gave = subst (λ x. IsOutcome message_view x c.read_message-result.result.visits (map_value (message_of f.header) (body_at s f.form (c.loop-left.place + 16) f.payload.now))) c.in-Err-result.is c.read_message-result.ensures.outcome in
-    fails_outcome s c.loop-left.place c.loop-left.left.now f (not_empty c.loop-left.left.now c.loop-left-test.ensures) (rw c.order-order.ensures at c.in-Ok.ensures) (map message_view c.loop-left.list.items) c.loop-left.visits (messages_of s 0 c.args.bytes.now) c.loop-left.invariant.same
-    message_view (λ (v : Vec Message). map message_view v.items) c.in-Err-result.error c.read_message-result.result.visits gave
+    body_fails c.loop-left.invariant f (rw c.order-order.ensures at c.in-Ok.ensures) c.read_message-result.result.visits message_view (λ (v : Vec Message). map message_view v.items) c.in-Err-result.error c.loop-left-test.ensures gave
 
 pub loop-left-preserved : goal.loop-left-preserved
 loop-left-preserved c =

@@ -1,6 +1,6 @@
 use Rattle.std.proofs.Common.{length, map}
 use Rattle.nl_frame.specs.View.{message_view}
-use Rattle.nl_frame.proofs.Loop.{IsReading}
+use Rattle.nl_frame.proofs.Steps.{IsReading}
 use Rattle.nl_frame.proofs.reading.read_messages.Given as goal
 
 abbrev pub invariant-loop-left : goal.invariant-loop-left

@@ -1,6 +1,6 @@
 use Rattle.std.proofs.Common.{arith}
 use Rattle.nl_attr.specs.Shape.{shape_of}
-use Rattle.nl_frame.proofs.Loop.{empty, not_empty}
+use Rattle.nl_frame.proofs.Steps.{empty, not_empty}
 use Rattle.nl_frame.proofs.Tapes.{begins, tells_none, tells_broken, tells_fault, header_breaks, inner_breaks, goes_on, sum_small, sum_whole, here_whole}
 use Rattle.nl_frame.proofs.taping.tape_ordered.Goals as goal
 

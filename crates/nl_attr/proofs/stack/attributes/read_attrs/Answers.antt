@@ -5,8 +5,7 @@ use Rattle.nl_attr.specs.Walk.{GivesPart, broken_length, span_given}
 use Rattle.nl_attr.specs.View.{attr_view}
 use Rattle.nl_attr.specs.Heads.{attr_head}
 use Rattle.nl_attr.specs.Open.{before, list_rest, list_spot}
-use Rattle.nl_attr.proofs.Lemmas.Turns.{part_turns, counted}
-use Rattle.nl_attr.proofs.Lemmas.Steps.{list_done, list_cut, passes}
+use Rattle.nl_attr.proofs.Lemmas.Loop.{part_turns, counted, list_done, list_cut, passes}
 use Rattle.nl_attr.proofs.Lemmas.Going.{goes_further, stays_within, visits_so_far, turns_so, moves_so, list_leaf, leaf_visits}
 use Rattle.nl_attr.proofs.Lemmas.Opens.{turn_goes, turn_moves}
 use Rattle.nl_attr.proofs.stack.attributes.read_attrs.Goals as goal

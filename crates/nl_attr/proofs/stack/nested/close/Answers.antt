@@ -3,7 +3,7 @@ use Rattle.nl_attr.specs.Reading.{Outcome}
 use Rattle.nl_attr.specs.Tree.{HopItems}
 use Rattle.nl_attr.specs.View.{attrs_view}
 use Rattle.nl_attr.specs.Open.{hops_then, NextGoes}
-use Rattle.nl_attr.proofs.Lemmas.Hops.{hop_kept}
+use Rattle.nl_attr.proofs.Lemmas.Opens.{hop_kept}
 use Rattle.nl_attr.proofs.stack.nested.close.Goals as goal
 
 pub returns-in_ok-keep_hop-in-Hops-clause-goes : goal.returns-in_ok-keep_hop-in-Hops-clause-goes

@@ -2,7 +2,7 @@ use Rattle.std.proofs.Common.{map}
 use Rattle.nl_attr.specs.Tree.{item}
 use Rattle.nl_attr.specs.View.{attr_view, value_view}
 use Rattle.nl_attr.specs.Open.{items_left}
-use Rattle.nl_attr.proofs.Lemmas.Steps.{collected}
+use Rattle.nl_attr.proofs.Lemmas.Loop.{collected}
 use Rattle.nl_attr.proofs.stack.nested.take_value.Goals as goal
 
 pub returns-clause-rest : goal.returns-clause-rest

@@ -5,10 +5,9 @@ use Rattle.nl_attr.specs.declared.walk.hops.HopPart.{HopPart}
 use Rattle.nl_attr.specs.Walk.{GivesHop, broken_length, span_given}
 use Rattle.nl_attr.specs.View.{hop_view}
 use Rattle.nl_attr.specs.Open.{before}
-use Rattle.nl_attr.proofs.Lemmas.Turns.{hop_turns, counted}
-use Rattle.nl_attr.proofs.Lemmas.Steps.{hops_done, hops_are_cut}
+use Rattle.nl_attr.proofs.Lemmas.Loop.{hop_turns, counted, hops_done, hops_are_cut}
 use Rattle.nl_attr.proofs.Lemmas.Going.{hop_visits}
-use Rattle.nl_attr.proofs.Lemmas.Hops.{hop_opens, hop_moves}
+use Rattle.nl_attr.proofs.Lemmas.Opens.{hop_opens, hop_moves}
 use Rattle.nl_attr.proofs.stack.next_hops.next_hop.Goals as goal
 
 pub returns-in-None-clause-goes : goal.returns-in-None-clause-goes

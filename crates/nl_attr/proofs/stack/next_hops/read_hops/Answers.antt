@@ -3,8 +3,8 @@ use Rattle.nl_attr.specs.View.{attrs_view}
 use Rattle.nl_attr.specs.Reading.{more_visits}
 use Rattle.nl_attr.specs.Open.{list_rest, hops_rest, hops_go_on, hops_spot}
 use Rattle.nl_attr.proofs.Lemmas.Going.{goes_on_to}
-use Rattle.nl_attr.proofs.Lemmas.Outcomes.{then_done}
-use Rattle.nl_attr.proofs.Lemmas.Hops.{hop_kept}
+use Rattle.nl_attr.proofs.Lemmas.Nested.{then_done}
+use Rattle.nl_attr.proofs.Lemmas.Opens.{hop_kept}
 use Rattle.nl_attr.proofs.stack.next_hops.read_hops.Goals as goal
 
 pub hops-preserved : goal.hops-preserved
