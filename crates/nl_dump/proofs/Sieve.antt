@@ -163,9 +163,6 @@ module _ (find : Event → Found) where
 
   -- ---- a front that is kept whole
 
-  pub no_front : (old : List Event) → IsFront find old none_sifted
-  no_front old = record { found = refl; all = refl; keeps = refl; end = refl; items = omega arith; ignored = refl }
-
   more_front : (old : List Event) (s t : Sifted) (d e : Event) → IsFront find old s → s.events < length old → e ≡ get_or old s.events d
       → t ≡ step find s e → t.events ≡ s.events + 1 → t.keeps ≡ true → t.end ≡ None → t.items ≤ t.events → t.ignored ≡ 0 → IsFront find old t
   more_front old s t d e is low here whole many keeps end items ignored =

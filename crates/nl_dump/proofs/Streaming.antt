@@ -210,13 +210,6 @@ module _ (s : Standing) (bytes : List ℕ) (old : List Event) (d : Dump) (state 
   fed_err (Fault f) n new r h = (can h.0, h.1, (n, h.2, refl), h.3)
   fed_err (Room m) n new r h = cc
 
-  pub fed_room : (e : StreamError) (n : ℕ) (new : List Event) → is_room e ≡ true → Strains s.limits d bytes old (Err e) n new → StreamFed s bytes old (Err e) s new
-  fed_room NotWaiting n new r h = absurd h
-  fed_room Total n new r h = absurd h
-  fed_room TooLarge n new r h = cc
-  fed_room (Fault f) n new r h = cc
-  fed_room (Room m) n new r h = (can h.0, h.1, h.2, h.3, refl, h.4)
-
   module _ (p : IsPossible s) (n : ℕ) (few : n ≤ (s.limits.shape.depth + 1) * length bytes) where
     pub possible_ok : (t : Strained) (m : ℕ) (new : List Event) (b : Bool) → m ≡ t.streamed.progress.ignored → m ≤ length bytes → Strains s.limits d bytes old (Ok t) n new
         → IsPossible (record s { state = state_by d t.end; ignored = s.ignored + m; visits = s.visits + n; received = s.received + length bytes; interrupted = b })
@@ -227,17 +220,6 @@ module _ (s : Standing) (bytes : List ℕ) (old : List Event) (d : Dump) (state 
           received = total;
           ignored = omega (arith, p.ignored, low);
           reached = reached_by d t.end _ (subst IsReal (sym h.1.5) (end_real d h.1.0));
-        }
-
-    pub possible_err : IsPossible (record s { visits = s.visits + n; received = s.received + length bytes; damaged = true })
-    possible_err =
-        let same : IsReached (Waiting d) s = tt in
-        record {
-          limits = p.limits;
-          visits = omega (arith, mul-add (s.limits.shape.depth + 1) s.received (length bytes), p.visits, few);
-          received = total;
-          ignored = omega (arith, p.ignored);
-          reached = subst (λ x. IsReached x (record s { visits = s.visits + n; received = s.received + length bytes; damaged = true })) (sym state) tt;
         }
 
 -- ---- every datagram

@@ -13,7 +13,7 @@ use Rattle.nl_route.specs.Families.{context_of, family_of}
 use Rattle.nl_frame.specs.declared.form.Form.{Form}
 use Rattle.nl_frame.specs.Header.{header_fields}
 use Rattle.nl_frame.specs.Form.{form_of}
-use Rattle.nl_frame.specs.Message.{BodyVal, noop, error, done, overrun, object, get, other, MessageVal}
+use Rattle.nl_frame.specs.Message.{BodyVal, object, MessageVal}
 use Rattle.nl_frame.specs.Written.{header_for, body_written, message_item, written_len}
 use Rattle.nl_frame.specs.Proper.{IsMismatchedBody, IsMismatched, IsLongBody, HasLong, IsLong}
 use Rattle.nl_frame.specs.Compared.{AreSized}

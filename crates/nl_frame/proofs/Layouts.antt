@@ -1,8 +1,7 @@
 -- The layout of a datagram is what is read of it.
-use Rattle.std.proofs.Common.{◌≡◌, ◌≢◌, ℕ, zero, suc, ◌+◌, ◌≤◌, List, [], ◌∷◌, length, take, drop, Option, Some, None, Result, Ok, Err, refl, sym, ap, subst, ◌∙◌, arith}
+use Rattle.std.proofs.Common.{◌≡◌, ◌≢◌, ℕ, zero, suc, ◌+◌, ◌≤◌, List, [], ◌∷◌, length, take, drop, Option, Some, None, Ok, refl, sym, ap, subst, ◌∙◌, arith}
 use Rattle.std.proofs.lemmas.List.{take-take, length-take, nil_from_length}
 use Rattle.nl_attr.specs.declared.fault.Reason.{Reason}
-use Rattle.nl_attr.specs.declared.fault.Fault.{Fault}
 use Rattle.nl_attr.specs.Shape.{Shape}
 use Rattle.nl_attr.specs.Numbers.{AreBytes, len_of}
 use Rattle.nl_attr.specs.Layout.{IsPiece}

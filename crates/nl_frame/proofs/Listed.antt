@@ -18,7 +18,7 @@ use Rattle.nl_frame.specs.Front.{span_at, payload_at, broken_message}
 use Rattle.nl_frame.specs.Heads.{header, Rest, behind, region_in, region_of, whole}
 use Rattle.nl_frame.specs.Layout.{BodyOf, Layout}
 use Rattle.nl_frame.specs.Listed.{body_events, messages_events}
-use Rattle.nl_frame.specs.Message.{BodyVal, noop, error, done, overrun, object, get, other, MessageVal}
+use Rattle.nl_frame.specs.Message.{BodyVal, done, object, MessageVal}
 use Rattle.nl_frame.specs.Written.{body_len}
 use Rattle.nl_frame.specs.HeadOrder.{region_trail, trail_of, header_event, event_of, events_of}
 use Rattle.nl_frame.proofs.Bodies.{body_fit}

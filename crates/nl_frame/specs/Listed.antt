@@ -4,7 +4,7 @@ use Rattle.nl_attr.specs.declared.events.Event.{Event}
 use Rattle.nl_attr.specs.Numbers.{aligned}
 use Rattle.nl_attr.specs.Listed.{items_events}
 use Rattle.nl_route.specs.Families.{head_size, family_of}
-use Rattle.nl_frame.specs.Message.{BodyVal, noop, error, done, overrun, object, get, other, MessageVal}
+use Rattle.nl_frame.specs.Message.{BodyVal, object, MessageVal}
 use Rattle.nl_frame.specs.Written.{body_len}
 use Rattle.nl_frame.specs.HeadOrder.{header_event}
 

@@ -3,7 +3,7 @@ use Rattle.std.specs.Prelude.{◌≡◌, ◌<◌, ◌≤◌, ◌+◌, ◌⊎◌,
 use Rattle.nl_attr.specs.Fixed.{LONGEST_REGION}
 use Rattle.nl_attr.specs.Numbers.{aligned}
 use Rattle.nl_attr.specs.Proper as attrs
-use Rattle.nl_frame.specs.Message.{BodyVal, noop, error, done, overrun, object, get, other, MessageVal}
+use Rattle.nl_frame.specs.Message.{BodyVal, object, MessageVal}
 use Rattle.nl_frame.specs.Written.{body_len, written_len}
 use Rattle.nl_frame.specs.Proper.{IsLongBody, HasLong, IsLong}
 

@@ -4,6 +4,12 @@ use Rattle.std.proofs.lemmas.List.{take-append-drop}
 use Rattle.nl_attr.specs.declared.events.Event.{Event}
 use Rattle.nl_attr.specs.HeadOrder.{put_from}
 
+more : (a b : ℕ) → suc a + b ≡ suc (a + b)
+more a b = omega arith
+
+one : (n : ℕ) → 0 + suc n ≡ suc (0 + n)
+one n = omega arith
+
 -- none
 pub put_none : (n : ℕ) (old : List Event) → put_from n [] old ≡ old
 put_none n old = ap (λ (xs : List Event). take n old ++ (xs ++ drop (n + 0) old)) (nothing (length old - n)) ∙ ap (λ (m : ℕ). take n old ++ drop m old) (omega arith) ∙ take-append-drop n old where
@@ -28,21 +34,18 @@ put_behind n es x xs =
       less : (a b : ℕ) → suc a - suc b ≡ a - b
       less a b = omega arith
 
-      more : (a b : ℕ) → suc a + b ≡ suc (a + b)
-      more a b = omega arith
-
 -- the first place
 pub put_here : (e : Event) (es : List Event) (x : Event) (xs : List Event) → put_from 0 (e ∷ es) (x ∷ xs) ≡ e ∷ put_from 0 es xs
 put_here e es x xs =
     ap (λ (k : ℕ). take k (e ∷ es) ++ drop (0 + suc (length es)) (x ∷ xs)) (all (length xs))
-    ∙ ap (λ (k : ℕ). e ∷ (take (length xs) es ++ drop k (x ∷ xs))) (one (length es))
+    ∙ ap (λ (k : ℕ). e ∷ (take (length xs) es ++ drop k (x ∷ xs))) (first (length es))
     ∙ ap (λ (k : ℕ). e ∷ (take k es ++ drop (length es) xs)) (whole (length xs))
     ∙ ap (λ (k : ℕ). e ∷ (take (length xs - 0) es ++ drop k xs)) (none (length es)) where
       all : (n : ℕ) → suc n - 0 ≡ suc n
       all n = omega arith
 
-      one : (n : ℕ) → 0 + suc n ≡ suc n
-      one n = omega arith
+      first : (n : ℕ) → 0 + suc n ≡ suc n
+      first n = omega arith
 
       whole : (n : ℕ) → n ≡ n - 0
       whole n = omega arith
@@ -58,18 +61,14 @@ put_on (suc n) es fs (x ∷ xs) =
     ∙ ap (λ (k : ℕ). put_from k fs (x ∷ put_from n es xs)) (more n (length es))
     ∙ put_behind (n + length es) fs x (put_from n es xs)
     ∙ ap (λ (ys : List Event). x ∷ ys) (put_on n es fs xs)
-    ∙ sym (put_behind n (es ++ fs) x xs) where
-      more : (a b : ℕ) → suc a + b ≡ suc (a + b)
-      more a b = omega arith
+    ∙ sym (put_behind n (es ++ fs) x xs)
 put_on zero [] fs (x ∷ xs) = ap (put_from 0 fs) (put_none 0 (x ∷ xs))
 put_on zero (e ∷ es) fs (x ∷ xs) =
     ap (put_from (0 + suc (length es)) fs) (put_here e es x xs)
     ∙ ap (λ (k : ℕ). put_from k fs (e ∷ put_from 0 es xs)) (one (length es))
     ∙ put_behind (0 + length es) fs e (put_from 0 es xs)
     ∙ ap (λ (ys : List Event). e ∷ ys) (put_on 0 es fs xs)
-    ∙ sym (put_here e (es ++ fs) x xs) where
-      one : (n : ℕ) → 0 + suc n ≡ suc (0 + n)
-      one n = omega arith
+    ∙ sym (put_here e (es ++ fs) x xs)
 
 -- one is a write to its place, where there is such a place
 pub put_one : (n : ℕ) (e : Event) (old : List Event) → put_from n (e ∷ []) old ≡ slice_set old n e
@@ -84,14 +83,10 @@ put_untouched (suc n) es (x ∷ xs) =
     ap (drop (suc n + length es)) (put_behind n es x xs)
     ∙ ap (λ (k : ℕ). drop k (x ∷ put_from n es xs)) (more n (length es))
     ∙ put_untouched n es xs
-    ∙ ap (λ (k : ℕ). drop k (x ∷ xs)) (sym (more n (length es))) where
-      more : (a b : ℕ) → suc a + b ≡ suc (a + b)
-      more a b = omega arith
+    ∙ ap (λ (k : ℕ). drop k (x ∷ xs)) (sym (more n (length es)))
 put_untouched zero [] (x ∷ xs) = ap (drop (0 + 0)) (put_none 0 (x ∷ xs))
 put_untouched zero (e ∷ es) (x ∷ xs) =
     ap (drop (0 + suc (length es))) (put_here e es x xs)
     ∙ ap (λ (k : ℕ). drop k (e ∷ put_from 0 es xs)) (one (length es))
     ∙ put_untouched 0 es xs
-    ∙ ap (λ (k : ℕ). drop k (x ∷ xs)) (sym (one (length es))) where
-      one : (n : ℕ) → 0 + suc n ≡ suc (0 + n)
-      one n = omega arith
+    ∙ ap (λ (k : ℕ). drop k (x ∷ xs)) (sym (one (length es)))

@@ -1,4 +1,4 @@
-use Rattle.std.proofs.Common.{◌+◌, Some, None, arith}
+use Rattle.std.proofs.Common.{Some, None, arith}
 use Rattle.nl_frame.specs.View.{body_view, message_view}
 use Rattle.nl_frame.proofs.WrittenLayouts.{length-body}
 use Rattle.nl_frame.proofs.Beginnings.{no_body, no_header, whole_message}

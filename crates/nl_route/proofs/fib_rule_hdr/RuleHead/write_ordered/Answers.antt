@@ -1,6 +1,6 @@
 use Rattle.std.proofs.Common.{rules}
 use Rattle.nl_route.proofs.Known.{head_written}
-use Rattle.nl_route.proofs.Rule.{rule_known}
+use Rattle.nl_route.proofs.Families.{rule_known}
 use Rattle.nl_route.proofs.fib_rule_hdr.RuleHead.write_ordered.Goals as goal
 
 pub returns : goal.returns

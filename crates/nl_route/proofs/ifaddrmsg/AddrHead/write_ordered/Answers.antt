@@ -1,6 +1,6 @@
 use Rattle.std.proofs.Common.{rules}
 use Rattle.nl_route.proofs.Known.{head_written}
-use Rattle.nl_route.proofs.Addr.{addr_known}
+use Rattle.nl_route.proofs.Families.{addr_known}
 use Rattle.nl_route.proofs.ifaddrmsg.AddrHead.write_ordered.Goals as goal
 
 pub returns : goal.returns

@@ -1,6 +1,6 @@
 use Rattle.std.proofs.Common.{rules}
 use Rattle.nl_route.proofs.Known.{head_read}
-use Rattle.nl_route.proofs.Link.{link_known}
+use Rattle.nl_route.proofs.Families.{link_known}
 use Rattle.nl_route.proofs.ifinfomsg.LinkHead.read_ordered.Goals as goal
 
 pub returns : goal.returns

@@ -1,6 +1,6 @@
 use Rattle.std.proofs.Common.{rules}
 use Rattle.nl_route.proofs.Known.{head_read}
-use Rattle.nl_route.proofs.Neigh.{neigh_known}
+use Rattle.nl_route.proofs.Families.{neigh_known}
 use Rattle.nl_route.proofs.ndmsg.NeighHead.read_ordered.Goals as goal
 
 pub returns : goal.returns

@@ -2,7 +2,7 @@ use Rattle.std.proofs.Common.{◌≡◌, drop, arith}
 use Rattle.std.proofs.lemmas.Grind.{common_steps}
 use Rattle.nl_attr.specs.Numbers.{number_of}
 use Rattle.nl_route.proofs.Known.{head_read}
-use Rattle.nl_route.proofs.Route.{route_known}
+use Rattle.nl_route.proofs.Families.{route_known}
 use Rattle.nl_route.proofs.rtmsg.RouteHead.read_ordered.Goals as goal
 
 pub returns : goal.returns

@@ -1,6 +1,6 @@
 use Rattle.std.proofs.Common.{rules}
 use Rattle.nl_route.proofs.Known.{head_written}
-use Rattle.nl_route.proofs.Route.{route_known}
+use Rattle.nl_route.proofs.Families.{route_known}
 use Rattle.nl_route.proofs.rtmsg.RouteHead.write_ordered.Goals as goal
 
 pub returns : goal.returns
