@@ -49,6 +49,10 @@ FARTHEST_END = 2_097_152
 abbrev pub MOST_LEVELS : ℕ
 MOST_LEVELS = 32
 
+-- the levels that a depth limit allows where nothing else is said
+abbrev pub STANDARD_LEVELS : ℕ
+STANDARD_LEVELS = 8
+
 -- the most bytes that reading a region visits: the longest region once for each level below the greatest depth, and once more
 abbrev pub MOST_VISITS : ℕ
 MOST_VISITS = 34_603_008

@@ -1,5 +1,6 @@
 pub mod Fixed
 pub mod Numbers
+pub mod Names
 pub mod Shape
 pub mod Walk
 pub mod Tree

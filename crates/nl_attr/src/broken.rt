@@ -14,7 +14,7 @@ use crate::tree::NUMBERS;
 use crate::walk::kind_at;
 
 /// What kind of head it is.
-#[derive(Clone, Copy, Debug, PartialEq, Eq)]
+#[derive(Clone, Copy, Debug, PartialEq, Eq, Hash)]
 pub enum HeadKind {
     /// The header of a message, `nlmsghdr` of netlink(7): 16 bytes.
     Message,
@@ -25,7 +25,7 @@ pub enum HeadKind {
 }
 
 /// A head that breaks a rule.
-#[derive(Clone, Copy, Debug, PartialEq, Eq)]
+#[derive(Clone, Copy, Debug, PartialEq, Eq, Hash)]
 pub struct BrokenHead {
     /// Its place, and the rule.
     pub fault: Fault,

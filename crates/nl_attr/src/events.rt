@@ -16,7 +16,7 @@ pub const SORT_NEXT_HOP: u8 = 4;
 /// A head that a scan came to: the header of a message, `nlmsghdr` of netlink(7), or the head of an
 /// attribute, `rtattr` of rtnetlink(7), or of a next hop, `rtnexthop`. It has 16 bytes.
 #[repr(C)]
-#[derive(Clone, Copy, Debug, PartialEq, Eq)]
+#[derive(Clone, Copy, Debug, PartialEq, Eq, Hash)]
 pub struct Event {
     /// The place of the head: an offset in bytes from where reading began, plus the base that was
     /// handed in.

@@ -7,7 +7,7 @@ use std::alloc::{AllocError, AllocFailed};
 use thiserror::Error;
 
 /// The rule that a head breaks.
-#[derive(Clone, Copy, Debug, PartialEq, Eq, Error)]
+#[derive(Clone, Copy, Debug, PartialEq, Eq, Hash, Error)]
 pub enum Reason {
     /// Fewer bytes are left in the region than a head has.
     #[error("cut")]
@@ -45,7 +45,7 @@ impl Reason {
 
 /// A broken rule, and the place of the head that breaks it: an offset in bytes from where reading
 /// began, plus the base that was handed in.
-#[derive(Clone, Copy, Debug, PartialEq, Eq, Error)]
+#[derive(Clone, Copy, Debug, PartialEq, Eq, Hash, Error)]
 #[error("{reason} at {place}")]
 pub struct Fault {
     pub place: u32,
@@ -64,7 +64,7 @@ impl Fault {
 }
 
 /// Why a list of attributes was not read.
-#[derive(Clone, Copy, Debug, PartialEq, Eq, Error)]
+#[derive(Clone, Copy, Debug, PartialEq, Eq, Hash, Error)]
 pub enum ListError {
     /// The first fault of the region.
     #[error("{0}")]
@@ -109,7 +109,7 @@ impl<T: Drop> From<AllocFailed<T>> for ListError {
 }
 
 /// Why a list of attributes was not written.
-#[derive(Clone, Copy, Debug, PartialEq, Eq, Error)]
+#[derive(Clone, Copy, Debug, PartialEq, Eq, Hash, Error)]
 pub enum WriteError {
     /// The number of an attribute is 16,384 or more, or its value is of another kind than its
     /// context, number and flags say.
@@ -153,7 +153,7 @@ impl From<AllocError> for WriteError {
 }
 
 /// A limit out of its range.
-#[derive(Clone, Copy, Debug, PartialEq, Eq, Error)]
+#[derive(Clone, Copy, Debug, PartialEq, Eq, Hash, Error)]
 #[error("a limit out of its range")]
 pub struct LimitFault;
 
@@ -165,6 +165,11 @@ impl LimitFault {
         12
     }
 }
+
+/// A name that is none of those that can stand there.
+#[derive(Clone, Copy, Debug, PartialEq, Eq, Hash, Error)]
+#[error("unknown name")]
+pub struct UnknownName;
 
 /// What a call answers, and how many attribute bytes it visited: the spans of the attributes and
 /// next hops that walkers handed out, on a refusal too. It can't be let go: it is taken apart, or

@@ -26,7 +26,7 @@ pub use appending::{append_bytes, append_list};
 pub use broken::{BrokenHead, HeadKind};
 pub use comparing::{begins_with, begins_with_bytes, begins_with_zeros};
 pub use events::{Event, SORT_BYTES, SORT_HOPS, SORT_LIST, SORT_MESSAGE, SORT_NEXT_HOP};
-pub use fault::{Fault, LimitFault, ListError, Reason, Tally, WriteError};
+pub use fault::{Fault, LimitFault, ListError, Reason, Tally, UnknownName, WriteError};
 pub use limits::{
     Depth, FARTHEST_END, LONGEST_CONTAINER, LONGEST_ITEM, LONGEST_REGION, MOST_LEVELS, MOST_VISITS,
 };

@@ -29,7 +29,7 @@ pub const MOST_LEVELS: u8 = 32;
 pub const MOST_VISITS: u64 = 34_603_008;
 
 /// How many levels containers may open below a message's attributes: 0 to 32.
-#[derive(Clone, Copy, Debug, PartialEq, Eq)]
+#[derive(Clone, Copy, Debug, PartialEq, Eq, Hash)]
 pub struct Depth {
     levels: u8,
 }
@@ -60,7 +60,7 @@ impl Depth {
 
     /// Eight levels, what the limits of a reader are where nothing else is said.
     pub fn standard() -> Depth
-        ensures { result ≡ 8 }
+        ensures { result ≡ fixed.STANDARD_LEVELS }
     {
         Depth { levels: 8 }
     }
@@ -71,6 +71,14 @@ impl Depth {
         ensures limit { result ≤ fixed.MOST_LEVELS }
     {
         self.levels
+    }
+}
+
+impl Default for Depth {
+    ghost is_default = { λ depth. depth ≡ fixed.STANDARD_LEVELS };
+
+    fn default() -> Depth {
+        Depth::standard()
     }
 }
 

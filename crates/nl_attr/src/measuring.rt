@@ -15,7 +15,7 @@ use crate::tree::{Attr, Content, Ctx, Hop, NUMBERS, Value, holds};
 use crate::walk::align4;
 
 /// What a list comes to when it is written.
-#[derive(Clone, Copy, Debug, PartialEq, Eq)]
+#[derive(Clone, Copy, Debug, PartialEq, Eq, Hash)]
 pub struct Extent {
     /// Whether a container opens a level above the depth limit.
     pub deep: bool,

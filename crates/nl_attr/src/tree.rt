@@ -26,7 +26,7 @@ pub const RTA_METRICS: u16 = 8;
 pub const RTA_MULTIPATH: u16 = 9;
 
 /// The two flag bits of an attribute's type.
-#[derive(Clone, Copy, Debug, PartialEq, Eq)]
+#[derive(Clone, Copy, Debug, Default, PartialEq, Eq, Hash)]
 pub struct AttrFlags {
     /// `NLA_F_NESTED`, 0x8000.
     pub nested: bool,
@@ -35,7 +35,7 @@ pub struct AttrFlags {
 }
 
 /// Where an attribute stands, which says what its number means.
-#[derive(Clone, Copy, Debug, PartialEq, Eq)]
+#[derive(Clone, Copy, Debug, PartialEq, Eq, Hash)]
 pub enum Ctx {
     /// `IFLA_*` of a link.
     Link,
@@ -56,7 +56,7 @@ pub enum Ctx {
 }
 
 /// What the payload of an attribute is.
-#[derive(Clone, Copy, Debug, PartialEq, Eq)]
+#[derive(Clone, Copy, Debug, PartialEq, Eq, Hash)]
 pub enum Content {
     Bytes,
     /// Attributes of this context.

@@ -6,7 +6,7 @@ ghost use Rattle.nl_frame.specs.Form.{form_of, least_body};
 use nl_route::{Family, RouteType, Verb};
 
 /// What a message's body is made of.
-#[derive(Clone, Copy, Debug, PartialEq, Eq)]
+#[derive(Clone, Copy, Debug, PartialEq, Eq, Hash)]
 pub enum Form {
     Noop,
     Error,

@@ -8,7 +8,7 @@ use nl_attr::{Order, append_bytes};
 
 /// The header of a message, 16 bytes: the length of header and payload in bytes (the padding behind
 /// them not counted), the type, the flags, the sequence number, and the port id.
-#[derive(Clone, Copy, Debug, PartialEq, Eq)]
+#[derive(Clone, Copy, Debug, PartialEq, Eq, Hash)]
 pub struct Header {
     pub len: u32,
     pub kind: u16,

@@ -3,7 +3,7 @@
 ghost use Rattle.std.specs.Prelude.{◌≡◌};
 ghost use Rattle.std.specs.Result.{OkIff};
 ghost use Rattle.nl_attr.specs.Shape.{shape_of};
-ghost use Rattle.nl_frame.specs.Limits.{AreLimits, bounds_of};
+ghost use Rattle.nl_frame.specs.Limits.{AreLimits, bounds_of, standard_bounds};
 
 use nl_attr::{Depth, LONGEST_REGION, LimitFault, Order};
 use std::marker::Model;
@@ -16,7 +16,7 @@ const MOST_ENTRIES: u32 = 65_536;
 
 /// How deep containers nest, how many bytes a datagram and a session's datagrams have, how many
 /// entries a table has, all at most; and the byte order of numbers.
-#[derive(Clone, Copy, Debug, PartialEq, Eq)]
+#[derive(Clone, Copy, Debug, PartialEq, Eq, Hash)]
 pub struct Limits {
     order: Order,
     depth: Depth,
@@ -71,7 +71,7 @@ impl Limits {
 
     /// Depth 8, a datagram of 65,536 bytes, a total of 2^30, 4,096 entries, little-endian numbers.
     pub fn standard() -> Limits
-        ensures { result ≡ bounds_of Order.Little 8 65536 1073741824 4096 }
+        ensures { result ≡ standard_bounds }
     {
         Limits {
             order: Order::Little,
@@ -86,6 +86,7 @@ impl Limits {
     /// bytes and has no order of its own, so the numbers in what was read under these limits are
     /// read by the views that take the order, as `link.mtu_ordered(limits.order())`; the
     /// plain views take the lowest byte first.
+    #[must_use]
     pub fn with_order(self, order: Order) -> Limits
         ensures { result ≡ record self { shape = shape_of order self.shape.depth } }
     {
@@ -130,5 +131,13 @@ impl Limits {
         ensures limits { AreLimits self.now }
     {
         self.entries
+    }
+}
+
+impl Default for Limits {
+    ghost is_default = { λ limits. limits ≡ standard_bounds };
+
+    fn default() -> Limits {
+        Limits::standard()
     }
 }

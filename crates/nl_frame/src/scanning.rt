@@ -13,7 +13,7 @@ use nl_attr::{BrokenHead, Event, Tally};
 use thiserror::Error;
 
 /// Why a scan refuses a datagram: as `read_datagram` does, but never for memory.
-#[derive(Clone, Copy, Debug, PartialEq, Eq, Error)]
+#[derive(Clone, Copy, Debug, PartialEq, Eq, Hash, Error)]
 pub enum ScanError {
     /// The datagram is above the datagram limit; nothing of it was looked at.
     #[error("too large")]

@@ -16,7 +16,7 @@ use thiserror::Error;
 
 /// Why messages were not written. The first that applies is answered, in the order of the variants,
 /// each over all messages.
-#[derive(Clone, Copy, Debug, PartialEq, Eq, Error)]
+#[derive(Clone, Copy, Debug, PartialEq, Eq, Hash, Error)]
 pub enum WriteError {
     /// A body isn't of its message's type, or a value in it is of another kind than its attribute
     /// holds.

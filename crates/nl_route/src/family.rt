@@ -1,6 +1,8 @@
 //! The families, in one table.
 
 ghost use Rattle.std.specs.Prelude.{◌≡◌, Some, IsTrue};
+ghost use Rattle.std.specs.Fmt.{padded};
+ghost use Rattle.nl_attr.specs.Names.{Parses};
 ghost use Rattle.nl_route.specs.Types.{route_type, says};
 ghost use Rattle.nl_route.specs.Families.{context_of, has_verb, head_size};
 ghost use Rattle.nl_route.specs.Families.{name_of, place_of, row, type_of};
@@ -12,10 +14,12 @@ use crate::ifaddrmsg::AddrHead;
 use crate::ifinfomsg::LinkHead;
 use crate::ndmsg::NeighHead;
 use crate::rtmsg::RouteHead;
-use nl_attr::Ctx;
+use nl_attr::{Ctx, UnknownName};
+use std::fmt;
+use std::str::FromStr;
 
 /// The families whose bodies have heads.
-#[derive(Clone, Copy, Debug, PartialEq, Eq)]
+#[derive(Clone, Copy, Debug, PartialEq, Eq, Hash)]
 pub enum Family {
     Link,
     Addr,
@@ -26,7 +30,7 @@ pub enum Family {
 
 /// What a message asks for, of its family's objects. The types of a family stand one after another
 /// in this order.
-#[derive(Clone, Copy, Debug, PartialEq, Eq)]
+#[derive(Clone, Copy, Debug, PartialEq, Eq, Hash)]
 pub enum Verb {
     New,
     Del,
@@ -35,7 +39,7 @@ pub enum Verb {
 }
 
 /// What the message type of a family says.
-#[derive(Clone, Copy, Debug, PartialEq, Eq)]
+#[derive(Clone, Copy, Debug, PartialEq, Eq, Hash)]
 pub struct RouteType {
     pub family: Family,
     pub verb: Verb,
@@ -159,6 +163,32 @@ impl Family {
         ensures says { IsTrue (has_verb self verb) → route_type result ≡ Some (says verb self) }
     {
         self.row().new_type + verb.place()
+    }
+}
+
+impl fmt::Display for Family {
+    ghost output = { λ family. Some (name_of family) };
+
+    ghost styled_output = { λ family spec. Some (padded spec (name_of family)) };
+
+    fn fmt<W: fmt::Write>(&self, f: &mut fmt::Formatter<W>) -> fmt::Result {
+        f.pad(self.row().name)
+    }
+}
+
+/// Reads the name of a family.
+impl FromStr for Family {
+    type Err = UnknownName;
+
+    ghost from_str_gives = { Parses name_of };
+
+    fn from_str(name: &str) -> Result<Family, UnknownName> {
+        for family in Family::ALL {
+            if family.row().name == name {
+                return Ok(family);
+            }
+        }
+        Err(UnknownName)
     }
 }
 

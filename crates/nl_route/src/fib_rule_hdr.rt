@@ -34,7 +34,7 @@ pub const FRA_OIFNAME: u16 = 17;
 
 /// The head of a routing rule, `fib_rule_hdr`: 12 bytes, of which the sixth and seventh are not
 /// kept.
-#[derive(Clone, Copy, Debug, PartialEq, Eq)]
+#[derive(Clone, Copy, Debug, PartialEq, Eq, Hash)]
 pub struct RuleHead {
     /// `family`: 2 for IPv4, 10 for IPv6.
     pub family: u8,

@@ -25,7 +25,7 @@ pub const IFA_BROADCAST: u16 = 4;
 pub const IFA_FLAGS: u16 = 8;
 
 /// The head of an address, `ifaddrmsg`: 8 bytes.
-#[derive(Clone, Copy, Debug, PartialEq, Eq)]
+#[derive(Clone, Copy, Debug, PartialEq, Eq, Hash)]
 pub struct AddrHead {
     /// `ifa_family`: 2 for IPv4, 10 for IPv6.
     pub family: u8,

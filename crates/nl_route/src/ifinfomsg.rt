@@ -26,7 +26,7 @@ pub const IFLA_OPERSTATE: u16 = 16;
 pub const IFLA_INFO_KIND: u16 = 1;
 
 /// The head of a link, `ifinfomsg`: 16 bytes, of which the second is not kept.
-#[derive(Clone, Copy, Debug, PartialEq, Eq)]
+#[derive(Clone, Copy, Debug, PartialEq, Eq, Hash)]
 pub struct LinkHead {
     /// `ifi_family`: 0 for a link as such, 7 for a port of a bridge.
     pub family: u8,

@@ -25,7 +25,7 @@ pub const NDA_PORT: u16 = 6;
 pub const NDA_VNI: u16 = 7;
 
 /// The head of a neighbour, `ndmsg`: 12 bytes, of which the second to fourth are not kept.
-#[derive(Clone, Copy, Debug, PartialEq, Eq)]
+#[derive(Clone, Copy, Debug, PartialEq, Eq, Hash)]
 pub struct NeighHead {
     /// `ndm_family`: 2 for IPv4, 7 for an entry of a bridge, 10 for IPv6.
     pub family: u8,

@@ -34,7 +34,7 @@ pub const RTA_PREFSRC: u16 = 7;
 pub const RTA_TABLE: u16 = 15;
 
 /// The head of a route, `rtmsg`: 12 bytes.
-#[derive(Clone, Copy, Debug, PartialEq, Eq)]
+#[derive(Clone, Copy, Debug, PartialEq, Eq, Hash)]
 pub struct RouteHead {
     /// `rtm_family`: 2 for IPv4, 10 for IPv6.
     pub family: u8,

@@ -21,7 +21,8 @@ use crate::tree::Ctx;
 use arrayvec::ArrayVec;
 
 /// What a scan found.
-#[derive(Clone, Copy, Debug, PartialEq, Eq)]
+#[derive(Clone, Copy, Debug, PartialEq, Eq, Hash)]
+#[must_use = "a fault is told here alone"]
 pub struct Taped {
     /// The head that breaks a rule at the first fault, or none.
     pub broken: Option<BrokenHead>,

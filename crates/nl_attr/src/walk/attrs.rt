@@ -48,6 +48,7 @@ pub(super) fn attr_in_front(order: Order, left: &[u8], place: u32) -> Result<Par
 /// Goes over the attributes of a region, in the order of their places. After the last it answers
 /// None; where no whole attribute stands at the front of what is left, the fault, and then None.
 #[derive(Debug, Drop)]
+#[must_use = "iterators are lazy and do nothing unless consumed"]
 pub struct Attrs<'a> {
     left: &'a [u8],
     place: u32,

@@ -64,6 +64,7 @@ pub(super) fn hop_in_front(order: Order, left: &[u8], place: u32) -> Result<HopP
 
 /// Goes over the next hops of a region, in the order of their places, and ends as `Attrs` does.
 #[derive(Debug, Drop)]
+#[must_use = "iterators are lazy and do nothing unless consumed"]
 pub struct HopParts<'a> {
     left: &'a [u8],
     place: u32,
