@@ -4,7 +4,7 @@ use crate::dump::State;
 use nl_frame::Limits;
 
 /// What a stream is at any time, as plain values, which can be kept anywhere.
-#[derive(Clone, Copy, Debug, PartialEq, Eq)]
+#[derive(Clone, Copy, Debug, PartialEq, Eq, Hash)]
 pub struct Standing {
     pub limits: Limits,
     /// Where the last dump stands.

@@ -21,7 +21,7 @@ use std::marker::Model;
 /// It begins a dump and is fed the datagrams that answer it, each with a buffer, in which it leaves
 /// the events of the dump's items. Its limits hold over its whole life, as those of a `Session` do;
 /// the limit on entries says nothing here.
-#[derive(Clone, Copy, Debug, PartialEq, Eq)]
+#[derive(Clone, Copy, Debug, PartialEq, Eq, Hash)]
 pub struct Stream {
     standing: Standing,
 }

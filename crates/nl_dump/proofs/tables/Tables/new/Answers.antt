@@ -1,4 +1,4 @@
-use Rattle.std.proofs.Common.{◌≡◌, ℕ, ap, ◌∙◌}
+use Rattle.std.proofs.Common.{◌≡◌, ℕ, sym, ap, ◌∙◌}
 use Rattle.nl_attr.specs.declared.order.Order.{Order}
 use Rattle.nl_route.specs.declared.family.Family.TheVariants.{Link, Addr, Route, Neigh, Rule}
 use Rattle.nl_table.specs.Content.{Content, empty}
@@ -6,8 +6,10 @@ use Rattle.nl_dump.specs.Items.{Item, seen}
 use Rattle.nl_dump.proofs.tables.Tables.new.Goals as goal
 
 -- an empty table is seen as one
-seen_empty : {T : Type 0} (f : T → Item) (c : Content T) (o p : Order) (l m : ℕ) → o ≡ p → l ≡ m → c ≡ empty o l c.spare → seen f c ≡ empty p m c.spare
-seen_empty f c o p l m order limit e = ap (seen f) e ∙ (λ i. empty (order i) (limit i) c.spare)
+seen_empty : {T : Type 0} (f : T → Item) (c : Content T) (o p : Order) (l m : ℕ) → o ≡ p → l ≡ m → c ≡ empty o l 0 → seen f c ≡ empty p m c.spare
+seen_empty {T} f c o p l m order limit e =
+    let none : 0 ≡ c.spare = sym (ap (λ (t : Content T). t.spare) e) in
+    ap (seen f) e ∙ (λ i. empty (order i) (limit i) (none i))
 
 pub returns : goal.returns
 returns c Link = seen_empty _ c.in_ok-new_ordered.field-0 _ _ _ _ c.order-order.ensures c.entries-entries.ensures.value c.in_ok-new_ordered.ensures
