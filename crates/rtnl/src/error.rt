@@ -6,7 +6,8 @@ use std::alloc::{AllocError, AllocFailed};
 use thiserror::Error;
 
 /// What a run found about the datagrams that it went through.
-#[derive(Clone, Copy, Debug, PartialEq, Eq)]
+#[derive(Clone, Copy, Debug, PartialEq, Eq, Hash)]
+#[must_use = "what was refused is told here alone"]
 pub enum Verdict {
     /// Nothing was refused.
     Clean,
@@ -27,7 +28,7 @@ impl Verdict {
 }
 
 /// Why a run stopped.
-#[derive(Clone, Copy, Debug, PartialEq, Eq, Error)]
+#[derive(Clone, Copy, Debug, PartialEq, Eq, Hash, Error)]
 pub enum RunError {
     /// The line of this number, counted from 1, is not hexadecimal.
     #[error("line {0}: bad line")]

@@ -72,7 +72,7 @@ fn write(alloc: Global, all: &[Vec<Message>], limits: &Limits) -> Result<u64> {
 fn show(alloc: Global, recording: &str, limits: &Limits) -> Result<u64> {
     let mut source = SliceSource::new(recording.as_bytes());
     let mut sink = VecSink::new(alloc);
-    run_show(alloc, &mut source, &mut sink, limits)?;
+    let _ = run_show(alloc, &mut source, &mut sink, limits)?;
     Ok(sink.bytes.len() as u64)
 }
 
