@@ -15,10 +15,7 @@ fn push_entries<H: Head>(out: &mut Vec<u8>, table: &Table<Object<H>>) -> Result<
 where
     Object<H>: Entry,
 {
-    for place in 0..table.len() {
-        let (Some(key), Some(entry)) = (table.key_at(place), table.get(place)) else {
-            return Err(Stop::Fault);
-        };
+    for (key, entry) in table {
         out.extend_from_slice(key)?;
         entry
             .write_body_ordered(Depth::standard(), out, table.order())

@@ -76,22 +76,17 @@ pub(crate) fn read_lists(rt: &HostRuntime) -> Result<(), Stop> {
     Ok(())
 }
 
-const PLAIN: AttrFlags = AttrFlags {
-    nested: false,
-    net: false,
-};
-
 /// The metrics of a route, one that names the congestion control `cubic`.
 fn metrics(alloc: Global) -> Result<Attr, AllocError> {
     let mut attrs = Vec::new(alloc);
     attrs.push(Attr {
         number: 16,
-        flags: PLAIN,
+        flags: AttrFlags::default(),
         value: Value::Bytes(Payload::from_slice(alloc, b"cubic")?),
     })?;
     Ok(Attr {
         number: 8,
-        flags: PLAIN,
+        flags: AttrFlags::default(),
         value: Value::List(attrs),
     })
 }

@@ -2,7 +2,7 @@
 
 ghost use Rattle.std.specs.Prelude.{◌≡◌, ◌&&◌, is_some, IsSome, IsSomeAnd, IfSome, MatchOption};
 
-use crate::commands::{COLORS, FORMATS, ORDERS, Values, rtnl, usage_error};
+use crate::commands::{COLORS, FORMATS, Values, rtnl, usage_error};
 use crate::heading::{Numbers, is_digits, numbers_in};
 use crate::name::{Escaped, Name, is_escaped};
 use clap::error::ErrorKind;
@@ -180,7 +180,7 @@ impl Lists {
         Ok(Lists {
             kinds: Kind::ALL.iter().map(|kind| kind.row().name).collect(alloc)?,
             formats: names(alloc, FORMATS.as_slice())?,
-            orders: names(alloc, ORDERS.as_slice())?,
+            orders: Order::ALL.iter().map(|order| order.name()).collect(alloc)?,
             colors: names(alloc, COLORS.as_slice())?,
             depth: standard.depth().get().to_string(alloc)?,
             entries: standard.entries().to_string(alloc)?,
@@ -205,21 +205,9 @@ fn named<T: Copy>(table: &[(&str, T)], name: &str) -> Option<T> {
     Some(row.1)
 }
 
-fn kind_of(matches: &ArgMatches<'_>) -> Option<Kind> {
-    let name = matches.get_str("kind")?;
-    Kind::ALL
-        .iter()
-        .copied()
-        .find(|kind| kind.row().name == name)
-}
-
-fn order_of(matches: &ArgMatches<'_>) -> Option<Order> {
-    named(ORDERS.as_slice(), matches.get_str("order")?)
-}
-
 fn sought_of(matches: &ArgMatches<'_>) -> Option<Sought> {
     Some(Sought {
-        kind: kind_of(matches)?,
+        kind: matches.get_one("kind")?,
         family: matches.get_one("family")?,
         seq: matches.get_one("seq"),
         port: matches.get_one("port"),
@@ -238,7 +226,7 @@ fn table_of(matches: &ArgMatches<'_>, file: Option<String>) -> Option<Task> {
     let table = Table {
         sought: sought_of(matches)?,
         format: named(FORMATS.as_slice(), matches.get_str("format")?)?,
-        limits: limits_of(matches)?.with_order(order_of(matches)?),
+        limits: limits_of(matches)?.with_order(matches.get_one("order")?),
     };
     Some(Task::Table {
         table,
@@ -249,10 +237,10 @@ fn table_of(matches: &ArgMatches<'_>, file: Option<String>) -> Option<Task> {
 
 fn request_of(matches: &ArgMatches<'_>) -> Option<Task> {
     Some(Task::Request {
-        kind: kind_of(matches)?,
+        kind: matches.get_one("kind")?,
         family: matches.get_one("family")?,
         seq: matches.get_one("seq")?,
-        order: order_of(matches)?,
+        order: matches.get_one("order")?,
     })
 }
 
@@ -271,7 +259,7 @@ fn command_task(name: &str, matches: &ArgMatches<'_>, file: Option<String>) -> O
     let work = Work {
         engine,
         format: named(FORMATS.as_slice(), matches.get_str("format")?)?,
-        limits: Limits::standard().with_order(order_of(matches)?),
+        limits: Limits::standard().with_order(matches.get_one("order")?),
     };
     Some(Task::Recording {
         work,

@@ -3,7 +3,6 @@
 use crate::arguments::{Color, Format};
 use clap::error::ErrorKind;
 use clap::{Arg, ArgAction, Command, Error, value_parser};
-use nl_attr::Order;
 use std::alloc::{AllocError, Global};
 
 /// The version of the program and its libraries.
@@ -11,9 +10,6 @@ const VERSION: &str = "0.3.0";
 
 /// The most entries that a table may have.
 pub(crate) const MOST_ENTRIES: i64 = 65536;
-
-/// The byte orders by their names.
-pub(crate) const ORDERS: [(&str, Order); 2] = [("little", Order::Little), ("big", Order::Big)];
 
 /// The formats by their names.
 pub(crate) const FORMATS: [(&str, Format); 2] = [("text", Format::Text), ("json", Format::Json)];

@@ -2,7 +2,7 @@
 
 use crate::said::{Hex, Maybe, say, yes_or_no};
 use crate::stop::{Stop, Wrong};
-use nl_attr::{Depth, Order};
+use nl_attr::Depth;
 use nl_route::{Head, Object};
 use nl_table::{Entry, Table};
 
@@ -13,10 +13,7 @@ where
 {
     let (len, limit, missed) = (table.len(), table.limit(), table.missed());
     let is_empty = yes_or_no(table.is_empty());
-    let order = match table.order() {
-        Order::Little => "little",
-        Order::Big => "big",
-    };
+    let order = table.order();
     say(
         rt,
         format_args!("{order} entries {len} of {limit} missed {missed} empty {is_empty}"),
@@ -45,6 +42,20 @@ where
     let found = Maybe(table.find(key));
     let (key, body) = (Hex(key), Hex(body.as_slice()));
     say(rt, format_args!("key {key} at {found} body {body}"))
+}
+
+/// Tells the keys in order of first appearance, and then from the last to the first.
+pub(crate) fn say_keys<H: Head>(rt: &HostRuntime, table: &Table<Object<H>>) -> Result<(), Stop>
+where
+    Object<H>: Entry,
+{
+    for (key, _) in table {
+        say(rt, Hex(key))?;
+    }
+    for (key, _) in table.iter().rev() {
+        say(rt, format_args!("back {}", Hex(key)))?;
+    }
+    Ok(())
 }
 
 /// Tells all that a table holds, and what stands behind its last entry.

@@ -1,8 +1,8 @@
 //! What message types and families say, and the numbers and texts of refusals.
 
 use crate::rows::Row;
-use crate::said::{say, yes_or_no};
-use crate::shown::{Shown, family_word};
+use crate::said::{Outcome, say, yes_or_no};
+use crate::shown::Shown;
 use crate::stop::{Stop, Wrong};
 use crate::trees::context_word;
 use nl_attr::{Ctx, Fault, LimitFault, ListError, Order};
@@ -11,6 +11,7 @@ use nl_frame::{Family, Form, ReadError};
 use nl_route::{AddrHead, Head, LinkHead, NeighHead, RouteHead, RouteType, RuleHead, Verb};
 use rtnl::RunError;
 use std::alloc::AllocError;
+use std::collections::HashSet;
 use std::fmt;
 
 /// Makes the call of a row, if it is one of these. Whether it is.
@@ -18,7 +19,9 @@ pub(crate) fn has_answered(rt: &HostRuntime, row: &mut Row<'_>) -> Result<bool, 
     match row.call {
         "type" => say_type(rt, row.words.number()?)?,
         "types" => list_types(rt, row)?,
+        "distinct" => count_distinct(rt, row)?,
         "families" => list_families(rt)?,
+        "named" => tell_named(rt, row)?,
         "family" => tell_family(rt, row)?,
         "front" => read_front(rt, row)?,
         "fault" => tell_fault(rt, row)?,
@@ -35,10 +38,7 @@ impl fmt::Display for Shown<'_, Form> {
             Form::Error => f.write_str("error"),
             Form::Done => f.write_str("done"),
             Form::Overrun => f.write_str("overrun"),
-            Form::Object(family) => {
-                let family = family_word(*family);
-                write!(f, "family {family}")
-            }
+            Form::Object(family) => write!(f, "family {family}"),
             Form::Get => f.write_str("get"),
             Form::Other => f.write_str("other"),
         }
@@ -62,7 +62,7 @@ fn say_type(rt: &HostRuntime, kind: u16) -> Result<(), Stop> {
     match RouteType::of(kind) {
         None => say(rt, format_args!("{kind} {shown} least {least}")),
         Some(RouteType { family, verb }) => {
-            let (family, verb) = (family_word(family), verb_word(verb));
+            let verb = verb_word(verb);
             say(
                 rt,
                 format_args!("{kind} {shown} least {least} says {verb} {family}"),
@@ -82,10 +82,31 @@ fn list_types(rt: &HostRuntime, row: &mut Row<'_>) -> Result<(), Stop> {
     Ok(())
 }
 
+/// `distinct FIRST LAST`: how many things the types of these say, where each says its own twice.
+fn count_distinct(rt: &HostRuntime, row: &mut Row<'_>) -> Result<(), Stop> {
+    let (first, last): (u16, u16) = (row.words.number()?, row.words.number()?);
+    let mut said = HashSet::new(rt.alloc());
+    for kind in (first..=last).chain(first..=last) {
+        if let Some(says) = RouteType::of(kind) {
+            said.insert(says)?;
+        }
+    }
+    say(rt, said.len())
+}
+
+/// `named order NAME` or `named family NAME`: what has this name.
+fn tell_named(rt: &HostRuntime, row: &mut Row<'_>) -> Result<(), Stop> {
+    match row.words.word()? {
+        "order" => say(rt, Outcome(row.words.word()?.parse::<Order>())),
+        "family" => say(rt, Outcome(row.words.word()?.parse::<Family>())),
+        _ => Err(Stop::Wrong(Wrong::Word)),
+    }
+}
+
 /// `families`: all, in order.
 fn list_families(rt: &HostRuntime) -> Result<(), Stop> {
     for family in Family::ALL {
-        say(rt, family_word(family))?;
+        say(rt, family)?;
     }
     Ok(())
 }

@@ -45,8 +45,11 @@ fn tell_number(rt: &HostRuntime, row: &mut Row<'_>) -> Result<(), Stop> {
     }
 }
 
-/// `depth LEVELS`, or `depth standard`.
+/// `depth LEVELS`, `depth standard` or `depth default`.
 fn tell_depth(rt: &HostRuntime, row: &mut Row<'_>) -> Result<(), Stop> {
+    if row.words.has("default") {
+        return say(rt, Depth::default().get());
+    }
     if row.words.has("standard") {
         return say(rt, Depth::standard().get());
     }
@@ -58,10 +61,7 @@ fn tell_depth(rt: &HostRuntime, row: &mut Row<'_>) -> Result<(), Stop> {
 
 /// Tells all limits.
 fn say_limits(rt: &HostRuntime, limits: &Limits) -> Result<(), Stop> {
-    let order = match limits.order() {
-        Order::Little => "little",
-        Order::Big => "big",
-    };
+    let order = limits.order();
     let (depth, datagram) = (limits.depth().get(), limits.datagram());
     let (total, entries) = (limits.total(), limits.entries());
     say(
@@ -70,10 +70,13 @@ fn say_limits(rt: &HostRuntime, limits: &Limits) -> Result<(), Stop> {
     )
 }
 
-/// `limits DEPTH DATAGRAM TOTAL ENTRIES [ORDER]`, or `limits standard [ORDER]`.
+/// `limits DEPTH DATAGRAM TOTAL ENTRIES [ORDER]`, `limits standard [ORDER]` or
+/// `limits default [ORDER]`.
 fn tell_limits(rt: &HostRuntime, row: &mut Row<'_>) -> Result<(), Stop> {
     let limits = if row.words.has("standard") {
         Ok(Limits::standard())
+    } else if row.words.has("default") {
+        Ok(Limits::default())
     } else {
         let (depth, datagram): (u8, u32) = (row.words.number()?, row.words.number()?);
         let (total, entries): (u64, u32) = (row.words.number()?, row.words.number()?);

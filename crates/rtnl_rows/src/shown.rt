@@ -4,7 +4,7 @@ use crate::said::Flags;
 use nl_attr::{AttrFlags, Event, SORT_BYTES, SORT_HOPS, SORT_LIST, SORT_MESSAGE, SORT_NEXT_HOP};
 use nl_dump::{Dump, End, Progress, State};
 use nl_frame::Header;
-use nl_route::{AddrHead, Family, LinkHead, NeighHead, RouteHead, RuleHead};
+use nl_route::{AddrHead, LinkHead, NeighHead, RouteHead, RuleHead};
 use std::fmt;
 
 /// A value, shown.
@@ -85,17 +85,6 @@ impl fmt::Display for Shown<'_, Header> {
     }
 }
 
-/// The word for a family.
-pub(crate) fn family_word(family: Family) -> &'static str {
-    match family {
-        Family::Link => "link",
-        Family::Addr => "addr",
-        Family::Route => "route",
-        Family::Neigh => "neigh",
-        Family::Rule => "rule",
-    }
-}
-
 impl fmt::Display for Shown<'_, Dump> {
     fn fmt<W: fmt::Write>(&self, f: &mut fmt::Formatter<W>) -> fmt::Result {
         let Dump {
@@ -104,7 +93,6 @@ impl fmt::Display for Shown<'_, Dump> {
             seq,
             port,
         } = *self.0;
-        let kind = family_word(kind);
         write!(f, "{kind} family {family} seq {seq} port {port}")
     }
 }

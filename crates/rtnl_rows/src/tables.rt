@@ -1,6 +1,6 @@
 //! Bounded tables, and what becomes of the entries that are put.
 
-use crate::entries::{say_count, say_entries, say_entry};
+use crate::entries::{say_count, say_entries, say_entry, say_keys};
 use crate::rows::Row;
 use crate::said::{Maybe, say};
 use crate::stop::{Stop, Wrong};
@@ -48,7 +48,7 @@ where
 }
 
 /// Makes a step: `reserve COUNT`, `spare`, `put BODY`, `numbered COUNT BODY`, `clear`, `count`,
-/// `find KEY`, `at PLACE`, or `entries`.
+/// `find KEY`, `at PLACE`, `entries`, or `keys`.
 fn step<H: Head>(
     rt: &HostRuntime,
     table: &mut Table<Object<H>>,
@@ -81,6 +81,7 @@ where
         }
         ("at", place) => say_entry(rt, table, number_in(place)?),
         ("entries", "") => say_entries(rt, table),
+        ("keys", "") => say_keys(rt, table),
         _ => Err(Stop::Wrong(Wrong::Word)),
     }
 }

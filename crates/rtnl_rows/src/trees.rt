@@ -159,13 +159,9 @@ fn say_views(rt: &HostRuntime, attr: &Attr) -> Result<(), Stop> {
 
 /// Tells the numbers that are read of an attribute in an order.
 fn say_ordered(rt: &HostRuntime, attr: &Attr, order: Order) -> Result<(), Stop> {
-    let word = match order {
-        Order::Little => "little",
-        Order::Big => "big",
-    };
     let u16_value = Maybe(attr.u16_value_ordered(order));
     let u32_value = Maybe(attr.u32_value_ordered(order));
-    say(rt, format_args!("{word} u16 {u16_value} u32 {u32_value}"))
+    say(rt, format_args!("{order} u16 {u16_value} u32 {u32_value}"))
 }
 
 /// `views NUMBER` and a place: what is read of the first attribute of this number in a region.

@@ -81,13 +81,10 @@ impl<'a> Words<'a> {
 
     /// The byte order, where it is named.
     pub(crate) fn order(&mut self) -> Option<Order> {
-        if self.has("little") {
-            return Some(Order::Little);
-        }
-        if self.has("big") {
-            return Some(Order::Big);
-        }
-        None
+        let (word, left) = self.split();
+        let order = word.parse().ok()?;
+        self.left = left;
+        Some(order)
     }
 
     /// The flags of an attribute that are named.
@@ -126,14 +123,7 @@ impl<'a> Words<'a> {
 
     /// A family.
     pub(crate) fn family(&mut self) -> Result<Family, Stop> {
-        Ok(match self.word()? {
-            "link" => Family::Link,
-            "addr" => Family::Addr,
-            "route" => Family::Route,
-            "neigh" => Family::Neigh,
-            "rule" => Family::Rule,
-            _ => return Err(Stop::Wrong(Wrong::Word)),
-        })
+        self.word()?.parse().map_err(|_| Stop::Wrong(Wrong::Word))
     }
 
     /// The depth behind `depth`, or the standard one.
