@@ -1,4 +1,11 @@
--- Open regions: what is left to read of them, and how they lie in one another.
+-- The state of the loop that reads a region, for its proof alone: no public clause cites this
+-- file.
+--
+-- A region is open from where its first byte is read until its last. Where an attribute holds a
+-- region, the region around it waits, with what it has collected, while the inner one is read.
+-- First this file says what reading comes to from such a state on: what is collected, then what is
+-- left, then whatever waits. Each turn of the loop keeps that outcome, so at the end it is that of
+-- the whole region. Then it says where open regions lie, which bounds the loop and the stack.
 use Rattle.std.specs.Prelude.{◌≡◌, ◌+◌, ◌<◌, ◌≤◌, ℕ, suc, List, [], ◌∷◌, ◌++◌, length, map, Some, None, Result, Ok, Err}
 use Rattle.nl_attr.specs.Fixed.{LONGEST_REGION, FARTHEST_END}
 use Rattle.nl_attr.specs.declared.fault.ListError.{ListError}
@@ -29,14 +36,15 @@ use Rattle.nl_attr.specs.Heads.{Sort, attr_head, hop_head, broken_container}
 use Rattle.nl_attr.specs.Region.{content_in, sort_in}
 use Rattle.nl_attr.specs.Reading.{Outcome, and_then, map_value, more_visits, items_of_region, hops_of_region, value_at}
 
--- ---- what is left to read
+-- ---- what reading comes to from here on
 
--- items in front of others
+-- the items collected so far, put in front of those that follow
 abbrev pub before : {A : Type 0} → List (A → A) → A → A
 before [] is = is
 before (f ∷ fs) is = f (before fs is)
 
--- an attribute that holds a region: it opens, or breaks a rule of containers
+-- what the loop answers at an attribute that holds a region: the region to open, or the fault of
+-- the container
 abbrev pub TurnsAt : Shape → ℕ → ℕ → Part → Parts → Turn → Type 0
 TurnsAt S level base p parts turn.Ends = ⊥
 TurnsAt S level base p parts (turn.Opens o) =
@@ -48,58 +56,63 @@ TurnsAt S level base p parts (turn.Fails (Layout f)) =
 TurnsAt S level base p parts (turn.Fails Memory) = ⊥
 
 module _ (S : Shape) where
-  -- what is read of the rest of a region of attributes
+  -- what the bytes that are left of a region of attributes are read as
   abbrev pub items_left : ListRegion → Outcome Items
   items_left r = items_of_region S r.ctx r.level (r.base + r.walk.place) r.walk.left
 
-  -- of a region of next hops
+  -- the same of a region of next hops
   abbrev pub hops_left : HopsRegion → Outcome HopItems
   hops_left r = hops_of_region S r.level (r.base + r.walk.place) r.walk.left
 
-  -- an open region is read to its end, behind what it has collected
+  -- all attributes of an open region: those collected, then those that are left
   abbrev pub list_rest : ListRegion → Outcome Items
   list_rest r = map_value (before (map attr_view r.list.items)) (items_left r)
 
-  -- the same of an open region of next hops
+  -- all next hops of an open region, likewise
   abbrev pub hops_rest : HopsRegion → Outcome HopItems
   hops_rest r = map_value (before (map hop_view r.list.items)) (hops_left r)
 
-  -- a region that waits goes on with the value of the item that it waits for
+  -- a region waits for the value of its attribute of this number: once that is known, it is
+  -- collected and the rest read
   abbrev pub list_goes_on : ListRegion → ℕ → AttrFlags → Val → Outcome Items
   list_goes_on r number flags v = map_value (λ is. before (map attr_view r.list.items) (item number flags v is)) (items_left r)
 
-  -- next hops that wait go on with the attributes of the one that they wait for
+  -- a region of next hops waits for the attributes of one of them, likewise
   abbrev pub hops_go_on : HopsRegion → HopHead → Items → Outcome HopItems
   hops_go_on r h is = map_value (λ hs. before (map hop_view r.list.items) (hop h.flags h.hops h.ifindex is hs)) (hops_left r)
 
-  -- what opens in a region is read to its end, and then the region
+  -- a region opens in this one: the inner one is read whole, then the rest of this one with its
+  -- value
   abbrev pub opening_rest : ListRegion → Opening → Outcome Items
   opening_rest r p = and_then (value_at S (content_in p.parts) r.level p.place p.payload.now) (list_goes_on r p.number p.flags)
 
-  -- a region that waits goes on with this value
+  -- the same of a region as it is kept while it waits
   abbrev pub waiting_goes_on : ListWaits → Val → Outcome Items
   waiting_goes_on w v = list_goes_on w.region w.number w.flags v
 
-  -- next hops are read to their end, and then the region that waits for them
+  -- what next hops come to is the value for which a region waits
   abbrev pub hops_then : ListWaits → Outcome HopItems → Outcome Items
   hops_then w o = and_then o (λ hs. waiting_goes_on w (hops hs))
 
-  -- those that wait go on with the attributes that they wait for
+  -- one entry of the stack, given the attributes for which it waits
   abbrev pub goes_on : Outer → Items → Outcome Items
   goes_on (outer.List w) is = waiting_goes_on w (list is)
   goes_on (outer.Hops w h) is = hops_then w (hops_go_on h.region h.head is)
 
-  -- what comes next is read to its end, and then what waits for it
+  -- the region that is read next, and behind it the entry of the stack that waits for it, if it is
+  -- new
   abbrev pub next_rest : Next → Outcome Items
   next_rest (next.Opens f r) = and_then (list_rest r) (goes_on f)
   next_rest (next.Goes r) = list_rest r
 
--- a refusal after m visits, where n were made before and o was left
+-- Reading stops with this error. Before this turn n bytes were visited and reading from there on
+-- came to o; m are visited now.
 abbrev pub FailsAs : {A : Type 0} → ℕ → Outcome A → ℕ → ListError → Type 0
 FailsAs n o m (Layout f) = more_visits n o ≡ (Err f, m)
 FailsAs n o m Memory = m ≤ n + o.1
 
--- a turn keeps the outcome: n visits were made before it and o was left, and m were made after it
+-- A turn keeps the outcome: n visits and o before it say the same as m visits and what the turn
+-- answers.
 abbrev pub Goes : Shape → ℕ → Outcome Items → ℕ → ListRegion → Turn → Type 0
 Goes S n o m r turn.Ends = more_visits n o ≡ (Ok (attrs_view r.list.items), m)
 Goes S n o m r (turn.Opens p) = more_visits n o ≡ more_visits m (opening_rest S r p)
@@ -117,25 +130,25 @@ HopsGo S n o m r hops_turn.Ends = more_visits n o ≡ (Ok (hops_view r.list.item
 HopsGo S n o m r (hops_turn.Opens h a p) = more_visits n o ≡ more_visits m (and_then (opening_rest S a p) (hops_go_on S r h))
 HopsGo S n o m r (hops_turn.Fails e) = FailsAs n o m e
 
--- what comes next keeps the outcome, or a refusal was met
+-- the same of a step that chooses which region is read next
 abbrev pub NextGoes : Shape → ℕ → Outcome Items → ℕ → Result Next ListError → Type 0
 NextGoes S n o m (Ok x) = more_visits n o ≡ more_visits m (next_rest S x)
 NextGoes S n o m (Err e) = FailsAs n o m e
 
--- ---- where regions lie
+-- ---- where open regions lie
 
--- a region, and how far it is read
+-- an open region: its place and level in the datagram, and what is left of it
 pub record Spot : Type 0 where
   pub sort : Sort
   pub base : ℕ
   pub level : ℕ
   pub region : Region
 
--- where an open region of attributes is
+-- of attributes
 abbrev pub list_spot : ListRegion → Spot
 list_spot r = record { sort = attr_head; base = r.base; level = r.level; region = r.walk }
 
--- where one of next hops is
+-- of next hops
 abbrev pub hops_spot : HopsRegion → Spot
 hops_spot r = record { sort = hop_head; base = r.base; level = r.level; region = r.walk }
 
@@ -143,7 +156,7 @@ hops_spot r = record { sort = hop_head; base = r.base; level = r.level; region =
 abbrev pub spot_of : Shape → Sort → ℕ → ℕ → List ℕ → Spot
 spot_of S sort base level left = record { sort = sort; base = base; level = level; region = record { order = S.order; place = 0; left = left } }
 
--- where the region in an attribute is, of which nothing is read
+-- the region that an attribute holds, of which nothing is read
 abbrev pub opening_spot : Shape → ListRegion → Opening → Spot
 opening_spot S r p = spot_of S (sort_in p.parts) p.place (r.level + 1) p.payload.now
 
@@ -151,54 +164,55 @@ opening_spot S r p = spot_of S (sort_in p.parts) p.place (r.level + 1) p.payload
 abbrev pub spot_end : Spot → ℕ
 spot_end s = s.region.place + length s.region.left
 
--- the levels that have to be left
+-- how many levels must be left below it: the attributes of a next hop lie one further down
 abbrev pub levels_in : Sort → ℕ
 levels_in attr_head = 0
 levels_in hop_head = 1
 
--- its numbers are in the order, its level is within the depth, and its places are within the greatest
+-- what holds of each open region, so that no sum of places or levels leaves its type
 pub record IsWithinLimits (S : Shape) (s : Spot) : Type 0 where
   pub order : s.region.order ≡ S.order
   pub level : s.level + levels_in s.sort ≤ S.depth
   pub size : spot_end s ≤ LONGEST_REGION
   pub place : s.base + spot_end s ≤ FARTHEST_END
 
--- where a region may be opened: at this level, up to this place
+-- where a region may open: at this level, and no further than this place
 pub record Room : Type 0 where
   pub level : ℕ
   pub to : ℕ
 
--- a region is opened there, within the limits
+-- a region lies there, within the limits
 pub record IsIn (S : Shape) (r : Room) (s : Spot) : Type 0 where
   pub level : s.level ≡ r.level
   pub inside : s.base + spot_end s ≤ r.to
   pub limits : IsWithinLimits S s
 
--- in the item before the place where a region stands
+-- in the item that was read last: one level down, and before the place that its region has come to
 abbrev pub room_in : Spot → Room
 room_in s = record { level = s.level + 1; to = s.base + s.region.place }
 
--- the region of attributes that waits among the outer ones
+-- the region of attributes in an entry of the stack
 abbrev pub outer_spot : Outer → Spot
 outer_spot (outer.List w) = list_spot w.region
 outer_spot (outer.Hops w h) = list_spot w.region
 
--- next hops that wait lie in the region that waits for them
+-- where an entry has next hops, they lie in its region
 abbrev pub Holds : Shape → Outer → Type 0
 Holds S (outer.List w) = Unit {0}
 Holds S (outer.Hops w h) = IsIn S (room_in (list_spot w.region)) (hops_spot h.region)
 
--- where the region lies for which outer ones wait
+-- where the region lies for which an entry waits
 abbrev pub outer_room : Outer → Room
 outer_room (outer.List w) = room_in (list_spot w.region)
 outer_room (outer.Hops w h) = room_in (hops_spot h.region)
 
--- the bytes that are left in those that wait, with one for each
+-- What an entry has left, a number that falls with each turn of the loop: its bytes, and one for
+-- each region.
 abbrev pub outer_work : Outer → ℕ
 outer_work (outer.List w) = suc (length w.region.walk.left)
 outer_work (outer.Hops w h) = suc (length w.region.walk.left) + suc (length h.region.walk.left)
 
--- the same of what comes next
+-- the same of what is read next
 abbrev pub next_work : Next → ℕ
 next_work (next.Opens f r) = outer_work f + suc (length r.walk.left)
 next_work (next.Goes r) = suc (length r.walk.left)
@@ -211,7 +225,7 @@ pub record Advances (s t : Spot) : Type 0 where
   pub order : t.region.order ≡ s.region.order
   pub end : spot_end t ≡ spot_end s
 
--- what opens lies in the region, and less is left
+-- a region that opens lies in the item that was read last, and less is left than before
 abbrev pub Moves : Shape → Spot → ListRegion → Turn → Type 0
 Moves S s r turn.Ends = Unit {0}
 Moves S s r (turn.Opens p) =
@@ -219,7 +233,7 @@ Moves S s r (turn.Opens p) =
     × (length r.walk.left + suc (length p.payload.now) < length s.region.left)
 Moves S s r (turn.Fails e) = Unit {0}
 
--- the attributes of a next hop that opens lie in the region, and less is left
+-- the same of the attributes of a next hop
 abbrev pub HopMoves : Shape → Spot → HopsRegion → HopTurn → Type 0
 HopMoves S s r hop_turn.Ends = Unit {0}
 HopMoves S s r (hop_turn.Opens h a) =
@@ -227,7 +241,7 @@ HopMoves S s r (hop_turn.Opens h a) =
     × (length r.walk.left + suc (length a.walk.left) < length s.region.left)
 HopMoves S s r (hop_turn.Fails e) = Unit {0}
 
--- and what opens in those attributes lies in them
+-- the same of a region that opens in the attributes of a next hop
 abbrev pub HopsMove : Shape → Spot → HopsRegion → HopsTurn → Type 0
 HopsMove S s r hops_turn.Ends = Unit {0}
 HopsMove S s r (hops_turn.Opens h a p) =
@@ -235,19 +249,19 @@ HopsMove S s r (hops_turn.Opens h a p) =
     × IsIn S (room_in (list_spot a)) (opening_spot S a p)
 HopsMove S s r (hops_turn.Fails e) = Unit {0}
 
--- what comes next stands where this region does, or lies in it, and no more than so much is left
+-- what is read next is this region or lies in it, and no more than so much is left
 abbrev pub NextMoves : Shape → Spot → ℕ → Result Next ListError → Type 0
 NextMoves S s most (Ok (next.Opens f r)) = (outer_spot f ≡ s) × Holds S f × IsIn S (outer_room f) (list_spot r) × (next_work (next.Opens f r) ≤ most)
 NextMoves S s most (Ok (next.Goes r)) = (list_spot r ≡ s) × (next_work (next.Goes r) ≤ most)
 NextMoves S s most (Err e) = Unit {0}
 
--- a region of attributes lies in those that wait for it
+-- a region lies where the entry says that waits for it
 pub record LiesUnder (S : Shape) (f : Outer) (r : ListRegion) : Type 0 where
   pub limits : IsWithinLimits S (outer_spot f)
   pub holds : Holds S f
   pub inside : IsIn S (outer_room f) (list_spot r)
 
--- the outer ones are on the stack where there are any, and this region is read next
+-- a new entry is put on the stack, where there is one, and this region is read next
 abbrev pub PutsOn : List Outer → Next → List Outer → ListRegion → Type 0
 PutsOn fs (next.Opens f r) gs top = (gs ≡ fs ++ f ∷ []) × (top ≡ r)
 PutsOn fs (next.Goes r) gs top = (gs ≡ fs) × (top ≡ r)
