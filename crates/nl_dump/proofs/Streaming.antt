@@ -12,7 +12,7 @@ use Rattle.nl_frame.specs.declared.scanning.ScanError.TheVariants as scan
 use Rattle.nl_frame.specs.Heads.{IsFirstFault, Visits, whole}
 use Rattle.nl_frame.specs.Layout.{Layout}
 use Rattle.nl_frame.specs.Limits.{Bounds, AreLimits}
-use Rattle.nl_frame.specs.Message.{BodyVal, noop, error, done, overrun, object, get, other, MessageVal}
+use Rattle.nl_frame.specs.Message.{BodyVal, error, done, MessageVal}
 use Rattle.nl_frame.specs.Outcomes.{IfFault, VisitsUpTo}
 use Rattle.nl_frame.specs.Taped.{as_read}
 use Rattle.nl_frame.specs.HeadOrder.{events_of}

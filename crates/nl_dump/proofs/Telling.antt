@@ -18,7 +18,7 @@ use Rattle.nl_route.specs.Families.{AnyHead, row, fields_of, head_size, type_of}
 use Rattle.nl_route.proofs.Families.{one_or_other}
 use Rattle.nl_frame.specs.Layout.{BodyOf, Layout}
 use Rattle.nl_frame.specs.Form.{form_of}
-use Rattle.nl_frame.specs.Message.{BodyVal, noop, error, done, overrun, object, get, other, MessageVal}
+use Rattle.nl_frame.specs.Message.{BodyVal, object, MessageVal}
 use Rattle.nl_frame.specs.Proper.{IsRanged, IsRangedBody}
 use Rattle.nl_frame.proofs.ProperLayouts.{layout_ranged}
 use Rattle.nl_table.specs.Keys.{AreKeyFields, TellApart}

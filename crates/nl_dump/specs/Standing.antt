@@ -2,7 +2,7 @@
 use Rattle.std.specs.Prelude.{◌≡◌, ◌≢◌, ◌≤◌, ◌+◌, ◌*◌, false, not, ◌&&◌, Bool, pos}
 use Rattle.nl_frame.specs.Limits.{Bounds, AreLimits}
 use Rattle.nl_dump.specs.declared.dump.End.{End}
-use Rattle.nl_dump.specs.declared.dump.End.TheVariants.{Done, Error, Overrun, Abandoned}
+use Rattle.nl_dump.specs.declared.dump.End.TheVariants.{Done, Error}
 use Rattle.nl_dump.specs.declared.dump.State.{State}
 use Rattle.nl_dump.specs.declared.dump.State.TheVariants.{Idle, Waiting, Ended}
 use Rattle.nl_dump.specs.declared.standing.Standing.{Standing}
