@@ -89,10 +89,10 @@ crates/nl_dump/src/sifting.rt 1
 crates/nl_frame/src/header.rt 2
 crates/nl_route/src/ifinfomsg.rt 1
 crates/nl_route/src/ndmsg.rt 1
-crates/rtnl/src/bytes/notation.rt 6
-crates/rtnl/src/bytes/object.rt 2
+crates/rtnl/src/bytes/json_lines.rt 2
+crates/rtnl/src/bytes/notation.rt 5
 crates/rtnl/src/bytes/view.rt 1
-crates/rtnl/src/text/values.rt 1'
+crates/rtnl/src/names/values.rt 1'
 
 scan=(crates/nl_attr/src/scanning.rt crates/nl_attr/src/taping/*.rt)
 taping=crates/nl_frame/src/taping.rt
@@ -135,7 +135,7 @@ same 'a datagram is scanned by the calls that are made for it, and in no reading
   'crates/nl_dump/src/straining.rt 1
 crates/nl_frame/src/scanning.rt 4
 crates/nl_frame/src/taping.rt 9
-crates/rtnl/src/tape.rt 1
+crates/rtnl/src/bytes/tape.rt 1
 crates/rtnl_c/src/scan.rt 2'
 
 same 'a scan of a datagram adds the visits of each message, and nothing else' \
@@ -171,8 +171,8 @@ crates/nl_route/src/object.rt 2'
 
 same 'a tally is ended without its visits by those who answer none' "$(counts '\.into_result\(')" \
   'crates/nl_frame/src/canonical.rt 1
-crates/rtnl/src/show.rt 2
-crates/rtnl/src/tape.rt 1
+crates/rtnl/src/bytes/tape.rt 1
+crates/rtnl/src/runs/show.rt 2
 crates/rtnl_bench/src/main.rt 1'
 
 same 'a tally is taken apart with its visits' "$(counts 'visits: *_')" 'crates/nl_attr/src/fault.rt 1'
@@ -186,13 +186,13 @@ crates/nl_dump/src/reading.rt 1
 crates/nl_frame/src/canonical.rt 1
 crates/nl_frame/src/reading.rt 6
 crates/nl_route/src/object.rt 4
-crates/rtnl/src/show.rt 2'
+crates/rtnl/src/runs/show.rt 2'
 
 same 'each family is read by one arm' "$(counts 'read_body_ordered \$')" 'crates/nl_route/src/family.rt 5'
 
 same 'a datagram is checked by a check alone' "$(counts '\bis_canonical\(')" \
   'crates/nl_frame/src/canonical.rt 1
-crates/rtnl/src/check.rt 2
+crates/rtnl/src/runs/check.rt 2
 crates/rtnl_c/src/check.rt 1'
 
 same 'a session adds the visits of each datagram that it takes, and nothing else' \
@@ -208,7 +208,7 @@ self.standing.visits += visits;'
 
 same 'the datagrams of a table are read by the session alone, and those of a dump for C by a session or a stream' \
   "$(counts '\.feed\(')" \
-  'crates/rtnl/src/table.rt 1
+  'crates/rtnl/src/runs/table.rt 1
 crates/rtnl_c/src/session.rt 1
 crates/rtnl_c/src/stream.rt 1
 crates/rtnl_cli/src/explain.rt 1'

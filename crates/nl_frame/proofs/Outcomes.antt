@@ -2,6 +2,7 @@
 use Rattle.std.proofs.Common.{◌≡◌, ◌≤◌, ℕ, List, length, map, Result, Ok, Err, IfOk, IfErr, sym, subst, arith}
 use Rattle.std.specs.Global.{Vec}
 use Rattle.std.specs.Prelude.{IsErrAnd, MatchResult}
+use Rattle.nl_attr.specs.declared.fault.Fault.{Fault}
 use Rattle.nl_attr.specs.declared.fault.ListError.{ListError}
 use Rattle.nl_attr.specs.declared.fault.ListError.TheVariants as unlisted
 use Rattle.nl_attr.specs.Shape.{Shape}
@@ -41,6 +42,9 @@ module _ (S : Shape) (d : List ℕ) where
   pub ok_fits : (ms : List MessageVal) (v : ℕ) → AreBytes d → messages_of S 0 d ≡ (Ok ms, v) → layout.Layout S ms d
   ok_fits ms v fits e = messages_sound S (length d) 0 d ms v (omega arith) fits e
 
+  pub err_none : (f : Fault) (v : ℕ) → messages_of S 0 d ≡ (Err f, v) → (ms : List MessageVal) → layout.Layout S ms d → ⊥
+  err_none f v e ms l = let same = read_result _ ms _ v (messages_fit S ms 0 d l) e in cc
+
   -- what it says of the layout
   pub record IsAnswer (r : Result (Vec Message) ReadError) (v : ℕ) : Type 0 where
     pub fits : IfOk r (λ x. layout.Layout S (map message_view x.items) d)
@@ -65,7 +69,7 @@ module _ (S : Shape) (d : List ℕ) where
     fits = tt;
     only = tt;
     first = err_first S d f v e;
-    none = λ ms l. let same = read_result _ ms _ v (messages_fit S ms 0 d l) e in cc;
+    none = err_none f v e;
     visits = err_visits S d f v e;
     kept = tt;
   }

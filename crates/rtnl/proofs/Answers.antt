@@ -1,15 +1,19 @@
--- A datagram has one answer, and so datagrams have one text.
-use Rattle.std.proofs.Common.{◌≡◌, ◌≤◌, ℕ, List, [], ◌∷◌, length, Bool, true, false, IsTrue, Ok, Err, refl, sym, ap, ◌∙◌, arith}
+-- A datagram of bytes has an answer, and one alone, and so datagrams have one text.
+use Rattle.std.proofs.Common.{◌≡◌, ◌≤◌, ℕ, List, [], ◌∷◌, length, Bool, true, false, IsTrue, Ok, Err, inl, inr, refl, sym, ap, ◌∙◌, arith}
+use Rattle.std.proofs.lemmas.Bool.{cases_lt}
 use Rattle.nl_attr.specs.declared.fault.Fault.{Fault}
+use Rattle.nl_attr.specs.Numbers.{AreBytes}
+use Rattle.nl_attr.specs.Reading.{Outcome}
 use Rattle.nl_frame.specs.declared.reading.ReadError.{ReadError}
 use Rattle.nl_frame.specs.declared.reading.ReadError.TheVariants.{TooLarge, Layout as Fails, Memory}
 use Rattle.nl_frame.specs.Limits.{Bounds}
 use Rattle.nl_frame.specs.Message.{MessageVal}
 use Rattle.nl_frame.specs.Layout.{Layout}
+use Rattle.nl_frame.specs.Reading.{messages_of}
 use Rattle.nl_frame.specs.Written.{written}
 use Rattle.nl_frame.proofs.Scan.{one_first_fault}
-use Rattle.nl_frame.proofs.Firsts.{one_layout, ok_sound}
-use Rattle.nl_frame.proofs.Layouts.{messages_fit}
+use Rattle.nl_frame.proofs.Firsts.{err_first, one_layout, ok_sound}
+use Rattle.nl_frame.proofs.Layouts.{messages_fit, messages_sound}
 use Rattle.nl_frame.specs.Heads.{IsFirstFault, whole}
 use Rattle.rtnl.specs.Runs.{EachIs, Prints, texts_from, verdict_from}
 use Rattle.rtnl.specs.Shown.{Answer, Answers, Refuses}
@@ -70,3 +74,10 @@ module _ {X : Type 0} (Is : List ℕ → X → Type 0) (one : (d : List ℕ) (x 
   one_print text is_taken ds t u v w p q =
       let e = same_found ds p.0 q.0 p.1 q.1 in
       (p.2 ∙ ap (texts_from text 1 ds) e ∙ sym q.2, p.3 ∙ ap (verdict_from is_taken Clean) e ∙ sym q.3)
+
+-- a datagram of bytes has an answer
+pub some_answer : (b : Bounds) (d : List ℕ) → AreBytes d → (a : Answer) × Answers b d a
+some_answer b d fit = elim (cases_lt b.datagram (length d)) [ inl large ↦ (Err TooLarge, large) | inr size ↦ read (messages_of b.shape 0 d) refl size ] where
+  read : (o : Outcome (List MessageVal)) → messages_of b.shape 0 d ≡ o → length d ≤ b.datagram → (a : Answer) × Answers b d a
+  read (Ok ms, v) e size = (Ok ms, (size, messages_sound b.shape (length d) 0 d ms v (omega arith) fit e))
+  read (Err f, v) e size = (Err (Fails f), (size, err_first b.shape d f v e))

@@ -1,5 +1,5 @@
 -- Rows of bytes, one after another.
-use Rattle.std.proofs.Common.{◌≡◌, ◌<◌, ◌≤◌, ◌+◌, ℕ, List, [], ◌∷◌, ◌++◌, length, min, replicate, Bool, true, false, Option, Some, None, Ok, Err, is_some, not, inl, inr, refl, sym, ap, subst, ◌∙◌, arith, append_assoc}
+use Rattle.std.proofs.Common.{◌≡◌, ◌<◌, ◌≤◌, ◌+◌, ℕ, List, [], ◌∷◌, ◌++◌, length, min, replicate, Bool, true, false, Option, Some, None, Ok, Err, is_some, not, refl, sym, ap, subst, ◌∙◌, arith, append_assoc}
 use Rattle.std.specs.List.{flat_map}
 use Rattle.std.proofs.lemmas.List.{append-nil}
 use Rattle.std.proofs.lemmas.Grind.{flat_map-append}
@@ -16,7 +16,7 @@ use Rattle.rtnl.specs.declared.bytes.rows.RowFormat.{RowFormat}
 use Rattle.rtnl.specs.declared.bytes.rows.RowFormat.TheVariants.{Text, Coloured, Json}
 use Rattle.rtnl.specs.Shown.{Answer, Answers, Refuses, is_taken, refusal_text}
 use Rattle.rtnl.specs.Tape.{IsAboutItsHead, IsRefusalOf, refusal_line}
-use Rattle.rtnl.specs.ByteRows.{IsAtByte, refused_at, AreRows, ByteRow, HasRows, Part, Viewed, Views, answer_line, ending, is_accepted, opening, row_printed, viewed_text}
+use Rattle.rtnl.specs.ByteRows.{IsAtByte, refused_at, AreRows, ByteRow, HasRows, BytePart, Viewed, Views, answer_line, ending, is_accepted, opening, row_printed, viewed_text}
 use Rattle.rtnl.specs.ByteViews.{AddsAllRows, AddsPart, AddsRows, refusal_ending}
 use Rattle.rtnl.proofs.Showing.{one_more}
 
@@ -27,7 +27,7 @@ one_blank n out = append_assoc out (32 ∷ []) (replicate n 32)
 module _ (print : ByteRow → List ℕ) where
   -- ---- the rows of a part
 
-  module _ (p : Part) where
+  module _ (p : BytePart) where
     -- a text goes on with rows of bytes of the part from a place on
     abbrev pub Goes : Bool → ℕ → List ℕ → List ℕ → List ℕ → Type 0
     Goes is_first place d old new = (rows : List ByteRow) × AreRows p is_first place d rows × (new ≡ old ++ flat_map print rows)
@@ -58,7 +58,7 @@ module _ (print : ByteRow → List ℕ) where
   module _ (start : ℕ) (d : List ℕ) (refusal : Option ScanError) (old : List ℕ) where
     module _ (place : ℕ) (rest : List ℕ) (here : Option ScanError) (out : List ℕ) (now : AreLeft start d refusal old place rest here out) where
       -- one part
-      pub one_part : (p : Part) (others next : List ℕ) → p.place ≡ place → p.refusal ≡ here → 0 < length p.bytes → rest ≡ p.bytes ++ others → AddsPart print p out next
+      pub one_part : (p : BytePart) (others next : List ℕ) → p.place ≡ place → p.refusal ≡ here → 0 < length p.bytes → rest ≡ p.bytes ++ others → AddsPart print p out next
           → AreLeft start d refusal old (place + length p.bytes) others None next
       one_part p others next at why some e adds = λ new goes.
           let mine = adds.0 in
@@ -75,7 +75,7 @@ module _ (print : ByteRow → List ℕ) where
       none_left e = now out ([], ([], e, refl), sym (append-nil out))
 
       -- the last part
-      pub last_part : (p : Part) (next : List ℕ) → p.place ≡ place → p.refusal ≡ here → 0 < length p.bytes → rest ≡ p.bytes → AddsPart print p out next
+      pub last_part : (p : BytePart) (next : List ℕ) → p.place ≡ place → p.refusal ≡ here → 0 < length p.bytes → rest ≡ p.bytes → AddsPart print p out next
           → AddsRows print start d refusal old next
       last_part p next at why some e adds =
           one_part p [] next at why some (e ∙ sym (append-nil p.bytes)) adds next ([], ([], refl, refl), sym (append-nil next))

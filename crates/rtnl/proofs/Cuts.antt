@@ -14,7 +14,7 @@ use Rattle.std.specs.Iterator.{YieldsFirstRef}
 use Rattle.std.proofs.lemmas.Iterator.{YieldsList}
 use Rattle.std.proofs.lemmas.Iterator.Consumers.{YieldsList-from_first}
 use Rattle.std.specs.Borrow.{Bor}
-use Rattle.rtnl.specs.declared.lines.Lines.{Lines}
+use Rattle.rtnl.specs.declared.recordings.lines.Lines.{Lines}
 use Rattle.rtnl.specs.Lines.{is_blank, is_newline, lines_left, lines_of}
 
 fails : (b : Bool) → (b ≡ true → ⊥) → b ≡ false

@@ -4,9 +4,9 @@ use Rattle.json.specs.Json.{Json}
 use Rattle.json.specs.Print.{escape_byte, print, print_from, quoted}
 use Rattle.json.specs.Token.{begin_object}
 use Rattle.json.specs.Tree.{json_tokens}
-use Rattle.rtnl.specs.declared.text.attributes.Style.{Style}
+use Rattle.rtnl.specs.declared.names.attributes.Style.{Style}
 use Rattle.rtnl.specs.Json.{Field, array, fields_tokens, number, strings, value_text}
-use Rattle.rtnl.specs.Objects.{flag_list, name_found}
+use Rattle.rtnl.specs.MessagesJson.{flag_list, name_found}
 use Rattle.rtnl.proofs.Json.{ended}
 
 -- the fields that every attribute has

@@ -5,7 +5,7 @@ use Rattle.std.proofs.lemmas.Bool.{and_parts}
 use Rattle.json.specs.Json.{Json}
 use Rattle.json.specs.Print.{begins, ends, escape, escape_byte, print, print_from, quoted, separator, token_text}
 use Rattle.json.specs.Run.{is_plain}
-use Rattle.json.specs.Token.{Token, begin_array, begin_object, end_array, end_object, key}
+use Rattle.json.specs.Token.{Token, begin_array, begin_object, boolean, end_array, end_object, key, null}
 use Rattle.json.specs.Tree.{items_tokens, json_tokens, members_tokens}
 use Rattle.json.proofs.Printed.Strings.{escape_byte_plain}
 use Rattle.rtnl.specs.Json.{Field, IsUnescaped, Line, ◌⊕◌, array, behind, closed, comma, fields_tokens, is_unescaped, items_of, json_line, members_of, object, object_behind, opened, put, string, value_text, values_tokens}
@@ -177,3 +177,31 @@ whole_line before fields line is =
     let text : (line.text ++ codes "}") ≡ before ++ print (json_tokens (object fields)) =
     ap (λ l. l.text) (closes line end_object refl refl ∙ all ∙ written (behind before) (json_tokens (object fields))) in
     sym (append_assoc line.text (codes "}") (codes "\n")) ∙ ap (λ t. t ++ codes "\n") text ∙ append_assoc before (print (json_tokens (object fields))) (codes "\n")
+
+-- ---- the tokens whose text is fixed
+
+pub begun_object : (w : Line) → opened w (codes "{") false ≡ w ⊕ (begin_object ∷ [])
+unfolding print_from
+begun_object w = opens w begin_object [] (codes "{") false refl refl refl
+
+pub begun_array : (w : Line) → opened w (codes "[") false ≡ w ⊕ (begin_array ∷ [])
+unfolding print_from
+begun_array w = opens w begin_array [] (codes "[") false refl refl refl
+
+pub ended_object : (w : Line) → closed w (codes "}") ≡ w ⊕ (end_object ∷ [])
+ended_object w = closes w end_object refl refl
+
+pub ended_array : (w : Line) → closed w (codes "]") ≡ w ⊕ (end_array ∷ [])
+ended_array w = closes w end_array refl refl
+
+pub null_written : (w : Line) → opened w (codes "null") true ≡ w ⊕ (null ∷ [])
+unfolding print_from
+null_written w = opens w null [] (codes "null") true refl refl refl
+
+pub truth_written : (w : Line) → opened w (codes "true") true ≡ w ⊕ (boolean true ∷ [])
+unfolding print_from
+truth_written w = opens w (boolean true) [] (codes "true") true refl refl refl
+
+pub falsehood_written : (w : Line) → opened w (codes "false") true ≡ w ⊕ (boolean false ∷ [])
+unfolding print_from
+falsehood_written w = opens w (boolean false) [] (codes "false") true refl refl refl

@@ -5,8 +5,8 @@ use Rattle.std.proofs.lemmas.List.Sums.{sum_by-drop_more}
 use Rattle.rtnl.specs.Lines.{Adds, datagrams, datagrams_from, line_at, lines_of}
 use Rattle.rtnl.specs.Pieces.{Rise, pieces}
 use Rattle.rtnl.proofs.Cuts.{total-lines_of}
-use Rattle.rtnl.proofs.Pieces.{Rise-push, pieces_push}
-use Rattle.rtnl.proofs.Recordings.{IsLine, line_long, next_line, with_front}
+use Rattle.rtnl.proofs.PieceEnds.{Rise-push, pieces_push}
+use Rattle.rtnl.proofs.ReadLines.{IsLine, line_long, next_line, with_front}
 
 -- the first n lines are read: the pieces of the bytes and what the rest says are what all say, and with the bytes of the rest they are no more than most
 abbrev pub AreRead : List (List ℕ) → Result (List (List ℕ)) ℕ → ℕ → ℕ → List ℕ → List ℕ → Type 0

@@ -1,8 +1,8 @@
 -- The lemmas that the goals of several functions want, by the names under which their attributes bring them.
-use Rattle.std.proofs.Common.{append_assoc}
-use Rattle.rtnl.proofs.Json.{more, more_fields, one_field}
+use Rattle.std.proofs.Common.{append_assoc, append-nil}
+use Rattle.rtnl.proofs.Json.{more, more_fields, one_field, tokens_array, tokens_object}
 use Rattle.rtnl.proofs.Short.{short_name}
-use Rattle.rtnl.proofs.Streams.{appends_more, appends_none, prefix_of, whole}
+use Rattle.rtnl.proofs.KnownBytes.{appends_more, appends_none, prefix_of, whole}
 use Rattle.rtnl.proofs.Trees.{inline_list, inline_hops}
 
 -- texts one after another
@@ -22,3 +22,6 @@ pub ruleset inline = (inline_list, inline_hops)
 
 -- what a sink was given
 pub ruleset gives = (appends_more, appends_none, prefix_of, whole)
+
+-- an object or an array, a token after another
+pub ruleset whole_value = (more, one_field, tokens_object, tokens_array, append_assoc, append-nil)

@@ -6,9 +6,9 @@ use Rattle.std.proofs.lemmas.Bool.{and_parts, cases_Bool}
 use Rattle.std.proofs.lemmas.Fmt.{length-decimal-le}
 use Rattle.nl_attr.specs.declared.tree.Ctx.{Ctx}
 use Rattle.nl_attr.specs.declared.tree.Ctx.TheVariants as ctx
-use Rattle.rtnl.specs.declared.text.attributes.Style.{Style}
+use Rattle.rtnl.specs.declared.names.attributes.Style.{Style}
 use Rattle.rtnl.specs.Attributes.{attribute_name, attribute_rows, row_of}
-use Rattle.rtnl.specs.Rows.{Row, find_row, name_in}
+use Rattle.rtnl.specs.Named.{Named, find_named, name_in}
 
 -- a number of 64 bits has twenty digits or fewer
 pub twenty_digits : (n : ℕ) → n < 2 ^ 64 → length (decimal n) ≤ 20
@@ -25,11 +25,11 @@ not_below_zero (pos n) other = refl
 not_below_zero (negsuc n) other = absurd cc
 
 -- the names of rows are short
-abbrev short_names : List (Row Style) → Bool
+abbrev short_names : List (Named Style) → Bool
 short_names [] = true
 short_names (row ∷ rows) = nat_le (length row.1) 16 && short_names rows
 
-found_short : (rows : List (Row Style)) (number : ℕ) → short_names rows ≡ true → length (name_in (codes "-") (find_row number rows)) ≤ 16
+found_short : (rows : List (Named Style)) (number : ℕ) → short_names rows ≡ true → length (name_in (codes "-") (find_named number rows)) ≤ 16
 found_short [] number short = omega arith
 found_short (row ∷ rows) number short =
     let parts = and_parts (nat_le (length row.1) 16) (short_names rows) short in

@@ -11,7 +11,7 @@ use Rattle.nl_attr.specs.declared.tree.Value.TheVariants as value
 use Rattle.nl_attr.specs.Tree.{Val, Items, item, HopItems, hop}
 use Rattle.nl_attr.specs.View.{Front, HopFront, value_step, attr_step, hop_step, value_view, attr_view, attrs_view, hop_view, hops_view}
 use Rattle.nl_attr.proofs.Lemmas.Opened.{attr_is, hop_is, value_list, value_hops}
-use Rattle.rtnl.specs.declared.text.attributes.Style.{Style}
+use Rattle.rtnl.specs.declared.names.attributes.Style.{Style}
 use Rattle.rtnl.specs.Trees.{deeper, held_text, hop_count, hop_line, hops_text, indented, inline_text, item_count, items_text}
 
 -- an attribute before others

@@ -9,10 +9,10 @@ use Rattle.nl_attr.specs.declared.tree.Ctx.TheVariants as ctx
 use Rattle.nl_route.specs.declared.family.Family.{Family}
 use Rattle.nl_route.specs.declared.family.Family.TheVariants as family
 use Rattle.nl_route.specs.Families.{name_of}
-use Rattle.rtnl.specs.declared.text.attributes.Style.{Style}
+use Rattle.rtnl.specs.declared.names.attributes.Style.{Style}
 use Rattle.rtnl.specs.Attributes.{attribute_name, attribute_rows, row_of}
 use Rattle.rtnl.specs.Json.{IsUnescaped, is_unescaped}
-use Rattle.rtnl.specs.Rows.{Row, find_row, name_in}
+use Rattle.rtnl.specs.Named.{Named, find_named, name_in}
 use Rattle.rtnl.specs.Text.{padded_hex}
 use Rattle.rtnl.specs.Values.{group_at, groups_text, ipv4_text, ipv6_text}
 use Rattle.rtnl.proofs.Digits.{four_digits}
@@ -62,11 +62,11 @@ decimal_unescaped =
     (λ n ds more h. unescaped_append ds ((48 + n % 10) ∷ []) h (both _ _ (digit (n % 10) (omega arith)) refl))
 
 -- the names of rows
-abbrev names : List (Row Style) → Bool
+abbrev names : List (Named Style) → Bool
 names [] = true
 names (row ∷ rows) = is_unescaped row.1 && names rows
 
-found : (rows : List (Row Style)) (number : ℕ) → names rows ≡ true → IsUnescaped (name_in (codes "-") (find_row number rows))
+found : (rows : List (Named Style)) (number : ℕ) → names rows ≡ true → IsUnescaped (name_in (codes "-") (find_named number rows))
 found [] number plain = refl
 found (row ∷ rows) number plain =
     let parts = and_parts (is_unescaped row.1) (names rows) plain in

@@ -4,13 +4,13 @@ use Rattle.std.specs.Fmt.{decimal}
 use Rattle.nl_route.specs.Addr.{IFA_ADDRESS, IFA_LOCAL, IFA_LABEL, IFA_BROADCAST, IFA_FLAGS}
 use Rattle.nl_route.specs.declared.ifaddrmsg.AddrHead.{AddrHead}
 use Rattle.rtnl.specs.Json.{Field, number}
-use Rattle.rtnl.specs.Rows.{Row}
+use Rattle.rtnl.specs.Named.{Named}
 use Rattle.rtnl.specs.Text.{◌⨟◌, padded_hex}
-use Rattle.rtnl.specs.declared.text.attributes.Style.{Style}
-use Rattle.rtnl.specs.declared.text.attributes.Style.TheVariants.{U32, Text, Address, Hex}
+use Rattle.rtnl.specs.declared.names.attributes.Style.{Style}
+use Rattle.rtnl.specs.declared.names.attributes.Style.TheVariants.{U32, Text, Address, Hex}
 
 -- IFA, of an address
-abbrev pub addr_rows : List (Row Style)
+abbrev pub addr_rows : List (Named Style)
 addr_rows =
     (IFA_ADDRESS, codes "ADDRESS", Address)
     ∷ (IFA_LOCAL, codes "LOCAL", Address)
@@ -29,8 +29,8 @@ addr_line h =
     ⨟ codes " scope " ⨟ decimal h.scope ⨟ codes " index " ⨟ decimal h.index ⨟ codes "\n"
 
 -- the fields of an address's head
-unfoldable pub addr_fields : AddrHead → List Field
-addr_fields h =
+unfoldable pub addr_head_fields : AddrHead → List Field
+addr_head_fields h =
     (codes "family", number h.family)
     ∷ (codes "prefix", number h.prefixlen)
     ∷ (codes "flags", number h.flags)

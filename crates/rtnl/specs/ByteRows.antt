@@ -23,7 +23,7 @@ use Rattle.rtnl.specs.Tape.{IsAboutItsHead, IsRefusalOf}
 use Rattle.rtnl.specs.Text.{◌⨟◌, padded_hex}
 
 -- a part of a datagram: where its first byte stands, its bytes, what they are, and why the datagram is refused there
-pub record Part : Type 0 where
+pub record BytePart : Type 0 where
   pub place : ℕ
   pub bytes : List ℕ
   pub label : Label
@@ -33,7 +33,7 @@ pub record Part : Type 0 where
 pub record ByteRow : Type 0 where
   pub place : ℕ
   pub bytes : List ℕ
-  pub part : Part
+  pub part : BytePart
   pub is_first : Bool
 
 -- ---- text
@@ -93,7 +93,7 @@ abbrev pub name_of : Label → List ℕ
 name_of label = kernel_name label.name
 
 -- the words of a part: its name, the value of its bytes, and why the datagram is refused there
-unfoldable pub words : Order → Part → List ℕ
+unfoldable pub words : Order → BytePart → List ℕ
 words o p = mark p.refusal ⨟ name_of p.label ⨟ value_behind o p.label.notation p.bytes ⨟ refusal_behind p.refusal
 
 -- the same in a colour
@@ -101,7 +101,7 @@ unfoldable pub painted : List ℕ → List ℕ → List ℕ
 painted colour text = colour ⨟ text ⨟ unpaint colour
 
 -- the words as they are printed
-abbrev pub words_in : Bool → Order → Part → List ℕ
+abbrev pub words_in : Bool → Order → BytePart → List ℕ
 words_in true o p = painted (paint p.label.is_aside p.refusal) (words o p)
 words_in false o p = words o p
 
@@ -157,28 +157,28 @@ row_printed Coloured o n r = row_text true o r
 row_printed Json o n r = row_json n o r
 
 -- bytes of a part from a place on stand in these rows: each byte once and in order, at most sixteen in a row
-abbrev pub AreRows : Part → Bool → ℕ → List ℕ → List ByteRow → Type 0
+abbrev pub AreRows : BytePart → Bool → ℕ → List ℕ → List ByteRow → Type 0
 AreRows p is_first place d [] = d ≡ []
 AreRows p is_first place d (r ∷ rows) =
     (r.part ≡ p) × (r.is_first ≡ is_first) × (r.place ≡ place) × (0 < length r.bytes) × (length r.bytes ≤ 16)
     × (rest : List ℕ) × (d ≡ r.bytes ++ rest) × AreRows p false (place + length r.bytes) rest rows
 
 -- bytes from a place on are these parts, one after another, none of them empty, and a refusal stands at the first
-abbrev pub AreParts : ℕ → List ℕ → Option ScanError → List Part → Type 0
+abbrev pub AreParts : ℕ → List ℕ → Option ScanError → List BytePart → Type 0
 AreParts place d refusal [] = d ≡ []
 AreParts place d refusal (p ∷ parts) =
     (p.place ≡ place) × (p.refusal ≡ refusal) × (0 < length p.bytes)
     × (rest : List ℕ) × (d ≡ p.bytes ++ rest) × AreParts (place + length p.bytes) rest None parts
 
 -- the rows of parts, one part after another
-abbrev pub AreRowsOf : List Part → List ByteRow → Type 0
+abbrev pub AreRowsOf : List BytePart → List ByteRow → Type 0
 AreRowsOf [] rows = rows ≡ []
 AreRowsOf (p ∷ parts) rows =
     (mine others : List ByteRow) × (rows ≡ mine ++ others) × AreRows p true p.place p.bytes mine × AreRowsOf parts others
 
 -- bytes from a place on stand in these rows, part after part, and a refusal stands at the first
 abbrev pub HasRows : ℕ → List ℕ → Option ScanError → List ByteRow → Type 0
-HasRows place d refusal rows = (parts : List Part) × AreParts place d refusal parts × AreRowsOf parts rows
+HasRows place d refusal rows = (parts : List BytePart) × AreParts place d refusal parts × AreRowsOf parts rows
 
 -- where a datagram is refused: at the place of its first fault, or at its front where it is too large
 abbrev pub refused_at : ScanError → ℕ

@@ -2,10 +2,10 @@
 use Rattle.std.specs.Prelude.{List, [], ◌∷◌, codes}
 use Rattle.nl_attr.specs.declared.tree.Ctx.{Ctx}
 use Rattle.nl_attr.specs.declared.tree.Ctx.TheVariants.{Link, LinkInfo, Addr, Route, Metrics, Neigh, Rule, Plain}
-use Rattle.rtnl.specs.Rows.{Row}
+use Rattle.rtnl.specs.Named.{Named}
 
 -- of a link, IFLA
-unfoldable pub further_link : List (Row (Unit {0}))
+unfoldable pub further_link : List (Named (Unit {0}))
 further_link =
     (7, codes "STATS", tt)
     ∷ (8, codes "COST", tt)
@@ -59,13 +59,13 @@ further_link =
     ∷ (69, codes "TAILROOM", tt) ∷ []
 
 -- of an address, IFA
-unfoldable pub further_addr : List (Row (Unit {0}))
+unfoldable pub further_addr : List (Named (Unit {0}))
 further_addr =
     (10, codes "TARGET_NETNSID", tt)
     ∷ (11, codes "PROTO", tt) ∷ []
 
 -- of a route, RTA
-unfoldable pub further_route : List (Row (Unit {0}))
+unfoldable pub further_route : List (Named (Unit {0}))
 further_route =
     (10, codes "PROTOINFO", tt)
     ∷ (13, codes "SESSION", tt)
@@ -78,12 +78,12 @@ further_route =
     ∷ (29, codes "DPORT", tt) ∷ []
 
 -- of a route's METRICS, RTAX
-unfoldable pub further_metrics : List (Row (Unit {0}))
+unfoldable pub further_metrics : List (Named (Unit {0}))
 further_metrics =
     (17, codes "FASTOPEN_NO_COOKIE", tt) ∷ []
 
 -- of a neighbour, NDA
-unfoldable pub further_neigh : List (Row (Unit {0}))
+unfoldable pub further_neigh : List (Named (Unit {0}))
 further_neigh =
     (10, codes "LINK_NETNSID", tt)
     ∷ (11, codes "SRC_VNI", tt)
@@ -95,7 +95,7 @@ further_neigh =
     ∷ (17, codes "NDM_FLAGS_MASK", tt) ∷ []
 
 -- of a routing rule, FRA
-unfoldable pub further_rule : List (Row (Unit {0}))
+unfoldable pub further_rule : List (Named (Unit {0}))
 further_rule =
     (11, codes "FLOW", tt)
     ∷ (12, codes "TUN_ID", tt)
@@ -110,7 +110,7 @@ further_rule =
     ∷ (24, codes "DPORT_RANGE", tt) ∷ []
 
 -- of a context
-abbrev pub further_rows : Ctx → List (Row (Unit {0}))
+abbrev pub further_rows : Ctx → List (Named (Unit {0}))
 further_rows Link = further_link
 further_rows LinkInfo = []
 further_rows Addr = further_addr

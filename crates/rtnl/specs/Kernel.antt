@@ -11,7 +11,7 @@ use Rattle.nl_route.specs.declared.family.Verb.TheVariants.{New, Del, Get, Set}
 use Rattle.nl_route.specs.Types.{route_type}
 use Rattle.rtnl.specs.Attributes.{row_of}
 use Rattle.rtnl.specs.Further.{further_rows}
-use Rattle.rtnl.specs.Rows.{find_row}
+use Rattle.rtnl.specs.Named.{find_named}
 
 -- a name of the program, whose second part stands right behind the first
 abbrev pub kernel_name : Bor (List ℕ) × Bor (List ℕ) → List ℕ
@@ -35,7 +35,7 @@ named_in front (Some row) other = Some (front ++ row.0)
 
 -- the name of an attribute: that of its row, or of a further one
 abbrev pub attribute_name : Ctx → ℕ → Option (List ℕ)
-attribute_name ctx n = named_in (prefix_of ctx) (row_of ctx n) (named_in (prefix_of ctx) (find_row n (further_rows ctx)) None)
+attribute_name ctx n = named_in (prefix_of ctx) (row_of ctx n) (named_in (prefix_of ctx) (find_named n (further_rows ctx)) None)
 
 -- what the name of a family's message type begins with, and what it ends with
 unfoldable pub verb_front : Verb → List ℕ

@@ -17,11 +17,11 @@ pub mod Messages
 pub mod NamedBits
 pub mod Names
 pub mod Notations
-pub mod Objects
+pub mod MessagesJson
 pub mod Pieces
 pub mod Readings
 pub mod Requested
-pub mod Rows
+pub mod Named
 pub mod Runs
 pub mod Shown
 pub mod Streams

@@ -5,8 +5,8 @@ use Rattle.std.specs.Borrow.{Bor}
 use Rattle.std.specs.List.{position, slice_split}
 use Rattle.hex.specs.Hex.{decode_of, is_hex_digit}
 use Rattle.hex.specs.declared.error.FromHexError.{FromHexError}
-use Rattle.rtnl.specs.declared.lines.LineFault.{LineFault}
-use Rattle.rtnl.specs.declared.lines.LineFault.TheVariants.{Character, Odd}
+use Rattle.rtnl.specs.declared.recordings.lines.LineFault.{LineFault}
+use Rattle.rtnl.specs.declared.recordings.lines.LineFault.TheVariants.{Character, Odd}
 use Rattle.rtnl.specs.declared.error.RunError.{RunError}
 use Rattle.rtnl.specs.declared.error.RunError.TheVariants.{BadLine, ReadFault, WriteFault, Memory}
 

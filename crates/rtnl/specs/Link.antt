@@ -7,13 +7,13 @@ use Rattle.nl_route.specs.declared.ifinfomsg.LinkHead.{LinkHead}
 use Rattle.rtnl.specs.Json.{Field, number, signed}
 use Rattle.rtnl.specs.NamedBits.{link_flags}
 use Rattle.rtnl.specs.Names.{names_json, names_text}
-use Rattle.rtnl.specs.Rows.{Row}
+use Rattle.rtnl.specs.Named.{Named}
 use Rattle.rtnl.specs.Text.{◌⨟◌, padded_hex}
-use Rattle.rtnl.specs.declared.text.attributes.Style.{Style}
-use Rattle.rtnl.specs.declared.text.attributes.Style.TheVariants.{U8, U32, Text, Hex}
+use Rattle.rtnl.specs.declared.names.attributes.Style.{Style}
+use Rattle.rtnl.specs.declared.names.attributes.Style.TheVariants.{U8, U32, Text, Hex}
 
 -- IFLA, of a link
-abbrev pub link_rows : List (Row Style)
+abbrev pub link_rows : List (Named Style)
 link_rows =
     (1, codes "ADDRESS", Hex)
     ∷ (2, codes "BROADCAST", Hex)
@@ -36,7 +36,7 @@ link_rows =
     ∷ (35, codes "CARRIER_CHANGES", U32) ∷ []
 
 -- IFLA_INFO, inside a link's LINKINFO
-abbrev pub link_info_rows : List (Row Style)
+abbrev pub link_info_rows : List (Named Style)
 link_info_rows =
     (IFLA_INFO_KIND, codes "KIND", Text)
     ∷ (2, codes "DATA", Hex)
@@ -52,8 +52,8 @@ link_line h =
     ⨟ codes " change 0x" ⨟ padded_hex 8 h.change ⨟ codes "\n"
 
 -- the fields of a link's head
-unfoldable pub link_fields : LinkHead → List Field
-link_fields h =
+unfoldable pub link_head_fields : LinkHead → List Field
+link_head_fields h =
     (codes "family", number h.family)
     ∷ (codes "type", number h.hardware)
     ∷ (codes "index", signed h.index)

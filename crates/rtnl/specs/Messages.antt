@@ -13,10 +13,11 @@ use Rattle.rtnl.specs.Addr.{addr_line}
 use Rattle.rtnl.specs.Route.{route_line}
 use Rattle.rtnl.specs.Neigh.{neigh_line}
 use Rattle.rtnl.specs.Rule.{rule_line}
+use Rattle.rtnl.specs.NamedBits.{flag_names}
 use Rattle.rtnl.specs.Names.{names_text}
 use Rattle.rtnl.specs.Text.{◌⨟◌, hex_text, padded_hex}
 use Rattle.rtnl.specs.Trees.{indented, items_text}
-use Rattle.rtnl.specs.Types.{flags_table, type_flags, type_name}
+use Rattle.rtnl.specs.Types.{type_flags, type_name}
 
 -- the line of a family's head
 abbrev pub line_of : (g : Family) → (row g).Head → List ℕ
@@ -72,7 +73,7 @@ body_text o (other payload) = bytes_line payload
 unfoldable pub message_line : ℕ → ℕ → ℕ → ℕ → List ℕ
 message_line kind flags seq port =
     codes "message " ⨟ decimal kind ⨟ codes " " ⨟ type_name kind ⨟ codes " flags 0x" ⨟ padded_hex 4 flags
-    ⨟ codes " " ⨟ names_text (flags_table (type_flags kind)) flags
+    ⨟ codes " " ⨟ names_text (flag_names (type_flags kind)) flags
     ⨟ codes " seq " ⨟ decimal seq ⨟ codes " port " ⨟ decimal port ⨟ codes "\n"
 
 -- a message

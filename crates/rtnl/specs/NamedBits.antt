@@ -1,9 +1,22 @@
 -- The names of the bits of each number that has named bits, lowest bit first.
-use Rattle.std.specs.Prelude.{List, [], ◌∷◌, ◌++◌, codes}
-use Rattle.bitflags.specs.Sets.{Row}
+use Rattle.std.specs.Prelude.{ℕ, List, [], ◌∷◌, ◌++◌, codes}
+use Rattle.bitflags.specs.declared.traits.Flag.{Flag}
+use Rattle.rtnl.specs.declared.names.flags.Number.{Number}
+use Rattle.rtnl.specs.declared.names.flags.Bits.{Bits}
+use Rattle.rtnl.specs.declared.names.flags.Bits.TheVariants as bits
+use Rattle.rtnl.specs.declared.names.types.FlagNames.{FlagNames}
+use Rattle.rtnl.specs.declared.names.types.FlagNames.TheVariants.{Common, Get, New, Error}
+
+-- the name of a bit, and the bit
+abbrev pub BitName : Type 0
+BitName = List ℕ × ℕ
+
+-- one of the program
+abbrev pub bit_view : Flag Number → BitName
+bit_view row = (row.name.now, row.value.0)
 
 -- the flags of messages of all types
-abbrev pub message_flags : List Row
+abbrev pub message_flags : List BitName
 message_flags =
     (codes "REQUEST", 0x1)
     ∷ (codes "MULTI", 0x2)
@@ -13,14 +26,14 @@ message_flags =
     ∷ (codes "DUMP_FILTERED", 0x20) ∷ []
 
 -- the flags of all types and those of a message that asks
-abbrev pub get_flags : List Row
+abbrev pub get_flags : List BitName
 get_flags =
     message_flags ++ (codes "ROOT", 0x100)
     ∷ (codes "MATCH", 0x200)
     ∷ (codes "ATOMIC", 0x400) ∷ []
 
 -- the flags of all types and those of a message of something new
-abbrev pub new_flags : List Row
+abbrev pub new_flags : List BitName
 new_flags =
     message_flags ++ (codes "REPLACE", 0x100)
     ∷ (codes "EXCL", 0x200)
@@ -28,13 +41,13 @@ new_flags =
     ∷ (codes "APPEND", 0x800) ∷ []
 
 -- the flags of all types and those of an answer with a code
-abbrev pub error_flags : List Row
+abbrev pub error_flags : List BitName
 error_flags =
     message_flags ++ (codes "CAPPED", 0x100)
     ∷ (codes "ACK_TLVS", 0x200) ∷ []
 
 -- the flags of a link
-abbrev pub link_flags : List Row
+abbrev pub link_flags : List BitName
 link_flags =
     (codes "UP", 0x1)
     ∷ (codes "BROADCAST", 0x2)
@@ -57,7 +70,7 @@ link_flags =
     ∷ (codes "ECHO", 0x40000) ∷ []
 
 -- the states of a neighbour
-abbrev pub neigh_states : List Row
+abbrev pub neigh_states : List BitName
 neigh_states =
     (codes "INCOMPLETE", 0x1)
     ∷ (codes "REACHABLE", 0x2)
@@ -69,7 +82,7 @@ neigh_states =
     ∷ (codes "PERMANENT", 0x80) ∷ []
 
 -- the flags of a neighbour
-abbrev pub neigh_flags : List Row
+abbrev pub neigh_flags : List BitName
 neigh_flags =
     (codes "USE", 0x1)
     ∷ (codes "SELF", 0x2)
@@ -81,7 +94,7 @@ neigh_flags =
     ∷ (codes "ROUTER", 0x80) ∷ []
 
 -- the flags of a next hop
-abbrev pub hop_flags : List Row
+abbrev pub hop_flags : List BitName
 hop_flags =
     (codes "DEAD", 0x1)
     ∷ (codes "PERVASIVE", 0x2)
@@ -89,3 +102,18 @@ hop_flags =
     ∷ (codes "OFFLOAD", 0x8)
     ∷ (codes "LINKDOWN", 0x10)
     ∷ (codes "UNRESOLVED", 0x20) ∷ []
+
+-- those of a message's flags
+abbrev pub flag_names : FlagNames → List BitName
+flag_names Common = message_flags
+flag_names Get = get_flags
+flag_names New = new_flags
+flag_names Error = error_flags
+
+-- the bits and their names
+abbrev pub bit_names : Bits → List BitName
+bit_names (bits.Message names) = flag_names names
+bit_names bits.Link = link_flags
+bit_names bits.NeighState = neigh_states
+bit_names bits.NeighFlags = neigh_flags
+bit_names bits.NextHop = hop_flags

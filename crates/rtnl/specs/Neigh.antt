@@ -6,13 +6,13 @@ use Rattle.nl_route.specs.declared.ndmsg.NeighHead.{NeighHead}
 use Rattle.rtnl.specs.Json.{Field, number, signed}
 use Rattle.rtnl.specs.NamedBits.{neigh_flags, neigh_states}
 use Rattle.rtnl.specs.Names.{names_json, names_text}
-use Rattle.rtnl.specs.Rows.{Row}
+use Rattle.rtnl.specs.Named.{Named}
 use Rattle.rtnl.specs.Text.{◌⨟◌, padded_hex}
-use Rattle.rtnl.specs.declared.text.attributes.Style.{Style}
-use Rattle.rtnl.specs.declared.text.attributes.Style.TheVariants.{U16, U32, NetworkU16, Address, Hex}
+use Rattle.rtnl.specs.declared.names.attributes.Style.{Style}
+use Rattle.rtnl.specs.declared.names.attributes.Style.TheVariants.{U16, U32, NetworkU16, Address, Hex}
 
 -- NDA, of a neighbour
-abbrev pub neigh_rows : List (Row Style)
+abbrev pub neigh_rows : List (Named Style)
 neigh_rows =
     (NDA_DST, codes "DST", Address)
     ∷ (NDA_LLADDR, codes "LLADDR", Hex)
@@ -33,8 +33,8 @@ neigh_line h =
     ⨟ codes " type " ⨟ decimal h.sort ⨟ codes "\n"
 
 -- the fields of a neighbour's head
-unfoldable pub neigh_fields : NeighHead → List Field
-neigh_fields h =
+unfoldable pub neigh_head_fields : NeighHead → List Field
+neigh_head_fields h =
     (codes "family", number h.family)
     ∷ (codes "index", signed h.ifindex)
     ∷ (codes "state", number h.state)

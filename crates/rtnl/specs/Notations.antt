@@ -2,7 +2,6 @@
 use Rattle.std.specs.Prelude.{ℕ, ◌%◌, ◌==◌, if◌then◌else◌, List, [], length, slice_index, codes, Bool, true, false, Option, Some, None}
 use Rattle.std.specs.Fmt.{decimal, signed_decimal}
 use Rattle.std.specs.Int.{w32, cast_signed}
-use Rattle.bitflags.specs.Sets.{Row}
 use Rattle.json.specs.Json as json
 use Rattle.nl_attr.specs.declared.order.Order.{Order}
 use Rattle.nl_attr.specs.declared.tree.AttrFlags.{AttrFlags}
@@ -10,17 +9,16 @@ use Rattle.nl_attr.specs.declared.tree.Ctx.{Ctx}
 use Rattle.nl_attr.specs.Fixed.{NUMBERS}
 use Rattle.nl_attr.specs.Numbers.{number_of}
 use Rattle.nl_attr.specs.Walk.{flags_of}
-use Rattle.rtnl.specs.declared.bytes.notation.Bits.{Bits}
-use Rattle.rtnl.specs.declared.bytes.notation.Bits.TheVariants as bits
+use Rattle.rtnl.specs.declared.names.flags.Bits.{Bits}
+use Rattle.rtnl.specs.declared.names.flags.Bits.TheVariants as bits
 use Rattle.rtnl.specs.declared.bytes.notation.Notation.{Notation}
 use Rattle.rtnl.specs.declared.bytes.notation.Notation.TheVariants.{Blank, Decimal, Signed, Digits, Flags, MessageType, AttrType, Payload}
 use Rattle.rtnl.specs.Json.{number, signed, string}
 use Rattle.rtnl.specs.Kernel.{attribute_name, message_name}
-use Rattle.rtnl.specs.NamedBits.{hop_flags, link_flags, neigh_flags, neigh_states}
+use Rattle.rtnl.specs.NamedBits.{BitName, flag_names, hop_flags, link_flags, neigh_flags, neigh_states}
 use Rattle.rtnl.specs.Names.{names_text}
-use Rattle.rtnl.specs.Objects.{reading_json}
+use Rattle.rtnl.specs.MessagesJson.{reading_json}
 use Rattle.rtnl.specs.Text.{◌⨟◌, padded_hex}
-use Rattle.rtnl.specs.Types.{flags_table}
 use Rattle.rtnl.specs.Values.{Reading, u8, u16, u32, text, ipv4, ipv6, hex, reading_of, value_text}
 
 -- the number that one, two or four bytes are
@@ -51,12 +49,12 @@ all_digits o bytes =
     else []
 
 -- flags in so many digits, and the names of those that are set
-unfoldable pub flags_behind : ℕ → List Row → ℕ → List ℕ
+unfoldable pub flags_behind : ℕ → List BitName → ℕ → List ℕ
 flags_behind count table n = codes " 0x" ⨟ padded_hex count n ⨟ codes " " ⨟ names_text table n
 
 -- the same of flags with these names
 abbrev pub all_flags : Order → Bits → List ℕ → List ℕ
-all_flags o (bits.Message names) bytes = if length bytes == 2 then flags_behind 4 (flags_table names) (number_of o 2 bytes) else []
+all_flags o (bits.Message names) bytes = if length bytes == 2 then flags_behind 4 (flag_names names) (number_of o 2 bytes) else []
 all_flags o bits.Link bytes = if length bytes == 4 then flags_behind 8 link_flags (number_of o 4 bytes) else []
 all_flags o bits.NeighState bytes = if length bytes == 2 then flags_behind 4 neigh_states (number_of o 2 bytes) else []
 all_flags o bits.NeighFlags bytes = if length bytes == 1 then flags_behind 2 neigh_flags (slice_index bytes 0) else []

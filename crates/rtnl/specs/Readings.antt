@@ -1,7 +1,7 @@
 -- What a reading of the program stands for.
 use Rattle.rtnl.specs.Values as spec
-use Rattle.rtnl.specs.declared.text.values.Reading.{Reading}
-use Rattle.rtnl.specs.declared.text.values.Reading.TheVariants.{U8, U16, U32, Text, Ipv4, Ipv6, Hex}
+use Rattle.rtnl.specs.declared.names.values.Reading.{Reading}
+use Rattle.rtnl.specs.declared.names.values.Reading.TheVariants.{U8, U16, U32, Text, Ipv4, Ipv6, Hex}
 
 -- the reading that one of the program is
 abbrev pub reading_view : Reading → spec.Reading

@@ -5,13 +5,13 @@ use Rattle.nl_attr.specs.Fixed.{RTA_METRICS, RTA_MULTIPATH}
 use Rattle.nl_route.specs.Route.{RTA_DST, RTA_SRC, RTA_IIF, RTA_OIF, RTA_GATEWAY, RTA_PRIORITY, RTA_PREFSRC, RTA_TABLE}
 use Rattle.nl_route.specs.declared.rtmsg.RouteHead.{RouteHead}
 use Rattle.rtnl.specs.Json.{Field, number}
-use Rattle.rtnl.specs.Rows.{Row}
+use Rattle.rtnl.specs.Named.{Named}
 use Rattle.rtnl.specs.Text.{◌⨟◌, padded_hex}
-use Rattle.rtnl.specs.declared.text.attributes.Style.{Style}
-use Rattle.rtnl.specs.declared.text.attributes.Style.TheVariants.{U8, U16, U32, Text, Address, Hex}
+use Rattle.rtnl.specs.declared.names.attributes.Style.{Style}
+use Rattle.rtnl.specs.declared.names.attributes.Style.TheVariants.{U8, U16, U32, Text, Address, Hex}
 
 -- RTA, of a route
-abbrev pub route_rows : List (Row Style)
+abbrev pub route_rows : List (Named Style)
 route_rows =
     (RTA_DST, codes "DST", Address)
     ∷ (RTA_SRC, codes "SRC", Address)
@@ -36,7 +36,7 @@ route_rows =
     ∷ (30, codes "NH_ID", U32) ∷ []
 
 -- RTAX, inside a route's METRICS
-abbrev pub metrics_rows : List (Row Style)
+abbrev pub metrics_rows : List (Named Style)
 metrics_rows =
     (1, codes "LOCK", U32)
     ∷ (2, codes "MTU", U32)
@@ -63,8 +63,8 @@ route_line h =
     ⨟ codes " scope " ⨟ decimal h.scope ⨟ codes " type " ⨟ decimal h.sort ⨟ codes " flags 0x" ⨟ padded_hex 8 h.flags ⨟ codes "\n"
 
 -- the fields of a route's head
-unfoldable pub route_fields : RouteHead → List Field
-route_fields h =
+unfoldable pub route_head_fields : RouteHead → List Field
+route_head_fields h =
     (codes "family", number h.family)
     ∷ (codes "dst_len", number h.dst_len)
     ∷ (codes "src_len", number h.src_len)

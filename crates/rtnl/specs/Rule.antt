@@ -4,13 +4,13 @@ use Rattle.std.specs.Fmt.{decimal}
 use Rattle.nl_route.specs.Rule.{FRA_DST, FRA_SRC, FRA_IIFNAME, FRA_GOTO, FRA_PRIORITY, FRA_FWMARK, FRA_TABLE, FRA_FWMASK, FRA_OIFNAME}
 use Rattle.nl_route.specs.declared.fib_rule_hdr.RuleHead.{RuleHead}
 use Rattle.rtnl.specs.Json.{Field, number}
-use Rattle.rtnl.specs.Rows.{Row}
+use Rattle.rtnl.specs.Named.{Named}
 use Rattle.rtnl.specs.Text.{◌⨟◌, padded_hex}
-use Rattle.rtnl.specs.declared.text.attributes.Style.{Style}
-use Rattle.rtnl.specs.declared.text.attributes.Style.TheVariants.{U32, Text, Address}
+use Rattle.rtnl.specs.declared.names.attributes.Style.{Style}
+use Rattle.rtnl.specs.declared.names.attributes.Style.TheVariants.{U32, Text, Address}
 
 -- FRA, of a routing rule
-abbrev pub rule_rows : List (Row Style)
+abbrev pub rule_rows : List (Named Style)
 rule_rows =
     (FRA_DST, codes "DST", Address)
     ∷ (FRA_SRC, codes "SRC", Address)
@@ -30,8 +30,8 @@ rule_line h =
     ⨟ codes " flags 0x" ⨟ padded_hex 8 h.flags ⨟ codes "\n"
 
 -- the fields of a rule's head
-unfoldable pub rule_fields : RuleHead → List Field
-rule_fields h =
+unfoldable pub rule_head_fields : RuleHead → List Field
+rule_head_fields h =
     (codes "family", number h.family)
     ∷ (codes "dst_len", number h.dst_len)
     ∷ (codes "src_len", number h.src_len)

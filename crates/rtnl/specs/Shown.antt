@@ -12,7 +12,7 @@ use Rattle.rtnl.specs.Runs.{Prints, OfInput}
 use Rattle.rtnl.specs.Datagrams.{datagram_line, reason_text, refused_line, too_large_line}
 use Rattle.rtnl.specs.Json.{Field, array, json_line, number, object, string}
 use Rattle.rtnl.specs.Messages.{messages_text}
-use Rattle.rtnl.specs.Objects.{messages_json}
+use Rattle.rtnl.specs.MessagesJson.{messages_json}
 use Rattle.rtnl.specs.declared.error.Verdict.{Verdict}
 
 -- the messages of a datagram, or why it is refused

@@ -1,7 +1,7 @@
 -- What calls of a source or a sink do to its known bytes and to its counts.
 use Rattle.std.specs.Prelude.{◌≡◌, ℕ, ◌+◌, ◌-◌, ◌<◌, ◌≤◌, ◌^◌, ◌⊎◌, min, List, Option, Result, Ok, Err, length, take}
 use Rattle.std.specs.Io.KnownBytes.{Appends, Consumes, IsAtEnd}
-use Rattle.rtnl.specs.declared.broken.Broken.{Broken}
+use Rattle.rtnl.specs.declared.streams.calls.Broken.{Broken}
 
 -- one more, up to the greatest count
 abbrev pub one_more : ℕ → ℕ

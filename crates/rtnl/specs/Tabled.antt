@@ -5,7 +5,7 @@ use Rattle.std.specs.Global.{Vec}
 use Rattle.nl_attr.specs.declared.order.Order.{Order}
 use Rattle.nl_route.specs.Families.{name_of}
 use Rattle.nl_frame.specs.Limits.{AreLimits, Bounds}
-use Rattle.nl_frame.specs.Message.{family}
+use Rattle.nl_frame.specs.Message.{object}
 use Rattle.nl_dump.specs.declared.dump.Dump.{Dump}
 use Rattle.nl_dump.specs.declared.dump.End.TheVariants.{Done, Error, Overrun, Abandoned}
 use Rattle.nl_dump.specs.declared.dump.State.{State}

@@ -13,7 +13,7 @@ use Rattle.nl_dump.specs.declared.errors.FeedError.TheVariants as feed
 use Rattle.nl_dump.specs.Items.{Item}
 use Rattle.nl_dump.specs.View.{View, table_at, complete_of}
 use Rattle.rtnl.specs.Json.{Field, boolean, json_line, number, object, signed, string}
-use Rattle.rtnl.specs.Objects.{item_field}
+use Rattle.rtnl.specs.MessagesJson.{item_field}
 use Rattle.rtnl.specs.Runs.{OfInput}
 use Rattle.rtnl.specs.Shown.{datagram_object, refusal_fields}
 use Rattle.rtnl.specs.Tabled.{Report, TablesBy}

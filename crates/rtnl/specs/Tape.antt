@@ -16,7 +16,7 @@ use Rattle.nl_frame.specs.Heads.{whole}
 use Rattle.nl_frame.specs.Limits.{Bounds}
 use Rattle.nl_frame.specs.Taped.{IfBroken, read_refusal}
 use Rattle.rtnl.specs.Shown.{Answer, refusal_text}
-use Rattle.rtnl.specs.Trees.{inner_context}
+use Rattle.rtnl.specs.Attributes.{inner_context}
 
 -- the refusal in an answer of a scan
 abbrev pub refusal_in : {X : Type 0} → Result X ScanError → Option ScanError

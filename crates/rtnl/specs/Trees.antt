@@ -4,12 +4,10 @@ use Rattle.std.specs.Fmt.{decimal, signed_decimal}
 use Rattle.nl_attr.specs.declared.order.Order.{Order}
 use Rattle.nl_attr.specs.declared.tree.AttrFlags.{AttrFlags}
 use Rattle.nl_attr.specs.declared.tree.Ctx.{Ctx}
-use Rattle.nl_attr.specs.declared.tree.Ctx.TheVariants.{Route, Plain}
-use Rattle.nl_attr.specs.declared.tree.Content.{Content}
-use Rattle.nl_attr.specs.declared.tree.Content.TheVariants as content
+use Rattle.nl_attr.specs.declared.tree.Ctx.TheVariants.{Route}
 use Rattle.nl_attr.specs.Tree.{Val, bytes, list, hops, Items, no_items, item, HopItems, no_hops, hop, holds_of}
-use Rattle.rtnl.specs.declared.text.attributes.Style.{Style}
-use Rattle.rtnl.specs.Attributes.{attribute_style, attribute_name}
+use Rattle.rtnl.specs.declared.names.attributes.Style.{Style}
+use Rattle.rtnl.specs.Attributes.{attribute_style, attribute_name, inner_context}
 use Rattle.rtnl.specs.NamedBits.{hop_flags}
 use Rattle.rtnl.specs.Names.{names_text}
 use Rattle.rtnl.specs.Text.{◌⨟◌, padded_hex}
@@ -33,12 +31,6 @@ indented more = codes "    " ++ more
 -- the indentation of what an item holds
 unfoldable pub deeper : List ℕ → List ℕ
 deeper indent = indent ++ codes "  "
-
--- the context of the attributes that an attribute holds
-abbrev pub inner_context : Content → Ctx
-inner_context content.Bytes = Plain
-inner_context (content.List ctx) = ctx
-inner_context content.Hops = Plain
 
 -- how many attributes
 abbrev pub item_count : Items → ℕ

@@ -1,18 +1,16 @@
 -- The names of message types and of their flags.
 use Rattle.std.specs.Prelude.{ℕ, List, [], ◌∷◌, ◌++◌, codes, Option, Some, None}
-use Rattle.bitflags.specs.Sets.{Row as BitRow}
 use Rattle.nl_route.specs.declared.family.RouteType.{RouteType}
 use Rattle.nl_route.specs.declared.family.Verb.{Verb}
 use Rattle.nl_route.specs.declared.family.Verb.TheVariants as verb
 use Rattle.nl_route.specs.Families.{name_of}
 use Rattle.nl_route.specs.Types.{route_type}
-use Rattle.rtnl.specs.declared.text.types.FlagNames.{FlagNames}
-use Rattle.rtnl.specs.declared.text.types.FlagNames.TheVariants.{Common, Get, New, Error}
-use Rattle.rtnl.specs.NamedBits.{error_flags, get_flags, message_flags, new_flags}
-use Rattle.rtnl.specs.Rows.{Row, find_row, name_in}
+use Rattle.rtnl.specs.declared.names.types.FlagNames.{FlagNames}
+use Rattle.rtnl.specs.declared.names.types.FlagNames.TheVariants.{Common, Get, New, Error}
+use Rattle.rtnl.specs.Named.{Named, find_named, name_in}
 
 -- the message types of netlink(7)
-unfoldable pub controls : List (Row FlagNames)
+unfoldable pub controls : List (Named FlagNames)
 controls =
     (1, codes "noop", Common)
     ∷ (2, codes "error", Error)
@@ -35,7 +33,7 @@ verb_flags verb.Set = Common
 
 -- the name of a message type that says this of a family
 abbrev pub name_for : ℕ → Option RouteType → List ℕ
-name_for kind None = name_in (codes "other") (find_row kind controls)
+name_for kind None = name_in (codes "other") (find_named kind controls)
 name_for kind (Some t) = verb_name t.verb ++ name_of t.family
 
 -- the name of a message type
@@ -49,16 +47,9 @@ flags_in (Some row) = row.1
 
 -- those of a message type, by what it says where it is a family's
 abbrev pub flags_for : ℕ → Option RouteType → FlagNames
-flags_for kind None = flags_in (find_row kind controls)
+flags_for kind None = flags_in (find_named kind controls)
 flags_for kind (Some t) = verb_flags t.verb
 
 -- which names the flags of a message type have
 unfoldable pub type_flags : ℕ → FlagNames
 type_flags kind = flags_for kind (route_type kind)
-
--- the bits and their names
-abbrev pub flags_table : FlagNames → List BitRow
-flags_table Common = message_flags
-flags_table Get = get_flags
-flags_table New = new_flags
-flags_table Error = error_flags

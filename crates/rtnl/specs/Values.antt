@@ -5,8 +5,8 @@ use Rattle.std.specs.Fmt.{decimal}
 use Rattle.nl_attr.specs.declared.order.Order.{Order}
 use Rattle.nl_attr.specs.declared.order.Order.TheVariants.{Big}
 use Rattle.nl_attr.specs.Numbers.{number_of}
-use Rattle.rtnl.specs.declared.text.attributes.Style.{Style}
-use Rattle.rtnl.specs.declared.text.attributes.Style.TheVariants.{U8, U16, U32, NetworkU16, Text, Address, Hex}
+use Rattle.rtnl.specs.declared.names.attributes.Style.{Style}
+use Rattle.rtnl.specs.declared.names.attributes.Style.TheVariants.{U8, U16, U32, NetworkU16, Text, Address, Hex}
 use Rattle.rtnl.specs.Text.{◌⨟◌, hex_text, padded_hex}
 
 -- a number of one, two or four bytes, a text, an address, or other bytes

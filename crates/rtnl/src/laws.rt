@@ -10,6 +10,7 @@ ghost use Rattle.rtnl.specs.Tabled.{HeadlineOfTables};
 ghost use Rattle.rtnl.specs.declared.error.Verdict.{Verdict};
 
 /// A datagram has one answer: its one layout, or its one refusal. A check finds one thing of it.
+#[tactic(auto, using(crate::proofs::Answers::some_answer, crate::proofs::Answers::same_answer, crate::proofs::Answers::same_finding))]
 pub fn one_answer()
     ensures some { (b : Bounds) (d : List ℕ) → AreBytes d → (a : Answer) × Answers b d a }
     ensures only { (b : Bounds) (d : List ℕ) (x y : Answer)
@@ -31,6 +32,7 @@ pub fn one_text()
 {}
 
 /// A line of a recording is bad exactly where it has a fault.
+#[tactic(auto, using(crate::proofs::BadLines::bad_line))]
 pub fn bad_lines()
     ensures { (number : ℕ) (line : List ℕ)
         → (line_at number line ≡ Err number) ↔ IsSome (line_fault_of line) }

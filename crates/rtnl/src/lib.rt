@@ -1,42 +1,32 @@
-//! Shows recordings of rtnetlink datagrams: where bytes come from and go to, the lines of a
-//! recording, and the words of the printed text.
+//! Shows recordings of rtnetlink datagrams. The rooms, each standing on those before it:
+//! `streams`, where bytes come from and go to; `recordings`, lines to datagrams; `pieces` of text;
+//! `names`, numbers to words; `text` and `json_lines`, what is printed of a datagram, file for file,
+//! and `bytes`, its bytes beside what they are, in both; `runs`, the commands over a recording.
 #![tactic(auto)]
 
-mod begun;
-mod broken;
 mod bytes;
-mod check;
-mod contents;
-mod decoding;
-mod each;
 mod error;
+mod json_lines;
 pub mod laws;
-mod lines;
-mod objects;
-mod recording;
-mod report;
-mod request;
-mod retry;
-mod run;
-mod show;
-mod sink;
-mod source;
-mod table;
-mod tape;
+mod names;
+mod pieces;
+mod recordings;
+mod runs;
+mod streams;
 mod text;
 
-pub use broken::Broken;
 pub use bytes::rows::RowFormat;
-pub use bytes::run_show_bytes;
-pub use check::{run_check, run_check_json};
+pub use bytes::tape::{Tape, context_inside, tape_of};
 pub use error::{RunError, Verdict};
-pub use lines::{LineFault, datagrams, line_fault};
+pub use names::kernel::{KernelName, attribute_name, message_name};
 pub use nl_dump as dump;
 pub use nl_frame as frame;
-pub use request::{run_request, run_request_ordered};
-pub use show::{push_datagram, run_show, run_show_json};
-pub use sink::{Sink, VecSink, WriteSink};
-pub use source::{LONGEST_INPUT, ReadSource, SliceSource, Source};
-pub use table::{run_table, run_table_json};
-pub use tape::{Tape, context_inside, tape_of};
-pub use text::kernel::{KernelName, attribute_name, message_name};
+pub use recordings::lines::{LineFault, datagrams, line_fault};
+pub use runs::check::{run_check, run_check_json};
+pub use runs::request::{run_request, run_request_ordered};
+pub use runs::show::{push_datagram, run_show, run_show_json};
+pub use runs::show_bytes::run_show_bytes;
+pub use runs::table::{run_table, run_table_json};
+pub use streams::calls::Broken;
+pub use streams::sink::{Sink, VecSink, WriteSink};
+pub use streams::source::{LONGEST_INPUT, ReadSource, SliceSource, Source};

@@ -13,7 +13,7 @@ use Rattle.nl_route.specs.Body.{body_written}
 use Rattle.nl_frame.specs.declared.header.Header.{Header}
 use Rattle.nl_frame.specs.declared.writing.WriteError.{WriteError}
 use Rattle.nl_frame.specs.Header.{header_fields}
-use Rattle.nl_frame.specs.Message.{MessageVal, family}
+use Rattle.nl_frame.specs.Message.{MessageVal, object}
 use Rattle.nl_frame.specs.Outcomes.{write_code}
 use Rattle.nl_frame.specs.Written.{written}
 use Rattle.nl_table.specs.Content.{Content}
@@ -56,7 +56,7 @@ OfTable P (Some v) (Some k) old new a = P (table_at k v.tables) k old new a
 
 -- the message NEW of an item, with no flags, sequence number and port id
 abbrev pub entry_message : Family → Item → MessageVal
-entry_message k item = record { kind = type_of k New; flags = 0; seq = 0; port = 0; body = family item.0 item.1 }
+entry_message k item = record { kind = type_of k New; flags = 0; seq = 0; port = 0; body = object item.0 item.1 }
 
 -- the bytes of a family's message whose body has so many bytes, with these fields and attributes
 abbrev pub front_of : Family → ℕ → Header

@@ -1,32 +1,24 @@
-//! Showing a recording in bytes: each datagram's bytes beside what they are.
+//! The bytes of a datagram beside what they are.
 
-ghost use Rattle.std.specs.Prelude.{◌≡◌, ◌<◌, ◌≤◌, ◌+◌, ◌++◌, ◌^◌, Some, None, OnOk, IfOk, is_none, length};
-ghost use Rattle.rtnl.specs.ByteRows.{ShowsBytes, ShowsInputBytes, opening, refused_at};
-ghost use Rattle.rtnl.specs.ByteRows.{row_printed};
+ghost use Rattle.std.specs.Prelude.{◌≡◌, ◌<◌, ◌≤◌, ◌+◌, ◌++◌, ◌^◌, Some, None, OnOk, length};
+ghost use Rattle.rtnl.specs.ByteRows.{opening, refused_at, row_printed};
 ghost use Rattle.rtnl.specs.ByteViews.{AddsAllRows, refusal_ending};
-ghost use Rattle.rtnl.specs.Runs as fixed;
-ghost use Rattle.rtnl.specs.Runs.{Runs};
-ghost use Rattle.rtnl.specs.Streams.{ConsumesAtMost};
 ghost use Rattle.rtnl.specs.Tape.{refusal_line};
 
+mod json_lines;
 pub(crate) mod notation;
-mod object;
 mod parts;
 pub(crate) mod rows;
 mod structs;
+pub(crate) mod tape;
 mod view;
 
 use crate::bytes::rows::{Printing, RowFormat};
+use crate::bytes::tape::Tape;
 use crate::bytes::view::View;
-use crate::each::Each;
-use crate::error::{RunError, Verdict};
-use crate::run::run;
-use crate::sink::Sink;
-use crate::source::Source;
-use crate::tape::{Tape, tape_of};
 use crate::text::datagram::{push_datagram_line, push_refusal};
 use nl_attr::Event;
-use nl_frame::{Limits, ReadError, ScanError};
+use nl_frame::{ReadError, ScanError};
 use std::alloc::{AllocError, Global};
 
 /// Where a datagram is refused.
@@ -78,7 +70,7 @@ fn push_refused(
 }
 
 /// Writes the rows of a datagram.
-fn push_rows(
+pub(crate) fn push_rows(
     alloc: Global,
     out: &mut Vec<u8>,
     how: Printing,
@@ -96,7 +88,7 @@ fn push_rows(
 }
 
 /// Writes the line before the rows of a datagram.
-fn push_opening(out: &mut Vec<u8>, how: Printing, bytes: &[u8]) -> Result<(), AllocError>
+pub(crate) fn push_opening(out: &mut Vec<u8>, how: Printing, bytes: &[u8]) -> Result<(), AllocError>
     ensures { OnOk result
         (out.new.items ≡ out.old.items ++ opening how.format how.number bytes.now) }
 {
@@ -118,7 +110,7 @@ fn push_line(out: &mut Vec<u8>, refusal: Option<ScanError>) -> Result<(), AllocE
 }
 
 /// Writes what stands behind the rows of a datagram.
-fn push_ending(
+pub(crate) fn push_ending(
     out: &mut Vec<u8>,
     format: RowFormat,
     refusal: Option<ScanError>,
@@ -129,79 +121,4 @@ fn push_ending(
         RowFormat::Text | RowFormat::Coloured => push_line(out, refusal),
         RowFormat::Json => Ok(()),
     }
-}
-
-/// To show datagrams in bytes under these limits.
-#[derive(Clone, Copy)]
-struct ShowBytes {
-    limits: Limits,
-    format: RowFormat,
-}
-
-impl Each for ShowBytes {
-    ghost use Rattle.rtnl.specs.ByteRows.{Viewed, Views, is_accepted, viewed_text};
-
-    ghost Found = { Viewed };
-
-    ghost finds = { λ s. Views s.limits };
-
-    ghost text = { λ s. viewed_text s.format s.limits.shape.order };
-
-    ghost takes = { is_accepted };
-
-    fn push(
-        &self,
-        alloc: Global,
-        out: &mut Vec<u8>,
-        number: usize,
-        bytes: &[u8],
-    ) -> Result<bool, AllocError> {
-        let how = Printing {
-            format: self.format,
-            order: self.limits.order(),
-            number,
-        };
-        let tape = tape_of(alloc, bytes, &self.limits)?;
-        push_opening(out, how, bytes)?;
-        push_rows(alloc, out, how, bytes, &tape)?;
-        push_ending(out, self.format, tape.refusal)?;
-        Ok(tape.refusal.is_none())
-    }
-}
-
-/// Shows each datagram as its bytes, each byte once and in order, in rows of at most sixteen beside
-/// what they are: the fields of each message's header, of the head of its body, of attributes and
-/// of next hops, the payloads of attributes, padding. In text the words of a row are indented as
-/// `run_show` indents what they are of, and behind the rows stands the line of a refusal, as
-/// `run_show` writes it; in JSON (RFC 8259) each row is an object on a line.
-///
-/// Of a refused datagram what stands before its first fault is shown so; then the head that breaks
-/// a rule, with the refusal; then the other bytes, as bytes.
-///
-/// It reads, writes and ends as `run_show` does.
-pub fn run_show_bytes<S: Source, W: Sink>(
-    alloc: Global,
-    source: &mut S,
-    sink: &mut W,
-    limits: &Limits,
-    format: RowFormat,
-) -> Result<Verdict, RunError>
-    // What was written has each byte of the datagrams of what was read once, in order, beside its
-    // place and the value that it has, and the verdict is theirs.
-    ensures shown { IfOk result
-        (ShowsInputBytes format limits.now (S.remaining source.old) (S.remaining source.new)
-        (W.contents sink.old) (W.contents sink.new)) }
-    // It ends as every run over a recording does.
-    ensures runs { Runs S.remaining S.is_ended S.failure_count
-        W.contents W.is_stalled W.stall_count W.failure_count
-        (ShowsBytes format limits.now) source.old source.new sink.old sink.new result }
-    // It takes at most one byte more than the longest input.
-    ensures bounded { ConsumesAtMost (fixed.LONGEST_INPUT + 1)
-        (S.remaining source.old) (S.remaining source.new) }
-{
-    let show = ShowBytes {
-        limits: *limits,
-        format,
-    };
-    run(alloc, source, sink, &show)
 }

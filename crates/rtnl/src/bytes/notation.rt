@@ -4,33 +4,22 @@ ghost use Rattle.std.specs.Prelude.{◌≡◌, ◌++◌, OnOk, codes, decimal, o
 ghost use Rattle.std.specs.Fmt.{signed_decimal};
 ghost use Rattle.nl_attr.specs.Walk.{flags_of};
 ghost use Rattle.rtnl.specs.Kernel.{kernel_name};
-ghost use Rattle.rtnl.specs.NamedBits.{hop_flags, link_flags, neigh_flags, neigh_states};
+ghost use Rattle.rtnl.specs.NamedBits.{bit_names};
 ghost use Rattle.rtnl.specs.Notations.{all_digits, all_flags, attr_behind, bits_behind};
 ghost use Rattle.rtnl.specs.Notations.{digits_behind, flags_behind, name_behind, number_in};
 ghost use Rattle.rtnl.specs.Notations.{reading_behind, type_behind, value_behind, word_if};
 ghost use Rattle.rtnl.specs.Readings.{reading_view};
-ghost use Rattle.rtnl.specs.Types.{flags_table};
 
-use crate::text::attributes::Style;
-use crate::text::flags::{HopFlags, LinkFlags, NeighFlags, NeighState};
-use crate::text::kernel::{KernelName, attribute_name, message_name};
-use crate::text::names::push_names;
-use crate::text::pieces::push;
-use crate::text::segment::Segment;
-use crate::text::types::{FlagNames, push_flag_names};
-use crate::text::values::{Reading, push_value, read_payload};
+use crate::names::attributes::Style;
+use crate::names::flags::Bits;
+use crate::names::kernel::{KernelName, attribute_name, message_name};
+use crate::names::values::{Reading, read_payload};
+use crate::pieces::push;
+use crate::pieces::segment::Segment;
+use crate::text::flags::push_names;
+use crate::text::values::push_value;
 use nl_attr::{AttrFlags, Ctx, NLA_F_NESTED, NLA_F_NET_BYTEORDER, NUMBERS, Order};
 use std::alloc::AllocError;
-
-/// Which names the bits of flags have.
-#[derive(Clone, Copy)]
-pub(crate) enum Bits {
-    Message(FlagNames),
-    Link,
-    NeighState,
-    NeighFlags,
-    NextHop,
-}
 
 /// How the bytes of a part are read, and what is printed of them.
 #[derive(Clone, Copy)]
@@ -127,55 +116,37 @@ fn push_digits(out: &mut Vec<u8>, order: Order, bytes: &[u8]) -> Result<(), Allo
     }
 }
 
-/// Writes the flags of a message.
+/// Writes flags of 8 bits, and the names of those that are set.
 #[tactic(auto, unfolding(crate::specs::Notations::flags_behind, crate::specs::Notations::digits_behind), using(crate::proofs::Sets::joins))]
-fn push_message_flags(out: &mut Vec<u8>, names: FlagNames, flags: u16) -> Result<(), AllocError>
+fn push_flags8(out: &mut Vec<u8>, bits: Bits, flags: u8) -> Result<(), AllocError>
     ensures { OnOk result
-        (out.new.items ≡ out.old.items ++ flags_behind 4 (flags_table names) flags) }
+        (out.new.items ≡ out.old.items ++ flags_behind 2 (bit_names bits) flags) }
+{
+    push_hex2(out, flags)?;
+    push(out, " ")?;
+    push_names(out, bits, flags.into())
+}
+
+/// Writes flags of 16 bits, and the names of those that are set.
+#[tactic(auto, unfolding(crate::specs::Notations::flags_behind, crate::specs::Notations::digits_behind), using(crate::proofs::Sets::joins))]
+fn push_flags16(out: &mut Vec<u8>, bits: Bits, flags: u16) -> Result<(), AllocError>
+    ensures { OnOk result
+        (out.new.items ≡ out.old.items ++ flags_behind 4 (bit_names bits) flags) }
 {
     push_hex4(out, flags)?;
     push(out, " ")?;
-    push_flag_names(out, names, flags)
+    push_names(out, bits, flags.into())
 }
 
-/// Writes the flags of a link.
+/// Writes flags of 32 bits, and the names of those that are set.
 #[tactic(auto, unfolding(crate::specs::Notations::flags_behind, crate::specs::Notations::digits_behind), using(crate::proofs::Sets::joins))]
-fn push_link_flags(out: &mut Vec<u8>, flags: u32) -> Result<(), AllocError>
-    ensures { OnOk result (out.new.items ≡ out.old.items ++ flags_behind 8 link_flags flags) }
+fn push_flags32(out: &mut Vec<u8>, bits: Bits, flags: u32) -> Result<(), AllocError>
+    ensures { OnOk result
+        (out.new.items ≡ out.old.items ++ flags_behind 8 (bit_names bits) flags) }
 {
     push_hex8(out, flags)?;
     push(out, " ")?;
-    push_names(out, &LinkFlags(flags))
-}
-
-/// Writes the state of a neighbour.
-#[tactic(auto, unfolding(crate::specs::Notations::flags_behind, crate::specs::Notations::digits_behind), using(crate::proofs::Sets::joins))]
-fn push_neigh_state(out: &mut Vec<u8>, flags: u16) -> Result<(), AllocError>
-    ensures { OnOk result (out.new.items ≡ out.old.items ++ flags_behind 4 neigh_states flags) }
-{
-    push_hex4(out, flags)?;
-    push(out, " ")?;
-    push_names(out, &NeighState(flags))
-}
-
-/// Writes the flags of a neighbour.
-#[tactic(auto, unfolding(crate::specs::Notations::flags_behind, crate::specs::Notations::digits_behind), using(crate::proofs::Sets::joins))]
-fn push_neigh_flags(out: &mut Vec<u8>, flags: u8) -> Result<(), AllocError>
-    ensures { OnOk result (out.new.items ≡ out.old.items ++ flags_behind 2 neigh_flags flags) }
-{
-    push_hex2(out, flags)?;
-    push(out, " ")?;
-    push_names(out, &NeighFlags(flags))
-}
-
-/// Writes the flags of a next hop.
-#[tactic(auto, unfolding(crate::specs::Notations::flags_behind, crate::specs::Notations::digits_behind), using(crate::proofs::Sets::joins))]
-fn push_hop_flags(out: &mut Vec<u8>, flags: u8) -> Result<(), AllocError>
-    ensures { OnOk result (out.new.items ≡ out.old.items ++ flags_behind 2 hop_flags flags) }
-{
-    push_hex2(out, flags)?;
-    push(out, " ")?;
-    push_names(out, &HopFlags(flags))
+    push_names(out, bits, flags)
 }
 
 /// Writes flags, and the names of those that are set.
@@ -183,11 +154,9 @@ fn push_flags(out: &mut Vec<u8>, order: Order, bits: Bits, bytes: &[u8]) -> Resu
     ensures { OnOk result (out.new.items ≡ out.old.items ++ all_flags order bits bytes.now) }
 {
     match (bits, bytes.len()) {
-        (Bits::Message(names), 2) => push_message_flags(out, names, order.read_u16(bytes)),
-        (Bits::Link, 4) => push_link_flags(out, order.read_u32(bytes)),
-        (Bits::NeighState, 2) => push_neigh_state(out, order.read_u16(bytes)),
-        (Bits::NeighFlags, 1) => push_neigh_flags(out, bytes[0]),
-        (Bits::NextHop, 1) => push_hop_flags(out, bytes[0]),
+        (Bits::Message(_) | Bits::NeighState, 2) => push_flags16(out, bits, order.read_u16(bytes)),
+        (Bits::Link, 4) => push_flags32(out, bits, order.read_u32(bytes)),
+        (Bits::NeighFlags | Bits::NextHop, 1) => push_flags8(out, bits, bytes[0]),
         _ => Ok(()),
     }
 }

@@ -5,7 +5,7 @@ ghost use Rattle.rtnl.specs.ByteRows.{row_printed};
 ghost use Rattle.rtnl.specs.ByteViews.{AddsRows};
 
 use crate::bytes::notation::Notation;
-use crate::bytes::rows::{Label, Part, Printing, push_part};
+use crate::bytes::rows::{BytePart, Label, Printing, push_part};
 use nl_frame::ScanError;
 use std::alloc::{AllocError, Global};
 
@@ -81,7 +81,7 @@ impl Parts {
                 continue;
             }
             let (front, others) = rest.split_at(size);
-            let part = Part {
+            let part = BytePart {
                 place: place as u64,
                 bytes: front,
                 label: piece.label,
@@ -95,7 +95,7 @@ impl Parts {
         if rest.is_empty() {
             return Ok(());
         }
-        let part = Part {
+        let part = BytePart {
             place: place as u64,
             bytes: rest,
             label: UNREAD,

@@ -3,19 +3,17 @@
 ghost use Rattle.std.specs.Prelude.{◌≡◌, ◌<◌, ◌≤◌, ◌+◌, ◌^◌, ◌++◌, ◌∷◌, [], true, Some, length};
 ghost use Rattle.std.specs.Prelude.{OnOk, codes};
 ghost use Rattle.std.specs.List.{flat_map};
-ghost use Rattle.rtnl.specs.ByteRows.{beside, blanks, cell, fault_behind, first_fields, label_fields};
-ghost use Rattle.rtnl.specs.ByteRows.{margin, mark, paint, place_fields, refusal_behind, refusal_json, row_json, rule_at};
+ghost use Rattle.rtnl.specs.ByteRows.{beside, blanks, cell, fault_behind};
+ghost use Rattle.rtnl.specs.ByteRows.{margin, mark, paint, refusal_behind, rule_at};
 ghost use Rattle.rtnl.specs.ByteRows.{row_printed, row_text, unpaint, words, words_in};
 ghost use Rattle.rtnl.specs.ByteViews.{AddsPart, part_view, row_view};
-ghost use Rattle.rtnl.specs.Json.{◌⊕◌, fields_tokens};
 
+use crate::bytes::json_lines::push_json;
 use crate::bytes::notation::{Notation, push_value_behind};
-use crate::bytes::object::{push_null, push_value_field};
-use crate::objects::line::Line;
-use crate::text::datagram::reason_name;
-use crate::text::kernel::KernelName;
-use crate::text::pieces::{push, push_decimal};
-use crate::text::segment::Segment;
+use crate::names::kernel::KernelName;
+use crate::names::reasons::reason_name;
+use crate::pieces::segment::Segment;
+use crate::pieces::{push, push_decimal};
 use nl_attr::{BrokenHead, Fault, Order};
 use nl_frame::ScanError;
 use std::alloc::{AllocError, Global};
@@ -46,7 +44,7 @@ pub(crate) struct Label {
 
 /// A part of a datagram.
 #[derive(Clone, Copy)]
-pub(crate) struct Part<'a> {
+pub(crate) struct BytePart<'a> {
     /// Where its first byte stands.
     pub place: u64,
     pub bytes: &'a [u8],
@@ -57,10 +55,10 @@ pub(crate) struct Part<'a> {
 
 /// A row of a part.
 #[derive(Clone, Copy)]
-pub(crate) struct Row<'a> {
+pub(crate) struct ByteRow<'a> {
     pub place: u64,
     pub bytes: &'a [u8],
-    pub part: Part<'a>,
+    pub part: BytePart<'a>,
     pub is_first: bool,
 }
 
@@ -175,7 +173,7 @@ fn push_refusal(out: &mut Vec<u8>, refusal: Option<ScanError>) -> Result<(), All
 
 /// Writes the words of a part.
 #[tactic(auto, unfolding(crate::specs::ByteRows::words), using(crate::proofs::Sets::joins))]
-fn push_words(out: &mut Vec<u8>, order: Order, part: &Part<'_>) -> Result<(), AllocError>
+fn push_words(out: &mut Vec<u8>, order: Order, part: &BytePart<'_>) -> Result<(), AllocError>
     ensures { OnOk result
         (out.new.items ≡ out.old.items ++ words order (part_view part.now)) }
 {
@@ -210,7 +208,7 @@ fn push_end(out: &mut Vec<u8>, colour: &str) -> Result<(), AllocError>
 
 /// Writes the words of a part in their colour.
 #[tactic(auto, unfolding(crate::specs::ByteRows::painted), using(crate::proofs::Sets::joins))]
-fn push_painted(out: &mut Vec<u8>, order: Order, part: &Part<'_>) -> Result<(), AllocError>
+fn push_painted(out: &mut Vec<u8>, order: Order, part: &BytePart<'_>) -> Result<(), AllocError>
     ensures { OnOk result
         (out.new.items ≡ out.old.items ++ words_in true order (part_view part.now)) }
 {
@@ -226,7 +224,7 @@ fn push_beside(
     out: &mut Vec<u8>,
     is_coloured: bool,
     order: Order,
-    row: &Row<'_>,
+    row: &ByteRow<'_>,
 ) -> Result<(), AllocError>
     requires { length row.now.bytes.now ≤ 16 }
     ensures { OnOk result
@@ -250,7 +248,7 @@ fn push_text(
     out: &mut Vec<u8>,
     is_coloured: bool,
     order: Order,
-    row: &Row<'_>,
+    row: &ByteRow<'_>,
 ) -> Result<(), AllocError>
     requires { length row.now.bytes.now ≤ 16 }
     ensures { OnOk result
@@ -266,86 +264,12 @@ fn push_text(
     push(out, "\n")
 }
 
-/// Writes the field that says why a datagram is refused there.
-#[tactic(auto, unfolding(crate::specs::ByteRows::refusal_json))]
-fn push_fault_field(line: &mut Line, refusal: Option<ScanError>) -> Result<(), AllocError>
-    ensures { OnOk result
-        (line.new ≡ line.old ⊕ fields_tokens ((codes "fault", refusal_json refusal) ∷ [])) }
-{
-    match refusal {
-        None => push_null(line, "fault"),
-        Some(ScanError::TooLarge) => line.text("fault", "too large"),
-        Some(ScanError::Layout(head)) => line.text("fault", reason_name(head.fault.reason)),
-    }
-}
-
-/// Writes the fields that the first row of a part has alone.
-#[tactic(auto, using(crate::proofs::Sets::field))]
-fn push_first_fields(
-    alloc: Global,
-    line: &mut Line,
-    order: Order,
-    row: &Row<'_>,
-) -> Result<(), AllocError>
-    ensures { OnOk result
-        (line.new ≡ line.old ⊕ fields_tokens (first_fields order (row_view row.now))) }
-{
-    if !row.is_first {
-        push_null(line, "value")?;
-        return push_null(line, "fault");
-    }
-    push_value_field(alloc, line, order, row.part.label.notation, row.part.bytes)?;
-    push_fault_field(line, row.part.refusal)
-}
-
-/// Writes where a row stands, and its bytes.
-#[tactic(auto, unfolding(crate::specs::ByteRows::place_fields), using(crate::proofs::Sets::field))]
-fn push_place(line: &mut Line, number: usize, row: &Row<'_>) -> Result<(), AllocError>
-    ensures { OnOk result
-        (line.new ≡ line.old ⊕ fields_tokens (place_fields number (row_view row.now))) }
-{
-    line.number("datagram", number as u64)?;
-    line.number("offset", row.place)?;
-    line.number("length", row.bytes.len() as u64)?;
-    line.digits("bytes", row.bytes)
-}
-
-/// Writes the level and the name of a part.
-#[tactic(auto, unfolding(crate::specs::ByteRows::label_fields), using(crate::proofs::Sets::field))]
-fn push_label(alloc: Global, line: &mut Line, label: Label) -> Result<(), AllocError>
-    ensures { OnOk result (line.new ≡ line.old ⊕ fields_tokens (label_fields label)) }
-{
-    let (front, end) = label.name;
-    let name = format!(in alloc; "{front}{end}")?;
-    line.number("level", label.level.into())?;
-    line.text("name", name.as_str())
-}
-
-/// Writes a row as a line of JSON.
-#[tactic(auto, using(crate::proofs::Sets::field))]
-fn push_json(
-    alloc: Global,
-    out: &mut Vec<u8>,
-    order: Order,
-    number: usize,
-    row: &Row<'_>,
-) -> Result<(), AllocError>
-    ensures { OnOk result
-        (out.new.items ≡ out.old.items ++ row_json number order (row_view row.now)) }
-{
-    let mut line = Line::begin(alloc, out)?;
-    push_place(&mut line, number, row)?;
-    push_label(alloc, &mut line, row.part.label)?;
-    push_first_fields(alloc, &mut line, order, row)?;
-    line.end(out)
-}
-
 /// Writes a row.
 fn push_row(
     alloc: Global,
     out: &mut Vec<u8>,
     how: Printing,
-    row: &Row<'_>,
+    row: &ByteRow<'_>,
 ) -> Result<(), AllocError>
     requires { length row.now.bytes.now ≤ 16 }
     ensures { OnOk result (out.new.items
@@ -363,7 +287,7 @@ pub(super) fn push_part(
     alloc: Global,
     out: &mut Vec<u8>,
     how: Printing,
-    part: Part<'_>,
+    part: BytePart<'_>,
 ) -> Result<(), AllocError>
     requires { part.place + length part.bytes.now < 2 ^ 64 }
     ensures { OnOk result (AddsPart (row_printed how.format how.order how.number)
@@ -374,7 +298,7 @@ pub(super) fn push_part(
     let mut is_first = true;
     while !rest.is_empty() {
         let (bytes, others) = rest.split_at(rest.len().min(WIDTH));
-        let row = Row {
+        let row = ByteRow {
             place,
             bytes,
             part,

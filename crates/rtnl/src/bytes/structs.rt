@@ -1,7 +1,8 @@
 //! The fields of the kernel's structs, in their order and by their names in its headers.
 
-use crate::bytes::notation::{Bits, Notation};
-use crate::text::types::FlagNames;
+use crate::bytes::notation::Notation;
+use crate::names::flags::Bits;
+use crate::names::types::FlagNames;
 use nl_route::Family;
 
 /// A field: its name, how many bytes it has, and how they are read.

@@ -6,10 +6,10 @@ use crate::bytes::rows::Label;
 use crate::bytes::structs::{
     Field, NLMSGERR, RTATTR, RTGENMSG, RTNEXTHOP, STATUS, head_of, nlmsghdr,
 };
-use crate::tape::context_inside;
-use crate::text::attributes::attribute;
-use crate::text::kernel::{KernelName, attribute_name};
-use crate::text::types::message_type;
+use crate::bytes::tape::context_inside;
+use crate::names::attributes::attribute;
+use crate::names::kernel::{KernelName, attribute_name};
+use crate::names::types::message_type;
 use nl_attr::{BrokenHead, Ctx, Event, HeadKind, Order, SORT_BYTES, SORT_MESSAGE, SORT_NEXT_HOP};
 use nl_frame::{Form, ScanError};
 use std::alloc::{AllocError, Global};

@@ -5,9 +5,9 @@ ghost use Rattle.nl_frame.specs.View.{body_view};
 ghost use Rattle.rtnl.specs.Messages.{body_text, bytes_line, done_line};
 ghost use Rattle.rtnl.specs.Messages.{error_line, get_line, tail_end};
 
-use crate::text::families::Shown;
-use crate::text::pieces::{push, push_hex};
-use crate::text::segment::Segment;
+use crate::pieces::segment::Segment;
+use crate::pieces::{push, push_hex};
+use crate::text::families::ItemLines;
 use nl_attr::Order;
 use nl_frame::{Body, Header};
 use nl_route::match_object;
@@ -31,20 +31,13 @@ fn push_error(
 ) -> Result<(), AllocError>
     ensures { OnOk result (out.new.items ≡ out.old.items ++ error_line code answered.now tail.now) }
 {
-    let Header {
-        len,
-        kind,
-        flags,
-        seq,
-        port,
-    } = *answered;
     let mut front = Segment::new();
-    front.put_field(" port ", port as u64);
-    front.put_field(" seq ", seq as u64);
-    front.put_hex4(flags);
+    front.put_field(" port ", answered.port as u64);
+    front.put_field(" seq ", answered.seq as u64);
+    front.put_hex4(answered.flags);
     front.put(" flags 0x");
-    front.put_field(" type ", kind as u64);
-    front.put_field(" answers len ", len as u64);
+    front.put_field(" type ", answered.kind as u64);
+    front.put_field(" answers len ", answered.len as u64);
     front.put_signed(code);
     front.put("  error code ");
     front.push_to(out)?;

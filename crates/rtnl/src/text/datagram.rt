@@ -2,12 +2,13 @@
 
 ghost use Rattle.std.specs.Prelude.{◌≡◌, ◌≢◌, ◌++◌, OnOk};
 ghost use Rattle.rtnl.specs.Checked.{number_front};
-ghost use Rattle.rtnl.specs.Datagrams.{datagram_line, reason_text, refused_line, too_large_line};
+ghost use Rattle.rtnl.specs.Datagrams.{datagram_line, refused_line, too_large_line};
 ghost use Rattle.rtnl.specs.Shown.{refusal_text};
 
-use crate::text::pieces::{push, push_decimal};
-use crate::text::segment::Segment;
-use nl_attr::{Fault, Reason};
+use crate::names::reasons::reason_name;
+use crate::pieces::segment::Segment;
+use crate::pieces::{push, push_decimal};
+use nl_attr::Fault;
 use nl_frame::ReadError;
 use std::alloc::AllocError;
 
@@ -36,19 +37,6 @@ pub(crate) fn push_number(out: &mut Vec<u8>, number: usize) -> Result<(), AllocE
     front.put(" ");
     front.put_field("datagram ", number as u64);
     front.push_to(out)
-}
-
-#[tactic(auto, unfolding(crate::specs::Datagrams::reason_text))]
-pub(crate) fn reason_name(reason: Reason) -> &'static str
-    ensures { result.now ≡ reason_text reason }
-{
-    match reason {
-        Reason::Cut => "cut",
-        Reason::BadLength => "bad length",
-        Reason::ShortBody => "short body",
-        Reason::TooLong => "too long",
-        Reason::TooDeep => "too deep",
-    }
 }
 
 /// Writes that a datagram was refused at its first fault.

@@ -5,15 +5,12 @@ ghost use Rattle.std.specs.Fmt.{signed_decimal};
 ghost use Rattle.rtnl.specs.Tabled.{complete_line, counts_line, dump_line, end_line};
 ghost use Rattle.rtnl.specs.Tabled.{entry_line, refusal_line, sums_line, total_line, yes_no};
 
-use crate::report::{Report, Size};
+use crate::pieces::push;
+use crate::pieces::segment::Segment;
 use crate::text::datagram::{push_number, push_refusal};
-use crate::text::families::Shown;
-use crate::text::pieces::push;
-use crate::text::segment::Segment;
-use nl_attr::Order;
-use nl_dump::{Dump, End, FeedError, Session, State};
+use nl_dump::{Dump, End, FeedError, State};
 use nl_frame::ReadError;
-use std::alloc::{AllocError, Global};
+use std::alloc::AllocError;
 
 #[tactic(auto, unfolding(crate::specs::Tabled::yes_no))]
 fn yes_or_no(word: bool) -> &'static str
@@ -25,7 +22,7 @@ fn yes_or_no(word: bool) -> &'static str
 
 /// Writes which dump is read.
 #[tactic(auto, unfolding(crate::specs::Tabled::dump_line))]
-fn push_dump_line(out: &mut Vec<u8>, dump: &Dump) -> Result<(), AllocError>
+pub(crate) fn push_dump_line(out: &mut Vec<u8>, dump: &Dump) -> Result<(), AllocError>
     ensures { OnOk result (out.new.items ≡ out.old.items ++ dump_line dump.now) }
 {
     let kind = dump.kind.row().name;
@@ -48,7 +45,11 @@ fn push_total_line(out: &mut Vec<u8>) -> Result<(), AllocError>
 
 /// Writes why the datagram of this number was refused. It fails where that was for memory.
 #[tactic(auto, unfolding(crate::specs::Tabled::refusal_line), using(crate::proofs::Sets::joins))]
-fn push_feed_error(out: &mut Vec<u8>, number: usize, error: FeedError) -> Result<(), AllocError>
+pub(crate) fn push_feed_error(
+    out: &mut Vec<u8>,
+    number: usize,
+    error: FeedError,
+) -> Result<(), AllocError>
     ensures refusal { OnOk result (error ≢ FeedError.Memory) }
     ensures text { OnOk result (out.new.items ≡ out.old.items ++ refusal_line number error) }
 {
@@ -84,7 +85,7 @@ fn push_coded(out: &mut Vec<u8>, words: &str, code: i32) -> Result<(), AllocErro
 
 /// Writes how the dump ended.
 #[tactic(auto, unfolding(crate::specs::Tabled::end_line))]
-fn push_end_line(out: &mut Vec<u8>, state: State) -> Result<(), AllocError>
+pub(crate) fn push_end_line(out: &mut Vec<u8>, state: State) -> Result<(), AllocError>
     ensures { OnOk result (out.new.items ≡ out.old.items ++ end_line state) }
 {
     match state {
@@ -99,18 +100,18 @@ fn push_end_line(out: &mut Vec<u8>, state: State) -> Result<(), AllocError>
 
 /// What was counted of a dump.
 #[derive(Clone, Copy)]
-struct Counts {
-    entries: u32,
-    missed: u64,
-    ignored: u64,
-    unfed: usize,
-    damaged: bool,
-    interrupted: bool,
+pub(crate) struct Counts {
+    pub entries: u32,
+    pub missed: u64,
+    pub ignored: u64,
+    pub unfed: usize,
+    pub damaged: bool,
+    pub interrupted: bool,
 }
 
 /// Writes what was counted of the dump.
 #[tactic(auto, unfolding(crate::specs::Tabled::counts_line))]
-fn push_counts_line(out: &mut Vec<u8>, counts: Counts) -> Result<(), AllocError>
+pub(crate) fn push_counts_line(out: &mut Vec<u8>, counts: Counts) -> Result<(), AllocError>
     ensures { OnOk result (out.new.items ≡ out.old.items
         ++ counts_line counts.entries
         counts.missed counts.ignored counts.unfed counts.damaged counts.interrupted) }
@@ -138,7 +139,11 @@ fn push_counts_line(out: &mut Vec<u8>, counts: Counts) -> Result<(), AllocError>
 
 /// Writes what was counted of all datagrams.
 #[tactic(auto, unfolding(crate::specs::Tabled::sums_line))]
-fn push_sums_line(out: &mut Vec<u8>, received: u64, visits: u64) -> Result<(), AllocError>
+pub(crate) fn push_sums_line(
+    out: &mut Vec<u8>,
+    received: u64,
+    visits: u64,
+) -> Result<(), AllocError>
     ensures { OnOk result (out.new.items ≡ out.old.items ++ sums_line received visits) }
 {
     let mut line = Segment::new();
@@ -150,7 +155,7 @@ fn push_sums_line(out: &mut Vec<u8>, received: u64, visits: u64) -> Result<(), A
 
 /// Writes whether the dump is complete.
 #[tactic(auto, unfolding(crate::specs::Tabled::complete_line))]
-fn push_complete_line(out: &mut Vec<u8>, complete: bool) -> Result<(), AllocError>
+pub(crate) fn push_complete_line(out: &mut Vec<u8>, complete: bool) -> Result<(), AllocError>
     ensures { OnOk result (out.new.items ≡ out.old.items ++ complete_line complete) }
 {
     push(out, "complete ")?;
@@ -160,67 +165,11 @@ fn push_complete_line(out: &mut Vec<u8>, complete: bool) -> Result<(), AllocErro
 
 /// Writes the line of the entry of this number, counted from 1.
 #[tactic(auto, unfolding(crate::specs::Tabled::entry_line))]
-fn push_entry_line(out: &mut Vec<u8>, number: u32) -> Result<(), AllocError>
+pub(crate) fn push_entry_line(out: &mut Vec<u8>, number: u32) -> Result<(), AllocError>
     ensures { OnOk result (out.new.items ≡ out.old.items ++ entry_line number) }
 {
     let mut line = Segment::new();
     line.put("\n");
     line.put_field("entry ", number as u64);
     line.push_to(out)
-}
-
-/// A report in lines of text.
-pub(crate) struct InText;
-
-impl Report for InText {
-    ghost use Rattle.rtnl.specs.Tabled.{in_text};
-
-    ghost report = { in_text };
-
-    fn push_front(_alloc: Global, out: &mut Vec<u8>, dump: &Dump) -> Result<(), AllocError> {
-        push_dump_line(out, dump)
-    }
-
-    fn push_refusal(
-        _alloc: Global,
-        out: &mut Vec<u8>,
-        number: usize,
-        error: FeedError,
-    ) -> Result<(), AllocError> {
-        push_feed_error(out, number, error)
-    }
-
-    #[tactic(auto, using(crate::proofs::Sets::joins))]
-    fn push_entry<T: Shown>(
-        alloc: Global,
-        out: &mut Vec<u8>,
-        order: Order,
-        number: u32,
-        entry: &T,
-    ) -> Result<(), AllocError> {
-        push_entry_line(out, number)?;
-        entry.push(alloc, out, order)
-    }
-
-    fn push_ending(
-        _alloc: Global,
-        out: &mut Vec<u8>,
-        _dump: &Dump,
-        session: &Session,
-        size: Size,
-        unfed: usize,
-    ) -> Result<(), AllocError> {
-        push_end_line(out, session.state())?;
-        let counts = Counts {
-            entries: size.entries,
-            missed: size.missed,
-            ignored: session.ignored(),
-            unfed,
-            damaged: session.damaged(),
-            interrupted: session.interrupted(),
-        };
-        push_counts_line(out, counts)?;
-        push_sums_line(out, session.received(), session.visits())?;
-        push_complete_line(out, session.complete())
-    }
 }

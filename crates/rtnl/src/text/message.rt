@@ -4,10 +4,12 @@ ghost use Rattle.std.specs.Prelude.{◌≡◌, ◌++◌, OnOk, map};
 ghost use Rattle.nl_frame.specs.View.{message_view};
 ghost use Rattle.rtnl.specs.Messages.{message_line, message_text, messages_text};
 
+use crate::names::flags::Bits;
+use crate::names::types::message_type;
+use crate::pieces::push;
+use crate::pieces::segment::Segment;
 use crate::text::body::push_body;
-use crate::text::pieces::push;
-use crate::text::segment::Segment;
-use crate::text::types::{message_type, push_flag_names};
+use crate::text::flags::push_names;
 use nl_attr::Order;
 use nl_frame::Message;
 use std::alloc::{AllocError, Global};
@@ -35,7 +37,7 @@ fn push_message_line(
     middle.put_hex4(flags);
     middle.put(" flags 0x");
     middle.push_to(out)?;
-    push_flag_names(out, names, flags)?;
+    push_names(out, Bits::Message(names), flags.into())?;
     let mut end = Segment::new();
     end.put("\n");
     end.put_field(" port ", port as u64);

@@ -1,18 +1,19 @@
 //! The printed text of attributes and next hops.
 
 ghost use Rattle.std.specs.Prelude.{◌≡◌, ◌≤◌, ◌+◌, ◌++◌, OnOk, length};
-ghost use Rattle.nl_attr.specs.Tree.{HopItems, Items, holds_of};
+ghost use Rattle.nl_attr.specs.Tree.{HopItems, Items};
 ghost use Rattle.nl_attr.specs.View.{attr_view, attrs_view, hop_view, hops_view, value_view};
 ghost use Rattle.rtnl.specs.Trees.{attr_line, deeper, flags_text, held_text, hop_line, hops_text};
-ghost use Rattle.rtnl.specs.Trees.{indented, inline_text, inner_context, items_text};
+ghost use Rattle.rtnl.specs.Trees.{indented, inline_text, items_text};
 
-use crate::text::attributes::{Style, attribute};
-use crate::text::flags::HopFlags;
-use crate::text::names::push_names;
-use crate::text::pieces::{push, push_decimal};
-use crate::text::segment::Segment;
-use crate::text::values::{push_value, read_payload};
-use nl_attr::{Attr, AttrFlags, Content, Ctx, Hop, Order, Value, holds};
+use crate::names::attributes::{Style, attribute, inner};
+use crate::names::flags::Bits;
+use crate::names::values::read_payload;
+use crate::pieces::segment::Segment;
+use crate::pieces::{push, push_decimal};
+use crate::text::flags::push_names;
+use crate::text::values::push_value;
+use nl_attr::{Attr, AttrFlags, Ctx, Hop, Order, Value};
 use std::alloc::AllocError;
 
 /// Puts the words of an attribute's flags in front.
@@ -54,16 +55,6 @@ fn push_front(out: &mut Vec<u8>, indent: &[u8], front: &mut Segment) -> Result<(
     }
     push_indent(out, indent)?;
     front.push_to(out)
-}
-
-/// The context of the attributes inside one.
-pub(crate) fn inner(ctx: Ctx, number: u16, flags: AttrFlags) -> Ctx
-    ensures { result ≡ inner_context (holds_of ctx number flags) }
-{
-    match holds(ctx, number, flags) {
-        Content::List(inner) => inner,
-        Content::Bytes | Content::Hops => Ctx::Plain,
-    }
 }
 
 #[tactic(auto, unfolding(crate::specs::Trees::inline_text), using(crate::proofs::Sets::inline))]
@@ -138,7 +129,7 @@ fn push_hop_line(
     front.put("hop flags 0x");
     push_indent(out, indent)?;
     front.push_to(out)?;
-    push_names(out, &HopFlags(flags))?;
+    push_names(out, Bits::NextHop, flags as u32)?;
     let mut end = Segment::new();
     end.put("\n");
     end.put_signed(index);

@@ -1,0 +1,86 @@
+use Rattle.std.proofs.Common.{◌≡◌, ◌∷◌, ◌∙◌, [], ap, codes, of_z, refl, rules, sym, to_z, w32}
+use Rattle.std.proofs.lemmas.Result.{IfOk-weaker}
+use Rattle.json.specs.Token.{begin_object}
+use Rattle.nl_attr.specs.declared.tree.Ctx.TheVariants.{Route}
+use Rattle.nl_attr.specs.declared.tree.Hop.{out-Hop}
+use Rattle.nl_attr.specs.Tree.{holds_of, hops, list}
+use Rattle.nl_attr.specs.View.{attrs_view, hops_view, value_view}
+use Rattle.nl_attr.proofs.Lemmas.Opened.{value_hops, value_list}
+use Rattle.rtnl.specs.Attributes.{attribute_style, inner_context}
+use Rattle.rtnl.specs.Json.{◌⊕◌, array, fields_tokens, string, values_tokens}
+use Rattle.rtnl.specs.MessagesJson.{attr_front, attrs_json, hop_front, hops_json, items_fields, value_fields}
+use Rattle.rtnl.proofs.Json.{all_written, an_array, an_item, more as tokens_more, then_fields}
+use Rattle.rtnl.proofs.Trees.{attr_item, hop_item}
+use Rattle.rtnl.proofs.json_lines.tree.+writing.Goals as goal
+
+pub push_attr-returns : goal.push_attr-returns
+push_attr-returns t c =
+    let attr = c.args.attr.now in
+    let w = c.args.line.now in
+    let begun = w ⊕ (begin_object ∷ []) in
+    let front = attr_front c.args.ctx attr.number attr.flags in
+    let held = value_fields c.args.order (attribute_style c.args.ctx attr.number) attr.flags.net (inner_context (holds_of c.args.ctx attr.number attr.flags)) (value_view attr.value) in
+    let is_held : c.push_held.new.line ≡ c.push_attr_front.new.line ⊕ fields_tokens held =
+    c.in_ok-push_held.ensures ∙ λ i. c.push_attr_front.new.line ⊕ fields_tokens (value_fields c.args.order (c.attribute-style.ensures.style i) attr.flags.net (c.inner-inside.ensures i) (value_view attr.value)) in
+    IfOk-weaker c.end_object.result _ _
+    (λ _ ended more. an_item w begun c.push_attr_front.new.line c.push_held.new.line c.end_object.new.self front held (attrs_json c.args.order c.args.ctx more)
+    refl (c.in_ok-push_attr_front.ensures ∙ sym (tokens_more w (begin_object ∷ []) (fields_tokens front))) is_held ended
+    ∙ sym (ap (λ items. c.args.line.now ⊕ values_tokens (attrs_json c.args.order c.args.ctx items)) (attr_item attr more))) c.end_object.ensures
+
+pub push_attrs-returns : goal.push_attrs-returns
+push_attrs-returns t c =
+    IfOk-weaker c.end_array.result _ _
+    (λ _ ended. an_array c.args.line.now c.key.new.self c.begin_array.new.self c.push_each_attr.new.line c.end_array.new.self c.args.name.now (attrs_json c.args.order c.args.ctx (attrs_view c.args.attrs.now))
+    c.in_ok-key.ensures c.in_ok-begin_array.ensures c.in_ok-push_each_attr.ensures ended) c.end_array.ensures
+
+pub push_each_attr-returns : goal.push_each_attr-returns
+push_each_attr-returns t c =
+    all_written (λ xs. attrs_json c.args.order c.args.ctx (attrs_view xs)) c.args.attrs.now c.loop-attr.attr-index c.loop-attr.line _ refl c.loop-attr-test.false c.loop-attr.invariant
+
+pub push_each_hop-returns : goal.push_each_hop-returns
+push_each_hop-returns t c =
+    all_written (λ xs. hops_json c.args.order (hops_view xs)) c.args.hops.now c.loop-hop.hop-index c.loop-hop.line _ refl c.loop-hop-test.false c.loop-hop.invariant
+
+pub push_held-returns-in_ok-text-in-List : goal.push_held-returns-in_ok-text-in-List
+unfolding items_fields
+push_held-returns-in_ok-text-in-List t c =
+    let o = c.args.order in
+    let is : value_view c.args.value.now ≡ list (attrs_view c.in-List.attrs.items) = ap value_view c.in-List.is ∙ value_list c.in-List.attrs in
+    let items : attrs_view c.deref.result.now ≡ attrs_view c.in-List.attrs.items = ap attrs_view c.deref.ensures.value in
+    let form : c.text.new.self ≡ c.args.line.now ⊕ fields_tokens ((codes "form", string (codes "list")) ∷ []) = c.in_ok-text-in-List.ensures in
+    IfOk-weaker c.push_attrs.result _ _
+    (λ _ held. then_fields c.args.line.now c.text.new.self c.push_attrs.new.line ((codes "form", string (codes "list")) ∷ []) ((codes "items", array (attrs_json o c.args.ctx (attrs_view c.in-List.attrs.items))) ∷ []) form
+    (held ∙ ap (λ inner. c.text.new.self ⊕ fields_tokens ((codes "items", array (attrs_json o c.args.ctx inner)) ∷ [])) items)
+    ∙ sym (ap (λ v. c.args.line.now ⊕ fields_tokens (value_fields o c.args.style c.args.net c.args.ctx v)) is)) c.push_attrs.ensures
+
+pub push_held-returns-in_ok-text-in-Hops : goal.push_held-returns-in_ok-text-in-Hops
+unfolding items_fields
+push_held-returns-in_ok-text-in-Hops t c =
+    let o = c.args.order in
+    let is : value_view c.args.value.now ≡ hops (hops_view c.in-Hops.hops.items) = ap value_view c.in-Hops.is ∙ value_hops c.in-Hops.hops in
+    let items : hops_view c.deref-in-Hops.result.now ≡ hops_view c.in-Hops.hops.items = ap hops_view c.deref-in-Hops.ensures.value in
+    let form : c.text-in-Hops.new.self ≡ c.args.line.now ⊕ fields_tokens ((codes "form", string (codes "hops")) ∷ []) = c.in_ok-text-in-Hops.ensures in
+    IfOk-weaker c.push_hops.result _ _
+    (λ _ held. then_fields c.args.line.now c.text-in-Hops.new.self c.push_hops.new.line ((codes "form", string (codes "hops")) ∷ []) ((codes "items", array (hops_json o (hops_view c.in-Hops.hops.items))) ∷ []) form
+    (held ∙ ap (λ inner. c.text-in-Hops.new.self ⊕ fields_tokens ((codes "items", array (hops_json o inner)) ∷ [])) items)
+    ∙ sym (ap (λ v. c.args.line.now ⊕ fields_tokens (value_fields o c.args.style c.args.net c.args.ctx v)) is)) c.push_hops.ensures
+
+pub push_hop-returns : goal.push_hop-returns
+push_hop-returns t c =
+    let one = out-Hop c.args.hop.now in
+    let held = (codes "attrs", array (attrs_json c.args.order Route (attrs_view one.attrs.items))) ∷ [] in
+    let is_held : c.push_attrs.new.line ≡ c.push_hop_front.new.line ⊕ fields_tokens held =
+    c.in_ok-push_attrs.ensures ∙ λ i. c.push_hop_front.new.line ⊕ fields_tokens ((codes "attrs", array (attrs_json c.args.order Route (attrs_view (c.deref.ensures.value i)))) ∷ []) in
+    let index : to_z w32 (of_z w32 one.ifindex) ≡ one.ifindex = search rules in
+    let front : c.push_hop_front.new.line ≡ c.begin_object.new.self ⊕ fields_tokens (hop_front one.flags one.hops one.ifindex) =
+    c.in_ok-push_hop_front.ensures ∙ ap (λ z. c.begin_object.new.self ⊕ fields_tokens (hop_front one.flags one.hops z)) index in
+    IfOk-weaker c.end_object.result _ _
+    (λ _ ended more. an_item c.args.line.now c.begin_object.new.self c.push_hop_front.new.line c.push_attrs.new.line c.end_object.new.self (hop_front one.flags one.hops one.ifindex) held (hops_json c.args.order more)
+    c.in_ok-begin_object.ensures front is_held ended
+    ∙ sym (ap (λ items. c.args.line.now ⊕ values_tokens (hops_json c.args.order items)) (hop_item c.args.hop.now more))) c.end_object.ensures
+
+pub push_hops-returns : goal.push_hops-returns
+push_hops-returns t c =
+    IfOk-weaker c.end_array.result _ _
+    (λ _ ended. an_array c.args.line.now c.key.new.self c.begin_array.new.self c.push_each_hop.new.line c.end_array.new.self (codes "items") (hops_json c.args.order (hops_view c.args.hops.now))
+    c.in_ok-key.ensures c.in_ok-begin_array.ensures c.in_ok-push_each_hop.ensures ended) c.end_array.ensures

@@ -1,0 +1,8 @@
+use Rattle.std.proofs.Common.{sym}
+use Rattle.rtnl.specs.Lines.{is_blank}
+use Rattle.rtnl.proofs.ReadLines.{filter_none}
+use Rattle.rtnl.proofs.recordings.lines.read_line.Goals as goal
+
+pub returns-then-not-has_blank : goal.returns-then-not-has_blank
+returns-then-not-has_blank c =
+    rw (sym (c.if-begins_comment.ensures), filter_none is_blank c.args.line.now (sym (c.if-not-has_blank.ensures))) c.read_digits.ensures

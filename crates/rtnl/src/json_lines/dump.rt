@@ -1,0 +1,131 @@
+//! The fields of the report of a dump.
+
+ghost use Rattle.std.specs.Prelude.{◌≡◌, ◌++◌, OnOk, length};
+ghost use Rattle.nl_dump.specs.View.{table_at};
+ghost use Rattle.rtnl.specs.Json.{◌⊕◌, fields_tokens, json_line};
+ghost use Rattle.rtnl.specs.Shown.{datagram_object, refusal_fields};
+ghost use Rattle.rtnl.specs.TabledJson.{code_fields, count_fields, dump_fields};
+ghost use Rattle.rtnl.specs.TabledJson.{end_code, end_fields, end_word};
+ghost use Rattle.rtnl.specs.TabledJson.{loss_fields, sum_fields, total_fields};
+
+use crate::json_lines::datagram::push_refusal;
+use crate::json_lines::line::Line;
+use nl_dump::{Dump, End, Session, State};
+use nl_frame::ReadError;
+use std::alloc::{AllocError, Global};
+
+/// Writes the line of a datagram that was refused for its layout or its size. It fails where that
+/// was for memory.
+pub(crate) fn push_refused(
+    alloc: Global,
+    lines: &mut Vec<u8>,
+    number: usize,
+    error: ReadError,
+) -> Result<(), AllocError>
+    ensures { OnOk result (lines.new.items ≡ lines.old.items
+        ++ json_line (datagram_object number (refusal_fields error))) }
+{
+    let mut line = Line::begin(alloc, lines)?;
+    line.number("datagram", number as u64)?;
+    push_refusal(&mut line, error)?;
+    line.end(lines)
+}
+
+/// Writes the line of a datagram that was refused, since all datagrams would be too large.
+pub(crate) fn push_total(
+    alloc: Global,
+    lines: &mut Vec<u8>,
+    number: usize,
+) -> Result<(), AllocError>
+    ensures { OnOk result (lines.new.items ≡ lines.old.items
+        ++ json_line (datagram_object number total_fields)) }
+{
+    let mut line = Line::begin(alloc, lines)?;
+    line.number("datagram", number as u64)?;
+    line.text("refused", "total")?;
+    line.end(lines)
+}
+
+/// Writes which dump is read.
+#[tactic(auto, unfolding(crate::specs::TabledJson::dump_fields), using(crate::proofs::Sets::field))]
+pub(crate) fn push_dump(line: &mut Line, dump: &Dump) -> Result<(), AllocError>
+    ensures { OnOk result (line.new ≡ line.old ⊕ fields_tokens (dump_fields dump.now)) }
+{
+    line.text("dump", dump.kind.row().name)?;
+    line.number("seq", dump.seq.into())?;
+    line.number("port", dump.port.into())
+}
+
+/// The word for how the dump ended, and the status or the code that ended it.
+fn end_of(state: State) -> (&'static str, Option<i32>)
+    ensures word { result.0.now ≡ end_word state }
+    ensures code { result.1 ≡ end_code state }
+{
+    match state {
+        State::Ended(_, End::Done(status)) => ("done", Some(status)),
+        State::Ended(_, End::Error(code)) => ("error", Some(code)),
+        State::Ended(_, End::Overrun) => ("overrun", None),
+        State::Idle | State::Waiting(_) | State::Ended(_, End::Abandoned) => ("none", None),
+    }
+}
+
+/// Writes the field of a status or a code, if there is one.
+#[tactic(auto, using(crate::proofs::Json::no_field))]
+fn push_code(line: &mut Line, code: Option<i32>) -> Result<(), AllocError>
+    ensures { OnOk result (line.new ≡ line.old ⊕ fields_tokens (code_fields code)) }
+{
+    match code {
+        Some(code) => line.signed("code", code),
+        None => Ok(()),
+    }
+}
+
+/// Writes how the dump ended.
+#[tactic(auto, unfolding(crate::specs::TabledJson::end_fields), using(crate::proofs::Sets::field))]
+pub(crate) fn push_end(line: &mut Line, state: State) -> Result<(), AllocError>
+    ensures { OnOk result (line.new ≡ line.old ⊕ fields_tokens (end_fields state)) }
+{
+    let (word, code) = end_of(state);
+    line.text("end", word)?;
+    push_code(line, code)
+}
+
+/// Writes what was counted of the dump.
+#[tactic(auto, unfolding(crate::specs::TabledJson::count_fields), using(crate::proofs::Sets::field))]
+pub(crate) fn push_counts(
+    line: &mut Line,
+    dump: &Dump,
+    session: &Session,
+    entries: u32,
+    missed: u64,
+    unfed: usize,
+) -> Result<(), AllocError>
+    requires entries { entries ≡ length (table_at dump.now.kind session.now.tables).entries }
+    requires missed { missed ≡ (table_at dump.now.kind session.now.tables).missed }
+    ensures { OnOk result
+        (line.new ≡ line.old ⊕ fields_tokens (count_fields dump.now unfed session.now)) }
+{
+    let _kind = dump.kind;
+    line.number("entries", entries.into())?;
+    line.number("missed", missed)?;
+    line.number("ignored", session.ignored())?;
+    line.number("unfed", unfed as u64)
+}
+
+/// Writes whether something of the dump was lost.
+#[tactic(auto, unfolding(crate::specs::TabledJson::loss_fields), using(crate::proofs::Sets::field))]
+pub(crate) fn push_losses(line: &mut Line, session: &Session) -> Result<(), AllocError>
+    ensures { OnOk result (line.new ≡ line.old ⊕ fields_tokens (loss_fields session.now)) }
+{
+    line.boolean("damaged", session.damaged())?;
+    line.boolean("interrupted", session.interrupted())
+}
+
+/// Writes what was counted of all datagrams.
+#[tactic(auto, unfolding(crate::specs::TabledJson::sum_fields), using(crate::proofs::Sets::field))]
+pub(crate) fn push_sums(line: &mut Line, session: &Session) -> Result<(), AllocError>
+    ensures { OnOk result (line.new ≡ line.old ⊕ fields_tokens (sum_fields session.now)) }
+{
+    line.number("received", session.received())?;
+    line.number("visits", session.visits())
+}

@@ -1,0 +1,11 @@
+//! What is printed as lines of JSON.
+
+pub(crate) mod body;
+pub(crate) mod datagram;
+pub(crate) mod dump;
+pub(crate) mod families;
+pub(crate) mod flags;
+pub(crate) mod line;
+pub(crate) mod message;
+pub(crate) mod tree;
+pub(crate) mod values;

@@ -1,0 +1,68 @@
+//! The pieces that text is put together from.
+
+ghost use Rattle.std.specs.Prelude.{◌≡◌, ◌≤◌, ◌++◌, OnOk, decimal, length};
+ghost use Rattle.hex.specs.Hex.{encode_lower};
+ghost use Rattle.rtnl.specs.Text.{hex_text};
+
+pub(crate) mod segment;
+
+use itoa::Buffer;
+use std::alloc::AllocError;
+
+/// Appends words.
+#[inline(always)]
+pub(crate) fn push(out: &mut Vec<u8>, words: &str) -> Result<(), AllocError>
+    ensures { OnOk result (out.new.items ≡ out.old.items ++ words.now) }
+{
+    out.extend_from_slice(words.as_bytes())
+}
+
+/// Appends a number in decimal.
+#[inline(always)]
+pub(crate) fn push_decimal(out: &mut Vec<u8>, number: u64) -> Result<(), AllocError>
+    ensures { OnOk result (out.new.items ≡ out.old.items ++ decimal number) }
+{
+    let mut buffer = Buffer::new();
+    push(out, buffer.format(number))
+}
+
+/// How many bytes are written in digits at a time.
+const CHUNK: usize = 32;
+
+/// Appends at most 32 bytes in hexadecimal digits.
+#[inline(always)]
+fn push_chunk(out: &mut Vec<u8>, bytes: &[u8]) -> Result<(), AllocError>
+    requires { length bytes.now ≤ 32 }
+    ensures { OnOk result (out.new.items ≡ out.old.items ++ encode_lower bytes.now) }
+{
+    let mut buffer = [0; 2 * CHUNK];
+    let digits = &mut buffer[..2 * bytes.len()];
+    if hex::encode_to_slice(bytes, digits).is_err() {
+        unreachable!();
+    }
+    out.extend_from_slice(digits)
+}
+
+/// Appends bytes in hexadecimal digits.
+pub(crate) fn push_digits(out: &mut Vec<u8>, bytes: &[u8]) -> Result<(), AllocError>
+    ensures { OnOk result (out.new.items ≡ out.old.items ++ encode_lower bytes.now) }
+{
+    let mut rest = bytes;
+    while rest.len() > CHUNK {
+        let (chunk, others) = rest.split_at(CHUNK);
+        push_chunk(out, chunk)?;
+        rest = others;
+    }
+    push_chunk(out, rest)
+}
+
+/// Appends bytes in hexadecimal digits, or a dash where there are none.
+#[tactic(auto, unfolding(crate::specs::Text::hex_text))]
+pub(crate) fn push_hex(out: &mut Vec<u8>, bytes: &[u8]) -> Result<(), AllocError>
+    ensures { OnOk result (out.new.items ≡ out.old.items ++ hex_text bytes.now) }
+{
+    if bytes.is_empty() {
+        return push(out, "-");
+    }
+    push_digits(out, bytes)
+}

@@ -1,0 +1,56 @@
+//! The entries of a table.
+
+ghost use Rattle.std.specs.Prelude.{◌≡◌, ◌++◌, OnOk, length};
+ghost use Rattle.nl_dump.specs.Items.{seen};
+ghost use Rattle.nl_dump.specs.View.{table_at};
+ghost use Rattle.rtnl.specs.Tabled.{entries_text};
+
+use crate::json_lines::families::ItemField;
+use crate::runs::report::ReportFormat;
+use crate::text::families::ItemLines;
+use nl_attr::Order;
+use nl_dump::{Session, match_table};
+use nl_route::Family;
+use nl_table::{Entry, Table};
+use std::alloc::{AllocError, Global};
+
+/// Reports the entries of a table.
+fn push_entries<F: ReportFormat, T: Entry + ItemLines + ItemField>(
+    alloc: Global,
+    out: &mut Vec<u8>,
+    order: Order,
+    table: &Table<T>,
+) -> Result<(), AllocError>
+    ensures { OnOk result (out.new.items ≡ out.old.items
+        ++ entries_text F.report order 1 (seen T.item table.now).entries) }
+{
+    for index in 0..table.len() {
+        let Some(entry) = table.get(index) else {
+            unreachable!()
+        };
+        F::push_entry(alloc, out, order, index + 1, entry)?;
+    }
+    Ok(())
+}
+
+/// Reports the entries of the table of a family.
+pub(crate) fn push_table<F: ReportFormat>(
+    alloc: Global,
+    out: &mut Vec<u8>,
+    order: Order,
+    session: &Session,
+    kind: Family,
+) -> Result<(), AllocError>
+    ensures { OnOk result (out.new.items ≡ out.old.items
+        ++ entries_text F.report order 1 (table_at kind session.now.tables).entries) }
+{
+    match_table!(kind, session, table => push_entries::<F, _>(alloc, out, order, table))
+}
+
+/// How many entries the table of a family has, and how many it missed.
+pub(crate) fn size_of(session: &Session, kind: Family) -> (u32, u64)
+    ensures entries { result.0 ≡ length (table_at kind session.now.tables).entries }
+    ensures missed { result.1 ≡ (table_at kind session.now.tables).missed }
+{
+    match_table!(kind, session, table => (table.len(), table.missed()))
+}

@@ -1,0 +1,12 @@
+//! The commands over a recording, and the request that begins a dump.
+
+pub(crate) mod begun;
+pub(crate) mod check;
+pub(crate) mod entries;
+pub(crate) mod per_datagram;
+pub(crate) mod report;
+pub(crate) mod request;
+pub(crate) mod run;
+pub(crate) mod show;
+pub(crate) mod show_bytes;
+pub(crate) mod table;

@@ -1,0 +1,179 @@
+//! The report of a dump.
+
+use crate::json_lines::dump as fields;
+use crate::json_lines::families::ItemField;
+use crate::json_lines::line::Line;
+use crate::runs::entries::size_of;
+use crate::text::dump as lines;
+use crate::text::families::ItemLines;
+use nl_attr::Order;
+use nl_dump::{Dump, FeedError, Session};
+use nl_frame::ReadError;
+use std::alloc::{AllocError, Global};
+
+/// The report of a dump: which dump is read, the datagrams that were refused, the entries, and how
+/// the dump ended.
+pub(crate) trait ReportFormat {
+    ghost use Rattle.std.specs.Prelude.{◌≡◌, ◌≢◌, ◌++◌, OnOk};
+    ghost use Rattle.rtnl.specs.Tabled.{Report};
+
+    ghost report: { Report };
+
+    /// Writes which dump is read.
+    fn push_front(alloc: Global, out: &mut Vec<u8>, dump: &Dump) -> Result<(), AllocError>
+        ensures { OnOk result (out.new.items ≡ out.old.items ++ report.front dump.now) };
+
+    /// Writes why the datagram of this number was refused. It fails where that was for memory.
+    fn push_refusal(
+        alloc: Global,
+        out: &mut Vec<u8>,
+        number: usize,
+        error: FeedError,
+    ) -> Result<(), AllocError>
+        ensures refusal { OnOk result (error ≢ FeedError.Memory) }
+        ensures text { OnOk result (out.new.items
+            ≡ out.old.items ++ report.refusal number error) };
+
+    /// Writes the entry of this number, counted from 1.
+    fn push_entry<T: ItemLines + ItemField>(
+        alloc: Global,
+        out: &mut Vec<u8>,
+        order: Order,
+        number: u32,
+        entry: &T,
+    ) -> Result<(), AllocError>
+        ensures { OnOk result (out.new.items
+            ≡ out.old.items ++ report.entry order number (T.item entry.now)) };
+
+    /// Writes how the dump ended, with so many datagrams left.
+    fn push_ending(
+        alloc: Global,
+        out: &mut Vec<u8>,
+        dump: &Dump,
+        session: &Session,
+        unfed: usize,
+    ) -> Result<(), AllocError>
+        ensures { OnOk result (out.new.items
+            ≡ out.old.items ++ report.ending dump.now unfed session.now) };
+}
+
+/// A report in lines of text.
+pub(crate) struct InText;
+
+impl ReportFormat for InText {
+    ghost use Rattle.rtnl.specs.Tabled.{in_text};
+
+    ghost report = { in_text };
+
+    fn push_front(_alloc: Global, out: &mut Vec<u8>, dump: &Dump) -> Result<(), AllocError> {
+        lines::push_dump_line(out, dump)
+    }
+
+    fn push_refusal(
+        _alloc: Global,
+        out: &mut Vec<u8>,
+        number: usize,
+        error: FeedError,
+    ) -> Result<(), AllocError> {
+        lines::push_feed_error(out, number, error)
+    }
+
+    #[tactic(auto, using(crate::proofs::Sets::joins))]
+    fn push_entry<T: ItemLines + ItemField>(
+        alloc: Global,
+        out: &mut Vec<u8>,
+        order: Order,
+        number: u32,
+        entry: &T,
+    ) -> Result<(), AllocError> {
+        lines::push_entry_line(out, number)?;
+        entry.push(alloc, out, order)
+    }
+
+    fn push_ending(
+        _alloc: Global,
+        out: &mut Vec<u8>,
+        dump: &Dump,
+        session: &Session,
+        unfed: usize,
+    ) -> Result<(), AllocError> {
+        lines::push_end_line(out, session.state())?;
+        let (entries, missed) = size_of(session, dump.kind);
+        let counts = lines::Counts {
+            entries,
+            missed,
+            ignored: session.ignored(),
+            unfed,
+            damaged: session.damaged(),
+            interrupted: session.interrupted(),
+        };
+        lines::push_counts_line(out, counts)?;
+        lines::push_sums_line(out, session.received(), session.visits())?;
+        lines::push_complete_line(out, session.complete())
+    }
+}
+
+/// A report in lines of JSON.
+pub(crate) struct InJson;
+
+impl ReportFormat for InJson {
+    ghost use Rattle.rtnl.specs.TabledJson.{in_json};
+
+    ghost report = { in_json };
+
+    fn push_front(_alloc: Global, _out: &mut Vec<u8>, _dump: &Dump) -> Result<(), AllocError> {
+        Ok(())
+    }
+
+    #[tactic(auto, unfolding(crate::specs::TabledJson::refusal_json))]
+    fn push_refusal(
+        alloc: Global,
+        out: &mut Vec<u8>,
+        number: usize,
+        error: FeedError,
+    ) -> Result<(), AllocError> {
+        match error {
+            FeedError::NotWaiting => Ok(()),
+            FeedError::Total => fields::push_total(alloc, out, number),
+            FeedError::TooLarge => fields::push_refused(alloc, out, number, ReadError::TooLarge),
+            FeedError::Layout(fault) => fields::push_refused(
+                alloc,
+                out,
+                number,
+                ReadError::Layout(fault),
+            ),
+            FeedError::Memory => Err(AllocError),
+        }
+    }
+
+    fn push_entry<T: ItemLines + ItemField>(
+        alloc: Global,
+        out: &mut Vec<u8>,
+        order: Order,
+        number: u32,
+        entry: &T,
+    ) -> Result<(), AllocError> {
+        let mut line = Line::begin(alloc, out)?;
+        line.number("entry", number.into())?;
+        entry.push_field(&mut line, order)?;
+        line.end(out)
+    }
+
+    fn push_ending(
+        alloc: Global,
+        out: &mut Vec<u8>,
+        dump: &Dump,
+        session: &Session,
+        unfed: usize,
+    ) -> Result<(), AllocError> {
+        let (entries, missed) = size_of(session, dump.kind);
+        let mut line = Line::begin(alloc, out)?;
+        fields::push_dump(&mut line, dump)?;
+        fields::push_end(&mut line, session.state())?;
+        fields::push_counts(&mut line, dump, session, entries, missed, unfed)?;
+        fields::push_losses(&mut line, session)?;
+        fields::push_sums(&mut line, session)?;
+        line.boolean("complete", session.complete())?;
+        line.end(out)
+    }
+}

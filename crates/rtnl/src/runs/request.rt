@@ -1,0 +1,81 @@
+//! Printing the request that begins a dump.
+
+ghost use Rattle.std.specs.Prelude.{◌≡◌, ◌++◌, OnOk, IfOk};
+ghost use Rattle.nl_dump.specs.Request.{dump_of};
+ghost use Rattle.rtnl.specs.Requested.{bytes_alone, requested};
+ghost use Rattle.rtnl.specs.Runs.{Writes};
+
+use crate::error::{RunError, Verdict};
+use crate::pieces::{push, push_hex};
+use crate::runs::begun::begun;
+use crate::streams::sink::{Sink, give_all};
+use nl_attr::Order;
+use nl_dump::Dump;
+use nl_frame::Limits;
+use nl_route::Family;
+use std::alloc::{AllocError, Global};
+
+#[tactic(auto, unfolding(crate::specs::Requested::bytes_alone))]
+fn push_bytes_alone(out: &mut Vec<u8>, bytes: &[u8]) -> Result<(), AllocError>
+    ensures { OnOk result (out.new.items ≡ out.old.items ++ bytes_alone bytes.now) }
+{
+    push_hex(out, bytes)?;
+    push(out, "\n")
+}
+
+/// The line of the request that begins a dump.
+fn text_of(alloc: Global, dump: &Dump, order: Order) -> Result<Vec<u8>, AllocError>
+    ensures { IfOk result (λ text. text.items ≡ requested order dump.now) }
+{
+    let limits = Limits::standard().with_order(order);
+    let (_session, request) = begun(alloc, dump, &limits)?;
+    let mut text = Vec::new(alloc);
+    push_bytes_alone(&mut text, request.as_slice())?;
+    Ok(text)
+}
+
+/// Writes the request that begins a dump as one line of hexadecimal, its numbers with the lowest
+/// byte first, else as `run_request_ordered`.
+pub fn run_request<W: Sink>(
+    alloc: Global,
+    sink: &mut W,
+    kind: Family,
+    family: u8,
+    seq: u32,
+) -> Result<Verdict, RunError>
+    ensures writes { Writes W.contents W.is_stalled W.stall_count W.failure_count
+        (requested Order.Little (dump_of kind family seq 0)) sink.old sink.new result }
+    ensures clean { IfOk result (λ verdict. verdict ≡ Verdict.Clean) }
+{
+    run_request_ordered(alloc, sink, kind, family, seq, Order::Little)
+}
+
+/// Writes the request that begins a dump as one line of hexadecimal, its numbers in this byte
+/// order: what `Session::begin` of `nl_dump` answers for this kind, address family and sequence
+/// number.
+///
+/// The text is made, then it is written. After the end of memory nothing was written; after a write
+/// fault a prefix of the text was.
+pub fn run_request_ordered<W: Sink>(
+    alloc: Global,
+    sink: &mut W,
+    kind: Family,
+    family: u8,
+    seq: u32,
+    order: Order,
+) -> Result<Verdict, RunError>
+    // What was written is the line of the request.
+    ensures writes { Writes W.contents W.is_stalled W.stall_count W.failure_count
+        (requested order (dump_of kind family seq 0)) sink.old sink.new result }
+    ensures clean { IfOk result (λ verdict. verdict ≡ Verdict.Clean) }
+{
+    let dump = Dump {
+        kind,
+        family,
+        seq,
+        port: 0,
+    };
+    let text = text_of(alloc, &dump, order)?;
+    give_all(sink, text.as_slice())?;
+    Ok(Verdict::Clean)
+}

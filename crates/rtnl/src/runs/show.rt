@@ -1,0 +1,194 @@
+//! Showing a recording.
+
+ghost use Rattle.std.specs.Prelude.{◌≡◌, ◌+◌, ◌++◌, IfOk, OnErr};
+ghost use Rattle.rtnl.specs.Runs as fixed;
+ghost use Rattle.rtnl.specs.Streams.{ConsumesAtMost};
+ghost use Rattle.rtnl.specs.Runs.{Runs};
+ghost use Rattle.rtnl.specs.Shown.{Answer, Answers, datagram_text, is_taken};
+ghost use Rattle.rtnl.specs.Shown.{Shows, ShowsInput, ShowsInputJson, ShowsJson};
+
+use crate::error::{RunError, Verdict};
+use crate::json_lines;
+use crate::json_lines::line::Line;
+use crate::runs::per_datagram::PerDatagram;
+use crate::runs::run::run;
+use crate::streams::sink::Sink;
+use crate::streams::source::Source;
+use crate::text::datagram::{push_datagram_line, push_refusal};
+use crate::text::message::push_messages;
+use nl_frame::{Limits, read_datagram};
+use std::alloc::{AllocError, Global};
+
+/// Writes the line of a datagram, and its messages or why it is refused.
+fn push_answer(
+    alloc: Global,
+    out: &mut Vec<u8>,
+    number: usize,
+    bytes: &[u8],
+    limits: &Limits,
+) -> Result<bool, AllocError>
+    // The text is that of the datagram's answer under these limits.
+    ensures { IfOk result (λ taken. (answer : Answer) × Answers limits.now bytes.now answer
+        × (out.new.items ≡ out.old.items
+        ++ datagram_text limits.now.shape.order number bytes.now answer)
+        × (taken ≡ is_taken answer)) }
+{
+    push_datagram_line(out, number, bytes.len())?;
+    match read_datagram(alloc, bytes, limits).into_result() {
+        Ok(messages) => {
+            push_messages(alloc, out, limits.order(), messages.as_slice())?;
+            Ok(true)
+        }
+        Err(error) => {
+            push_refusal(out, error)?;
+            Ok(false)
+        }
+    }
+}
+
+/// Appends the text of a datagram, which `run_show` writes of the datagram of this number: its
+/// messages and their attributes, or why it is refused. It answers whether it was taken.
+///
+/// Only memory can be refused; then `out` is as it was.
+pub fn push_datagram(
+    alloc: Global,
+    out: &mut Vec<u8>,
+    number: usize,
+    bytes: &[u8],
+    limits: &Limits,
+) -> Result<bool, AllocError>
+    // The text is that of the datagram's answer under these limits.
+    ensures text { IfOk result (λ taken. (answer : Answer) × Answers limits.now bytes.now answer
+        × (out.new.items ≡ out.old.items
+        ++ datagram_text limits.now.shape.order number bytes.now answer)
+        × (taken ≡ is_taken answer)) }
+    ensures unchanged { OnErr result (out.new.items ≡ out.old.items) }
+{
+    let mut text = Vec::new(alloc);
+    let taken = push_answer(alloc, &mut text, number, bytes, limits)?;
+    out.extend_from_slice(&text)?;
+    Ok(taken)
+}
+
+/// To show datagrams under these limits.
+#[derive(Clone, Copy)]
+struct Show {
+    limits: Limits,
+}
+
+impl PerDatagram for Show {
+    ghost use Rattle.rtnl.specs.Shown.{Answer, Answers, datagram_text, is_taken};
+
+    ghost Found = { Answer };
+
+    ghost finds = { λ s. Answers s.limits };
+
+    ghost text = { λ s. datagram_text s.limits.shape.order };
+
+    ghost takes = { is_taken };
+
+    fn push(
+        &self,
+        alloc: Global,
+        out: &mut Vec<u8>,
+        number: usize,
+        bytes: &[u8],
+    ) -> Result<bool, AllocError> {
+        push_answer(alloc, out, number, bytes, &self.limits)
+    }
+}
+
+/// To show datagrams as lines of JSON.
+#[derive(Clone, Copy)]
+struct ShowJson {
+    limits: Limits,
+}
+
+impl PerDatagram for ShowJson {
+    ghost use Rattle.rtnl.specs.Shown.{Answer, Answers, datagram_json, is_taken};
+
+    ghost Found = { Answer };
+
+    ghost finds = { λ s. Answers s.limits };
+
+    ghost text = { λ s. datagram_json s.limits.shape.order };
+
+    ghost takes = { is_taken };
+
+    fn push(
+        &self,
+        alloc: Global,
+        out: &mut Vec<u8>,
+        number: usize,
+        bytes: &[u8],
+    ) -> Result<bool, AllocError> {
+        let mut line = Line::begin(alloc, out)?;
+        line.number("datagram", number as u64)?;
+        match read_datagram(alloc, bytes, &self.limits).into_result() {
+            Ok(messages) => {
+                line.number("bytes", bytes.len() as u64)?;
+                json_lines::message::push_messages(
+                    alloc,
+                    &mut line,
+                    self.limits.order(),
+                    messages.as_slice(),
+                )?;
+                line.end(out)?;
+                Ok(true)
+            }
+            Err(error) => {
+                json_lines::datagram::push_refusal(&mut line, error)?;
+                line.end(out)?;
+                Ok(false)
+            }
+        }
+    }
+}
+
+/// Shows each datagram of the lines that a source gives: its messages and their attributes, or why
+/// it is refused.
+///
+/// The input is read to its end and all lines are checked, then the text is made, then it is
+/// written. After a bad line, a read fault or the end of memory nothing was written; after a write
+/// fault a prefix of the text was. The verdict is Blemished exactly where a datagram was refused.
+pub fn run_show<S: Source, W: Sink>(
+    alloc: Global,
+    source: &mut S,
+    sink: &mut W,
+    limits: &Limits,
+) -> Result<Verdict, RunError>
+    // What was written is the text of the datagrams of what was read, and the verdict is theirs.
+    ensures shown { IfOk result
+        (ShowsInput limits.now (S.remaining source.old) (S.remaining source.new)
+        (W.contents sink.old) (W.contents sink.new)) }
+    ensures runs { Runs S.remaining S.is_ended S.failure_count
+        W.contents W.is_stalled W.stall_count W.failure_count
+        (Shows limits.now) source.old source.new sink.old sink.new result }
+    ensures bounded { ConsumesAtMost (fixed.LONGEST_INPUT + 1)
+        (S.remaining source.old) (S.remaining source.new) }
+{
+    run(alloc, source, sink, &Show { limits: *limits })
+}
+
+/// Shows each datagram as `run_show` does, as a line of JSON (RFC 8259) in place of text: an object
+/// of its number, its size and its messages, or of its number and why it is refused.
+///
+/// It reads, writes and ends as `run_show` does.
+pub fn run_show_json<S: Source, W: Sink>(
+    alloc: Global,
+    source: &mut S,
+    sink: &mut W,
+    limits: &Limits,
+) -> Result<Verdict, RunError>
+    // What was written is the objects of the datagrams of what was read, and the verdict is theirs.
+    ensures shown { IfOk result
+        (ShowsInputJson limits.now (S.remaining source.old) (S.remaining source.new)
+        (W.contents sink.old) (W.contents sink.new)) }
+    ensures runs { Runs S.remaining S.is_ended S.failure_count
+        W.contents W.is_stalled W.stall_count W.failure_count
+        (ShowsJson limits.now) source.old source.new sink.old sink.new result }
+    ensures bounded { ConsumesAtMost (fixed.LONGEST_INPUT + 1)
+        (S.remaining source.old) (S.remaining source.new) }
+{
+    run(alloc, source, sink, &ShowJson { limits: *limits })
+}

@@ -1,0 +1,202 @@
+//! Reading a recording as the answers to a dump.
+
+ghost use Rattle.std.specs.Prelude.{◌≡◌, ◌≤◌, ◌+◌, ◌++◌, ◌↔◌, IsTrue};
+ghost use Rattle.std.specs.Prelude.{List, length, drop, Result, IfOk};
+ghost use Rattle.rtnl.specs.Runs as fixed;
+ghost use Rattle.nl_dump.specs.Steps.{Fed, IsWaiting};
+ghost use Rattle.nl_dump.specs.declared.dump.Progress.{Progress as AnyProgress};
+ghost use Rattle.nl_dump.specs.declared.errors.FeedError.{FeedError as AnyFeedError};
+ghost use Rattle.rtnl.specs.Runs.{Runs};
+ghost use Rattle.rtnl.specs.Streams.{ConsumesAtMost};
+ghost use Rattle.rtnl.specs.TabledJson.{TablesInputJson, TablesJson};
+ghost use Rattle.rtnl.specs.Tabled.{Answered, FeedsSome, IsReported, ReportsFrom, Tables};
+ghost use Rattle.rtnl.specs.Tabled.{TablesInput, answer_text, refusals_text, verdict_of};
+
+use crate::error::{RunError, Verdict};
+use crate::recordings::recording::Datagrams;
+use crate::runs::begun::begun;
+use crate::runs::entries::push_table;
+use crate::runs::report::{InJson, InText, ReportFormat};
+use crate::runs::run::{Command, run};
+use crate::streams::sink::Sink;
+use crate::streams::source::Source;
+use nl_dump::{Dump, Session, State};
+use nl_frame::Limits;
+use std::alloc::{AllocError, Global};
+use std::marker::PhantomData;
+
+fn is_waiting(state: State) -> bool
+    ensures { IsTrue result ↔ IsWaiting state }
+{
+    matches!(state, State::Waiting(_))
+}
+
+/// Feeds a datagram to a dump that waits, and writes why it is refused, where it is.
+fn feed_one<F: ReportFormat>(
+    alloc: Global,
+    session: &mut Session,
+    out: &mut Vec<u8>,
+    number: usize,
+    bytes: &[u8],
+) -> Result<(), AllocError>
+    requires { IsWaiting session.old.state }
+    ensures { IfOk result (λ _. (r : Result AnyProgress AnyFeedError)
+        × Fed session.old bytes.now r session.new × IsReported r
+        × (out.new.items ≡ out.old.items ++ answer_text F.report number r)) }
+{
+    match session.feed(bytes) {
+        Ok(_) => Ok(()),
+        Err(error) => F::push_refusal(alloc, out, number, error),
+    }
+}
+
+/// Feeds datagrams in order until the dump has ended, writes of each that is refused, and answers
+/// how many were fed.
+fn feed_all<F: ReportFormat>(
+    alloc: Global,
+    session: &mut Session,
+    out: &mut Vec<u8>,
+    datagrams: &Datagrams,
+) -> Result<usize, AllocError>
+    ensures { IfOk result (λ count. (count ≤ length datagrams.now)
+        × (IsWaiting session.new.state → count ≡ length datagrams.now)
+        × ((fed : List Answered)
+        × FeedsSome session.old datagrams.now fed (drop count datagrams.now) session.new
+        × (out.new.items ≡ out.old.items ++ refusals_text F.report fed))) }
+{
+    for index in 0..datagrams.len() {
+        if !is_waiting(session.state()) {
+            return Ok(index);
+        }
+        feed_one::<F>(alloc, session, out, index + 1, datagrams.get(index))?;
+    }
+    Ok(datagrams.len())
+}
+
+fn verdict(complete: bool) -> Verdict
+    ensures { result ≡ verdict_of complete }
+{
+    if complete {
+        Verdict::Clean
+    } else {
+        Verdict::Blemished
+    }
+}
+
+/// To read datagrams as the answers to a dump, under these limits, and report them.
+#[derive(Clone, Copy)]
+struct Tabulate<F> {
+    dump: Dump,
+    limits: Limits,
+    report: PhantomData<F>,
+}
+
+impl<F: ReportFormat> Tabulate<F> {
+    /// The report of a session in which the dump waits, which is fed the datagrams first, and
+    /// whether the dump is complete.
+    fn report_of(
+        &self,
+        alloc: Global,
+        session: &mut Session,
+        datagrams: &Datagrams,
+    ) -> Result<(Vec<u8>, Verdict), AllocError>
+        ensures { IfOk result (λ p. ReportsFrom F.report self.now.limits.shape.order self.now.dump
+            session.old datagrams.now p.0.items p.1 session.new) }
+    {
+        let mut out = Vec::new(alloc);
+        F::push_front(alloc, &mut out, &self.dump)?;
+        let fed = feed_all::<F>(alloc, session, &mut out, datagrams)?;
+        let unfed = datagrams.len() - fed;
+        let order = self.limits.order();
+        push_table::<F>(alloc, &mut out, order, session, self.dump.kind)?;
+        F::push_ending(alloc, &mut out, &self.dump, session, unfed)?;
+        Ok((out, verdict(session.complete())))
+    }
+}
+
+impl<F: ReportFormat> Command for Tabulate<F> {
+    ghost use Rattle.rtnl.specs.Tabled.{TablesBy};
+
+    ghost says = { λ t. TablesBy F.report t.limits t.dump };
+
+    fn text_of(
+        &self,
+        alloc: Global,
+        datagrams: &Datagrams,
+    ) -> Result<(Vec<u8>, Verdict), AllocError> {
+        let (mut session, _request) = begun(alloc, &self.dump, &self.limits)?;
+        self.report_of(alloc, &mut session, datagrams)
+    }
+}
+
+/// Reads the datagrams of the lines that a source gives as the answers to a dump: a new session of
+/// these limits begins it, and is fed them in order until it has ended. It writes why datagrams
+/// were refused, the entries of the dump's table, and how the dump ended.
+///
+/// The input is read to its end and all lines are checked, then the text is made, then it is
+/// written. After a bad line, a read fault or the end of memory nothing was written; after a write
+/// fault a prefix of the text was. The verdict is Blemished exactly where the dump is not complete.
+pub fn run_table<S: Source, W: Sink>(
+    alloc: Global,
+    source: &mut S,
+    sink: &mut W,
+    dump: Dump,
+    limits: &Limits,
+) -> Result<Verdict, RunError>
+    // What was written is the text of the session that the datagrams of what was read end in, and
+    // the verdict is its.
+    ensures tabled { IfOk result
+        (TablesInput limits.now dump (S.remaining source.old) (S.remaining source.new)
+        (W.contents sink.old) (W.contents sink.new)) }
+    ensures runs { Runs S.remaining S.is_ended S.failure_count
+        W.contents W.is_stalled W.stall_count W.failure_count
+        (Tables limits.now dump) source.old source.new sink.old sink.new result }
+    ensures bounded { ConsumesAtMost (fixed.LONGEST_INPUT + 1)
+        (S.remaining source.old) (S.remaining source.new) }
+{
+    run(
+        alloc,
+        source,
+        sink,
+        &Tabulate::<InText> {
+            dump,
+            limits: *limits,
+            report: PhantomData,
+        },
+    )
+}
+
+/// Reads the datagrams as `run_table` does, and writes the dump as lines of JSON (RFC 8259) in
+/// place of text: an object of each datagram that was refused, of each entry, and of how the dump
+/// ended.
+///
+/// It reads, writes and ends as `run_table` does.
+pub fn run_table_json<S: Source, W: Sink>(
+    alloc: Global,
+    source: &mut S,
+    sink: &mut W,
+    dump: Dump,
+    limits: &Limits,
+) -> Result<Verdict, RunError>
+    // What was written is the objects of the session that the datagrams of what was read end in,
+    // and the verdict is its.
+    ensures tabled { IfOk result
+        (TablesInputJson limits.now dump (S.remaining source.old) (S.remaining source.new)
+        (W.contents sink.old) (W.contents sink.new)) }
+    ensures runs { Runs S.remaining S.is_ended S.failure_count
+        W.contents W.is_stalled W.stall_count W.failure_count
+        (TablesJson limits.now dump) source.old source.new sink.old sink.new result }
+    ensures bounded { ConsumesAtMost (fixed.LONGEST_INPUT + 1)
+        (S.remaining source.old) (S.remaining source.new) }
+{
+    run(
+        alloc,
+        source,
+        sink,
+        &Tabulate::<InJson> {
+            dump,
+            limits: *limits,
+            report: PhantomData,
+        },
+    )
+}
