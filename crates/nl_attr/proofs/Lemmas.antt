@@ -1,5 +1,4 @@
 pub mod Rows
-pub mod Signed
 pub mod Reading
 pub mod Loop
 pub mod Going

@@ -74,10 +74,6 @@ module _ (S : Shape) where
   abbrev pub broken : Head → Option Reason
   broken h = broken_in h.ctx h.level h.sort h.left
 
-  -- the length that a head says, and its item with the padding, as far as present
-  abbrev pub len_at : Head → ℕ
-  len_at h = len_of S.order 2 h.left
-
   -- how many bytes the item of a head occupies, its padding as far as present
   abbrev pub span_at : Head → ℕ
   span_at h = span_of S.order 2 h.left

@@ -66,6 +66,7 @@ fn put_hop_head(out: &mut Vec<u8>, order: Order, flags: u8, hops: u8, ifindex: &
 }
 
 /// Writes the length of the item that begins at `start` into its first two bytes, and pads it.
+#[tactic(auto, using(crate::proofs::Lemmas::Lengths::closing))]
 fn close_item(out: &mut Vec<u8>, order: Order, start: usize)
     requires begun { start + 2 ≤ vec_len out.old }
     requires short { vec_len out.old - start ≤ fixed.LONGEST_ITEM }

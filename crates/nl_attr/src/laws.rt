@@ -52,6 +52,7 @@ pub fn constants_are_fixed()
 {}
 
 /// Bytes are the form of the number that is read of them, and of no other number of so many bytes.
+#[tactic(auto, using(crate::proofs::Lemmas::Numbers::number_laws))]
 pub fn one_number()
     ensures below { (o : Order) (bytes : List ℕ)
         → AreBytes bytes → number_of o (length bytes) bytes < 256 ^ length bytes }
@@ -64,6 +65,7 @@ pub fn one_number()
 {}
 
 /// Four bytes are the two's complement of exactly one number.
+#[tactic(auto, using(crate::proofs::Lemmas::Numbers::one_signed))]
 pub fn one_signed_number()
     ensures { (o : Order) (bytes : List ℕ) → AreBytes bytes
         → length bytes ≡ 4 → (z : ℤ) × FitsSigned w32 z × (num (cast_unsigned w32 z) 4 o ≡ bytes)
@@ -129,6 +131,7 @@ pub fn heads_in_order()
 /// Where a list fits a region, the events of a scan are those of the list: for each attribute and
 /// next hop, in order, its place, level, type, flags, sort and length. A length is rounded up
 /// where heads stand inside, since the padding behind the last of them may be absent.
+#[tactic(auto, using(crate::proofs::Lemmas::Listed::list_events))]
 pub fn heads_of_list()
     ensures { (s : Shape) (ctx : Ctx) (l place : ℕ) (bytes : List ℕ) (is : Items)
         → Fits s is bytes ctx l
@@ -137,11 +140,13 @@ pub fn heads_of_list()
 {}
 
 /// A list is written as many bytes in either order.
+#[tactic(auto, using(crate::proofs::Lemmas::Lengths::lengths))]
 pub fn written_length()
     ensures { (o : Order) (is : Items) → length (written o is) ≡ items_len is }
 {}
 
 /// A list that can be written fits the bytes that it is written as.
+#[tactic(auto, using(crate::proofs::Lemmas::Writing::written_fits))]
 pub fn written_fits()
     ensures { (s : Shape) (ctx : Ctx) (l : ℕ) (is : Items)
         → IsProper is ctx l s.depth → IsRanged is → Fits s is (written s.order is) ctx l }

@@ -35,6 +35,7 @@ pub fn read_list(
 }
 
 /// The attributes of a region whose numbers are in this order, else as `read_list`.
+#[tactic(auto, using(crate::proofs::Lemmas::Reads::reads_list))]
 pub fn read_list_ordered(
     alloc: Global,
     bytes: &[u8],

@@ -18,11 +18,11 @@ use Rattle.nl_attr.specs.Numbers.{kind_of, len_of}
 use Rattle.nl_attr.specs.Tree.{holds_of}
 use Rattle.nl_attr.specs.Walk.{broken_length, flags_of, payload_of}
 use Rattle.nl_attr.specs.Grammar.{unless}
-use Rattle.nl_attr.specs.Heads.{Sort, attr_head, hop_head, Head, least, content_at, or_else, broken, broken_in, broken_container, inner_in, inner_of, span_at, start_of, heads}
+use Rattle.nl_attr.specs.Heads.{Head, content_at, broken, broken_container, inner_in, inner_of, span_at, start_of, heads}
 use Rattle.nl_attr.specs.Region.{content_in, ctx_in, sort_in}
 use Rattle.nl_attr.specs.Taped.{Adds, hops_start}
 use Rattle.nl_attr.specs.HeadOrder.{event_of, sort_of, counted}
-use Rattle.nl_attr.proofs.Lemmas.Putting.{put_none, put_one}
+use Rattle.nl_attr.proofs.Lemmas.Putting.{put_one}
 
 -- the event of an attribute, as of one that holds bytes
 pub bytes_event_so : (o : Order) (ctx : Ctx) (l place : ℕ) (left : List ℕ) (len kind : ℕ) (flags : AttrFlags) → len ≡ length (payload_of o 4 2 left) → kind ≡ kind_of o left → flags ≡ flags_of kind
@@ -71,17 +71,6 @@ hop_rest_so l place left n m e = ap (λ (xs : List ℕ). hops_start l (place + n
 -- ---- steps
 
 module _ (S : Shape) where
-  length_breaks : (s : Sort) (ctx : Ctx) (l : ℕ) (left : List ℕ) (r : Reason) → broken_length S.order (least s) 2 left ≡ Some r → broken_in S ctx l s left ≡ Some r
-  length_breaks attr_head ctx l left r e = ap (λ (o : Option Reason). or_else o (broken_container S l (content_at S.order ctx left) (len_of S.order 2 left))) e
-  length_breaks hop_head ctx l left r e = e
-
-  -- a head whose length is not sound is not added
-  pub length_fails : (h : Head) (r : Reason) (t : Taped) (out : List Event) → broken_length S.order (least h.sort) 2 h.left ≡ Some r → (broken S h ≡ Some r) × Adds S (counted S h) t t out out
-  length_fails h r t out e = (
-    length_breaks h.sort h.ctx h.level h.left r e,
-    subst (λ (o : Option Reason). Adds S (unless o h) t t out out) (sym e) (record { broken = refl; count = omega arith; visits = omega arith; events = sym (put_none t.count out) }),
-  )
-
   -- a head that is added
   pub added : (h : Head) (before after : Taped) (old new : List Event) (e : Event) (span : ℕ) → e ≡ event_of S.order h → span ≡ span_at S h → new ≡ slice_set old before.count e → after ≡ record before { count = before.count + 1; visits = before.visits + span } → Adds S (h ∷ []) before after old new
   unfolding heads

@@ -105,3 +105,9 @@ item_closed o w old field tail payload all s vlen n size e f g =
     let front : take s all ≡ old = ap (take s) a ∙ take_at old (field ++ x) s (sym f) in
     let back : drop (s + w) all ≡ x = ap (drop (s + w)) (a ∙ sym (append_assoc old field x)) ∙ drop_at (old ++ field) x (s + w) (omega (arith, length-append old field, size, f)) in
     rw (front, back, g) refl
+
+-- how long what is written of a list is
+pub ruleset lengths = length-items
+
+-- an item whose length is put into its head
+pub ruleset closing = (when_ok, closed)

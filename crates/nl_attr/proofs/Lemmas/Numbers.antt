@@ -229,3 +229,9 @@ number_of-num o w n xs h =
 -- bytes begin with the form of the number that is read at their front
 pub one_front : (o : Order) (w : ℕ) (xs : List ℕ) → AreBytes xs → w ≤ length xs → num (number_of o w xs) w o ++ drop w xs ≡ xs
 one_front o w xs h le = ap (λ (t : List ℕ). t ++ drop w xs) (front_is o w xs h le) ∙ take-append-drop w xs
+
+-- bytes are the form of one number
+pub ruleset number_laws = (one_below, one_is, one_front, one_only)
+
+-- signed numbers pass through their bits
+pub ruleset signed = to_z-of_z

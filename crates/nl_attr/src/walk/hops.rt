@@ -33,7 +33,7 @@ pub struct HopPart<'a> {
 }
 
 /// The next hop of `len` bytes at the front.
-#[tactic(auto, using(crate::proofs::Lemmas::Signed::signed))]
+#[tactic(auto, using(crate::proofs::Lemmas::Numbers::signed))]
 fn hop_part(order: Order, left: &[u8], len: usize, place: u32, span: u32) -> HopPart<'_>
     requires sound { HeadIs order 8 2 left.now (Ok len) }
     requires span { span ≡ span_of order 2 left.now }
