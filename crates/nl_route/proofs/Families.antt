@@ -17,7 +17,7 @@ use Rattle.nl_route.specs.Route.{route_fields, route_of}
 use Rattle.nl_route.specs.Neigh.{neigh_fields, neigh_of}
 use Rattle.nl_route.specs.Rule.{rule_fields, rule_of}
 use Rattle.nl_route.proofs.Fields.{size_of}
-use Rattle.nl_route.proofs.Known.{IsKnown, value_at, signed_at, fields_of_read, read_of_fields}
+use Rattle.nl_route.proofs.Known.{IsKnown, value_at, signed_at, fields_of_read, read_of_fields, head_written}
 
 -- each head is known by its fields
 pub link_known : IsKnown 16 link_fields link_of
@@ -34,6 +34,9 @@ neigh_known = record { is = λ o v bytes. refl; made = λ fs. record { family = 
 
 pub rule_known : IsKnown 12 rule_fields rule_of
 rule_known = record { is = λ o v bytes. refl; made = λ fs. record { family = value_at fs 0; dst_len = value_at fs 1; src_len = value_at fs 2; tos = value_at fs 3; table = value_at fs 4; action = value_at fs 7; flags = value_at fs 8 }; back = λ v. refl; size_is = λ v. refl }
+
+-- what is written of a head, whatever the family
+pub ruleset heads = (head_written, link_known, addr_known, route_known, neigh_known, rule_known)
 
 -- its head is known by its fields, and whole in four bytes, and the table of types has its types
 pub record IsFamily (g : Family) : Type 0 where

@@ -1,14 +1,11 @@
 -- A fourth of a message type, and what is left, say what the table of types does.
-use Rattle.std.proofs.Common.{◌≡◌, ℕ, ◌*◌, ◌/◌, ◌%◌, ◌≤◌, Bool, true, false, ◌&&◌, ltb, List, [], ◌∷◌, map, get_or, Some, None, cond, refl, sym, ap, ap₂, ◌∙◌, inl, inr, arith}
+use Rattle.std.proofs.Common.{◌≡◌, ℕ, ◌*◌, ◌/◌, ◌%◌, ◌≤◌, Bool, true, false, ◌&&◌, ltb, List, [], ◌∷◌, map, get_or, None, refl, sym, ap, ◌∙◌, inl, inr, arith}
 use Rattle.std.specs.List.{list_all, range_with_len}
 use Rattle.std.proofs.Math.Nat.{le-div_iff_mul-le}
 use Rattle.std.proofs.lemmas.Bool.{cases_lt, ne_eqb, ltb-true}
 use Rattle.std.proofs.lemmas.List.FromFn.{get_or-map-range_with_len}
-use Rattle.nl_route.specs.declared.family.Family.{Family}
-use Rattle.nl_route.specs.declared.family.Verb.{Verb}
-use Rattle.nl_route.specs.Types.{says, types, under, route_type}
-use Rattle.nl_route.specs.Families.{has_verb}
-use Rattle.nl_route.specs.Parts.{fourths, family_of_fourth, verb_at, type_in, by_fourth}
+use Rattle.nl_route.specs.Types.{types, under, route_type}
+use Rattle.nl_route.specs.Parts.{fourths, verb_at, type_in, by_fourth}
 
 -- a fourth of each family's types is below this
 abbrev end : ℕ
@@ -37,13 +34,3 @@ agree n = elim (cases_lt n (end * 4)) [
   where
     fourth : end * 4 ≤ n → end ≤ n / 4
     fourth high = (le-div_iff_mul-le {k = 4} {x = end} {y = n} (omega arith)).1 high
-
--- what is found where the family has the verb, and where there is no family
-pub found_of : (n : ℕ) (g : Family) (v : Verb) → family_of_fourth (n / 4) ≡ Some g → v ≡ verb_at (n % 4) → has_verb g v ≡ true → route_type n ≡ Some (says v g)
-found_of n g v is same has = agree n ∙ ap₂ type_in is (sym same) ∙ ap (λ b. cond b (Some (says v g)) None) has
-
-pub none_of : (n : ℕ) (g : Family) (v : Verb) → family_of_fourth (n / 4) ≡ Some g → v ≡ verb_at (n % 4) → has_verb g v ≡ false → route_type n ≡ None
-none_of n g v is same has = agree n ∙ ap₂ type_in is (sym same) ∙ ap (λ b. cond b (Some (says v g)) None) has
-
-pub none_at : (n : ℕ) → family_of_fourth (n / 4) ≡ None → route_type n ≡ None
-none_at n is = agree n ∙ ap (λ o. type_in o (verb_at (n % 4))) is

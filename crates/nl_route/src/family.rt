@@ -157,6 +157,7 @@ impl Family {
     }
 
     /// The message type of this family that asks for this, where it has one.
+    #[tactic(auto, using(crate::proofs::Families::type_says))]
     pub fn type_of(self, verb: Verb) -> u16
         ensures number { result ≡ type_of self verb }
         // It says so.
@@ -194,6 +195,7 @@ impl FromStr for Family {
 
 impl RouteType {
     /// What this message type says; none where it is no family's.
+    #[tactic(auto, using(crate::proofs::Types::agree))]
     pub fn of(kind: u16) -> Option<RouteType>
         ensures { result ≡ route_type kind }
     {

@@ -1,7 +1,0 @@
-use Rattle.std.proofs.Common.{rules}
-use Rattle.nl_route.proofs.Known.{head_written}
-use Rattle.nl_route.proofs.Families.{addr_known}
-use Rattle.nl_route.proofs.ifaddrmsg.AddrHead.write_ordered.Goals as goal
-
-pub returns : goal.returns
-returns c = head_written addr_known c.args.order c.args.self.now _ (search rules) (search rules) (search rules)
