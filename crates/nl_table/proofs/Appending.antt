@@ -1,25 +1,19 @@
 -- A key, as its fields are appended one after another.
 use Rattle.std.proofs.Common.{◌≡◌, ℕ, List, [], ◌∷◌, ◌++◌, ap, sym, ◌∙◌, append_assoc}
 use Rattle.std.proofs.lemmas.List.{append-nil}
-use Rattle.nl_table.specs.Keys.{KeyField, field_bytes, key_bytes, IsKeyField, AreKeyFields}
+use Rattle.nl_table.specs.Keys.{KeyField, field_bytes, key_bytes}
 
--- these bytes are the key of these fields, which a value can have
+-- these bytes are the key of these fields
 pub record IsKeyOf (fs : List KeyField) (key : List ℕ) : Type 0 where
   pub is : key ≡ key_bytes fs
-  pub fields : AreKeyFields fs
 
 -- the bytes of one more field stand behind those of the others
 push : (fs : List KeyField) (f : KeyField) → key_bytes fs ++ field_bytes f ≡ key_bytes (fs ++ f ∷ [])
 push [] f = sym (append-nil (field_bytes f))
 push (g ∷ fs) f = append_assoc (field_bytes g) (key_bytes fs) (field_bytes f) ∙ ap (λ l. field_bytes g ++ l) (push fs f)
 
--- one more field that a value can have
-join : (fs : List KeyField) (f : KeyField) → AreKeyFields fs → IsKeyField f → AreKeyFields (fs ++ f ∷ [])
-join [] f p q = (q, tt)
-join (g ∷ fs) f p q = (p.0, join fs f p.1 q)
-
 pub none : {key : List ℕ} → key ≡ [] → IsKeyOf [] key
-none e = record { is = e; fields = tt }
+none e = record { is = e }
 
-pub more : {fs : List KeyField} {before after : List ℕ} → IsKeyOf fs before → (f : KeyField) → after ≡ before ++ field_bytes f → IsKeyField f → IsKeyOf (fs ++ f ∷ []) after
-more {fs = fs} k f e p = record { is = e ∙ ap (λ l. l ++ field_bytes f) k.is ∙ push fs f; fields = join fs f k.fields p }
+pub more : {fs : List KeyField} {before after : List ℕ} → IsKeyOf fs before → (f : KeyField) → after ≡ before ++ field_bytes f → IsKeyOf (fs ++ f ∷ []) after
+more {fs = fs} k f e = record { is = e ∙ ap (λ l. l ++ field_bytes f) k.is ∙ push fs f }

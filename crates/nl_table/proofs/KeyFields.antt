@@ -1,22 +1,19 @@
 -- The fields of a key are such as a value can have, where its head and its attributes come from bytes.
-use Rattle.std.proofs.Common.{ℕ, ◌==◌, Bool, true, false, cond, Option, None, Some, arith}
+use Rattle.std.proofs.Common.{ℕ, ◌<◌, ◌==◌, Bool, true, false, cond, Option, None, Some, arith, rules}
 use Rattle.std.specs.Prelude.{List, []}
 use Rattle.std.proofs.lemmas.Nat.{and_le_l}
 use Rattle.nl_attr.specs.declared.order.Order.{Order}
 use Rattle.nl_attr.specs.Tree.{Items}
 use Rattle.nl_route.specs.declared.ndmsg.NeighHead.{NeighHead}
 use Rattle.nl_route.specs.declared.family.Family.{Family}
-use Rattle.nl_route.specs.declared.family.Family.TheVariants.{Link, Addr, Route, Neigh, Rule}
+use Rattle.nl_route.specs.declared.family.Family.TheVariants.{Neigh}
 use Rattle.nl_route.specs.Fields.{AreRanged}
 use Rattle.nl_route.specs.Families.{row}
-use Rattle.nl_route.specs.Addr.{IFA_ADDRESS, IFA_LOCAL}
-use Rattle.nl_route.specs.Route.{RTA_DST, RTA_SRC, RTA_TABLE, RTA_PRIORITY, RTA_OIF, RTA_GATEWAY}
 use Rattle.nl_route.specs.Neigh.{NDA_DST, NDA_LLADDR, NDA_VLAN, NDA_VNI}
-use Rattle.nl_route.specs.Rule.{FRA_DST, FRA_SRC, FRA_TABLE, FRA_PRIORITY, FRA_GOTO, FRA_FWMARK, FRA_FWMASK, FRA_IIFNAME, FRA_OIFNAME}
 use Rattle.nl_route.specs.Views.{bytes_view, number_view}
 use Rattle.nl_route.proofs.Fields.{unsigned_below}
 use Rattle.nl_table.specs.Keys.{IsKeyField, AreKeyFields, bytes, number}
-use Rattle.nl_table.specs.Attributes.{number_at, or_zero}
+use Rattle.nl_table.specs.Attributes.{number_at, or_zero, table_id}
 use Rattle.nl_table.specs.Neigh.{AF_BRIDGE, IDENTIFYING_FLAGS, bridge_key_fields}
 use Rattle.nl_table.specs.Families.{key_fields}
 use Rattle.nl_table.proofs.Leaves.{HasLeaves, IsLeaf, number_width, or_zero_width, table_width}
@@ -35,6 +32,9 @@ module _ (o : Order) (is : Items) (leaves : HasLeaves is) where
   two_fit : (n : ℕ) → IsKeyField (number 2 (or_zero (number_view o 2 n is)))
   two_fit n = or_zero_width 2 (number_view o 2 n is) (number_width o 2 n is leaves)
 
+  table_fits : (n of_head : ℕ) → of_head < 256 → IsKeyField (number 4 (table_id o n of_head is))
+  table_fits n of_head small = table_width o n of_head is small leaves
+
   bridge_fits : (h : NeighHead) → AreKeyFields (bridge_key_fields o h is)
   bridge_fits h = by (h.family == AF_BRIDGE)
     where
@@ -43,51 +43,6 @@ module _ (o : Order) (is : Items) (leaves : HasLeaves is) where
       by false = tt
 
   pub key_fits : (k : Family) (h : (row k).Head) → AreRanged ((row k).fields h) → AreKeyFields (key_fields k o h is)
-  key_fits Link h r = (unsigned_below h.index r.1.1.0, tt)
-  key_fits Addr h r = (r.0, (r.1.1.1.1.0, (r.1.0, (bytes_fit IFA_ADDRESS, (bytes_fit IFA_LOCAL, tt)))))
-  key_fits Route h r = (
-    r.0,
-    (
-      r.1.0,
-      (
-        bytes_fit RTA_DST,
-        (
-          r.1.1.0,
-          (
-            bytes_fit RTA_SRC,
-            (
-              r.1.1.1.0,
-              (
-                table_width o RTA_TABLE h.table is r.1.1.1.1.0 leaves,
-                (four_fit RTA_PRIORITY, (r.1.1.1.1.1.1.1.0, (four_fit RTA_OIF, (bytes_fit RTA_GATEWAY, tt)))),
-              ),
-            ),
-          ),
-        ),
-      ),
-    ),
-  )
   key_fits Neigh h r =
       (r.0, (unsigned_below h.ifindex r.1.0, (omega (arith, and_le_l h.flags IDENTIFYING_FLAGS, r.1.1.1.0), (bytes_fit NDA_DST, bridge_fits h))))
-  key_fits Rule h r = (
-    r.0,
-    (
-      r.1.0,
-      (
-        bytes_fit FRA_DST,
-        (
-          r.1.1.0,
-          (
-            bytes_fit FRA_SRC,
-            (
-              r.1.1.1.0,
-              (
-                table_width o FRA_TABLE h.table is r.1.1.1.1.0 leaves,
-                (four_fit FRA_PRIORITY, (r.1.1.1.1.1.0, (four_fit FRA_GOTO, (four_fit FRA_FWMARK, (four_fit FRA_FWMASK, (bytes_fit FRA_IIFNAME, (bytes_fit FRA_OIFNAME, tt))))))),
-              ),
-            ),
-          ),
-        ),
-      ),
-    ),
-  )
+  key_fits k h r = search (rules, unsigned_below, bytes_fit, four_fit, table_fits)

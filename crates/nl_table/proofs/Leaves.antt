@@ -1,7 +1,7 @@
 -- What keys take of attributes that come from bytes is in its range.
 use Rattle.std.proofs.Common.{◌≡◌, ℕ, zero, suc, ◌<◌, ◌^◌, ◌==◌, nat_lt, Bool, true, false, cond, List, length, drop, Option, None, Some, refl, ap, ◌∙◌, subst, arith}
-use Rattle.std.specs.Prelude.{unwrap_or}
 use Rattle.std.proofs.lemmas.Bool.{ltb-false}
+use Rattle.std.proofs.lemmas.Grind.{common_steps}
 use Rattle.std.proofs.Math.Nat.{pow-suc}
 use Rattle.nl_attr.specs.declared.order.Order.{Order}
 use Rattle.nl_attr.specs.declared.tree.Ctx.{Ctx}
@@ -84,8 +84,4 @@ or_zero_width w None h = above_zero w
 or_zero_width w (Some n) h = h
 
 pub table_width : (o : Order) (n of_head : ℕ) (is : Items) → of_head < 256 → HasLeaves is → table_id o n of_head is < 256 ^ 4
-table_width o n of_head is small leaves = by (number_view o 4 n is) (number_width o 4 n is leaves)
-  where
-    by : (x : Option ℕ) → HasWidth 4 x → unwrap_or x of_head < 256 ^ 4
-    by None h = omega (arith, small)
-    by (Some x) h = h
+table_width o n of_head is small leaves = grind (arith, common_steps, number_width o 4 n is leaves)

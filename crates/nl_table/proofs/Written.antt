@@ -1,6 +1,7 @@
 -- What a map is once a value is written through an entry of it.
-use Rattle.std.proofs.Common.{◌≡◌, ℕ, suc, ◌+◌, ◌≤◌, ◌<◌, ◌||◌, nat_lt, Bool, true, false, cond, List, [], ◌∷◌, length, refl, sym, ◌∙◌, subst, inl, inr, arith}
-use Rattle.std.specs.Prelude.{not}
+use Rattle.std.proofs.Common.{◌≡◌, ℕ, suc, ◌+◌, ◌≤◌, ◌<◌, nat_lt, Bool, List, [], ◌∷◌, length, refl, sym, ◌∙◌, subst, inl, inr, arith}
+use Rattle.std.proofs.lemmas.Grind.{common_steps}
+use Rattle.std.proofs.lemmas.Bool.Decides.{nat_tests}
 use Rattle.std.proofs.lemmas.Bool.{cases_lt, lt-ltb, le-ltb}
 use Rattle.std.specs.List.{list_any, position_or_len}
 use Rattle.std.specs.Map.{keys_of}
@@ -26,12 +27,7 @@ next_lt m n =
 -- a key is held exactly where its place is among those of the entries
 pub place-held : {Z T : Type 0} (test : List ℕ → Bool) (es : List (Vec ℕ Z × T)) → nat_lt (position_or_len (λ k. test k.items) (keys_of es)) (length es) ≡ list_any test (keys_of (entries_of es))
 place-held test [] = refl
-place-held test (e ∷ es) = by (test e.0.items) (place-held test es)
-  where
-    by : (b : Bool) → nat_lt (position_or_len (λ k. test k.items) (keys_of es)) (length es) ≡ list_any test (keys_of (entries_of es))
-        → nat_lt (cond (not b) (1 + position_or_len (λ k. test k.items) (keys_of es)) 0) (length (e ∷ es)) ≡ (b || list_any test (keys_of (entries_of es)))
-    by true h = lt-ltb 0 (length (e ∷ es)) (omega arith)
-    by false h = next_lt (position_or_len (λ k. test k.items) (keys_of es)) (length es) ∙ h
+place-held test (e ∷ es) = grind (arith, common_steps, nat_tests, place-held test es)
 
 module _ {K V S A H : Type 0} {g : eq.Ghosts K} {h : hash.Ghosts K} {b : builder.Ghosts S H} {w : hasher.Ghosts H} where
   -- a key that is held takes a value without room
