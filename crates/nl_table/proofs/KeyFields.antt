@@ -1,6 +1,7 @@
 -- The fields of a key are such as a value can have, where its head and its attributes come from bytes.
-use Rattle.std.proofs.Common.{ℕ, ◌<◌, ◌==◌, Bool, true, false, cond, Option, None, Some, arith, rules}
-use Rattle.std.specs.Prelude.{List, []}
+use Rattle.std.proofs.Common.{ℕ, ◌<◌, ◌==◌, Bool, true, false, cond, arith, rules}
+use Rattle.std.specs.Prelude.{[]}
+use Rattle.std.proofs.lemmas.Grind.{common_steps}
 use Rattle.std.proofs.lemmas.Nat.{and_le_l}
 use Rattle.nl_attr.specs.declared.order.Order.{Order}
 use Rattle.nl_attr.specs.Tree.{Items}
@@ -16,15 +17,11 @@ use Rattle.nl_table.specs.Keys.{IsKeyField, AreKeyFields, bytes, number}
 use Rattle.nl_table.specs.Attributes.{number_at, or_zero, table_id}
 use Rattle.nl_table.specs.Neigh.{AF_BRIDGE, IDENTIFYING_FLAGS, bridge_key_fields}
 use Rattle.nl_table.specs.Families.{key_fields}
-use Rattle.nl_table.proofs.Leaves.{HasLeaves, IsLeaf, number_width, or_zero_width, table_width}
+use Rattle.nl_table.proofs.Leaves.{HasLeaves, number_width, or_zero_width, table_width}
 
 module _ (o : Order) (is : Items) (leaves : HasLeaves is) where
   bytes_fit : (n : ℕ) → IsKeyField (bytes (bytes_view n is))
-  bytes_fit n = by (bytes_view n is) (leaves n)
-    where
-      by : (x : Option (List ℕ)) → IsLeaf x → IsKeyField (bytes x)
-      by None leaf = tt
-      by (Some bs) leaf = leaf.1
+  bytes_fit n = grind (arith, common_steps, leaves n)
 
   four_fit : (n : ℕ) → IsKeyField (number 4 (number_at o n is))
   four_fit n = or_zero_width 4 (number_view o 4 n is) (number_width o 4 n is leaves)

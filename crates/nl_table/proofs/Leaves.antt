@@ -1,6 +1,6 @@
 -- What keys take of attributes that come from bytes is in its range.
-use Rattle.std.proofs.Common.{◌≡◌, ℕ, zero, suc, ◌<◌, ◌^◌, ◌==◌, nat_lt, Bool, true, false, cond, List, length, drop, Option, None, Some, refl, ap, ◌∙◌, subst, arith}
-use Rattle.std.proofs.lemmas.Bool.{ltb-false}
+use Rattle.std.proofs.Common.{ℕ, zero, suc, ◌<◌, ◌^◌, ◌==◌, Bool, true, false, cond, List, length, drop, Option, None, Some, ap, ◌∙◌, subst, arith}
+use Rattle.std.proofs.lemmas.Bool.Decides.{nat_tests}
 use Rattle.std.proofs.lemmas.Grind.{common_steps}
 use Rattle.std.proofs.Math.Nat.{pow-suc}
 use Rattle.nl_attr.specs.declared.order.Order.{Order}
@@ -8,10 +8,10 @@ use Rattle.nl_attr.specs.declared.tree.Ctx.{Ctx}
 use Rattle.nl_attr.specs.declared.tree.Content.{Content}
 use Rattle.nl_attr.specs.declared.tree.Content.TheVariants as content
 use Rattle.nl_attr.specs.Shape.{Shape}
-use Rattle.nl_attr.specs.Numbers.{AreBytes, number_of}
+use Rattle.nl_attr.specs.Numbers.{AreBytes}
 use Rattle.nl_attr.specs.Tree.{Val, bytes, list, hops, Items, no_items, item, holds_of}
 use Rattle.nl_attr.specs.Layout.{FitsVal, Fits, kind_number}
-use Rattle.nl_attr.specs.Views.{Entry, bytes_in, first_of, first_number, number_in}
+use Rattle.nl_attr.specs.Views.{bytes_in, first_of, first_number}
 use Rattle.nl_attr.proofs.Lemmas.Numbers.{bytes_drop, front_below, head_length, past_head}
 use Rattle.nl_attr.proofs.Lemmas.Pieces.{piece_bytes}
 use Rattle.nl_route.specs.Views.{bytes_view, number_view, said_by}
@@ -62,18 +62,10 @@ HasWidth w (Some n) = n < 256 ^ w
 
 number_fits : (o : Order) (w : ℕ) (bs : Option (List ℕ)) → IsLeaf bs → HasWidth w (first_number o w bs)
 number_fits o w None leaf = tt
-number_fits o w (Some bs) leaf = by (nat_lt (length bs) w) refl
-  where
-    by : (b : Bool) → nat_lt (length bs) w ≡ b → HasWidth w (cond b None (Some (number_of o w bs)))
-    by true e = tt
-    by false e = front_below o w bs leaf.0 (ltb-false (length bs) w e)
+number_fits o w (Some bs) leaf = grind (arith, common_steps, nat_tests, front_below o w bs leaf.0)
 
 pub number_width : (o : Order) (w n : ℕ) (is : Items) → HasLeaves is → HasWidth w (number_view o w n is)
-number_width o w n is leaves = by (first_of is n) (leaves n)
-  where
-    by : (e : Option Entry) → IsLeaf (said_by bytes_in e) → HasWidth w (said_by (number_in o w) e)
-    by None leaf = tt
-    by (Some e) leaf = number_fits o w (bytes_in e.value) leaf
+number_width o w n is leaves = grind (arith, common_steps, leaves n, number_fits o w)
 
 above_zero : (w : ℕ) → 0 < 256 ^ w
 above_zero zero = omega arith

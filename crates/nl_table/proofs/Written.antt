@@ -1,8 +1,7 @@
 -- What a map is once a value is written through an entry of it.
-use Rattle.std.proofs.Common.{◌≡◌, ℕ, suc, ◌+◌, ◌≤◌, ◌<◌, nat_lt, Bool, List, [], ◌∷◌, length, refl, sym, ◌∙◌, subst, inl, inr, arith}
+use Rattle.std.proofs.Common.{◌≡◌, ℕ, ◌≤◌, ◌<◌, nat_lt, Bool, List, [], ◌∷◌, length, refl, sym, ◌∙◌, subst, arith}
 use Rattle.std.proofs.lemmas.Grind.{common_steps}
 use Rattle.std.proofs.lemmas.Bool.Decides.{nat_tests}
-use Rattle.std.proofs.lemmas.Bool.{cases_lt, lt-ltb, le-ltb}
 use Rattle.std.specs.List.{list_any, position_or_len}
 use Rattle.std.specs.Map.{keys_of}
 use Rattle.std.specs.declared.vec.Vec.{Vec}
@@ -16,13 +15,6 @@ use Rattle.indexmap.specs.declared.map.entry.OccupiedEntry.{OccupiedEntry}
 use Rattle.indexmap.specs.Entry.{entry_index, entry_map, map_with_value, IsEntryFor, IsWritten}
 use Rattle.indexmap.specs.IndexMap.{IndexMap, KeepsRoom, index_map_len, insert_entry, spare}
 use Rattle.nl_table.specs.Pairs.{entries_of}
-
-next_lt : (m n : ℕ) → nat_lt (1 + m) (suc n) ≡ nat_lt m n
-next_lt m n =
-    elim (cases_lt m n) [
-      | inl lt ↦ lt-ltb (1 + m) (suc n) (omega arith) ∙ sym (lt-ltb m n lt)
-      | inr le ↦ le-ltb (1 + m) (suc n) (omega arith) ∙ sym (le-ltb m n le)
-    ]
 
 -- a key is held exactly where its place is among those of the entries
 pub place-held : {Z T : Type 0} (test : List ℕ → Bool) (es : List (Vec ℕ Z × T)) → nat_lt (position_or_len (λ k. test k.items) (keys_of es)) (length es) ≡ list_any test (keys_of (entries_of es))
