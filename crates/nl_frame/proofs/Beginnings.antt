@@ -18,7 +18,7 @@ use Rattle.nl_frame.specs.Written.{header_for, body_written, message_item, writt
 use Rattle.nl_frame.specs.Proper.{IsMismatchedBody, IsMismatched, IsLongBody, HasLong, IsLong}
 use Rattle.nl_frame.specs.Compared.{AreSized}
 use Rattle.nl_frame.specs.Measured.{IsSizedBody}
-use Rattle.nl_frame.proofs.WrittenLayouts.{length-body}
+use Rattle.nl_frame.proofs.WrittenLayouts.{length-body, not_above}
 
 module _ (o : Order) (m : MessageVal) where
   abbrev front : List ℕ
@@ -45,9 +45,6 @@ module _ (o : Order) (m : MessageVal) where
           padded_item (message_item o m) bytes (16 + n) r (two front (body_written o m.body) bytes 16 (Some n) first (from (body_written o m.body) bytes 16 (Some n) body)) (from _ bytes (16 + n) r gap)
 
 -- ---- messages that are neither mismatched nor too long are sized
-
-not_above : (a b : ℕ) → (a < b → ⊥) → b ≤ a
-not_above a b h = omega (arith, h)
 
 body_is_sized : (b : BodyVal) (f : Form) → (IsMismatchedBody b f → ⊥) → (IsLongBody b → ⊥) → IsSizedBody b
 body_is_sized (object h is) f m s = list_is_sized is (context_of (family_of h)) (λ x. m (inr x)) (λ x. s (inr x))

@@ -160,14 +160,12 @@ object_body S g payload is fits le f =
     (refl, (le, any_fields S.order g (take n payload) (bytes_take n payload fits) (omega (arith, length-take n payload, le)), f))
 
 pub body_sound : (S : Shape) (f : Form) (place : ℕ) (payload : List ℕ) (c : BodyVal) (v : ℕ) → AreBytes payload → least_body f ≤ length payload → body_at S f place payload ≡ (Ok c, v) → BodyOf S c f payload
-body_sound S form.Noop place payload c v fits le e = subst (λ (x : BodyVal). BodyOf S x form.Noop payload) (same_ok (noop payload) c 0 v e) (refl, refl)
 body_sound S form.Error place payload c v fits le e = subst (λ (x : BodyVal). BodyOf S x form.Error payload) (same_ok _ c 0 v e) (refl, le, error_sound S.order payload fits le, refl)
 body_sound S form.Done place payload c v fits le e = subst (λ (x : BodyVal). BodyOf S x form.Done payload) (same_ok (done_at S.order payload) c 0 v e) (done_body S payload fits)
-body_sound S form.Overrun place payload c v fits le e = subst (λ (x : BodyVal). BodyOf S x form.Overrun payload) (same_ok (overrun payload) c 0 v e) (refl, refl)
 body_sound S (form.Object g) place payload c v fits le e =
     let n = head_size g in
     let m = map_ok (object (head_of S.order g (take n payload))) (items_of_region S (context_of g) 0 (place + n) (drop n payload)) c v e in
     subst (λ (x : BodyVal). BodyOf S x (form.Object g) payload) m.3
     (object_body S g payload m.0 fits le (items_sound (length (drop n payload)) S (context_of g) 0 (place + n) (drop n payload) m.0 m.1 (omega arith) (bytes_drop n payload fits) m.2))
 body_sound S form.Get place payload c v fits le e = subst (λ (x : BodyVal). BodyOf S x form.Get payload) (same_ok _ c 0 v e) (get_body S payload le)
-body_sound S form.Other place payload c v fits le e = subst (λ (x : BodyVal). BodyOf S x form.Other payload) (same_ok (other payload) c 0 v e) (refl, refl)
+body_sound S f place payload c v fits le e = subst (λ (x : BodyVal). BodyOf S x f payload) (same_ok _ c 0 v e) (refl, refl)

@@ -38,15 +38,10 @@ module _ (S : Shape) where
   any_visits (h ∷ hs) = ap (λ (n : ℕ). region.span_at S h + n) (any_visits hs)
 
   body_agrees : (f : Form) (place : ℕ) (payload : List ℕ) → Agrees (heads S) (body_at S f place payload) (region_trail S (region_in f place payload))
-  body_agrees form.Noop place payload = record { end = refl; sums = refl }
-  body_agrees form.Error place payload = record { end = refl; sums = refl }
-  body_agrees form.Done place payload = record { end = refl; sums = refl }
-  body_agrees form.Overrun place payload = record { end = refl; sums = refl }
   body_agrees (form.Object g) place payload =
       let a = regions.reads S (context_of g) 0 (place + head_size g) (drop (head_size g) payload) in
       map_agrees (heads S) _ _ _ (record { end = a.end; sums = a.sums ∙ sym (any_visits _) })
-  body_agrees form.Get place payload = record { end = refl; sums = refl }
-  body_agrees form.Other place payload = record { end = refl; sums = refl }
+  body_agrees f place payload = record { end = refl; sums = refl }
 
   same_agrees : {A : Type 0} (o p : Outcome A) (t u : Trail) → o ≡ p → t ≡ u → Agrees (heads S) p u → Agrees (heads S) o t
   same_agrees {A} o p t u e f a = subst (λ (q : Outcome A). Agrees (heads S) q t) (sym e) (subst (λ (x : Trail). Agrees (heads S) p x) (sym f) a)

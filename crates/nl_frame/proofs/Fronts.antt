@@ -7,6 +7,7 @@ use Rattle.nl_attr.specs.Fixed.{LONGEST_REGION}
 use Rattle.nl_attr.specs.declared.order.Order.{Order}
 use Rattle.nl_attr.specs.declared.fault.Reason.{Reason}
 use Rattle.nl_attr.specs.declared.fault.Reason.TheVariants.{ShortBody}
+use Rattle.nl_attr.specs.Shape.{Shape}
 use Rattle.nl_attr.specs.Numbers.{aligned, len_of}
 use Rattle.nl_attr.specs.Walk.{HeadIs}
 use Rattle.nl_attr.specs.Heads.{or_else}
@@ -57,12 +58,32 @@ frame_of o left f len k head form payload span rest least =
       within = omega (arith, high, s);
     }
 
--- what is visited keeps its bound
-pub step_bound : (k v u place span p : ℕ) → v ≤ k * place → u ≤ k * p → p ≤ span → v + u ≤ k * (place + span)
-step_bound k v u place span p a b h = omega (arith, a, b, mul-le-mul_left k h)
+-- ---- what is visited keeps its bound
 
 pub whole_bound : (k v m n : ℕ) → v ≤ k * m → m ≤ n → v ≤ k * n
 whole_bound k v m n a h = omega (arith, a, mul-le-mul_left k h)
 
-pub small : (k n x : ℕ) → k ≤ 33 → n ≤ LONGEST_REGION → x ≤ k * n → x < 2 ^ 64
-small k n x a b h = omega (arith, mul-le-mul_left k b)
+-- this is left of the datagram from a place on, after so many visits
+pub record Reaches (S : Shape) (d : List ℕ) (n place : ℕ) (left : List ℕ) : Type 0 where
+  pub size : place + length left ≡ length d
+  pub bound : n ≤ (S.depth + 1) * place
+
+module _ {S : Shape} {d : List ℕ} {n place : ℕ} {left : List ℕ} (now : Reaches S d n place left) where
+  pub here_whole : n ≤ (S.depth + 1) * length d
+  here_whole = whole_bound (S.depth + 1) n place (length d) now.bound (omega (arith, now.size))
+
+  -- the visits with those of the message there
+  module _ (f : Frame) (is : IsFrame S.order left f) (v : ℕ) (few : v ≤ (S.depth + 1) * length f.payload.now) where
+    pub reaches_on : Reaches S d (n + v) (place + f.span) f.rest.now
+    reaches_on =
+        let inside : length f.payload.now ≤ f.span = omega (arith, is.inside) in
+        record {
+          size = omega (arith, is.within, now.size, is.span, ap (length {A = ℕ}) is.rest, length-drop (span_at S.order left) left);
+          bound = omega (arith, now.bound, few, mul-le-mul_left (S.depth + 1) inside);
+        }
+
+    pub sum_whole : n + v ≤ (S.depth + 1) * length d
+    sum_whole = whole_bound (S.depth + 1) (n + v) (place + f.span) (length d) reaches_on.bound (omega (arith, is.within, now.size))
+
+    pub sum_small : S.depth ≤ 32 → length d ≤ LONGEST_REGION → n + v < 2 ^ 64
+    sum_small low size = omega (arith, sum_whole, mul-le-mul_left (S.depth + 1) size)

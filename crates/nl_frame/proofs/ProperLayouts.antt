@@ -122,3 +122,6 @@ module _ (S : Shape) where
   -- messages keep no more bytes than their datagram has
   pub layout_kept : (ms : List MessageVal) (d : List ℕ) → Layout S ms d → kept ms ≤ length d
   layout_kept ms d f = (layout_allowed ms d f).kept
+
+-- what holds of messages that are a layout
+pub ruleset proper = (layout_proper, layout_len, layout_ranged)

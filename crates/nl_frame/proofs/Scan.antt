@@ -35,13 +35,8 @@ region_start c place n payload h le e = subst (IsRegion place payload) (same e) 
   same e = cc
 
 region_at : (f : Form) (place : ℕ) (payload : List ℕ) (h : Head) → least_body f ≤ length payload → region_in f place payload ≡ Some h → IsRegion place payload h
-region_at form.Noop place payload h le e = absurd cc
-region_at form.Error place payload h le e = absurd cc
-region_at form.Done place payload h le e = absurd cc
-region_at form.Overrun place payload h le e = absurd cc
 region_at (form.Object g) place payload h le e = region_start (context_of g) place (head_size g) payload h le e
-region_at form.Get place payload h le e = absurd cc
-region_at form.Other place payload h le e = absurd cc
+region_at f place payload h le e = absurd cc
 
 some_is : (o : Option Head) (k : AnyHead) → some_inner o ≡ Some k → (h : Head) × (o ≡ Some h) × (inner h ≡ k)
 some_is None k e = absurd cc

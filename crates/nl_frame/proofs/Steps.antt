@@ -17,7 +17,7 @@ use Rattle.nl_frame.specs.declared.header.Header.{Header}
 use Rattle.nl_frame.specs.Message.{MessageVal}
 use Rattle.nl_frame.specs.Front.{span_at, broken_message, IsFrame}
 use Rattle.nl_frame.specs.Reading.{message_of, body_at, message_at, unless, messages_at, messages_of}
-use Rattle.nl_frame.proofs.Fronts.{step_bound, whole_bound, small}
+use Rattle.nl_frame.proofs.Fronts.{Reaches, reaches_on}
 
 pub message_within : (o : Order) (left : List ℕ) → broken_message o left ≡ None → IsWithin o 16 4 left
 message_within o left e = sound_within o 16 4 left (or_else_none _ _ e).0
@@ -80,8 +80,7 @@ resumed_more ms m n v (Err d, u) = ap (λ (k : ℕ). (Err d, k)) (omega arith)
 -- the state between two messages: what is left to read gives the whole, and the visits have their bound
 pub record IsReading (S : Shape) (d : List ℕ) (ms : List MessageVal) (n place : ℕ) (left : List ℕ) : Type 0 where
   pub same : resumed ms n (messages_of S place left) ≡ messages_of S 0 d
-  pub size : place + length left ≡ length d
-  pub bound : n ≤ (S.depth + 1) * place
+  pub at : Reaches S d n place left
 
 five : {a b : Header} {c d : Form} {e f : List ℕ} {g h : ℕ} {i j : List ℕ} → a ≡ b → c ≡ d → e ≡ f → g ≡ h → i ≡ j → ◌≡◌ {A = Header × Form × List ℕ × ℕ × List ℕ} (a, c, e, g, i) (b, d, f, h, j)
 five p q r s t = cc
@@ -118,20 +117,8 @@ module _ {S : Shape} {d : List ℕ} {ms : List MessageVal} {n place : ℕ} {left
     body_fails view views (Layout g) some read = goes_on (Err g, v) some read
     body_fails view views Memory some read = tt
 
-    module _ (few : v ≤ (S.depth + 1) * length f.payload.now) where
-      -- the visits with those of the message
-      sum_bound : n + v ≤ (S.depth + 1) * (place + f.span)
-      sum_bound = step_bound (S.depth + 1) n v place f.span (length f.payload.now) now.bound few (omega (arith, is.inside))
-
-      pub sum_is_small : S.depth ≤ 32 → length d ≤ LONGEST_REGION → n + v < 2 ^ 64
-      sum_is_small low size = small (S.depth + 1) (place + f.span) (n + v) (omega arith) (omega (arith, is.within, now.size)) sum_bound
-
-      pub whole_is_bound : n + v ≤ (S.depth + 1) * length d
-      whole_is_bound = whole_bound (S.depth + 1) (n + v) (place + f.span) (length d) sum_bound (omega (arith, is.within, now.size))
-
-      pub next : (ns : List MessageVal) (m : MessageVal) → false ≡ eqb (length left) 0 → map_value (message_of f.header) (body_at S f.form (place + 16) f.payload.now) ≡ (Ok m, v) → ns ≡ ms ++ m ∷ [] → IsReading S d ns (n + v) (place + f.span) f.rest.now
-      next ns m some read new = record {
-        same = rw new (sym (goes_on (Ok m, v) some read ∙ resumed_more ms m n v (messages_of S (place + f.span) f.rest.now)));
-        size = omega (arith, is.within, now.size, is.span, ap (length {A = ℕ}) is.rest, length-drop (span_at S.order left) left);
-        bound = sum_bound;
-      }
+    pub next : (ns : List MessageVal) (m : MessageVal) → v ≤ (S.depth + 1) * length f.payload.now → false ≡ eqb (length left) 0 → map_value (message_of f.header) (body_at S f.form (place + 16) f.payload.now) ≡ (Ok m, v) → ns ≡ ms ++ m ∷ [] → IsReading S d ns (n + v) (place + f.span) f.rest.now
+    next ns m few some read new = record {
+      same = rw new (sym (goes_on (Ok m, v) some read ∙ resumed_more ms m n v (messages_of S (place + f.span) f.rest.now)));
+      at = reaches_on now.at f is v few;
+    }

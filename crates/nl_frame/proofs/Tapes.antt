@@ -25,7 +25,7 @@ use Rattle.nl_frame.specs.Broken.{IsBrokenHead, IsBrokenIn, message_facts}
 use Rattle.nl_frame.specs.Heads.{AnyHead, header, inner, Rest, HeadAt, some_inner, behind, region_in, region_of, heads, whole}
 use Rattle.nl_frame.specs.Taped.{IsTaped, IsFrameTaped}
 use Rattle.nl_frame.specs.HeadOrder.{Trail, region_trail, trail_of, visits_of, event_of, header_event}
-use Rattle.nl_frame.proofs.Fronts.{step_bound, whole_bound, small}
+use Rattle.nl_frame.proofs.Fronts.{Reaches, reaches_on}
 use Rattle.nl_frame.proofs.Firsts.{any_visits}
 use Rattle.nl_frame.proofs.Scan.{laws}
 use Rattle.nl_frame.proofs.Trails.{trail_ends, trail_stops, trail_goes}
@@ -63,13 +63,12 @@ module _ (S : Shape) where
     pub seen : visits ≡ visits_of S hs
     pub events : out ≡ put_from 0 (map (event_of S.order) hs) old
     pub reach : (h : AnyHead) → HeadAt S (record { place = place; left = left }) h → HeadAt S (whole d) h
-    pub size : place + length left ≡ length d
-    pub bound : visits ≤ (S.depth + 1) * place
+    pub at : Reaches S d visits place left
     pub few : count ≤ place + visits
 
   -- the whole datagram is left
   pub begins : (d : List ℕ) (old : List Event) → IsTaping d old 0 0 0 d old
-  begins d old = record { hs = []; same = refl; counted = refl; seen = refl; events = sym (put_none 0 old); reach = λ m p. p; size = omega arith; bound = omega arith; few = omega arith }
+  begins d old = record { hs = []; same = refl; counted = refl; seen = refl; events = sym (put_none 0 old); reach = λ m p. p; at = record { size = omega arith; bound = omega arith }; few = omega arith }
 
 module _ {S : Shape} {d : List ℕ} {old : List Event} {count visits place : ℕ} {left : List ℕ} {out : List Event} (now : IsTaping S d old count visits place left out) where
   rest : Rest
@@ -162,21 +161,16 @@ module _ {S : Shape} {d : List ℕ} {old : List Event} {count visits place : ℕ
     unfolding found heads
     sees hs = omega (arith, now.seen, weigh-append (heads S) (heads S).visited found hs, weigh-append (heads S) (heads S).visited now.hs (header rest ∷ []))
 
-    stops_at : (i t : Trail) (g : ℕ × Reason) → i.1 ≡ Some g → and_on i t ≡ (i.0, Some g)
-    stops_at (hs, None) t g e = absurd (let x : ◌≡◌ {A = Option (ℕ × Reason)} None (Some g) = e in cc)
-    stops_at (hs, Some k) t g e = ap (λ (o : Option (ℕ × Reason)). (hs, o)) e
+    stops_at : (i t : Trail) (g : Fault) → Some g ≡ fault_of i.1 → and_on i t ≡ (i.0, Some (g.place, g.reason))
+    stops_at (hs, None) t g e = absurd (let x : ◌≡◌ {A = Option Fault} (Some g) None = e in cc)
+    stops_at (hs, Some k) t g e =
+        let x : ◌≡◌ {A = Option Fault} (Some g) (Some (record { place = k.0; reason = k.1 })) = e in
+        let y : g ≡ record { place = k.0; reason = k.1 } = cc in
+        ap (λ (h : Fault). (hs, Some (h.place, h.reason))) (sym y)
 
-    passes_at : (i t : Trail) → i.1 ≡ None → and_on i t ≡ front i.0 t
+    passes_at : (i t : Trail) → None ≡ fault_of i.1 → and_on i t ≡ front i.0 t
     passes_at (hs, None) t e = refl
-    passes_at (hs, Some k) t e = absurd (let x : ◌≡◌ {A = Option (ℕ × Reason)} (Some k) None = e in cc)
-
-    fault_some : (o : Option (ℕ × Reason)) (g : Fault) → Some g ≡ fault_of o → o ≡ Some (g.place, g.reason)
-    fault_some None g e = absurd (let x : ◌≡◌ {A = Option Fault} (Some g) None = e in cc)
-    fault_some (Some k) g e = let x : ◌≡◌ {A = Option Fault} (Some g) (Some (record { place = k.0; reason = k.1 })) = e in let y : g ≡ record { place = k.0; reason = k.1 } = cc in ap (λ (h : Fault). Some (h.place, h.reason)) (sym y)
-
-    fault_none : (o : Option (ℕ × Reason)) → None ≡ fault_of o → o ≡ None
-    fault_none None e = refl
-    fault_none (Some k) e = absurd (let x : ◌≡◌ {A = Option Fault} None (Some (record { place = k.0; reason = k.1 })) = e in cc)
+    passes_at (hs, Some k) t e = absurd (let x : ◌≡◌ {A = Option Fault} None (Some (record { place = k.0; reason = k.1 })) = e in cc)
 
     -- the region in its body
     region_is : region_of S rest ≡ region_in f.form (place + 16) f.payload.now
@@ -207,7 +201,7 @@ module _ {S : Shape} {d : List ℕ} {old : List Event} {count visits place : ℕ
       unfolding outcome body
       tells_fault b e =
           ends_so (found ++ body.0) (Some (b.fault.place, b.fault.reason)) (Some b) t.count (visits + t.visits) new
-          (goes ∙ ap (front found) (stops_at body (trail_of S onward) (b.fault.place, b.fault.reason) (fault_some body.1 b.fault (sym (ap fault_in e) ∙ taped.fault))))
+          (goes ∙ ap (front found) (stops_at body (trail_of S onward) b.fault (sym (ap fault_in e) ∙ taped.fault)))
           refl
           (omega (arith, taped.counted, counts body.0))
           (omega (arith, taped.visits, sees body.0))
@@ -218,26 +212,11 @@ module _ {S : Shape} {d : List ℕ} {old : List Event} {count visits place : ℕ
       unfolding outcome body onward
       goes_on e b c = record {
         hs = found ++ body.0;
-        same = goes ∙ ap (front found) (passes_at body (trail_of S onward) (fault_none body.1 (sym (ap fault_in e) ∙ taped.fault))) ∙ front_front found body.0 (trail_of S onward);
+        same = goes ∙ ap (front found) (passes_at body (trail_of S onward) (sym (ap fault_in e) ∙ taped.fault)) ∙ front_front found body.0 (trail_of S onward);
         counted = omega (arith, taped.counted, counts body.0);
         seen = omega (arith, taped.visits, sees body.0);
         events = taped.events ∙ put_more body.0;
         reach = onward_reach;
-        size = omega (arith, is.within, now.size, is.span, ap (length {A = ℕ}) is.rest, length-drop (span_at S.order left) left);
-        bound = step_bound (S.depth + 1) visits t.visits place f.span (length f.payload.now) now.bound b (omega (arith, is.inside));
+        at = reaches_on now.at f is t.visits b;
         few = omega (arith, c, now.few, is.inside);
       }
-
-      sum_bound : t.visits ≤ (S.depth + 1) * length f.payload.now → visits + t.visits ≤ (S.depth + 1) * (place + f.span)
-      sum_bound b = step_bound (S.depth + 1) visits t.visits place f.span (length f.payload.now) now.bound b (omega (arith, is.inside))
-
-      -- the sum of the visits is small
-      pub sum_small : S.depth ≤ 32 → length d ≤ LONGEST_REGION → t.visits ≤ (S.depth + 1) * length f.payload.now → visits + t.visits < 2 ^ 64
-      sum_small low size b = small (S.depth + 1) (place + f.span) (visits + t.visits) (omega arith) (omega (arith, is.within, now.size)) (sum_bound b)
-
-      -- and has the bound of the datagram
-      pub sum_whole : t.visits ≤ (S.depth + 1) * length f.payload.now → visits + t.visits ≤ (S.depth + 1) * length d
-      sum_whole b = whole_bound (S.depth + 1) (visits + t.visits) (place + f.span) (length d) (sum_bound b) (omega (arith, is.within, now.size))
-
-  pub here_whole : visits ≤ (S.depth + 1) * length d
-  here_whole = whole_bound (S.depth + 1) visits place (length d) now.bound (omega (arith, now.size))

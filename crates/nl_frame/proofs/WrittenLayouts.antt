@@ -45,11 +45,11 @@ module _ (o : Order) where
   pub length-message : (m : MessageVal) → length (message_item o m) ≡ 16 + body_len m.body
   length-message m = length-front (header_fields (header_for m)) (body_written o m.body) 16 (body_len m.body) refl (length-body m.body)
 
-  pub length-messages : (ms : List MessageVal) → length (written o ms) ≡ written_len ms
-  length-messages [] = refl
-  length-messages (m ∷ ms) =
+  pub written_length : (ms : List MessageVal) → length (written o ms) ≡ written_len ms
+  written_length [] = refl
+  written_length (m ∷ ms) =
       let it = message_item o m in
-      length-append (with_padding it) (written o ms) ∙ ap (λ k. k + length (written o ms)) (length-padded it ∙ ap aligned (length-message m)) ∙ ap (λ k. aligned (16 + body_len m.body) + k) (length-messages ms)
+      length-append (with_padding it) (written o ms) ∙ ap (λ k. k + length (written o ms)) (length-padded it ∙ ap aligned (length-message m)) ∙ ap (λ k. aligned (16 + body_len m.body) + k) (written_length ms)
 
 -- ---- forms that aren't different are the same
 
@@ -94,26 +94,24 @@ front_written o fs n tail e r =
 -- ---- bodies
 
 body_writes : (S : Shape) (c : BodyVal) (f : Form) → IsRangedBody c → (IsMismatchedBody c f → ⊥) → (IsDeepBody c S.depth → ⊥) → (IsLongBody c → ⊥) → BodyOf S c f (body_written S.order c)
-body_writes S (noop bs) f r m d s = (same_form f form.Noop m, refl)
 body_writes S (error z h tail) f r m d s =
     let front = front_written S.order (signed z ∷ header_fields h) 20 tail refl r in
     (same_form f form.Error m, front.long, front.are, front.rest)
-body_writes S (done None tail) f r m d s = (same_form f form.Done (λ x. m (inl x)), below 4 (length tail) (λ x. m (inr x)), refl) where
-  below : (a b : ℕ) → (a ≤ b → ⊥) → b < a
-  below a b h = omega (arith, h)
+body_writes S (done None tail) f r m d s = (same_form f form.Done (λ x. m (inl x)), (let h : 4 ≤ length tail → ⊥ = λ x. m (inr x) in omega (arith, h)), refl)
 body_writes S (done (Some z) tail) f r m d s =
     let front = front_written S.order (signed z ∷ []) 4 tail refl (r, tt) in
     (same_form f form.Done m, front.long, front.are, front.rest)
-body_writes S (overrun bs) f r m d s = (same_form f form.Overrun m, refl)
 body_writes S (object h is) f r m d s =
     let g = family_of h in
     let front = front_written S.order (fields_of h) (head_size g) (attrs.written S.order is) (size_of_head h) r.0 in
     let fit = written_fits S (context_of g) 0 is (record { matched = λ x. m (inr x); shallow = d; short = s }) r.1 in
     (same_form f (form.Object g) (λ x. m (inl x)), (front.long, front.are, subst (λ (xs : List ℕ). Fits S is xs (context_of g) 0) (sym front.rest) fit))
-body_writes S (get n tail) f r m d s = (same_form f form.Get m, refl)
-body_writes S (other bs) f r m d s = (same_form f form.Other m, refl)
+body_writes S c f r m d s = (same_form f _ m, refl)
 
 -- ---- messages
+
+pub not_above : (a b : ℕ) → (a < b → ⊥) → b ≤ a
+not_above a b h = omega (arith, h)
 
 module _ (S : Shape) where
   messages_write : (ms : List MessageVal) → IsRanged ms → (IsMismatched ms → ⊥) → (IsDeep ms S.depth → ⊥) → (HasLong ms → ⊥) → written_len ms ≤ LONGEST_REGION → Layout S ms (written S.order ms)
@@ -139,6 +137,4 @@ module _ (S : Shape) where
 
   -- what is proper is the layout of what it is written as
   pub written_has_layout : (ms : List MessageVal) → IsProper ms S.depth → IsRanged ms → Layout S ms (written S.order ms)
-  written_has_layout ms p r = messages_write ms r p.matched p.shallow (λ x. p.short (inr x)) (not_above LONGEST_REGION (written_len ms) (λ x. p.short (inl x))) where
-    not_above : (a b : ℕ) → (a < b → ⊥) → b ≤ a
-    not_above a b h = omega (arith, h)
+  written_has_layout ms p r = messages_write ms r p.matched p.shallow (λ x. p.short (inr x)) (not_above LONGEST_REGION (written_len ms) (λ x. p.short (inl x)))

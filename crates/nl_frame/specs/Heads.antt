@@ -22,13 +22,8 @@ whole d = record { place = 0; left = d }
 
 -- the first head of the attributes in a body of this form at a place, where the body is a family's
 abbrev pub region_in : Form → ℕ → List ℕ → Option Head
-region_in form.Noop place payload = None
-region_in form.Error place payload = None
-region_in form.Done place payload = None
-region_in form.Overrun place payload = None
 region_in (form.Object g) place payload = Some (start_of (context_of g) 0 (place + head_size g) (drop (head_size g) payload))
-region_in form.Get place payload = None
-region_in form.Other place payload = None
+region_in f place payload = None
 
 -- a head of a datagram: the header of a message, with the bytes from there on; or the head of an attribute or of a next hop
 pub data AnyHead : Type 0 where

@@ -23,6 +23,7 @@ ghost use Rattle.nl_frame.specs.Written.{written, written_len};
 ghost use Rattle.nl_frame.specs.Proper.{IsProper, IsRanged};
 
 /// At most one list of messages is the layout of a datagram.
+#[tactic(auto, using(crate::proofs::Firsts::one_layout))]
 pub fn one_layout()
     ensures { (s : Shape) (d : List ℕ) (ms ns : List MessageVal)
         → Layout s ms d → Layout s ns d → ms ≡ ns }
@@ -49,6 +50,7 @@ pub fn one_head_at_fault()
 
 /// Within allowed limits, the layout of a datagram is its one list: it is written within the same
 /// limits, and the bytes written have it for their one layout again.
+#[tactic(auto, using(crate::proofs::OneList::the_list))]
 pub fn written_back()
     ensures { (b : Bounds) (d : List ℕ) (ms : List MessageVal) → AreLimits b → AreBytes d
         → length d ≤ b.datagram → Layout b.shape ms d → IsTheList b d ms }
@@ -86,17 +88,20 @@ pub fn heads_in_order()
 /// for each its place, type and length, and behind it for each attribute and next hop, in order,
 /// its place, level, type, flags, sort and length. Lengths are rounded up, but for an attribute's
 /// bytes, since the padding behind what stands last may be absent.
+#[tactic(auto, using(crate::proofs::Listed::layout_events))]
 pub fn heads_of_layout()
     ensures { (s : Shape) (d : List ℕ) (ms : List MessageVal) → Layout s ms d
         → map rounded (events_of s (whole d)) ≡ messages_events 0 ms }
 {}
 
 /// Messages are written as many bytes in either order.
+#[tactic(auto, using(crate::proofs::WrittenLayouts::written_length))]
 pub fn written_length()
     ensures { (o : Order) (ms : List MessageVal) → length (written o ms) ≡ written_len ms }
 {}
 
 /// Messages that can be written are the layout of the bytes that they are written as.
+#[tactic(auto, using(crate::proofs::WrittenLayouts::written_has_layout))]
 pub fn written_has_layout()
     ensures { (s : Shape) (ms : List MessageVal)
         → IsProper ms s.depth → IsRanged ms → Layout s ms (written s.order ms) }
@@ -104,6 +109,7 @@ pub fn written_has_layout()
 
 /// Messages that are a datagram's layout can be written, and are as long as it with its last
 /// padding.
+#[tactic(auto, using(crate::proofs::ProperLayouts::proper))]
 pub fn layout_is_proper()
     ensures proper { (s : Shape) (ms : List MessageVal) (d : List ℕ)
         → Layout s ms d → length d ≤ fixed.LONGEST_REGION → IsProper ms s.depth }

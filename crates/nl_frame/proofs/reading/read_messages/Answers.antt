@@ -6,7 +6,8 @@ use Rattle.nl_attr.specs.Outcomes.{IsOutcome}
 use Rattle.nl_frame.specs.declared.body.Message.{Message}
 use Rattle.nl_frame.specs.Reading.{message_of, body_at}
 use Rattle.nl_frame.specs.View.{message_view}
-use Rattle.nl_frame.proofs.Steps.{body_fails, nothing_left, head_breaks, sum_is_small, whole_is_bound, next}
+use Rattle.nl_frame.proofs.Fronts.{sum_small, sum_whole}
+use Rattle.nl_frame.proofs.Steps.{body_fails, nothing_left, head_breaks, next}
 use Rattle.nl_frame.proofs.reading.read_messages.Goals as goal
 
 pub returns-in-Err-clause-outcome : goal.returns-in-Err-clause-outcome
@@ -14,13 +15,13 @@ returns-in-Err-clause-outcome c = head_breaks c.loop-left.invariant c.in-Err.rea
 
 pub overflow_add-visits : goal.overflow_add-visits
 overflow_add-visits c =
-    omega (arith, sum_is_small c.loop-left.invariant c.in-Ok.frame (rw c.order-order.ensures at c.in-Ok.ensures) c.read_message-result.result.visits c.read_message-result.ensures.bound c.depth-limit.ensures.limits.0 c.requires)
+    omega (arith, sum_small c.loop-left.invariant.at c.in-Ok.frame (rw c.order-order.ensures at c.in-Ok.ensures) c.read_message-result.result.visits c.read_message-result.ensures.bound c.depth-limit.ensures.limits.0 c.requires)
 
 pub returns-then-not-keep-clause-bound : goal.returns-then-not-keep-clause-bound
-returns-then-not-keep-clause-bound c = whole_is_bound c.loop-left.invariant c.in-Ok.frame (rw c.order-order.ensures at c.in-Ok.ensures) c.read_message-result.result.visits c.read_message-result.ensures.bound
+returns-then-not-keep-clause-bound c = sum_whole c.loop-left.invariant.at c.in-Ok.frame (rw c.order-order.ensures at c.in-Ok.ensures) c.read_message-result.result.visits c.read_message-result.ensures.bound
 
 pub returns-in-Err-result-clause-bound : goal.returns-in-Err-result-clause-bound
-returns-in-Err-result-clause-bound c = whole_is_bound c.loop-left.invariant c.in-Ok.frame (rw c.order-order.ensures at c.in-Ok.ensures) c.read_message-result.result.visits c.read_message-result.ensures.bound
+returns-in-Err-result-clause-bound c = sum_whole c.loop-left.invariant.at c.in-Ok.frame (rw c.order-order.ensures at c.in-Ok.ensures) c.read_message-result.result.visits c.read_message-result.ensures.bound
 
 pub returns-in-Err-result-clause-outcome : goal.returns-in-Err-result-clause-outcome
 returns-in-Err-result-clause-outcome c =
@@ -36,7 +37,7 @@ loop-left-preserved c =
     let gave = subst (λ x. IsOutcome message_view x c.read_message-result.result.visits (map_value (message_of f.header) (body_at c.args.limits.now.shape f.form (c.loop-left.place + 16) f.payload.now))) c.in-Ok-result.is c.read_message-result.ensures.outcome in
     let pushed : map message_view c.keep.new.list.items ≡ map message_view c.loop-left.list.items ++ message_view m ∷ [] =
     ap (map message_view) (c.keep.ensures c.if-not-keep.false) ∙ map_push message_view c.loop-left.list.items m in
-    next c.loop-left.invariant f (rw c.order-order.ensures at c.in-Ok.ensures) c.read_message-result.result.visits c.read_message-result.ensures.bound (map message_view c.keep.new.list.items) (message_view m) c.loop-left-test.ensures gave pushed
+    next c.loop-left.invariant f (rw c.order-order.ensures at c.in-Ok.ensures) c.read_message-result.result.visits (map message_view c.keep.new.list.items) (message_view m) c.read_message-result.ensures.bound c.loop-left-test.ensures gave pushed
 
 pub returns-clause-outcome : goal.returns-clause-outcome
 returns-clause-outcome c = nothing_left c.loop-left.invariant c.loop-left-test.ensures
