@@ -9,10 +9,11 @@ use borrow.Rule.Slice.PartMut.{put_mid}
 use Rattle.nl_attr.specs.declared.order.Order.{Order}
 use Rattle.nl_attr.specs.Numbers.{aligned}
 use Rattle.nl_route.specs.declared.family.Family.{Family}
-use Rattle.nl_route.specs.declared.family.Family.TheVariants.{Link, Addr, Route, Neigh, Rule}
+use Rattle.nl_route.specs.declared.family.Family.TheVariants.{Link}
 use Rattle.nl_route.specs.Families.{head_size}
 use Rattle.nl_route.specs.Fields as fields
 use Rattle.nl_route.specs.Fields.{zeros}
+use Rattle.nl_route.proofs.Families.{is_family}
 use Rattle.nl_route.proofs.Fields.{length-zeros, length-written}
 use Rattle.nl_frame.specs.Header.{header_fields}
 use Rattle.nl_frame.specs.Written.{body_len, header_for, message_item}
@@ -22,18 +23,11 @@ use Rattle.nl_dump.specs.Request.{request_message, request_of}
 
 least_head : (g : Family) → 1 ≤ head_size g
 least_head Link = omega arith
-least_head Addr = omega arith
-least_head Route = omega arith
-least_head Neigh = omega arith
-least_head Rule = omega arith
+least_head g = omega arith
 
 -- a request is never padded
 no_padding : (g : Family) → aligned (16 + head_size g) ≡ 16 + head_size g
-no_padding Link = refl
-no_padding Addr = refl
-no_padding Route = refl
-no_padding Neigh = refl
-no_padding Rule = refl
+no_padding g = omega (arith, (is_family g).whole)
 
 -- the body of a request is a whole head
 body_is_head : (d : Dump) → body_len (request_message d).body ≡ head_size d.kind

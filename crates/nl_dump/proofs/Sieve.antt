@@ -12,7 +12,7 @@ use Rattle.nl_route.specs.Families.{type_of}
 use Rattle.nl_dump.specs.declared.dump.Dump.{Dump}
 use Rattle.nl_dump.specs.declared.dump.End.{End}
 use Rattle.nl_dump.specs.declared.role.Role.{Role}
-use Rattle.nl_dump.specs.declared.role.Role.TheVariants.{Item as Brings, End as Ends, Other}
+use Rattle.nl_dump.specs.declared.role.Role.TheVariants.{Item as Brings, Other}
 use Rattle.nl_dump.specs.declared.sifting.Found.{Found}
 use Rattle.nl_dump.specs.declared.sifting.Sifted.{Sifted}
 use Rattle.nl_dump.specs.Answer.{one_if}
@@ -20,23 +20,13 @@ use Rattle.nl_dump.specs.Sifting.{none_sifted, judge, at_head, counted, step, si
 
 -- ---- what is counted
 
-judge_events : (o : Option End) (r : Role (Unit {0})) (m : Bool) (s : Sifted) → (judge o r m s).events ≡ s.events
-judge_events (Some e) r m s = refl
-judge_events None (Brings t) m s = refl
-judge_events None (Ends e) m s = refl
-judge_events None Other m s = refl
+-- as many events as before, and no more than one more item or message that is ignored
+abbrev IsNext : Sifted → Sifted → Type 0
+IsNext s t = (t.events ≡ s.events) × (t.items ≤ s.items + 1) × (t.ignored ≤ s.ignored + 1)
 
-judge_items : (o : Option End) (r : Role (Unit {0})) (m : Bool) (s : Sifted) → (judge o r m s).items ≤ s.items + 1
-judge_items (Some e) r m s = omega arith
-judge_items None (Brings t) m s = omega arith
-judge_items None (Ends e) m s = omega arith
-judge_items None Other m s = omega arith
-
-judge_ignored : (o : Option End) (r : Role (Unit {0})) (m : Bool) (s : Sifted) → (judge o r m s).ignored ≤ s.ignored + 1
-judge_ignored (Some e) r m s = omega arith
-judge_ignored None (Brings t) m s = omega arith
-judge_ignored None (Ends e) m s = omega arith
-judge_ignored None Other m s = omega arith
+judge_next : (o : Option End) (r : Role (Unit {0})) (m : Bool) (s : Sifted) → IsNext s (judge o r m s)
+judge_next None (Brings t) m s = (refl, omega arith, omega arith)
+judge_next o r m s = (refl, omega arith, omega arith)
 
 one_low : (b : Bool) → one_if b ≤ 1
 one_low true = omega arith
@@ -61,26 +51,12 @@ put_same (suc n) [] = put_nowhere 0 []
 put_same (suc n) (x ∷ xs) = put_here x (take n xs) x xs ∙ ap (λ l. x ∷ l) (put_same n xs)
 
 module _ (find : Event → Found) where
-  head_events : (e : Event) (s : Sifted) → (at_head find e s).events ≡ s.events
-  head_events e s = by (e.sort == SORT_MESSAGE)
+  head_next : (e : Event) (s : Sifted) → IsNext s (at_head find e s)
+  head_next e s = by (e.sort == SORT_MESSAGE)
     where
-      by : (b : Bool) → (cond b (judge s.end (find e).role (find e).marked s) s).events ≡ s.events
-      by true = judge_events s.end (find e).role (find e).marked s
-      by false = refl
-
-  step_items : (s : Sifted) (e : Event) → (step find s e).items ≤ s.items + 1
-  step_items s e = by (e.sort == SORT_MESSAGE)
-    where
-      by : (b : Bool) → (cond b (judge s.end (find e).role (find e).marked s) s).items ≤ s.items + 1
-      by true = judge_items s.end (find e).role (find e).marked s
-      by false = omega arith
-
-  step_ignored : (s : Sifted) (e : Event) → (step find s e).ignored ≤ s.ignored + 1
-  step_ignored s e = by (e.sort == SORT_MESSAGE)
-    where
-      by : (b : Bool) → (cond b (judge s.end (find e).role (find e).marked s) s).ignored ≤ s.ignored + 1
-      by true = judge_ignored s.end (find e).role (find e).marked s
-      by false = omega arith
+      by : (b : Bool) → IsNext s (cond b (judge s.end (find e).role (find e).marked s) s)
+      by true = judge_next s.end (find e).role (find e).marked s
+      by false = (refl, omega arith, omega arith)
 
   -- ---- one more event
 
@@ -99,7 +75,7 @@ module _ (find : Event → Found) where
   sifted-events s [] = omega arith
   sifted-events s (e ∷ es) =
       let t = step find s e in
-      omega (arith, sifted-events t es, head_events e s, length-keeping t.keeps e (kept find t es))
+      omega (arith, sifted-events t es, (head_next e s).0, length-keeping t.keeps e (kept find t es))
 
   -- so many events were sifted into a buffer
   pub record IsSifting (old : List Event) (at : ℕ) (s : Sifted) (out : List Event) : Type 0 where
@@ -145,10 +121,10 @@ module _ (find : Event → Found) where
       record {
         found = ap (λ t. step find t e) now.found ∙ sym (ap (sifted find none_sifted) more ∙ sifted-append none_sifted (take at old) (e ∷ []));
         events = put ∙ ap (λ x. put_from s.events one x) now.events ∙ ap (λ n. put_from n one (put_from 0 ks old)) (omega (arith, now.counted_is)) ∙ put_on 0 ks one old ∙ ap (λ x. put_from 0 x old) (sym all);
-        counted_is = ap (λ n. n + one_if (step find s e).keeps) (head_events e s) ∙ sym len ∙ ap length (sym all);
-        events_low = omega (arith, now.events_low, head_events e s, one_low (step find s e).keeps);
-        items_low = omega (arith, now.items_low, step_items s e);
-        ignored_low = omega (arith, now.ignored_low, step_ignored s e);
+        counted_is = ap (λ n. n + one_if (step find s e).keeps) ((head_next e s).0) ∙ sym len ∙ ap length (sym all);
+        events_low = omega (arith, now.events_low, (head_next e s).0, one_low (step find s e).keeps);
+        items_low = omega (arith, now.items_low, (head_next e s).1);
+        ignored_low = omega (arith, now.ignored_low, (head_next e s).2);
       }
 
   pub goes_on_so : (old : List Event) (at : ℕ) (s t u : Sifted) (out new : List Event) → IsSifting old at s out → at < length old → t ≡ at_head find (get_or out at no_event) s
@@ -156,7 +132,7 @@ module _ (find : Event → Found) where
   goes_on_so old at s t u out new now low head count put =
       let e = get_or out at no_event in
       let whole : u ≡ step find s e = count ∙ ap counted head in
-      let at_events : t.events ≡ s.events = ap (λ (x : Sifted). x.events) head ∙ head_events e s in
+      let at_events : t.events ≡ s.events = ap (λ (x : Sifted). x.events) head ∙ (head_next e s).0 in
       subst (λ x. IsSifting old (at + 1) x new) (sym whole)
       (goes_on old at s out new no_event e now low (still old at s out no_event now)
       (put ∙ ap (λ n. put_from n (keeping t.keeps e []) out) at_events ∙ ap (λ (x : Sifted). put_from s.events (keeping x.keeps e []) out) head))

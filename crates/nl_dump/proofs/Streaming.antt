@@ -1,6 +1,7 @@
 -- One datagram of a stream, from what a scan finds of it to what the stream becomes.
-use Rattle.std.proofs.Common.{◌≡◌, ◌≢◌, ◌↔◌, ℕ, zero, suc, ◌+◌, ◌*◌, ◌-◌, ◌<◌, ◌≤◌, ◌||◌, Bool, true, false, cond, ℤ, pos, List, [], ◌∷◌, ◌++◌, length, take, drop, Option, Some, None, is_some, Result, Ok, Err, IfOk, IfErr, refl, sym, ap, ◌∙◌, subst, arith, length-append}
+use Rattle.std.proofs.Common.{◌≡◌, ◌↔◌, ℕ, ◌+◌, ◌*◌, ◌-◌, ◌<◌, ◌≤◌, ◌||◌, Bool, true, false, cond, ℤ, pos, List, [], ◌∷◌, ◌++◌, length, take, drop, Option, Some, None, is_some, Result, Ok, Err, IfOk, IfErr, refl, sym, ap, ◌∙◌, subst, arith, length-append}
 use Rattle.std.specs.Ordering.{int_eq}
+use Rattle.std.proofs.lemmas.List.{take_all}
 use Rattle.std.proofs.Math.Seq.{take-append_seam}
 use native.Mathlib.Nat.{mul-add}
 use Rattle.nl_attr.specs.Numbers.{AreBytes}
@@ -16,11 +17,11 @@ use Rattle.nl_frame.specs.Message.{BodyVal, error, done, MessageVal}
 use Rattle.nl_frame.specs.Outcomes.{IfFault, VisitsUpTo}
 use Rattle.nl_frame.specs.Taped.{as_read}
 use Rattle.nl_frame.specs.HeadOrder.{events_of}
-use Rattle.nl_frame.proofs.OneList.{the_list}
+use Rattle.nl_frame.proofs.ProperLayouts.{the_list}
+use Rattle.nl_frame.proofs.Within.{within}
 use Rattle.nl_dump.specs.declared.dump.Dump.{Dump}
 use Rattle.nl_dump.specs.declared.dump.End.{End}
 use Rattle.nl_dump.specs.declared.dump.End.TheVariants.{Error}
-use Rattle.nl_dump.specs.declared.dump.State.{State}
 use Rattle.nl_dump.specs.declared.dump.State.TheVariants.{Waiting}
 use Rattle.nl_dump.specs.declared.dump.Streamed.{Streamed}
 use Rattle.nl_dump.specs.declared.errors.StreamError.{StreamError}
@@ -32,9 +33,10 @@ use Rattle.nl_dump.specs.Answer.{belongs, body_end, end_in, end_of, or_later, st
 use Rattle.nl_dump.specs.Handed.{item_events}
 use Rattle.nl_dump.specs.Sifting.{none_sifted, sifted, kept}
 use Rattle.nl_dump.specs.Standing.{IsRealEnd, IsReached, IsPossible}
-use Rattle.nl_dump.specs.Steps.{IsWaiting}
-use Rattle.nl_dump.specs.Strained.{all_events, Strains, scan_refusal, strained_of, is_room}
-use Rattle.nl_dump.specs.Streams.{CanLook, StreamFed, StaysAnswer, IsStreamAnswered, EveryStreamed}
+use Rattle.nl_dump.specs.Steps.{CanLook}
+use Rattle.nl_dump.specs.Inside.{all_events, Strains, scan_refusal, strained_of, is_room}
+use Rattle.nl_dump.specs.Streams.{StreamFed, StaysAnswer, IsStreamAnswered, EveryStreamed}
+use Rattle.nl_dump.proofs.Feeding.{waits}
 use Rattle.nl_dump.proofs.Sieve.{sifted-events}
 use Rattle.nl_dump.proofs.Walked.{Sieved, look, sieved}
 
@@ -42,16 +44,6 @@ use Rattle.nl_dump.proofs.Walked.{Sieved, look, sieved}
 pub messages_few : (S : Shape) (ms : List MessageVal) (d : List ℕ) → Layout S ms d → length ms ≤ length d
 messages_few S [] d f = omega arith
 messages_few S (m ∷ ms) d f = omega (arith, messages_few S ms f.2 f.6, f.3.least, ap (length {A = ℕ}) f.3.parts, length-append f.0 (f.1 ++ f.2), length-append f.1 f.2)
-
--- what isn't refused for its size is within the limit
-within_limit : {X : Type 0} (r : Result X ScanError) (n m : ℕ) → (r ≡ Err scan.TooLarge) ↔ (n < m) → r ≢ Err scan.TooLarge → m ≤ n
-within_limit r n m large more = let f : n < m → ⊥ = λ h. more (large.1 h) in omega (arith, f)
-
-take_all : (n : ℕ) (es : List Event) → length es ≤ n → take n es ≡ es
-take_all zero [] h = refl
-take_all (suc n) [] h = refl
-take_all zero (e ∷ es) h = absurd (omega arith)
-take_all (suc n) (e ∷ es) h = ap (λ l. e ∷ l) (take_all n es (omega arith))
 
 -- what was put into a buffer that is long enough stands there
 taken_back : (es old : List Event) → length es ≤ length old → take (length es) (put_from 0 es old) ≡ es
@@ -84,7 +76,7 @@ module _ (b : Bounds) (d : Dump) (bytes : List ℕ) (old : List Event) where
   is_sifted r n visits s mid new is large fits visited counts put len room found events =
       let fit = subst (λ r. IfOk r (λ _. (ms : List MessageVal) × Layout b.shape ms bytes)) is fits in
       let es = events_of b.shape (whole bytes) in
-      let low : length bytes ≤ b.datagram = within_limit r b.datagram (length bytes) large (λ e. let k = is in cc) in
+      let low : length bytes ≤ b.datagram = within r b.datagram (length bytes) large (λ e. let k = is in cc) in
       let many : n ≡ length es = counts low in
       let enough : length es ≤ length old = omega (arith, many, len, room) in
       let all : take n mid ≡ es = ap (λ k. take k mid) many ∙ ap (take (length es)) (put low) ∙ taken_back es old enough in
@@ -104,10 +96,10 @@ module _ (b : Bounds) (d : Dump) (bytes : List ℕ) (old : List Event) where
   module _ (s : Sifted) (visits : ℕ) (new : List Event) (is : IsSifted s visits new) where
     -- no more items or others than bytes
     pub few_items : s.items ≤ length bytes
-    few_items = omega (arith, is.sieved.items, is.sieved.ignored_is, messages_few b.shape is.messages bytes is.layout)
+    few_items = omega (arith, is.sieved.items, is.sieved.sums.ignored_is, messages_few b.shape is.messages bytes is.layout)
 
     pub few_ignored : s.ignored ≤ length bytes
-    few_ignored = omega (arith, is.sieved.ignored_is, messages_few b.shape is.messages bytes is.layout)
+    few_ignored = omega (arith, is.sieved.sums.ignored_is, messages_few b.shape is.messages bytes is.layout)
 
     pub strains_ok : Strains b d bytes old (Ok (strained_of s)) visits new
     strains_ok = (
@@ -116,9 +108,9 @@ module _ (b : Bounds) (d : Dump) (bytes : List ℕ) (old : List Event) where
         is.messages,
         is.layout,
         is.visited,
-        (is.sieved.items, omega (arith, is.sieved.ignored_is), ap is_some is.sieved.end_is),
-        is.sieved.interrupted_is,
-        is.sieved.end_is,
+        (is.sieved.items, omega (arith, is.sieved.sums.ignored_is), ap is_some is.sieved.sums.end_is),
+        is.sieved.sums.interrupted_is,
+        is.sieved.sums.end_is,
         is.room,
         is.events,
         is.count,
@@ -132,7 +124,7 @@ module _ (b : Bounds) (d : Dump) (bytes : List ℕ) (old : List Event) where
       let low = large.0 is in
       (low, subst (λ r. VisitsUpTo b.shape bytes (as_read r) visits) is visited, untouched low)
   strains_err r (scan.Layout f) visits new is large first visited untouched put =
-      let low : length bytes ≤ b.datagram = within_limit r b.datagram (length bytes) large (λ e. let k = is in cc) in (
+      let low : length bytes ≤ b.datagram = within r b.datagram (length bytes) large (λ e. let k = is in cc) in (
         low,
         subst (λ r. IfErr (as_read r) (λ e. IfFault e (λ f. IsFirstFault b.shape (whole bytes) f.place f.reason))) is first,
         subst (λ r. VisitsUpTo b.shape bytes (as_read r) visits) is visited,
@@ -140,9 +132,6 @@ module _ (b : Bounds) (d : Dump) (bytes : List ℕ) (old : List Event) where
       )
 
 -- ---- what the stream becomes
-
-waits : (s : State) (d : Dump) → s ≡ Waiting d → IsWaiting s
-waits s d e = subst IsWaiting (sym e) tt
 
 -- the end of messages is a real one
 abbrev pub IsReal : Option End → Type 0
@@ -204,11 +193,10 @@ module _ (s : Standing) (bytes : List ℕ) (old : List Event) (d : Dump) (state 
 
   pub fed_err : (e : StreamError) (n : ℕ) (new : List Event) → is_room e ≡ false → Strains s.limits d bytes old (Err e) n new
       → StreamFed s bytes old (Err e) (record s { visits = s.visits + n; received = s.received + length bytes; damaged = true }) new
-  fed_err NotWaiting n new r h = absurd h
-  fed_err Total n new r h = absurd h
   fed_err TooLarge n new r h = (waits s.state d state, total, h.0, λ i. record s { visits = s.visits + h.1 i; received = s.received + length bytes; damaged = true }, h.2)
   fed_err (Fault f) n new r h = (can h.0, h.1, (n, h.2, refl), h.3)
   fed_err (Room m) n new r h = cc
+  fed_err e n new r h = absurd h
 
   module _ (p : IsPossible s) (n : ℕ) (few : n ≤ (s.limits.shape.depth + 1) * length bytes) where
     pub possible_ok : (t : Strained) (m : ℕ) (new : List Event) (b : Bool) → m ≡ t.streamed.progress.ignored → m ≤ length bytes → Strains s.limits d bytes old (Ok t) n new

@@ -1,46 +1,40 @@
 -- What is sifted of a datagram's events is what its messages are to the dump.
-use Rattle.std.proofs.Common.{◌≡◌, ◌≢◌, ℕ, ◌+◌, ◌==◌, ◌||◌, ◌&&◌, ◌≤◌, Bool, true, false, not, cond, pos, List, [], ◌∷◌, ◌++◌, length, map, drop, Option, Some, None, is_some, Result, Ok, refl, sym, ap, ◌∙◌, subst, arith, append_assoc, length-append}
-use Rattle.std.specs.Ordering.{int_eq}
-use Rattle.std.specs.Prelude.{bit_and}
+use Rattle.std.proofs.Common.{◌≡◌, ◌+◌, ◌==◌, false, cond, List, [], ◌∷◌, ◌++◌, length, map, filter_map, Option, Some, None, is_some, refl, ap, ◌∙◌, arith, ◌≢◌, ℕ, ◌&&◌, ◌≤◌, Bool, true, pos, drop, Result, Ok, sym, subst, append_assoc, length-append}
 use Rattle.std.proofs.lemmas.Bool.{le-ltb, lt-ltb, eq-eqb, eqb-true}
 use Rattle.std.proofs.lemmas.List.{append-nil, drop-drop, length-drop, map-append}
+use Rattle.std.specs.Ordering.{int_eq}
 use Rattle.nl_attr.specs.declared.events.Event.{Event}
 use Rattle.nl_attr.specs.Fixed.{SORT_MESSAGE}
-use Rattle.nl_attr.specs.declared.fault.Fault.{Fault}
-use Rattle.nl_attr.specs.declared.fault.Reason.{Reason}
 use Rattle.nl_attr.specs.declared.order.Order.{Order}
 use Rattle.nl_attr.specs.declared.tree.Content.{Content}
 use Rattle.nl_attr.specs.declared.tree.Content.TheVariants as content
+use Rattle.nl_attr.specs.declared.fault.Fault.{Fault}
+use Rattle.nl_attr.specs.declared.fault.Reason.{Reason}
 use Rattle.nl_attr.specs.Shape.{Shape}
-use Rattle.nl_attr.specs.Heads.{Head, Sort, attr_head, hop_head, content_at}
-use Rattle.nl_attr.specs.Reading.{Outcome}
 use Rattle.nl_attr.specs.Scanned.{without}
-use Rattle.nl_attr.specs.Grammar.{and_on}
+use Rattle.nl_attr.specs.Heads.{Head, Sort, attr_head, hop_head, content_at}
 use Rattle.nl_attr.specs.HeadOrder.{sort_of, event_at}
 use Rattle.nl_attr.specs.HeadOrder as regions
+use Rattle.nl_attr.specs.Reading.{Outcome}
+use Rattle.nl_attr.specs.Grammar.{and_on}
 use Rattle.nl_attr.proofs.Lemmas.Fitting.{ReadAs}
-use Rattle.nl_attr.proofs.Lemmas.Reading.{sound_within}
 use Rattle.nl_attr.proofs.Lemmas.First as region
+use Rattle.nl_attr.proofs.Lemmas.Reading.{sound_within}
 use Rattle.nl_attr.proofs.Lemmas.Grammars.{front}
-use Rattle.nl_route.specs.declared.family.Family.{Family}
-use Rattle.nl_route.specs.declared.family.Verb.TheVariants.{New}
-use Rattle.nl_route.specs.Families.{type_of, row, family_of}
-use Rattle.nl_route.proofs.Families.{is_family}
+use Rattle.nl_frame.specs.Heads.{inner, Rest, behind, region_of, whole, header}
+use Rattle.nl_frame.specs.Message.{MessageVal, BodyVal, error, done, object}
+use Rattle.nl_frame.specs.HeadOrder.{event_of, region_trail, Trail, events_of, trail_of, visits_of}
+use Rattle.nl_frame.specs.Header.{header_of}
 use Rattle.nl_frame.specs.declared.form.Form.{Form}
 use Rattle.nl_frame.specs.declared.form.Form.TheVariants as form
 use Rattle.nl_frame.specs.declared.header.Header.{Header}
 use Rattle.nl_frame.specs.Form.{form_of, form_for}
 use Rattle.nl_frame.specs.Front.{form_at, payload_at, span_at}
-use Rattle.nl_frame.specs.Header.{header_of}
-use Rattle.nl_frame.specs.Heads.{header, inner, Rest, behind, region_of, whole}
 use Rattle.nl_frame.specs.Layout.{BodyOf, Layout}
-use Rattle.nl_frame.specs.Message.{BodyVal, noop, error, done, overrun, object, get, other, MessageVal}
 use Rattle.nl_frame.specs.Reading.{signed_of, body_at}
-use Rattle.nl_frame.specs.HeadOrder.{Trail, event_of, events_of, region_trail, trail_of, visits_of}
-use Rattle.nl_frame.proofs.Bodies.{body_fit}
-use Rattle.nl_frame.proofs.Layouts.{IsMessage, header_in, message_is, messages_fit, some_of}
+use Rattle.nl_frame.proofs.Layouts.{body_fit, IsMessage, header_in, message_is, messages_fit, some_of}
 use Rattle.nl_frame.proofs.Firsts.{reads}
-use Rattle.nl_frame.proofs.Trails.{trail_ends, trail_goes}
+use Rattle.nl_frame.proofs.Scan.{trail_ends, trail_goes}
 use Rattle.nl_dump.specs.declared.dump.Dump.{Dump}
 use Rattle.nl_dump.specs.declared.dump.End.{End}
 use Rattle.nl_dump.specs.declared.dump.End.TheVariants.{Done, Error}
@@ -49,18 +43,56 @@ use Rattle.nl_dump.specs.declared.role.Role.TheVariants.{Item as Brings, End as 
 use Rattle.nl_dump.specs.declared.sifting.Found.{Found}
 use Rattle.nl_dump.specs.declared.sifting.Sifted.{Sifted}
 use Rattle.nl_dump.specs.Items.{Item, body_item}
-use Rattle.nl_dump.specs.Answer.{belongs, body_end, end_in, item_in, end_of, items_of, up_to_end, one_if, ends_done, interrupts, interrupted_of}
-use Rattle.nl_dump.specs.Handed.{message_events, events_among, item_events}
+use Rattle.nl_dump.specs.Answer.{item_in, up_to_end, belongs, body_end, end_in, items_of}
+use Rattle.nl_dump.specs.Handed.{message_events, events_among, item_events, headers_in, OneHeaderForEachItem}
+use Rattle.nl_dump.specs.Inside.{Sums}
 use Rattle.nl_dump.specs.Sifting.{form_end, unbroken, role_by, left_at, found_in, found_at, none_sifted, judge, counted, step, sifted, keeping, kept}
-use Rattle.nl_dump.proofs.Counting.{items-behind, end-behind, interrupted-behind, items-more, items-one, interrupted-more, interrupted-one, end-more, end-one, and_true, and_false, or_false}
+use Rattle.nl_dump.proofs.Counting.{is_marked, more_behind, more_end, more_item, more_other, none_summed}
 use Rattle.nl_dump.proofs.Courses.{end_no_item}
 use Rattle.nl_dump.proofs.Sieve.{sifted-append, kept-append}
+use Rattle.nl_route.specs.declared.family.Family.{Family}
+use Rattle.nl_route.specs.declared.family.Verb.TheVariants.{New}
+use Rattle.nl_route.specs.Families.{type_of, row, family_of}
+use Rattle.nl_route.proofs.Families.{is_family}
+
+headers-append : (es fs : List Event) → headers_in (es ++ fs) ≡ headers_in es + headers_in fs
+headers-append [] fs = omega arith
+headers-append (e ∷ es) fs = omega (arith, headers-append es fs)
+
+-- a head in a message is none
+pub inner_sort : (o : Order) (k : Sort) (h : Head) → (event_at o k h).sort == SORT_MESSAGE ≡ false
+inner_sort o attr_head h = by (content_at o h.ctx h.left)
+  where
+    by : (c : Content) → sort_of c == SORT_MESSAGE ≡ false
+    by content.Bytes = refl
+    by (content.List c) = refl
+    by content.Hops = refl
+inner_sort o hop_head h = refl
+
+inner_headers : (o : Order) (hs : List Head) → headers_in (map (event_of o) (map inner hs)) ≡ 0
+inner_headers o [] = refl
+inner_headers o (h ∷ hs) = ap (λ b. cond b 1 0 + headers_in (map (event_of o) (map inner hs))) (inner_sort o h.sort h) ∙ omega (arith, inner_headers o hs)
+
+region_headers : (S : Shape) (x : Option Head) → headers_in (map (event_of S.order) (region_trail S x).0) ≡ 0
+region_headers S None = refl
+region_headers S (Some h) = inner_headers S.order (regions.trail_of S h).0
+
+message_header : (S : Shape) (r : Rest) → headers_in (message_events S r) ≡ 1
+message_header S r = omega (arith, region_headers S (region_of S r))
+
+among : (S : Shape) (d : Dump) (ms : List MessageVal) (r : Rest) → headers_in (events_among S d ms r) ≡ length (filter_map (item_in d) ms)
+among S d [] r = refl
+among S d (m ∷ ms) r = by (item_in d m) refl (among S d ms (behind S r))
+  where
+    by : (o : Option Item) → item_in d m ≡ o → headers_in (events_among S d ms (behind S r)) ≡ length (filter_map (item_in d) ms)
+        → headers_in (cond (is_some o) (message_events S r ++ events_among S d ms (behind S r)) (events_among S d ms (behind S r))) ≡ length (filter_map (item_in d) (m ∷ ms))
+    by None h e = rw h e
+    by (Some x) h e = rw h (omega (arith, e, message_header S r, headers-append (message_events S r) (events_among S d ms (behind S r))))
+
+pub one_header : OneHeaderForEachItem
+one_header S d ms bytes = among S d (up_to_end d ms) (whole bytes)
 
 -- ---- one message, as it lies in its datagram
-
--- it has the flag DUMP_INTR
-abbrev pub is_marked : ℕ → Bool
-is_marked flags = not (bit_and flags 16 == 0)
 
 -- how it ends a dump
 ends_so : (S : Shape) (c : BodyVal) (f : Form) (payload : List ℕ) → BodyOf S c f payload → form_end S.order f payload ≡ body_end c
@@ -81,17 +113,13 @@ ends_so S c f payload b = ap (λ x. form_end S.order x payload) b.0
 
 -- a NEW of a family has its body
 brings_so : (S : Shape) (k : Family) (c : BodyVal) (f : Form) (payload : List ℕ) → BodyOf S c f payload → f ≡ form.Object k → is_some (body_item k c) ≡ true
-brings_so S k (noop bs) f payload b e = absurd (let x : form.Noop ≡ form.Object k = sym b.0 ∙ e in cc)
-brings_so S k (error code h tail) f payload b e = absurd (let x : form.Error ≡ form.Object k = sym b.0 ∙ e in cc)
-brings_so S k (done None tail) f payload b e = absurd (let x : form.Done ≡ form.Object k = sym b.0 ∙ e in cc)
-brings_so S k (done (Some z) tail) f payload b e = absurd (let x : form.Done ≡ form.Object k = sym b.0 ∙ e in cc)
-brings_so S k (overrun bs) f payload b e = absurd (let x : form.Overrun ≡ form.Object k = sym b.0 ∙ e in cc)
 brings_so S k (object h is) f payload b e =
     let x : form.Object (family_of h) ≡ form.Object k = sym b.0 ∙ e in
     let same : family_of h ≡ k = cc in
     ap (λ y. is_some {T = Item} (cond y (Some (h, is)) None)) (eq-eqb (row k).new (row h.family).new (ap (λ (g : Family). (row g).new) (sym same)))
-brings_so S k (get n tail) f payload b e = absurd (let x : form.Get ≡ form.Object k = sym b.0 ∙ e in cc)
-brings_so S k (other bs) f payload b e = absurd (let x : form.Other ≡ form.Object k = sym b.0 ∙ e in cc)
+brings_so S k (done None tail) f payload b e = cc (b.0, e)
+brings_so S k (done (Some z) tail) f payload b e = cc (b.0, e)
+brings_so S k c f payload b e = cc (b.0, e)
 
 form_new : (k : Family) → form_of (type_of k New) ≡ form.Object k
 form_new k = ap (form_for (type_of k New)) (is_family k).new
@@ -149,134 +177,54 @@ found_so S d m left it rest is b =
 
 pub record Sieved (d : Dump) (ms : List MessageVal) (s : Sifted) : Type 0 where
   pub items : s.items ≡ length (items_of d ms)
-  pub ignored_is : s.ignored + (length (items_of d ms) + one_if (is_some (end_of d ms))) ≡ length ms
-  pub interrupted_is : s.interrupted ≡ interrupted_of d ms
-  pub end_is : s.end ≡ end_of d ms
-
-none_sieved : (d : Dump) → Sieved d [] none_sifted
-none_sieved d = record { items = refl; ignored_is = refl; interrupted_is = refl; end_is = refl }
+  pub sums : Sums d ms s.ignored s.interrupted s.end
 
 module _ (d : Dump) (ms : List MessageVal) (m : MessageVal) (s : Sifted) (so : Sieved d ms s) where
-  -- behind the end a message is ignored
-  behind_sieved : is_some s.end ≡ true → Sieved d (ms ++ m ∷ []) (record s { keeps = false; ignored = s.ignored + 1 })
-  behind_sieved h =
-      let closed : is_some (end_of d ms) ≡ true = rw (← so.end_is) h in
-      let is = items-behind d ms (m ∷ []) closed in
-      let end = end-behind d ms (m ∷ []) closed in
-      record {
-        items = so.items ∙ ap length (sym is);
-        ignored_is = rw (is, end) (omega (arith, so.ignored_is, length-append ms (m ∷ [])));
-        interrupted_is = so.interrupted_is ∙ sym (interrupted-behind d ms (m ∷ []) closed);
-        end_is = so.end_is ∙ sym end;
-      }
-
-  module _ (h : s.end ≡ None) where
-    open_ : is_some (end_of d ms) ≡ false
-    open_ = ap is_some (sym so.end_is ∙ h)
-
-    items : items_of d (ms ++ m ∷ []) ≡ items_of d ms ++ items_of d (m ∷ [])
-    items = items-more d ms (m ∷ []) open_
-
-    interrupted : interrupted_of d (ms ++ m ∷ []) ≡ (interrupted_of d ms || interrupts d m)
-    interrupted = interrupted-more d ms (m ∷ []) open_ ∙ ap (λ x. interrupted_of d ms || x) (interrupted-one d m)
-
-    end : end_of d (ms ++ m ∷ []) ≡ end_in d m
-    end = end-more d ms (m ∷ []) open_ ∙ end-one d m
-
-    -- an item
-    item_sieved : (x : Item) → item_in d m ≡ Some x → end_in d m ≡ None → Sieved d (ms ++ m ∷ []) (record s { keeps = true; items = s.items + 1; interrupted = s.interrupted || is_marked m.flags })
-    item_sieved x brings stays =
-        let is : items_of d (ms ++ m ∷ []) ≡ items_of d ms ++ x ∷ [] = items ∙ ap (λ l. items_of d ms ++ l) (items-one d m) ∙ rw brings refl in
-        let none : end_of d (ms ++ m ∷ []) ≡ None = end ∙ stays in
-        let many : length (items_of d (ms ++ m ∷ [])) ≡ length (items_of d ms) + 1 = ap length is ∙ omega (arith, length-append (items_of d ms) (x ∷ [])) in
-        record {
-          items = ap (λ n. n + 1) so.items ∙ sym many;
-          ignored_is = rw (many, none) (omega (arith, rw open_ at so.ignored_is, length-append ms (m ∷ [])));
-          interrupted_is = ap (λ x. x || is_marked m.flags) so.interrupted_is ∙ sym (interrupted ∙ ap (λ x. interrupted_of d ms || x) (rw brings (and_true (is_marked m.flags))));
-          end_is = h ∙ sym none;
-        }
-
-    -- the end
-    end_sieved : (f : End) → item_in d m ≡ None → end_in d m ≡ Some f → Sieved d (ms ++ m ∷ []) (record s { keeps = false; interrupted = s.interrupted || (is_marked m.flags && ends_done (Some f)); end = Some f })
-    end_sieved f brings ends =
-        let is : items_of d (ms ++ m ∷ []) ≡ items_of d ms = items ∙ ap (λ l. items_of d ms ++ l) (items-one d m) ∙ rw brings (append-nil (items_of d ms)) in
-        let some : end_of d (ms ++ m ∷ []) ≡ Some f = end ∙ ends in
-        record {
-          items = so.items ∙ ap length (sym is);
-          ignored_is = rw (is, some) (omega (arith, rw open_ at so.ignored_is, length-append ms (m ∷ [])));
-          interrupted_is = ap (λ x. x || (is_marked m.flags && ends_done (Some f))) so.interrupted_is ∙ sym (interrupted ∙ ap (λ x. interrupted_of d ms || x) (rw (brings, ends) refl));
-          end_is = sym some;
-        }
-
-    -- neither
-    other_sieved : item_in d m ≡ None → end_in d m ≡ None → Sieved d (ms ++ m ∷ []) (record s { keeps = false; ignored = s.ignored + 1 })
-    other_sieved brings stays =
-        let is : items_of d (ms ++ m ∷ []) ≡ items_of d ms = items ∙ ap (λ l. items_of d ms ++ l) (items-one d m) ∙ rw brings (append-nil (items_of d ms)) in
-        let none : end_of d (ms ++ m ∷ []) ≡ None = end ∙ stays in
-        record {
-          items = so.items ∙ ap length (sym is);
-          ignored_is = rw (is, none) (omega (arith, rw open_ at so.ignored_is, length-append ms (m ∷ [])));
-          interrupted_is = so.interrupted_is ∙ sym (interrupted ∙ ap (λ x. interrupted_of d ms || x) (rw (brings, stays) (and_false (is_marked m.flags))) ∙ or_false (interrupted_of d ms));
-          end_is = h ∙ sym none;
-        }
-
   judge_sieved : Sieved d (ms ++ m ∷ []) (judge s.end (role_for d m) (is_marked m.flags) s)
   judge_sieved = by s.end refl
     where
       apart : (x : Option End) (y : Option Item) → end_in d m ≡ x → item_in d m ≡ y → s.end ≡ None → Sieved d (ms ++ m ∷ []) (judge None (role_of x (is_some y)) (is_marked m.flags) s)
-      apart (Some f) y e i h = end_sieved h f (end_no_item d m (ap is_some e)) e
-      apart None (Some x) e i h = item_sieved h x i e
-      apart None None e i h = other_sieved h i e
+      apart (Some f) y e i h =
+          let t = more_end d ms m s.ignored s.interrupted s.end so.sums h f (end_no_item d m (ap is_some e)) e in
+          record { items = so.items ∙ ap length (sym t.0); sums = t.1 }
+      apart None (Some x) e i h =
+          let t = more_item d ms m s.ignored s.interrupted s.end so.sums h x i e in
+          record { items = omega (arith, so.items, ap length t.0, length-append (items_of d ms) (x ∷ [])); sums = t.1 }
+      apart None None e i h =
+          let t = more_other d ms m s.ignored s.interrupted s.end so.sums h i e in
+          record { items = so.items ∙ ap length (sym t.0); sums = t.1 }
 
       by : (o : Option End) → s.end ≡ o → Sieved d (ms ++ m ∷ []) (judge o (role_for d m) (is_marked m.flags) s)
-      by (Some f) e = behind_sieved (ap is_some e)
+      by (Some f) e =
+          let t = more_behind d ms m s.ignored s.interrupted s.end so.sums (ap is_some e) in
+          record { items = so.items ∙ ap length (sym t.0); sums = t.1 }
       by None e = apart (end_in d m) (item_in d m) refl refl e
 
 -- ---- the heads in a message
 
--- they are those of no message
-inner_sort : (o : Order) (k : Sort) (h : Head) → (event_at o k h).sort == SORT_MESSAGE ≡ false
-inner_sort o attr_head h = by (content_at o h.ctx h.left)
-  where
-    by : (c : Content) → sort_of c == SORT_MESSAGE ≡ false
-    by content.Bytes = refl
-    by (content.List c) = refl
-    by content.Hops = refl
-inner_sort o hop_head h = refl
+nothing : (b : Bool) → ◌≡◌ {A = List Event} [] (cond b [] [])
+nothing true = refl
+nothing false = refl
 
 module _ (find : Event → Found) where
   -- as before, but for the count of events
-  pub record Same (s t : Sifted) : Type 0 where
-    pub keeps : t.keeps ≡ s.keeps
-    pub items : t.items ≡ s.items
-    pub ignored : t.ignored ≡ s.ignored
-    pub interrupted : t.interrupted ≡ s.interrupted
-    pub end : t.end ≡ s.end
-
-  same_then : (s t u : Sifted) → Same s t → Same t u → Same s u
-  same_then s t u a b = record { keeps = b.keeps ∙ a.keeps; items = b.items ∙ a.items; ignored = b.ignored ∙ a.ignored; interrupted = b.interrupted ∙ a.interrupted; end = b.end ∙ a.end }
+  abbrev pub Same : Sifted → Sifted → Type 0
+  Same s t = t ≡ record s { events = t.events }
 
   same_sieved : (d : Dump) (ms : List MessageVal) (s t : Sifted) → Same s t → Sieved d ms s → Sieved d ms t
-  same_sieved d ms s t a so = record { items = a.items ∙ so.items; ignored_is = omega (arith, a.ignored, so.ignored_is); interrupted_is = a.interrupted ∙ so.interrupted_is; end_is = a.end ∙ so.end_is }
-
-  same_counted : (s : Sifted) → Same s (counted s)
-  same_counted s = record { keeps = refl; items = refl; ignored = refl; interrupted = refl; end = refl }
+  same_sieved d ms s t a so = subst (Sieved d ms) (sym a) (record { items = so.items; sums = so.sums })
 
   module _ (o : Order) where
     inner_step : (s : Sifted) (h : Head) → step find s (event_of o (inner h)) ≡ counted s
     inner_step s h = let e = event_of o (inner h) in ap (λ b. counted (cond b (judge s.end (find e).role (find e).marked s) s)) (inner_sort o h.sort h)
 
     inner_same : (hs : List Head) (s : Sifted) → Same s (sifted find s (map (event_of o) (map inner hs)))
-    inner_same [] s = record { keeps = refl; items = refl; ignored = refl; interrupted = refl; end = refl }
-    inner_same (h ∷ hs) s = subst (λ t. Same s (sifted find t (map (event_of o) (map inner hs)))) (sym (inner_step s h)) (same_then s (counted s) _ (same_counted s) (inner_same hs (counted s)))
+    inner_same [] s = refl
+    inner_same (h ∷ hs) s = subst (λ t. Same s (sifted find t (map (event_of o) (map inner hs)))) (sym (inner_step s h)) (inner_same hs (counted s))
 
     -- they are kept as their message is
     inner_kept : (hs : List Head) (s : Sifted) → kept find s (map (event_of o) (map inner hs)) ≡ cond s.keeps (map (event_of o) (map inner hs)) []
-    inner_kept [] s = by s.keeps
-      where
-        by : (b : Bool) → ◌≡◌ {A = List Event} [] (cond b [] [])
-        by true = refl
-        by false = refl
+    inner_kept [] s = nothing s.keeps
     inner_kept (h ∷ hs) s =
         ap (λ t. keeping t.keeps (event_of o (inner h)) (kept find t (map (event_of o) (map inner hs)))) (inner_step s h)
         ∙ ap (keeping s.keeps (event_of o (inner h))) (inner_kept hs (counted s)) ∙ by s.keeps
@@ -326,10 +274,6 @@ module _ (S : Shape) (d : Dump) (bytes : List ℕ) where
         subst (λ es. Sieved d (ms ++ []) (sifted look s es)) (sym none) (subst (λ l. Sieved d l s) (sym (append-nil ms)) so),
         ap (kept look s) none ∙ nothing (is_some s.end),
       )
-    where
-      nothing : (b : Bool) → ◌≡◌ {A = List Event} [] (cond b [] [])
-      nothing true = refl
-      nothing false = refl
   walked (m ∷ ns) ms r s f at ends so =
       let it = f.0 in
       let rest = f.2 in
@@ -352,7 +296,7 @@ module _ (S : Shape) (d : Dump) (bytes : List ℕ) where
       let t = counted judged in
       let u = sifted look t es in
       let same : Same look t u = region_same look S.order S (region_of S r) t in
-      let so' : Sieved d (ms ++ m ∷ []) u = same_sieved look d (ms ++ m ∷ []) t u same (same_sieved look d (ms ++ m ∷ []) judged t (same_counted look judged) (judge_sieved d ms m s so)) in
+      let so' : Sieved d (ms ++ m ∷ []) u = same_sieved look d (ms ++ m ∷ []) t u same (same_sieved look d (ms ++ m ∷ []) judged t refl (judge_sieved d ms m s so)) in
       let at' : next.left ≡ drop next.place bytes = ap (drop (span_at S.order r.left)) at ∙ drop-drop (span_at S.order r.left) r.place bytes in
       let more = walked ns (ms ++ m ∷ []) next u (subst (Layout S ns) (sym is.cut.rest_is) f.6) at' both.0 so' in
       let after : sifted look s (events_of S r) ≡ sifted look u fs = ap (sifted look s) all ∙ ap (λ x. sifted look x (es ++ fs)) one ∙ sifted-append look t es fs in
@@ -362,7 +306,7 @@ module _ (S : Shape) (d : Dump) (bytes : List ℕ) where
       ∙ ap (keeping judged.keeps head) (kept-append look t es fs ∙ ap (λ l. l ++ ks) (region_kept look S.order S (region_of S r) t)) in (
         subst (λ l. Sieved d l (sifted look s (events_of S r))) (append_assoc ms (m ∷ []) ns) (subst (Sieved d ((ms ++ m ∷ []) ++ ns)) (sym after) more.0),
         keep ∙ joined judged.keeps head es ks
-            ∙ kept_so ns m r (is_marked m.flags) s (end_in d m) (item_in d m) refl refl ks (more.1 ∙ ap (λ (o : Option End). cond (is_some o) [] (events_among S d (up_to_end d ns) next)) same.end),
+            ∙ kept_so ns m r (is_marked m.flags) s (end_in d m) (item_in d m) refl refl ks (more.1 ∙ ap (λ (o : Option End). cond (is_some o) [] (events_among S d (up_to_end d ns) next)) (ap (λ (x : Sifted). x.end) same)),
       )
     where
       joined : (b : Bool) (e : Event) (es ks : List Event) → keeping b e (cond b es [] ++ ks) ≡ cond b ((e ∷ es) ++ ks) ks
@@ -381,4 +325,4 @@ module _ (S : Shape) (d : Dump) (bytes : List ℕ) where
 
   -- what is found of the events of a datagram of these messages, and which of them are kept
   pub sieved : (ms : List MessageVal) → Layout S ms bytes → Sieved d ms (sifted look none_sifted (events_of S (whole bytes))) × (kept look none_sifted (events_of S (whole bytes)) ≡ item_events S d ms bytes)
-  sieved ms f = walked ms [] (whole bytes) none_sifted f refl (no_fault ms f) (none_sieved d)
+  sieved ms f = walked ms [] (whole bytes) none_sifted f refl (no_fault ms f) (record { items = refl; sums = none_summed d })

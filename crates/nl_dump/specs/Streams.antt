@@ -1,5 +1,5 @@
 -- One call of a stream.
-use Rattle.std.specs.Prelude.{◌≡◌, ◌≢◌, ◌<◌, ◌≤◌, ◌+◌, ◌*◌, ℕ, true, false, ◌||◌, List, length, Some, Result, Ok, Err}
+use Rattle.std.specs.Prelude.{◌≡◌, ◌≢◌, ◌<◌, ◌≤◌, ◌+◌, ◌*◌, ℕ, true, false, List, length, Some, Result, Ok, Err}
 use Rattle.nl_attr.specs.declared.events.Event.{Event}
 use Rattle.nl_attr.specs.HeadOrder.{put_from}
 use Rattle.nl_frame.specs.Heads.{IsFirstFault, Visits, whole}
@@ -17,8 +17,7 @@ use Rattle.nl_dump.specs.declared.errors.NotWaiting.{NotWaiting as IsNotWaiting}
 use Rattle.nl_dump.specs.declared.errors.StreamError.{StreamError}
 use Rattle.nl_dump.specs.declared.errors.StreamError.TheVariants.{NotWaiting, Total, TooLarge, Layout as Fault, Room}
 use Rattle.nl_dump.specs.declared.standing.Standing.{Standing}
-use Rattle.nl_dump.specs.Answer.{end_of, ignored_of, interrupted_of, state_by}
-use Rattle.nl_dump.specs.Steps.{IsWaiting, IsProgressOf, last_seq}
+use Rattle.nl_dump.specs.Steps.{CanLook, IsWaiting, IsProgressOf, IsStreamed, last_seq}
 use Rattle.nl_dump.specs.Handed.{item_events}
 
 -- one call of `begin`
@@ -35,28 +34,9 @@ abbrev pub StreamAbandons : Standing → Result (Unit {0}) IsNotWaiting → Stan
 StreamAbandons before (Ok u) after = (d : Dump) × (before.state ≡ Waiting d) × (after ≡ record before { state = Ended d Abandoned })
 StreamAbandons before (Err e) after = (IsWaiting before.state → ⊥) × (after ≡ before)
 
--- a datagram can be looked at: a dump waits, and the datagram is within the limits
-pub record CanLook (s : Standing) (bytes : List ℕ) : Type 0 where
-  pub waiting : IsWaiting s.state
-  pub total : s.received + length bytes ≤ s.limits.total
-  pub datagram : length bytes ≤ s.limits.datagram
-
 -- a datagram of so many bytes, of which so many were visited, is refused: the dump's answer stays
 abbrev pub refused_by : Standing → ℕ → ℕ → Standing
 refused_by s n visits = record s { damaged = true; received = s.received + n; visits = s.visits + visits }
-
--- a datagram of these messages is taken
-pub record IsStreamed (d : Dump) (bytes : List ℕ) (ms : List MessageVal) (visits : ℕ) (before after : Standing) : Type 0 where
-  pub waiting : before.state ≡ Waiting d
-  pub layout : Layout before.limits.shape ms bytes
-  pub visited : Visits before.limits.shape (whole bytes) (length bytes) visits
-  pub rest : after ≡ record before {
-    state = state_by d (end_of d ms);
-    ignored = before.ignored + ignored_of d ms;
-    visits = before.visits + visits;
-    received = before.received + length bytes;
-    interrupted = before.interrupted || interrupted_of d ms;
-  }
 
 -- the events of the datagram's heads stand in the buffer, as far as it goes
 abbrev pub AllPut : Standing → List ℕ → List Event → List Event → Type 0
@@ -103,9 +83,8 @@ module _ (before : Standing) (bytes : List ℕ) (old : List Event) where
   IsStreamAnswered (Ok s) after = (ms : List MessageVal) × IsTheList before.limits bytes ms
   IsStreamAnswered (Err (Fault f)) after = IsFirstFault before.limits.shape (whole bytes) f.place f.reason × StaysAnswer after
   IsStreamAnswered (Err NotWaiting) after = after ≡ before
-  IsStreamAnswered (Err Total) after = StaysAnswer after
-  IsStreamAnswered (Err TooLarge) after = StaysAnswer after
   IsStreamAnswered (Err (Room n)) after = after ≡ before
+  IsStreamAnswered (Err e) after = StaysAnswer after
 
   -- the bound on the visits holds after it, and it is answered so
   pub record EveryStreamed (r : Result Streamed StreamError) (after : Standing) : Type 0 where

@@ -1,5 +1,9 @@
 //! The entries of the families, as they come in messages.
 
+ghost use Rattle.std.specs.Prelude.{refl};
+ghost use Rattle.nl_route.specs.declared.family.Family.TheVariants as families;
+ghost use Rattle.nl_dump.specs.Items.{item_of};
+
 use nl_frame::Body;
 use nl_route::{Addr, Link, Neigh, Route, Rule};
 use nl_table::Entry;
@@ -25,13 +29,9 @@ pub(crate) trait FromBody: Entry + Drop {
 }
 
 impl FromBody for Link {
-    ghost use Rattle.std.specs.Prelude.{refl};
-    ghost use Rattle.nl_route.specs.declared.family.Family.TheVariants as family;
-    ghost use Rattle.nl_dump.specs.Items.{item_of};
+    ghost family = { families.Link };
 
-    ghost family = { family.Link };
-
-    ghost item = { item_of family.Link };
+    ghost item = { item_of families.Link };
 
     ghost keyed = { λ o x. refl };
 
@@ -44,13 +44,9 @@ impl FromBody for Link {
 }
 
 impl FromBody for Addr {
-    ghost use Rattle.std.specs.Prelude.{refl};
-    ghost use Rattle.nl_route.specs.declared.family.Family.TheVariants as family;
-    ghost use Rattle.nl_dump.specs.Items.{item_of};
+    ghost family = { families.Addr };
 
-    ghost family = { family.Addr };
-
-    ghost item = { item_of family.Addr };
+    ghost item = { item_of families.Addr };
 
     ghost keyed = { λ o x. refl };
 
@@ -63,13 +59,9 @@ impl FromBody for Addr {
 }
 
 impl FromBody for Route {
-    ghost use Rattle.std.specs.Prelude.{refl};
-    ghost use Rattle.nl_route.specs.declared.family.Family.TheVariants as family;
-    ghost use Rattle.nl_dump.specs.Items.{item_of};
+    ghost family = { families.Route };
 
-    ghost family = { family.Route };
-
-    ghost item = { item_of family.Route };
+    ghost item = { item_of families.Route };
 
     ghost keyed = { λ o x. refl };
 
@@ -82,13 +74,9 @@ impl FromBody for Route {
 }
 
 impl FromBody for Neigh {
-    ghost use Rattle.std.specs.Prelude.{refl};
-    ghost use Rattle.nl_route.specs.declared.family.Family.TheVariants as family;
-    ghost use Rattle.nl_dump.specs.Items.{item_of};
+    ghost family = { families.Neigh };
 
-    ghost family = { family.Neigh };
-
-    ghost item = { item_of family.Neigh };
+    ghost item = { item_of families.Neigh };
 
     ghost keyed = { λ o x. refl };
 
@@ -101,13 +89,9 @@ impl FromBody for Neigh {
 }
 
 impl FromBody for Rule {
-    ghost use Rattle.std.specs.Prelude.{refl};
-    ghost use Rattle.nl_route.specs.declared.family.Family.TheVariants as family;
-    ghost use Rattle.nl_dump.specs.Items.{item_of};
+    ghost family = { families.Rule };
 
-    ghost family = { family.Rule };
-
-    ghost item = { item_of family.Rule };
+    ghost item = { item_of families.Rule };
 
     ghost keyed = { λ o x. refl };
 

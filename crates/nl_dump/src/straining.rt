@@ -2,7 +2,7 @@
 
 ghost use Rattle.std.specs.Prelude.{◌≡◌, ◌≤◌, ◌+◌, ◌*◌, length, IfOk};
 ghost use Rattle.nl_attr.specs.Fixed as fixed;
-ghost use Rattle.nl_dump.specs.Strained.{Strains, is_room, scan_refusal, strained_of};
+ghost use Rattle.nl_dump.specs.Inside.{Strains, is_room, scan_refusal, strained_of};
 
 use crate::dump::{Dump, End, Progress, Streamed};
 use crate::errors::StreamError;

@@ -1,5 +1,5 @@
 -- Bytes that begin with messages.
-use Rattle.std.proofs.Common.{◌≡◌, ℕ, ◌+◌, ◌-◌, ◌<◌, ◌≤◌, List, [], ◌∷◌, length, take, drop, replicate, Option, Some, None, ap, subst, ◌∙◌, arith, inl, inr}
+use Rattle.std.proofs.Common.{◌≡◌, ℕ, ◌+◌, ◌-◌, ◌≤◌, List, [], ◌∷◌, length, take, drop, replicate, Option, Some, None, ap, subst, ◌∙◌, arith, inl, inr}
 use Rattle.nl_attr.specs.Fixed.{LONGEST_REGION}
 use Rattle.nl_attr.specs.declared.order.Order.{Order}
 use Rattle.nl_attr.specs.Numbers.{aligned}
@@ -16,8 +16,7 @@ use Rattle.nl_frame.specs.Form.{form_of}
 use Rattle.nl_frame.specs.Message.{BodyVal, object, MessageVal}
 use Rattle.nl_frame.specs.Written.{header_for, body_written, message_item, written_len}
 use Rattle.nl_frame.specs.Proper.{IsMismatchedBody, IsMismatched, IsLongBody, HasLong, IsLong}
-use Rattle.nl_frame.specs.Compared.{AreSized}
-use Rattle.nl_frame.specs.Measured.{IsSizedBody}
+use Rattle.nl_frame.specs.Measured.{AreSized, IsSizedBody}
 use Rattle.nl_frame.proofs.WrittenLayouts.{length-body, not_above}
 
 module _ (o : Order) (m : MessageVal) where

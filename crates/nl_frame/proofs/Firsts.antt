@@ -25,9 +25,8 @@ use Rattle.nl_frame.specs.Reading.{message_of, message_at, body_at, messages_of}
 use Rattle.nl_frame.specs.Heads.{header, inner, Rest, behind, region_in, region_of, heads, FaultAt, IsFirstFault, Visits, whole}
 use Rattle.nl_frame.specs.HeadOrder.{Trail, region_trail, trail_of}
 use Rattle.nl_frame.proofs.Layouts.{messages_fit, messages_sound}
-use Rattle.nl_frame.proofs.Scan.{fills, laws}
+use Rattle.nl_frame.proofs.Scan.{fills, laws, trail_ends, trail_stops, trail_goes}
 use Rattle.nl_frame.proofs.Steps.{messages_none, messages_cut, messages_step}
-use Rattle.nl_frame.proofs.Trails.{trail_ends, trail_stops, trail_goes}
 
 -- ---- reading agrees with a walk over the heads
 

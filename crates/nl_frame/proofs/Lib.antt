@@ -1,17 +1,13 @@
 pub mod Beginnings
-pub mod Bodies
 pub mod Extents
 pub mod Firsts
 pub mod Fronts
 pub mod Layouts
 pub mod Listed
-pub mod OneList
 pub mod ProperLayouts
 pub mod Scan
-pub mod Scanned
 pub mod Steps
 pub mod Tapes
 pub mod Outcomes
-pub mod Trails
 pub mod Within
 pub mod WrittenLayouts

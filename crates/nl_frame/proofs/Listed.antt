@@ -21,11 +21,10 @@ use Rattle.nl_frame.specs.Listed.{body_events, messages_events}
 use Rattle.nl_frame.specs.Message.{BodyVal, done, object, MessageVal}
 use Rattle.nl_frame.specs.Written.{body_len}
 use Rattle.nl_frame.specs.HeadOrder.{region_trail, trail_of, header_event, event_of, events_of}
-use Rattle.nl_frame.proofs.Bodies.{body_fit}
-use Rattle.nl_frame.proofs.Layouts.{message_is, some_of}
+use Rattle.nl_frame.proofs.Layouts.{body_fit, message_is, some_of}
 use Rattle.nl_frame.proofs.ProperLayouts.{body_len_is, payload_in}
 use Rattle.nl_frame.proofs.Tapes.{region_events}
-use Rattle.nl_frame.proofs.Trails.{trail_ends, trail_goes}
+use Rattle.nl_frame.proofs.Scan.{trail_ends, trail_goes}
 
 module _ (S : Shape) where
   abbrev Listed : Rest → List Event → Type 0

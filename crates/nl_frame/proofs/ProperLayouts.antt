@@ -1,4 +1,4 @@
--- Messages that are a layout can be written, are as long as the datagram with its last padding, and keep no more bytes than it has.
+-- Messages that are a layout can be written, are as long as the datagram with its last padding, keep no more bytes than it has, and are its one list.
 use Rattle.std.proofs.Common.{◌≡◌, ℕ, ◌+◌, ◌%◌, ◌≤◌, List, [], ◌∷◌, length, take, drop, Some, None, refl, sym, ap, subst, ◌∙◌, arith, length-drop}
 use Rattle.std.proofs.Math.Logic.{⊎_elim}
 use Rattle.nl_attr.specs.Fixed.{LONGEST_REGION}
@@ -18,9 +18,13 @@ use Rattle.nl_frame.specs.Header.{header_fields}
 use Rattle.nl_frame.specs.Form.{form_of}
 use Rattle.nl_frame.specs.Message.{BodyVal, error, done, object, get, MessageVal}
 use Rattle.nl_frame.specs.Layout.{BodyOf, Layout}
-use Rattle.nl_frame.specs.Written.{body_len, written_len}
+use Rattle.nl_frame.specs.Limits.{Bounds, AreLimits}
+use Rattle.nl_frame.specs.Written.{body_len, written_len, written}
 use Rattle.nl_frame.specs.Proper.{IsMismatchedBody, IsMismatched, IsDeepBody, IsDeep, IsLongBody, HasLong, IsProper, IsRangedBody, IsRanged}
 use Rattle.nl_frame.specs.Kept.{body_kept, kept}
+use Rattle.nl_frame.specs.OneList.{IsTheList}
+use Rattle.nl_frame.proofs.Firsts.{one_layout}
+use Rattle.nl_frame.proofs.WrittenLayouts.{written_has_layout}
 
 -- ---- how long they are
 
@@ -125,3 +129,17 @@ module _ (S : Shape) where
 
 -- what holds of messages that are a layout
 pub ruleset proper = (layout_proper, layout_len, layout_ranged)
+
+pub the_list : (b : Bounds) (bytes : List ℕ) (ms : List MessageVal) → AreLimits b → AreBytes bytes → length bytes ≤ b.datagram → Layout b.shape ms bytes → IsTheList b bytes ms
+the_list b bytes ms limits fit size layout =
+    let S = b.shape in
+    let proper = layout_proper S ms bytes layout (omega (arith, limits, size)) in
+    let again : Layout S ms (written S.order ms) = written_has_layout S ms proper (layout_ranged S ms bytes fit layout) in
+    record {
+      layout = layout;
+      only = λ ns other. one_layout S bytes ns ms other layout;
+      proper = proper;
+      short = omega (arith, limits, size, layout_len S ms bytes layout);
+      again = again;
+      only_again = λ ns other. one_layout S (written S.order ms) ns ms other again;
+    }

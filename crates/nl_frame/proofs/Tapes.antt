@@ -1,7 +1,6 @@
 -- The loop that scans the messages of a datagram.
-use Rattle.std.proofs.Common.{◌≡◌, ◌≢◌, ℕ, ◌+◌, ◌*◌, ◌^◌, ◌≤◌, ◌<◌, List, [], ◌∷◌, ◌++◌, length, map, slice_set, Option, Some, None, refl, sym, ap, subst, ◌∙◌, IfSome, arith, length-append, length-drop}
+use Rattle.std.proofs.Common.{◌≡◌, ◌≢◌, ℕ, ◌+◌, ◌*◌, ◌≤◌, List, [], ◌∷◌, ◌++◌, length, map, slice_set, Option, Some, None, refl, sym, ap, subst, ◌∙◌, IfSome, arith, length-append}
 use Rattle.std.proofs.lemmas.List.{append-nil, length-map, map-append}
-use Rattle.nl_attr.specs.Fixed.{LONGEST_REGION}
 use Rattle.nl_attr.specs.declared.events.Event.{Event}
 use Rattle.nl_attr.specs.declared.fault.Fault.{Fault}
 use Rattle.nl_attr.specs.declared.fault.Reason.{Reason}
@@ -20,15 +19,14 @@ use Rattle.nl_attr.proofs.Lemmas.Grammars.{front, front_front, weigh-append, beh
 use Rattle.nl_attr.proofs.Lemmas.Putting.{put_none, put_on, put_one}
 use Rattle.nl_attr.proofs.Lemmas.Reading.{or_else_none}
 use Rattle.nl_frame.specs.declared.front.Frame.{Frame}
-use Rattle.nl_frame.specs.Front.{span_at, broken_message, IsFrame}
+use Rattle.nl_frame.specs.Front.{broken_message, IsFrame}
 use Rattle.nl_frame.specs.Broken.{IsBrokenHead, IsBrokenIn, message_facts}
 use Rattle.nl_frame.specs.Heads.{AnyHead, header, inner, Rest, HeadAt, some_inner, behind, region_in, region_of, heads, whole}
 use Rattle.nl_frame.specs.Taped.{IsTaped, IsFrameTaped}
 use Rattle.nl_frame.specs.HeadOrder.{Trail, region_trail, trail_of, visits_of, event_of, header_event}
 use Rattle.nl_frame.proofs.Fronts.{Reaches, reaches_on}
 use Rattle.nl_frame.proofs.Firsts.{any_visits}
-use Rattle.nl_frame.proofs.Scan.{laws}
-use Rattle.nl_frame.proofs.Trails.{trail_ends, trail_stops, trail_goes}
+use Rattle.nl_frame.proofs.Scan.{laws, trail_ends, trail_stops, trail_goes}
 
 module _ (S : Shape) where
   -- ---- a body

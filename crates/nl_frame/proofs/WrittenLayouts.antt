@@ -23,7 +23,7 @@ use Rattle.nl_frame.specs.declared.form.Form.{Form}
 use Rattle.nl_frame.specs.declared.form.Form.TheVariants as form
 use Rattle.nl_frame.specs.Header.{header_fields}
 use Rattle.nl_frame.specs.Form.{form_for, form_of}
-use Rattle.nl_frame.specs.Message.{BodyVal, noop, error, done, overrun, object, get, other, MessageVal}
+use Rattle.nl_frame.specs.Message.{BodyVal, error, done, object, get, MessageVal}
 use Rattle.nl_frame.specs.Layout.{BodyOf, Layout}
 use Rattle.nl_frame.specs.Written.{body_len, header_for, body_written, message_item, written, written_len}
 use Rattle.nl_frame.specs.Proper.{IsMismatchedBody, IsMismatched, IsDeepBody, IsDeep, IsLongBody, HasLong, IsProper, IsRangedBody, IsRanged}

@@ -13,7 +13,6 @@ pub mod Written
 pub mod Proper
 pub mod OneList
 pub mod Measured
-pub mod Compared
 pub mod Broken
 pub mod HeadOrder
 pub mod Taped

@@ -10,7 +10,7 @@ ghost use Rattle.nl_frame.specs.Header.{header_fields};
 ghost use Rattle.nl_frame.specs.View.{body_view, message_view};
 ghost use Rattle.nl_frame.specs.Written.{body_len, body_written, message_item, written};
 ghost use Rattle.nl_frame.specs.Proper.{IsMismatched, IsLong};
-ghost use Rattle.nl_frame.specs.Compared.{AreSized};
+ghost use Rattle.nl_frame.specs.Measured.{AreSized};
 ghost use Rattle.nl_frame.specs.Measured.{IsSizedBody};
 
 use crate::body::{Body, Message};

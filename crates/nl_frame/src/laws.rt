@@ -50,7 +50,7 @@ pub fn one_head_at_fault()
 
 /// Within allowed limits, the layout of a datagram is its one list: it is written within the same
 /// limits, and the bytes written have it for their one layout again.
-#[tactic(auto, using(crate::proofs::OneList::the_list))]
+#[tactic(auto, using(crate::proofs::ProperLayouts::the_list))]
 pub fn written_back()
     ensures { (b : Bounds) (d : List ℕ) (ms : List MessageVal) → AreLimits b → AreBytes d
         → length d ≤ b.datagram → Layout b.shape ms d → IsTheList b d ms }

@@ -4,7 +4,7 @@ use Rattle.nl_frame.specs.declared.body.Message.{Message}
 use Rattle.nl_frame.specs.Layout.{Layout}
 use Rattle.nl_frame.specs.OneList.{IsTheList}
 use Rattle.nl_frame.specs.View.{message_view}
-use Rattle.nl_frame.proofs.OneList.{the_list}
+use Rattle.nl_frame.proofs.ProperLayouts.{the_list}
 use Rattle.nl_frame.proofs.Within.{within}
 use Rattle.nl_frame.proofs.canonical.is_canonical.Goals as goal
 

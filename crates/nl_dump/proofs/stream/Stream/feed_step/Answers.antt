@@ -1,7 +1,7 @@
 use Rattle.std.proofs.Common.{◌+◌, ◌≤◌, IfOk, Err, true, length, sym, ◌∙◌, subst, arith}
 use Rattle.nl_dump.specs.declared.standing.Standing.{Standing}
 use Rattle.nl_dump.specs.declared.straining.Strained.{Strained}
-use Rattle.nl_dump.specs.Strained.{Strains}
+use Rattle.nl_dump.specs.Inside.{Strains}
 use Rattle.nl_dump.specs.Streams.{StreamFed}
 use Rattle.nl_dump.proofs.Streaming.{fed_err, possible_ok}
 use Rattle.nl_dump.proofs.stream.Stream.feed_step.Goals as goal

@@ -1,0 +1,111 @@
+-- What a datagram and its messages become, inside the program. No public clause cites this module.
+use Rattle.std.specs.Prelude.{◌≡◌, ◌+◌, ℕ, Bool, List, length, map, Option, Some, None, is_some, ◌<◌, ◌≤◌, Result, Ok, Err, true, false}
+use Rattle.std.specs.List.{AllByRecursion}
+use Rattle.std.specs.declared.vec.Vec.{Vec}
+use Rattle.nl_frame.specs.Message.{MessageVal}
+use Rattle.nl_frame.specs.Limits.{Bounds}
+use Rattle.nl_frame.specs.Layout.{Layout}
+use Rattle.nl_frame.specs.Heads.{IsFirstFault, Visits, whole}
+use Rattle.nl_frame.specs.HeadOrder.{events_of}
+use Rattle.nl_frame.specs.declared.scanning.ScanError.{ScanError}
+use Rattle.nl_frame.specs.declared.scanning.ScanError.TheVariants as unscanned
+use Rattle.nl_dump.specs.declared.dump.Dump.{Dump}
+use Rattle.nl_dump.specs.declared.dump.End.{End}
+use Rattle.nl_dump.specs.declared.role.Role.{Role}
+use Rattle.nl_dump.specs.declared.role.Role.TheVariants.{Item as Brings, End as Ends, Other}
+use Rattle.nl_dump.specs.declared.putting.Taken.{Taken}
+use Rattle.nl_dump.specs.declared.errors.FeedError.{FeedError}
+use Rattle.nl_dump.specs.declared.errors.FeedError.TheVariants as feed
+use Rattle.nl_dump.specs.declared.errors.StreamError.{StreamError}
+use Rattle.nl_dump.specs.declared.errors.StreamError.TheVariants.{TooLarge, Layout as Fault, Room}
+use Rattle.nl_dump.specs.declared.tables.Tables.{Tables}
+use Rattle.nl_dump.specs.declared.sifting.Sifted.{Sifted}
+use Rattle.nl_dump.specs.declared.straining.Strained.{Strained}
+use Rattle.nl_dump.specs.Items.{Item}
+use Rattle.nl_dump.specs.Answer.{item_in, end_in, items_of, end_of, interrupted_of, one_if}
+use Rattle.nl_dump.specs.View.{table_at}
+use Rattle.nl_dump.specs.Steps.{IsProgressOf, PutInto}
+use Rattle.nl_dump.specs.Handed.{item_events}
+use Rattle.nl_attr.specs.declared.events.Event.{Event}
+use Rattle.nl_attr.specs.HeadOrder.{put_from}
+
+-- a message is sorted as an item, as an end, or as neither
+abbrev pub HasRole : {T : Type 0} → (T → Item) → Dump → MessageVal → Role T → Type 0
+HasRole item d m (Brings x) = (item_in d m ≡ Some (item x)) × (end_in d m ≡ None)
+HasRole item d m (Ends e) = (item_in d m ≡ None) × (end_in d m ≡ Some e)
+HasRole item d m Other = (item_in d m ≡ None) × (end_in d m ≡ None)
+
+-- so many of the messages are neither items nor the end, and so the dump was interrupted and ended
+pub record Sums (d : Dump) (ms : List MessageVal) (ignored : ℕ) (interrupted : Bool) (end : Option End) : Type 0 where
+  pub ignored_is : ignored + (length (items_of d ms) + one_if (is_some (end_of d ms))) ≡ length ms
+  pub interrupted_is : interrupted ≡ interrupted_of d ms
+  pub end_is : end ≡ end_of d ms
+
+-- the messages are sorted so: the items with their keys, how many are ignored, whether the dump was interrupted, and how it ended
+pub record Sorts {Z T : Type 0} (item : T → Item) (key : T → List ℕ) (d : Dump) (ms : List MessageVal)
+    (pairs : List (Vec ℕ Z × T)) (ignored : ℕ) (interrupted : Bool) (end : Option End) : Type 0 where
+  pub items : map (λ p. item p.1) pairs ≡ items_of d ms
+  pub keyed : AllByRecursion (λ p. p.0.items ≡ key p.1) pairs
+  pub sums : Sums d ms ignored interrupted end
+
+-- ---- what becomes of the messages of a datagram
+
+-- the progress, whether the dump was interrupted, and its end, where there is one
+abbrev pub IsSummaryOf : Dump → List MessageVal → Taken → Type 0
+IsSummaryOf d ms t = IsProgressOf d ms t.progress × (t.interrupted ≡ interrupted_of d ms) × (t.end ≡ end_of d ms)
+
+module _ (b : Bounds) (d : Dump) (bytes : List ℕ) (before : Tables) where
+  -- a datagram was read into the tables so, with so many visits
+  abbrev pub Took : Result Taken FeedError → ℕ → Tables → Type 0
+  Took (Ok t) visits after =
+      (length bytes ≤ b.datagram)
+      × ((ms : List MessageVal) × Layout b.shape ms bytes × Visits b.shape (whole bytes) (length bytes) visits
+      × PutInto (table_at d.kind before).order d.kind (items_of d ms) before after × IsSummaryOf d ms t)
+  Took (Err feed.TooLarge) visits after = (b.datagram < length bytes) × (visits ≡ 0) × (after ≡ before)
+  Took (Err (feed.Layout f)) visits after =
+      (length bytes ≤ b.datagram) × IsFirstFault b.shape (whole bytes) f.place f.reason
+      × Visits b.shape (whole bytes) f.place visits × (after ≡ before)
+  Took (Err feed.Memory) visits after = (length bytes ≤ b.datagram) × (after ≡ before)
+  Took (Err e) visits after = ⊥
+
+-- ---- what a datagram leaves of a stream's buffer
+
+-- a refusal of a scan
+abbrev pub scan_refusal : ScanError → StreamError
+scan_refusal unscanned.TooLarge = TooLarge
+scan_refusal (unscanned.Layout b) = Fault b.fault
+
+-- the buffer is too short
+abbrev pub is_room : StreamError → Bool
+is_room (Room n) = true
+is_room e = false
+
+-- what was sifted, as it is answered
+abbrev pub strained_of : Sifted → Strained
+strained_of s = record {
+  streamed = record { progress = record { items = s.items; ignored = s.ignored; ended = is_some s.end }; events = s.events };
+  interrupted = s.interrupted;
+  end = s.end;
+}
+
+module _ (b : Bounds) (d : Dump) (bytes : List ℕ) (old : List Event) where
+  -- the events of its heads
+  abbrev pub all_events : List Event
+  all_events = events_of b.shape (whole bytes)
+
+  -- a datagram was gone over so, with so many visits
+  abbrev pub Strains : Result Strained StreamError → ℕ → List Event → Type 0
+  Strains (Ok s) visits new =
+      (length bytes ≤ b.datagram)
+      × ((ms : List MessageVal) × Layout b.shape ms bytes × Visits b.shape (whole bytes) (length bytes) visits
+      × IsProgressOf d ms s.streamed.progress × (s.interrupted ≡ interrupted_of d ms) × (s.end ≡ end_of d ms)
+      × (length all_events ≤ length old) × (new ≡ put_from 0 (item_events b.shape d ms bytes) (put_from 0 all_events old))
+      × (s.streamed.events ≡ length (item_events b.shape d ms bytes)))
+  Strains (Err TooLarge) visits new = (b.datagram < length bytes) × (visits ≡ 0) × (new ≡ old)
+  Strains (Err (Fault f)) visits new =
+      (length bytes ≤ b.datagram) × IsFirstFault b.shape (whole bytes) f.place f.reason
+      × Visits b.shape (whole bytes) f.place visits × (new ≡ put_from 0 all_events old)
+  Strains (Err (Room n)) visits new =
+      (length bytes ≤ b.datagram) × ((ms : List MessageVal) × Layout b.shape ms bytes)
+      × (n ≡ length all_events) × (length old < n) × (new ≡ put_from 0 all_events old)
+  Strains (Err e) visits new = ⊥
