@@ -117,6 +117,7 @@ impl Stream {
     /// can be fed again with more room. After the others the state, `ignored` and `interrupted` are
     /// as before, and `damaged` is set; all but `Total` raise `received` by the length and `visits`
     /// by what was visited. What stands in `out` after a refusal is of no use.
+    #[tactic(auto, using(crate::proofs::Streaming::every))]
     pub fn feed(&mut self, bytes: &[u8], out: &mut [Event]) -> Result<Streamed, StreamError>
         ensures step { StreamFed self.old bytes.now out.old result self.new out.new }
         ensures possible { IsPossible self.new }

@@ -1,15 +1,16 @@
 -- What is measured of messages, one after the other.
-use Rattle.std.proofs.Common.{◌≡◌, ℕ, ◌+◌, ◌≤◌, Bool, true, false, cond, ltb, ◌||◌, List, [], ◌∷◌, Option, Some, None, IfSome, refl, subst, arith, inl, inr}
+use Rattle.std.proofs.Common.{◌≡◌, ℕ, ◌+◌, ◌≤◌, Bool, true, false, cond, ltb, ◌||◌, List, [], ◌∷◌, Option, Some, None, IfSome, refl, ap, ◌∙◌, subst, arith, inl, inr}
 use Rattle.std.proofs.lemmas.Bool.{ltb-true, ltb-false}
 use Rattle.std.specs.Prelude.{◌⊎◌, ◌↔◌, IsTrue}
 use Rattle.nl_attr.specs.Fixed.{LONGEST_REGION}
 use Rattle.nl_attr.specs.declared.measuring.Extent.{Extent}
+use Rattle.nl_attr.specs.Numbers.{aligned}
 use Rattle.nl_attr.specs.Measured.{region_len, empty_extent, join}
 use Rattle.nl_frame.specs.Form.{form_of}
-use Rattle.nl_frame.specs.Message.{MessageVal}
+use Rattle.nl_frame.specs.Message.{BodyVal, MessageVal}
 use Rattle.nl_frame.specs.Written.{written_len}
 use Rattle.nl_frame.specs.Proper.{IsMismatchedBody, IsMismatched, IsDeepBody, IsDeep, HasLong, IsLong}
-use Rattle.nl_frame.specs.Measured.{IsMessageLen, IsSized, IsLen}
+use Rattle.nl_frame.specs.Measured.{IsBodyLen, IsMessageLen, IsSized, IsLen}
 
 -- what is measured of whole, where rest is left
 abbrev pub IsPart : List MessageVal → List MessageVal → Option ℕ → Type 0
@@ -87,3 +88,9 @@ len_is_long ms (Some n) l = (λ e. absurd (cc), λ long. absurd (short long)) wh
 pub lens_are_long : (ms : List MessageVal) (o : Option Extent) → IfSome o (λ e. IsLen ms e.len) → IfSome o (λ e. (e.len ≡ None) ↔ IsLong ms)
 lens_are_long ms None l = tt
 lens_are_long ms (Some e) l = len_is_long ms e.len l
+
+-- a message, by the length of its body
+pub message_len : (c : BodyVal) (o : Option ℕ) (n m : ℕ) → IsBodyLen c o → o ≡ Some n → m ≡ aligned (16 + n) → IsMessageLen c (Some m)
+message_len c o n m h is e =
+    let k = subst (IsBodyLen c) is h in
+    (e ∙ ap (λ n. aligned (16 + n)) k.0, omega (arith, e, k.1), k.2, k.3)

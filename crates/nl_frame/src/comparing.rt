@@ -120,6 +120,7 @@ fn begins_with_messages(messages: &[Message], order: Order, bytes: &[u8]) -> Opt
 /// order. It takes no memory: messages and bytes are gone over side by side.
 ///
 /// Messages that were read of a datagram are neither mismatched nor too long.
+#[tactic(auto, using(crate::proofs::Beginnings::messages_are_sized))]
 pub(crate) fn are_written(messages: &[Message], order: Order, bytes: &[u8]) -> bool
     requires matched { IsMismatched (map message_view messages.now) → ⊥ }
     requires short { IsLong (map message_view messages.now) → ⊥ }

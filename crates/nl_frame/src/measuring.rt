@@ -70,6 +70,7 @@ fn measure_body(body: &Body, form: Form, depth: Depth) -> Option<Extent>
 }
 
 /// A message with its header and its padding.
+#[tactic(auto, using(crate::proofs::Extents::message_len))]
 fn measure_message(message: &Message, depth: Depth) -> Option<Extent>
     ensures mismatch { (result ≡ None)
         ↔ IsMismatchedBody (body_view message.now.body) (form_of message.now.kind) }
