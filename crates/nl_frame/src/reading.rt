@@ -9,6 +9,8 @@ ghost use Rattle.nl_frame.specs.Form.{least_body};
 ghost use Rattle.nl_frame.specs.Reading.{message_of, body_at, messages_of};
 ghost use Rattle.nl_frame.specs.View.{message_view};
 ghost use Rattle.nl_frame.specs.Message.{MessageVal};
+ghost use Rattle.nl_frame.specs.Outcomes.{read_code, read_error};
+ghost use Rattle.nl_frame.specs.declared.reading.ReadError.TheVariants.{Memory};
 
 use crate::body::{Body, Message};
 use crate::front::{Frame, front};
@@ -33,8 +35,6 @@ pub enum ReadError {
 }
 
 impl ReadError {
-    ghost use Rattle.nl_frame.specs.Outcomes.{read_code};
-
     /// The number of this refusal: that of the fault's reason, 6 for too large, 13 for memory.
     pub fn code(self) -> u8
         ensures { result ≡ read_code self }
@@ -48,8 +48,6 @@ impl ReadError {
 }
 
 impl From<ListError> for ReadError {
-    ghost use Rattle.nl_frame.specs.Outcomes.{read_error};
-
     ghost from_gives = { λ refusal e. e ≡ read_error refusal };
 
     fn from(refusal: ListError) -> ReadError {
@@ -61,8 +59,6 @@ impl From<ListError> for ReadError {
 }
 
 impl From<AllocError> for ReadError {
-    ghost use Rattle.nl_frame.specs.declared.reading.ReadError.TheVariants.{Memory};
-
     ghost from_gives = { λ _ e. e ≡ Memory };
 
     fn from(_error: AllocError) -> ReadError {
@@ -71,8 +67,6 @@ impl From<AllocError> for ReadError {
 }
 
 impl<T: Drop> From<AllocFailed<T>> for ReadError {
-    ghost use Rattle.nl_frame.specs.declared.reading.ReadError.TheVariants.{Memory};
-
     ghost from_gives = { λ _ e. e ≡ Memory };
 
     fn from(_error: AllocFailed<T>) -> ReadError {

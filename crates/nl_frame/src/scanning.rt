@@ -4,7 +4,8 @@ ghost use Rattle.std.specs.Prelude.{◌≡◌, ◌≤◌, ◌<◌, ◌*◌, leng
 ghost use Rattle.nl_attr.specs.HeadOrder.{put_from};
 ghost use Rattle.nl_frame.specs.Heads.{whole};
 ghost use Rattle.nl_frame.specs.Scans.{ScansDatagram};
-ghost use Rattle.nl_frame.specs.Taped.{Ends};
+ghost use Rattle.nl_frame.specs.Outcomes.{read_code};
+ghost use Rattle.nl_frame.specs.Taped.{Ends, read_refusal};
 ghost use Rattle.nl_frame.specs.HeadOrder.{events_of};
 
 use crate::limits::Limits;
@@ -24,9 +25,6 @@ pub enum ScanError {
 }
 
 impl ScanError {
-    ghost use Rattle.nl_frame.specs.Taped.{read_refusal};
-    ghost use Rattle.nl_frame.specs.Outcomes.{read_code};
-
     /// The number of this refusal: that of the fault's reason, or 6 for too large.
     pub fn code(self) -> u8
         ensures { result ≡ read_code (read_refusal self) }

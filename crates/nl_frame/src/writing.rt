@@ -5,6 +5,8 @@ ghost use Rattle.nl_frame.specs.View.{message_view};
 ghost use Rattle.nl_frame.specs.Layout.{Layout};
 ghost use Rattle.nl_frame.specs.Written.{written};
 ghost use Rattle.nl_frame.specs.Proper.{IsRanged, IsRefused};
+ghost use Rattle.nl_frame.specs.Outcomes.{write_code, write_error};
+ghost use Rattle.nl_frame.specs.declared.writing.WriteError.TheVariants.{Memory};
 
 use crate::appending::append_messages;
 use crate::body::Message;
@@ -38,8 +40,6 @@ pub enum WriteError {
 }
 
 impl WriteError {
-    ghost use Rattle.nl_frame.specs.Outcomes.{write_code};
-
     /// The number of this refusal: 11, 5, 4, 6 or 13, in the order of the variants.
     pub fn code(self) -> u8
         ensures { result ≡ write_code self }
@@ -55,8 +55,6 @@ impl WriteError {
 }
 
 impl From<nl_attr::WriteError> for WriteError {
-    ghost use Rattle.nl_frame.specs.Outcomes.{write_error};
-
     ghost from_gives = { λ refusal e. e ≡ write_error refusal };
 
     fn from(refusal: nl_attr::WriteError) -> WriteError {
@@ -70,8 +68,6 @@ impl From<nl_attr::WriteError> for WriteError {
 }
 
 impl From<AllocError> for WriteError {
-    ghost use Rattle.nl_frame.specs.declared.writing.WriteError.TheVariants.{Memory};
-
     ghost from_gives = { λ _ e. e ≡ Memory };
 
     fn from(_error: AllocError) -> WriteError {
