@@ -66,7 +66,7 @@ enum rtnlc_code {
 	RTNLC_SAME_SEQ = 10,    /* the sequence number is that of the dump before */
 	RTNLC_MISMATCH = 11,    /* a value is of another kind than its attribute holds */
 	RTNLC_BAD_LIMIT = 12,   /* one of the options is out of its range; nothing was looked at */
-	RTNLC_NO_MEMORY = 13,   /* a growth was refused */
+	RTNLC_NO_MEMORY = 13,   /* an allocation was refused */
 	RTNLC_NO_ROOM = 17,     /* the buffer has less room than the answer needs, which is told */
 	RTNLC_NO_STREAM = 18,   /* null, or what no call leaves in a struct rtnlc_stream */
 	RTNLC_NO_KIND = 19,     /* the message type is of no family that is dumped */
@@ -144,7 +144,7 @@ struct rtnlc_taped {
 	uint8_t code;    /* as for rtnlc_scan */
 };
 
-/* As rtnlc_scan, and puts an event for each head into `out`, in the order of their places: each
+/* As rtnlc_scan, and puts an event for each head into `out`, in the order of their offsets: each
  * message, and behind it the heads in it. As many as fit are put, which are `count` or `room`, the
  * lesser, and the rest of `out` is as it was. On a fault those are the heads before it, and that
  * of a container which is too long or too deep itself; on RTNLC_TOO_LARGE and RTNLC_BAD_LIMIT
@@ -183,9 +183,9 @@ struct rtnlc_hop {
 	uint8_t code;    /* as for rtnlc_attr */
 };
 
-/* What stands at a place: a message of a datagram, an attribute or a next hop of a region, which
+/* What stands at an offset: a message of a datagram, an attribute or a next hop of a region, which
  * is a part of a datagram. Begin at 0 and go on at `next`, until the code is not RTNLC_OK. Nothing
- * but the head at that place is looked at. Bytes above 1,048,576 are RTNLC_TOO_LARGE. Where the
+ * but the head at that offset is looked at. Bytes above 1,048,576 are RTNLC_TOO_LARGE. Where the
  * code is not RTNLC_OK, `next` is the place, and the other fields are 0. */
 RTNLC_READS(1, 2)
 struct rtnlc_message rtnlc_message_at(const uint8_t *bytes, size_t len, uint32_t place, bool big);
@@ -194,10 +194,10 @@ struct rtnlc_attr rtnlc_attr_at(const uint8_t *bytes, size_t len, uint32_t place
 RTNLC_READS(1, 2)
 struct rtnlc_hop rtnlc_hop_at(const uint8_t *bytes, size_t len, uint32_t place, bool big);
 
-/* The first attribute of this number (without the two flag bits) at a place of a region or behind
+/* The first attribute of this number (without the two flag bits) at an offset of a region or behind
  * it: the one that counts, where a number stands twice. Heads before it are looked at, one after
  * another, their payloads are not. RTNLC_END where there is none; RTNLC_CUT or RTNLC_BAD_LENGTH at
- * the first head that breaks a rule, with its place; RTNLC_TOO_LARGE as above. */
+ * the first head that breaks a rule, with its offset; RTNLC_TOO_LARGE as above. */
 RTNLC_READS(1, 2)
 struct rtnlc_attr rtnlc_find(const uint8_t *bytes, size_t len, uint32_t place, uint16_t number,
                              bool big);
@@ -344,7 +344,7 @@ uint8_t rtnlc_session_abandon(struct rtnlc_session *s);
 struct rtnlc_status rtnlc_session_status(struct rtnlc_session *s);
 
 struct rtnlc_table {
-	uint64_t missed; /* how often a new entry had no place */
+	uint64_t missed; /* how often a new entry found no room */
 	uint32_t count;  /* entries */
 	uint32_t limit;
 	uint8_t code;    /* RTNLC_OK, RTNLC_NO_KIND or RTNLC_NO_SESSION */
