@@ -1,8 +1,9 @@
--- Hexadecimal digits, as they are written.
-use Rattle.std.proofs.Common.{◌≡◌, ◌==◌, ℕ, zero, suc, ◌+◌, ◌-◌, ◌*◌, ◌/◌, ◌%◌, ◌<◌, ◌≤◌, Bool, true, false, ◌&&◌, if◌then◌else◌, List, [], ◌∷◌, ◌++◌, length, replicate, refl, sym, ap, ◌∙◌, arith, append-nil, append_assoc, length-append, slice_index, eqb-true, inl, inr, rules}
-use Rattle.std.specs.Prelude.{nat_lt}
-use Rattle.std.specs.Fmt.{digits, digits_onto, digit_glyph}
-use Rattle.std.proofs.lemmas.Bool.{and_parts, cases_lt}
+-- Digits, as they are written.
+use Rattle.std.proofs.Common.{◌≡◌, ◌==◌, ℕ, zero, suc, ℤ, pos, negsuc, ◌+◌, ◌-◌, ◌*◌, ◌/◌, ◌%◌, ◌^◌, ◌<◌, ◌≤◌, Bool, true, false, ◌&&◌, if◌then◌else◌, List, [], ◌∷◌, ◌++◌, length, replicate, decimal, refl, sym, ap, ◌∙◌, arith, append-nil, append_assoc, length-append, slice_index, eqb-true, inl, inr, rules}
+use Rattle.std.specs.Prelude.{int_lt, nat_lt, unsigned_abs}
+use Rattle.std.specs.Fmt.{digits, digits_onto, digit_glyph, signed_decimal}
+use Rattle.std.proofs.lemmas.Bool.{agree_below_at, cases_lt}
+use Rattle.std.proofs.lemmas.Fmt.{length-decimal-le}
 use Rattle.std.proofs.lemmas.List.{replicate-append-replicate}
 use Rattle.hex.specs.Hex.{encode_lower, encode_with, lower_digits}
 use Rattle.rtnl.specs.Text.{padded_hex}
@@ -11,27 +12,9 @@ use Rattle.rtnl.specs.Text.{padded_hex}
 abbrev digit : ℕ → ℕ
 digit n = slice_index lower_digits n
 
--- the numbers below n have the digits that are printed
-abbrev all_same : ℕ → Bool
-all_same zero = true
-all_same (suc n) = (digit_glyph false n == digit n) && all_same n
-
-all_sixteen : all_same 16 ≡ true
-all_sixteen = refl
-
-same_below : (n k : ℕ) → all_same n ≡ true → k < n → digit_glyph false k ≡ digit k
-same_below zero k h lt = absurd (omega arith)
-same_below (suc n) k h lt =
-    let parts = and_parts (digit_glyph false n == digit n) (all_same n) h in
-    elim (cases_lt k n) [
-      | inl below ↦ same_below n k parts.1 below
-      | inr top ↦
-          let e : k ≡ n = omega arith in
-          rw e (eqb-true _ _ parts.0)
-    ]
-
+-- it is the digit that is printed
 glyph : (k : ℕ) → k < 16 → digit_glyph false k ≡ digit k
-glyph k small = same_below 16 k all_sixteen small
+glyph k small = eqb-true _ _ (agree_below_at (λ n. digit_glyph false n == digit n) (λ n. true) 16 k refl small)
 
 -- how many numbers have k + 1 digits or fewer
 abbrev room : ℕ → ℕ
@@ -177,3 +160,19 @@ encode_with-append t (x ∷ xs) ys = ap (λ rest. slice_index t (x / 16) ∷ sli
 -- bytes one after another in digits
 pub digits_append : (xs ys : List ℕ) → encode_lower (xs ++ ys) ≡ encode_lower xs ++ encode_lower ys
 digits_append xs ys = encode_with-append lower_digits xs ys
+
+-- ---- numbers in decimal digits
+
+-- a number of 64 bits has twenty digits or fewer
+pub twenty_digits : (n : ℕ) → n < 2 ^ 64 → length (decimal n) ≤ 20
+twenty_digits n fits = length-decimal-le 20 n (omega arith) (omega arith) (omega arith)
+
+-- a number below zero has a sign
+pub below_zero : (z : ℤ) → int_lt z (pos 0) ≡ true → signed_decimal z ≡ 45 ∷ decimal (unsigned_abs z)
+below_zero (pos n) below = let none : n < 0 = search rules in absurd (omega (arith, none))
+below_zero (negsuc n) below = refl
+
+-- any other has none
+pub not_below_zero : (z : ℤ) → int_lt z (pos 0) ≡ false → signed_decimal z ≡ decimal (unsigned_abs z)
+not_below_zero (pos n) other = refl
+not_below_zero (negsuc n) other = absurd cc

@@ -6,6 +6,7 @@ use Rattle.json.specs.Json.{Json}
 use Rattle.json.specs.Print.{begins, ends, escape, escape_byte, print, print_from, quoted, separator, token_text}
 use Rattle.json.specs.Run.{is_plain}
 use Rattle.json.specs.Token.{Token, begin_array, begin_object, boolean, end_array, end_object, key, null}
+use Rattle.json.specs.Token as token
 use Rattle.json.specs.Tree.{items_tokens, json_tokens, members_tokens}
 use Rattle.json.proofs.Printed.Strings.{escape_byte_plain}
 use Rattle.rtnl.specs.Json.{Field, IsUnescaped, Line, ◌⊕◌, array, behind, closed, comma, fields_tokens, is_unescaped, items_of, json_line, members_of, object, object_behind, opened, put, string, value_text, values_tokens}
@@ -205,3 +206,33 @@ truth_written w = opens w (boolean true) [] (codes "true") true refl refl refl
 pub falsehood_written : (w : Line) → opened w (codes "false") true ≡ w ⊕ (boolean false ∷ [])
 unfolding print_from
 falsehood_written w = opens w (boolean false) [] (codes "false") true refl refl refl
+
+-- ---- tokens that are written in parts
+
+-- tokens that are put together, of which the first is a key
+pub tokens_put : (w : Line) (name : List ℕ) (ts : List Token) → w ⊕ (key name ∷ ts) ≡ opened w (print (key name ∷ ts)) (ended false (key name ∷ ts))
+tokens_put w name ts = sym (opens w (key name) ts _ _ refl refl refl)
+
+-- a number
+pub digits_written : (w : Line) (digits : List ℕ) → w ⊕ (token.number digits ∷ []) ≡ record { text = (w.text ++ (comma w.after ++ [])) ++ digits; after = true }
+digits_written w digits = sym (one_token w (opened w [] true) [] digits true (token.number digits) _ refl refl refl refl refl)
+
+-- a string
+pub quoted_written : (w : Line) (text : List ℕ) → w ⊕ (token.string text ∷ []) ≡ record { text = (w.text ++ (comma w.after ++ [])) ++ quoted text; after = true }
+quoted_written w text = sym (one_token w (opened w [] true) [] (quoted text) true (token.string text) _ refl refl refl refl refl)
+
+-- a string that needs no escape
+pub plain_written : (w : Line) (text : List ℕ) → IsUnescaped text → w ⊕ (token.string text ∷ []) ≡ record { text = ((w.text ++ (comma w.after ++ codes "\"")) ++ text) ++ codes "\""; after = true }
+plain_written w text plain =
+    sym (one_token w (opened w (codes "\"") true) (codes "\"") (text ++ codes "\"") true (token.string text) _ refl (append_assoc _ text (codes "\"")) refl
+    (ap (λ s. 34 ∷ (s ++ codes "\"")) (sym (no_escape text plain))) refl)
+
+-- the name of a field
+pub key_written : (w : Line) (name : List ℕ) → IsUnescaped name → w ⊕ (key name ∷ []) ≡ record { text = ((w.text ++ (comma w.after ++ codes "\"")) ++ name) ++ codes "\":"; after = false }
+key_written w name plain =
+    sym (one_token w (opened w (codes "\"") false) (codes "\"") (name ++ codes "\":") false (key name) _ refl (append_assoc _ name (codes "\":")) refl
+    (ap (λ s. 34 ∷ (s ++ codes "\":")) (sym (no_escape name plain)) ∙ sym (append_assoc (34 ∷ escape name) (codes "\"") (codes ":"))) refl)
+
+-- a text in quotes
+pub quoted_behind : (out text : List ℕ) → IsUnescaped text → out ++ quoted text ≡ ((out ++ codes "\"") ++ text) ++ codes "\""
+quoted_behind out text plain = rw (no_escape text plain) (simp append_assoc)

@@ -12,12 +12,9 @@ mod Json
 mod KnownBytes
 mod Listing
 mod PieceEnds
-mod Plain
-mod ReadLines
 mod Reading
 mod Running
 mod Sets
-mod Short
 mod Showing
 mod Taping
 mod Trees

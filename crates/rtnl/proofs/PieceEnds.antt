@@ -4,7 +4,7 @@ use Rattle.std.specs.Prelude.{slice_range}
 use Rattle.std.proofs.lemmas.Bool.{cases_lt}
 use Rattle.std.proofs.lemmas.List.{drop-append-le, get_or_read, length-drop, take-append-le, take_all}
 use Rattle.std.proofs.Math.Seq.{drop-append_seam}
-use Rattle.rtnl.specs.Pieces.{Rise, pieces}
+use Rattle.rtnl.specs.Lines.{Rise, pieces}
 
 -- there is a piece for each end
 pub length-pieces : (start : ℕ) (bytes ends : List ℕ) → length (pieces start bytes ends) ≡ length ends

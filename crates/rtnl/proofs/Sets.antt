@@ -1,7 +1,8 @@
 -- The lemmas that the goals of several functions want, by the names under which their attributes bring them.
 use Rattle.std.proofs.Common.{append_assoc, append-nil}
-use Rattle.rtnl.proofs.Json.{more, more_fields, one_field, tokens_array, tokens_object}
-use Rattle.rtnl.proofs.Short.{short_name}
+use Rattle.std.proofs.Math.ListN.{drop_of_length-le}
+use Rattle.rtnl.proofs.Json.{more, more_fields, no_more, one_field, tokens_array, tokens_object}
+use Rattle.rtnl.proofs.Unescaped.{short_name}
 use Rattle.rtnl.proofs.KnownBytes.{appends_more, appends_none, prefix_of, whole}
 use Rattle.rtnl.proofs.Trees.{inline_list, inline_hops}
 
@@ -25,3 +26,6 @@ pub ruleset gives = (appends_more, appends_none, prefix_of, whole)
 
 -- an object or an array, a token after another
 pub ruleset whole_value = (more, one_field, tokens_object, tokens_array, append_assoc, append-nil)
+
+-- values of which none is left
+pub ruleset all_written = (drop_of_length-le, no_more)

@@ -1,7 +1,11 @@
--- Texts that stand for themselves in a string of JSON.
-use Rattle.std.proofs.Common.{◌≡◌, ℕ, zero, suc, ◌+◌, ◌*◌, ◌/◌, ◌%◌, ◌<◌, ◌^◌, ◌&&◌, ◌==◌, Bool, true, List, [], ◌∷◌, ◌++◌, refl, rules, arith, codes, decimal, slice_index, inl, inr}
-use Rattle.std.proofs.lemmas.Bool.{and_parts, cases_Bool, cases_lt}
+-- Texts that stand for themselves, in a string of JSON or as UTF-8.
+use Rattle.std.proofs.Common.{◌≡◌, ℕ, zero, suc, ◌+◌, ◌*◌, ◌/◌, ◌%◌, ◌<◌, ◌≤◌, ◌^◌, ◌&&◌, ◌==◌, Bool, true, List, [], ◌∷◌, ◌++◌, length, refl, rules, arith, codes, decimal, slice_index, inl, inr}
+use Rattle.std.specs.Prelude.{nat_le}
+use Rattle.std.proofs.lemmas.Bool.{agree_below_at, and_parts, cases_Bool}
+use Rattle.std.specs.List.{list_all}
+use Rattle.std.specs.Str.{IsUtf8}
 use Rattle.std.proofs.lemmas.Fmt.{decimal_by_steps}
+use Rattle.std.proofs.lemmas.Str.{IsUtf8-from_ascii}
 use Rattle.hex.specs.Hex.{encode_lower, encode_with, lower_digits}
 use Rattle.json.specs.Run.{is_plain}
 use Rattle.nl_attr.specs.declared.tree.Ctx.{Ctx}
@@ -14,6 +18,7 @@ use Rattle.rtnl.specs.Attributes.{attribute_name, attribute_rows, row_of}
 use Rattle.rtnl.specs.Json.{IsUnescaped, is_unescaped}
 use Rattle.rtnl.specs.Named.{Named, find_named, name_in}
 use Rattle.rtnl.specs.Text.{padded_hex}
+use Rattle.rtnl.specs.Values as values
 use Rattle.rtnl.specs.Values.{group_at, groups_text, ipv4_text, ipv6_text}
 use Rattle.rtnl.proofs.Digits.{four_digits}
 
@@ -27,21 +32,9 @@ unescaped_append (x ∷ a) b p q =
     let parts = and_parts (is_plain x) (is_unescaped a) p in
     both _ _ parts.0 (unescaped_append a b parts.1 q)
 
--- the first n digits are
-abbrev all_plain : ℕ → Bool
-all_plain zero = true
-all_plain (suc n) = is_plain (slice_index lower_digits n) && all_plain n
-
-below : (n k : ℕ) → all_plain n ≡ true → k < n → is_plain (slice_index lower_digits k) ≡ true
-below zero k h lt = absurd (omega arith)
-below (suc n) k h lt =
-    let parts = and_parts (is_plain (slice_index lower_digits n)) (all_plain n) h in
-    elim (cases_lt k n) [
-      | inl less ↦ below n k parts.1 less
-      | inr top ↦
-          let e : k ≡ n = omega arith in
-          rw e parts.0
-    ]
+-- a hexadecimal digit
+plain_digit : (k : ℕ) → k < 16 → is_plain (slice_index lower_digits k) ≡ true
+plain_digit k small = agree_below_at (λ n. is_plain (slice_index lower_digits n)) (λ n. true) 16 k refl small
 
 -- bytes in hexadecimal digits
 pub digits_unescaped : (bytes : List ℕ) → ((i : ℕ) → slice_index bytes i < 256) → IsUnescaped (encode_lower bytes)
@@ -49,7 +42,7 @@ unfolding encode_with
 digits_unescaped [] fits = refl
 digits_unescaped (b ∷ rest) fits =
     let small : b < 256 = fits 0 in
-    both _ _ (below 16 (b / 16) refl (omega arith)) (both _ _ (below 16 (b % 16) refl (omega arith)) (digits_unescaped rest (λ i. fits (suc i))))
+    both _ _ (plain_digit (b / 16) (omega arith)) (both _ _ (plain_digit (b % 16) (omega arith)) (digits_unescaped rest (λ i. fits (suc i))))
 
 digit : (d : ℕ) → d < 10 → is_plain (48 + d) ≡ true
 digit d small = grind arith
@@ -61,15 +54,19 @@ decimal_unescaped =
     (λ n small. both _ _ (digit n small) refl)
     (λ n ds more h. unescaped_append ds ((48 + n % 10) ∷ []) h (both _ _ (digit (n % 10) (omega arith)) refl))
 
+-- a name of 16 bytes or fewer that stands for itself
+abbrev is_name : List ℕ → Bool
+is_name name = nat_le (length name) 16 && is_unescaped name
+
 -- the names of rows
 abbrev names : List (Named Style) → Bool
 names [] = true
-names (row ∷ rows) = is_unescaped row.1 && names rows
+names (row ∷ rows) = is_name row.1 && names rows
 
-found : (rows : List (Named Style)) (number : ℕ) → names rows ≡ true → IsUnescaped (name_in (codes "-") (find_named number rows))
-found [] number plain = refl
-found (row ∷ rows) number plain =
-    let parts = and_parts (is_unescaped row.1) (names rows) plain in
+found : (rows : List (Named Style)) (number : ℕ) → names rows ≡ true → is_name (name_in (codes "-") (find_named number rows)) ≡ true
+found [] number named = refl
+found (row ∷ rows) number named =
+    let parts = and_parts (is_name row.1) (names rows) named in
     elim (cases_Bool (row.0 == number)) [
       | inl here ↦ rw here parts.0
       | inr there ↦ rw there (found rows number parts.1)
@@ -85,10 +82,17 @@ all ctx.Neigh = refl
 all ctx.Rule = refl
 all ctx.Plain = refl
 
--- the name of an attribute
-pub unescaped_name : (c : Ctx) (number : ℕ) → IsUnescaped (attribute_name c number)
+both_of_name : (c : Ctx) (number : ℕ) → (nat_le (length (attribute_name c number)) 16 ≡ true) × IsUnescaped (attribute_name c number)
 unfolding row_of
-unescaped_name c number = found (attribute_rows c) number (all c)
+both_of_name c number = and_parts _ _ (found (attribute_rows c) number (all c))
+
+-- the name of an attribute is short
+pub short_name : (c : Ctx) (number : ℕ) → length (attribute_name c number) ≤ 16
+short_name c number = search (rules, (both_of_name c number).0)
+
+-- and stands for itself
+pub unescaped_name : (c : Ctx) (number : ℕ) → IsUnescaped (attribute_name c number)
+unescaped_name c number = (both_of_name c number).1
 
 -- the name of a family
 pub unescaped_family : (g : Family) → IsUnescaped (name_of g)
@@ -141,3 +145,17 @@ groups i bytes fits =
 pub ipv6_unescaped : (bytes : List ℕ) → ((i : ℕ) → slice_index bytes i < 256) → IsUnescaped (ipv6_text bytes)
 unfolding ipv6_text colon
 ipv6_unescaped bytes fits = (two (groups_text 0 bytes, groups 0 bytes fits) (two colon (groups_text 8 bytes, groups 8 bytes fits))).1
+
+-- ---- texts of plain bytes
+
+byte_ascii : (c : ℕ) → values.is_plain_byte c ≡ true → c < 128
+byte_ascii c h = grind arith
+
+ascii : (bs : List ℕ) → list_all values.is_plain_byte bs ≡ true → (i : ℕ) → slice_index bs i < 128
+ascii [] h i = search rules
+ascii (b ∷ bs) h zero = byte_ascii b (and_parts _ _ h).0
+ascii (b ∷ bs) h (suc i) = ascii bs (and_parts _ _ h).1 i
+
+-- a text of plain bytes is UTF-8
+pub plain_utf8 : (bs : List ℕ) → values.is_plain bs ≡ true → IsUtf8 bs
+plain_utf8 bs h = IsUtf8-from_ascii bs (ascii bs (and_parts _ _ h).1)

@@ -18,8 +18,6 @@ pub mod NamedBits
 pub mod Names
 pub mod Notations
 pub mod MessagesJson
-pub mod Pieces
-pub mod Readings
 pub mod Requested
 pub mod Named
 pub mod Runs

@@ -1,6 +1,6 @@
 -- The lines of a recording, each of them a comment, blank, or a datagram in hexadecimal.
-use Rattle.std.specs.Prelude.{◌≡◌, ℕ, ◌+◌, ◌%◌, ◌==◌, ◌||◌, not, if◌then◌else◌, Bool, true, false, List, []}
-use Rattle.std.specs.Prelude.{◌∷◌, ◌++◌, filter, length, slice_index, Option, Some, None, Result, Ok, Err}
+use Rattle.std.specs.Prelude.{◌≡◌, ◌≤◌, ℕ, ◌+◌, ◌%◌, ◌==◌, ◌||◌, not, if◌then◌else◌, Bool, true, false, List, []}
+use Rattle.std.specs.Prelude.{◌∷◌, ◌++◌, filter, length, slice_index, slice_range, Option, Some, None, Result, Ok, Err}
 use Rattle.std.specs.Borrow.{Bor}
 use Rattle.std.specs.List.{position, slice_split}
 use Rattle.hex.specs.Hex.{decode_of, is_hex_digit}
@@ -110,3 +110,15 @@ Adds (Some datagram) added old new = (added ≡ true) × (new ≡ old ++ datagra
 abbrev pub Reads : List ℕ → List ℕ → Result Bool RunError → Result (Option (List ℕ)) ℕ → Type 0
 Reads old new (Ok added) expected = (datagram : Option (List ℕ)) × (expected ≡ Ok datagram) × Adds datagram added old new
 Reads old new (Err e) expected = Fails e expected
+
+-- ---- for private clauses: bytes that stand one behind the other, and where each piece of them ends
+
+-- the pieces of bytes of which the first begins at this place, and which end at these
+abbrev pub pieces : ℕ → List ℕ → List ℕ → List (List ℕ)
+pieces start bytes [] = []
+pieces start bytes (end ∷ ends) = slice_range bytes start end ∷ pieces end bytes ends
+
+-- ends that rise from one place to another: none stands before the one in front of it, and the last is that other place
+abbrev pub Rise : ℕ → List ℕ → ℕ → Type 0
+Rise start [] last = start ≡ last
+Rise start (end ∷ ends) last = (start ≤ end) × Rise end ends last

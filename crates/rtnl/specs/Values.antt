@@ -7,6 +7,8 @@ use Rattle.nl_attr.specs.declared.order.Order.TheVariants.{Big}
 use Rattle.nl_attr.specs.Numbers.{number_of}
 use Rattle.rtnl.specs.declared.names.attributes.Style.{Style}
 use Rattle.rtnl.specs.declared.names.attributes.Style.TheVariants.{U8, U16, U32, NetworkU16, Text, Address, Hex}
+use Rattle.rtnl.specs.declared.names.values.Reading.{Reading as HeldReading}
+use Rattle.rtnl.specs.declared.names.values.Reading.TheVariants as held
 use Rattle.rtnl.specs.Text.{◌⨟◌, hex_text, padded_hex}
 
 -- a number of one, two or four bytes, a text, an address, or other bytes
@@ -18,6 +20,16 @@ pub data Reading : Type 0 where
   ipv4 : List ℕ → Reading
   ipv6 : List ℕ → Reading
   hex : List ℕ → Reading
+
+-- the reading that one of the program is
+abbrev pub reading_view : HeldReading → Reading
+reading_view (held.U8 n) = u8 n
+reading_view (held.U16 n) = u16 n
+reading_view (held.U32 n) = u32 n
+reading_view (held.Text t) = text t.now
+reading_view (held.Ipv4 address) = ipv4 address
+reading_view (held.Ipv6 address) = ipv6 address
+reading_view (held.Hex bytes) = hex bytes.now
 
 -- a number of one byte, unless the network's order is said
 abbrev pub u8_reading : Bool → List ℕ → Reading

@@ -7,7 +7,7 @@ ghost use Rattle.rtnl.specs.ByteViews.{row_view};
 ghost use Rattle.rtnl.specs.Json.{IsUnescaped, ◌⊕◌, fields_tokens};
 ghost use Rattle.rtnl.specs.Kernel.{kernel_name};
 ghost use Rattle.rtnl.specs.Notations.{name_or, number_json, payload_json, value_json};
-ghost use Rattle.rtnl.specs.Readings.{reading_view};
+ghost use Rattle.rtnl.specs.Values.{reading_view};
 
 use crate::bytes::notation::{Notation, number};
 use crate::bytes::rows::{ByteRow, Label};

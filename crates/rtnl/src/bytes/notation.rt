@@ -8,7 +8,7 @@ ghost use Rattle.rtnl.specs.NamedBits.{bit_names};
 ghost use Rattle.rtnl.specs.Notations.{all_digits, all_flags, attr_behind, bits_behind};
 ghost use Rattle.rtnl.specs.Notations.{digits_behind, flags_behind, name_behind, number_in};
 ghost use Rattle.rtnl.specs.Notations.{reading_behind, type_behind, value_behind, word_if};
-ghost use Rattle.rtnl.specs.Readings.{reading_view};
+ghost use Rattle.rtnl.specs.Values.{reading_view};
 
 use crate::names::attributes::Style;
 use crate::names::flags::Bits;

@@ -6,7 +6,7 @@ ghost use Rattle.rtnl.specs.Json.{◌⊕◌, fields_tokens};
 ghost use Rattle.rtnl.specs.MessagesJson.{answered_json, body_field, bytes_field};
 ghost use Rattle.rtnl.specs.MessagesJson.{done_field, error_field, get_field};
 
-use crate::json_lines::families::ItemField;
+use crate::json_lines::heads::ItemField;
 use crate::json_lines::line::Line;
 use nl_attr::Order;
 use nl_frame::{Body, Header};

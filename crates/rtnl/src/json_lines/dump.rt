@@ -16,6 +16,7 @@ use std::alloc::{AllocError, Global};
 
 /// Writes the line of a datagram that was refused for its layout or its size. It fails where that
 /// was for memory.
+#[tactic(auto, using(crate::proofs::Sets::field))]
 pub(crate) fn push_refused(
     alloc: Global,
     lines: &mut Vec<u8>,
@@ -32,6 +33,7 @@ pub(crate) fn push_refused(
 }
 
 /// Writes the line of a datagram that was refused, since all datagrams would be too large.
+#[tactic(auto, unfolding(crate::specs::TabledJson::total_fields), using(crate::proofs::Sets::field))]
 pub(crate) fn push_total(
     alloc: Global,
     lines: &mut Vec<u8>,

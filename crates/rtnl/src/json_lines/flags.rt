@@ -23,7 +23,7 @@ fn push_bit(line: &mut Line, row: &BitName, number: Number) -> Result<(), AllocE
     line.string(row.name())
 }
 
-#[tactic(auto, using(crate::proofs::Json::no_more))]
+#[tactic(auto, using(crate::proofs::Sets::all_written))]
 fn push_bits(line: &mut Line, table: &[BitName], number: Number) -> Result<(), AllocError>
     ensures { OnOk result (line.new ≡ line.old
         ⊕ values_tokens (map string (names_set (map bit_view table.now) number.0))) }

@@ -35,6 +35,7 @@ fn is_unescaped(text: &[u8]) -> bool
 
 /// Appends a text as a string of JSON, in which some bytes are escaped.
 #[inline(never)]
+#[tactic(auto, unfolding(json::specs::Print::print_from), using(crate::proofs::Sets::whole_value))]
 fn push_escaped(out: &mut Vec<u8>, text: &str) -> Result<(), AllocError>
     ensures { OnOk result (out.new.items ≡ out.old.items ++ quoted text.now) }
 {
@@ -47,6 +48,7 @@ fn push_escaped(out: &mut Vec<u8>, text: &str) -> Result<(), AllocError>
 
 /// Appends a text that stands for itself as a string of JSON.
 #[inline(always)]
+#[tactic(auto, using(crate::proofs::Json::quoted_behind))]
 fn push_plain(out: &mut Vec<u8>, text: &str) -> Result<(), AllocError>
     requires { IsUnescaped text.now }
     ensures { OnOk result (out.new.items ≡ out.old.items ++ quoted text.now) }
@@ -179,6 +181,7 @@ impl Line {
 
     /// The name of a field, whose value comes next.
     #[inline(always)]
+    #[tactic(auto, using(crate::proofs::Json::key_written))]
     pub(crate) fn key(&mut self, name: &str) -> Result<(), AllocError>
         requires { IsUnescaped name.now }
         ensures { OnOk result (self.new ≡ self.old ⊕ (key name.now ∷ [])) }
@@ -189,6 +192,7 @@ impl Line {
     }
 
     /// A string.
+    #[tactic(auto, using(crate::proofs::Json::quoted_written))]
     pub(crate) fn string(&mut self, text: &str) -> Result<(), AllocError>
         ensures { OnOk result (self.new ≡ self.old ⊕ json_tokens (string text.now)) }
     {
@@ -206,6 +210,7 @@ impl Line {
 
     /// A number.
     #[inline(always)]
+    #[tactic(auto, using(crate::proofs::Json::digits_written))]
     pub(crate) fn unsigned(&mut self, n: u64) -> Result<(), AllocError>
         ensures { OnOk result (self.new ≡ self.old ⊕ json_tokens (number n)) }
     {
@@ -291,6 +296,7 @@ impl Line {
 
     /// A string that stands for itself.
     #[inline(always)]
+    #[tactic(auto, using(crate::proofs::Json::plain_written))]
     pub(crate) fn unescaped(&mut self, text: &Segment) -> Result<(), AllocError>
         requires { IsUnescaped text.now }
         ensures { OnOk result (self.new ≡ self.old ⊕ json_tokens (string text.now)) }
@@ -301,6 +307,7 @@ impl Line {
     }
 
     /// Bytes, in hexadecimal digits.
+    #[tactic(auto, using(crate::proofs::Json::plain_written, crate::proofs::Unescaped::digits_unescaped))]
     pub(crate) fn hex(&mut self, bytes: &[u8]) -> Result<(), AllocError>
         ensures { OnOk result (self.new ≡ self.old ⊕ json_tokens (digits bytes.now)) }
     {

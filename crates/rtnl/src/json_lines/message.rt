@@ -54,6 +54,7 @@ fn push_message(
     line.end_object()
 }
 
+#[tactic(auto, using(crate::proofs::Sets::all_written))]
 fn push_each(
     alloc: Global,
     line: &mut Line,

@@ -3,8 +3,8 @@
 pub(crate) mod body;
 pub(crate) mod datagram;
 pub(crate) mod dump;
-pub(crate) mod families;
 pub(crate) mod flags;
+pub(crate) mod heads;
 pub(crate) mod line;
 pub(crate) mod message;
 pub(crate) mod tree;

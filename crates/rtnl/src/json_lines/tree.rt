@@ -122,6 +122,7 @@ fn push_attr(line: &mut Line, order: Order, ctx: Ctx, attr: &Attr) -> Result<(),
 }
 
 #[cycle(writing)]
+#[tactic(auto, using(crate::proofs::Sets::all_written))]
 fn push_each_attr(line: &mut Line, order: Order, ctx: Ctx, attrs: &[Attr]) -> Result<(), AllocError>
     ensures { OnOk result
         (line.new ≡ line.old ⊕ values_tokens (attrs_json order ctx (attrs_view attrs.now))) }
@@ -134,6 +135,7 @@ fn push_each_attr(line: &mut Line, order: Order, ctx: Ctx, attrs: &[Attr]) -> Re
 
 /// Writes a field of this name with attributes in a context.
 #[cycle(writing)]
+#[tactic(auto, using(crate::proofs::Sets::whole_value))]
 pub(crate) fn push_attrs(
     line: &mut Line,
     name: &str,
@@ -164,6 +166,7 @@ fn push_hop(line: &mut Line, order: Order, hop: &Hop) -> Result<(), AllocError>
 }
 
 #[cycle(writing)]
+#[tactic(auto, using(crate::proofs::Sets::all_written))]
 fn push_each_hop(line: &mut Line, order: Order, hops: &[Hop]) -> Result<(), AllocError>
     ensures { OnOk result
         (line.new ≡ line.old ⊕ values_tokens (hops_json order (hops_view hops.now))) }
@@ -176,6 +179,7 @@ fn push_each_hop(line: &mut Line, order: Order, hops: &[Hop]) -> Result<(), Allo
 
 /// Writes a field with next hops.
 #[cycle(writing)]
+#[tactic(auto, using(crate::proofs::Sets::whole_value))]
 fn push_hops(line: &mut Line, order: Order, hops: &[Hop]) -> Result<(), AllocError>
     ensures { OnOk result (line.new ≡ line.old
         ⊕ fields_tokens ((codes "items", array (hops_json order (hops_view hops.now))) ∷ [])) }

@@ -5,8 +5,7 @@ ghost use Rattle.json.specs.Print.{print};
 ghost use Rattle.json.specs.Tree.{json_tokens};
 ghost use Rattle.rtnl.specs.Json.{◌⊕◌, fields_tokens, string};
 ghost use Rattle.rtnl.specs.MessagesJson.{form_tokens, reading_fields, reading_json};
-ghost use Rattle.rtnl.specs.Readings.{reading_view};
-ghost use Rattle.rtnl.specs.Values.{ipv4_text, ipv6_text};
+ghost use Rattle.rtnl.specs.Values.{ipv4_text, ipv6_text, reading_view};
 
 use crate::json_lines::line::Line;
 use crate::names::values::{Reading, ipv4, ipv6};
@@ -14,6 +13,7 @@ use std::alloc::AllocError;
 
 /// Writes an address of IPv4.
 #[inline(never)]
+#[tactic(auto, using(crate::proofs::Unescaped::ipv4_unescaped))]
 fn push_ipv4(line: &mut Line, address: &[u8; 4]) -> Result<(), AllocError>
     ensures { OnOk result
         (line.new ≡ line.old ⊕ json_tokens (string (ipv4_text address.now))) }
@@ -23,6 +23,7 @@ fn push_ipv4(line: &mut Line, address: &[u8; 4]) -> Result<(), AllocError>
 
 /// Writes an address of IPv6.
 #[inline(never)]
+#[tactic(auto, using(crate::proofs::Unescaped::ipv6_unescaped))]
 fn push_ipv6(line: &mut Line, address: &[u8; 16]) -> Result<(), AllocError>
     ensures { OnOk result
         (line.new ≡ line.old ⊕ json_tokens (string (ipv6_text address.now))) }
@@ -48,6 +49,7 @@ fn form(reading: Reading<'_>) -> &'static str
 }
 
 #[inline(always)]
+#[tactic(auto, using(crate::proofs::Json::tokens_put))]
 fn push_form(line: &mut Line, reading: Reading<'_>) -> Result<(), AllocError>
     ensures { OnOk result (line.new ≡ line.old ⊕ form_tokens (reading_view reading.entry)) }
 {

@@ -6,7 +6,7 @@ ghost use Rattle.rtnl.specs.Attributes.{attribute_name, attribute_rows, attribut
 ghost use Rattle.rtnl.specs.Attributes.{inner_context};
 ghost use Rattle.rtnl.specs.Named.{named_view};
 
-use crate::names::families::{addr, link, neigh, route, rule};
+use crate::names::families;
 use crate::names::named::{Named, find_named};
 use nl_attr::{AttrFlags, Content, Ctx, holds};
 
@@ -36,13 +36,13 @@ fn table(ctx: Ctx) -> &'static [Named<Style>]
     ensures { map named_view result.now ≡ attribute_rows ctx }
 {
     match ctx {
-        Ctx::Link => link::ATTRIBUTES,
-        Ctx::LinkInfo => link::LINK_INFO,
-        Ctx::Addr => addr::ATTRIBUTES,
-        Ctx::Route => route::ATTRIBUTES,
-        Ctx::Metrics => route::METRICS,
-        Ctx::Neigh => neigh::ATTRIBUTES,
-        Ctx::Rule => rule::ATTRIBUTES,
+        Ctx::Link => families::LINK,
+        Ctx::LinkInfo => families::LINK_INFO,
+        Ctx::Addr => families::ADDR,
+        Ctx::Route => families::ROUTE,
+        Ctx::Metrics => families::METRICS,
+        Ctx::Neigh => families::NEIGH,
+        Ctx::Rule => families::RULE,
         Ctx::Plain => &[],
     }
 }

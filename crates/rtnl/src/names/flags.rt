@@ -50,37 +50,29 @@ macro_rules! named_bits {
     };
 }
 
+/// Writes the table of the flags that messages of all types have, and of these behind them.
+macro_rules! message_bits {
+    ($($name:ident = $bit:expr,)*) => {
+        named_bits!(
+            REQUEST = 0x1,
+            MULTI = 0x2,
+            ACK = 0x4,
+            ECHO = 0x8,
+            DUMP_INTR = 0x10,
+            DUMP_FILTERED = 0x20,
+            $($name = $bit,)*
+        )
+    };
+}
+
 /// The flags that messages of all types have.
-const MESSAGE_FLAGS: &[BitName] = named_bits!(
-    REQUEST = 0x1,
-    MULTI = 0x2,
-    ACK = 0x4,
-    ECHO = 0x8,
-    DUMP_INTR = 0x10,
-    DUMP_FILTERED = 0x20,
-);
+const MESSAGE_FLAGS: &[BitName] = message_bits!();
 
 /// The flags of a message that asks.
-const GET_FLAGS: &[BitName] = named_bits!(
-    REQUEST = 0x1,
-    MULTI = 0x2,
-    ACK = 0x4,
-    ECHO = 0x8,
-    DUMP_INTR = 0x10,
-    DUMP_FILTERED = 0x20,
-    ROOT = 0x100,
-    MATCH = 0x200,
-    ATOMIC = 0x400,
-);
+const GET_FLAGS: &[BitName] = message_bits!(ROOT = 0x100, MATCH = 0x200, ATOMIC = 0x400,);
 
 /// The flags of a message of something new.
-const NEW_FLAGS: &[BitName] = named_bits!(
-    REQUEST = 0x1,
-    MULTI = 0x2,
-    ACK = 0x4,
-    ECHO = 0x8,
-    DUMP_INTR = 0x10,
-    DUMP_FILTERED = 0x20,
+const NEW_FLAGS: &[BitName] = message_bits!(
     REPLACE = 0x100,
     EXCL = 0x200,
     CREATE = 0x400,
@@ -88,16 +80,7 @@ const NEW_FLAGS: &[BitName] = named_bits!(
 );
 
 /// The flags of an answer with a code.
-const ERROR_FLAGS: &[BitName] = named_bits!(
-    REQUEST = 0x1,
-    MULTI = 0x2,
-    ACK = 0x4,
-    ECHO = 0x8,
-    DUMP_INTR = 0x10,
-    DUMP_FILTERED = 0x20,
-    CAPPED = 0x100,
-    ACK_TLVS = 0x200,
-);
+const ERROR_FLAGS: &[BitName] = message_bits!(CAPPED = 0x100, ACK_TLVS = 0x200,);
 
 /// The flags of a link.
 const LINK_FLAGS: &[BitName] = named_bits!(

@@ -2,11 +2,10 @@
 
 ghost use Rattle.std.specs.Prelude.{◌≡◌, ◌+◌, ◌<◌, ◌≤◌, [], ◌++◌, length};
 ghost use Rattle.std.specs.List.{list_all};
-ghost use Rattle.rtnl.specs.Readings.{reading_view};
 ghost use Rattle.rtnl.specs.Text.{padded_hex};
-ghost use Rattle.rtnl.specs.Values.{group_at, groups_text, hex, ip_reading, ipv4_text};
-ghost use Rattle.rtnl.specs.Values.{ipv6_text, is_plain, is_plain_byte, reading_of};
-ghost use Rattle.rtnl.specs.Values.{stem_of, text_reading, u16_reading, u32_reading, u8_reading};
+ghost use Rattle.rtnl.specs.Values.{group_at, groups_text, hex, ip_reading, ipv4_text, ipv6_text};
+ghost use Rattle.rtnl.specs.Values.{is_plain, is_plain_byte, reading_of, reading_view, stem_of};
+ghost use Rattle.rtnl.specs.Values.{text_reading, u16_reading, u32_reading, u8_reading};
 
 use crate::names::attributes::Style;
 use crate::pieces::segment::Segment;
@@ -80,7 +79,7 @@ fn is_plain_text(bytes: &[u8]) -> bool
 }
 
 /// A payload as a text, where it is one.
-#[tactic(auto, using(crate::proofs::Plain::plain_utf8))]
+#[tactic(auto, using(crate::proofs::Unescaped::plain_utf8))]
 fn text_of(bytes: &[u8]) -> Reading<'_>
     ensures { reading_view result ≡ text_reading bytes.entry.now }
 {
@@ -182,7 +181,7 @@ fn put_groups(text: &mut Segment, address: &[u8; 16], i: usize)
 
 /// Puts an address of IPv6 where there is no text.
 #[inline(always)]
-#[tactic(auto, unfolding(crate::specs::Values::ipv6_text))]
+#[tactic(auto, unfolding(crate::specs::Values::ipv6_text), using(crate::proofs::Sets::joins))]
 pub(crate) fn put_ipv6(text: &mut Segment, address: &[u8; 16])
     requires { text.old ≡ [] }
     ensures { text.new ≡ ipv6_text address.now }

@@ -67,7 +67,7 @@ impl Segment {
 
     /// Puts a signed number in front, in decimal.
     #[inline(always)]
-    #[tactic(auto, using(crate::proofs::Short::below_zero, crate::proofs::Short::not_below_zero))]
+    #[tactic(auto, using(crate::proofs::Digits::below_zero, crate::proofs::Digits::not_below_zero))]
     pub(crate) fn put_signed(&mut self, number: i32)
         requires { 21 + length self.old ≤ 248 }
         ensures text { self.new ≡ signed_decimal number ++ self.old }

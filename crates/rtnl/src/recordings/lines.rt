@@ -1,14 +1,16 @@
 //! The lines of a recording.
 
 ghost use Rattle.std.specs.List.{list_any, position};
-ghost use Rattle.std.specs.Prelude.{◌≡◌, ◌≤◌, ◌<◌, ◌↔◌, length, map, IfOk, Err};
+ghost use Rattle.std.specs.Prelude.{◌≡◌, ◌≤◌, ◌<◌, ◌↔◌, ◌++◌, ℕ, List, length, map};
+ghost use Rattle.std.specs.Prelude.{IfOk, IfErr, Ok, Err};
+ghost use Rattle.hex.specs.Hex.{decode_of};
 ghost use Rattle.rtnl.specs.Runs as fixed;
-ghost use Rattle.rtnl.specs.Lines.{Gives, Reads, compact, datagrams, digits_at, is_blank};
-ghost use Rattle.rtnl.specs.Lines.{is_comment, is_stray, line_at, line_fault_of, lines_left};
+ghost use Rattle.rtnl.specs.Lines.{Fails, Gives, Reads, compact, datagrams, decoded, digits_at};
+ghost use Rattle.rtnl.specs.Lines.{is_blank, is_comment, is_stray, line_at, line_fault_of};
+ghost use Rattle.rtnl.specs.Lines.{lines_left};
 ghost use Rattle.std.specs.Iterator.{YieldsFirstRef, item_count};
 
 use crate::error::RunError;
-use crate::recordings::decoding::push_decoded;
 use crate::recordings::recording::Datagrams;
 use crate::streams::source::LONGEST_INPUT;
 use memchr::{memchr, memchr3};
@@ -91,6 +93,27 @@ pub fn line_fault(line: &[u8]) -> Option<LineFault>
         return Some(LineFault::Odd { digits });
     }
     None
+}
+
+/// How many digits are decoded at a time, an even number.
+const PIECE: usize = 64;
+
+/// Appends the bytes of the digits of the line of this number. They go through a buffer on the
+/// stack, a piece at a time; after an error those of some pieces may have been appended.
+fn push_decoded(bytes: &mut Vec<u8>, number: u32, digits: &[u8]) -> Result<(), RunError>
+    ensures read { IfOk result (λ _. (datagram : List ℕ) × (decode_of digits.now ≡ Ok datagram)
+        × (bytes.new.items ≡ bytes.old.items ++ datagram)) }
+    ensures failed { IfErr result (λ e. Fails e (decoded number (decode_of digits.now))) }
+{
+    let mut buffer = [0; PIECE / 2];
+    for piece in digits.chunks(PIECE) {
+        let part = &mut buffer[..piece.len() / 2];
+        if hex::decode_to_slice(piece, part).is_err() {
+            return Err(RunError::BadLine(number));
+        }
+        bytes.extend_from_slice(part)?;
+    }
+    Ok(())
 }
 
 /// Appends the datagram of the digits of a line, and says whether there are any.

@@ -2,7 +2,7 @@
 
 ghost use Rattle.std.specs.Prelude.{◌≡◌, ◌<◌, ◌≤◌, [], ◌∷◌, length, map, IfOk};
 ghost use Rattle.std.specs.Prelude.{slice_index, slice_index_or};
-ghost use Rattle.rtnl.specs.Pieces.{Rise, pieces};
+ghost use Rattle.rtnl.specs.Lines.{Rise, pieces};
 
 use std::alloc::{AllocError, Global};
 use std::marker::Model;
@@ -19,7 +19,7 @@ impl Model for Datagrams {
 
     ghost Value = { List (List ℕ) };
 
-    ghost use Rattle.rtnl.specs.Pieces.{Rise, pieces};
+    ghost use Rattle.rtnl.specs.Lines.{Rise, pieces};
 
     ghost view = { λ d. pieces 0 d.bytes.items d.ends.items };
 

@@ -5,9 +5,9 @@ ghost use Rattle.nl_dump.specs.Items.{seen};
 ghost use Rattle.nl_dump.specs.View.{table_at};
 ghost use Rattle.rtnl.specs.Tabled.{entries_text};
 
-use crate::json_lines::families::ItemField;
+use crate::json_lines::heads::ItemField;
 use crate::runs::report::ReportFormat;
-use crate::text::families::ItemLines;
+use crate::text::heads::ItemLines;
 use nl_attr::Order;
 use nl_dump::{Session, match_table};
 use nl_route::Family;

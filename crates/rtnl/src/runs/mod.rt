@@ -1,6 +1,5 @@
 //! The commands over a recording, and the request that begins a dump.
 
-pub(crate) mod begun;
 pub(crate) mod check;
 pub(crate) mod entries;
 pub(crate) mod per_datagram;

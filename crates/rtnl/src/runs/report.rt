@@ -1,11 +1,11 @@
 //! The report of a dump.
 
 use crate::json_lines::dump as fields;
-use crate::json_lines::families::ItemField;
+use crate::json_lines::heads::ItemField;
 use crate::json_lines::line::Line;
 use crate::runs::entries::size_of;
 use crate::text::dump as lines;
-use crate::text::families::ItemLines;
+use crate::text::heads::ItemLines;
 use nl_attr::Order;
 use nl_dump::{Dump, FeedError, Session};
 use nl_frame::ReadError;
@@ -159,6 +159,7 @@ impl ReportFormat for InJson {
         line.end(out)
     }
 
+    #[tactic(auto, unfolding(crate::specs::TabledJson::ending_json), using(crate::proofs::Sets::field, crate::proofs::Sets::joins))]
     fn push_ending(
         alloc: Global,
         out: &mut Vec<u8>,

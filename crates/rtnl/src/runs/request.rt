@@ -1,19 +1,40 @@
-//! Printing the request that begins a dump.
+//! The request that begins a dump.
 
-ghost use Rattle.std.specs.Prelude.{◌≡◌, ◌++◌, OnOk, IfOk};
+ghost use Rattle.std.specs.Prelude.{◌≡◌, ◌++◌, Ok, OnOk, IfOk};
 ghost use Rattle.nl_dump.specs.Request.{dump_of};
+ghost use Rattle.nl_dump.specs.Steps.{Began, IsNew};
+ghost use Rattle.nl_dump.specs.View.{View};
 ghost use Rattle.rtnl.specs.Requested.{bytes_alone, requested};
 ghost use Rattle.rtnl.specs.Runs.{Writes};
 
 use crate::error::{RunError, Verdict};
 use crate::pieces::{push, push_hex};
-use crate::runs::begun::begun;
 use crate::streams::sink::{Sink, give_all};
 use nl_attr::Order;
-use nl_dump::Dump;
+use nl_dump::{BeginError, Dump, Session};
 use nl_frame::Limits;
 use nl_route::Family;
 use std::alloc::{AllocError, Global};
+
+/// A new session of these limits that begins a dump, and the request. A new session has no dump
+/// that waits and no last sequence number, so only memory can be refused.
+pub(crate) fn begun(
+    alloc: Global,
+    dump: &Dump,
+    limits: &Limits,
+) -> Result<(Session, Vec<u8>), AllocError>
+    ensures { IfOk result
+        (λ p. (new : View) × IsNew limits.now new × Began new dump.now (Ok p.1) p.0) }
+{
+    let mut session = Session::new(alloc, *limits)?;
+    match session.begin(dump.kind, dump.family, dump.seq, dump.port) {
+        Ok(request) => Ok((session, request)),
+        Err(error) => {
+            prove!(matches!(error, BeginError::Memory));
+            Err(AllocError)
+        }
+    }
+}
 
 #[tactic(auto, unfolding(crate::specs::Requested::bytes_alone))]
 fn push_bytes_alone(out: &mut Vec<u8>, bytes: &[u8]) -> Result<(), AllocError>

@@ -14,9 +14,9 @@ ghost use Rattle.rtnl.specs.Tabled.{TablesInput, answer_text, refusals_text, ver
 
 use crate::error::{RunError, Verdict};
 use crate::recordings::recording::Datagrams;
-use crate::runs::begun::begun;
 use crate::runs::entries::push_table;
 use crate::runs::report::{InJson, InText, ReportFormat};
+use crate::runs::request::begun;
 use crate::runs::run::{Command, run};
 use crate::streams::sink::Sink;
 use crate::streams::source::Source;
@@ -154,16 +154,12 @@ pub fn run_table<S: Source, W: Sink>(
     ensures bounded { ConsumesAtMost (fixed.LONGEST_INPUT + 1)
         (S.remaining source.old) (S.remaining source.new) }
 {
-    run(
-        alloc,
-        source,
-        sink,
-        &Tabulate::<InText> {
-            dump,
-            limits: *limits,
-            report: PhantomData,
-        },
-    )
+    let tabulate = Tabulate::<InText> {
+        dump,
+        limits: *limits,
+        report: PhantomData,
+    };
+    run(alloc, source, sink, &tabulate)
 }
 
 /// Reads the datagrams as `run_table` does, and writes the dump as lines of JSON (RFC 8259) in
@@ -189,14 +185,10 @@ pub fn run_table_json<S: Source, W: Sink>(
     ensures bounded { ConsumesAtMost (fixed.LONGEST_INPUT + 1)
         (S.remaining source.old) (S.remaining source.new) }
 {
-    run(
-        alloc,
-        source,
-        sink,
-        &Tabulate::<InJson> {
-            dump,
-            limits: *limits,
-            report: PhantomData,
-        },
-    )
+    let tabulate = Tabulate::<InJson> {
+        dump,
+        limits: *limits,
+        report: PhantomData,
+    };
+    run(alloc, source, sink, &tabulate)
 }

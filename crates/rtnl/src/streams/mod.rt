@@ -1,6 +1,5 @@
 //! Where bytes come from, and where they go.
 
 pub(crate) mod calls;
-pub(crate) mod retry;
 pub(crate) mod sink;
 pub(crate) mod source;

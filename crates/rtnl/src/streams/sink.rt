@@ -1,15 +1,15 @@
 //! Where bytes go.
 
-ghost use Rattle.std.specs.Prelude.{◌≡◌, ℕ, ◌≤◌, ◌↔◌, List, [], length, Option};
+ghost use Rattle.std.specs.Prelude.{◌≡◌, ◌≢◌, ℕ, ◌≤◌, ◌↔◌, List, [], length, Option};
 ghost use Rattle.std.specs.Prelude.{Some, OnOk, OnErr, IfOk, IfErr, IsTrue};
 ghost use Rattle.std.specs.Io.KnownBytes.{Appends, WriteAppends};
+ghost use Rattle.std.specs.IoError.{error_kind};
 ghost use Rattle.rtnl.specs.Streams.{AppendsPrefix, MovesNone, StopsOnce, one_more};
 
 use crate::error::RunError;
 use crate::streams::calls::{Broken, moves_none};
-use crate::streams::retry::write_on;
 use std::alloc::Global;
-use std::io::Write;
+use std::io::{self, ErrorKind, Write};
 
 /// Where bytes go.
 pub trait Sink {
@@ -94,6 +94,22 @@ impl Sink for VecSink {
             }
         }
     }
+}
+
+/// Writes once, and once more wherever a signal interrupted that.
+fn write_on<W: Write>(writer: &mut W, bytes: &[u8]) -> io::Result<usize>
+    ensures fits { IfOk result (λ count. count ≤ length bytes.now) }
+    ensures bytes { WriteAppends (W.contents writer.old) (W.contents writer.new)
+        result bytes.now }
+    ensures goes_on { IfErr result (λ e. error_kind e ≢ ErrorKind.Interrupted) }
+{
+    for _ in 0..u64::MAX {
+        match writer.write(bytes) {
+            Err(error) if error.kind() == ErrorKind::Interrupted => {}
+            ended => return ended,
+        }
+    }
+    Err(io::Error::from(ErrorKind::TimedOut))
 }
 
 /// Gives bytes on to one of std's writers. A write that a signal interrupts goes on.

@@ -7,7 +7,7 @@ ghost use Rattle.rtnl.specs.Messages.{error_line, get_line, tail_end};
 
 use crate::pieces::segment::Segment;
 use crate::pieces::{push, push_hex};
-use crate::text::families::ItemLines;
+use crate::text::heads::ItemLines;
 use nl_attr::Order;
 use nl_frame::{Body, Header};
 use nl_route::match_object;

@@ -1,8 +1,8 @@
 //! How a payload is printed.
 
 ghost use Rattle.std.specs.Prelude.{◌≡◌, ◌++◌, codes, OnOk};
-ghost use Rattle.rtnl.specs.Readings.{reading_view};
-ghost use Rattle.rtnl.specs.Values.{ipv4_text, ipv6_text, reading_text, reading_word, value_text};
+ghost use Rattle.rtnl.specs.Values.{ipv4_text, ipv6_text, reading_text, reading_view};
+ghost use Rattle.rtnl.specs.Values.{reading_word, value_text};
 
 use crate::names::values::{Reading, put_ipv4, put_ipv6};
 use crate::pieces::segment::Segment;

@@ -2,7 +2,7 @@ use Rattle.std.proofs.Common.{◌≡◌, ◌∷◌, ◌∙◌, ◌+◌, drop, ma
 use Rattle.std.proofs.lemmas.List.{drop_more}
 use Rattle.nl_frame.specs.View.{message_view}
 use Rattle.rtnl.specs.MessagesJson.{messages_json}
-use Rattle.rtnl.proofs.Json.{all_written, next_written}
+use Rattle.rtnl.proofs.Json.{next_written}
 use Rattle.rtnl.proofs.json_lines.message.push_each.Goals as goal
 
 pub loop-message-preserved : goal.loop-message-preserved
@@ -12,7 +12,3 @@ loop-message-preserved c =
     let m = c.message-item.result in
     let here : drop k ms ≡ m ∷ drop (k + 1) ms = drop_more ms k m c.loop-message-test.true ∙ search rules in
     next_written (λ ms. messages_json c.args.order (map message_view ms)) ms k m _ c.loop-message.line c.push_message.new.line _ here refl c.in_ok-push_message.ensures c.loop-message.invariant
-
-pub returns : goal.returns
-returns c =
-    all_written (λ ms. messages_json c.args.order (map message_view ms)) c.args.messages.now c.loop-message.message-index c.loop-message.line _ refl c.loop-message-test.false c.loop-message.invariant

@@ -27,20 +27,6 @@ push_attr-returns t c =
     refl (c.in_ok-push_attr_front.ensures ∙ sym (tokens_more w (begin_object ∷ []) (fields_tokens front))) is_held ended
     ∙ sym (ap (λ items. c.args.line.now ⊕ values_tokens (attrs_json c.args.order c.args.ctx items)) (attr_item attr more))) c.end_object.ensures
 
-pub push_attrs-returns : goal.push_attrs-returns
-push_attrs-returns t c =
-    IfOk-weaker c.end_array.result _ _
-    (λ _ ended. an_array c.args.line.now c.key.new.self c.begin_array.new.self c.push_each_attr.new.line c.end_array.new.self c.args.name.now (attrs_json c.args.order c.args.ctx (attrs_view c.args.attrs.now))
-    c.in_ok-key.ensures c.in_ok-begin_array.ensures c.in_ok-push_each_attr.ensures ended) c.end_array.ensures
-
-pub push_each_attr-returns : goal.push_each_attr-returns
-push_each_attr-returns t c =
-    all_written (λ xs. attrs_json c.args.order c.args.ctx (attrs_view xs)) c.args.attrs.now c.loop-attr.attr-index c.loop-attr.line _ refl c.loop-attr-test.false c.loop-attr.invariant
-
-pub push_each_hop-returns : goal.push_each_hop-returns
-push_each_hop-returns t c =
-    all_written (λ xs. hops_json c.args.order (hops_view xs)) c.args.hops.now c.loop-hop.hop-index c.loop-hop.line _ refl c.loop-hop-test.false c.loop-hop.invariant
-
 pub push_held-returns-in_ok-text-in-List : goal.push_held-returns-in_ok-text-in-List
 unfolding items_fields
 push_held-returns-in_ok-text-in-List t c =
@@ -78,9 +64,3 @@ push_hop-returns t c =
     (λ _ ended more. an_item c.args.line.now c.begin_object.new.self c.push_hop_front.new.line c.push_attrs.new.line c.end_object.new.self (hop_front one.flags one.hops one.ifindex) held (hops_json c.args.order more)
     c.in_ok-begin_object.ensures front is_held ended
     ∙ sym (ap (λ items. c.args.line.now ⊕ values_tokens (hops_json c.args.order items)) (hop_item c.args.hop.now more))) c.end_object.ensures
-
-pub push_hops-returns : goal.push_hops-returns
-push_hops-returns t c =
-    IfOk-weaker c.end_array.result _ _
-    (λ _ ended. an_array c.args.line.now c.key.new.self c.begin_array.new.self c.push_each_hop.new.line c.end_array.new.self (codes "items") (hops_json c.args.order (hops_view c.args.hops.now))
-    c.in_ok-key.ensures c.in_ok-begin_array.ensures c.in_ok-push_each_hop.ensures ended) c.end_array.ensures

@@ -4,8 +4,7 @@ use Rattle.rtnl.specs.Json.{IsUnescaped, value_text}
 use Rattle.rtnl.specs.MessagesJson.{name_found, name_json}
 use Rattle.rtnl.specs.Named.{name_in}
 use Rattle.rtnl.proofs.Json.{string_text}
-use Rattle.rtnl.proofs.Short.{short_name}
-use Rattle.rtnl.proofs.Unescaped.{unescaped_name}
+use Rattle.rtnl.proofs.Unescaped.{short_name, unescaped_name}
 use Rattle.rtnl.proofs.json_lines.tree.put_name.Goals as goal
 
 pub put-requires-in-Some : goal.put-requires-in-Some

@@ -1,6 +1,6 @@
 use Rattle.std.proofs.Common.{◌≡◌, rules}
 use Rattle.rtnl.specs.Attributes.{attribute_name, row_of}
-use Rattle.rtnl.proofs.Short.{short_name}
+use Rattle.rtnl.proofs.Unescaped.{short_name}
 use Rattle.rtnl.proofs.names.attributes.attribute.Goals as goal
 
 pub returns-in-Some-clause-short : goal.returns-in-Some-clause-short

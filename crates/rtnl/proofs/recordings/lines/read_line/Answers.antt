@@ -1,6 +1,6 @@
 use Rattle.std.proofs.Common.{sym}
 use Rattle.rtnl.specs.Lines.{is_blank}
-use Rattle.rtnl.proofs.ReadLines.{filter_none}
+use Rattle.rtnl.proofs.Reading.{filter_none}
 use Rattle.rtnl.proofs.recordings.lines.read_line.Goals as goal
 
 pub returns-then-not-has_blank : goal.returns-then-not-has_blank

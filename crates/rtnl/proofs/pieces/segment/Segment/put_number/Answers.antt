@@ -1,5 +1,5 @@
 use Rattle.std.proofs.Common.{ap, arith, decimal, drop, length, length-append, length-drop, rules}
-use Rattle.rtnl.proofs.Short.{twenty_digits}
+use Rattle.rtnl.proofs.Digits.{twenty_digits}
 use Rattle.rtnl.proofs.pieces.segment.Segment.put_number.Goals as goal
 
 pub write_digits-self-inside-requires : goal.write_digits-self-inside-requires

@@ -1,0 +1,118 @@
+//! The families' bodies as fields.
+
+use crate::json_lines::flags::push_names;
+use crate::json_lines::line::Line;
+use crate::json_lines::tree::push_attrs;
+use crate::names::families::{FamilyHead, TableItem};
+use crate::names::flags::Bits;
+use crate::pieces::segment::Segment;
+use nl_attr::Order;
+use nl_route::{AddrHead, LinkHead, NeighHead, Object, RouteHead, RuleHead};
+use std::alloc::AllocError;
+
+/// The head of a family, as it is written in JSON.
+pub(crate) trait HeadFields: FamilyHead {
+    ghost use Rattle.std.specs.Prelude.{◌≡◌, OnOk};
+    ghost use Rattle.rtnl.specs.Json.{◌⊕◌, fields_tokens};
+    ghost use Rattle.rtnl.specs.MessagesJson.{head_fields};
+
+    /// Writes the fields of the head.
+    fn push_fields(&self, line: &mut Line) -> Result<(), AllocError>
+        ensures { OnOk result (line.new
+            ≡ line.old ⊕ fields_tokens (head_fields (Self.FamilyHead.as_any self.now))) };
+}
+
+/// An item of a table, as it is written in JSON.
+pub(crate) trait ItemField: TableItem {
+    ghost use Rattle.std.specs.Prelude.{◌≡◌, ◌∷◌, [], OnOk};
+    ghost use Rattle.rtnl.specs.Json.{◌⊕◌, fields_tokens};
+    ghost use Rattle.rtnl.specs.MessagesJson.{item_field};
+
+    /// Writes a field of the family's name, with the fields of the head and the attributes.
+    fn push_field(&self, line: &mut Line, order: Order) -> Result<(), AllocError>
+        ensures { OnOk result (line.new
+            ≡ line.old ⊕ fields_tokens (item_field order (Self.TableItem.item self.now) ∷ [])) };
+}
+
+impl<H: HeadFields> ItemField for Object<H> {
+    fn push_field(&self, line: &mut Line, order: Order) -> Result<(), AllocError> {
+        line.key(H::family().row().name)?;
+        line.begin_object()?;
+        self.head.push_fields(line)?;
+        push_attrs(line, "attrs", order, H::context(), &self.attrs)?;
+        line.end_object()
+    }
+}
+
+impl HeadFields for LinkHead {
+    #[tactic(auto, unfolding(crate::specs::Link::link_head_fields), using(crate::proofs::Sets::field))]
+    fn push_fields(&self, line: &mut Line) -> Result<(), AllocError> {
+        let mut piece = Segment::new();
+        piece.put_field(",\"flags\":", self.flags as u64);
+        piece.put_signed(self.index);
+        piece.put(",\"index\":");
+        piece.put_field(",\"type\":", self.hardware as u64);
+        piece.put_small("\"family\":", self.family);
+        line.piece(&mut piece, true)?;
+        push_names(line, "flag_names", Bits::Link, self.flags)?;
+        line.number("change", self.change.into())
+    }
+}
+
+impl HeadFields for AddrHead {
+    fn push_fields(&self, line: &mut Line) -> Result<(), AllocError> {
+        let mut piece = Segment::new();
+        piece.put_field(",\"index\":", self.index as u64);
+        piece.put_small(",\"scope\":", self.scope);
+        piece.put_small(",\"flags\":", self.flags);
+        piece.put_small(",\"prefix\":", self.prefixlen);
+        piece.put_small("\"family\":", self.family);
+        line.piece(&mut piece, true)
+    }
+}
+
+impl HeadFields for RouteHead {
+    fn push_fields(&self, line: &mut Line) -> Result<(), AllocError> {
+        let mut piece = Segment::new();
+        piece.put_field(",\"flags\":", self.flags as u64);
+        piece.put_small(",\"type\":", self.sort);
+        piece.put_small(",\"scope\":", self.scope);
+        piece.put_small(",\"protocol\":", self.protocol);
+        piece.put_small(",\"table\":", self.table);
+        piece.put_small(",\"tos\":", self.tos);
+        piece.put_small(",\"src_len\":", self.src_len);
+        piece.put_small(",\"dst_len\":", self.dst_len);
+        piece.put_small("\"family\":", self.family);
+        line.piece(&mut piece, true)
+    }
+}
+
+impl HeadFields for NeighHead {
+    #[tactic(auto, unfolding(crate::specs::Neigh::neigh_head_fields), using(crate::proofs::Sets::field))]
+    fn push_fields(&self, line: &mut Line) -> Result<(), AllocError> {
+        let mut piece = Segment::new();
+        piece.put_field(",\"state\":", self.state as u64);
+        piece.put_signed(self.ifindex);
+        piece.put(",\"index\":");
+        piece.put_small("\"family\":", self.family);
+        line.piece(&mut piece, true)?;
+        push_names(line, "state_names", Bits::NeighState, self.state as u32)?;
+        line.number("flags", self.flags.into())?;
+        push_names(line, "flag_names", Bits::NeighFlags, self.flags as u32)?;
+        line.number("type", self.sort.into())
+    }
+}
+
+impl HeadFields for RuleHead {
+    fn push_fields(&self, line: &mut Line) -> Result<(), AllocError> {
+        let mut piece = Segment::new();
+        piece.put_field(",\"flags\":", self.flags as u64);
+        piece.put_small(",\"action\":", self.action);
+        piece.put_small(",\"table\":", self.table);
+        piece.put_small(",\"tos\":", self.tos);
+        piece.put_small(",\"src_len\":", self.src_len);
+        piece.put_small(",\"dst_len\":", self.dst_len);
+        piece.put_small("\"family\":", self.family);
+        line.piece(&mut piece, true)
+    }
+}
