@@ -4,6 +4,7 @@
 _rtnl_options() {
   case $1 in
     show) echo --order --format --bytes --color --explain --help ;;
+    follow) echo --order --format --bytes --color --depth --strict --explain --help ;;
     check) echo --order --format --explain --help ;;
     table)
       echo --kind --seq --port --family --depth --entries --order --format --explain --help
@@ -13,7 +14,7 @@ _rtnl_options() {
 }
 
 _rtnl() {
-  local commands='show check table request'
+  local commands='show follow check table request'
   local word=${COMP_WORDS[COMP_CWORD]} before=${COMP_WORDS[COMP_CWORD - 1]} command=${COMP_WORDS[1]} words=
   # Bash splits an option and its value at the sign between them.
   [ "$before" = '=' ] && before=${COMP_WORDS[COMP_CWORD - 2]}

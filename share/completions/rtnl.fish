@@ -1,16 +1,19 @@
 # Completion of the command rtnl in fish.
 
-set -l commands show check table request
+set -l commands show follow check table request
 set -l all "__fish_seen_subcommand_from $commands"
 set -l dumps '__fish_seen_subcommand_from table request'
-set -l show '__fish_seen_subcommand_from show'
+set -l show '__fish_seen_subcommand_from show follow'
+set -l follow '__fish_seen_subcommand_from follow'
+set -l deep '__fish_seen_subcommand_from follow table'
 set -l table '__fish_seen_subcommand_from table'
-set -l read '__fish_seen_subcommand_from show check table'
+set -l read '__fish_seen_subcommand_from show follow check table'
 set -l first "not __fish_seen_subcommand_from $commands help"
 set -l helped "__fish_seen_subcommand_from help; and not $all"
 
 complete -c rtnl -f
 complete -c rtnl -n $first -a show -d 'Print each datagram of a recording'
+complete -c rtnl -n $first -a follow -d 'Print each datagram when it comes'
 complete -c rtnl -n $first -a check -d 'Print whether each datagram is canonical, accepted or refused'
 complete -c rtnl -n $first -a table -d 'Read a recording as the answers to a dump'
 complete -c rtnl -n $first -a request -d 'Print the request that begins a dump'
@@ -29,5 +32,6 @@ complete -c rtnl -n $dumps -l kind -x -a 'link addr route neigh rule' -d 'What t
 complete -c rtnl -n $dumps -l seq -x -d 'Sequence number of the request and its answers'
 complete -c rtnl -n $dumps -l family -x -d 'Address family of the request'
 complete -c rtnl -n $table -l port -x -d 'Port id of the answers'
-complete -c rtnl -n $table -l depth -x -d 'Greatest depth of nested attributes'
+complete -c rtnl -n $deep -l depth -x -d 'Greatest depth of nested attributes'
+complete -c rtnl -n $follow -l strict -d 'End at the first bad line'
 complete -c rtnl -n $table -l entries -x -d 'Greatest number of entries in the table'

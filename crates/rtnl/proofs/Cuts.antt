@@ -1,7 +1,8 @@
 -- Where lines end, and whether they have blanks, by searches of bytes.
-use Rattle.std.proofs.Common.{◌≡◌, ◌==◌, ◌||◌, ℕ, ◌+◌, ◌<◌, ◌≤◌, Bool, true, false, cond, List, [], ◌∷◌, ◌++◌, get_or, take, drop, length, Option, Some, None, refl, sym, ap, ◌∙◌, arith}
+use Rattle.std.proofs.Common.{◌≡◌, ◌==◌, ◌||◌, ℕ, ◌+◌, ◌<◌, ◌≤◌, Bool, true, false, cond, List, [], ◌∷◌, ◌++◌, get_or, take, drop, length, Option, Some, None, refl, sym, ap, ◌∙◌, append_assoc, arith}
 use Rattle.std.specs.List.{All, list_any}
 use Rattle.std.specs.Option.{is_some}
+use Rattle.std.proofs.lemmas.Bool.{eqb-true}
 use Rattle.std.proofs.lemmas.Grind.{common_steps}
 use Rattle.std.proofs.lemmas.List.Sums.{count_by-le-length, sum_by-cons}
 use Rattle.std.specs.List.{onto_first, sum_by}
@@ -36,6 +37,16 @@ none_pass_before test xs k none =
 -- an input with no newline is one line
 pub last_line : (xs : List ℕ) → Nowhere (Passes (is_byte 10) xs) 0 (length xs) → lines_of xs ≡ xs ∷ []
 last_line xs none = slice_split_none is_newline xs (none_pass (is_byte 10) xs none)
+
+-- what stands before the first newline is one line
+pub first_line : (xs : List ℕ) (k : ℕ) → NoneBefore (Passes (is_byte 10) xs) 0 (length xs) k → lines_of (take k xs) ≡ take k xs ∷ []
+first_line xs k none = slice_split_none is_newline (take k xs) (none_pass_before (is_byte 10) xs k none)
+
+-- with the newline and what is behind it that is all
+pub line_parts : (xs : List ℕ) (k : ℕ) → NoneBefore (Passes (is_byte 10) xs) 0 (length xs) k → Passes (is_byte 10) xs k → (take k xs ++ 10 ∷ []) ++ drop (k + 1) xs ≡ xs
+line_parts xs k none here =
+    append_assoc (take k xs) (10 ∷ []) (drop (k + 1) xs) ∙ ap (λ b. take k xs ++ b ∷ drop (k + 1) xs) (sym (eqb-true (get_or xs k 0) 10 here))
+    ∙ ap (λ r. take k xs ++ r) (sym (drop_more xs k 0 none.high)) ∙ take-append-drop k xs
 
 -- the first newline ends the first line
 pub line_found : (xs : List ℕ) (k : ℕ) → NoneBefore (Passes (is_byte 10) xs) 0 (length xs) k → Passes (is_byte 10) xs k →

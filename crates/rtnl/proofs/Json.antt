@@ -1,6 +1,5 @@
 -- What is written of a line, a token after another.
-use Rattle.std.proofs.Common.{◌≡◌, ◌≤◌, ◌+◌, ℕ, [], ◌∷◌, ◌++◌, Bool, true, false, cond, List, drop, length, arith, append_assoc, append-nil, ap, ap₂, codes, refl, sym, ◌∙◌}
-use Rattle.std.proofs.Math.ListN.{drop_of_length-le}
+use Rattle.std.proofs.Common.{◌≡◌, ◌+◌, ℕ, [], ◌∷◌, ◌++◌, Bool, true, false, cond, List, drop, arith, append_assoc, append-nil, ap, ap₂, codes, refl, sym, ◌∙◌}
 use Rattle.std.proofs.lemmas.Bool.{and_parts}
 use Rattle.json.specs.Json.{Json}
 use Rattle.json.specs.Print.{begins, ends, escape, escape_byte, print, print_from, quoted, separator, token_text}
@@ -115,11 +114,6 @@ pub no_more : (w : Line) → w ⊕ [] ≡ w
 unfolding ◌⊕◌
 no_more w = refl
 
--- the name of a field, and then an array
-pub an_array : (w a b c d : Line) (name : List ℕ) (values : List Json) → a ≡ w ⊕ (key name ∷ []) → b ≡ a ⊕ (begin_array ∷ []) → c ≡ b ⊕ values_tokens values → d ≡ c ⊕ (end_array ∷ [])
-    → d ≡ w ⊕ fields_tokens ((name, array values) ∷ [])
-an_array w a b c d name values named begun written ended = rw (ended, written, begun, named) (simp (more, tokens_array, one_field))
-
 -- an object
 pub an_object : (w a b c : Line) (fields : List Field) → a ≡ w ⊕ (begin_object ∷ []) → b ≡ a ⊕ fields_tokens fields → c ≡ b ⊕ (end_object ∷ []) → c ≡ w ⊕ json_tokens (object fields)
 an_object w a b c fields begun written ended = rw (ended, written, begun) (simp (more, tokens_object))
@@ -135,11 +129,6 @@ pub an_item : (w a b c d : Line) (first rest : List Field) (others : List Json) 
 an_item w a b c d first rest others begun front held ended =
     ap (λ l. l ⊕ values_tokens others) (an_object w a c d (first ++ rest) begun (held ∙ ap (λ l. l ⊕ fields_tokens rest) front ∙ more_fields a first rest) ended)
     ∙ more w (json_tokens (object (first ++ rest))) (values_tokens others)
-
--- values of which none is left to be written
-pub all_written : {X : Type 0} (values : List X → List Json) (xs : List X) (i : ℕ) (line all : Line) → values [] ≡ [] → length xs ≤ i → line ⊕ values_tokens (values (drop i xs)) ≡ all → line ≡ all
-all_written values xs i line all none far h =
-    sym (no_more line) ∙ sym (ap (λ vs. line ⊕ values_tokens vs) (ap values (drop_of_length-le xs far) ∙ none)) ∙ h
 
 -- fields, and then others
 pub then_fields : (w a b : Line) (first rest : List Field) → a ≡ w ⊕ fields_tokens first → b ≡ a ⊕ fields_tokens rest → b ≡ w ⊕ fields_tokens (first ++ rest)

@@ -2,20 +2,14 @@
 use Rattle.std.proofs.Common.{◌≡◌, ℕ, ◌+◌, ◌≤◌, List, ◌++◌, Option, Some, None, append_assoc, append-nil, ap, sym, ◌∙◌, subst, take, take_all, drop, length, arith, length-append}
 use Rattle.std.proofs.Math.Seq.{take-add}
 use Rattle.std.proofs.lemmas.List.{length-take}
+use Rattle.std.proofs.KnownBytes.{Appends-kept, Consumes-trans}
 use Rattle.rtnl.specs.Streams.{AppendsPrefix, ConsumesAtMost}
 use Rattle.std.specs.Io.KnownBytes.{Appends, Consumes, Keeps}
-
--- one read after another
-pub consumes_more : (a b c : Option (List ℕ)) (x y : List ℕ) → Consumes a b x → Consumes b c y → Consumes a c (x ++ y)
-consumes_more None b c x y h k = tt
-consumes_more (Some xs) None c x y h k = absurd h
-consumes_more (Some xs) (Some ys) None x y h k = absurd k
-consumes_more (Some xs) (Some ys) (Some zs) x y h k = h ∙ ap (λ t. x ++ t) k ∙ sym (append_assoc x y zs)
 
 -- one more read of at most k bytes
 pub at_most_more : (n : ℕ) (a b c : Option (List ℕ)) (x s : List ℕ) (k : ℕ) → Consumes a b x → Consumes b c (take k s) → length x + k ≤ n → ConsumesAtMost n a c
 at_most_more n a b c x s k h next fits =
-    (x ++ take k s, consumes_more a b c x (take k s) h next, omega (arith, length-append x (take k s), length-take k s))
+    (x ++ take k s, Consumes-trans a b c x (take k s) h next, omega (arith, length-append x (take k s), length-take k s))
 
 -- one write after another, each of the next bytes of s
 pub appends_more : (a b c : Option (List ℕ)) (s : List ℕ) (d n : ℕ) → Appends a b (take d s) → Appends b c (take n (drop d s)) → Appends a c (take (d + n) s)
@@ -30,16 +24,9 @@ pub appends_none : (a : Option (List ℕ)) (s : List ℕ) → Appends a a (take 
 appends_none None s = tt
 appends_none (Some xs) s = sym (append-nil xs)
 
--- writes, and then a call that wrote nothing
-kept : (a b c : Option (List ℕ)) (x : List ℕ) → Appends a b x → Keeps b c → Appends a c x
-kept None b c x h k = tt
-kept (Some xs) None c x h k = absurd h
-kept (Some xs) (Some ys) None x h k = absurd k
-kept (Some xs) (Some ys) (Some zs) x h k = k ∙ h
-
--- the same, as a prefix of s
+-- writes, and then a call that wrote nothing: a prefix of s
 pub prefix_of : (a b c : Option (List ℕ)) (s : List ℕ) (d : ℕ) → Appends a b (take d s) → Keeps b c → AppendsPrefix a c s
-prefix_of a b c s d h k = (d, kept a b c (take d s) h k)
+prefix_of a b c s d h k = (d, Appends-kept a b c (take d s) h k)
 
 -- all of s was written
 pub whole : (a b : Option (List ℕ)) (s : List ℕ) (d : ℕ) → Appends a b (take d s) → length s ≤ d → Appends a b s

@@ -6,6 +6,9 @@ mod Decoded
 mod Digits
 mod Entries
 mod Feeding
+mod FollowedLines
+mod FollowedPieces
+mod Following
 mod Fronts
 mod Headline
 mod Json

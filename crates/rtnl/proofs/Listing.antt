@@ -1,4 +1,4 @@
-use Rattle.std.proofs.Common.{◌≡◌, ◌≤◌, ℕ, Bool, true, false, List, [], ◌∷◌, ◌++◌, drop, length, ap, sym, ◌∙◌, append_assoc, append-nil, drop_of_length-le}
+use Rattle.std.proofs.Common.{◌≡◌, ℕ, true, false, List, [], ◌∷◌, ◌++◌, ap, sym, ◌∙◌, append_assoc, append-nil}
 use Rattle.std.specs.List.{join_with_byte}
 use Rattle.rtnl.specs.Names.{rest_text}
 
@@ -14,9 +14,3 @@ pub next_name : (front name : List ℕ) (names : List (List ℕ)) →
     front ++ rest_text true (name ∷ names) ≡ ((front ++ 44 ∷ []) ++ name) ++ rest_text true names
 next_name front name names =
     sym (append_assoc (front ++ 44 ∷ []) name (rest_text true names) ∙ append_assoc front (44 ∷ []) (name ++ rest_text true names))
-
--- behind the last name of some nothing is left to be written
-pub no_name : {X : Type 0} (names : List X → List (List ℕ)) (xs : List X) (i : ℕ) (any : Bool) (before all : List ℕ) → names [] ≡ [] → any ≡ true → length xs ≤ i
-    → before ++ rest_text any (names (drop i xs)) ≡ all → before ≡ all
-no_name names xs i any before all none some far h =
-    sym (append-nil before) ∙ sym (λ j. before ++ rest_text (some j) ((ap names (drop_of_length-le xs far) ∙ none) j)) ∙ h

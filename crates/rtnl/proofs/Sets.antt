@@ -3,6 +3,7 @@ use Rattle.std.proofs.Common.{append_assoc, append-nil}
 use Rattle.std.proofs.Math.ListN.{drop_of_length-le}
 use Rattle.rtnl.proofs.Json.{more, more_fields, no_more, one_field, tokens_array, tokens_object}
 use Rattle.rtnl.proofs.Unescaped.{short_name}
+use Rattle.std.proofs.KnownBytes.{Consumes-trans}
 use Rattle.rtnl.proofs.KnownBytes.{appends_more, appends_none, prefix_of, whole}
 use Rattle.rtnl.proofs.Trees.{inline_list, inline_hops}
 
@@ -20,6 +21,9 @@ pub ruleset short = short_name
 
 -- what stands of a container on its attribute's line
 pub ruleset inline = (inline_list, inline_hops)
+
+-- what a source gave
+pub ruleset given = Consumes-trans
 
 -- what a sink was given
 pub ruleset gives = (appends_more, appends_none, prefix_of, whole)

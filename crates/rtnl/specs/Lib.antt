@@ -9,6 +9,7 @@ pub mod ByteViews
 pub mod Checked
 pub mod Codes
 pub mod Datagrams
+pub mod Followed
 pub mod Further
 pub mod Json
 pub mod Kernel

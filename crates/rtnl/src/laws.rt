@@ -3,9 +3,13 @@
 ghost use Rattle.std.specs.Prelude.{◌≡◌, ◌↔◌, ℕ, List, IsSome, Err};
 ghost use Rattle.nl_attr.specs.Numbers.{AreBytes};
 ghost use Rattle.nl_frame.specs.Limits.{Bounds};
+ghost use Rattle.rtnl.specs.ByteRows.{Views, is_accepted, viewed_text};
 ghost use Rattle.rtnl.specs.Checked.{Checks, ChecksJson, Finding, Finds};
 ghost use Rattle.rtnl.specs.Lines.{line_at, line_fault_of};
 ghost use Rattle.rtnl.specs.Shown.{Answer, Answers, Shows, ShowsJson};
+ghost use Rattle.rtnl.specs.Shown.{datagram_json, datagram_text, is_taken};
+ghost use Rattle.rtnl.specs.Followed.{TellsAsPrinted};
+ghost use Rattle.rtnl.specs.declared.bytes.rows.RowFormat.{RowFormat};
 ghost use Rattle.rtnl.specs.Tabled.{HeadlineOfTables};
 ghost use Rattle.rtnl.specs.declared.error.Verdict.{Verdict};
 
@@ -36,6 +40,18 @@ pub fn one_text()
 pub fn bad_lines()
     ensures { (number : ℕ) (line : List ℕ)
         → (line_at number line ≡ Err number) ↔ IsSome (line_fault_of line) }
+{}
+
+/// Over a recording that `run_show` takes, what `run_follow` tells of its lines is what `run_show`
+/// writes, with no bad line, and nothing is refused where the verdict is Clean; and so in JSON, and
+/// in bytes.
+pub fn follow_is_show()
+    ensures text { (b : Bounds)
+        → TellsAsPrinted (Answers b) (datagram_text b.shape.order) is_taken }
+    ensures json { (b : Bounds)
+        → TellsAsPrinted (Answers b) (datagram_json b.shape.order) is_taken }
+    ensures bytes { (f : RowFormat) (b : Bounds)
+        → TellsAsPrinted (Views b) (viewed_text f b.shape.order) is_accepted }
 {}
 
 /// What `run_table` and `run_table_json` promise of a recording carries the headline: of each

@@ -98,6 +98,17 @@ pub(crate) struct Work {
     pub limits: Limits,
 }
 
+/// How a recording is followed, and under which limits.
+#[derive(Clone, Copy, Debug)]
+pub(crate) struct Follow {
+    /// When rows of bytes are coloured, where bytes are printed.
+    pub bytes: Option<Color>,
+    pub format: Format,
+    pub limits: Limits,
+    /// Whether it ends at the first bad line.
+    pub is_strict: bool,
+}
+
 /// Which table is asked for, how it is printed, and under which limits.
 #[derive(Clone, Copy, Debug)]
 pub(crate) struct Table {
@@ -133,6 +144,12 @@ pub(crate) enum Task {
     /// Read a file, or standard input where none or `-` is named.
     Recording {
         work: Work,
+        explain: bool,
+        file: Option<String>,
+    },
+    /// Print each datagram of one when it comes.
+    Follow {
+        follow: Follow,
         explain: bool,
         file: Option<String>,
     },
@@ -235,6 +252,34 @@ fn table_of(matches: &ArgMatches<'_>, file: Option<String>) -> Option<Task> {
     })
 }
 
+fn follow_of(matches: &ArgMatches<'_>, file: Option<String>) -> Option<Task> {
+    let standard = Limits::standard();
+    let (datagram, total) = (standard.datagram(), standard.total());
+    let limits = Limits::new(
+        matches.get_one("depth")?,
+        datagram,
+        total,
+        standard.entries(),
+    )
+    .ok()?;
+    let bytes = if matches.get_flag("bytes") {
+        Some(named(COLORS.as_slice(), matches.get_str("color")?)?)
+    } else {
+        None
+    };
+    let follow = Follow {
+        bytes,
+        format: named(FORMATS.as_slice(), matches.get_str("format")?)?,
+        limits: limits.with_order(matches.get_one("order")?),
+        is_strict: matches.get_flag("strict"),
+    };
+    Some(Task::Follow {
+        follow,
+        explain: matches.get_flag("explain"),
+        file,
+    })
+}
+
 fn request_of(matches: &ArgMatches<'_>) -> Option<Task> {
     Some(Task::Request {
         kind: matches.get_one("kind")?,
@@ -252,6 +297,7 @@ fn command_task(name: &str, matches: &ArgMatches<'_>, file: Option<String>) -> O
         }
         "show" => Engine::Show,
         "check" => Engine::Check,
+        "follow" => return follow_of(matches, file),
         "table" => return table_of(matches, file),
         "request" => return request_of(matches),
         _ => return None,

@@ -52,6 +52,10 @@ prints
   message 3 done flags 0x0002 MULTI seq 1 port 12345
     done status 0 tail -";
 
+const FOLLOW_EXAMPLE: &str = "Example:
+  rtnl-record --monitor link addr route | rtnl follow
+prints each datagram when it comes, as `rtnl show` prints it";
+
 const CHECK_EXAMPLE: &str = "Example:
   echo 1100000012000103010000000000000000 | rtnl check
 prints
@@ -191,6 +195,30 @@ fn show_command<'a>(alloc: Global, values: Values<'a>) -> Result<Command<'a>, Al
         .arg(file_argument(alloc))
 }
 
+fn strict_option<'a>(alloc: Global) -> Arg<'a> {
+    Arg::new(alloc, "strict")
+        .long("strict")
+        .action(ArgAction::SetTrue)
+        .help("End at the first bad line, as `rtnl show` does")
+}
+
+fn follow_command<'a>(alloc: Global, values: Values<'a>) -> Result<Command<'a>, AllocError> {
+    Command::new(alloc, "follow")
+        .about(
+            "Prints each datagram of a recording of any length when its line has come, as `show` \
+            prints it; a bad line is named on standard error, and following goes on",
+        )
+        .after_help(FOLLOW_EXAMPLE)
+        .arg(order_option(alloc, values))?
+        .arg(format_option(alloc, values))?
+        .arg(bytes_option(alloc))?
+        .arg(color_option(alloc, values))?
+        .arg(depth_option(alloc, values))?
+        .arg(strict_option(alloc))?
+        .arg(explain_option(alloc))?
+        .arg(file_argument(alloc))
+}
+
 fn check_command<'a>(alloc: Global, values: Values<'a>) -> Result<Command<'a>, AllocError> {
     Command::new(alloc, "check")
         .about(
@@ -241,6 +269,7 @@ fn command_named<'a>(
 ) -> Result<Option<Command<'a>>, AllocError> {
     let command = match name {
         "show" => show_command(alloc, values)?,
+        "follow" => follow_command(alloc, values)?,
         "check" => check_command(alloc, values)?,
         "table" => table_command(alloc, values)?,
         "request" => request_command(alloc, values)?,
@@ -256,6 +285,7 @@ fn with_all_commands<'a>(
 ) -> Result<Command<'a>, AllocError> {
     program
         .subcommand(show_command(alloc, values)?)?
+        .subcommand(follow_command(alloc, values)?)?
         .subcommand(check_command(alloc, values)?)?
         .subcommand(table_command(alloc, values)?)?
         .subcommand(request_command(alloc, values)?)

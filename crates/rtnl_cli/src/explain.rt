@@ -10,7 +10,7 @@ use crate::subject::Subject;
 use nl_attr::Reason;
 use rtnl::dump::{Dump, FeedError, Session};
 use rtnl::frame::{Limits, ScanError};
-use rtnl::{LineFault, RunError, Tape, Verdict, datagrams, line_fault, tape_of};
+use rtnl::{LONGEST_LINE, LineFault, RunError, Tape, Verdict, datagrams, line_fault, tape_of};
 use std::alloc::AllocError;
 use std::io;
 
@@ -83,6 +83,30 @@ fn explain_line(rt: &HostRuntime, name: Name<'_>, input: &[u8], number: u32) -> 
                 ""
             };
             eprintln!(rt; "rtnl: {name}: line {number}: {digits} digits, an odd number{hint}")
+        }
+        None => Ok(()),
+    }
+}
+
+/// Writes what is wrong with a line that is looked at by itself; with none that it is too long.
+pub(crate) fn explain_one_line(
+    rt: &HostRuntime,
+    name: Name<'_>,
+    number: u64,
+    line: Option<&[u8]>,
+) -> io::Result<()> {
+    let Some(line) = line else {
+        return eprintln!(rt; "rtnl: {name}: line {number}: longer than {LONGEST_LINE} bytes");
+    };
+    match line_fault(line) {
+        Some(LineFault::Character { column, byte }) => {
+            eprintln!(rt;
+                "rtnl: {name}: line {number}, column {column}: byte 0x{byte:02x} is no \
+                hexadecimal digit"
+            )
+        }
+        Some(LineFault::Odd { digits }) => {
+            eprintln!(rt; "rtnl: {name}: line {number}: {digits} digits, an odd number")
         }
         None => Ok(()),
     }

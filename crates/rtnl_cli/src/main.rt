@@ -6,6 +6,7 @@ mod arguments;
 mod color;
 mod commands;
 mod explain;
+mod follow;
 mod heading;
 mod hints;
 mod name;
@@ -13,16 +14,19 @@ mod place;
 mod subject;
 mod terminal;
 
-use arguments::{Engine, Format, Parsed, Sought, Table, Task, Work, unknown_command, unnamed};
+use arguments::{
+    Engine, Follow, Format, Parsed, Sought, Table, Task, Work, unknown_command, unnamed,
+};
 use clap::Error;
 use color::row_format;
 use explain::{Detail, tell};
+use follow::{Named, follow};
 use hints::hint_too_long;
 use name::{Escaped, Name};
 use rtnl::{
-    LONGEST_INPUT, ReadSource, RunError, Sink, SliceSource, Source, VecSink, Verdict, WriteSink,
-    run_check, run_check_json, run_request_ordered, run_show, run_show_bytes, run_show_json,
-    run_table, run_table_json,
+    Followed, LONGEST_INPUT, ReadSource, RunError, Sink, SliceSource, Source, VecSink, Verdict,
+    WriteSink, run_check, run_check_json, run_request_ordered, run_show, run_show_bytes,
+    run_show_json, run_table, run_table_json,
 };
 use std::alloc::{AllocError, Global};
 use std::fs::File;
@@ -230,6 +234,67 @@ fn perform_work(rt: &HostRuntime, work: &Work, explain: bool, file: Option<&str>
     }
 }
 
+/// The exit status of a recording that was followed, after what was counted, which is said on a
+/// terminal.
+fn followed_status(
+    rt: &HostRuntime,
+    name: Name<'_>,
+    answer: Result<Followed, RunError>,
+) -> ExitCode {
+    let Followed {
+        datagrams,
+        refused,
+        bad_lines,
+        ..
+    } = match answer {
+        Ok(counts) => counts,
+        Err(error) => return outcome(rt, name, Err(error)),
+    };
+    let status = match refused + bad_lines {
+        0 => ExitCode::SUCCESS,
+        _ => ExitCode::from(BLEMISHED),
+    };
+    if !is_terminal(rt, STDERR) {
+        return status;
+    }
+    let counted = eprintln!(rt;
+        "rtnl: {datagrams} datagrams, {refused} refused, {bad_lines} bad lines"
+    );
+    followed(counted, status)
+}
+
+/// Follows what a reader gives; what is printed goes to standard output.
+fn follow_over<R: Read + Drop>(
+    rt: &HostRuntime,
+    name: Name<'_>,
+    reader: R,
+    how: &Follow,
+    explain: bool,
+) -> ExitCode {
+    let mut source = ReadSource::new(reader);
+    let mut sink = WriteSink::new(io::writer(rt));
+    let mut named = Named {
+        rt,
+        name,
+        explain,
+        is_strict: how.is_strict,
+    };
+    let answer = follow(&mut source, &mut sink, &mut named, how);
+    followed_status(rt, name, answer)
+}
+
+/// Follows a recording as it comes.
+fn perform_follow(rt: &HostRuntime, how: &Follow, explain: bool, file: Option<&str>) -> ExitCode {
+    let name = Name(file);
+    match file {
+        None => follow_over(rt, name, rt.reader(), how, explain),
+        Some(path) => match File::open(rt, path) {
+            Ok(opened) => follow_over(rt, name, opened, how, explain),
+            Err(error) => faulty(rt, RunError::ReadFault, name, &error, explain),
+        },
+    }
+}
+
 /// Prints the usage error of a table whose dump isn't known.
 fn print_unnamed(
     rt: &HostRuntime,
@@ -285,6 +350,11 @@ fn perform(rt: &HostRuntime, task: &Task) -> ExitCode {
             explain,
             file,
         } => perform_work(rt, work, *explain, file.as_ref().map(String::as_str)),
+        Task::Follow {
+            follow,
+            explain,
+            file,
+        } => perform_follow(rt, follow, *explain, file.as_ref().map(String::as_str)),
         Task::Table {
             table,
             explain,

@@ -19,7 +19,7 @@ use nl_frame::ScanError;
 use std::alloc::{AllocError, Global};
 
 /// How the rows of bytes are printed.
-#[derive(Clone, Copy, Debug, PartialEq, Eq)]
+#[derive(Clone, Copy, Debug, PartialEq, Eq, Hash)]
 pub enum RowFormat {
     /// A line of text for each row.
     Text,

@@ -45,7 +45,7 @@ fn has_blank(line: &[u8]) -> bool
 }
 
 /// What is wrong with a line that is not hexadecimal.
-#[derive(Clone, Copy, Debug, PartialEq, Eq)]
+#[derive(Clone, Copy, Debug, PartialEq, Eq, Hash)]
 pub enum LineFault {
     /// The first byte that is neither a digit nor a blank (a space, a tab, a carriage return), and
     /// its column, counted from 1 over all bytes of the line.
@@ -128,7 +128,12 @@ fn read_digits(bytes: &mut Vec<u8>, number: u32, digits: &[u8]) -> Result<bool, 
 }
 
 /// Appends the datagram of a line, and says whether it has one. Only a line with blanks is copied.
-fn read_line(alloc: Global, bytes: &mut Vec<u8>, number: u32, line: &[u8]) -> Result<bool, RunError>
+pub(crate) fn read_line(
+    alloc: Global,
+    bytes: &mut Vec<u8>,
+    number: u32,
+    line: &[u8],
+) -> Result<bool, RunError>
     ensures { Reads bytes.old.items bytes.new.items result (line_at number line.now) }
 {
     if begins_comment(line) {

@@ -2,6 +2,8 @@
 
 pub(crate) mod check;
 pub(crate) mod entries;
+pub(crate) mod follow;
+pub(crate) mod following;
 pub(crate) mod per_datagram;
 pub(crate) mod report;
 pub(crate) mod request;
@@ -9,3 +11,4 @@ pub(crate) mod run;
 pub(crate) mod show;
 pub(crate) mod show_bytes;
 pub(crate) mod table;
+pub(crate) mod telling;

@@ -146,6 +146,7 @@ impl ReportFormat for InJson {
         }
     }
 
+    #[tactic(auto, unfolding(crate::specs::TabledJson::entry_json), using(crate::proofs::Sets::field))]
     fn push_entry<T: ItemLines + ItemField>(
         alloc: Global,
         out: &mut Vec<u8>,

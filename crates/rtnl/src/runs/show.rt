@@ -72,8 +72,8 @@ pub fn push_datagram(
 
 /// To show datagrams under these limits.
 #[derive(Clone, Copy)]
-struct Show {
-    limits: Limits,
+pub(crate) struct Show {
+    pub(crate) limits: Limits,
 }
 
 impl PerDatagram for Show {
@@ -100,8 +100,8 @@ impl PerDatagram for Show {
 
 /// To show datagrams as lines of JSON.
 #[derive(Clone, Copy)]
-struct ShowJson {
-    limits: Limits,
+pub(crate) struct ShowJson {
+    pub(crate) limits: Limits,
 }
 
 impl PerDatagram for ShowJson {

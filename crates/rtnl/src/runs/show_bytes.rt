@@ -19,9 +19,9 @@ use std::alloc::{AllocError, Global};
 
 /// To show datagrams in bytes under these limits.
 #[derive(Clone, Copy)]
-struct ShowBytes {
-    limits: Limits,
-    format: RowFormat,
+pub(crate) struct ShowBytes {
+    pub(crate) limits: Limits,
+    pub(crate) format: RowFormat,
 }
 
 impl PerDatagram for ShowBytes {

@@ -151,7 +151,7 @@ pub const LONGEST_INPUT: usize = 16_777_216;
 
 /// All that a source gives up to its end, of which at most `LONGEST_INPUT` bytes and one more are
 /// taken. It stops at the first call that fails.
-#[tactic(auto, using(crate::proofs::KnownBytes::consumes_more))]
+#[tactic(auto, using(crate::proofs::Sets::given))]
 pub(crate) fn read_input<S: Source>(alloc: Global, source: &mut S) -> Result<Vec<u8>, RunError>
     ensures all { IfOk result
         (λ input. Consumes (S.remaining source.old) (S.remaining source.new) input.items) }

@@ -9,7 +9,7 @@ use Rattle.nl_attr.proofs.Lemmas.Opened.{value_hops, value_list}
 use Rattle.rtnl.specs.Attributes.{attribute_style, inner_context}
 use Rattle.rtnl.specs.Json.{◌⊕◌, array, fields_tokens, string, values_tokens}
 use Rattle.rtnl.specs.MessagesJson.{attr_front, attrs_json, hop_front, hops_json, items_fields, value_fields}
-use Rattle.rtnl.proofs.Json.{all_written, an_array, an_item, more as tokens_more, then_fields}
+use Rattle.rtnl.proofs.Json.{an_item, more as tokens_more, then_fields}
 use Rattle.rtnl.proofs.Trees.{attr_item, hop_item}
 use Rattle.rtnl.proofs.json_lines.tree.+writing.Goals as goal
 

@@ -1,0 +1,112 @@
+-- Over lines of which none is bad, what is followed are the datagrams that a recording has.
+use Rattle.std.proofs.Common.{◌≡◌, ◌==◌, ◌↔◌, ◌+◌, ◌≤◌, ℕ, Bool, true, false, if◌then◌else◌, List, [], ◌∷◌, ◌++◌, length, Option, Some, None, Result, Ok, Err, refl, sym, ap, ◌∙◌, subst, arith}
+use Rattle.std.specs.Prelude.{nat_le}
+use Rattle.std.specs.List.{sum_by}
+use Rattle.std.specs.Result.{result_unwrap_or}
+use Rattle.std.specs.Io.KnownBytes.{Appends}
+use Rattle.std.proofs.lemmas.Grind.{common_steps}
+use Rattle.std.proofs.lemmas.Bool.Decides.{nat_tests}
+use Rattle.std.proofs.lemmas.List.Sums.{sum_by-cons}
+use Rattle.hex.specs.Hex.{decode_of}
+use Rattle.hex.specs.declared.error.FromHexError.{FromHexError}
+use Rattle.rtnl.specs.Followed.{LONGEST_LINE, TellsAsPrinted, bad_at, bad_from, datagram_in, datagrams_in, kept_of, line_says, refused_in, refused_one, said_of}
+use Rattle.rtnl.specs.Lines.{Adds, Reads, compact, datagrams_from, decoded, digits_at, is_comment, line_at, lines_of, with_first, ◌>>=◌}
+use Rattle.rtnl.specs.Runs.{EachIs, texts_from, verdict_from, with_one}
+use Rattle.rtnl.specs.declared.error.Verdict.{Verdict}
+use Rattle.rtnl.specs.declared.error.Verdict.TheVariants.{Clean, Blemished}
+use Rattle.rtnl.specs.declared.runs.telling.Followed.{Followed}
+use Rattle.rtnl.proofs.Cuts.{total-lines_of}
+
+-- what a good line says does not depend on its number
+line_any : (m n : ℕ) (line : List ℕ) (d : Option (List ℕ)) → line_at n line ≡ Ok d → line_at m line ≡ Ok d
+line_any m n line d = by_comment (is_comment line) where
+  by_digits : (r : Result (List ℕ) FromHexError) → decoded n r ≡ Ok d → decoded m r ≡ Ok d
+  by_digits (Ok bytes) is = is
+  by_digits (Err e) is = cc is
+
+  by_number : (none : Bool) → (if none then Ok None else decoded n (decode_of (compact line))) ≡ Ok d → (if none then Ok None else decoded m (decode_of (compact line))) ≡ Ok d
+  by_number true is = is
+  by_number false is = by_digits (decode_of (compact line)) is
+
+  by_comment : (comment : Bool) → (if comment then Ok None else digits_at n (compact line)) ≡ Ok d → (if comment then Ok None else digits_at m (compact line)) ≡ Ok d
+  by_comment true is = is
+  by_comment false is = by_number (length (compact line) == 0) is
+
+-- a short line is kept
+short_kept : (line : List ℕ) → length line ≤ LONGEST_LINE → kept_of line ≡ Some line
+short_kept line short =
+    let is : nat_le (length line) LONGEST_LINE ≡ true = grind (arith, common_steps, nat_tests) in
+    rw is refl
+
+first_then : (d : Option (List ℕ)) (rest : List (List ℕ)) → datagram_in (Ok d) ++ rest ≡ with_first d rest
+first_then None rest = refl
+first_then (Some d) rest = refl
+
+-- lines of which none is bad
+abbrev AreGood : List (List ℕ) → List (List ℕ) → Type 0
+AreGood lines ds = (datagrams_in lines ≡ ds) × ((m : ℕ) → bad_from m lines ≡ [])
+
+good_lines : (n : ℕ) (lines ds : List (List ℕ)) → sum_by length lines ≤ LONGEST_LINE → datagrams_from n lines ≡ Ok ds → AreGood lines ds
+unfolding datagrams_from
+good_lines n [] ds short is = (ap (λ r. result_unwrap_or r []) is, λ m. refl)
+good_lines n (l ∷ ls) ds short is =
+    by_case (line_at n l) (datagrams_from (n + 1) ls) refl is (λ more rest. good_lines (n + 1) ls more (omega (arith, short, sum_by-cons length l ls)) rest) refl where
+      says : (d : Option (List ℕ)) → line_at n l ≡ Ok d → line_says l ≡ Ok d
+      says d is = ap said_of (short_kept l (omega (arith, short, sum_by-cons length l ls))) ∙ line_any 0 n l d is
+
+      by_case : (r : Result (Option (List ℕ)) ℕ) (others : Result (List (List ℕ)) ℕ) → line_at n l ≡ r
+          → (r >>= λ d. others >>= λ more. Ok (with_first d more)) ≡ Ok ds → ((more : List (List ℕ)) → others ≡ Ok more → AreGood ls more) → others ≡ others → AreGood (l ∷ ls) ds
+      by_case (Err e) others this is rest same = cc is
+      by_case (Ok d) (Err e) this is rest same = cc is
+      by_case (Ok d) (Ok more) this is rest same =
+          let good = rest more refl in
+          let e = says d this in
+          (ap (λ r. datagram_in r ++ datagrams_in ls) e ∙ ap (λ x. datagram_in (Ok d) ++ x) good.0 ∙ first_then d more ∙ ap (λ r. result_unwrap_or r []) is, λ m. ap (λ r. bad_at m r ++ bad_from (m + 1) ls) e ∙ good.1 (m + 1))
+
+module _ {X : Type 0} (Is : List ℕ → X → Type 0) (text : ℕ → List ℕ → X → List ℕ) (is_taken : X → Bool) where
+  stays : (b : Bool) → with_one Blemished b ≡ Blemished
+  stays true = refl
+  stays false = refl
+
+  blemished : (found : List X) → verdict_from is_taken Blemished found ≡ Blemished
+  blemished [] = refl
+  blemished (x ∷ found) = ap (λ v. verdict_from is_taken v found) (stays (is_taken x)) ∙ blemished found
+
+  -- nothing is refused where the verdict is clean
+  clean : (found : List X) → (verdict_from is_taken Clean found ≡ Clean) ↔ (refused_in is_taken found ≡ 0)
+  clean [] = (λ e. refl, λ e. refl)
+  clean (x ∷ found) = by_case (is_taken x) (clean found) where
+    by_case : (b : Bool) → (verdict_from is_taken Clean found ≡ Clean) ↔ (refused_in is_taken found ≡ 0)
+        → (verdict_from is_taken (with_one Clean b) found ≡ Clean) ↔ (refused_one b + refused_in is_taken found ≡ 0)
+    by_case true rest = (λ e. let r : refused_in is_taken found ≡ 0 = rest.0 e in omega arith, λ e. rest.1 (omega arith))
+    by_case false rest = (λ e. let f : Blemished ≡ Clean = sym (blemished found) ∙ e in cc, λ e. absurd (omega arith))
+
+  pub as_printed : TellsAsPrinted Is text is_taken
+  as_printed input ds s heard hears old new short good told =
+      let g = good_lines 1 (lines_of input) ds (omega (arith, short, total-lines_of input)) good in
+      let verdict : Verdict = verdict_from is_taken Clean told.found in
+      let found = subst (λ l. EachIs Is l told.found) g.0 told.each in (
+        texts_from text 1 ds told.found,
+        verdict,
+        (told.found, found, refl, refl),
+        subst (λ l. Appends old new (texts_from text 1 l told.found)) g.0 told.written,
+        subst (Appends heard hears) (g.1 1) told.bad,
+        subst (λ (t : Followed). (verdict ≡ Clean) ↔ (t.refused ≡ 0)) (sym told.counts) (clean told.found),
+        ap (λ (t : Followed). t.bad_lines) told.counts ∙ ap (length {A = ℕ}) (g.1 1),
+      )
+
+-- ---- a line that was read
+
+-- it has no datagram
+pub nothing_read : (old new : List ℕ) (r : Result (Option (List ℕ)) ℕ) → Reads old new (Ok false) r → r ≡ Ok None
+nothing_read old new r h = by_case h.0 h.1 h.2 where
+  by_case : (d : Option (List ℕ)) → r ≡ Ok d → Adds d false old new → r ≡ Ok None
+  by_case None is adds = is
+  by_case (Some d) is adds = cc adds.0
+
+-- its datagram is all that was added
+pub datagram_read : (old new : List ℕ) (r : Result (Option (List ℕ)) ℕ) → Reads old new (Ok true) r → old ≡ [] → r ≡ Ok (Some new)
+datagram_read old new r h none = by_case h.0 h.1 h.2 where
+  by_case : (d : Option (List ℕ)) → r ≡ Ok d → Adds d true old new → r ≡ Ok (Some new)
+  by_case None is adds = cc adds.0
+  by_case (Some d) is adds = is ∙ ap (λ x. Ok (Some x)) (sym (adds.1 ∙ ap (λ o. o ++ d) none))

@@ -1,0 +1,13 @@
+use Rattle.rtnl.specs.ByteRows.{Views, is_accepted, viewed_text}
+use Rattle.rtnl.specs.Shown.{Answers, datagram_json, datagram_text, is_taken}
+use Rattle.rtnl.proofs.FollowedLines.{as_printed}
+use Rattle.rtnl.proofs.laws.follow_is_show.Goals as goal
+
+pub returns-clause-text : goal.returns-clause-text
+returns-clause-text c = λ b. as_printed (Answers b) (datagram_text b.shape.order) is_taken
+
+pub returns-clause-json : goal.returns-clause-json
+returns-clause-json c = λ b. as_printed (Answers b) (datagram_json b.shape.order) is_taken
+
+pub returns-clause-bytes : goal.returns-clause-bytes
+returns-clause-bytes c = λ f b. as_printed (Views b) (viewed_text f b.shape.order) is_accepted
