@@ -4,8 +4,9 @@ mutations of their datagrams, in both orders and both formats, and against what 
 command that prints as it reads: the text of a line is there before the next line comes, what is
 written of a recording that is cut is the beginning of the whole and ends with a whole datagram,
 memory does not grow with the input, bad lines are named and passed over, and it ends as the other
-commands do where its reader goes, a device is full or a signal comes. The last line is
-'N passed, M failed', and the status is 1 where a case failed.
+commands do where its reader goes, a device is full or a signal comes. Each read and each write goes
+wrong in turn, and it follows the kernel in a network namespace of its own, where the machine allows
+one. The last line is 'N passed, M failed', and the status is 1 where a case failed.
 """
 import fcntl
 import os
@@ -14,13 +15,19 @@ import re
 import resource
 import select
 import signal
+import struct
 import subprocess
 import sys
+import tempfile
+import termios
 import time
 
 sys.dont_write_bytecode = True
-sys.path.insert(0, f"{os.path.dirname(os.path.realpath(__file__))}/helpers")
+TESTS = os.path.dirname(os.path.realpath(__file__))
+sys.path[:0] = [f"{TESTS}/helpers", f"{TESTS}/follow"]
 import datagrams
+import faults
+import live
 import mutations
 import proved
 from counting import counted
@@ -186,22 +193,28 @@ def long_lines():
         yield f"a line of {count} bytes", wrong
 
 
+def unread(pipe):
+    """How many bytes of a pipe are still to be read."""
+    return struct.unpack("i", fcntl.ioctl(pipe, termios.FIONREAD, bytes(4)))[0]
+
+
 def peak(recording, times):
-    """The most memory that it takes, in KiB, over a recording so many times."""
-    reading, writing = os.pipe()
-    with open(os.devnull, "wb") as nothing:
-        child = os.fork()
-        if child == 0:
-            os.dup2(reading, 0)
-            os.dup2(nothing.fileno(), 1)
-            os.close(writing)
-            os.execv(PROGRAM, [PROGRAM, "follow"])
-    os.close(reading)
-    with os.fdopen(writing, "wb") as pipe:
-        for _ in range(times):
-            pipe.write(recording)
-    _, status, used = os.wait4(child, 0)
-    return used.ru_maxrss, status
+    """The most memory that it took, in KiB, when it had all of a recording so many times, and its
+    status. What `wait` says of a child is at least what its parent had when it was made."""
+    run = subprocess.Popen(
+        [PROGRAM, "follow"], stdin=subprocess.PIPE, stdout=subprocess.DEVNULL, bufsize=0
+    )
+    for _ in range(times):
+        left = memoryview(recording)
+        while left:
+            left = left[run.stdin.write(left) :]
+    until = time.monotonic() + PATIENCE
+    while unread(run.stdin) and time.monotonic() < until:
+        time.sleep(0.02)
+    with open(f"/proc/{run.pid}/status", encoding="utf-8") as said:
+        most = int(re.search(r"^VmHWM:\s+(\d+) kB$", said.read(), re.M)[1])
+    run.stdin.close()
+    return most, run.wait()
 
 
 def memory():
@@ -258,10 +271,27 @@ def cases():
     yield from memory()
     yield from endings()
     yield from signals()
+    with tempfile.TemporaryDirectory() as folder:
+        yield from faults.cases(folder)
+    if sys.argv[1:] == ["inside"]:
+        yield from live.cases()
+    else:
+        print("skipped: following live, since no network namespace can be made here")
     yield from cut_recordings()
     yield from as_show()
 
 
+def go_inside():
+    """Runs this script in a network namespace of its own, if there can be one."""
+    wanted = [f"{TESTS}/helpers/install_packages.sh", "cc", "gcc", "ip", "iproute2"]
+    subprocess.run(wanted, check=False)
+    way = live.way_in()
+    if way:
+        os.execvp(way[0], [*way, f"{TESTS}/follow.py", "inside"])
+
+
 if __name__ == "__main__":
+    if sys.argv[1:] != ["inside"]:
+        go_inside()
     resource.setrlimit(resource.RLIMIT_CORE, (0, 0))
     sys.exit(counted(cases()))

@@ -1,8 +1,9 @@
 #!/usr/bin/env bash
 # Refuses the growths of a program one by one: the first in one run, the second in the next, and so on until a
 # run asks for no more. Whole runs of the built program come first: a refused growth ends it as out of memory, with
-# nothing on standard output, or it wasn't needed and changes nothing. Then come the calls of the libraries one by
-# one. What is explained may also be left out, and then it says so. The last line is 'N passed, M failed', and the status is 1 where a case failed.
+# nothing on standard output, or with the first datagrams of what is followed, each of them whole; or it wasn't needed
+# and changes nothing. What is explained may also be left out, and then it says so. Then come the calls of the
+# libraries one by one. The last line is 'N passed, M failed', and the status is 1 where a case failed.
 set -u
 cd "$(dirname "${BASH_SOURCE[0]}")/.." || exit 1
 program=$(tests/helpers/proved.py) || exit 1
@@ -35,10 +36,35 @@ is_refused() {
   [ -e "$mark" ]
 }
 
-# The run ended as out of memory.
+# has_first_errors: all errors but the last are the first ones of a run without the library.
+has_first_errors() {
+  local count
+  count=$(($(wc -l <"$folder/found.errors") - 1))
+  head -n -1 "$folder/found.errors" | cmp -s - <(head -n "$count" "$folder/whole.errors")
+}
+
+# is_ended COMMAND: the run ended as out of memory. `follow` may have named bad lines before.
 is_ended() {
-  [ "$(<"$folder/found.status")" = 4 ] && [ ! -s "$folder/found.output" ] &&
-    echo 'rtnl: out of memory' | cmp -s - "$folder/found.errors"
+  [ "$(<"$folder/found.status")" = 4 ] && is_begun "$1" &&
+    case $1 in
+      follow) [ "$(tail -n 1 "$folder/found.errors")" = 'rtnl: out of memory' ] && has_first_errors ;;
+      *) echo 'rtnl: out of memory' | cmp -s - "$folder/found.errors" ;;
+    esac
+}
+
+# is_begun COMMAND: nothing was written, or by `follow` the first datagrams.
+is_begun() {
+  local size
+  size=$(wc -c <"$folder/found.output")
+  [ "$size" = 0 ] || { [ "$1" = follow ] && is_front "$size"; }
+}
+
+# is_front SIZE: so many bytes were written, the first of what is written without the library, and no datagram is cut.
+is_front() {
+  head -c "$1" "$folder/whole.output" | cmp -s - "$folder/found.output" &&
+    { [ "$1" = "$(wc -c <"$folder/whole.output")" ] ||
+      tail -c "+$(($1 + 1))" "$folder/whole.output" | head -n 1 |
+        grep -Eq '^(datagram |\{"datagram":[0-9]+,("bytes"|"offset":0,))'; }
 }
 
 # The run answered what one without the library answers.
@@ -52,21 +78,22 @@ is_whole() {
 # The run answered so, but for lines that should explain, in whose place it says that memory ran out.
 is_unexplained() {
   cmp -s "$folder/whole.status" "$folder/found.status" && cmp -s "$folder/whole.output" "$folder/found.output" &&
-    [ "$(tail -n 1 "$folder/found.errors")" = 'rtnl: not explained: out of memory' ] &&
-    head -n -1 "$folder/found.errors" | cmp -s - <(head -n "$(($(wc -l <"$folder/found.errors") - 1))" "$folder/whole.errors")
+    [ "$(tail -n 1 "$folder/found.errors")" = 'rtnl: not explained: out of memory' ] && has_first_errors
 }
 
-is_ended_or_whole() { is_ended || is_whole || is_unexplained; }
+is_ended_or_whole() { is_ended "$1" || is_whole || is_unexplained; }
 
-# refuse_each NAME STATUS INPUT [ARGUMENT..]: each growth of these runs in turn, and a run without a refusal.
+# refuse_each NAME STATUS INPUT [ARGUMENT..]: each growth of these runs in turn, and a run without a refusal. Of those
+# that ended as out of memory, $begun had written something.
 refuse_each() {
-  local name=$1 status=$2 input=$3 number=1 ended=0
+  local name=$1 status=$2 input=$3 command=${4-} number=1 ended=0
+  begun=0
   shift 3
   run "$folder/whole" "$@" <"$input"
   check "$name, the status of a whole run" [ "$(<"$folder/whole.status")" = "$status" ]
   while is_refused "$number" "$input" "$@"; do
-    check "$name, growth $number" is_ended_or_whole
-    is_ended && ended=$((ended + 1))
+    check "$name, growth $number" is_ended_or_whole "$command"
+    is_ended "$command" && ended=$((ended + 1)) && [ -s "$folder/found.output" ] && begun=$((begun + 1))
     number=$((number + 1))
   done
   check "$name, no growth refused" is_whole
@@ -225,6 +252,35 @@ check 'a full table, explained, its line' grep -q '^rtnl: missed 1: ' "$folder/f
 refuse_each 'a table of other numbers, explained' 1 "$folder/links" table --kind link --seq 2 --port 1 --explain
 check 'a table of other numbers, explained, its line' grep -q '^rtnl: ignored 2: ' "$folder/found.errors"
 refuse_each 'a bad line, explained' 1 "$folder/bad" check --explain
+
+# follow_each NAME STATUS INPUT [ARGUMENT..]: each growth of following this input, of more datagrams than one.
+follow_each() {
+  local name=$1
+  refuse_each "$name" "$2" "$3" follow "${@:4}"
+  check "$name, some datagrams were written before memory ran out" [ "$begun" -gt 0 ]
+}
+
+refuse_each 'a DONE, followed' 0 "$folder/done" follow
+check 'a DONE, followed, its text' cmp -s "$folder/done.text" "$folder/found.output"
+follow_each 'examples/routes.hex, followed' 0 examples/routes.hex
+check 'examples/routes.hex, followed, its datagrams' [ "$(grep -c '^datagram ' "$folder/found.output")" = 3 ]
+follow_each 'examples/routes.hex, followed in JSON' 0 examples/routes.hex --format json
+follow_each 'examples/routes.hex, followed in bytes' 0 examples/routes.hex --bytes
+cat "$folder/done" "$addresses" >"$folder/two"
+follow_each "a DONE and $addresses, followed in bytes, in JSON" 0 "$folder/two" --bytes --format json
+# A datagram of 10,000 zeros, whose line comes by many reads.
+{ cat "$folder/done" && head -c 20000 /dev/zero | tr '\0' 0 && echo && cat "$folder/done"; } >"$folder/long"
+follow_each 'a long line, followed' 1 "$folder/long"
+check 'a long line, followed, its datagrams' [ "$(grep -c '^datagram ' "$folder/found.output")" = 3 ]
+{ cat "$folder/bad" && cat "$addresses" && echo 123; } >"$folder/some_bad"
+follow_each 'bad lines, followed' 1 "$folder/some_bad"
+check 'bad lines, followed, their names' \
+  cmp -s "$folder/found.errors" <(printf 'rtnl: line %s: bad line\n' 1 "$(($(wc -l <"$addresses") + 2))")
+follow_each 'bad lines, followed and explained' 1 "$folder/some_bad" --explain
+refuse_each 'a bad line, followed strictly' 1 "$folder/bad" follow --strict
+refuse_each 'a missing file, followed' 3 /dev/null follow "$folder/missing"
+refuse_each 'help of follow' 0 /dev/null follow --help
+refuse_each 'a depth of follow out of its range' 2 /dev/null follow --depth 33
 
 # ---- each call of the libraries
 

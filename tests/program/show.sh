@@ -41,6 +41,7 @@ expect 'version, in short' 0 'rtnl 0.3.0' '' -V <<<"$finish"
 check 'version, a full device' ends 3 '' "$write_fault" into_full_device --version </dev/null
 check 'version, standard output closed' ends 3 '' "$write_fault" into_closed_output -V </dev/null
 ln -s "$program" "$folder/rtnl"
+# The example of follow asks the kernel, and shows nothing.
 for command in show check table request; do
   check "example in the help of $command" has_true_example "$command"
 done
