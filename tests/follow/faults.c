@@ -1,8 +1,8 @@
 /* Loaded before the C library, it has one call of the program go wrong, of those that read standard
    input or of those that write to standard output. FAULT has three words: `read` or `write`; the
-   number of the call, counted from 1; and how it goes: `part`, with half of the bytes, at least one;
-   `none`, with no byte; or the number of the error that it fails with. A read of standard input has
-   at most PIECE bytes. */
+   number of the call, counted from 1; and how it goes: `part`, with half of the bytes, but one at
+   least; `none`, with no byte; or the number of the error that it fails with. A read of standard
+   input has at most PIECE bytes. */
 #define _GNU_SOURCE
 #include <dlfcn.h>
 #include <errno.h>

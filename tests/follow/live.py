@@ -97,7 +97,7 @@ def attribute(text, number):
 
 
 def event_of(text):
-    """The event that a message of ours prints, of which all may not be there yet, or none."""
+    """The event that a message of ours prints, or none."""
     head = re.match(r"message \d+ (new|del)(link|addr|route) .*\n  \w+ (.*)\n", text)
     if not head:
         return None
@@ -120,8 +120,9 @@ def event_of(text):
 
 
 def events(text):
-    """The events of what `rtnl follow` printed."""
-    messages = re.split(r"^(?=message |datagram )", text, flags=re.M)
+    """The events of what `rtnl follow` printed, in whole lines."""
+    whole = text[: text.rfind("\n") + 1]
+    messages = re.split(r"^(?=message |datagram )", whole, flags=re.M)
     found = [event_of(it) for it in messages if it.startswith("message ")]
     return [it for it in found if it]
 

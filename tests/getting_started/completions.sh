@@ -16,7 +16,7 @@ in_fish() {
 completed() {
   local shell=$1 command
   check "$shell: a command" completes "$shell" show rtnl sh
-  check "$shell: all commands" completes "$shell" 'check help request show table' rtnl ''
+  check "$shell: all commands" completes "$shell" 'check follow help request show table' rtnl ''
   check "$shell: an option" completes "$shell" --kind rtnl table --k
   check "$shell: an option of the program" completes "$shell" --version rtnl --v
   check "$shell: byte orders" completes "$shell" 'big little' rtnl show --order ''
@@ -24,8 +24,11 @@ completed() {
   check "$shell: kinds" completes "$shell" 'addr link neigh route rule' rtnl request --kind ''
   check "$shell: kinds by a letter" completes "$shell" 'route rule' rtnl table --kind r
   check "$shell: no number" completes "$shell" '' rtnl table --seq ''
+  check "$shell: colours of what is followed" completes "$shell" 'always auto never' rtnl follow --color ''
+  check "$shell: an option of follow" completes "$shell" --strict rtnl follow --s
+  check "$shell: no option of show" completes "$shell" '' rtnl show --s
   check "$shell: help of a command" completes "$shell" table rtnl help t
-  for command in show check table request; do
+  for command in show follow check table request; do
     check "$shell: options of $command" completes "$shell" \
       "$(helped "$command" | grep -e '^--' | tr '\n' ' ' | sed 's/ $//')" rtnl "$command" --
   done

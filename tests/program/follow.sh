@@ -22,9 +22,10 @@ expect 'follow, JSON' 0 "$finish_json" '' follow --format json <<<"$finish"
 expect 'follow, JSON, refused' 1 '{"datagram":1,"refused":"bad length","at":32}' '' \
   follow --format=json <<<"$short_attribute"
 expect 'follow, bytes' 0 "$loopback_bytes" '' follow --bytes "$folder/link"
-expect 'follow, bytes without colours' 0 "$loopback_bytes" '' follow --bytes --color never <<<"$loopback"
+expect 'follow, bytes without colours' 0 "$loopback_bytes" '' follow --bytes --color never \
+  <<<"$loopback"
 expect 'follow, bytes in colours' 1 "$in_colour" '' follow --bytes --color always "$folder/colours"
-expect 'follow, bytes in no colours into a file' 1 "$in_no_colour" '' follow --bytes "$folder/colours"
+expect 'follow, bytes in no colours' 1 "$in_no_colour" '' follow --bytes "$folder/colours"
 
 # ---- how deep it goes: each of the nine lists is 4 bytes behind the one that holds it
 
@@ -65,14 +66,14 @@ $finish_message" 'rtnl: line 2: bad line
 rtnl: line 5: bad line
 rtnl: line 6: bad line' follow \
   < <(printf '%s\n' '# note' 0g "$finish" "$finish" 123 ' #' && printf '\n')
-expect 'follow, a bad line at the end, without a newline' 1 "$finish_text" 'rtnl: line 2: bad line' \
+expect 'follow, a bad line without a newline' 1 "$finish_text" 'rtnl: line 2: bad line' \
   follow < <(printf '%s\nzz' "$finish")
 expect 'follow, strictly' 1 "$finish_text" 'rtnl: line 2: bad line' follow --strict \
   < <(printf '%s\n' "$finish" zz zz "$finish")
 expect 'follow, strictly, no bad line' 0 "$finish_text" '' follow --strict <<<"$finish"
 printf '%s\n' zz "$loopback" >"$folder/some_bad"
-expect 'follow, a bad line of a FILE' 1 "$loopback_text" "rtnl: $folder/some_bad: line 1: bad line" \
-  follow "$folder/some_bad"
+expect 'follow, a bad line of a FILE' 1 "$loopback_text" \
+  "rtnl: $folder/some_bad: line 1: bad line" follow "$folder/some_bad"
 expect 'follow, a bad line of a FILE, strictly and explained' 1 '' \
   "rtnl: $folder/some_bad: line 1: bad line
 rtnl: $folder/some_bad: line 1, column 1: byte 0x7a is no hexadecimal digit" \
@@ -91,12 +92,14 @@ check 'follow, a bad line that cannot be named' ends 1 "$loopback_text" '' \
 expect 'follow, a missing file' 3 '' "rtnl: $folder/missing: read fault" follow "$folder/missing"
 expect 'follow, a missing file, explained' 3 '' "rtnl: $folder/missing: read fault
 rtnl: $folder/missing: No such file or directory (os error 2)" follow --explain "$folder/missing"
-expect 'follow, a missing file of an odd name' 3 '' "rtnl: x$shown_name: read fault" follow "x$odd_name"
+expect 'follow, a missing file of an odd name' 3 '' "rtnl: x$shown_name: read fault" \
+  follow "x$odd_name"
 expect 'follow, a folder as FILE' 3 '' "rtnl: $folder: read fault" follow "$folder" <<<"$finish"
 expect 'follow, a folder as standard input' 3 '' "$read_fault" follow <"$folder"
 check 'follow, standard input closed' ends 3 '' "$read_fault" from_closed_input follow
 check 'follow, a full device' ends 3 '' "$write_fault" into_full_device follow <<<"$finish"
-check 'follow, standard output closed' ends 3 '' "$write_fault" into_closed_output follow <<<"$finish"
+check 'follow, standard output closed' ends 3 '' "$write_fault" \
+  into_closed_output follow <<<"$finish"
 rm -f "$folder/pipe"
 check 'follow, a pipe that nobody reads' ends 3 '' "$write_fault" \
   into_pipe_without_reader follow <<<"$finish"
@@ -111,7 +114,8 @@ check 'follow, out of memory' ends 4 "$finish_text" 'rtnl: out of memory' in_lit
 
 expect 'help of follow' 0 "$any" '' follow --help <<<"$finish"
 expect 'help of follow, as a command' 0 "$any" '' help follow <<<"$finish"
-check 'help of follow, a full device' ends 3 '' "$write_fault" into_full_device follow --help </dev/null
+check 'help of follow, a full device' ends 3 '' "$write_fault" \
+  into_full_device follow --help </dev/null
 usage follow a b
 usage follow "$folder/link" "$folder/link"
 usage follow --kind link

@@ -113,7 +113,8 @@ check 'on a terminal: a full device' ends 3 '' "$write_fault" \
   full_on_terminal "${links[@]}" --entries 0 <<<"$three_messages"
 
 # What was counted is the last line where it follows, at the end of the input.
-on_terminal 'followed' 0 "$finish_text" 'rtnl: 1 datagrams, 0 refused, 0 bad lines' follow <<<"$finish"
+on_terminal 'followed' 0 "$finish_text" 'rtnl: 1 datagrams, 0 refused, 0 bad lines' \
+  follow <<<"$finish"
 on_terminal 'followed, nothing' 0 '' 'rtnl: 0 datagrams, 0 refused, 0 bad lines' follow </dev/null
 on_terminal 'followed, a refused datagram and bad lines' 1 "$finish_text
 datagram 2 bytes 52
@@ -124,6 +125,7 @@ rtnl: 2 datagrams, 1 refused, 2 bad lines' follow \
 on_terminal 'followed, FILE, explained' 1 "$loopback_text" "rtnl: $folder/some_bad: line 1: bad line
 rtnl: $folder/some_bad: line 1, column 1: byte 0x7a is no hexadecimal digit
 rtnl: 1 datagrams, 0 refused, 1 bad lines" follow --explain "$folder/some_bad"
-on_terminal 'followed, a missing file' 3 '' "rtnl: $folder/missing: read fault" follow "$folder/missing"
+on_terminal 'followed, a missing file' 3 '' "rtnl: $folder/missing: read fault" \
+  follow "$folder/missing"
 check 'on a terminal: followed, a full device' ends 3 '' "$write_fault" \
   full_on_terminal follow <<<"$finish"
