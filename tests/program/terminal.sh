@@ -122,6 +122,9 @@ refused bad length at 32" 'rtnl: line 1: bad line
 rtnl: line 4: bad line
 rtnl: 2 datagrams, 1 refused, 2 bad lines' follow \
   < <(printf '%s\n' zz "$finish" '# note' 123 "$short_attribute")
+on_terminal 'followed strictly' 1 "$finish_text" 'rtnl: line 2: bad line
+rtnl: 1 datagrams, 0 refused, 1 bad lines' follow --strict \
+  < <(printf '%s\n' "$finish" zz zz "$finish")
 on_terminal 'followed, FILE, explained' 1 "$loopback_text" "rtnl: $folder/some_bad: line 1: bad line
 rtnl: $folder/some_bad: line 1, column 1: byte 0x7a is no hexadecimal digit
 rtnl: 1 datagrams, 0 refused, 1 bad lines" follow --explain "$folder/some_bad"
