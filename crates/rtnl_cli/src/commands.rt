@@ -34,6 +34,7 @@ pub(crate) struct Values<'a> {
 
 const EXAMPLES_AND_STATUSES: &str = "Examples:
   rtnl show links.hex
+  rtnl follow links.hex
   rtnl check --explain links.hex
   rtnl table --kind link --seq 1 --port 19050 links.hex
   rtnl request --kind link --seq 1
@@ -53,7 +54,7 @@ prints
     done status 0 tail -";
 
 const FOLLOW_EXAMPLE: &str = "Example:
-  rtnl-record --monitor link addr route | rtnl follow
+  rtnl-record monitor link address route | rtnl follow
 prints each datagram when it comes, as `rtnl show` prints it";
 
 const CHECK_EXAMPLE: &str = "Example:

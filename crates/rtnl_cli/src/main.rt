@@ -250,9 +250,10 @@ fn followed_status(
         Ok(counts) => counts,
         Err(error) => return outcome(rt, name, Err(error)),
     };
-    let status = match refused + bad_lines {
-        0 => ExitCode::SUCCESS,
-        _ => ExitCode::from(BLEMISHED),
+    let status = if refused == 0 && bad_lines == 0 {
+        ExitCode::SUCCESS
+    } else {
+        ExitCode::from(BLEMISHED)
     };
     if !is_terminal(rt, STDERR) {
         return status;
