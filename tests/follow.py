@@ -112,6 +112,8 @@ class Followed:
             stdout=subprocess.PIPE,
             stderr=subprocess.PIPE,
             bufsize=0,
+            # What starts this script may have it ignore an interrupt, which a program inherits.
+            preexec_fn=lambda: signal.signal(signal.SIGINT, signal.SIG_DFL),
         )
         flags = fcntl.fcntl(self.run.stdout, fcntl.F_GETFL)
         fcntl.fcntl(self.run.stdout, fcntl.F_SETFL, flags | os.O_NONBLOCK)
