@@ -50,7 +50,7 @@ check 'another type is found' finds 's/^\.Fa "uint16_t number"/.Fa "uint32_t num
 check 'a call that is missing is found' finds '/^\.Fn rtnlc_version/d' tests/c_library/manual.py
 check 'a field that is missing is found' finds '/^    uint32_t entries;/d' \
   tests/c_library/manual.py
-check 'another word on a code is found' finds 's/^A growth was refused/A growth failed/' \
+check 'another word on a code is found' finds 's/^An allocation was refused/An allocation failed/' \
   tests/c_library/manual.py
 check 'the example of rtnlc(3)' runs_example
 if has mandoc 'the form of rtnlc(3)'; then
