@@ -97,6 +97,7 @@ impl RuleHead {
     }
 
     /// The bytes of the head, its numbers in this order; what is not kept is zero.
+    #[tactic(auto, using(crate::proofs::Families::heads))]
     pub fn write_ordered(&self, order: Order) -> [u8; 12]
         ensures { IsWrittenHead rule_of rule_fields order self.now result }
     {

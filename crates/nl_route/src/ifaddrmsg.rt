@@ -82,6 +82,7 @@ impl AddrHead {
     }
 
     /// The bytes of the head, its numbers in this order.
+    #[tactic(auto, using(crate::proofs::Families::heads))]
     pub fn write_ordered(&self, order: Order) -> [u8; 8]
         ensures { IsWrittenHead addr_of addr_fields order self.now result }
     {

@@ -4,7 +4,7 @@
 //! A body is a head of the family's own, a C struct of the kernel's headers, and then a region of
 //! attributes. One file for each family has its head, its body's name and its views;
 //! `family` has the table of them all.
-#![tactic(auto, using(crate::proofs::Families::heads))]
+#![tactic(auto)]
 
 mod comparing;
 mod family;

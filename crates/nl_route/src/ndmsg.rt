@@ -82,6 +82,7 @@ impl NeighHead {
     }
 
     /// The bytes of the head, its numbers in this order; what is not kept is zero.
+    #[tactic(auto, using(crate::proofs::Families::heads))]
     pub fn write_ordered(&self, order: Order) -> [u8; 12]
         ensures { IsWrittenHead neigh_of neigh_fields order self.now result }
     {

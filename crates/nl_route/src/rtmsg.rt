@@ -103,6 +103,7 @@ impl RouteHead {
     }
 
     /// The bytes of the head, its numbers in this order.
+    #[tactic(auto, using(crate::proofs::Families::heads))]
     pub fn write_ordered(&self, order: Order) -> [u8; 12]
         ensures { IsWrittenHead route_of route_fields order self.now result }
     {
