@@ -162,6 +162,7 @@ same 'calls that answer a tally' "$(counts '-> Tally<')" \
   'crates/nl_attr/src/fault.rt 2
 crates/nl_attr/src/reading.rt 2
 crates/nl_attr/src/scanning.rt 1
+crates/nl_dump/src/picking.rt 1
 crates/nl_dump/src/reading.rt 1
 crates/nl_dump/src/straining.rt 1
 crates/nl_frame/src/body.rt 3
@@ -182,6 +183,7 @@ same 'each reading calls the one below it once' \
     grep -v rtnl_bench)" \
   'crates/nl_attr/src/reading.rt 4
 crates/nl_attr/src/stack/mod.rt 1
+crates/nl_dump/src/picking.rt 1
 crates/nl_dump/src/reading.rt 1
 crates/nl_frame/src/canonical.rt 1
 crates/nl_frame/src/reading.rt 6
@@ -200,11 +202,20 @@ same 'a session adds the visits of each datagram that it takes, and nothing else
   'let Tally { result, visits } = take(
 self.visits += visits;'
 
-same 'a stream adds the visits of each datagram that it takes or refuses, and nothing else' \
-  "$(lines 'standing\.visits [-+*]?= |[^_a-z]strain\(' crates/nl_dump/src/stream.rt | sed 's/^[^:]*: *//')" \
+same 'a stream hands on the visits of each datagram that it takes or refuses, by either call' \
+  "$(lines 'visits [-+*]?= |standing\.(take|refuse)\(|[^_a-z](strain|read_items)\(' \
+    crates/nl_dump/src/stream.rt | sed 's/^[^:]*: *//')" \
   'let Tally { result, visits } = strain(&self.standing.limits, &dump, bytes, out);
-self.standing.visits += visits;
-self.standing.visits += visits;'
+self.standing.take(dump, count, visits, &taken);
+self.standing.refuse(count, visits);
+let Tally { result, visits } = read_items(alloc, &self.standing.limits, &dump, bytes);
+self.standing.take(dump, count, visits, &taken);
+self.standing.refuse(count, visits);'
+
+same 'they are added, and nothing else' \
+  "$(lines 'visits [-+*]?= ' crates/nl_dump/src/standing.rt | sed 's/^[^:]*: *//')" \
+  'self.visits += visits;
+self.visits += visits;'
 
 same 'the datagrams of a table are read by the session alone, and those of a dump for C by a session or a stream' \
   "$(counts '\.feed\(')" \

@@ -22,10 +22,12 @@ use Rattle.nl_frame.proofs.Within.{within}
 use Rattle.nl_dump.specs.declared.dump.Dump.{Dump}
 use Rattle.nl_dump.specs.declared.dump.End.{End}
 use Rattle.nl_dump.specs.declared.dump.End.TheVariants.{Error}
+use Rattle.nl_dump.specs.declared.dump.State.{State}
 use Rattle.nl_dump.specs.declared.dump.State.TheVariants.{Waiting}
 use Rattle.nl_dump.specs.declared.dump.Streamed.{Streamed}
 use Rattle.nl_dump.specs.declared.errors.StreamError.{StreamError}
 use Rattle.nl_dump.specs.declared.errors.StreamError.TheVariants.{NotWaiting, Total, TooLarge, Layout as Fault, Room}
+use Rattle.nl_dump.specs.declared.putting.Taken.{Taken}
 use Rattle.nl_dump.specs.declared.sifting.Sifted.{Sifted}
 use Rattle.nl_dump.specs.declared.standing.Standing.{Standing}
 use Rattle.nl_dump.specs.declared.straining.Strained.{Strained}
@@ -34,11 +36,12 @@ use Rattle.nl_dump.specs.Handed.{item_events}
 use Rattle.nl_dump.specs.Sifting.{none_sifted, sifted, kept}
 use Rattle.nl_dump.specs.Standing.{IsRealEnd, IsReached, IsPossible}
 use Rattle.nl_dump.specs.Steps.{CanLook}
-use Rattle.nl_dump.specs.Inside.{all_events, Strains, scan_refusal, strained_of, is_room}
-use Rattle.nl_dump.specs.Streams.{StreamFed, StaysAnswer, IsStreamAnswered, EveryStreamed}
+use Rattle.nl_dump.specs.Inside.{all_events, IsSummaryOf, Sieved, Strains, scan_refusal, is_room, taken_by, taken_of}
+use Rattle.nl_dump.specs.Steps.{IsStreamed}
+use Rattle.nl_dump.specs.Streams.{StreamFed, StaysAnswer, IsStreamAnswered, EveryStreamed, refused_by}
 use Rattle.nl_dump.proofs.Feeding.{waits}
 use Rattle.nl_dump.proofs.Sieve.{sifted-events}
-use Rattle.nl_dump.proofs.Walked.{Sieved, look, sieved}
+use Rattle.nl_dump.proofs.Walked.{look, sieved}
 
 -- each message has a byte or more
 pub messages_few : (S : Shape) (ms : List MessageVal) (d : List ℕ) → Layout S ms d → length ms ≤ length d
@@ -54,6 +57,18 @@ taken_back es old h =
   where
     less : (n : ℕ) → n - 0 ≡ n
     less n = omega arith
+
+-- what was found of all messages is their summary
+pub summary : (d : Dump) (ms : List MessageVal) (s : Sifted) → Sieved d ms s → IsSummaryOf d ms (taken_of s)
+summary d ms s so = (
+  (so.items, omega (arith, so.sums.ignored_is), ap is_some so.sums.end_is),
+  so.sums.interrupted_is,
+  so.sums.end_is,
+)
+
+-- no more items or others than messages
+pub few_found : (d : Dump) (ms : List MessageVal) (s : Sifted) → Sieved d ms s → (s.items ≤ length ms) × (s.ignored ≤ length ms)
+few_found d ms s so = (omega (arith, so.items, so.sums.ignored_is), omega (arith, so.sums.ignored_is))
 
 -- ---- what is left in the buffer
 
@@ -96,21 +111,19 @@ module _ (b : Bounds) (d : Dump) (bytes : List ℕ) (old : List Event) where
   module _ (s : Sifted) (visits : ℕ) (new : List Event) (is : IsSifted s visits new) where
     -- no more items or others than bytes
     pub few_items : s.items ≤ length bytes
-    few_items = omega (arith, is.sieved.items, is.sieved.sums.ignored_is, messages_few b.shape is.messages bytes is.layout)
+    few_items = omega (arith, (few_found d is.messages s is.sieved).0, messages_few b.shape is.messages bytes is.layout)
 
     pub few_ignored : s.ignored ≤ length bytes
-    few_ignored = omega (arith, is.sieved.sums.ignored_is, messages_few b.shape is.messages bytes is.layout)
+    few_ignored = omega (arith, (few_found d is.messages s is.sieved).1, messages_few b.shape is.messages bytes is.layout)
 
-    pub strains_ok : Strains b d bytes old (Ok (strained_of s)) visits new
+    pub strains_ok : Strains b d bytes old (Ok (record { taken = taken_of s; events = s.events })) visits new
     strains_ok = (
       is.within,
       (
         is.messages,
         is.layout,
         is.visited,
-        (is.sieved.items, omega (arith, is.sieved.sums.ignored_is), ap is_some is.sieved.sums.end_is),
-        is.sieved.sums.interrupted_is,
-        is.sieved.sums.end_is,
+        summary d is.messages s is.sieved,
         is.room,
         is.events,
         is.count,
@@ -167,52 +180,74 @@ reached_by : (d : Dump) (e : Option End) (s : Standing) → IsReal e → IsReach
 reached_by d None s h = tt
 reached_by d (Some e) s h = h
 
-module _ (s : Standing) (bytes : List ℕ) (old : List Event) (d : Dump) (state : s.state ≡ Waiting d) (total : s.received + length bytes ≤ s.limits.total) where
-  can : length bytes ≤ s.limits.datagram → CanLook s bytes
+-- a stream waits, and a datagram is within its total limit
+pub record Admits (d : Dump) (bytes : List ℕ) (s : Standing) : Type 0 where
+  pub waiting : s.state ≡ Waiting d
+  pub total : s.received + length bytes ≤ s.limits.total
+  pub possible : IsPossible s
+
+pub admits : (d : Dump) (bytes : List ℕ) (s t : Standing) → t ≡ s → s.state ≡ Waiting d → s.received + length bytes ≤ s.limits.total → IsPossible s → Admits d bytes t
+admits d bytes s t same waiting total possible = subst (Admits d bytes) (sym same) (record { waiting = waiting; total = total; possible = possible })
+
+module _ (s : Standing) (bytes : List ℕ) (d : Dump) (state : s.state ≡ Waiting d) (total : s.received + length bytes ≤ s.limits.total) where
+  pub can : length bytes ≤ s.limits.datagram → CanLook s bytes
   can h = record { waiting = waits s.state d state; total = total; datagram = h }
 
-  pub fed_ok : (t : Strained) (n : ℕ) (new : List Event) → Strains s.limits d bytes old (Ok t) n new
-      → StreamFed s bytes old (Ok t.streamed) (record s { state = state_by d t.end; ignored = s.ignored + t.streamed.progress.ignored; visits = s.visits + n; received = s.received + length bytes; interrupted = s.interrupted || t.interrupted }) new
-  fed_ok t n new h =
-      let g = h.1 in (
-        can h.0,
-        (
-          d,
-          g.0,
-          n,
-          record {
-            waiting = state;
-            layout = g.1;
-            visited = g.2;
-            rest = λ i. record s { state = state_by d (g.5 i); ignored = s.ignored + g.3.1 i; visits = s.visits + n; received = s.received + length bytes; interrupted = s.interrupted || g.4 i };
-          },
-          g.3,
-          record { room = g.6; events = g.7; count = g.8 },
-        ),
-      )
-
-  pub fed_err : (e : StreamError) (n : ℕ) (new : List Event) → is_room e ≡ false → Strains s.limits d bytes old (Err e) n new
-      → StreamFed s bytes old (Err e) (record s { visits = s.visits + n; received = s.received + length bytes; damaged = true }) new
-  fed_err TooLarge n new r h = (waits s.state d state, total, h.0, λ i. record s { visits = s.visits + h.1 i; received = s.received + length bytes; damaged = true }, h.2)
-  fed_err (Fault f) n new r h = (can h.0, h.1, (n, h.2, refl), h.3)
-  fed_err (Room m) n new r h = cc
-  fed_err e n new r h = absurd h
+  -- what the stream becomes by what it takes
+  pub streams : (t : Taken) (n : ℕ) (ms : List MessageVal) → Layout s.limits.shape ms bytes → Visits s.limits.shape (whole bytes) (length bytes) n → IsSummaryOf d ms t → IsStreamed d bytes ms n s (taken_by s d (length bytes) n t)
+  streams t n ms layout visited is = record {
+    waiting = state;
+    layout = layout;
+    visited = visited;
+    rest = λ i. record s { state = state_by d (is.2 i); ignored = s.ignored + is.0.1 i; visits = s.visits + n; received = s.received + length bytes; interrupted = s.interrupted || is.1 i };
+  }
 
   module _ (p : IsPossible s) (n : ℕ) (few : n ≤ (s.limits.shape.depth + 1) * length bytes) where
-    pub possible_ok : (t : Strained) (m : ℕ) (new : List Event) (b : Bool) → m ≡ t.streamed.progress.ignored → m ≤ length bytes → Strains s.limits d bytes old (Ok t) n new
-        → IsPossible (record s { state = state_by d t.end; ignored = s.ignored + m; visits = s.visits + n; received = s.received + length bytes; interrupted = b })
-    possible_ok t m new b is low h =
+    visits_low : s.visits + n ≤ (s.limits.shape.depth + 1) * (s.received + length bytes)
+    visits_low = omega (arith, mul-add (s.limits.shape.depth + 1) s.received (length bytes), p.visits, few)
+
+    pub possible_taken : (t : Taken) (ms : List MessageVal) → t.progress.ignored ≤ length bytes → IsSummaryOf d ms t → IsPossible (taken_by s d (length bytes) n t)
+    possible_taken t ms low is =
         record {
           limits = p.limits;
-          visits = omega (arith, mul-add (s.limits.shape.depth + 1) s.received (length bytes), p.visits, few);
+          visits = visits_low;
           received = total;
           ignored = omega (arith, p.ignored, low);
-          reached = reached_by d t.end _ (subst IsReal (sym h.1.5) (end_real d h.1.0));
+          reached = reached_by d t.end _ (subst IsReal (sym is.2) (end_real d ms));
         }
+
+    pub possible_refused : IsPossible (refused_by s (length bytes) n)
+    possible_refused = record { limits = p.limits; visits = visits_low; received = total; ignored = omega (arith, p.ignored); reached = reached_waiting s.state state }
+      where
+        reached_waiting : (x : State) → x ≡ Waiting d → IsReached x (refused_by s (length bytes) n)
+        reached_waiting x e = subst (λ x. IsReached x (refused_by s (length bytes) n)) (sym e) tt
+
+  module _ (old : List Event) where
+    pub fed_ok : (t : Strained) (n : ℕ) (new : List Event) → Strains s.limits d bytes old (Ok t) n new
+        → StreamFed s bytes old (Ok (record { progress = t.taken.progress; events = t.events })) (taken_by s d (length bytes) n t.taken) new
+    fed_ok t n new h =
+        let g = h.1 in (
+          can h.0,
+          (
+            d,
+            g.0,
+            n,
+            streams t.taken n g.0 g.1 g.2 g.3,
+            g.3.0,
+            record { room = g.4; events = g.5; count = g.6 },
+          ),
+        )
+
+    pub fed_err : (e : StreamError) (n : ℕ) (new : List Event) → is_room e ≡ false → Strains s.limits d bytes old (Err e) n new
+        → StreamFed s bytes old (Err e) (refused_by s (length bytes) n) new
+    fed_err TooLarge n new r h = (waits s.state d state, total, h.0, λ i. refused_by s (length bytes) (h.1 i), h.2)
+    fed_err (Fault f) n new r h = (can h.0, h.1, (n, h.2, refl), h.3)
+    fed_err (Room m) n new r h = cc
+    fed_err e n new r h = absurd h
 
 -- ---- every datagram
 
-stays : (s t u : Standing) (bytes : List ℕ) (old : List Event) → t ≡ u → StaysAnswer s bytes old u → StaysAnswer s bytes old t
+pub stays : (s t u : Standing) (bytes : List ℕ) (old : List Event) → t ≡ u → StaysAnswer s bytes old u → StaysAnswer s bytes old t
 stays s t u bytes old e h = subst (StaysAnswer s bytes old) (sym e) h
 
 answered : (r : Result Streamed StreamError) (s t : Standing) (bytes : List ℕ) (old new : List Event) → AreLimits s.limits → AreBytes bytes → StreamFed s bytes old r t new → IsStreamAnswered s bytes old r t

@@ -13,6 +13,7 @@ use Rattle.nl_frame.proofs.Layouts.{messages_fit}
 use Rattle.nl_frame.proofs.Scan.{one_first_fault, one_sum}
 use Rattle.nl_dump.specs.declared.dump.Dump.{Dump}
 use Rattle.nl_dump.specs.declared.dump.End.TheVariants.{Abandoned}
+use Rattle.nl_dump.specs.declared.dump.ItemsRead.{ItemsRead}
 use Rattle.nl_dump.specs.declared.dump.Progress.{Progress}
 use Rattle.nl_dump.specs.declared.dump.State.TheVariants.{Waiting, Ended}
 use Rattle.nl_dump.specs.declared.dump.Streamed.{Streamed}
@@ -24,10 +25,11 @@ use Rattle.nl_dump.specs.declared.errors.NotWaiting.{NotWaiting}
 use Rattle.nl_dump.specs.declared.errors.StreamError.{StreamError}
 use Rattle.nl_dump.specs.declared.errors.StreamError.TheVariants as stream
 use Rattle.nl_dump.specs.declared.standing.Standing.{Standing}
+use Rattle.nl_dump.specs.Reading.{StreamRead}
 use Rattle.nl_dump.specs.Standing.{standing_of}
-use Rattle.nl_dump.specs.Steps.{Began, Fed, Abandons}
+use Rattle.nl_dump.specs.Steps.{Began, Fed, Abandons, IsStreamed, IsProgressOf}
 use Rattle.nl_dump.specs.Streams.{StreamBegan, StreamFed, StreamAbandons, refused_by}
-use Rattle.nl_dump.specs.Twins.{StreamCall, stream_begins, stream_feeds, stream_abandons, StreamStep, lacked, lacked_by, either, with_first, Beside, BeginsWithMemory, FeedsWithMemory, AsksTheSame, AnswersTheSame, begun, fed, StreamIsSession}
+use Rattle.nl_dump.specs.Twins.{StreamCall, stream_begins, stream_feeds, stream_reads, stream_abandons, StreamStep, lacked, lacked_by, either, with_first, Beside, BeginsWithMemory, FeedsWithMemory, ReadsWithMemory, AsksTheSame, AnswersTheSame, begun, fed, progress_read, StreamIsSession}
 use Rattle.nl_dump.specs.View.{View}
 use Rattle.nl_dump.specs.Whole.{Call, begins, feeds, abandons, Step, Calls}
 use Rattle.nl_dump.proofs.Feeding.{waits}
@@ -38,28 +40,59 @@ use Rattle.nl_dump.proofs.Feeding.{waits}
 no_layout : (S : Shape) (bytes : List ℕ) (ms : List MessageVal) (f : Fault) → Layout S ms bytes → IsFirstFault S (whole bytes) f.place f.reason → ⊥
 no_layout S bytes ms f l h = let m = messages_fit S ms 0 bytes l in ok_sound S bytes ms m.0 m.1 f.place f.reason h.0
 
+-- a datagram that both took, in the one way that there is
+taken_same : (s t w : Standing) (bytes : List ℕ) (d e : Dump) (ms ns : List MessageVal) (n m : ℕ) (p q : Progress)
+    → IsStreamed d bytes ms n s t → IsProgressOf d ms p → IsStreamed e bytes ns m s w → IsProgressOf e ns q → (p ≡ q) × (t ≡ w)
+taken_same s t w bytes d e ms ns n m p q x a y b =
+    let S = s.limits.shape in
+    let state : Waiting d ≡ Waiting e = sym x.waiting ∙ y.waiting in
+    let de : d ≡ e = cc in
+    let mn : ms ≡ ns = one_layout S bytes ms ns x.layout y.layout in
+    let nm : n ≡ m = one_sum S (whole bytes) (length bytes) n m x.visited y.visited in
+    let c = rw (de, mn) at a in
+    (λ i. record { items = (c.0 ∙ sym b.0) i; ignored = (c.1 ∙ sym b.1) i; ended = (c.2 ∙ sym b.2) i }, rw (de, mn, nm) at x.rest ∙ sym y.rest)
+
+-- a datagram that both refused, at its first fault
+refused_same : (s t w : Standing) (bytes : List ℕ) (f g : Fault) (n m : ℕ) → IsFirstFault s.limits.shape (whole bytes) f.place f.reason → Visits s.limits.shape (whole bytes) f.place n → t ≡ refused_by s (length bytes) n
+    → IsFirstFault s.limits.shape (whole bytes) g.place g.reason → Visits s.limits.shape (whole bytes) g.place m → w ≡ refused_by s (length bytes) m → (f ≡ g) × (t ≡ w)
+refused_same s t w bytes f g n m first visits is other others so =
+    let S = s.limits.shape in
+    let e = one_first_fault S (whole bytes) f.place g.place f.reason g.reason first other in
+    let same = one_sum S (whole bytes) g.place n m (subst (λ p. Visits S (whole bytes) p n) e.0 visits) others in
+    (λ i. record { place = e.0 i; reason = e.1 i }, is ∙ ap (refused_by s (length bytes)) same ∙ sym so)
+
+module _ (u v : View) (bytes : List ℕ) (w : Standing) where
+  read_same : (r : Result Progress FeedError) (q : Result ItemsRead FeedError) → ReadsWithMemory q → FeedsWithMemory r → Fed u bytes r v → StreamRead (standing_of u) bytes q w → (progress_read q ≡ r) × (w ≡ standing_of v)
+  read_same (Err feed.NotWaiting) (Err feed.NotWaiting) l m h k = (refl, k.1 ∙ sym (ap standing_of h.1))
+  read_same (Err feed.Total) (Err feed.Total) l m h k = (refl, k.2 ∙ sym (ap standing_of h.2))
+  read_same (Err feed.TooLarge) (Err feed.TooLarge) l m h k = (refl, k.3 ∙ sym (ap standing_of h.3))
+  read_same (Err (feed.Layout f)) (Err (feed.Layout g)) l m h k =
+      let same = refused_same (standing_of u) w (standing_of v) bytes g f k.2.0 h.2.0 k.1 k.2.1 k.2.2 h.1 h.2.1 (ap standing_of h.2.2) in
+      (ap (λ (x : Fault). Err (feed.Layout x)) same.0, same.1)
+  read_same (Ok p) (Ok q) l m h k =
+      let same = taken_same (standing_of u) w (standing_of v) bytes k.1.0 h.1.0 k.1.1 h.1.1 k.1.2 h.1.2 q.progress p k.1.3 k.1.4 h.1.3.streamed h.1.4 in
+      (ap Ok same.0, same.1)
+  read_same (Err (feed.Layout f)) (Ok q) l m h k = absurd (no_layout u.limits.shape bytes k.1.1 f k.1.3.layout h.1)
+  read_same (Ok p) (Err (feed.Layout g)) l m h k = absurd (no_layout u.limits.shape bytes h.1.1 g h.1.3.streamed.layout k.1)
+  read_same (Err feed.Memory) q l m h k = absurd m
+  read_same r (Err feed.Memory) l m h k = absurd l
+  -- one has no dump that waits
+  read_same (Err feed.NotWaiting) q l m h k = absurd (search rules)
+  read_same r (Err feed.NotWaiting) l m h k = absurd (search rules)
+  -- they differ in a limit
+  read_same r q l m h k = absurd (omega arith)
+
 module _ (u v : View) (bytes : List ℕ) (old new : List Event) (w : Standing) where
   feed_same : (r : Result Progress FeedError) (q : Result Streamed StreamError) → FeedsWithMemory r → lacked_by q ≡ false → Fed u bytes r v → StreamFed (standing_of u) bytes old q w new → (fed q ≡ r) × (w ≡ standing_of v)
   feed_same (Err feed.NotWaiting) (Err stream.NotWaiting) m l h k = (refl, k.1 ∙ sym (ap standing_of h.1))
   feed_same (Err feed.Total) (Err stream.Total) m l h k = (refl, k.2 ∙ sym (ap standing_of h.2))
   feed_same (Err feed.TooLarge) (Err stream.TooLarge) m l h k = (refl, k.3 ∙ sym (ap standing_of h.3))
   feed_same (Err (feed.Layout f)) (Err (stream.Layout g)) m l h k =
-      let S = u.limits.shape in
-      let e = one_first_fault S (whole bytes) g.place f.place g.reason f.reason k.1 h.1 in
-      let n = one_sum S (whole bytes) f.place k.2.0 h.2.0 (subst (λ p. Visits S (whole bytes) p k.2.0) e.0 k.2.1) h.2.1 in
-      (λ i. Err (feed.Layout (record { place = e.0 i; reason = e.1 i })), k.2.2 ∙ ap (refused_by (standing_of u) (length bytes)) n ∙ sym (ap standing_of h.2.2))
+      let same = refused_same (standing_of u) w (standing_of v) bytes g f k.2.0 h.2.0 k.1 k.2.1 k.2.2 h.1 h.2.1 (ap standing_of h.2.2) in
+      (ap (λ (x : Fault). Err (feed.Layout x)) same.0, same.1)
   feed_same (Ok p) (Ok q) m l h k =
-      let S = u.limits.shape in
-      let x = k.1.3 in
-      let y = h.1.3.streamed in
-      let state : Waiting k.1.0 ≡ Waiting h.1.0 = sym x.waiting ∙ y.waiting in
-      let de : k.1.0 ≡ h.1.0 = cc in
-      let mn : k.1.1 ≡ h.1.1 = one_layout S bytes k.1.1 h.1.1 x.layout y.layout in
-      let nm : k.1.2 ≡ h.1.2 = one_sum S (whole bytes) (length bytes) k.1.2 h.1.2 x.visited y.visited in
-      let a = rw (de, mn) at k.1.4 in
-      let b = h.1.4 in
-      let same : q.progress ≡ p = λ i. record { items = (a.0 ∙ sym b.0) i; ignored = (a.1 ∙ sym b.1) i; ended = (a.2 ∙ sym b.2) i } in
-      (ap Ok same, rw (de, mn, nm) at x.rest ∙ sym y.rest)
+      let same = taken_same (standing_of u) w (standing_of v) bytes k.1.0 h.1.0 k.1.1 h.1.1 k.1.2 h.1.2 q.progress p k.1.3 k.1.4 h.1.3.streamed h.1.4 in
+      (ap Ok same.0, same.1)
   feed_same (Err (feed.Layout f)) (Ok q) m l h k = absurd (no_layout u.limits.shape bytes k.1.1 f k.1.3.layout h.1)
   feed_same (Ok p) (Err (stream.Layout g)) m l h k = absurd (no_layout u.limits.shape bytes h.1.1 g h.1.3.streamed.layout k.1)
   feed_same (Err feed.Memory) q m l h k = absurd m
@@ -103,6 +136,8 @@ step_same (stream_begins d q) (begins e r) u v s w is l asks h k =
     begin_same d u v r q w asks.1 (subst (λ x. Began u x r v) (sym asks.0) h) (subst (λ x. StreamBegan x d q w) is k)
 step_same (stream_feeds bytes old q new) (feeds other r) u v s w is l asks h k =
     feed_same u v bytes old new w r q asks.1 l (subst (λ x. Fed u x r v) (sym asks.0) h) (subst (λ x. StreamFed x bytes old q w new) is k)
+step_same (stream_reads bytes q) (feeds other r) u v s w is l asks h k =
+    read_same u v bytes w r q asks.1 asks.2 (subst (λ x. Fed u x r v) (sym asks.0) h) (subst (λ x. StreamRead x bytes q w) is k)
 step_same (stream_abandons q) (abandons r) u v s w is l asks h k = abandon_same u v r q w h (subst (λ x. StreamAbandons x q w) is k)
 step_same t c u v s w is l asks h k = absurd asks
 

@@ -39,15 +39,15 @@ use Rattle.nl_dump.specs.declared.dump.Dump.{Dump}
 use Rattle.nl_dump.specs.declared.dump.End.{End}
 use Rattle.nl_dump.specs.declared.dump.End.TheVariants.{Done, Error}
 use Rattle.nl_dump.specs.declared.role.Role.{Role}
-use Rattle.nl_dump.specs.declared.role.Role.TheVariants.{Item as Brings, End as Ends, Other}
+use Rattle.nl_dump.specs.declared.role.Role.TheVariants.{Item as Brings, Other}
 use Rattle.nl_dump.specs.declared.sifting.Found.{Found}
 use Rattle.nl_dump.specs.declared.sifting.Sifted.{Sifted}
 use Rattle.nl_dump.specs.Items.{Item, body_item}
 use Rattle.nl_dump.specs.Answer.{item_in, up_to_end, belongs, body_end, end_in, items_of}
 use Rattle.nl_dump.specs.Handed.{message_events, events_among, item_events, headers_in, OneHeaderForEachItem}
-use Rattle.nl_dump.specs.Inside.{Sums}
+use Rattle.nl_dump.specs.Inside.{Sieved, is_marked, role_of, role_for}
 use Rattle.nl_dump.specs.Sifting.{form_end, unbroken, role_by, left_at, found_in, found_at, none_sifted, judge, counted, step, sifted, keeping, kept}
-use Rattle.nl_dump.proofs.Counting.{is_marked, more_behind, more_end, more_item, more_other, none_summed}
+use Rattle.nl_dump.proofs.Counting.{more_behind, more_end, more_item, more_other, none_summed}
 use Rattle.nl_dump.proofs.Courses.{end_no_item}
 use Rattle.nl_dump.proofs.Sieve.{sifted-append, kept-append}
 use Rattle.nl_route.specs.declared.family.Family.{Family}
@@ -124,15 +124,6 @@ brings_so S k c f payload b e = cc (b.0, e)
 form_new : (k : Family) → form_of (type_of k New) ≡ form.Object k
 form_new k = ap (form_for (type_of k New)) (is_family k).new
 
--- an end; or an item; or neither
-abbrev pub role_of : Option End → Bool → Role (Unit {0})
-role_of (Some e) brings = Ends e
-role_of None brings = cond brings (Brings tt) Other
-
--- what a message is to a dump
-abbrev pub role_for : Dump → MessageVal → Role (Unit {0})
-role_for d m = role_of (end_in d m) (is_some (item_in d m))
-
 role_so : (S : Shape) (d : Dump) (m : MessageVal) (payload : List ℕ) → BodyOf S m.body (form_of m.kind) payload
     → cond (belongs d m) (cond (m.kind == type_of d.kind New) (Brings tt) (role_by (form_end S.order (form_of m.kind) payload))) Other ≡ role_for d m
 role_so S d m payload b = by (belongs d m) (m.kind == type_of d.kind New) (λ e. brings_so S d.kind m.body (form_of m.kind) payload b (is_new e)) (λ e. sym ends ∙ ap (λ f. form_end S.order f payload) (is_new e))
@@ -175,12 +166,8 @@ found_so S d m left it rest is b =
 
 -- ---- what was found of messages
 
-pub record Sieved (d : Dump) (ms : List MessageVal) (s : Sifted) : Type 0 where
-  pub items : s.items ≡ length (items_of d ms)
-  pub sums : Sums d ms s.ignored s.interrupted s.end
-
 module _ (d : Dump) (ms : List MessageVal) (m : MessageVal) (s : Sifted) (so : Sieved d ms s) where
-  judge_sieved : Sieved d (ms ++ m ∷ []) (judge s.end (role_for d m) (is_marked m.flags) s)
+  pub judge_sieved : Sieved d (ms ++ m ∷ []) (judge s.end (role_for d m) (is_marked m.flags) s)
   judge_sieved = by s.end refl
     where
       apart : (x : Option End) (y : Option Item) → end_in d m ≡ x → item_in d m ≡ y → s.end ≡ None → Sieved d (ms ++ m ∷ []) (judge None (role_of x (is_some y)) (is_marked m.flags) s)

@@ -1,5 +1,5 @@
 -- What a datagram and its messages become, inside the program. No public clause cites this module.
-use Rattle.std.specs.Prelude.{◌≡◌, ◌+◌, ℕ, Bool, List, length, map, Option, Some, None, is_some, ◌<◌, ◌≤◌, Result, Ok, Err, true, false}
+use Rattle.std.specs.Prelude.{◌≡◌, ◌+◌, ◌&&◌, ◌||◌, ◌==◌, not, if◌then◌else◌, bit_and, ℕ, Bool, List, length, map, Option, Some, None, is_some, ◌<◌, ◌≤◌, Result, Ok, Err, true, false}
 use Rattle.std.specs.List.{AllByRecursion}
 use Rattle.std.specs.declared.vec.Vec.{Vec}
 use Rattle.nl_frame.specs.Message.{MessageVal}
@@ -7,25 +7,32 @@ use Rattle.nl_frame.specs.Limits.{Bounds}
 use Rattle.nl_frame.specs.Layout.{Layout}
 use Rattle.nl_frame.specs.Heads.{IsFirstFault, Visits, whole}
 use Rattle.nl_frame.specs.HeadOrder.{events_of}
+use Rattle.nl_frame.specs.View.{message_view}
+use Rattle.nl_route.specs.declared.family.Verb.TheVariants.{New}
+use Rattle.nl_route.specs.Families.{type_of}
 use Rattle.nl_frame.specs.declared.scanning.ScanError.{ScanError}
 use Rattle.nl_frame.specs.declared.scanning.ScanError.TheVariants as unscanned
 use Rattle.nl_dump.specs.declared.dump.Dump.{Dump}
 use Rattle.nl_dump.specs.declared.dump.End.{End}
 use Rattle.nl_dump.specs.declared.role.Role.{Role}
 use Rattle.nl_dump.specs.declared.role.Role.TheVariants.{Item as Brings, End as Ends, Other}
+use Rattle.nl_dump.specs.declared.picking.Picked.{Picked}
 use Rattle.nl_dump.specs.declared.putting.Taken.{Taken}
 use Rattle.nl_dump.specs.declared.errors.FeedError.{FeedError}
 use Rattle.nl_dump.specs.declared.errors.FeedError.TheVariants as feed
 use Rattle.nl_dump.specs.declared.errors.StreamError.{StreamError}
 use Rattle.nl_dump.specs.declared.errors.StreamError.TheVariants.{TooLarge, Layout as Fault, Room}
 use Rattle.nl_dump.specs.declared.tables.Tables.{Tables}
+use Rattle.nl_dump.specs.declared.sifting.Found.{Found}
 use Rattle.nl_dump.specs.declared.sifting.Sifted.{Sifted}
+use Rattle.nl_dump.specs.declared.standing.Standing.{Standing}
 use Rattle.nl_dump.specs.declared.straining.Strained.{Strained}
 use Rattle.nl_dump.specs.Items.{Item}
-use Rattle.nl_dump.specs.Answer.{item_in, end_in, items_of, end_of, interrupted_of, one_if}
+use Rattle.nl_dump.specs.Answer.{belongs, item_in, end_in, items_of, end_of, interrupted_of, one_if, state_by}
 use Rattle.nl_dump.specs.View.{table_at}
 use Rattle.nl_dump.specs.Steps.{IsProgressOf, PutInto}
 use Rattle.nl_dump.specs.Handed.{item_events}
+use Rattle.nl_dump.specs.Reading.{item_messages}
 use Rattle.nl_attr.specs.declared.events.Event.{Event}
 use Rattle.nl_attr.specs.HeadOrder.{put_from}
 
@@ -34,6 +41,27 @@ abbrev pub HasRole : {T : Type 0} → (T → Item) → Dump → MessageVal → R
 HasRole item d m (Brings x) = (item_in d m ≡ Some (item x)) × (end_in d m ≡ None)
 HasRole item d m (Ends e) = (item_in d m ≡ None) × (end_in d m ≡ Some e)
 HasRole item d m Other = (item_in d m ≡ None) × (end_in d m ≡ None)
+
+-- an end; or an item; or neither
+abbrev pub role_of : Option End → Bool → Role (Unit {0})
+role_of (Some e) brings = Ends e
+role_of None brings = if brings then Brings tt else Other
+
+-- what a message is to a dump
+abbrev pub role_for : Dump → MessageVal → Role (Unit {0})
+role_for d m = role_of (end_in d m) (is_some (item_in d m))
+
+-- what it is, if the body of a NEW is of its family
+abbrev pub role_by_kind : Dump → MessageVal → Role (Unit {0})
+role_by_kind d m = role_of (end_in d m) (belongs d m && (m.kind == type_of d.kind New))
+
+-- it has the flag DUMP_INTR
+abbrev pub is_marked : ℕ → Bool
+is_marked flags = not (bit_and flags 16 == 0)
+
+-- what is found of a message
+abbrev pub found_of : Dump → MessageVal → Found
+found_of d m = record { role = role_for d m; marked = is_marked m.flags }
 
 -- so many of the messages are neither items nor the end, and so the dump was interrupted and ended
 pub record Sums (d : Dump) (ms : List MessageVal) (ignored : ℕ) (interrupted : Bool) (end : Option End) : Type 0 where
@@ -48,11 +76,30 @@ pub record Sorts {Z T : Type 0} (item : T → Item) (key : T → List ℕ) (d : 
   pub keyed : AllByRecursion (λ p. p.0.items ≡ key p.1) pairs
   pub sums : Sums d ms ignored interrupted end
 
+-- so much was found of these messages
+pub record Sieved (d : Dump) (ms : List MessageVal) (s : Sifted) : Type 0 where
+  pub items : s.items ≡ length (items_of d ms)
+  pub sums : Sums d ms s.ignored s.interrupted s.end
+
 -- ---- what becomes of the messages of a datagram
 
 -- the progress, whether the dump was interrupted, and its end, where there is one
 abbrev pub IsSummaryOf : Dump → List MessageVal → Taken → Type 0
 IsSummaryOf d ms t = IsProgressOf d ms t.progress × (t.interrupted ≡ interrupted_of d ms) × (t.end ≡ end_of d ms)
+
+-- what was found of all messages, as it is answered
+abbrev pub taken_of : Sifted → Taken
+taken_of s = record { progress = record { items = s.items; ignored = s.ignored; ended = is_some s.end }; interrupted = s.interrupted; end = s.end }
+
+-- what a stream becomes by a datagram of so many bytes, of which so many were visited
+abbrev pub taken_by : Standing → Dump → ℕ → ℕ → Taken → Standing
+taken_by s d n visits t = record s {
+  state = state_by d t.end;
+  ignored = s.ignored + t.progress.ignored;
+  visits = s.visits + visits;
+  received = s.received + n;
+  interrupted = s.interrupted || t.interrupted;
+}
 
 module _ (b : Bounds) (d : Dump) (bytes : List ℕ) (before : Tables) where
   -- a datagram was read into the tables so, with so many visits
@@ -68,6 +115,22 @@ module _ (b : Bounds) (d : Dump) (bytes : List ℕ) (before : Tables) where
   Took (Err feed.Memory) visits after = (length bytes ≤ b.datagram) × (after ≡ before)
   Took (Err e) visits after = ⊥
 
+-- ---- what a stream reads
+
+module _ (b : Bounds) (d : Dump) (bytes : List ℕ) where
+  -- the items of a datagram were picked out so, with so many visits
+  abbrev pub Picks : Result Picked FeedError → ℕ → Type 0
+  Picks (Ok p) visits =
+      (length bytes ≤ b.datagram)
+      × ((ms : List MessageVal) × Layout b.shape ms bytes × Visits b.shape (whole bytes) (length bytes) visits
+      × IsSummaryOf d ms p.taken × (map message_view p.items.items ≡ item_messages d ms))
+  Picks (Err feed.TooLarge) visits = (b.datagram < length bytes) × (visits ≡ 0)
+  Picks (Err (feed.Layout f)) visits =
+      (length bytes ≤ b.datagram) × IsFirstFault b.shape (whole bytes) f.place f.reason
+      × Visits b.shape (whole bytes) f.place visits
+  Picks (Err feed.Memory) visits = length bytes ≤ b.datagram
+  Picks (Err e) visits = ⊥
+
 -- ---- what a datagram leaves of a stream's buffer
 
 -- a refusal of a scan
@@ -80,14 +143,6 @@ abbrev pub is_room : StreamError → Bool
 is_room (Room n) = true
 is_room e = false
 
--- what was sifted, as it is answered
-abbrev pub strained_of : Sifted → Strained
-strained_of s = record {
-  streamed = record { progress = record { items = s.items; ignored = s.ignored; ended = is_some s.end }; events = s.events };
-  interrupted = s.interrupted;
-  end = s.end;
-}
-
 module _ (b : Bounds) (d : Dump) (bytes : List ℕ) (old : List Event) where
   -- the events of its heads
   abbrev pub all_events : List Event
@@ -98,9 +153,9 @@ module _ (b : Bounds) (d : Dump) (bytes : List ℕ) (old : List Event) where
   Strains (Ok s) visits new =
       (length bytes ≤ b.datagram)
       × ((ms : List MessageVal) × Layout b.shape ms bytes × Visits b.shape (whole bytes) (length bytes) visits
-      × IsProgressOf d ms s.streamed.progress × (s.interrupted ≡ interrupted_of d ms) × (s.end ≡ end_of d ms)
+      × IsSummaryOf d ms s.taken
       × (length all_events ≤ length old) × (new ≡ put_from 0 (item_events b.shape d ms bytes) (put_from 0 all_events old))
-      × (s.streamed.events ≡ length (item_events b.shape d ms bytes)))
+      × (s.events ≡ length (item_events b.shape d ms bytes)))
   Strains (Err TooLarge) visits new = (b.datagram < length bytes) × (visits ≡ 0) × (new ≡ old)
   Strains (Err (Fault f)) visits new =
       (length bytes ≤ b.datagram) × IsFirstFault b.shape (whole bytes) f.place f.reason

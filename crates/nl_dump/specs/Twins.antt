@@ -4,6 +4,7 @@ use Rattle.std.specs.Global.{Vec}
 use Rattle.nl_attr.specs.declared.events.Event.{Event}
 use Rattle.nl_frame.specs.Limits.{Bounds}
 use Rattle.nl_dump.specs.declared.dump.Dump.{Dump}
+use Rattle.nl_dump.specs.declared.dump.ItemsRead.{ItemsRead}
 use Rattle.nl_dump.specs.declared.dump.Progress.{Progress}
 use Rattle.nl_dump.specs.declared.dump.Streamed.{Streamed}
 use Rattle.nl_dump.specs.declared.errors.BeginError.{BeginError}
@@ -14,6 +15,7 @@ use Rattle.nl_dump.specs.declared.errors.NotWaiting.{NotWaiting}
 use Rattle.nl_dump.specs.declared.errors.StreamError.{StreamError}
 use Rattle.nl_dump.specs.declared.errors.StreamError.TheVariants as stream
 use Rattle.nl_dump.specs.declared.standing.Standing.{Standing}
+use Rattle.nl_dump.specs.Reading.{StreamRead}
 use Rattle.nl_dump.specs.Standing.{new_standing, standing_of}
 use Rattle.nl_dump.specs.Streams.{StreamBegan, StreamFed, StreamAbandons}
 use Rattle.nl_dump.specs.View.{View}
@@ -23,12 +25,14 @@ use Rattle.nl_dump.specs.Whole.{Call, begins, feeds, abandons, Calls}
 pub data StreamCall : Type 0 where
   stream_begins : Dump → Result (Unit {0}) BeginError → StreamCall
   stream_feeds : List ℕ → List Event → Result Streamed StreamError → List Event → StreamCall
+  stream_reads : List ℕ → Result ItemsRead FeedError → StreamCall
   stream_abandons : Result (Unit {0}) NotWaiting → StreamCall
 
 -- one call takes a stream from s to t
 abbrev pub StreamStep : Standing → StreamCall → Standing → Type 0
 StreamStep s (stream_begins d r) t = StreamBegan s d r t
 StreamStep s (stream_feeds bytes old r new) t = StreamFed s bytes old r t new
+StreamStep s (stream_reads bytes r) t = StreamRead s bytes r t
 StreamStep s (stream_abandons r) t = StreamAbandons s r t
 
 -- calls, the newest first, took a new stream to s
@@ -46,6 +50,7 @@ lacked_by r = false
 abbrev pub lacked : StreamCall → Bool
 lacked (stream_begins d r) = false
 lacked (stream_feeds bytes old r new) = lacked_by r
+lacked (stream_reads bytes r) = false
 lacked (stream_abandons r) = false
 
 -- one of two statements
@@ -72,10 +77,15 @@ abbrev pub FeedsWithMemory : Result Progress FeedError → Type 0
 FeedsWithMemory (Err feed.Memory) = ⊥
 FeedsWithMemory r = Unit {0}
 
--- the same is asked, and the session had the memory
+abbrev pub ReadsWithMemory : Result ItemsRead FeedError → Type 0
+ReadsWithMemory (Err feed.Memory) = ⊥
+ReadsWithMemory r = Unit {0}
+
+-- the same is asked, and both had the memory
 abbrev pub AsksTheSame : StreamCall → Call → Type 0
 AsksTheSame (stream_begins d q) (begins e r) = (d ≡ e) × BeginsWithMemory r
 AsksTheSame (stream_feeds bytes old q new) (feeds fed r) = (bytes ≡ fed) × FeedsWithMemory r
+AsksTheSame (stream_reads bytes q) (feeds fed r) = (bytes ≡ fed) × ReadsWithMemory q × FeedsWithMemory r
 AsksTheSame (stream_abandons q) (abandons r) = Unit {0}
 AsksTheSame s c = ⊥
 
@@ -99,10 +109,16 @@ abbrev pub fed : Result Streamed StreamError → Result Progress FeedError
 fed (Ok s) = Ok s.progress
 fed (Err e) = Err (as_feed e)
 
+-- an answer of a stream, without the items
+abbrev pub progress_read : Result ItemsRead FeedError → Result Progress FeedError
+progress_read (Ok r) = Ok r.progress
+progress_read (Err e) = Err e
+
 -- the same is answered
 abbrev pub AnswersTheSame : StreamCall → Call → Type 0
 AnswersTheSame (stream_begins d q) (begins e r) = q ≡ begun r
 AnswersTheSame (stream_feeds bytes old q new) (feeds other r) = fed q ≡ r
+AnswersTheSame (stream_reads bytes q) (feeds other r) = progress_read q ≡ r
 AnswersTheSame (stream_abandons q) (abandons r) = q ≡ r
 AnswersTheSame s c = ⊥
 

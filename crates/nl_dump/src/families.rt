@@ -1,12 +1,26 @@
 //! The entries of the families, as they come in messages.
 
-ghost use Rattle.std.specs.Prelude.{refl};
+ghost use Rattle.std.specs.Prelude.{◌≡◌, is_some, refl};
+ghost use Rattle.nl_frame.specs.View.{body_view};
 ghost use Rattle.nl_route.specs.declared.family.Family.TheVariants as families;
-ghost use Rattle.nl_dump.specs.Items.{item_of};
+ghost use Rattle.nl_dump.specs.Items.{body_item, item_of};
 
 use nl_frame::Body;
-use nl_route::{Addr, Link, Neigh, Route, Rule};
+use nl_route::{Addr, Family, Link, Neigh, Route, Rule};
 use nl_table::Entry;
+
+/// Whether a body is an entry of this family.
+pub(crate) fn is_of(kind: Family, body: &Body) -> bool
+    ensures { result ≡ is_some (body_item kind (body_view body.now)) }
+{
+    match kind {
+        Family::Link => matches!(body, Body::Link(_)),
+        Family::Addr => matches!(body, Body::Addr(_)),
+        Family::Route => matches!(body, Body::Route(_)),
+        Family::Neigh => matches!(body, Body::Neigh(_)),
+        Family::Rule => matches!(body, Body::Rule(_)),
+    }
+}
 
 /// An entry that comes in messages.
 pub(crate) trait FromBody: Entry + Drop {

@@ -10,8 +10,10 @@ ghost use Rattle.nl_dump.specs.Sifting.{status_at, error_at, form_end, end_here,
 ghost use Rattle.nl_dump.specs.Sifting.{belongs_in, marked_in, role_here, found_at};
 ghost use Rattle.nl_dump.specs.Sifting.{none_sifted, judge, at_head, counted, keeping};
 ghost use Rattle.nl_dump.specs.Sifting.{kept, sifted, IsFront};
+ghost use Rattle.nl_dump.specs.Inside.{taken_of};
 
-use crate::dump::{Dump, End};
+use crate::dump::{Dump, End, Progress};
+use crate::putting::Taken;
 use crate::role::Role;
 use crate::sorting::{is_interrupted, is_marked, marks_end};
 use nl_attr::{Event, Order, SORT_MESSAGE};
@@ -28,7 +30,7 @@ pub(crate) struct Found {
 /// What was found of the messages so far.
 #[derive(Clone, Copy)]
 pub(crate) struct Sifted {
-    /// How many events of items stand at the front of the buffer.
+    /// How many events of items stand at the front of the buffer, where there is one.
     pub(crate) events: usize,
     /// Whether the next event is kept, if it is of no new message: the last message is an item, or
     /// there was none.
@@ -156,7 +158,7 @@ fn find(bytes: &[u8], event: Event, order: Order, dump: &Dump) -> Found
 
 impl Sifted {
     /// No message: an event with none before it is kept.
-    fn none() -> Sifted
+    pub(crate) fn none() -> Sifted
         ensures { result ≡ none_sifted }
     {
         Sifted {
@@ -169,9 +171,26 @@ impl Sifted {
         }
     }
 
+    /// What became of all messages, as it is answered.
+    pub(crate) fn taken(self) -> Taken
+        requires items { self.items ≤ fixed.LONGEST_REGION }
+        requires ignored { self.ignored ≤ fixed.LONGEST_REGION }
+        ensures { result ≡ taken_of self }
+    {
+        Taken {
+            progress: Progress {
+                items: self.items as u32,
+                ignored: self.ignored as u32,
+                ended: self.end.is_some(),
+            },
+            interrupted: self.interrupted,
+            end: self.end,
+        }
+    }
+
     /// One more message.
     #[inline(always)]
-    fn judge(self, found: Found) -> Sifted
+    pub(crate) fn judge(self, found: Found) -> Sifted
         requires items { self.items + 1 < 2 ^ 64 }
         requires ignored { self.ignored + 1 < 2 ^ 64 }
         ensures { result ≡ judge self.end found.role found.marked self }

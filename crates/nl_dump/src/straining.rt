@@ -1,21 +1,20 @@
 //! A datagram, gone over into the buffer of a stream.
 
 ghost use Rattle.std.specs.Prelude.{◌≡◌, ◌≤◌, ◌+◌, ◌*◌, length, IfOk};
-ghost use Rattle.nl_attr.specs.Fixed as fixed;
-ghost use Rattle.nl_dump.specs.Inside.{Strains, is_room, scan_refusal, strained_of};
+ghost use Rattle.nl_dump.specs.Inside.{Strains, is_room, scan_refusal};
 
-use crate::dump::{Dump, End, Progress, Streamed};
+use crate::dump::Dump;
 use crate::errors::StreamError;
-use crate::sifting::{Sifted, sift};
+use crate::putting::Taken;
+use crate::sifting::sift;
 use nl_attr::{Event, Tally};
 use nl_frame::{Counted, Limits, ScanError, tape_datagram};
 
-/// What became of the messages of a datagram.
+/// What became of the messages of a datagram, and how many events of items are in the buffer.
 #[derive(Clone, Copy)]
 pub(crate) struct Strained {
-    pub(crate) streamed: Streamed,
-    pub(crate) interrupted: bool,
-    pub(crate) end: Option<End>,
+    pub(crate) taken: Taken,
+    pub(crate) events: usize,
 }
 
 /// A refusal, as that of a scan.
@@ -35,34 +34,6 @@ pub(crate) fn lacks_room(error: &StreamError) -> bool
     matches!(error, StreamError::Room(_))
 }
 
-/// What was sifted, as it is answered.
-fn answer(sifted: Sifted) -> Strained
-    requires items { sifted.items ≤ fixed.LONGEST_REGION }
-    requires ignored { sifted.ignored ≤ fixed.LONGEST_REGION }
-    ensures { result ≡ strained_of sifted }
-{
-    let Sifted {
-        events,
-        items,
-        ignored,
-        interrupted,
-        end,
-        ..
-    } = sifted;
-    Strained {
-        streamed: Streamed {
-            progress: Progress {
-                items: items as u32,
-                ignored: ignored as u32,
-                ended: end.is_some(),
-            },
-            events,
-        },
-        interrupted,
-        end,
-    }
-}
-
 /// Goes over a datagram once, and leaves the events of the dump's items in the buffer.
 pub(crate) fn strain(
     limits: &Limits,
@@ -73,7 +44,7 @@ pub(crate) fn strain(
     ensures strains { Strains limits.now dump.now bytes.now out.old
         result.result result.visits out.new }
     ensures bound { result.visits ≤ (limits.now.shape.depth + 1) * length bytes.now }
-    ensures ignored { IfOk result.result (λ s. s.streamed.progress.ignored ≤ length bytes.now) }
+    ensures ignored { IfOk result.result (λ s. s.taken.progress.ignored ≤ length bytes.now) }
 {
     let _limit = limits.datagram();
     let Counted {
@@ -90,7 +61,10 @@ pub(crate) fn strain(
             }
             let sifted = sift(bytes, limits.order(), dump, out, count);
             Tally {
-                result: Ok(answer(sifted)),
+                result: Ok(Strained {
+                    taken: sifted.taken(),
+                    events: sifted.events,
+                }),
                 visits,
             }
         }

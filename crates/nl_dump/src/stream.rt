@@ -1,26 +1,28 @@
 //! A stream: one dump after another, in constant space.
 
-ghost use Rattle.std.specs.Prelude.{◌≡◌, Decides};
+ghost use Rattle.std.specs.Prelude.{◌≡◌, Decides, ◌≤◌, length, IfOk};
 ghost use Rattle.std.specs.Result.{OkIff};
 ghost use Rattle.nl_dump.specs.Standing.{IsPossible, IsReached, new_standing, whole_of};
 ghost use Rattle.nl_dump.specs.Streams.{StreamBegan, StreamFed, StreamAbandons, EveryStreamed};
+ghost use Rattle.nl_dump.specs.Reading.{StreamRead, EveryRead};
 
-use crate::dump::{Dump, End, State, Streamed};
-use crate::errors::{BeginError, Impossible, NotWaiting, StreamError};
-use crate::session::state_after;
-use crate::sorting::is_interrupted;
+use crate::dump::{Dump, End, ItemsRead, State, Streamed};
+use crate::errors::{BeginError, FeedError, Impossible, NotWaiting, StreamError};
+use crate::picking::{Picked, read_items};
 use crate::standing::Standing;
-use crate::straining::{lacks_room, strain};
+use crate::straining::{Strained, lacks_room, strain};
 use nl_attr::{Event, Tally};
 use nl_frame::Limits;
+use std::alloc::Global;
 use std::marker::Model;
 
 /// One dump after another (netlink(7), `NLM_F_DUMP`; RFC 3549, section 2.3.2.2), as a plain value
-/// that keeps nothing of a datagram and takes no memory.
+/// that keeps nothing of a datagram.
 ///
-/// It begins a dump and is fed the datagrams that answer it, each with a buffer, in which it leaves
-/// the events of the dump's items. Its limits hold over its whole life, as those of a `Session` do;
-/// the limit on entries says nothing here.
+/// It begins a dump and is handed the datagrams that answer it, each by one of two calls: `feed`
+/// leaves the events of the dump's items in a buffer and takes no memory, and `read` hands the
+/// items out as messages. Its limits hold over its whole life, as those of a `Session` do; the
+/// limit on entries says nothing here.
 #[derive(Clone, Copy, Debug, PartialEq, Eq, Hash)]
 pub struct Stream {
     standing: Standing,
@@ -137,30 +139,79 @@ impl Stream {
         let State::Waiting(dump) = self.standing.state else {
             return Err(StreamError::NotWaiting);
         };
-        if bytes.len() as u64 > self.standing.limits.total() - self.standing.received {
-            self.standing.damaged = true;
+        let count = bytes.len() as u64;
+        if self.standing.exceeds_total(count) {
             return Err(StreamError::Total);
         }
         let Tally { result, visits } = strain(&self.standing.limits, &dump, bytes, out);
         match result {
-            Ok(strained) => {
-                self.standing.received += bytes.len() as u64;
-                self.standing.visits += visits;
-                self.standing.ignored += u64::from(strained.streamed.progress.ignored);
-                self.standing.interrupted = is_interrupted(
-                    self.standing.interrupted,
-                    strained.interrupted,
-                );
-                self.standing.state = state_after(dump, strained.end);
-                Ok(strained.streamed)
+            Ok(Strained { taken, events }) => {
+                self.standing.take(dump, count, visits, &taken);
+                Ok(Streamed {
+                    progress: taken.progress,
+                    events,
+                })
             }
             Err(error) => {
                 if lacks_room(&error) {
                     return Err(error);
                 }
-                self.standing.received += bytes.len() as u64;
-                self.standing.visits += visits;
-                self.standing.damaged = true;
+                self.standing.refuse(count, visits);
+                Err(error)
+            }
+        }
+    }
+
+    /// Takes a datagram into the dump that waits, as `feed` does, and hands its items out as
+    /// messages in their order. It answers also how many messages were items, how many were
+    /// ignored, and whether one of them ended the dump. Each attribute byte is visited once a
+    /// level.
+    ///
+    /// It refuses, in this order: `NotWaiting` where no dump waits; `Total` for a datagram that
+    /// takes the stream above its total limit; `TooLarge` for one above the datagram limit;
+    /// `Layout` with the first fault over all heads; `Memory` where a growth is refused, which
+    /// comes in place of whatever would come later. `NotWaiting` leaves the stream as it was.
+    /// After the others the state, `ignored` and `interrupted` are as before, and `damaged` is
+    /// set; all but `Total` raise `received` by the length and `visits` by what was visited.
+    ///
+    /// It takes memory for the messages of this datagram, by `alloc`; the stream keeps none of it.
+    #[tactic(auto, using(crate::proofs::Handing::every))]
+    pub fn read(&mut self, alloc: Global, bytes: &[u8]) -> Result<ItemsRead, FeedError>
+        ensures step { StreamRead self.old bytes.now result self.new }
+        ensures possible { IsPossible self.new }
+        // Each datagram is refused at its first fault, with no change of the dump's answer, or
+        // yields the one list of its layout, which is written and read again.
+        ensures every { EveryRead self.old bytes.now result self.new }
+        ensures few { IfOk result (λ read. length read.items.items ≤ length bytes.now) }
+    {
+        self.read_step(alloc, bytes)
+    }
+
+    /// The same, by its step.
+    fn read_step(&mut self, alloc: Global, bytes: &[u8]) -> Result<ItemsRead, FeedError>
+        ensures step { StreamRead self.old bytes.now result self.new }
+        ensures possible { IsPossible self.new }
+        ensures limits { self.new.limits ≡ self.old.limits }
+        ensures few { IfOk result (λ read. length read.items.items ≤ length bytes.now) }
+    {
+        let State::Waiting(dump) = self.standing.state else {
+            return Err(FeedError::NotWaiting);
+        };
+        let count = bytes.len() as u64;
+        if self.standing.exceeds_total(count) {
+            return Err(FeedError::Total);
+        }
+        let Tally { result, visits } = read_items(alloc, &self.standing.limits, &dump, bytes);
+        match result {
+            Ok(Picked { items, taken }) => {
+                self.standing.take(dump, count, visits, &taken);
+                Ok(ItemsRead {
+                    items,
+                    progress: taken.progress,
+                })
+            }
+            Err(error) => {
+                self.standing.refuse(count, visits);
                 Err(error)
             }
         }

@@ -1,5 +1,6 @@
 //! Streams side by side with sessions, what both answer step by step, and requests in a buffer.
 
+use crate::messages::say_messages;
 use crate::rows::Row;
 use crate::said::{Hex, say, yes_or_no};
 use crate::scans::UNTOUCHED;
@@ -8,7 +9,7 @@ use crate::stop::{Stop, Wrong};
 use crate::words::{Words, number_in};
 use nl_attr::Order;
 use nl_dump::{
-    BeginError, Dump, End, FeedError, Kind, Progress, Session, Standing, State, Stream,
+    BeginError, Dump, End, FeedError, ItemsRead, Kind, Progress, Session, Standing, State, Stream,
     StreamError, Streamed,
 };
 
@@ -89,13 +90,14 @@ fn run(rt: &HostRuntime, row: &mut Row<'_>) -> Result<(), Stop> {
     Ok(())
 }
 
-/// Makes a step: `begin KIND FAMILY SEQ PORT`, `feed ROOM BYTES`, `feed quarter BYTES`, `abandon`,
-/// `shows`, `restore`, or `restore FIELD VALUE`.
+/// Makes a step: `begin KIND FAMILY SEQ PORT`, `feed ROOM BYTES`, `feed quarter BYTES`,
+/// `read BYTES`, `abandon`, `shows`, `restore`, or `restore FIELD VALUE`.
 fn step(rt: &HostRuntime, pair: &mut Pair, row: &Row<'_>, line: &str) -> Result<(), Stop> {
     let (name, rest) = line.split_once(' ').unwrap_or((line, ""));
     let mut words = Words::of(rest);
     match name {
         "feed" => return feed(rt, pair, row, rest),
+        "read" => return read(rt, pair, row, rest),
         "begin" => begin(rt, pair, &mut words)?,
         "abandon" => abandon(rt, pair)?,
         "shows" => show(rt, pair)?,
@@ -156,6 +158,27 @@ fn feed(rt: &HostRuntime, pair: &mut Pair, row: &Row<'_>, rest: &str) -> Result<
             Ok(())
         }
         Err(error) => {
+            let code = error.code();
+            say(rt, format_args!("{code} {error}, {alike}"))
+        }
+    }
+}
+
+/// `read BYTES`: reads a datagram. Tells what became of the messages, and those that are items; or
+/// the refusal.
+fn read(rt: &HostRuntime, pair: &mut Pair, row: &Row<'_>, rest: &str) -> Result<(), Stop> {
+    let bytes = row.bytes_of(rt.alloc(), rest)?;
+    let answer = pair.stream.read(rt.alloc(), bytes.as_slice());
+    let beside = pair.session.feed(bytes.as_slice());
+    match answer {
+        Ok(ItemsRead { items, progress }) => {
+            let alike = pair.word(beside == Ok(progress));
+            let progress = Shown(&progress);
+            say(rt, format_args!("{progress}, {alike}"))?;
+            say_messages(rt, items.as_slice())
+        }
+        Err(error) => {
+            let alike = pair.word(beside == Err(error));
             let code = error.code();
             say(rt, format_args!("{code} {error}, {alike}"))
         }

@@ -1,19 +1,24 @@
-//! A caller of a stream of `nl_dump`.
+//! Callers of a stream of `nl_dump`.
 
 ghost use Rattle.std.specs.Prelude.{◌≡◌, ◌==◌, ◌&&◌, ◌+◌, ◌*◌, ◌≤◌, if◌then◌else◌};
-ghost use Rattle.std.specs.Prelude.{List, take, drop, count_by, nat_eq, Some, None, IfOk, OnErr};
+ghost use Rattle.std.specs.Prelude.{List, [], take, drop, map, count_by, nat_eq, Some, None};
+ghost use Rattle.std.specs.Prelude.{IfOk, OnErr};
 ghost use Rattle.std.specs.Option.{option_eq};
 ghost use Rattle.nl_attr.specs.Views.{first_number};
 ghost use Rattle.nl_frame.specs.Layout.{Layout};
 ghost use Rattle.nl_frame.specs.Message.{MessageVal};
+ghost use Rattle.nl_frame.specs.View.{message_view};
 ghost use Rattle.nl_dump.specs.Handed.{item_events};
+ghost use Rattle.nl_dump.specs.Reading.{item_messages};
 ghost use Rattle.nl_dump.specs.Streams.{StaysAnswer};
 ghost use Rattle.nl_dump.specs.declared.dump.Dump.{Dump};
 ghost use Rattle.nl_dump.specs.declared.dump.State.TheVariants.{Waiting};
 
 use nl_attr::{Event, Order};
-use nl_dump::{Stream, StreamError};
+use nl_dump::{FeedError, Stream, StreamError};
+use nl_frame::Message;
 use nl_route::RTA_OIF;
+use std::alloc::Global;
 
 /// The bytes behind the head of an attribute, as far as the datagram has them.
 fn payload_of(datagram: &[u8], event: Event) -> &[u8]
@@ -72,4 +77,26 @@ pub fn count_through(
         }
     }
     Ok(count)
+}
+
+/// Takes a datagram that may answer a dump, and hands its entries out as messages. Whether the dump
+/// has ended stands in `stream.state()`.
+pub fn entries_in(
+    alloc: Global,
+    stream: &mut Stream,
+    datagram: &[u8],
+) -> Result<Vec<Message>, FeedError>
+    // The datagram is these messages, and those of them are handed out that are the dump's items.
+    ensures entries { IfOk result (λ entries. (dump : Dump)
+        × (stream.old.state ≡ Waiting dump)
+        × (messages : List MessageVal) × Layout stream.old.limits.shape messages datagram.now
+        × (map message_view entries.items ≡ item_messages dump messages)) }
+    // One that is refused leaves the dump's answer as it was.
+    ensures refused { OnErr result (StaysAnswer stream.old datagram.now [] stream.new) }
+    // However it is answered, each byte received is visited once a level at most.
+    ensures visits { stream.new.visits
+        ≤ (stream.new.limits.shape.depth + 1) * stream.new.received }
+{
+    let read = stream.read(alloc, datagram)?;
+    Ok(read.items)
 }

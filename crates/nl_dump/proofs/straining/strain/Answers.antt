@@ -11,25 +11,25 @@ sifts c =
     is_sifted a.limits.now a.dump.now a.bytes.now a.out.now t.result.scan.result t.result.count t.result.scan.visits c.sift-sifted.result t.new.out c.sift-sifted.new.out c.in-Ok.is t.ensures.scans.large t.ensures.scans.fits t.ensures.scans.visits t.ensures.count t.ensures.events t.auto.out c.if-out-count.false
     (rw c.order.ensures at c.sift-sifted.ensures.found) (rw c.order.ensures at c.sift-sifted.ensures.events)
 
-pub answer-requires-clause-items : goal.answer-requires-clause-items
-answer-requires-clause-items c =
-    let is = sifts (goal.at.answer-requires-clause-items c).After-sift-sifted in
+pub taken-requires-clause-items : goal.taken-requires-clause-items
+taken-requires-clause-items c =
+    let is = sifts (goal.at.taken-requires-clause-items c).After-sift-sifted in
     omega (arith, few_items _ _ _ _ _ _ _ is, is.within, c.datagram-limit.ensures.limits)
 
-pub answer-requires-clause-ignored : goal.answer-requires-clause-ignored
-answer-requires-clause-ignored c =
-    let is = sifts (goal.at.answer-requires-clause-ignored c).After-sift-sifted in
+pub taken-requires-clause-ignored : goal.taken-requires-clause-ignored
+taken-requires-clause-ignored c =
+    let is = sifts (goal.at.taken-requires-clause-ignored c).After-sift-sifted in
     omega (arith, few_ignored _ _ _ _ _ _ _ is, is.within, c.datagram-limit.ensures.limits)
 
 pub returns-else-out-count-clause-strains : goal.returns-else-out-count-clause-strains
 returns-else-out-count-clause-strains c =
     let is = sifts (goal.at.returns-else-out-count-clause-strains c).After-sift-sifted in
-    rw c.answer.ensures (strains_ok _ _ _ _ _ _ _ is)
+    rw c.taken.ensures (strains_ok _ _ _ _ _ _ _ is)
 
 pub returns-else-out-count-clause-ignored : goal.returns-else-out-count-clause-ignored
 returns-else-out-count-clause-ignored c =
     let is = sifts (goal.at.returns-else-out-count-clause-ignored c).After-sift-sifted in
-    rw c.answer.ensures (few_ignored _ _ _ _ _ _ _ is)
+    rw c.taken.ensures (few_ignored _ _ _ _ _ _ _ is)
 
 pub returns-in-Err-clause-strains : goal.returns-in-Err-clause-strains
 returns-in-Err-clause-strains c =
