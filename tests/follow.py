@@ -5,8 +5,8 @@ command that prints as it reads: the text of a line is there before the next lin
 written of a recording that is cut is the beginning of the whole and ends with a whole datagram,
 memory does not grow with the input, bad lines are named and passed over, and it ends as the other
 commands do where its reader goes, a device is full or a signal comes. Each read and each write goes
-wrong in turn, and it follows the kernel in a network namespace of its own, where the machine allows
-one. The last line is 'N passed, M failed', and the status is 1 where a case failed.
+wrong in turn, dumps of any length are followed, and it follows the kernel in a network namespace
+of its own, where the machine allows one. The last line is 'N passed, M failed', and the status is 1 where a case failed.
 """
 import fcntl
 import os
@@ -26,6 +26,7 @@ sys.dont_write_bytecode = True
 TESTS = os.path.dirname(os.path.realpath(__file__))
 sys.path[:0] = [f"{TESTS}/helpers", f"{TESTS}/follow"]
 import datagrams
+import dumps
 import faults
 import live
 import mutations
@@ -34,7 +35,13 @@ from counting import counted
 from datagrams import ORDERS
 
 PROGRAM = proved.program()
-FORMS = [], ["--format", "json"], ["--bytes"], ["--bytes", "--format", "json"]
+FORMS = (
+    [],
+    ["--color", "always"],
+    ["--format", "json"],
+    ["--bytes"],
+    ["--bytes", "--format", "json"],
+)
 FINISH = "1400000003000200010000003930000000000000\n"
 FINISH_TEXT = """datagram {} bytes 20
 message 3 done flags 0x0002 MULTI seq 1 port 12345
@@ -273,6 +280,7 @@ def cases():
     yield from memory()
     yield from endings()
     yield from signals()
+    yield from dumps.cases()
     with tempfile.TemporaryDirectory() as folder:
         yield from faults.cases(folder)
     if sys.argv[1:] == ["inside"]:
@@ -285,7 +293,7 @@ def cases():
 
 def go_inside():
     """Runs this script in a network namespace of its own, if there can be one."""
-    wanted = [f"{TESTS}/helpers/install_packages.sh", "cc", "gcc", "ip", "iproute2"]
+    wanted = [f"{TESTS}/helpers/install_packages.sh", "cc", "gcc", "ip", "iproute2", "/usr/bin/time", "time"]
     subprocess.run(wanted, check=False)
     way = live.way_in()
     if way:

@@ -155,6 +155,7 @@ bad_first_line='rtnl: line 1: bad line'
 . tests/program/request.sh
 . tests/program/json.sh
 . tests/program/bytes.sh
+. tests/program/colour.sh
 . tests/program/follow.sh
 . tests/program/explain.sh
 . tests/program/terminal.sh

@@ -59,12 +59,13 @@ is_begun() {
   [ "$size" = 0 ] || { [ "$1" = follow ] && is_front "$size"; }
 }
 
-# is_front SIZE: so many bytes were written, the first of what is written without the library, and no datagram is cut.
+# is_front SIZE: so many bytes were written, the first of what is written without the library, and no datagram is cut, and no
+# entry of a dump.
 is_front() {
   head -c "$1" "$folder/whole.output" | cmp -s - "$folder/found.output" &&
     { [ "$1" = "$(wc -c <"$folder/whole.output")" ] ||
       tail -c "+$(($1 + 1))" "$folder/whole.output" | head -n 1 |
-        grep -Eq '^(datagram |\{"datagram":[0-9]+,("bytes"|"offset":0,))'; }
+        grep -Eq '^(datagram |entry |end |\{"datagram":[0-9]+,("bytes"|"offset":0,)|\{"(entry|dump)":)'; }
 }
 
 # The run answered what one without the library answers.
@@ -114,6 +115,11 @@ message 3 done flags 0x0002 MULTI seq 1 port 12345
 TEXT
 refuse_each 'a DONE' 0 "$folder/done"
 check 'a DONE, its text' cmp -s "$folder/done.text" "$folder/found.output"
+
+# The same in colours: the third word of the message's line is bold.
+sed $'s/done flags/\e[1mdone\e[0m flags/' "$folder/done.text" >"$folder/done.colours"
+refuse_each 'a DONE in colours' 0 "$folder/done" show --color always
+check 'a DONE in colours, its text' cmp -s "$folder/done.colours" "$folder/found.output"
 
 refuse_each 'examples/routes.hex' 0 /dev/null show examples/routes.hex
 check 'examples/routes.hex, its datagrams' [ "$(grep -c '^datagram ' "$folder/found.output")" = 3 ]
@@ -264,8 +270,13 @@ refuse_each 'a DONE, followed' 0 "$folder/done" follow
 check 'a DONE, followed, its text' cmp -s "$folder/done.text" "$folder/found.output"
 follow_each 'examples/routes.hex, followed' 0 examples/routes.hex
 check 'examples/routes.hex, followed, its datagrams' [ "$(grep -c '^datagram ' "$folder/found.output")" = 3 ]
+follow_each 'examples/routes.hex, followed in colours' 0 examples/routes.hex --color always
 follow_each 'examples/routes.hex, followed in JSON' 0 examples/routes.hex --format json
 follow_each 'examples/routes.hex, followed in bytes' 0 examples/routes.hex --bytes
+of_routes=(--kind route --seq 1011 --port 19261)
+follow_each 'a dump, followed' 0 examples/routes.hex "${of_routes[@]}"
+check 'a dump, followed, its end' [ "$(tail -n 1 "$folder/found.output")" = 'complete yes' ]
+follow_each 'a dump, followed in JSON' 0 examples/routes.hex "${of_routes[@]}" --format json
 cat "$folder/done" "$addresses" >"$folder/two"
 follow_each "a DONE and $addresses, followed in bytes, in JSON" 0 "$folder/two" --bytes --format json
 # A datagram of 10,000 zeros, whose line comes by many reads.

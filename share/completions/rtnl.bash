@@ -4,7 +4,9 @@
 _rtnl_options() {
   case $1 in
     show) echo --order --format --bytes --color --explain --help ;;
-    follow) echo --order --format --bytes --color --depth --strict --explain --help ;;
+    follow)
+      echo --order --format --bytes --color --kind --seq --port --depth --strict --explain --help
+      ;;
     check) echo --order --format --explain --help ;;
     table)
       echo --kind --seq --port --family --depth --entries --order --format --explain --help

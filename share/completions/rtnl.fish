@@ -2,7 +2,8 @@
 
 set -l commands show follow check table request
 set -l all "__fish_seen_subcommand_from $commands"
-set -l dumps '__fish_seen_subcommand_from table request'
+set -l dumps '__fish_seen_subcommand_from follow table request'
+set -l asked '__fish_seen_subcommand_from table request'
 set -l show '__fish_seen_subcommand_from show follow'
 set -l follow '__fish_seen_subcommand_from follow'
 set -l deep '__fish_seen_subcommand_from follow table'
@@ -26,12 +27,12 @@ complete -c rtnl -n $read -F
 complete -c rtnl -n $all -l order -x -a 'little big' -d 'Byte order of the numbers'
 complete -c rtnl -n $read -l format -x -a 'text json' -d 'Lines of text or of JSON'
 complete -c rtnl -n $show -l bytes -d 'Show the bytes beside what they are'
-complete -c rtnl -n $show -l color -x -a 'auto always never' -d 'When to colour what stands beside bytes'
+complete -c rtnl -n $show -l color -x -a 'auto always never' -d 'When to colour the text'
 complete -c rtnl -n $read -l explain -d 'Say why something failed or was refused'
 complete -c rtnl -n $dumps -l kind -x -a 'link addr route neigh rule' -d 'What the dump asks for'
 complete -c rtnl -n $dumps -l seq -x -d 'Sequence number of the request and its answers'
-complete -c rtnl -n $dumps -l family -x -d 'Address family of the request'
-complete -c rtnl -n $table -l port -x -d 'Port id of the answers'
+complete -c rtnl -n $asked -l family -x -d 'Address family of the request'
+complete -c rtnl -n $deep -l port -x -d 'Port id of the answers'
 complete -c rtnl -n $deep -l depth -x -d 'Greatest depth of nested attributes'
 complete -c rtnl -n $follow -l strict -d 'End at the first bad line'
 complete -c rtnl -n $table -l entries -x -d 'Greatest number of entries in the table'

@@ -3,6 +3,7 @@ in turn, by faults.c: it fails, or takes only a part of the bytes, or none."""
 import errno
 import os
 import re
+import struct
 import subprocess
 
 import proved
@@ -10,12 +11,21 @@ from proved import ROOT
 
 PROGRAM = proved.program()
 EXAMPLES = "changes", "addresses", "neighbours"
+DUMP = "routes"
+HEADER = struct.Struct("<IHHII")
 # So many bytes a read has: lines end within reads, at their ends, and lie over many.
 PIECE = 250
-FORMS = [], ["--format", "json"], ["--bytes"]
+FORMS = [], ["--color", "always"], ["--format", "json"], ["--bytes"]
 # What a datagram's text begins with.
 FIRST = re.compile(r'^(?=datagram |\{"datagram":)', re.M)
+# What an entry of a dump begins with.
+ENTRY = re.compile(r"^(?=entry )", re.M)
 READ_FAULT, WRITE_FAULT = "rtnl: read fault\n", "rtnl: write fault\n"
+# With --explain the system's reason stands behind it, which is said in the words of strerror(3).
+EXPLAINED = {
+    "read": READ_FAULT + "rtnl: standard input: {} (os error {})\n",
+    "write": WRITE_FAULT + "rtnl: standard output: {} (os error {})\n",
+}
 
 
 def recorded():
@@ -82,6 +92,55 @@ class Faulty:
             # The rest of the text goes by a further write.
             yield from self.is_as(f"write {number} part", 0, count, "")
 
+    def reasons(self):
+        """A read and a write that fail are explained; a write that takes no byte has no reason."""
+        for call, lines in EXPLAINED.items():
+            for error in (errno.EIO, errno.EBADF):
+                errors = lines.format(os.strerror(error), error)
+                yield from self.is_as(f"{call} 1 {error}", 3, 0, errors)
+        yield from self.is_as("write 1 none", 3, 0, WRITE_FAULT)
+
+
+class FaultyDump(Faulty):
+    """The program over a dump: the line of the dump, the entries of each datagram, and how the dump
+    ended are each written by a call. The entries are those of `table`."""
+
+    def __init__(self, library):
+        self.library, self.form = library, []
+        with open(f"{ROOT}/examples/{DUMP}.hex", encoding="ascii") as lines:
+            self.recording = lines.read()
+        datagrams = [bytes.fromhex(it) for it in self.recording.split("\n") if it[:1] not in "#"]
+        _, self.kind, _, seq, port = HEADER.unpack_from(datagrams[0])
+        self.form = ["--kind", "route", "--seq", str(seq), "--port", str(port)]
+        front, *entries = ENTRY.split(self.ran("table")[1])
+        last, end = re.split("^(?=end )", entries[-1], flags=re.M)
+        counts = [self.items(it) for it in datagrams]
+        self.texts = [front]
+        for count in counts:
+            self.texts.append("".join([*entries[:-1], last][:count]))
+            del entries[:count]
+        self.texts.append(end)
+        # What ends the dump has no entry, and an empty text is not written.
+        self.texts = [it for it in self.texts if it]
+        self.wrong = [] if sum(counts) > 1 else ["no entries"]
+
+    def items(self, datagram):
+        """How many messages of a datagram are of the dump's type."""
+        at = count = 0
+        while at < len(datagram):
+            length, kind, _, _, _ = HEADER.unpack_from(datagram, at)
+            count += kind == self.kind
+            at += length + 3 & ~3
+        return count
+
+    def reads(self):
+        """A read fails: the entries of all whole lines are there, and nothing of how it ended."""
+        count = -(-len(self.recording) // PIECE)
+        for number in range(1, count + 1):
+            whole = datagrams_of(self.recording[: (number - 1) * PIECE])
+            yield from self.is_as(f"read {number} {errno.EIO}", 3, 1 + whole, READ_FAULT)
+            yield from self.is_as(f"read {number} part", 0, len(self.texts), "")
+
 
 def cases(folder):
     """The cases; the library is made in this folder."""
@@ -95,3 +154,8 @@ def cases(folder):
         yield " ".join(["fault: what show prints", *form]), wrong
         yield from faulty.reads()
         yield from faulty.writes()
+    yield from Faulty(library, ["--explain"]).reasons()
+    dump = FaultyDump(library)
+    yield "fault: what table prints of the dump", dump.wrong
+    yield from dump.reads()
+    yield from dump.writes()

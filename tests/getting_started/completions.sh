@@ -20,12 +20,14 @@ completed() {
   check "$shell: an option" completes "$shell" --kind rtnl table --k
   check "$shell: an option of the program" completes "$shell" --version rtnl --v
   check "$shell: byte orders" completes "$shell" 'big little' rtnl show --order ''
-  check "$shell: colours" completes "$shell" 'always auto never' rtnl show --bytes --color ''
+  check "$shell: colours" completes "$shell" 'always auto never' rtnl show --color ''
+  check "$shell: colours of bytes" completes "$shell" 'always auto never' rtnl show --bytes --color ''
   check "$shell: kinds" completes "$shell" 'addr link neigh route rule' rtnl request --kind ''
   check "$shell: kinds by a letter" completes "$shell" 'route rule' rtnl table --kind r
   check "$shell: no number" completes "$shell" '' rtnl table --seq ''
   check "$shell: colours of what is followed" completes "$shell" 'always auto never' rtnl follow --color ''
-  check "$shell: an option of follow" completes "$shell" --strict rtnl follow --s
+  check "$shell: options of follow" completes "$shell" '--seq --strict' rtnl follow --s
+  check "$shell: kinds that are followed" completes "$shell" 'addr link neigh route rule' rtnl follow --kind ''
   check "$shell: no option of show" completes "$shell" '' rtnl show --s
   check "$shell: help of a command" completes "$shell" table rtnl help t
   for command in show follow check table request; do

@@ -391,64 +391,6 @@ too_large_objects=$(
 )
 expect 'bytes in JSON, too large' 1 "$too_large_objects" '' show --format=json --bytes < <(zeros 65540)
 
-# ---- colour
-
-# A link with a name and its padding, a length that is bad, and 17 bytes behind it.
-echo "31000000 $zero_link 05000300 6c000000 03000100 000102030405060708090a0b0c0d0e0f10" >"$folder/colours"
-red=$'\e[1;31m'
-dim=$'\e[2m'
-plain=$'\e[0m'
-in_colour="datagram 1 bytes 61
-$(rows_of_link 49 31)
-   32  05 00                                                rta_len 5
-   34  03 00                                                rta_type 3 IFLA_IFNAME
-   36  6c                                                   IFLA_IFNAME text l
-   37  00 00 00                                             ${dim}padding$plain
-   40  03 00                                                $red!! rta_len 3: bad length at 40, 9 bytes left$plain
-   42  01 00                                                rta_type 1 IFLA_ADDRESS
-   44  00 01 02 03 04 05 06 07 08 09 0a 0b 0c 0d 0e 0f  ${dim}unread$plain
-   60  10
-refused bad length at 40"
-in_no_colour=${in_colour//"$red"/}
-in_no_colour=${in_no_colour//"$dim"/}
-in_no_colour=${in_no_colour//"$plain"/}
-# What runs a command on a terminal of its own, and ends with its status.
-terminal='import os, pty, sys
-sys.exit(os.waitstatus_to_exitcode(pty.spawn(sys.argv[1:])))'
-
-# into_pipe VARIABLE OPTION..: that recording is shown into a pipe; NO_COLOR is this variable, or isn't there.
-into_pipe() {
-  local variable=$1
-  shift
-  (set -o pipefail && env -u NO_COLOR ${variable:+"$variable"} "$program" show --bytes "$@" "$folder/colours" | cat)
-}
-
-# on_terminal VARIABLE OPTION..: the same on a terminal, which makes two bytes of the end of each line.
-on_terminal() {
-  local variable=$1
-  shift
-  (set -o pipefail && env -u NO_COLOR ${variable:+"$variable"} python3 -c "$terminal" \
-    "$program" show --bytes "$@" "$folder/colours" </dev/null | tr -d '\r')
-}
-
-check 'bytes into a pipe, no colour' ends 1 "$in_no_colour" '' into_pipe ''
-check 'bytes into a pipe, --color auto' ends 1 "$in_no_colour" '' into_pipe '' --color auto
-check 'bytes into a pipe, --color never' ends 1 "$in_no_colour" '' into_pipe '' --color never
-check 'bytes into a pipe, --color always' ends 1 "$in_colour" '' into_pipe '' --color=always
-check 'bytes into a pipe, --color always and NO_COLOR' ends 1 "$in_colour" '' into_pipe NO_COLOR=1 --color always
-check 'bytes on a terminal' ends 1 "$in_colour" '' on_terminal ''
-check 'bytes on a terminal, --color auto' ends 1 "$in_colour" '' on_terminal '' --color auto
-check 'bytes on a terminal, --color never' ends 1 "$in_no_colour" '' on_terminal '' --color never
-check 'bytes on a terminal, NO_COLOR' ends 1 "$in_no_colour" '' on_terminal NO_COLOR=1
-check 'bytes on a terminal, NO_COLOR and --color auto' ends 1 "$in_no_colour" '' on_terminal NO_COLOR=0 --color auto
-check 'bytes on a terminal, an empty NO_COLOR' ends 1 "$in_colour" '' on_terminal NO_COLOR=
-check 'bytes on a terminal, --color always and NO_COLOR' ends 1 "$in_colour" '' on_terminal NO_COLOR=1 --color always
-expect 'bytes in JSON, no colour' 1 \
-  '{"datagram":1,"offset":0,"length":2,"bytes":"1200","level":0,"name":"nlmsghdr","value":null,"fault":"cut"}' '' \
-  show --bytes --format json --color always <<<1200
-expect 'colour without bytes' 1 "$loopback_text
-${loopback_refused/datagram 1/datagram 2}" '' show --color always < <(printf '%s\n' "$loopback" "$loopback_big")
-
 # ---- what fails
 
 usage check --bytes
@@ -457,15 +399,9 @@ usage request --kind link --seq 1 --bytes
 usage --bytes
 usage show --bytes --bytes
 usage show --bytes=yes
-usage check --color always
-usage table --kind link --seq 1 --port 1 --color never
-usage show --color blue
-usage show --bytes --color
 usage show --bytes --format xml
 expect 'bytes of a bad line' 1 '' "$bad_first_line" show --bytes <<<0g
 expect 'bytes of a missing file' 3 '' "rtnl: $folder/missing: read fault" show --bytes "$folder/missing"
 check 'bytes, a full device' ends 3 '' "$write_fault" into_full_device show --bytes <<<"$finish"
-check 'bytes in colour, a full device' ends 3 '' "$write_fault" \
-  into_full_device show --bytes --color always <<<"$short_attribute"
 check 'bytes in JSON, a full device' ends 3 '' "$write_fault" \
   into_full_device show --bytes --format json <<<"$finish"

@@ -119,3 +119,27 @@ check 'a full device, explained' ends 3 '' 'rtnl: write fault
 rtnl: standard output: No space left on device (os error 28)' into_full_device check --explain <<<"$done_line"
 check 'errors that cannot be written, explained' ends 1 'datagram 1 refused cut at 0' '' \
   with_full_errors check --explain <<<00
+
+# What is followed is explained as it comes, of a dump too.
+expect 'followed, an explained attribute' 1 "$finish_text
+datagram 2 bytes 36
+refused bad length at 32
+datagram 3 bytes 20
+$finish_message" "rtnl: datagram 2: bad length at 32: $length_rule: \
+attribute 3 IFLA_IFNAME at level 0 of length 3, 4 bytes left, in message 1 RTM_NEWLINK at 0: 020000000100000000000000[03]000300" \
+  follow --explain <<END
+$done_line
+24000000 $link_head 0300 0300
+$done_line
+END
+expect 'a dump that is followed, an explained attribute' 1 "dump link seq 1 port 12345
+datagram 1 refused bad length at 32
+end done 0
+entries 0 missed 0 ignored 0 unfed 0 damaged yes interrupted no
+received 56 visits 0
+complete no" "rtnl: datagram 1: bad length at 32: $length_rule: \
+attribute 3 IFLA_IFNAME at level 0 of length 3, 4 bytes left, in message 1 RTM_NEWLINK at 0: 020000000100000000000000[03]000300" \
+  follow --kind link --seq 1 --port 12345 --explain <<END
+24000000 $link_head 0300 0300
+$done_line
+END

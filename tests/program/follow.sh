@@ -24,8 +24,6 @@ expect 'follow, JSON, refused' 1 '{"datagram":1,"refused":"bad length","at":32}'
 expect 'follow, bytes' 0 "$loopback_bytes" '' follow --bytes "$folder/link"
 expect 'follow, bytes without colours' 0 "$loopback_bytes" '' follow --bytes --color never \
   <<<"$loopback"
-expect 'follow, bytes in colours' 1 "$in_colour" '' follow --bytes --color always "$folder/colours"
-expect 'follow, bytes in no colours' 1 "$in_no_colour" '' follow --bytes "$folder/colours"
 
 # ---- how deep it goes: each of the nine lists is 4 bytes behind the one that holds it
 
@@ -87,6 +85,22 @@ rtnl: $folder/$shown_name: line 1, column 1: byte 0x7a is no hexadecimal digit" 
 check 'follow, a bad line that cannot be named' ends 1 "$loopback_text" '' \
   with_full_errors follow "$folder/some_bad"
 
+# ---- a dump, whose ways to end are cases of ../follow.py
+
+expect 'follow, a dump' 0 "dump link seq 1 port 12345
+entry 1
+$(tail -n +3 <<<"$loopback_text")
+end done 0
+entries 1 missed 0 ignored 0 unfed 0 damaged no interrupted no
+received 68 visits 16
+complete yes" '' follow "${links[@]:1}" < <(printf '%s\n' "$loopback" "$finish")
+usage follow --kind link
+usage follow --kind link --seq 1
+usage follow --seq 1 --port 1
+usage follow --kind link --seq +1 --port 1
+usage follow "${links[@]:1}" --bytes
+usage follow "${links[@]:1}" --entries 1
+
 # ---- what can't be read or written
 
 expect 'follow, a missing file' 3 '' "rtnl: $folder/missing: read fault" follow "$folder/missing"
@@ -97,7 +111,12 @@ expect 'follow, a missing file of an odd name' 3 '' "rtnl: x$shown_name: read fa
 expect 'follow, a folder as FILE' 3 '' "rtnl: $folder: read fault" follow "$folder" <<<"$finish"
 expect 'follow, a folder as standard input' 3 '' "$read_fault" follow <"$folder"
 check 'follow, standard input closed' ends 3 '' "$read_fault" from_closed_input follow
+expect 'follow, a folder as standard input, explained' 3 '' "$read_fault
+rtnl: standard input: Is a directory (os error 21)" follow --explain <"$folder"
 check 'follow, a full device' ends 3 '' "$write_fault" into_full_device follow <<<"$finish"
+check 'follow, a full device, explained' ends 3 '' "$write_fault
+rtnl: standard output: No space left on device (os error 28)" \
+  into_full_device follow --explain <<<"$finish"
 check 'follow, standard output closed' ends 3 '' "$write_fault" \
   into_closed_output follow <<<"$finish"
 rm -f "$folder/pipe"

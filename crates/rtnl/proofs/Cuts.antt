@@ -18,7 +18,7 @@ use Rattle.std.specs.Borrow.{Bor}
 use Rattle.rtnl.specs.declared.recordings.lines.Lines.{Lines}
 use Rattle.rtnl.specs.Lines.{is_blank, is_newline, lines_left, lines_of}
 
-fails : (b : Bool) → (b ≡ true → ⊥) → b ≡ false
+pub fails : (b : Bool) → (b ≡ true → ⊥) → b ≡ false
 fails true never = absurd (never refl)
 fails false never = refl
 

@@ -5,7 +5,8 @@ use Rattle.std.proofs.Math.ListN.{drop_of_length-le}
 use Rattle.std.proofs.lemmas.Option.{slice_get_cases}
 use Rattle.nl_attr.specs.declared.order.Order.{Order}
 use Rattle.nl_dump.specs.Items.{Item}
-use Rattle.rtnl.specs.Tabled.{Report, entries_text}
+use Rattle.nl_frame.specs.Message.{object}
+use Rattle.rtnl.specs.Tabled.{Report, bodies_text, entries_text}
 
 module _ {T : Type 0} (item : T → Item) where
   -- an entry, by what it stands for
@@ -25,16 +26,16 @@ module _ {T : Type 0} (item : T → Item) where
 
   -- one entry more
   pub one_entry : (t : Report) (o : Order) (es : List (List ℕ × T)) (i : ℕ) (x : T) (out new all : List ℕ) → out ++ entries_text t o (i + 1) (drop i (map pair es)) ≡ all → Some x ≡ option_map (λ e. e.1) (slice_get es i)
-      → new ≡ out ++ t.entry o (i + 1) (item x) → new ++ entries_text t o (i + 1 + 1) (drop (i + 1) (map pair es)) ≡ all
-  unfolding entries_text
+      → new ≡ out ++ t.entry o (i + 1) (object (item x).0 (item x).1) → new ++ entries_text t o (i + 1 + 1) (drop (i + 1) (map pair es)) ≡ all
+  unfolding bodies_text
   one_entry t o es i x out new all h is ensured =
       let e = at_place es i x is in
       let rest = entries_text t o (i + 1 + 1) (drop (i + 1) (map pair es)) in
-      ap (λ text. text ++ rest) ensured ∙ append_assoc out (t.entry o (i + 1) (item x)) rest ∙ sym (ap (λ l. out ++ entries_text t o (i + 1) l) e.1) ∙ h
+      ap (λ text. text ++ rest) ensured ∙ append_assoc out (t.entry o (i + 1) (object (item x).0 (item x).1)) rest ∙ sym (ap (λ l. out ++ entries_text t o (i + 1) l) e.1) ∙ h
 
   -- no entry is left
   pub no_more : (t : Report) (o : Order) (es : List (List ℕ × T)) (i : ℕ) (out all : List ℕ) → out ++ entries_text t o (i + 1) (drop i (map pair es)) ≡ all → length es ≤ i → out ≡ all
-  unfolding entries_text
+  unfolding bodies_text
   no_more t o es i out all h far =
       let none : drop i (map pair es) ≡ [] = drop-map pair i es ∙ ap (map pair) (drop_of_length-le es far) in
       sym (append-nil out) ∙ sym (ap (λ l. out ++ entries_text t o (i + 1) l) none) ∙ h

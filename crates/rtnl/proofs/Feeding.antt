@@ -11,7 +11,7 @@ use Rattle.nl_dump.specs.Steps.{IsWaiting, IsNew, Began, Fed}
 use Rattle.nl_dump.specs.Whole.{begins}
 use Rattle.nl_dump.proofs.Courses.{calls_end}
 use Rattle.rtnl.specs.declared.error.Verdict.{Verdict}
-use Rattle.rtnl.specs.Tabled.{Report, answer_text, entries_text, Answered, datagrams_of, IsReported, FeedsSome, refusals_text, tabled_in, calls_of, IsRun, ReportsFrom, TablesBy}
+use Rattle.rtnl.specs.Tabled.{Report, answer_text, entries_text, Answered, datagrams_of, IsReported, FeedsSome, refusals_text, tabled_in, calls_of, ending_of, IsRun, ReportsFrom, TablesBy}
 
 -- nothing is fed yet
 pub feeds_none : (u : View) (ds : List (List ℕ)) → FeedsSome u ds [] ds u
@@ -46,11 +46,11 @@ run_is b d ds request fed unfed new begun v is_new began h all =
 
 -- its report
 pub report_text : (t : Report) (d : Dump) (fed : List Answered) (unfed : List (List ℕ)) (v : View) (o p : Order) (n : ℕ) (first second third all : List ℕ) → first ≡ [] → second ≡ first ++ t.front d → third ≡ second ++ refusals_text t fed
-    → all ≡ (third ++ entries_text t o 1 (table_at d.kind v.tables).entries) ++ t.ending d n v → o ≡ p → n ≡ length unfed → all ≡ tabled_in p t d fed (length unfed) v
+    → all ≡ (third ++ entries_text t o 1 (table_at d.kind v.tables).entries) ++ t.ending d (ending_of d n v) → o ≡ p → n ≡ length unfed → all ≡ tabled_in p t d fed (length unfed) v
 report_text t d fed unfed v o p n first second third all none line refusals rest order left =
     let front : second ≡ t.front d = line ∙ ap (λ x. x ++ t.front d) none in
     let more : third ≡ t.front d ++ refusals_text t fed = refusals ∙ ap (λ x. x ++ refusals_text t fed) front in
-    rest ∙ λ i. (more i ++ entries_text t (order i) 1 (table_at d.kind v.tables).entries) ++ t.ending d (left i) v
+    rest ∙ λ i. (more i ++ entries_text t (order i) 1 (table_at d.kind v.tables).entries) ++ t.ending d (ending_of d (left i) v)
 
 -- a whole run and its report
 pub tables : (t : Report) (b : Bounds) (d : Dump) (ds : List (List ℕ)) (request : Vec ℕ) (new begun v : View) (text : List ℕ) (verdict : Verdict) → IsNew b new → Began new d (Ok request) begun → ReportsFrom t b.shape.order d begun ds text verdict v → TablesBy t b d ds text verdict
@@ -65,7 +65,3 @@ tables t b d ds request new begun v text verdict is_new began h =
       text_is = h.text_is ∙ ap (λ (x : Bounds). tabled_in x.shape.order t d h.fed (length h.unfed) v) (sym run.session.limits);
       verdict_is = h.verdict_is;
     }
-
--- four lines behind others
-pub four_parts : (old first second third fourth a b c d : List ℕ) → a ≡ old ++ first → b ≡ a ++ second → c ≡ b ++ third → d ≡ c ++ fourth → d ≡ old ++ (first ++ (second ++ (third ++ fourth)))
-four_parts old first second third fourth a b c d e f g h = rw (h, g, f, e) (simp append_assoc)

@@ -9,8 +9,8 @@ use Rattle.std.proofs.lemmas.Bool.Decides.{nat_tests}
 use Rattle.std.proofs.lemmas.List.Sums.{sum_by-cons}
 use Rattle.hex.specs.Hex.{decode_of}
 use Rattle.hex.specs.declared.error.FromHexError.{FromHexError}
-use Rattle.rtnl.specs.Followed.{LONGEST_LINE, TellsAsPrinted, bad_at, bad_from, datagram_in, datagrams_in, kept_of, line_says, refused_in, refused_one, said_of}
-use Rattle.rtnl.specs.Lines.{Adds, Reads, compact, datagrams_from, decoded, digits_at, is_comment, line_at, lines_of, with_first, ◌>>=◌}
+use Rattle.rtnl.specs.Followed.{LONGEST_LINE, HeardLine, Hears, Steps, TellsAsPrinted, alone, bad_at, bad_from, datagram_in, datagrams_in, kept_of, line_says, never, refused_in, refused_one, said_of}
+use Rattle.rtnl.specs.Lines.{compact, datagrams_from, decoded, digits_at, is_comment, line_at, lines_of, with_first, ◌>>=◌}
 use Rattle.rtnl.specs.Runs.{EachIs, texts_from, verdict_from, with_one}
 use Rattle.rtnl.specs.declared.error.Verdict.{Verdict}
 use Rattle.rtnl.specs.declared.error.Verdict.TheVariants.{Clean, Blemished}
@@ -61,7 +61,7 @@ good_lines n (l ∷ ls) ds short is =
       by_case (Ok d) (Ok more) this is rest same =
           let good = rest more refl in
           let e = says d this in
-          (ap (λ r. datagram_in r ++ datagrams_in ls) e ∙ ap (λ x. datagram_in (Ok d) ++ x) good.0 ∙ first_then d more ∙ ap (λ r. result_unwrap_or r []) is, λ m. ap (λ r. bad_at m r ++ bad_from (m + 1) ls) e ∙ good.1 (m + 1))
+          (ap (λ r. datagram_in r ++ datagrams_in ls) e ∙ ap (λ x. datagram_in (Ok d) ++ x) good.0 ∙ first_then d more ∙ ap (λ r. result_unwrap_or r []) is, λ m. ap (λ r. bad_at m (kept_of l) r ++ bad_from (m + 1) ls) e ∙ good.1 (m + 1))
 
 module _ {X : Type 0} (Is : List ℕ → X → Type 0) (text : ℕ → List ℕ → X → List ℕ) (is_taken : X → Bool) where
   stays : (b : Bool) → with_one Blemished b ≡ Blemished
@@ -81,32 +81,24 @@ module _ {X : Type 0} (Is : List ℕ → X → Type 0) (text : ℕ → List ℕ 
     by_case true rest = (λ e. let r : refused_in is_taken found ≡ 0 = rest.0 e in omega arith, λ e. rest.1 (omega arith))
     by_case false rest = (λ e. let f : Blemished ≡ Clean = sym (blemished found) ∙ e in cc, λ e. absurd (omega arith))
 
-  pub as_printed : TellsAsPrinted Is text is_taken
-  as_printed input ds s heard hears old new short good told =
-      let g = good_lines 1 (lines_of input) ds (omega (arith, short, total-lines_of input)) good in
-      let verdict : Verdict = verdict_from is_taken Clean told.found in
-      let found = subst (λ l. EachIs Is l told.found) g.0 told.each in (
-        texts_from text 1 ds told.found,
-        verdict,
-        (told.found, found, refl, refl),
-        subst (λ l. Appends old new (texts_from text 1 l told.found)) g.0 told.written,
-        subst (Appends heard hears) (g.1 1) told.bad,
-        subst (λ (t : Followed). (verdict ≡ Clean) ↔ (t.refused ≡ 0)) (sym told.counts) (clean told.found),
-        ap (λ (t : Followed). t.bad_lines) told.counts ∙ ap (length {A = ℕ}) (g.1 1),
-      )
+  -- one after another, where nothing is kept, each is found by itself
+  each_alone : (ds : List (List ℕ)) (found : List X) (a b : Unit {0}) → Steps (alone Is) never a ds found b → EachIs Is ds found
+  each_alone [] [] a b steps = tt
+  each_alone [] (x ∷ found) a b steps = absurd steps
+  each_alone (d ∷ ds) [] a b steps = absurd steps
+  each_alone (d ∷ ds) (x ∷ found) a b steps = (steps.2, each_alone ds found steps.1 b steps.3)
 
--- ---- a line that was read
-
--- it has no datagram
-pub nothing_read : (old new : List ℕ) (r : Result (Option (List ℕ)) ℕ) → Reads old new (Ok false) r → r ≡ Ok None
-nothing_read old new r h = by_case h.0 h.1 h.2 where
-  by_case : (d : Option (List ℕ)) → r ≡ Ok d → Adds d false old new → r ≡ Ok None
-  by_case None is adds = is
-  by_case (Some d) is adds = cc adds.0
-
--- its datagram is all that was added
-pub datagram_read : (old new : List ℕ) (r : Result (Option (List ℕ)) ℕ) → Reads old new (Ok true) r → old ≡ [] → r ≡ Ok (Some new)
-datagram_read old new r h none = by_case h.0 h.1 h.2 where
-  by_case : (d : Option (List ℕ)) → r ≡ Ok d → Adds d true old new → r ≡ Ok (Some new)
-  by_case None is adds = cc adds.0
-  by_case (Some d) is adds = is ∙ ap (λ x. Ok (Some x)) (sym (adds.1 ∙ ap (λ o. o ++ d) none))
+  module _ {B : Type 0} (heard : B → Option (List HeardLine)) (is_over : B → Type 0) where
+    pub as_printed : TellsAsPrinted Is text is_taken heard is_over
+    as_printed input ds s g h old new short good told =
+        let are = good_lines 1 (lines_of input) ds (omega (arith, short, total-lines_of input)) good in
+        let verdict : Verdict = verdict_from is_taken Clean told.found in
+        let found = each_alone ds told.found tt tt (subst (λ l. Steps (alone Is) never tt l told.found tt) are.0 told.each) in (
+          texts_from text 1 ds told.found,
+          verdict,
+          (told.found, found, refl, refl),
+          subst (λ l. Appends old new (texts_from text 1 l told.found)) are.0 told.written,
+          subst (λ l. Hears heard is_over g l h) (are.1 1) told.bad,
+          subst (λ (t : Followed). (verdict ≡ Clean) ↔ (t.refused ≡ 0)) (sym told.counts) (clean told.found),
+          ap (λ (t : Followed). t.bad_lines) told.counts ∙ ap (length {A = HeardLine}) (are.1 1),
+        )

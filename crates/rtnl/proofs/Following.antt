@@ -1,17 +1,17 @@
 -- Lines of an input that comes in pieces, and what is told of them one after another.
-use Rattle.std.proofs.Common.{◌≡◌, ◌+◌, ◌<◌, ◌≤◌, ◌^◌, ℕ, Bool, true, false, cond, List, [], ◌∷◌, ◌++◌, length, Option, Some, None, Result, Ok, Err, refl, sym, ap, ◌∙◌, subst, append_assoc, append-nil, take, arith, length-append, add-zero}
+use Rattle.std.proofs.Common.{◌≡◌, ◌+◌, ◌<◌, ◌≤◌, ◌^◌, ℕ, Bool, true, false, cond, List, [], ◌∷◌, ◌++◌, length, not, Option, Some, None, Result, Ok, Err, refl, sym, ap, ◌∙◌, subst, append_assoc, append-nil, take, arith, length-append, add-zero}
 use Rattle.std.specs.List.{onto_first}
-use Rattle.std.specs.Io.KnownBytes.{Appends}
+use Rattle.std.specs.Io.KnownBytes.{Appends, Consumes}
 use Rattle.std.specs.Prelude.{nat_le, if◌then◌else◌}
 use Rattle.std.proofs.lemmas.Grind.{common_steps}
 use Rattle.std.proofs.lemmas.Bool.Decides.{nat_tests}
 use Rattle.std.proofs.Math.Seq.{take-append-add}
-use Rattle.rtnl.specs.Streams.{AppendsPrefix}
+use Rattle.rtnl.specs.Streams.{AppendsPrefix, Gains, Read, all_moved}
 use Rattle.rtnl.proofs.Cuts.{length-lines_of}
-use Rattle.std.proofs.KnownBytes.{Appends-trans, Appends-nil}
+use Rattle.std.proofs.KnownBytes.{Appends-trans, Appends-nil, Consumes-nil, Consumes-trans}
 use Rattle.rtnl.specs.Lines.{is_newline, lines_of}
-use Rattle.rtnl.specs.Runs.{EachIs, texts_from}
-use Rattle.rtnl.specs.Followed.{Follows, IsCounted, LONGEST_LINE, Tells, TellsOne, TellsPart, TellsSome, bad_at, bad_from, datagram_in, datagrams_in, kept_of, line_says, none_followed, refused_in, refused_one, said_of, with_part}
+use Rattle.rtnl.specs.Runs.{texts_from}
+use Rattle.rtnl.specs.Followed.{Follows, GoesOn, HasRead, HeardLine, Hears, IsCounted, LONGEST_LINE, Steps, Stops, Tells, TellsOne, TellsPart, TellsReads, TellsSome, TellsUpTo, ToldBehind, bad_at, bad_from, datagram_in, datagrams_in, kept_of, line_says, none_followed, refused_in, refused_one, said_of, with_part}
 use Rattle.rtnl.specs.declared.runs.telling.Followed.{Followed}
 
 -- ---- the lines of one input and then another
@@ -64,6 +64,16 @@ glue_at [] rest first others = refl
 glue_at (l ∷ []) rest first others = refl
 glue_at (l ∷ m ∷ ls) rest first others = ap (λ x. l ∷ x) (glue_at (m ∷ ls) rest first others)
 
+glue_longer : (ls bs : List (List ℕ)) → IsSome bs → length ls ≤ length (glue ls bs)
+glue_longer [] bs s = omega arith
+glue_longer (l ∷ []) [] s = absurd s
+glue_longer (l ∷ []) (b ∷ bs) s = omega arith
+glue_longer (l ∷ m ∷ ls) bs s = let rest = glue_longer (m ∷ ls) bs s in omega (arith, rest)
+
+-- an input that goes on has no fewer lines
+pub more_lines : (a b : List ℕ) → length (lines_of a) ≤ length (lines_of (a ++ b))
+more_lines a b = subst (λ l. length (lines_of a) ≤ length {A = List ℕ} l) (sym (lines_append a b)) (glue_longer (lines_of a) (lines_of b) (some_line b))
+
 -- the last line of an input goes on with the first of what comes
 pub lines_more : (input part : List ℕ) (lines : List (List ℕ)) (rest first : List ℕ) (others : List (List ℕ)) → lines_of input ≡ lines ++ rest ∷ [] → lines_of part ≡ first ∷ others
     → lines_of (input ++ part) ≡ lines ++ (rest ++ first) ∷ others
@@ -76,115 +86,145 @@ datagrams_more : (lines : List (List ℕ)) (line : List ℕ) → datagrams_in (l
 datagrams_more [] line = append-nil (datagram_in (line_says line))
 datagrams_more (l ∷ ls) line = ap (λ x. datagram_in (line_says l) ++ x) (datagrams_more ls line) ∙ sym (append_assoc (datagram_in (line_says l)) (datagrams_in ls) (datagram_in (line_says line)))
 
-bad_more : (n : ℕ) (lines : List (List ℕ)) (line : List ℕ) → bad_from n (lines ++ line ∷ []) ≡ bad_from n lines ++ bad_at (n + length lines) (line_says line)
-bad_more n [] line = append-nil (bad_at n (line_says line)) ∙ ap (λ k. bad_at k (line_says line)) (sym (add-zero n))
+bad_more : (n : ℕ) (lines : List (List ℕ)) (line : List ℕ) → bad_from n (lines ++ line ∷ []) ≡ bad_from n lines ++ bad_at (n + length lines) (kept_of line) (line_says line)
+bad_more n [] line = append-nil (bad_at n (kept_of line) (line_says line)) ∙ ap (λ k. bad_at k (kept_of line) (line_says line)) (sym (add-zero n))
 bad_more n (l ∷ ls) line =
     let same : n + 1 + length ls ≡ n + length (l ∷ ls) = omega arith in
-    ap (λ x. bad_at n (line_says l) ++ x) (bad_more (n + 1) ls line ∙ ap (λ k. bad_from (n + 1) ls ++ bad_at k (line_says line)) same)
-    ∙ sym (append_assoc (bad_at n (line_says l)) (bad_from (n + 1) ls) (bad_at (n + length (l ∷ ls)) (line_says line)))
+    ap (λ x. bad_at n (kept_of l) (line_says l) ++ x) (bad_more (n + 1) ls line ∙ ap (λ k. bad_from (n + 1) ls ++ bad_at k (kept_of line) (line_says line)) same)
+    ∙ sym (append_assoc (bad_at n (kept_of l) (line_says l)) (bad_from (n + 1) ls) (bad_at (n + length (l ∷ ls)) (kept_of line) (line_says line)))
 
-module _ {X : Type 0} (Is : List ℕ → X → Type 0) (text : ℕ → List ℕ → X → List ℕ) (is_taken : X → Bool) where
+-- one bad line more was heard of
+hears_more : {B : Type 0} (heard : B → Option (List HeardLine)) (is_over : B → Type 0) (g m h : B) (lines : List HeardLine) (line : HeardLine)
+    → Hears heard is_over g lines m → (is_over m → ⊥) → Gains (heard m) (heard h) (line ∷ []) → Hears heard is_over g (lines ++ line ∷ []) h
+hears_more heard is_over g m h [] line same on more = (subst (λ k. is_over k → ⊥) same on, h, subst (λ k. Gains (heard k) (heard h) (line ∷ [])) same more, refl)
+hears_more heard is_over g m h (l ∷ ls) line first on more = (first.0, first.1, first.2, hears_more heard is_over first.1 m h ls line first.3 on more)
+
+-- what is told goes on behind a line that says so, and stops at one that doesn't
+module _ {X T B : Type 0} (Is : T → List ℕ → X → T → Type 0) (text : ℕ → List ℕ → X → List ℕ) (is_taken : X → Bool) (ends : T → Bool) (heard : B → Option (List HeardLine)) (is_over : B → Type 0)
+    (line : Option (List ℕ)) (a b : T) (s t : Followed) (g h : B) (old new : Option (List ℕ)) where
+  negated : (c : Bool) → true ≡ not c → c ≡ false
+  negated true e = cc e
+  negated false e = refl
+
+  affirmed : (c : Bool) → false ≡ not c → c ≡ true
+  affirmed true e = refl
+  affirmed false e = cc e
+
+  pub goes_more : (r : Result (Option (List ℕ)) ℕ) → TellsOne Is text is_taken ends heard is_over line r true a b s t g h old new → GoesOn ends is_over a g → GoesOn ends is_over b h
+  goes_more (Ok None) one on = (ap ends one.0 ∙ on.0, subst (λ k. is_over k → ⊥) (sym one.2) on.1)
+  goes_more (Ok (Some d)) one on = (negated (ends b) one.5, subst (λ k. is_over k → ⊥) (sym one.3) on.1)
+  goes_more (Err e) one on = (ap ends one.0 ∙ on.0, λ over. let same : true ≡ false = one.4.0 over in cc)
+
+  pub stops_so : (r : Result (Option (List ℕ)) ℕ) → TellsOne Is text is_taken ends heard is_over line r false a b s t g h old new → GoesOn ends is_over a g → Stops ends is_over r b h
+  stops_so (Ok None) one on = cc one.4
+  stops_so (Ok (Some d)) one on = (affirmed (ends b) one.5, subst (λ k. is_over k → ⊥) (sym one.3) on.1)
+  stops_so (Err e) one on = (ap ends one.0 ∙ on.0, one.4.1 refl)
+
+module _ {X T B : Type 0} (Is : T → List ℕ → X → T → Type 0) (text : ℕ → List ℕ → X → List ℕ) (is_taken : X → Bool) (ends : T → Bool) (heard : B → Option (List HeardLine)) (is_over : B → Type 0) where
   -- one datagram more is found so
-  each_more : (ds : List (List ℕ)) (found : List X) (d : List ℕ) (x : X) → EachIs Is ds found → Is d x → EachIs Is (ds ++ d ∷ []) (found ++ x ∷ [])
-  each_more [] [] d x each is = (is, tt)
-  each_more [] (y ∷ found) d x each is = absurd each
-  each_more (e ∷ ds) [] d x each is = absurd each
-  each_more (e ∷ ds) (y ∷ found) d x each is = (each.0, each_more ds found d x each.1 is)
+  each_more : (a m b : T) (ds : List (List ℕ)) (found : List X) (d : List ℕ) (x : X) → Steps Is ends a ds found m → ends m ≡ false → Is m d x b → Steps Is ends a (ds ++ d ∷ []) (found ++ x ∷ []) b
+  each_more a m b [] [] d x each on is = (subst (λ k. ends k ≡ false) each on, b, subst (λ k. Is k d x b) each is, refl)
+  each_more a m b [] (y ∷ found) d x each on is = absurd each
+  each_more a m b (e ∷ ds) [] d x each on is = absurd each
+  each_more a m b (e ∷ ds) (y ∷ found) d x each on is = (each.0, each.1, each.2, each_more each.1 m b ds found d x each.3 on is)
 
   -- and has its text behind the others
-  text_more : (n : ℕ) (ds : List (List ℕ)) (found : List X) (d : List ℕ) (x : X) → EachIs Is ds found → texts_from text n (ds ++ d ∷ []) (found ++ x ∷ []) ≡ texts_from text n ds found ++ text (n + length ds) d x
+  text_more : (n : ℕ) (a b : T) (ds : List (List ℕ)) (found : List X) (d : List ℕ) (x : X) → Steps Is ends a ds found b → texts_from text n (ds ++ d ∷ []) (found ++ x ∷ []) ≡ texts_from text n ds found ++ text (n + length ds) d x
   unfolding texts_from
-  text_more n [] [] d x each = append-nil (text n d x) ∙ ap (λ k. text k d x) (sym (add-zero n))
-  text_more n [] (y ∷ found) d x each = absurd each
-  text_more n (e ∷ ds) [] d x each = absurd each
-  text_more n (e ∷ ds) (y ∷ found) d x each =
+  text_more n a b [] [] d x each = append-nil (text n d x) ∙ ap (λ k. text k d x) (sym (add-zero n))
+  text_more n a b [] (y ∷ found) d x each = absurd each
+  text_more n a b (e ∷ ds) [] d x each = absurd each
+  text_more n a b (e ∷ ds) (y ∷ found) d x each =
       let same : n + 1 + length ds ≡ n + length (e ∷ ds) = omega arith in
-      ap (λ t. text n e y ++ t) (text_more (n + 1) ds found d x each.1 ∙ ap (λ k. texts_from text (n + 1) ds found ++ text k d x) same)
+      ap (λ t. text n e y ++ t) (text_more (n + 1) each.1 b ds found d x each.3 ∙ ap (λ k. texts_from text (n + 1) ds found ++ text k d x) same)
       ∙ sym (append_assoc (text n e y) (texts_from text (n + 1) ds found) (text (n + length (e ∷ ds)) d x))
 
   refused_more : (found : List X) (x : X) → refused_in is_taken (found ++ x ∷ []) ≡ refused_in is_taken found + refused_one (is_taken x)
   refused_more [] x = omega arith
   refused_more (y ∷ found) x = omega (arith, refused_more found x)
 
+  module _ (lines : List (List ℕ)) (line : List ℕ) where
+    -- a line more without a datagram, or one that is not bad
+    datagrams_without : (r : Result (Option (List ℕ)) ℕ) → line_says line ≡ r → datagram_in r ≡ [] → datagrams_in (lines ++ line ∷ []) ≡ datagrams_in lines
+    datagrams_without r is empty = datagrams_more lines line ∙ ap (λ x. datagrams_in lines ++ x) (ap datagram_in is ∙ empty) ∙ append-nil (datagrams_in lines)
+
+    bad_without : (d : Option (List ℕ)) → line_says line ≡ Ok d → bad_from 1 (lines ++ line ∷ []) ≡ bad_from 1 lines
+    bad_without d is = bad_more 1 lines line ∙ ap (λ r. bad_from 1 lines ++ bad_at (1 + length lines) (kept_of line) r) is ∙ append-nil (bad_from 1 lines)
+
   module _ (lines : List (List ℕ)) (line d : List ℕ) (says : line_says line ≡ Ok (Some d)) where
     -- a line more with a datagram
     datagrams_with : datagrams_in (lines ++ line ∷ []) ≡ datagrams_in lines ++ d ∷ []
     datagrams_with = datagrams_more lines line ∙ ap (λ r. datagrams_in lines ++ datagram_in r) says
 
-    each_with : (found : List X) (x : X) → EachIs Is (datagrams_in lines) found → Is d x → EachIs Is (datagrams_in (lines ++ line ∷ [])) (found ++ x ∷ [])
-    each_with found x each is = subst (λ l. EachIs Is l (found ++ x ∷ [])) (sym datagrams_with) (each_more (datagrams_in lines) found d x each is)
+    each_with : (a m b : T) (found : List X) (x : X) → Steps Is ends a (datagrams_in lines) found m → ends m ≡ false → Is m d x b → Steps Is ends a (datagrams_in (lines ++ line ∷ [])) (found ++ x ∷ []) b
+    each_with a m b found x each on is = subst (λ l. Steps Is ends a l (found ++ x ∷ []) b) (sym datagrams_with) (each_more a m b (datagrams_in lines) found d x each on is)
 
-    text_with : (found : List X) (x : X) → EachIs Is (datagrams_in lines) found
+    text_with : (a m : T) (found : List X) (x : X) → Steps Is ends a (datagrams_in lines) found m
         → texts_from text 1 (datagrams_in lines) found ++ text (length (datagrams_in lines) + 1) d x ≡ texts_from text 1 (datagrams_in (lines ++ line ∷ [])) (found ++ x ∷ [])
-    text_with found x each =
+    text_with a m found x each =
         let same : length (datagrams_in lines) + 1 ≡ 1 + length (datagrams_in lines) = omega arith in
-        ap (λ k. texts_from text 1 (datagrams_in lines) found ++ text k d x) same ∙ sym (text_more 1 (datagrams_in lines) found d x each) ∙ ap (λ l. texts_from text 1 l (found ++ x ∷ [])) (sym datagrams_with)
+        ap (λ k. texts_from text 1 (datagrams_in lines) found ++ text k d x) same ∙ sym (text_more 1 a m (datagrams_in lines) found d x each) ∙ ap (λ l. texts_from text 1 l (found ++ x ∷ [])) (sym datagrams_with)
 
   -- the counts of lines, by what is found of their datagrams
   abbrev counted : List (List ℕ) → List X → Followed
   counted lines found = record { lines = length lines; datagrams = length (datagrams_in lines); refused = refused_in is_taken found; bad_lines = length (bad_from 1 lines) }
 
   -- what one line more says is told of it
-  pub tells_more : (lines : List (List ℕ)) (line : List ℕ) (s t : Followed) (heard hears h old new w : Option (List ℕ)) → Tells Is text is_taken lines s heard hears old new
-      → TellsOne Is text is_taken (line_says line) s t hears h new w → Tells Is text is_taken (lines ++ line ∷ []) t heard h old w
-  tells_more lines line s t heard hears h old new w told one = by_case (line_says line) refl one where
+  module _ (lines : List (List ℕ)) (line : List ℕ) (a m b : T) (s t : Followed) (g k h : B) (old mid new : Option (List ℕ))
+      (told : Tells Is text is_taken ends heard is_over lines a m s g k old mid) (on : GoesOn ends is_over m k) where
     long : length (lines ++ line ∷ []) ≡ length lines + 1
     long = length-append lines (line ∷ [])
 
-    place : 1 + length lines ≡ length lines + 1
-    place = omega arith
-
-    none : (r : Result (Option (List ℕ)) ℕ) → line_says line ≡ r → datagram_in r ≡ [] → datagrams_in (lines ++ line ∷ []) ≡ datagrams_in lines
-    none r is empty = datagrams_more lines line ∙ ap (λ x. datagrams_in lines ++ x) (ap datagram_in is ∙ empty) ∙ append-nil (datagrams_in lines)
-
-    good : (r : Result (Option (List ℕ)) ℕ) → line_says line ≡ r → bad_at (1 + length lines) r ≡ [] → bad_from 1 (lines ++ line ∷ []) ≡ bad_from 1 lines
-    good r is empty = bad_more 1 lines line ∙ ap (λ x. bad_from 1 lines ++ x) (ap (bad_at (1 + length lines)) is ∙ empty) ∙ append-nil (bad_from 1 lines)
-
-    by_case : (r : Result (Option (List ℕ)) ℕ) → line_says line ≡ r → TellsOne Is text is_taken r s t hears h new w → Tells Is text is_taken (lines ++ line ∷ []) t heard h old w
-    by_case (Ok None) is one =
-        let ds = none (Ok None) is refl in
-        let bs = good (Ok None) is refl in
+    more_by : (r : Result (Option (List ℕ)) ℕ) (goes_on : Bool) → line_says line ≡ r → TellsOne Is text is_taken ends heard is_over (kept_of line) r goes_on m b s t k h mid new
+        → Tells Is text is_taken ends heard is_over (lines ++ line ∷ []) a b t g h old new
+    more_by (Ok None) goes_on is one =
+        let ds = datagrams_without lines line (Ok None) is refl in
+        let bs = bad_without lines line None is in
         record {
           found = told.found;
-          each = subst (λ l. EachIs Is l told.found) (sym ds) told.each;
-          written = subst (Appends old w) (ap (λ l. texts_from text 1 l told.found) (sym ds)) (subst (λ x. Appends old x (texts_from text 1 (datagrams_in lines) told.found)) (sym one.2) told.written);
-          bad = subst (Appends heard h) (sym bs) (subst (λ x. Appends heard x (bad_from 1 lines)) (sym one.1) told.bad);
+          each = subst (λ l. Steps Is ends a l told.found b) (sym ds) (subst (λ c. Steps Is ends a (datagrams_in lines) told.found c) (sym one.0) told.each);
+          written = subst (Appends old new) (ap (λ l. texts_from text 1 l told.found) (sym ds)) (subst (λ x. Appends old x (texts_from text 1 (datagrams_in lines) told.found)) (sym one.3) told.written);
+          bad = subst (λ l. Hears heard is_over g l h) (sym bs) (subst (λ c. Hears heard is_over g (bad_from 1 lines) c) (sym one.2) told.bad);
           counts =
-              one.0 ∙ ap (λ (x : Followed). record x { lines = x.lines + 1 }) told.counts
+              one.1 ∙ ap (λ (x : Followed). record x { lines = x.lines + 1 }) told.counts
               ∙ λ i. record { lines = sym long i; datagrams = length (sym ds i); refused = refused_in is_taken told.found; bad_lines = length (sym bs i) };
         }
-    by_case (Ok (Some d)) is one =
+    more_by (Ok (Some d)) goes_on is one =
         let ds = datagrams_with lines line d is in
-        let bs = good (Ok (Some d)) is refl in
+        let bs = bad_without lines line (Some d) is in
         let x = one.0 in
         let many : s.datagrams + 1 ≡ length (datagrams_in lines) + 1 = ap (λ (y : Followed). y.datagrams + 1) told.counts in
-        let texts = Appends-trans old new w (texts_from text 1 (datagrams_in lines) told.found) (text (s.datagrams + 1) d x) told.written one.4 in
+        let texts = Appends-trans old mid new (texts_from text 1 (datagrams_in lines) told.found) (text (s.datagrams + 1) d x) told.written one.4 in
         let size : length (datagrams_in lines) + 1 ≡ length (datagrams_in (lines ++ line ∷ [])) = sym (ap length ds ∙ length-append (datagrams_in lines) (d ∷ [])) in
         let turned : refused_in is_taken told.found + refused_one (is_taken x) ≡ refused_in is_taken (told.found ++ x ∷ []) = sym (refused_more told.found x) in
         record {
           found = told.found ++ x ∷ [];
-          each = each_with lines line d is told.found x told.each one.1;
-          written = subst (Appends old w) (ap (λ k. texts_from text 1 (datagrams_in lines) told.found ++ text k d x) many ∙ text_with lines line d is told.found x told.each) texts;
-          bad = subst (Appends heard h) (sym bs) (subst (λ x. Appends heard x (bad_from 1 lines)) (sym one.3) told.bad);
+          each = each_with lines line d is a m b told.found x told.each on.0 one.1;
+          written = subst (Appends old new) (ap (λ k. texts_from text 1 (datagrams_in lines) told.found ++ text k d x) many ∙ text_with lines line d is a m told.found x told.each) texts;
+          bad = subst (λ l. Hears heard is_over g l h) (sym bs) (subst (λ c. Hears heard is_over g (bad_from 1 lines) c) (sym one.3) told.bad);
           counts =
               one.2 ∙ ap (λ (y : Followed). record y { lines = y.lines + 1; datagrams = y.datagrams + 1; refused = y.refused + refused_one (is_taken x) }) told.counts
               ∙ λ i. record { lines = sym long i; datagrams = size i; refused = turned i; bad_lines = length (sym bs i) };
         }
-    by_case (Err e) is one =
-        let ds = none (Err e) is refl in
-        let bs : bad_from 1 (lines ++ line ∷ []) ≡ bad_from 1 lines ++ (1 + length lines) ∷ [] = bad_more 1 lines line ∙ ap (λ r. bad_from 1 lines ++ bad_at (1 + length lines) r) is in
+    more_by (Err e) goes_on is one =
+        let ds = datagrams_without lines line (Err e) is refl in
+        let bs : bad_from 1 (lines ++ line ∷ []) ≡ bad_from 1 lines ++ record { number = 1 + length lines; line = kept_of line } ∷ [] =
+        bad_more 1 lines line ∙ ap (λ r. bad_from 1 lines ++ bad_at (1 + length lines) (kept_of line) r) is in
         let number : s.lines + 1 ≡ 1 + length lines = ap (λ (y : Followed). y.lines + 1) told.counts ∙ omega arith in
-        let heard_more = Appends-trans heard hears h (bad_from 1 lines) ((s.lines + 1) ∷ []) told.bad one.1 in
-        let size : length (bad_from 1 lines) + 1 ≡ length (bad_from 1 (lines ++ line ∷ [])) = sym (ap length bs ∙ length-append (bad_from 1 lines) ((1 + length lines) ∷ [])) in
+        let this : Gains (heard k) (heard h) (record { number = 1 + length lines; line = kept_of line } ∷ []) = subst (λ n. Gains (heard k) (heard h) (record { number = n; line = kept_of line } ∷ [])) number one.2 in
+        let size : length (bad_from 1 lines) + 1 ≡ length (bad_from 1 (lines ++ line ∷ [])) = sym (ap (length {A = HeardLine}) bs ∙ length-append (bad_from 1 lines) (record { number = 1 + length lines; line = kept_of line } ∷ [])) in
         record {
           found = told.found;
-          each = subst (λ l. EachIs Is l told.found) (sym ds) told.each;
-          written = subst (Appends old w) (ap (λ l. texts_from text 1 l told.found) (sym ds)) (subst (λ x. Appends old x (texts_from text 1 (datagrams_in lines) told.found)) (sym one.2) told.written);
-          bad = subst (Appends heard h) (ap (λ k. bad_from 1 lines ++ k ∷ []) number ∙ sym bs) heard_more;
+          each = subst (λ l. Steps Is ends a l told.found b) (sym ds) (subst (λ c. Steps Is ends a (datagrams_in lines) told.found c) (sym one.0) told.each);
+          written = subst (Appends old new) (ap (λ l. texts_from text 1 l told.found) (sym ds)) (subst (λ x. Appends old x (texts_from text 1 (datagrams_in lines) told.found)) (sym one.3) told.written);
+          bad = subst (λ l. Hears heard is_over g l h) (sym bs) (hears_more heard is_over g k h (bad_from 1 lines) (record { number = 1 + length lines; line = kept_of line }) told.bad on.1 this);
           counts =
-              one.0 ∙ ap (λ (y : Followed). record y { lines = y.lines + 1; bad_lines = y.bad_lines + 1 }) told.counts
+              one.1 ∙ ap (λ (y : Followed). record y { lines = y.lines + 1; bad_lines = y.bad_lines + 1 }) told.counts
               ∙ λ i. record { lines = sym long i; datagrams = length (sym ds i); refused = refused_in is_taken told.found; bad_lines = size i };
         }
+
+    pub tells_more : (goes_on : Bool) → TellsOne Is text is_taken ends heard is_over (kept_of line) (line_says line) goes_on m b s t k h mid new → Tells Is text is_taken ends heard is_over (lines ++ line ∷ []) a b t g h old new
+    tells_more goes_on one = more_by (line_says line) goes_on refl one
 
 -- what was written, and then a front of a text
 prefix_more : (a b c : Option (List ℕ)) (x y : List ℕ) → Appends a b x → AppendsPrefix b c y → AppendsPrefix a c (x ++ y)
@@ -212,90 +252,188 @@ first_ended part more one = by_case (lines_of more) refl (some_line more) where
   by_case [] is some = absurd some
   by_case (l ∷ ls) is some = (l ∷ ls, lines_more (part ++ 10 ∷ []) more (part ∷ []) [] l ls (one_ended part one) is)
 
-module _ {X : Type 0} (Is : List ℕ → X → Type 0) (text : ℕ → List ℕ → X → List ℕ) (is_taken : X → Bool) where
+module _ {X T B : Type 0} (Is : T → List ℕ → X → T → Type 0) (text : ℕ → List ℕ → X → List ℕ) (is_taken : X → Bool) (ends : T → Bool) (heard : B → Option (List HeardLine)) (is_over : B → Type 0) where
   -- nothing is read yet
-  pub follows_none : (heard old : Option (List ℕ)) → Follows Is text is_taken [] (Some []) none_followed heard heard old old
+  pub follows_none : (a : T) (g : B) (old : Option (List ℕ)) → Follows Is text is_taken ends heard is_over [] (Some []) a a none_followed g g old old
   unfolding texts_from
-  follows_none heard old =
+  follows_none a g old =
       record {
         lines = [];
         rest = [];
         cut = refl;
         keeps = refl;
-        tells = record { found = []; each = tt; written = Appends-nil old; bad = Appends-nil heard; counts = refl };
+        tells = record { found = []; each = refl; written = Appends-nil old; bad = refl; counts = refl };
       }
 
-  module _ (input : List ℕ) (kept : Option (List ℕ)) (s : Followed) (heard hears old new : Option (List ℕ)) (h : Follows Is text is_taken input kept s heard hears old new) where
+  module _ (input : List ℕ) (kept : Option (List ℕ)) (a m : T) (s : Followed) (g k : B) (old mid : Option (List ℕ)) (h : Follows Is text is_taken ends heard is_over input kept a m s g k old mid) where
     -- a part without a newline has come
-    pub follows_part : (part : List ℕ) → lines_of part ≡ part ∷ [] → Follows Is text is_taken (input ++ part) (with_part kept part) s heard hears old new
+    pub follows_part : (part : List ℕ) → lines_of part ≡ part ∷ [] → Follows Is text is_taken ends heard is_over (input ++ part) (with_part kept part) a m s g k old mid
     follows_part part one =
         record {
           lines = h.lines;
           rest = h.rest ++ part;
           cut = lines_more input part h.lines h.rest part [] h.cut one;
-          keeps = ap (λ k. with_part k part) h.keeps ∙ kept_more h.rest part;
+          keeps = ap (λ r. with_part r part) h.keeps ∙ kept_more h.rest part;
           tells = h.tells;
         }
 
-    -- what the line says that ends behind this part
-    says : (part : List ℕ) → said_of (with_part kept part) ≡ line_says (h.rest ++ part)
-    says part = ap (λ k. said_of (with_part k part)) h.keeps ∙ ap said_of (kept_more h.rest part)
+    -- what is kept of the line that ends behind this part
+    keeps_with : (part : List ℕ) → with_part kept part ≡ kept_of (h.rest ++ part)
+    keeps_with part = ap (λ r. with_part r part) h.keeps ∙ kept_more h.rest part
 
-    -- a line has ended, and was told of
-    pub follows_line : (part : List ℕ) (t : Followed) (g w : Option (List ℕ)) → lines_of part ≡ part ∷ [] → TellsOne Is text is_taken (said_of (with_part kept part)) s t hears g new w
-        → Follows Is text is_taken (input ++ (part ++ 10 ∷ [])) (Some []) t heard g old w
-    follows_line part t g w one told =
-        record {
-          lines = h.lines ++ (h.rest ++ part) ∷ [];
-          rest = [];
-          cut = lines_more input (part ++ 10 ∷ []) h.lines h.rest part ([] ∷ []) h.cut (one_ended part one) ∙ sym (append_assoc h.lines ((h.rest ++ part) ∷ []) ([] ∷ []));
-          keeps = refl;
-          tells = tells_more Is text is_taken h.lines (h.rest ++ part) s t heard hears g old new w h.tells (subst (λ r. TellsOne Is text is_taken r s t hears g new w) (says part) told);
-        }
-
-    -- the last line was told of
-    pub follows_last : (t : Followed) (g w : Option (List ℕ)) → TellsOne Is text is_taken (said_of kept) s t hears g new w → Tells Is text is_taken (lines_of input) t heard g old w
-    follows_last t g w told =
-        subst (λ l. Tells Is text is_taken l t heard g old w) (sym h.cut)
-        (tells_more Is text is_taken h.lines h.rest s t heard hears g old new w h.tells (subst (λ k. TellsOne Is text is_taken (said_of k) s t hears g new w) h.keeps told))
+    -- what was written of it
+    pub told_behind : ends m ≡ false → ToldBehind Is text ends a input old mid
+    told_behind on = record { lines = h.lines; rest = h.rest; cut = h.cut; found = h.tells.found; kept = m; each = h.tells.each; goes_on = on; written = h.tells.written }
 
     first_of : (more : List ℕ) (ls : List (List ℕ)) → lines_of more ≡ ls → IsSome ls → (others : List (List ℕ)) × (lines_of (input ++ more) ≡ h.lines ++ others)
     first_of more [] is some = absurd some
     first_of more (l ∷ ls) is some = ((h.rest ++ l) ∷ ls, lines_more input more h.lines h.rest l ls h.cut is)
 
     -- the other lines are not told, whatever comes
-    pub follows_some : (more : List ℕ) → TellsSome Is text is_taken (input ++ more) s heard hears old new
+    pub follows_some : (more : List ℕ) → TellsSome Is text is_taken ends heard is_over (input ++ more) a m s g k old mid
     follows_some more =
         let f = first_of more (lines_of more) refl (some_line more) in
         record { lines = h.lines; others = f.0; cut = f.1; tells = h.tells }
 
-    -- the line that has ended has a datagram, and of the text of that a front was written
-    module _ (line : List ℕ) (others : List (List ℕ)) (all : List ℕ) (cut : lines_of all ≡ h.lines ++ line ∷ others) where
-      pub follows_front : (d : List ℕ) (x : X) (w : Option (List ℕ)) → line_says line ≡ Ok (Some d) → Is d x → AppendsPrefix new w (text (s.datagrams + 1) d x) → TellsPart Is text is_taken all old w
-      follows_front d x w says is front =
-          let t = h.tells in
-          let many : s.datagrams + 1 ≡ length (datagrams_in h.lines) + 1 = ap (λ (y : Followed). y.datagrams + 1) t.counts in
+    module _ (on : GoesOn ends is_over m k) where
+      -- a line has ended, and was told of
+      module _ (part : List ℕ) (one : lines_of part ≡ part ∷ []) (goes_on : Bool) (b : T) (t : Followed) (l : B) (new : Option (List ℕ))
+          (told : TellsOne Is text is_taken ends heard is_over (with_part kept part) (said_of (with_part kept part)) goes_on m b s t k l mid new) where
+        told_whole : TellsOne Is text is_taken ends heard is_over (kept_of (h.rest ++ part)) (line_says (h.rest ++ part)) goes_on m b s t k l mid new
+        told_whole = subst (λ r. TellsOne Is text is_taken ends heard is_over r (said_of r) goes_on m b s t k l mid new) (keeps_with part) told
+
+        tells_line : Tells Is text is_taken ends heard is_over (h.lines ++ (h.rest ++ part) ∷ []) a b t g l old new
+        tells_line = tells_more Is text is_taken ends heard is_over h.lines (h.rest ++ part) a m b s t g k l old mid new h.tells on goes_on told_whole
+
+        pub follows_line : Follows Is text is_taken ends heard is_over (input ++ (part ++ 10 ∷ [])) (Some []) a b t g l old new
+        follows_line =
+            record {
+              lines = h.lines ++ (h.rest ++ part) ∷ [];
+              rest = [];
+              cut = lines_more input (part ++ 10 ∷ []) h.lines h.rest part ([] ∷ []) h.cut (one_ended part one) ∙ sym (append_assoc h.lines ((h.rest ++ part) ∷ []) ([] ∷ []));
+              keeps = refl;
+              tells = tells_line;
+            }
+
+      -- and what is told stops at it
+      module _ (part : List ℕ) (one : lines_of part ≡ part ∷ []) (b : T) (t : Followed) (l : B) (new : Option (List ℕ))
+          (told : TellsOne Is text is_taken ends heard is_over (with_part kept part) (said_of (with_part kept part)) false m b s t k l mid new) where
+        up_to : (before piece : List ℕ) (others : List (List ℕ)) → lines_of (before ++ piece) ≡ h.lines ++ (h.rest ++ part) ∷ others → length (lines_of before) ≤ length (lines_of input) → TellsUpTo Is text is_taken ends heard is_over before piece a b t g l old new
+        up_to before piece others cut fewer =
+            let size : length (lines_of input) ≡ length h.lines + 1 = ap (length {A = List ℕ}) h.cut ∙ length-append h.lines (h.rest ∷ []) in
+            record {
+              front = h.lines;
+              line = h.rest ++ part;
+              others = others;
+              cut = cut ∙ sym (append_assoc h.lines ((h.rest ++ part) ∷ []) others);
+              stops = stops_so Is text is_taken ends heard is_over (kept_of (h.rest ++ part)) m b s t k l mid new (line_says (h.rest ++ part)) (told_whole part one false b t l new told) on;
+              tells = tells_line part one false b t l new told;
+              soon = omega (arith, fewer, size);
+            }
+
+        -- in the middle of an input
+        pub stops_at_line : (before piece more : List ℕ) → input ++ ((part ++ 10 ∷ []) ++ more) ≡ before ++ piece → length (lines_of before) ≤ length (lines_of input) → TellsUpTo Is text is_taken ends heard is_over before piece a b t g l old new
+        stops_at_line before piece more is fewer =
+            let f = first_ended part more one in
+            up_to before piece f.0 (ap lines_of (sym is) ∙ lines_more input ((part ++ 10 ∷ []) ++ more) h.lines h.rest part f.0 h.cut f.1) fewer
+
+      -- the last line was told of
+      module _ (goes_on : Bool) (b : T) (t : Followed) (l : B) (new : Option (List ℕ)) (told : TellsOne Is text is_taken ends heard is_over kept (said_of kept) goes_on m b s t k l mid new) where
+        told_last : TellsOne Is text is_taken ends heard is_over (kept_of h.rest) (line_says h.rest) goes_on m b s t k l mid new
+        told_last = subst (λ r. TellsOne Is text is_taken ends heard is_over r (said_of r) goes_on m b s t k l mid new) h.keeps told
+
+        tells_last : Tells Is text is_taken ends heard is_over (h.lines ++ h.rest ∷ []) a b t g l old new
+        tells_last = tells_more Is text is_taken ends heard is_over h.lines h.rest a m b s t g k l old mid new h.tells on goes_on told_last
+
+        pub follows_last : Tells Is text is_taken ends heard is_over (lines_of input) a b t g l old new
+        follows_last = subst (λ ls. Tells Is text is_taken ends heard is_over ls a b t g l old new) (sym h.cut) tells_last
+
+      -- and what is told stops at it
+      pub stops_at_last : (before piece : List ℕ) → input ≡ before ++ piece → length (lines_of before) ≤ length (lines_of input) → (b : T) (t : Followed) (l : B) (new : Option (List ℕ))
+          → TellsOne Is text is_taken ends heard is_over kept (said_of kept) false m b s t k l mid new → TellsUpTo Is text is_taken ends heard is_over before piece a b t g l old new
+      stops_at_last before piece is fewer b t l new told =
+          let size : length (lines_of input) ≡ length h.lines + 1 = ap (length {A = List ℕ}) h.cut ∙ length-append h.lines (h.rest ∷ []) in
           record {
-            lines = h.lines ++ line ∷ [];
-            others = others;
-            cut = cut ∙ sym (append_assoc h.lines (line ∷ []) others);
-            found = t.found ++ x ∷ [];
-            each = each_with Is text is_taken h.lines line d says t.found x t.each is;
-            written =
-                subst (AppendsPrefix old w) (ap (λ k. texts_from text 1 (datagrams_in h.lines) t.found ++ text k d x) many ∙ text_with Is text is_taken h.lines line d says t.found x t.each)
-                (prefix_more old new w (texts_from text 1 (datagrams_in h.lines) t.found) (text (s.datagrams + 1) d x) t.written front);
+            front = h.lines;
+            line = h.rest;
+            others = [];
+            cut = ap lines_of (sym is) ∙ h.cut ∙ sym (append-nil (h.lines ++ h.rest ∷ []));
+            stops = stops_so Is text is_taken ends heard is_over (kept_of h.rest) m b s t k l mid new (line_says h.rest) (told_last false b t l new told) on;
+            tells = tells_last false b t l new told;
+            soon = omega (arith, fewer, size);
           }
 
-    -- so it is with a line in the middle
-    pub part_of_line : (part more : List ℕ) (d : List ℕ) (x : X) (w : Option (List ℕ)) → lines_of part ≡ part ∷ [] → said_of (with_part kept part) ≡ Ok (Some d) → Is d x
-        → AppendsPrefix new w (text (s.datagrams + 1) d x) → TellsPart Is text is_taken (input ++ ((part ++ 10 ∷ []) ++ more)) old w
-    part_of_line part more d x w one said is front =
-        let f = first_ended part more one in
-        follows_front (h.rest ++ part) f.0 (input ++ ((part ++ 10 ∷ []) ++ more)) (lines_more input ((part ++ 10 ∷ []) ++ more) h.lines h.rest part f.0 h.cut f.1) d x w (sym (says part) ∙ said) is front
+      -- the line that has ended has a datagram, and of the text of that a front was written
+      module _ (line : List ℕ) (others : List (List ℕ)) (all : List ℕ) (cut : lines_of all ≡ h.lines ++ line ∷ others) where
+        follows_front : (d : List ℕ) (x : X) (b : T) (l : B) (w : Option (List ℕ)) → line_says line ≡ Ok (Some d) → Is m d x b → l ≡ k → AppendsPrefix mid w (text (s.datagrams + 1) d x) → TellsPart Is text is_taken ends heard is_over all a b g l old w
+        follows_front d x b l w says is same front =
+            let t = h.tells in
+            let many : s.datagrams + 1 ≡ length (datagrams_in h.lines) + 1 = ap (λ (y : Followed). y.datagrams + 1) t.counts in
+            record {
+              lines = h.lines ++ line ∷ [];
+              others = others;
+              cut = cut ∙ sym (append_assoc h.lines (line ∷ []) others);
+              found = t.found ++ x ∷ [];
+              each = each_with Is text is_taken ends heard is_over h.lines line d says a m b t.found x t.each on.0 is;
+              written =
+                  subst (AppendsPrefix old w) (ap (λ n. texts_from text 1 (datagrams_in h.lines) t.found ++ text n d x) many ∙ text_with Is text is_taken ends heard is_over h.lines line d says a m t.found x t.each)
+                  (prefix_more old mid w (texts_from text 1 (datagrams_in h.lines) t.found) (text (s.datagrams + 1) d x) t.written front);
+              bad = subst (λ ls. Hears heard is_over g ls l) (sym (bad_without Is text is_taken ends heard is_over h.lines line (Some d) says)) (subst (λ c. Hears heard is_over g (bad_from 1 h.lines) c) (sym same) t.bad);
+            }
 
-    -- and with the last
-    pub part_of_last : (d : List ℕ) (x : X) (w : Option (List ℕ)) → said_of kept ≡ Ok (Some d) → Is d x → AppendsPrefix new w (text (s.datagrams + 1) d x) → TellsPart Is text is_taken input old w
-    part_of_last d x w said is front = follows_front h.rest [] input h.cut d x w (sym (ap said_of h.keeps) ∙ said) is front
+      -- so it is with a line in the middle
+      pub part_of_line : (part more : List ℕ) (d : List ℕ) (x : X) (b : T) (l : B) (w : Option (List ℕ)) → lines_of part ≡ part ∷ [] → said_of (with_part kept part) ≡ Ok (Some d) → Is m d x b → l ≡ k
+          → AppendsPrefix mid w (text (s.datagrams + 1) d x) → TellsPart Is text is_taken ends heard is_over (input ++ ((part ++ 10 ∷ []) ++ more)) a b g l old w
+      part_of_line part more d x b l w one said is same front =
+          let f = first_ended part more one in
+          follows_front (h.rest ++ part) f.0 (input ++ ((part ++ 10 ∷ []) ++ more)) (lines_more input ((part ++ 10 ∷ []) ++ more) h.lines h.rest part f.0 h.cut f.1) d x b l w (sym (ap said_of (keeps_with part)) ∙ said) is same front
+
+      -- and with the last
+      pub part_of_last : (d : List ℕ) (x : X) (b : T) (l : B) (w : Option (List ℕ)) → said_of kept ≡ Ok (Some d) → Is m d x b → l ≡ k → AppendsPrefix mid w (text (s.datagrams + 1) d x) → TellsPart Is text is_taken ends heard is_over input a b g l old w
+      part_of_last d x b l w said is same front = follows_front h.rest [] input h.cut d x b l w (sym (ap said_of h.keeps) ∙ said) is same front
+
+-- ---- reads
+
+moved_more : (reads : List Read) (last : Read) → all_moved (reads ++ last ∷ []) ≡ all_moved reads ++ last.moved
+moved_more [] last = append-nil last.moved
+moved_more (r ∷ reads) last = ap (λ x. r.moved ++ x) (moved_more reads last) ∙ sym (append_assoc r.moved (all_moved reads) last.moved)
+
+gains_more : {A : Type 0} (a b c : Option (List A)) (xs ys : List A) → Gains a b xs → Gains b c ys → Gains a c (xs ++ ys)
+gains_more None b c xs ys p q = tt
+gains_more (Some x) None c xs ys p q = absurd p
+gains_more (Some x) (Some y) None xs ys p q = absurd q
+gains_more (Some x) (Some y) (Some z) xs ys p q = q ∙ ap (λ l. l ++ ys) p ∙ append_assoc x xs ys
+
+pub gains_none : {A : Type 0} (a : Option (List A)) → Gains a a []
+gains_none None = tt
+gains_none (Some x) = sym (append-nil x)
+
+module _ {X T : Type 0} (Is : T → List ℕ → X → T → Type 0) (text : ℕ → List ℕ → X → List ℕ) (ends : T → Bool) where
+  -- one read more
+  told_more : (a : T) (old : Option (List ℕ)) (input : List ℕ) (reads : List Read) (last : Read) → TellsReads Is text ends a old input reads → ToldBehind Is text ends a (input ++ all_moved reads) old last.written
+      → TellsReads Is text ends a old input (reads ++ last ∷ [])
+  told_more a old input [] last told this = (subst (λ i. ToldBehind Is text ends a i old last.written) (append-nil input) this, tt)
+  told_more a old input (r ∷ reads) last told this =
+      (told.0, told_more a old (input ++ r.moved) reads last told.1 (subst (λ i. ToldBehind Is text ends a i old last.written) (sym (append_assoc input r.moved (all_moved reads))) this))
+
+  module _ {S : Type 0} (left : S → Option (List ℕ)) (reads_of : S → Option (List Read)) where
+    pub read_none : (a : T) (old : Option (List ℕ)) (from : S) → HasRead Is text ends left reads_of a old from from []
+    read_none a old from = record { reads = []; given = Consumes-nil (left from); seen = gains_none (reads_of from); moved = refl; told = tt }
+
+    pub read_more : (a : T) (old written : Option (List ℕ)) (from_old from_mid from_new : S) (input piece : List ℕ) → (r : HasRead Is text ends left reads_of a old from_old from_mid input) → ToldBehind Is text ends a input old written
+        → Consumes (left from_mid) (left from_new) piece → Gains (reads_of from_mid) (reads_of from_new) (record { written = written; moved = piece } ∷ [])
+        → (now : HasRead Is text ends left reads_of a old from_old from_new (input ++ piece)) × (now.reads ≡ r.reads ++ record { written = written; moved = piece } ∷ [])
+    read_more a old written from_old from_mid from_new input piece r this next seen =
+        let last : Read = record { written = written; moved = piece } in (
+          record {
+            reads = r.reads ++ last ∷ [];
+            given = Consumes-trans (left from_old) (left from_mid) (left from_new) input piece r.given next;
+            seen = gains_more (reads_of from_old) (reads_of from_mid) (reads_of from_new) r.reads (last ∷ []) r.seen seen;
+            moved = moved_more r.reads last ∙ ap (λ x. x ++ piece) r.moved;
+            told = told_more a old [] r.reads last r.told (subst (λ i. ToldBehind Is text ends a i old written) (sym r.moved) this);
+          },
+          refl,
+        )
 
 -- ---- counts
 
@@ -304,9 +442,9 @@ few_datagrams (Ok None) = omega arith
 few_datagrams (Ok (Some d)) = omega arith
 few_datagrams (Err e) = omega arith
 
-few_bad : (n : ℕ) (r : Result (Option (List ℕ)) ℕ) → length (bad_at n r) ≤ 1
-few_bad n (Ok d) = omega arith
-few_bad n (Err e) = omega arith
+few_bad : (n : ℕ) (line : Option (List ℕ)) (r : Result (Option (List ℕ)) ℕ) → length (bad_at n line r) ≤ 1
+few_bad n line (Ok d) = omega arith
+few_bad n line (Err e) = omega arith
 
 fewer_datagrams : (lines : List (List ℕ)) → length (datagrams_in lines) ≤ length lines
 fewer_datagrams [] = omega arith
@@ -314,39 +452,40 @@ fewer_datagrams (l ∷ ls) = omega (arith, length-append (datagram_in (line_says
 
 fewer_bad : (n : ℕ) (lines : List (List ℕ)) → length (bad_from n lines) ≤ length lines
 fewer_bad n [] = omega arith
-fewer_bad n (l ∷ ls) = omega (arith, length-append (bad_at n (line_says l)) (bad_from (n + 1) ls), few_bad n (line_says l), fewer_bad (n + 1) ls)
+fewer_bad n (l ∷ ls) = omega (arith, length-append (bad_at n (kept_of l) (line_says l)) (bad_from (n + 1) ls), few_bad n (kept_of l) (line_says l), fewer_bad (n + 1) ls)
 
-module _ {X : Type 0} (Is : List ℕ → X → Type 0) (text : ℕ → List ℕ → X → List ℕ) (is_taken : X → Bool) where
+module _ {X T B : Type 0} (Is : T → List ℕ → X → T → Type 0) (text : ℕ → List ℕ → X → List ℕ) (is_taken : X → Bool) (ends : T → Bool) (heard : B → Option (List HeardLine)) (is_over : B → Type 0) where
   one_refused : (b : Bool) → refused_one b ≤ 1
   one_refused true = omega arith
   one_refused false = omega arith
 
-  fewer_refused : (ds : List (List ℕ)) (found : List X) → EachIs Is ds found → refused_in is_taken found ≤ length ds
-  fewer_refused [] [] each = omega arith
-  fewer_refused [] (x ∷ found) each = absurd each
-  fewer_refused (d ∷ ds) [] each = absurd each
-  fewer_refused (d ∷ ds) (x ∷ found) each = omega (arith, one_refused (is_taken x), fewer_refused ds found each.1)
+  fewer_refused : (a b : T) (ds : List (List ℕ)) (found : List X) → Steps Is ends a ds found b → refused_in is_taken found ≤ length ds
+  fewer_refused a b [] [] each = omega arith
+  fewer_refused a b [] (x ∷ found) each = absurd each
+  fewer_refused a b (d ∷ ds) [] each = absurd each
+  fewer_refused a b (d ∷ ds) (x ∷ found) each = omega (arith, one_refused (is_taken x), fewer_refused each.1 b ds found each.3)
 
   -- no count is greater than that of the lines
-  is_counted : (lines : List (List ℕ)) (s : Followed) (heard hears old new : Option (List ℕ)) (n : ℕ) → Tells Is text is_taken lines s heard hears old new → length lines + n < 2 ^ 64 → IsCounted n s
-  is_counted lines s heard hears old new n told few =
+  is_counted : (lines : List (List ℕ)) (a b : T) (s : Followed) (g h : B) (old new : Option (List ℕ)) (n : ℕ) → Tells Is text is_taken ends heard is_over lines a b s g h old new → length lines + n < 2 ^ 64 → IsCounted n s
+  is_counted lines a b s g h old new n told few =
       let e = told.counts in
       record {
         lines = subst (λ (t : Followed). t.lines + n < 2 ^ 64) (sym e) few;
         datagrams = subst (λ (t : Followed). t.datagrams ≤ t.lines) (sym e) (fewer_datagrams lines);
-        refused = subst (λ (t : Followed). t.refused ≤ t.datagrams) (sym e) (fewer_refused (datagrams_in lines) told.found told.each);
+        refused = subst (λ (t : Followed). t.refused ≤ t.datagrams) (sym e) (fewer_refused a b (datagrams_in lines) told.found told.each);
         bad_lines = subst (λ (t : Followed). t.bad_lines ≤ t.lines) (sym e) (fewer_bad 1 lines);
       }
 
   -- lines are no more than the bytes of their input, and one
-  pub follows_counted : (input : List ℕ) (kept : Option (List ℕ)) (s : Followed) (heard hears old new : Option (List ℕ)) (n : ℕ) → Follows Is text is_taken input kept s heard hears old new → length input + n < 2 ^ 64 → IsCounted n s
-  follows_counted input kept s heard hears old new n h few =
-      let lines : length h.lines + 1 ≡ length (lines_of input) = sym (ap (length {A = List ℕ}) h.cut ∙ length-append h.lines (h.rest ∷ [])) in
-      is_counted h.lines s heard hears old new n h.tells (omega (arith, lines, length-lines_of input))
+  pub follows_counted : (input : List ℕ) (kept : Option (List ℕ)) (a b : T) (s : Followed) (g h : B) (old new : Option (List ℕ)) (n : ℕ) → Follows Is text is_taken ends heard is_over input kept a b s g h old new → length input + n < 2 ^ 64 → IsCounted n s
+  follows_counted input kept a b s g h old new n f few =
+      let lines : length f.lines + 1 ≡ length (lines_of input) = sym (ap (length {A = List ℕ}) f.cut ∙ length-append f.lines (f.rest ∷ [])) in
+      is_counted f.lines a b s g h old new n f.tells (omega (arith, lines, length-lines_of input))
 
   -- one line more is counted
-  pub tells_counted : (r : Result (Option (List ℕ)) ℕ) (s t : Followed) (heard hears old new : Option (List ℕ)) (n : ℕ) → IsCounted (n + 1) s → TellsOne Is text is_taken r s t heard hears old new → IsCounted n t
-  tells_counted (Ok None) s t heard hears old new n c told = rw told.0 (record { lines = omega (arith, c.lines); datagrams = omega (arith, c.datagrams); refused = c.refused; bad_lines = omega (arith, c.bad_lines) })
-  tells_counted (Ok (Some d)) s t heard hears old new n c told =
+  pub tells_counted : (line : Option (List ℕ)) (r : Result (Option (List ℕ)) ℕ) (goes_on : Bool) (a b : T) (s t : Followed) (g h : B) (old new : Option (List ℕ)) (n : ℕ) → IsCounted (n + 1) s
+      → TellsOne Is text is_taken ends heard is_over line r goes_on a b s t g h old new → IsCounted n t
+  tells_counted line (Ok None) goes_on a b s t g h old new n c told = rw told.1 (record { lines = omega (arith, c.lines); datagrams = omega (arith, c.datagrams); refused = c.refused; bad_lines = omega (arith, c.bad_lines) })
+  tells_counted line (Ok (Some d)) goes_on a b s t g h old new n c told =
       rw told.2 (record { lines = omega (arith, c.lines); datagrams = omega (arith, c.datagrams); refused = omega (arith, c.refused, one_refused (is_taken told.0)); bad_lines = omega (arith, c.bad_lines) })
-  tells_counted (Err e) s t heard hears old new n c told = rw told.0 (record { lines = omega (arith, c.lines); datagrams = omega (arith, c.datagrams); refused = c.refused; bad_lines = omega (arith, c.bad_lines) })
+  tells_counted line (Err e) goes_on a b s t g h old new n c told = rw told.1 (record { lines = omega (arith, c.lines); datagrams = omega (arith, c.datagrams); refused = c.refused; bad_lines = omega (arith, c.bad_lines) })

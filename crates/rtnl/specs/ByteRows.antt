@@ -58,9 +58,13 @@ blanks n = replicate n 32
 abbrev pub escape : List ℕ → List ℕ
 escape words = 27 ∷ words
 
+-- what begins bold red words
+abbrev pub red : List ℕ
+red = escape (codes "[1;31m")
+
 -- the colour of words: red where the datagram is refused, faint beside bytes that say nothing
 unfoldable pub paint : Bool → Option ScanError → List ℕ
-paint is_aside (Some e) = escape (codes "[1;31m")
+paint is_aside (Some e) = red
 paint true None = escape (codes "[2m")
 paint false None = []
 

@@ -1,9 +1,9 @@
 -- A recording that is followed line by line: what its lines say, and what is told of them.
-use Rattle.std.specs.Prelude.{◌≡◌, ◌⊎◌, ◌↔◌, ◌+◌, ◌-◌, ◌^◌, ◌<◌, ◌≤◌, ℕ, List, [], ◌∷◌, ◌++◌, length, Bool, true, false, nat_le, if◌then◌else◌, Option, Some, None, Result, Ok, Err, OnOk, IfErr, IfOk}
+use Rattle.std.specs.Prelude.{◌≡◌, ◌⊎◌, ◌↔◌, ◌+◌, ◌-◌, ◌^◌, ◌<◌, ◌≤◌, ℕ, List, [], ◌∷◌, ◌++◌, length, Bool, true, false, not, nat_le, if◌then◌else◌, Option, Some, None, Result, Ok, Err, OnOk, OnErr, IfErr, IfOk}
 use Rattle.std.specs.Io.KnownBytes.{Appends, Consumes}
 use Rattle.rtnl.specs.Lines.{datagrams, line_at, lines_of}
-use Rattle.rtnl.specs.Runs.{EachIs, LONGEST_INPUT, Prints, texts_from}
-use Rattle.rtnl.specs.Streams.{AppendsPrefix, ConsumesMoreThan, IsRead, StopsOnce, one_more}
+use Rattle.rtnl.specs.Runs.{LONGEST_INPUT, Prints, texts_from}
+use Rattle.rtnl.specs.Streams.{AppendsPrefix, ConsumesMoreThan, Gains, IsRead, Read, StopsOnce, all_moved, one_more}
 use Rattle.rtnl.specs.declared.error.RunError.{RunError}
 use Rattle.rtnl.specs.declared.error.RunError.TheVariants.{ReadFault, WriteFault, Memory}
 use Rattle.rtnl.specs.declared.error.Verdict.{Verdict}
@@ -42,14 +42,19 @@ abbrev pub datagrams_in : List (List ℕ) → List (List ℕ)
 datagrams_in [] = []
 datagrams_in (line ∷ lines) = datagram_in (line_says line) ++ datagrams_in lines
 
-abbrev pub bad_at : ℕ → Result (Option (List ℕ)) ℕ → List ℕ
-bad_at number (Ok _) = []
-bad_at number (Err _) = number ∷ []
+-- what is heard of a bad line: its number, counted from 1, and the line, if it is not too long
+pub record HeardLine : Type 0 where
+  pub number : ℕ
+  pub line : Option (List ℕ)
 
--- the numbers of the bad ones among lines, of which the first has this number
-abbrev pub bad_from : ℕ → List (List ℕ) → List ℕ
+abbrev pub bad_at : ℕ → Option (List ℕ) → Result (Option (List ℕ)) ℕ → List HeardLine
+bad_at number line (Ok _) = []
+bad_at number line (Err _) = record { number = number; line = line } ∷ []
+
+-- the bad ones among lines, of which the first has this number
+abbrev pub bad_from : ℕ → List (List ℕ) → List HeardLine
 bad_from number [] = []
-bad_from number (line ∷ lines) = bad_at number (line_says line) ++ bad_from (number + 1) lines
+bad_from number (line ∷ lines) = bad_at number (kept_of line) (line_says line) ++ bad_from (number + 1) lines
 
 -- what a datagram that is taken or not adds to the refused
 abbrev pub refused_one : Bool → ℕ
@@ -76,96 +81,174 @@ pub record IsCounted (more : ℕ) (s : Followed) : Type 0 where
   pub refused : s.refused ≤ s.datagrams
   pub bad_lines : s.bad_lines ≤ s.lines
 
-module _ {X : Type 0} (Is : List ℕ → X → Type 0) (text : ℕ → List ℕ → X → List ℕ) (is_taken : X → Bool) where
-  -- what one line more does: to the counts, to the bad lines that were heard of, and to what is written
-  abbrev pub TellsOne : Result (Option (List ℕ)) ℕ → Followed → Followed → Option (List ℕ) → Option (List ℕ) → Option (List ℕ) → Option (List ℕ) → Type 0
-  TellsOne (Ok None) s t heard hears old new = (t ≡ record s { lines = s.lines + 1 }) × (hears ≡ heard) × (new ≡ old)
-  TellsOne (Ok (Some d)) s t heard hears old new =
-      (x : X) × Is d x × (t ≡ record s { lines = s.lines + 1; datagrams = s.datagrams + 1; refused = s.refused + refused_one (is_taken x) })
-      × (hears ≡ heard) × Appends old new (text (s.datagrams + 1) d x)
-  TellsOne (Err _) s t heard hears old new = (t ≡ one_bad s) × Appends heard hears ((s.lines + 1) ∷ []) × (new ≡ old)
+-- what is found of each datagram by itself: nothing is kept from one to the next
+abbrev pub alone : {X : Type 0} → (List ℕ → X → Type 0) → Unit {0} → List ℕ → X → Unit {0} → Type 0
+alone Is _ d x _ = Is d x
 
-  -- what was told of lines: the texts of their datagrams in order, and the numbers of those that are bad; and the counts
-  pub record Tells (lines : List (List ℕ)) (s : Followed) (heard hears old new : Option (List ℕ)) : Type 0 where
+-- and no datagram ends what is told
+abbrev pub never : Unit {0} → Bool
+never _ = false
+
+module _ {X T : Type 0} (Is : T → List ℕ → X → T → Type 0) (ends : T → Bool) where
+  -- what is found of datagrams one after another, from what was kept before them to what is kept behind them, where none of them but the last ends what is told
+  abbrev pub Steps : T → List (List ℕ) → List X → T → Type 0
+  Steps a [] [] b = b ≡ a
+  Steps a [] (_ ∷ _) b = ⊥
+  Steps a (_ ∷ _) [] b = ⊥
+  Steps a (d ∷ ds) (x ∷ found) b = (ends a ≡ false) × (m : T) × Is a d x m × Steps m ds found b
+
+module _ {B : Type 0} (heard : B → Option (List HeardLine)) (is_over : B → Type 0) where
+  -- these lines were heard of one after another, and at none of them but the last it ended what is told
+  abbrev pub Hears : B → List HeardLine → B → Type 0
+  Hears g [] h = h ≡ g
+  Hears g (line ∷ lines) h = (is_over g → ⊥) × (m : B) × Gains (heard g) (heard m) (line ∷ []) × Hears m lines h
+
+-- what ends what is told: what is kept of datagrams, or what hears of bad lines
+module _ {T B : Type 0} (ends : T → Bool) (is_over : B → Type 0) where
+  -- neither did
+  abbrev pub GoesOn : T → B → Type 0
+  GoesOn b h = (ends b ≡ false) × (is_over h → ⊥)
+
+  -- the line that says this did, and none before it
+  abbrev pub Stops : Result (Option (List ℕ)) ℕ → T → B → Type 0
+  Stops (Ok None) b h = ⊥
+  Stops (Ok (Some _)) b h = (ends b ≡ true) × (is_over h → ⊥)
+  Stops (Err _) b h = (ends b ≡ false) × is_over h
+
+module _ {X T : Type 0} (Is : T → List ℕ → X → T → Type 0) (text : ℕ → List ℕ → X → List ℕ) (ends : T → Bool) where
+  -- the texts of the lines that had ended in an input were written, and nothing else; and none of these lines ended what is told
+  pub record ToldBehind (a : T) (input : List ℕ) (old new : Option (List ℕ)) : Type 0 where
+    pub lines : List (List ℕ)
+    pub rest : List ℕ
+    pub cut : lines_of input ≡ lines ++ rest ∷ []
     pub found : List X
-    pub each : EachIs Is (datagrams_in lines) found
+    pub kept : T
+    pub each : Steps Is ends a (datagrams_in lines) found kept
+    pub goes_on : ends kept ≡ false
     pub written : Appends old new (texts_from text 1 (datagrams_in lines) found)
-    pub bad : Appends heard hears (bad_from 1 lines)
+
+  -- so it was when each of these reads came, behind an input
+  abbrev pub TellsReads : T → Option (List ℕ) → List ℕ → List Read → Type 0
+  TellsReads a old input [] = Unit {0}
+  TellsReads a old input (read ∷ reads) = ToldBehind a input old read.written × TellsReads a old (input ++ read.moved) reads
+
+  -- what was read of a source, and what its sink had taken when each read came
+  pub record HasRead {S : Type 0} (left : S → Option (List ℕ)) (reads_of : S → Option (List Read)) (a : T) (old : Option (List ℕ)) (from_old from_new : S) (input : List ℕ) : Type 0 where
+    pub reads : List Read
+    pub given : Consumes (left from_old) (left from_new) input
+    pub seen : Gains (reads_of from_old) (reads_of from_new) reads
+    pub moved : all_moved reads ≡ input
+    pub told : TellsReads a old [] reads
+
+-- what is told, by what is found of a datagram, its text, whether it is taken, and whether what is kept then ends it; and by what hears of bad lines says of itself: what it heard, and whether it ends it
+module _ {X T B : Type 0} (Is : T → List ℕ → X → T → Type 0) (text : ℕ → List ℕ → X → List ℕ) (is_taken : X → Bool) (ends : T → Bool) (heard : B → Option (List HeardLine)) (is_over : B → Type 0) where
+  -- what one line more does, of which this is kept and which says that: to what is kept of datagrams, to the counts, to what hears of bad lines, and to what is written; and whether the next line is told
+  abbrev pub TellsOne : Option (List ℕ) → Result (Option (List ℕ)) ℕ → Bool → T → T → Followed → Followed → B → B → Option (List ℕ) → Option (List ℕ) → Type 0
+  TellsOne line (Ok None) goes_on a b s t g h old new =
+      (b ≡ a) × (t ≡ record s { lines = s.lines + 1 }) × (h ≡ g) × (new ≡ old) × (goes_on ≡ true)
+  TellsOne line (Ok (Some d)) goes_on a b s t g h old new =
+      (x : X) × Is a d x b × (t ≡ record s { lines = s.lines + 1; datagrams = s.datagrams + 1; refused = s.refused + refused_one (is_taken x) })
+      × (h ≡ g) × Appends old new (text (s.datagrams + 1) d x) × (goes_on ≡ not (ends b))
+  TellsOne line (Err _) goes_on a b s t g h old new =
+      (b ≡ a) × (t ≡ one_bad s) × Gains (heard g) (heard h) (record { number = s.lines + 1; line = line } ∷ []) × (new ≡ old) × (is_over h ↔ (goes_on ≡ false))
+
+  -- what was told of lines: the texts of their datagrams in order, and those that are bad; and the counts
+  pub record Tells (lines : List (List ℕ)) (a b : T) (s : Followed) (g h : B) (old new : Option (List ℕ)) : Type 0 where
+    pub found : List X
+    pub each : Steps Is ends a (datagrams_in lines) found b
+    pub written : Appends old new (texts_from text 1 (datagrams_in lines) found)
+    pub bad : Hears heard is_over g (bad_from 1 lines) h
     pub counts : s ≡ record { lines = length lines; datagrams = length (datagrams_in lines); refused = refused_in is_taken found; bad_lines = length (bad_from 1 lines) }
 
   -- the lines of an input so far are told, but for the last, of which this is kept
-  pub record Follows (input : List ℕ) (kept : Option (List ℕ)) (s : Followed) (heard hears old new : Option (List ℕ)) : Type 0 where
+  pub record Follows (input : List ℕ) (kept : Option (List ℕ)) (a b : T) (s : Followed) (g h : B) (old new : Option (List ℕ)) : Type 0 where
     pub lines : List (List ℕ)
     pub rest : List ℕ
     pub cut : lines_of input ≡ lines ++ rest ∷ []
     pub keeps : kept ≡ kept_of rest
-    pub tells : Tells lines s heard hears old new
+    pub tells : Tells lines a b s g h old new
 
   -- the first lines of an input are told, and no others
-  pub record TellsSome (input : List ℕ) (s : Followed) (heard hears old new : Option (List ℕ)) : Type 0 where
+  pub record TellsSome (input : List ℕ) (a b : T) (s : Followed) (g h : B) (old new : Option (List ℕ)) : Type 0 where
     pub lines : List (List ℕ)
     pub others : List (List ℕ)
     pub cut : lines_of input ≡ lines ++ others
-    pub tells : Tells lines s heard hears old new
+    pub tells : Tells lines a b s g h old new
 
-  -- over a recording that the other commands take, what is told of its lines is what they print of its datagrams, and none of them is bad
-  abbrev pub TellsAsPrinted : Type 0
-  TellsAsPrinted = (input : List ℕ) (ds : List (List ℕ)) (s : Followed) (heard hears old new : Option (List ℕ)) → length input ≤ LONGEST_INPUT → datagrams input ≡ Ok ds
-      → Tells (lines_of input) s heard hears old new
-      → (printed : List ℕ) × (verdict : Verdict) × Prints Is text is_taken ds printed verdict × Appends old new printed × Appends heard hears [] × ((verdict ≡ Clean) ↔ (s.refused ≡ 0)) × (s.bad_lines ≡ 0)
+  -- the lines of an input are told up to the first one that ends what is told; that one had not ended before the last piece of the input
+  pub record TellsUpTo (before piece : List ℕ) (a b : T) (s : Followed) (g h : B) (old new : Option (List ℕ)) : Type 0 where
+    pub front : List (List ℕ)
+    pub line : List ℕ
+    pub others : List (List ℕ)
+    pub cut : lines_of (before ++ piece) ≡ (front ++ line ∷ []) ++ others
+    pub stops : Stops ends is_over (line_says line) b h
+    pub tells : Tells (front ++ line ∷ []) a b s g h old new
+    pub soon : length (lines_of before) ≤ length front + 1
 
   -- of what is told of the first lines of an input a front was written
-  pub record TellsPart (input : List ℕ) (old new : Option (List ℕ)) : Type 0 where
+  pub record TellsPart (input : List ℕ) (a b : T) (g h : B) (old new : Option (List ℕ)) : Type 0 where
     pub lines : List (List ℕ)
     pub others : List (List ℕ)
     pub cut : lines_of input ≡ lines ++ others
     pub found : List X
-    pub each : EachIs Is (datagrams_in lines) found
+    pub each : Steps Is ends a (datagrams_in lines) found b
     pub written : AppendsPrefix old new (texts_from text 1 (datagrams_in lines) found)
+    pub bad : Hears heard is_over g (bad_from 1 lines) h
 
   module _ {W : Type 0} (taken : W → Option (List ℕ)) (is_stalled : W → Type 0) (stalls failures : W → ℕ) where
-    -- how the telling of a line ends
-    pub record TellsLine (said : Result (Option (List ℕ)) ℕ) (s t : Followed) (heard hears : Option (List ℕ)) (to_old to_new : W) (result : Result Bool RunError) : Type 0 where
-      pub told : OnOk result (TellsOne said s t heard hears (taken to_old) (taken to_new))
+    -- how the telling of a line ends, of which this is kept: what is answered is whether the next line is told
+    pub record TellsLine (line : Option (List ℕ)) (a b : T) (s t : Followed) (g h : B) (to_old to_new : W) (result : Result Bool RunError) : Type 0 where
+      pub told : IfOk result (λ goes_on. TellsOne line (said_of line) goes_on a b s t g h (taken to_old) (taken to_new))
       -- no write failed, or took no byte
       pub sound : OnOk result ((failures to_new ≡ failures to_old) × (stalls to_new ≡ stalls to_old))
       pub errors : IfErr result (λ e. (e ≡ WriteFault) ⊎ (e ≡ Memory))
       -- one write failed, or took no byte, and of the text of the line's datagram a front was written
       pub write_fault : result ≡ Err WriteFault → StopsOnce is_stalled stalls failures to_old to_new
-          × ((d : List ℕ) × (x : X) × (said ≡ Ok (Some d)) × Is d x × AppendsPrefix (taken to_old) (taken to_new) (text (s.datagrams + 1) d x))
+          × ((d : List ℕ) × (x : X) × (said_of line ≡ Ok (Some d)) × Is a d x b × AppendsPrefix (taken to_old) (taken to_new) (text (s.datagrams + 1) d x))
       -- nothing was written
-      pub memory : result ≡ Err Memory → (to_new ≡ to_old) × (hears ≡ heard)
+      pub memory : result ≡ Err Memory → to_new ≡ to_old
+      pub unheard : OnErr result (h ≡ g)
 
-    -- how the following of a piece of an input ends, with which this is the input so far
-    pub record FollowsPiece (input : List ℕ) (kept : Option (List ℕ)) (s : Followed) (heard hears old : Option (List ℕ)) (to_old to_new : W) (result : Result Bool RunError) : Type 0 where
-      pub follows : result ≡ Ok true → Follows input kept s heard hears old (taken to_new)
-      -- the lines behind a bad one are not followed
-      pub ended : result ≡ Ok false → TellsSome input s heard hears old (taken to_new)
-      pub memory : result ≡ Err Memory → (t : Followed) × TellsSome input t heard hears old (taken to_new)
-      pub write_fault : result ≡ Err WriteFault → TellsPart input old (taken to_new)
+    -- how the following of a piece of an input ends, behind what came before it
+    pub record FollowsPiece (before piece : List ℕ) (kept : Option (List ℕ)) (a b : T) (s : Followed) (g h : B) (old : Option (List ℕ)) (to_old to_new : W) (result : Result Bool RunError) : Type 0 where
+      pub follows : result ≡ Ok true → Follows (before ++ piece) kept a b s g h old (taken to_new) × GoesOn ends is_over b h
+      -- the lines behind the one that ends it are not told
+      pub ended : result ≡ Ok false → TellsUpTo before piece a b s g h old (taken to_new)
+      pub memory : result ≡ Err Memory → (m : T) × (t : Followed) × TellsSome (before ++ piece) a m t g h old (taken to_new) × GoesOn ends is_over m h
+      pub write_fault : result ≡ Err WriteFault → TellsPart (before ++ piece) a b g h old (taken to_new) × (is_over h → ⊥)
       -- no write failed, or took no byte
       pub sound : OnOk result ((failures to_new ≡ failures to_old) × (stalls to_new ≡ stalls to_old))
       pub errors : IfErr result (λ e. (e ≡ WriteFault) ⊎ (e ≡ Memory))
       -- one write failed, or took no byte
       pub once : result ≡ Err WriteFault → StopsOnce is_stalled stalls failures to_old to_new
 
-  module _ {S W B : Type 0} (left : S → Option (List ℕ)) (is_ended : S → Type 0) (failed_reads : S → ℕ)
-      (taken : W → Option (List ℕ)) (is_stalled : W → Type 0) (stalls failed_writes : W → ℕ) (heard_by : B → Option (List ℕ)) (is_over : B → Type 0) where
+  module _ {S W : Type 0} (left : S → Option (List ℕ)) (is_ended : S → Type 0) (failed_reads : S → ℕ) (reads_of : S → Option (List Read))
+      (taken : W → Option (List ℕ)) (is_stalled : W → Type 0) (stalls failed_writes : W → ℕ) where
     -- how the following of a recording ends, by what its source, its sink and what hears of bad lines say of themselves
-    pub record FollowsAll (from_old from_new : S) (to_old to_new : W) (hears_old hears_new : B) (result : Result Followed RunError) : Type 0 where
-      -- the source came to its end, and all lines are told; or the lines behind a bad one were not to be followed
-      pub told : IfOk result (λ s. (input : List ℕ) × Consumes (left from_old) (left from_new) input
-          × ((IsRead left is_ended failed_reads from_old from_new × Tells (lines_of input) s (heard_by hears_old) (heard_by hears_new) (taken to_old) (taken to_new))
-          ⊎ (is_over hears_new × TellsSome input s (heard_by hears_old) (heard_by hears_new) (taken to_old) (taken to_new))))
+    pub record FollowsAll (a b : T) (from_old from_new : S) (to_old to_new : W) (g h : B) (result : Result Followed RunError) : Type 0 where
+      pub input : List ℕ
+      -- each text was written before the next read
+      pub read : HasRead Is text ends left reads_of a (taken to_old) from_old from_new input
+      -- the source came to its end, and all lines are told; or they are told up to the first one that ends it, and nothing was read behind the end of that line
+      pub told : IfOk result (λ s.
+          (IsRead left is_ended failed_reads from_old from_new × Tells (lines_of input) a b s g h (taken to_old) (taken to_new) × GoesOn ends is_over b h)
+          ⊎ ((earlier : List Read) × (last : Read) × (read.reads ≡ earlier ++ last ∷ []) × TellsUpTo (all_moved earlier) last.moved a b s g h (taken to_old) (taken to_new)))
       -- no read failed; no write failed, or took no byte
       pub sound : OnOk result ((failed_reads from_new ≡ failed_reads from_old) × (failed_writes to_new ≡ failed_writes to_old) × (stalls to_new ≡ stalls to_old))
       pub errors : IfErr result (λ e. (e ≡ ReadFault) ⊎ (e ≡ WriteFault) ⊎ (e ≡ Memory))
       -- one read failed, or the input is too long to be counted; the whole lines of what was read are told
       pub read_fault : result ≡ Err ReadFault → ((failed_reads from_new ≡ one_more (failed_reads from_old)) ⊎ ((failed_reads from_new ≡ failed_reads from_old) × ConsumesMoreThan (2 ^ 64 - 65_537) (left from_old) (left from_new)))
-          × ((input : List ℕ) × (kept : Option (List ℕ)) × (s : Followed) × Consumes (left from_old) (left from_new) input × Follows input kept s (heard_by hears_old) (heard_by hears_new) (taken to_old) (taken to_new))
+          × ((kept : Option (List ℕ)) × (s : Followed) × Follows input kept a b s g h (taken to_old) (taken to_new) × GoesOn ends is_over b h)
       -- no read failed, one write failed or took no byte, and of what is told a front was written
       pub write_fault : result ≡ Err WriteFault → (failed_reads from_new ≡ failed_reads from_old) × StopsOnce is_stalled stalls failed_writes to_old to_new
-          × ((input : List ℕ) × Consumes (left from_old) (left from_new) input × TellsPart input (taken to_old) (taken to_new))
+          × TellsPart input a b g h (taken to_old) (taken to_new) × (is_over h → ⊥)
       -- no read failed, and the texts of the first lines are written whole
       pub memory : result ≡ Err Memory → (failed_reads from_new ≡ failed_reads from_old)
-          × ((input : List ℕ) × (s : Followed) × Consumes (left from_old) (left from_new) input × TellsSome input s (heard_by hears_old) (heard_by hears_new) (taken to_old) (taken to_new))
+          × ((m : T) × (s : Followed) × TellsSome input a m s g h (taken to_old) (taken to_new) × GoesOn ends is_over m h)
+
+-- over a recording that the other commands take, what is told of its lines is what they print of its datagrams, and none of them is bad
+module _ {X B : Type 0} (Is : List ℕ → X → Type 0) (text : ℕ → List ℕ → X → List ℕ) (is_taken : X → Bool) (heard : B → Option (List HeardLine)) (is_over : B → Type 0) where
+  abbrev pub TellsAsPrinted : Type 0
+  TellsAsPrinted = (input : List ℕ) (ds : List (List ℕ)) (s : Followed) (g h : B) (old new : Option (List ℕ)) → length input ≤ LONGEST_INPUT → datagrams input ≡ Ok ds
+      → Tells (alone Is) text is_taken never heard is_over (lines_of input) tt tt s g h old new
+      → (printed : List ℕ) × (verdict : Verdict) × Prints Is text is_taken ds printed verdict × Appends old new printed × (h ≡ g) × ((verdict ≡ Clean) ↔ (s.refused ≡ 0)) × (s.bad_lines ≡ 0)

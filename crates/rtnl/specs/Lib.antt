@@ -10,6 +10,7 @@ pub mod Checked
 pub mod Codes
 pub mod Datagrams
 pub mod Followed
+pub mod FollowedDump
 pub mod Further
 pub mod Json
 pub mod Kernel
@@ -18,6 +19,7 @@ pub mod Messages
 pub mod NamedBits
 pub mod Names
 pub mod Notations
+pub mod Painted
 pub mod MessagesJson
 pub mod Requested
 pub mod Named

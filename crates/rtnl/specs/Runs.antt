@@ -82,7 +82,7 @@ pub record Runs {S W : Type 0} (left : S → Option (List ℕ)) (is_ended : S �
 
 -- how a run that reads nothing ends, by what its sink says of itself, its whole text, and sink and answer
 pub record Writes {W : Type 0} (taken : W → Option (List ℕ)) (is_stalled : W → Type 0) (stalls : W → ℕ) (failed_writes : W → ℕ)
-    (text : List ℕ) (to_old to_new : W) (result : Result Verdict RunError) : Type 0 where
+    {A : Type 0} (text : List ℕ) (to_old to_new : W) (result : Result A RunError) : Type 0 where
   -- the text was written
   pub written : OnOk result (Appends (taken to_old) (taken to_new) text)
   -- no write failed, or took no byte

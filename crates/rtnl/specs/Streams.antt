@@ -1,5 +1,5 @@
 -- What calls of a source or a sink do to its known bytes and to its counts.
-use Rattle.std.specs.Prelude.{◌≡◌, ℕ, ◌+◌, ◌-◌, ◌<◌, ◌≤◌, ◌^◌, ◌⊎◌, min, List, Option, Result, Ok, Err, length, take}
+use Rattle.std.specs.Prelude.{◌≡◌, ℕ, ◌+◌, ◌-◌, ◌<◌, ◌≤◌, ◌^◌, ◌⊎◌, min, List, [], ◌∷◌, ◌++◌, Option, Some, None, Result, Ok, Err, length, take}
 use Rattle.std.specs.Io.KnownBytes.{Appends, Consumes, IsAtEnd}
 use Rattle.rtnl.specs.declared.streams.calls.Broken.{Broken}
 
@@ -33,3 +33,28 @@ abbrev pub StopsOnce : {W : Type 0} → (W → Type 0) → (W → ℕ) → (W �
 StopsOnce is_stalled stalls failures old new =
     ((failures new ≡ one_more (failures old)) × (stalls new ≡ stalls old))
     ⊎ (is_stalled new × (stalls new ≡ one_more (stalls old)) × (failures new ≡ failures old))
+
+-- known items grow by these, the newest last
+abbrev pub Gains : {A : Type 0} → Option (List A) → Option (List A) → List A → Type 0
+Gains None new items = Unit {0}
+Gains (Some old) None items = ⊥
+Gains (Some old) (Some new) items = new ≡ old ++ items
+
+-- one read: what the sink had taken when it came, where it says that, and the bytes that it moved
+pub record Read : Type 0 where
+  pub written : Option (List ℕ)
+  pub moved : List ℕ
+
+-- the bytes that a call over this buffer moved
+abbrev pub moved_by : Result ℕ Broken → List ℕ → List ℕ
+moved_by (Ok count) buffer = take count buffer
+moved_by (Err _) buffer = []
+
+-- known reads grow by one
+abbrev pub AddsRead : Option (List Read) → Option (List Read) → Option (List ℕ) → Result ℕ Broken → List ℕ → Type 0
+AddsRead old new written result buffer = Gains old new (record { written = written; moved = moved_by result buffer } ∷ [])
+
+-- the bytes that reads moved, one after another
+abbrev pub all_moved : List Read → List ℕ
+all_moved [] = []
+all_moved (read ∷ reads) = read.moved ++ all_moved reads

@@ -5,7 +5,7 @@ use Rattle.std.specs.Global.{Vec}
 use Rattle.nl_attr.specs.declared.order.Order.{Order}
 use Rattle.nl_route.specs.Families.{name_of}
 use Rattle.nl_frame.specs.Limits.{AreLimits, Bounds}
-use Rattle.nl_frame.specs.Message.{object}
+use Rattle.nl_frame.specs.Message.{BodyVal, object}
 use Rattle.nl_dump.specs.declared.dump.Dump.{Dump}
 use Rattle.nl_dump.specs.declared.dump.End.TheVariants.{Done, Error, Overrun, Abandoned}
 use Rattle.nl_dump.specs.declared.dump.State.{State}
@@ -15,6 +15,7 @@ use Rattle.nl_dump.specs.declared.errors.FeedError.{FeedError}
 use Rattle.nl_dump.specs.declared.errors.FeedError.TheVariants as feed
 use Rattle.nl_dump.specs.Headline.{Headline}
 use Rattle.nl_dump.specs.Items.{Item}
+use Rattle.nl_dump.specs.Standing.{standing_of}
 use Rattle.nl_dump.specs.View.{View, table_at, complete_of}
 use Rattle.nl_dump.specs.Steps.{IsWaiting}
 use Rattle.nl_dump.specs.Whole.{Call, begins, feeds, Calls, SessionOf}
@@ -26,6 +27,7 @@ use Rattle.rtnl.specs.Runs.{OfInput}
 use Rattle.rtnl.specs.Text.{◌⨟◌}
 use Rattle.rtnl.specs.declared.error.Verdict.{Verdict}
 use Rattle.rtnl.specs.declared.error.Verdict.TheVariants.{Clean, Blemished}
+use Rattle.rtnl.specs.declared.ending.Ending.{Ending}
 
 -- the dump that is read
 unfoldable pub dump_line : Dump → List ℕ
@@ -47,12 +49,12 @@ refusal_line number feed.Memory = []
 abbrev pub Answered : Type 0
 Answered = List ℕ × Result Progress FeedError
 
--- the report of a dump: which dump is read, each datagram that was refused, each entry, and how the dump ended with so many datagrams left
+-- the report of a dump: which dump is read, each datagram that was refused, each entry, and how the dump ended
 pub record Report : Type 0 where
   pub front : Dump → List ℕ
   pub refusal : ℕ → FeedError → List ℕ
-  pub entry : Order → ℕ → Item → List ℕ
-  pub ending : Dump → ℕ → View → List ℕ
+  pub entry : Order → ℕ → BodyVal → List ℕ
+  pub ending : Dump → Ending → List ℕ
 
 -- the report of a datagram that was answered so
 abbrev pub answer_text : Report → ℕ → Result Progress FeedError → List ℕ
@@ -73,13 +75,17 @@ abbrev pub item_text : Order → Item → List ℕ
 item_text o item = body_text o (object item.0 item.1)
 
 -- an entry: its line, and its body lines
-abbrev pub entry_text : Order → ℕ → Item → List ℕ
-entry_text o number item = entry_line number ++ item_text o item
+abbrev pub entry_text : Order → ℕ → BodyVal → List ℕ
+entry_text o number body = entry_line number ++ body_text o body
+
+-- entries from this number on, by the body that each has
+unfoldable pub bodies_text : {X : Type 0} → (X → BodyVal) → Report → Order → ℕ → List X → List ℕ
+bodies_text body t o number [] = []
+bodies_text body t o number (x ∷ xs) = t.entry o number (body x) ++ bodies_text body t o (number + 1) xs
 
 -- the entries of a table from this number on, each of which stands behind its key
-unfoldable pub entries_text : Report → Order → ℕ → List (List ℕ × Item) → List ℕ
-entries_text t o number [] = []
-entries_text t o number (e ∷ es) = t.entry o number e.1 ++ entries_text t o (number + 1) es
+abbrev pub entries_text : Report → Order → ℕ → List (List ℕ × Item) → List ℕ
+entries_text = bodies_text (λ e. object e.1.0 e.1.1)
 
 -- how the dump ended
 unfoldable pub end_line : State → List ℕ
@@ -110,13 +116,18 @@ unfoldable pub complete_line : Bool → List ℕ
 complete_line complete = codes "complete " ⨟ yes_no complete ⨟ codes "\n"
 
 -- how a session's dump ended, with so many datagrams left
-unfoldable pub ending_text : Dump → ℕ → View → List ℕ
-ending_text d unfed v =
+abbrev pub ending_of : Dump → ℕ → View → Ending
+ending_of d unfed v =
     let t = table_at d.kind v.tables in
-    end_line v.state
-    ⨟ counts_line (length t.entries) t.missed v.ignored unfed v.damaged v.interrupted
-    ⨟ sums_line v.received v.visits
-    ⨟ complete_line (complete_of v)
+    record { entries = length t.entries; missed = t.missed; unfed = unfed; standing = standing_of v; complete = complete_of v }
+
+-- how a dump ended
+unfoldable pub ending_text : Dump → Ending → List ℕ
+ending_text d e =
+    end_line e.standing.state
+    ⨟ counts_line e.entries e.missed e.standing.ignored e.unfed e.standing.damaged e.standing.interrupted
+    ⨟ sums_line e.standing.received e.standing.visits
+    ⨟ complete_line e.complete
 
 -- a report in lines of text
 abbrev pub in_text : Report
@@ -125,7 +136,7 @@ in_text = record { front = dump_line; refusal = refusal_line; entry = entry_text
 -- the report of a session's dump, numbers in this order: the datagrams that were fed, and how many were not
 abbrev pub tabled_in : Order → Report → Dump → List Answered → ℕ → View → List ℕ
 tabled_in o t d fed unfed v =
-    ((t.front d ++ refusals_text t fed) ++ entries_text t o 1 (table_at d.kind v.tables).entries) ++ t.ending d unfed v
+    ((t.front d ++ refusals_text t fed) ++ entries_text t o 1 (table_at d.kind v.tables).entries) ++ t.ending d (ending_of d unfed v)
 
 -- the same in the order of the session's limits
 abbrev pub tabled : Report → Dump → List Answered → ℕ → View → List ℕ

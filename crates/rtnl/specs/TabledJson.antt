@@ -1,7 +1,8 @@
 -- The report of a dump as lines of JSON.
-use Rattle.std.specs.Prelude.{ℕ, ℤ, List, [], ◌∷◌, ◌++◌, length, codes, Option, Some, None}
+use Rattle.std.specs.Prelude.{ℕ, ℤ, List, [], ◌∷◌, ◌++◌, codes, Option, Some, None}
 use Rattle.nl_attr.specs.declared.order.Order.{Order}
 use Rattle.nl_frame.specs.Limits.{Bounds}
+use Rattle.nl_frame.specs.Message.{BodyVal}
 use Rattle.nl_frame.specs.declared.reading.ReadError.TheVariants as read
 use Rattle.nl_route.specs.Families.{name_of}
 use Rattle.nl_dump.specs.declared.dump.Dump.{Dump}
@@ -10,14 +11,14 @@ use Rattle.nl_dump.specs.declared.dump.State.{State}
 use Rattle.nl_dump.specs.declared.dump.State.TheVariants.{Idle, Waiting, Ended}
 use Rattle.nl_dump.specs.declared.errors.FeedError.{FeedError}
 use Rattle.nl_dump.specs.declared.errors.FeedError.TheVariants as feed
-use Rattle.nl_dump.specs.Items.{Item}
-use Rattle.nl_dump.specs.View.{View, table_at, complete_of}
+use Rattle.nl_dump.specs.declared.standing.Standing.{Standing}
 use Rattle.rtnl.specs.Json.{Field, boolean, json_line, number, object, signed, string}
-use Rattle.rtnl.specs.MessagesJson.{item_field}
+use Rattle.rtnl.specs.MessagesJson.{body_field}
 use Rattle.rtnl.specs.Runs.{OfInput}
 use Rattle.rtnl.specs.Shown.{datagram_object, refusal_fields}
 use Rattle.rtnl.specs.Tabled.{Report, TablesBy}
 use Rattle.rtnl.specs.declared.error.Verdict.{Verdict}
+use Rattle.rtnl.specs.declared.ending.Ending.{Ending}
 
 -- a datagram was refused, since all datagrams would be too large
 unfoldable pub total_fields : List Field
@@ -32,8 +33,8 @@ refusal_json n (feed.Layout f) = json_line (datagram_object n (refusal_fields (r
 refusal_json n feed.Memory = []
 
 -- the line of the entry of this number
-unfoldable pub entry_json : Order → ℕ → Item → List ℕ
-entry_json o n item = json_line (object ((codes "entry", number n) ∷ item_field o item ∷ []))
+unfoldable pub entry_json : Order → ℕ → BodyVal → List ℕ
+entry_json o n body = json_line (object ((codes "entry", number n) ∷ body_field o body ∷ []))
 
 -- the dump that is read
 unfoldable pub dump_fields : Dump → List Field
@@ -66,28 +67,27 @@ code_fields (Some code) = (codes "code", signed code) ∷ []
 unfoldable pub end_fields : State → List Field
 end_fields state = (codes "end", string (end_word state)) ∷ code_fields (end_code state)
 
--- what was counted of the dump, with so many datagrams left
-unfoldable pub count_fields : Dump → ℕ → View → List Field
-count_fields d unfed v =
-    let t = table_at d.kind v.tables in
-    (codes "entries", number (length t.entries))
-    ∷ (codes "missed", number t.missed)
-    ∷ (codes "ignored", number v.ignored)
-    ∷ (codes "unfed", number unfed) ∷ []
+-- what was counted of the dump
+unfoldable pub count_fields : Ending → List Field
+count_fields e =
+    (codes "entries", number e.entries)
+    ∷ (codes "missed", number e.missed)
+    ∷ (codes "ignored", number e.standing.ignored)
+    ∷ (codes "unfed", number e.unfed) ∷ []
 
 -- whether something of it was lost
-unfoldable pub loss_fields : View → List Field
-loss_fields v = (codes "damaged", boolean v.damaged) ∷ (codes "interrupted", boolean v.interrupted) ∷ []
+unfoldable pub loss_fields : Standing → List Field
+loss_fields s = (codes "damaged", boolean s.damaged) ∷ (codes "interrupted", boolean s.interrupted) ∷ []
 
 -- what was counted of all datagrams
-unfoldable pub sum_fields : View → List Field
-sum_fields v = (codes "received", number v.received) ∷ (codes "visits", number v.visits) ∷ []
+unfoldable pub sum_fields : Standing → List Field
+sum_fields s = (codes "received", number s.received) ∷ (codes "visits", number s.visits) ∷ []
 
--- the line of how a session's dump ended
-unfoldable pub ending_json : Dump → ℕ → View → List ℕ
-ending_json d unfed v =
-    json_line (object (dump_fields d ++ (end_fields v.state ++ (count_fields d unfed v
-    ++ (loss_fields v ++ (sum_fields v ++ (codes "complete", boolean (complete_of v)) ∷ []))))))
+-- the line of how a dump ended
+unfoldable pub ending_json : Dump → Ending → List ℕ
+ending_json d e =
+    json_line (object (dump_fields d ++ (end_fields e.standing.state ++ (count_fields e
+    ++ (loss_fields e.standing ++ (sum_fields e.standing ++ (codes "complete", boolean e.complete) ∷ []))))))
 
 -- a report in lines of JSON: the datagrams that were refused, the entries, and how it ended
 abbrev pub in_json : Report

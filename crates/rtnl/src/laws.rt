@@ -2,16 +2,21 @@
 
 ghost use Rattle.std.specs.Prelude.{◌≡◌, ◌↔◌, ℕ, List, IsSome, Err};
 ghost use Rattle.nl_attr.specs.Numbers.{AreBytes};
+ghost use Rattle.nl_attr.specs.declared.order.Order.{Order};
 ghost use Rattle.nl_frame.specs.Limits.{Bounds};
 ghost use Rattle.rtnl.specs.ByteRows.{Views, is_accepted, viewed_text};
 ghost use Rattle.rtnl.specs.Checked.{Checks, ChecksJson, Finding, Finds};
 ghost use Rattle.rtnl.specs.Lines.{line_at, line_fault_of};
+ghost use Rattle.rtnl.specs.Painted.{HasNoEscape, ShowsColoured, coloured_text, painted};
+ghost use Rattle.rtnl.specs.Painted.{unpainted};
 ghost use Rattle.rtnl.specs.Shown.{Answer, Answers, Shows, ShowsJson};
 ghost use Rattle.rtnl.specs.Shown.{datagram_json, datagram_text, is_taken};
 ghost use Rattle.rtnl.specs.Followed.{TellsAsPrinted};
 ghost use Rattle.rtnl.specs.declared.bytes.rows.RowFormat.{RowFormat};
 ghost use Rattle.rtnl.specs.Tabled.{HeadlineOfTables};
 ghost use Rattle.rtnl.specs.declared.error.Verdict.{Verdict};
+
+use crate::runs::telling::OnBadLine;
 
 /// A datagram has one answer: its one layout, or its one refusal. A check finds one thing of it.
 #[tactic(auto, using(crate::proofs::Answers::some_answer, crate::proofs::Answers::same_answer, crate::proofs::Answers::same_finding))]
@@ -43,15 +48,17 @@ pub fn bad_lines()
 {}
 
 /// Over a recording that `run_show` takes, what `run_follow` tells of its lines is what `run_show`
-/// writes, with no bad line, and nothing is refused where the verdict is Clean; and so in JSON, and
-/// in bytes.
-pub fn follow_is_show()
-    ensures text { (b : Bounds)
-        → TellsAsPrinted (Answers b) (datagram_text b.shape.order) is_taken }
-    ensures json { (b : Bounds)
-        → TellsAsPrinted (Answers b) (datagram_json b.shape.order) is_taken }
-    ensures bytes { (f : RowFormat) (b : Bounds)
-        → TellsAsPrinted (Views b) (viewed_text f b.shape.order) is_accepted }
+/// writes, with no bad line, and nothing is refused where the verdict is Clean; and so in colours,
+/// in JSON, and in bytes.
+pub fn follow_is_show<B: OnBadLine>()
+    ensures text { (b : Bounds) → TellsAsPrinted (Answers b) (datagram_text b.shape.order)
+        is_taken B.heard B.is_ended }
+    ensures coloured { (b : Bounds) → TellsAsPrinted (Answers b) (coloured_text b.shape.order)
+        is_taken B.heard B.is_ended }
+    ensures json { (b : Bounds) → TellsAsPrinted (Answers b) (datagram_json b.shape.order)
+        is_taken B.heard B.is_ended }
+    ensures bytes { (f : RowFormat) (b : Bounds) → TellsAsPrinted (Views b)
+        (viewed_text f b.shape.order) is_accepted B.heard B.is_ended }
 {}
 
 /// What `run_table` and `run_table_json` promise of a recording carries the headline: of each
@@ -61,4 +68,15 @@ pub fn follow_is_show()
 /// entries than its limit.
 pub fn headline_of_tables()
     ensures { HeadlineOfTables }
+{}
+
+/// Colours change nothing else: no text that `run_show` writes of a datagram has an escape, and
+/// without its escapes what `run_show_coloured` writes is what `run_show` writes.
+#[tactic(auto, using(crate::proofs::Unpainted::unpainted_painted, crate::proofs::Escapes::shown_free, crate::proofs::Colours::shows_plain))]
+pub fn colours_change_nothing()
+    ensures text { (text : List ℕ) → HasNoEscape text → unpainted (painted text) ≡ text }
+    ensures plain { (o : Order) (number : ℕ) (d : List ℕ) (a : Answer)
+        → HasNoEscape (datagram_text o number d a) }
+    ensures shown { (b : Bounds) (ds : List (List ℕ)) (text : List ℕ) (v : Verdict)
+        → ShowsColoured b ds text v → Shows b ds (unpainted text) v }
 {}

@@ -5,6 +5,7 @@
 #![tactic(auto)]
 
 mod bytes;
+mod ending;
 mod error;
 mod json_lines;
 pub mod laws;
@@ -24,12 +25,13 @@ pub use nl_frame as frame;
 pub use recordings::lines::{LineFault, datagrams, line_fault};
 pub use recordings::unfinished::LONGEST_LINE;
 pub use runs::check::{run_check, run_check_json};
-pub use runs::follow::{run_follow, run_follow_bytes, run_follow_json};
+pub use runs::follow::{run_follow, run_follow_bytes, run_follow_coloured, run_follow_json};
+pub use runs::follow_dump::{DumpFollowed, run_follow_dump, run_follow_dump_json};
 pub use runs::request::{run_request, run_request_ordered};
-pub use runs::show::{push_datagram, run_show, run_show_json};
+pub use runs::show::{push_datagram, run_show, run_show_coloured, run_show_json};
 pub use runs::show_bytes::run_show_bytes;
 pub use runs::table::{run_table, run_table_json};
 pub use runs::telling::{Followed, OnBadLine};
 pub use streams::calls::Broken;
 pub use streams::sink::{Sink, VecSink, WriteSink};
-pub use streams::source::{LONGEST_INPUT, ReadSource, SliceSource, Source};
+pub use streams::source::{LONGEST_INPUT, LiveSource, ReadSource, SliceSource, Source};

@@ -19,14 +19,17 @@ const UNKNOWN: &str = "a command or a value is not known";
 /// What names standard input in the place of a file.
 const STANDARD_INPUT: &str = "-";
 
+/// The most bytes of datagrams of a dump that is followed: as many as limits allow.
+const MOST_FOLLOWED: u64 = 1 << 40;
+
 /// The options whose value is a number.
 const NUMBERS: [&str; 5] = ["seq", "port", "family", "depth", "entries"];
 
 /// What is done with a recording.
 #[derive(Clone, Copy, Debug, PartialEq, Eq)]
 pub(crate) enum Engine {
-    /// Print each datagram.
-    Show,
+    /// Print each datagram, coloured or not.
+    Show(Color),
     /// Print the bytes of each datagram beside what they are, coloured or not.
     ShowBytes(Color),
     /// Print of each datagram whether it is canonical, accepted, or why it is refused.
@@ -44,7 +47,7 @@ pub(crate) enum Format {
     Json,
 }
 
-/// When what stands beside bytes is coloured.
+/// When text is coloured.
 #[derive(Clone, Copy, Debug, PartialEq, Eq)]
 pub(crate) enum Color {
     /// On a terminal, where the variable NO_COLOR isn't set.
@@ -101,8 +104,11 @@ pub(crate) struct Work {
 /// How a recording is followed, and under which limits.
 #[derive(Clone, Copy, Debug)]
 pub(crate) struct Follow {
-    /// When rows of bytes are coloured, where bytes are printed.
-    pub bytes: Option<Color>,
+    /// The dump that is followed, where it is one.
+    pub dump: Option<Dump>,
+    /// Whether the bytes of each datagram are printed.
+    pub bytes: bool,
+    pub color: Color,
     pub format: Format,
     pub limits: Limits,
     /// Whether it ends at the first bad line.
@@ -252,23 +258,33 @@ fn table_of(matches: &ArgMatches<'_>, file: Option<String>) -> Option<Task> {
     })
 }
 
+fn color_of(matches: &ArgMatches<'_>) -> Option<Color> {
+    named(COLORS.as_slice(), matches.get_str("color")?)
+}
+
+/// The dump that is followed, where one is named: clap takes all of these options, or none.
+fn dump_of(matches: &ArgMatches<'_>) -> Option<Dump> {
+    Some(Dump {
+        kind: matches.get_one("kind")?,
+        family: 0,
+        seq: matches.get_one("seq")?,
+        port: matches.get_one("port")?,
+    })
+}
+
 fn follow_of(matches: &ArgMatches<'_>, file: Option<String>) -> Option<Task> {
-    let standard = Limits::standard();
-    let (datagram, total) = (standard.datagram(), standard.total());
+    let (standard, depth) = (Limits::standard(), matches.get_one("depth")?);
     let limits = Limits::new(
-        matches.get_one("depth")?,
-        datagram,
-        total,
+        depth,
+        standard.datagram(),
+        MOST_FOLLOWED,
         standard.entries(),
     )
     .ok()?;
-    let bytes = if matches.get_flag("bytes") {
-        Some(named(COLORS.as_slice(), matches.get_str("color")?)?)
-    } else {
-        None
-    };
     let follow = Follow {
-        bytes,
+        dump: dump_of(matches),
+        bytes: matches.get_flag("bytes"),
+        color: color_of(matches)?,
         format: named(FORMATS.as_slice(), matches.get_str("format")?)?,
         limits: limits.with_order(matches.get_one("order")?),
         is_strict: matches.get_flag("strict"),
@@ -292,10 +308,8 @@ fn request_of(matches: &ArgMatches<'_>) -> Option<Task> {
 /// The task of a command, or none where its name or a value of it isn't known.
 fn command_task(name: &str, matches: &ArgMatches<'_>, file: Option<String>) -> Option<Task> {
     let engine = match name {
-        "show" if matches.get_flag("bytes") => {
-            Engine::ShowBytes(named(COLORS.as_slice(), matches.get_str("color")?)?)
-        }
-        "show" => Engine::Show,
+        "show" if matches.get_flag("bytes") => Engine::ShowBytes(color_of(matches)?),
+        "show" => Engine::Show(color_of(matches)?),
         "check" => Engine::Check,
         "follow" => return follow_of(matches, file),
         "table" => return table_of(matches, file),
@@ -318,7 +332,7 @@ fn command_task(name: &str, matches: &ArgMatches<'_>, file: Option<String>) -> O
 fn task_of(alloc: Global, matches: &ArgMatches<'_>) -> Result<Option<Task>, AllocError> {
     let Some((name, inner)) = matches.subcommand() else {
         let work = Work {
-            engine: Engine::Show,
+            engine: Engine::Show(Color::Auto),
             format: Format::Text,
             limits: Limits::standard(),
         };

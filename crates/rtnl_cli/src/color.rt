@@ -14,16 +14,20 @@ fn is_unwanted(rt: &HostRuntime) -> bool {
     }
 }
 
-/// How the rows of bytes are printed.
-pub(crate) fn row_format(rt: &HostRuntime, color: Color, format: Format) -> RowFormat {
-    let is_coloured = match color {
+/// Whether text is coloured.
+pub(crate) fn is_coloured(rt: &HostRuntime, color: Color) -> bool {
+    match color {
         Color::Auto => is_terminal(rt, STDOUT) && !is_unwanted(rt),
         Color::Always => true,
         Color::Never => false,
-    };
-    match (format, is_coloured) {
-        (Format::Json, _) => RowFormat::Json,
-        (Format::Text, true) => RowFormat::Coloured,
-        (Format::Text, false) => RowFormat::Text,
+    }
+}
+
+/// How the rows of bytes are printed.
+pub(crate) fn row_format(rt: &HostRuntime, color: Color, format: Format) -> RowFormat {
+    match format {
+        Format::Json => RowFormat::Json,
+        Format::Text if is_coloured(rt, color) => RowFormat::Coloured,
+        Format::Text => RowFormat::Text,
     }
 }

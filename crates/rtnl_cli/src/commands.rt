@@ -14,7 +14,7 @@ pub(crate) const MOST_ENTRIES: i64 = 65536;
 /// The formats by their names.
 pub(crate) const FORMATS: [(&str, Format); 2] = [("text", Format::Text), ("json", Format::Json)];
 
-/// When what stands beside bytes is coloured, by name.
+/// When text is coloured, by name.
 pub(crate) const COLORS: [(&str, Color); 3] = [
     ("auto", Color::Auto),
     ("always", Color::Always),
@@ -85,6 +85,9 @@ const SEQ_OF_TABLE: &str =
     "Sequence number (nlmsg_seq) of the request and its answers [default: that of the \
     recording's first line `# seq N port N`]";
 
+/// The help of `--port` where nothing else names the number.
+const PORT_OF_FOLLOW: &str = "Port id (nlmsg_pid) of the answers";
+
 fn file_argument<'a>(alloc: Global) -> Arg<'a> {
     Arg::new(alloc, "FILE").help(
         "Recording: lines of hexadecimal, one datagram each; `-` or none is standard input",
@@ -129,7 +132,7 @@ fn color_option<'a>(alloc: Global, values: Values<'a>) -> Arg<'a> {
         .value_name("WHEN")
         .value_parser(values.colors)
         .default_value("auto")
-        .help("Colour what stands beside bytes; `auto` is on a terminal, where NO_COLOR is not set")
+        .help("Colour the text; `auto` is on a terminal, where NO_COLOR is not set")
 }
 
 fn kind_option<'a>(alloc: Global, values: Values<'a>) -> Arg<'a> {
@@ -203,6 +206,15 @@ fn strict_option<'a>(alloc: Global) -> Arg<'a> {
         .help("End at the first bad line, as `rtnl show` does")
 }
 
+/// The option of `follow` that names the kind of one dump.
+fn followed_kind<'a>(alloc: Global, values: Values<'a>) -> Result<Arg<'a>, AllocError> {
+    let option = kind_option(alloc, values).required(false).help(
+        "Read the datagrams as the answers to a dump, as `rtnl table` does: print its entries as \
+        they come, and how it ended",
+    );
+    option.requires_all(&["seq", "port"])
+}
+
 fn follow_command<'a>(alloc: Global, values: Values<'a>) -> Result<Command<'a>, AllocError> {
     Command::new(alloc, "follow")
         .about(
@@ -212,8 +224,15 @@ fn follow_command<'a>(alloc: Global, values: Values<'a>) -> Result<Command<'a>, 
         .after_help(FOLLOW_EXAMPLE)
         .arg(order_option(alloc, values))?
         .arg(format_option(alloc, values))?
-        .arg(bytes_option(alloc))?
+        .arg(bytes_option(alloc).conflicts_with("kind")?)?
         .arg(color_option(alloc, values))?
+        .arg(followed_kind(alloc, values)?)?
+        .arg(seq_option(alloc).requires_arg("kind")?)?
+        .arg(
+            port_option(alloc)
+                .help(PORT_OF_FOLLOW)
+                .requires_arg("kind")?,
+        )?
         .arg(depth_option(alloc, values))?
         .arg(strict_option(alloc))?
         .arg(explain_option(alloc))?

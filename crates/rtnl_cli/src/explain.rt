@@ -140,7 +140,7 @@ fn explain_head(
 }
 
 /// Writes why the datagram of this number was refused, if it was.
-fn explain_datagram(
+pub(crate) fn explain_datagram(
     rt: &HostRuntime,
     number: usize,
     datagram: &[u8],

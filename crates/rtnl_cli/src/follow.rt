@@ -1,11 +1,15 @@
 //! Following a recording as it comes.
 
+ghost use Rattle.std.specs.Prelude.{◌≡◌, false};
+
 use crate::arguments::{Follow, Format};
-use crate::color::row_format;
-use crate::explain::explain_one_line;
+use crate::color::{is_coloured, row_format};
+use crate::explain::{explain_datagram, explain_one_line};
 use crate::name::Name;
+use rtnl::frame::Limits;
 use rtnl::{
-    Followed, OnBadLine, RunError, Sink, Source, run_follow, run_follow_bytes, run_follow_json,
+    DumpFollowed, Followed, LiveSource, OnBadLine, RunError, Sink, run_follow, run_follow_bytes,
+    run_follow_coloured, run_follow_dump, run_follow_dump_json, run_follow_json,
 };
 use std::io;
 
@@ -16,6 +20,9 @@ pub(crate) struct Named<'a> {
     pub name: Name<'a>,
     pub explain: bool,
     pub is_strict: bool,
+    pub limits: &'a Limits,
+    /// It has answered that the lines behind a bad one aren't followed.
+    pub is_ended: bool,
 }
 
 impl Named<'_> {
@@ -35,33 +42,79 @@ impl Named<'_> {
 }
 
 impl OnBadLine for Named<'_> {
-    ghost use Rattle.std.specs.Prelude.{None, ⊤};
+    ghost use Rattle.std.specs.Prelude.{IsTrue, None};
 
     ghost heard = { λ _. None };
 
-    ghost is_ended = { λ _. ⊤ };
+    ghost is_ended = { λ named. IsTrue named.is_ended };
 
     fn hear(&mut self, number: u64, line: Option<&[u8]>) -> bool {
         // A line that can't be written is not worth ending for.
         let _ = self.name_line(number, line);
-        !self.is_strict
+        self.is_ended = self.is_strict;
+        !self.is_ended
+    }
+
+    fn see_refused(&self, number: u64, datagram: &[u8]) {
+        if self.explain {
+            let _ = explain_datagram(self.rt, number as usize, datagram, self.limits);
+        }
     }
 }
 
-/// Follows what a source gives; what is printed goes to a sink.
-pub(crate) fn follow<S: Source, W: Sink>(
+/// How the following of a recording ended.
+#[derive(Clone, Copy, Debug)]
+pub(crate) struct Ended {
+    pub counts: Followed,
+    /// No line was bad; and no datagram was refused or, of a dump, it is complete.
+    pub is_clean: bool,
+}
+
+/// Follows what a source gives, each datagram by itself.
+fn follow_each<S: LiveSource<W>, W: Sink>(
     source: &mut S,
     sink: &mut W,
     named: &mut Named<'_>,
     follow: &Follow,
-) -> Result<Followed, RunError> {
-    let (alloc, limits) = (named.rt.alloc(), &follow.limits);
-    match (follow.bytes, follow.format) {
-        (Some(color), format) => {
-            let rows = row_format(named.rt, color, format);
-            run_follow_bytes(alloc, source, sink, named, limits, rows)
-        }
-        (None, Format::Text) => run_follow(alloc, source, sink, named, limits),
-        (None, Format::Json) => run_follow_json(alloc, source, sink, named, limits),
+) -> Result<Followed, RunError>
+    requires { named.old.is_ended ≡ false }
+{
+    let (rt, limits) = (named.rt, &follow.limits);
+    let alloc = rt.alloc();
+    if follow.bytes {
+        let rows = row_format(rt, follow.color, follow.format);
+        return run_follow_bytes(alloc, source, sink, named, limits, rows);
     }
+    match follow.format {
+        Format::Json => run_follow_json(alloc, source, sink, named, limits),
+        Format::Text if is_coloured(rt, follow.color) => {
+            run_follow_coloured(alloc, source, sink, named, limits)
+        }
+        Format::Text => run_follow(alloc, source, sink, named, limits),
+    }
+}
+
+/// Follows what a source gives; what is printed goes to a sink.
+pub(crate) fn follow<S: LiveSource<W>, W: Sink>(
+    source: &mut S,
+    sink: &mut W,
+    named: &mut Named<'_>,
+    follow: &Follow,
+) -> Result<Ended, RunError>
+    requires { named.old.is_ended ≡ false }
+{
+    let (alloc, limits) = (named.rt.alloc(), &follow.limits);
+    let Some(dump) = follow.dump else {
+        let counts = follow_each(source, sink, named, follow)?;
+        let is_clean = counts.refused == 0 && counts.bad_lines == 0;
+        return Ok(Ended { counts, is_clean });
+    };
+    let DumpFollowed { counts, complete } = match follow.format {
+        Format::Text => run_follow_dump(alloc, source, sink, named, dump, limits)?,
+        Format::Json => run_follow_dump_json(alloc, source, sink, named, dump, limits)?,
+    };
+    Ok(Ended {
+        counts,
+        is_clean: complete && counts.bad_lines == 0,
+    })
 }

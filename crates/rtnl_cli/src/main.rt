@@ -10,6 +10,7 @@ mod follow;
 mod heading;
 mod hints;
 mod name;
+mod noting;
 mod place;
 mod subject;
 mod terminal;
@@ -18,15 +19,16 @@ use arguments::{
     Engine, Follow, Format, Parsed, Sought, Table, Task, Work, unknown_command, unnamed,
 };
 use clap::Error;
-use color::row_format;
+use color::{is_coloured, row_format};
 use explain::{Detail, tell};
-use follow::{Named, follow};
+use follow::{Ended, Named, follow};
 use hints::hint_too_long;
 use name::{Escaped, Name};
+use noting::Noting;
 use rtnl::{
     Followed, LONGEST_INPUT, ReadSource, RunError, Sink, SliceSource, Source, VecSink, Verdict,
     WriteSink, run_check, run_check_json, run_request_ordered, run_show, run_show_bytes,
-    run_show_json, run_table, run_table_json,
+    run_show_coloured, run_show_json, run_table, run_table_json,
 };
 use std::alloc::{AllocError, Global};
 use std::fs::File;
@@ -45,6 +47,9 @@ const FAULT: u8 = 3;
 
 /// Memory ran out.
 const MEMORY: u8 = 4;
+
+/// What is named where a write failed.
+const STANDARD_OUTPUT: Name<'static> = Name(Some("standard output"));
 
 /// An exit status, after a message on standard error, be it printed or not.
 fn failed(_printed: io::Result<()>, status: u8) -> ExitCode {
@@ -121,8 +126,11 @@ fn run<S: Source, W: Sink>(
     let alloc = rt.alloc();
     let limits = &work.limits;
     match (work.engine, work.format) {
-        (Engine::Show, Format::Text) => run_show(alloc, source, sink, limits),
-        (Engine::Show, Format::Json) => run_show_json(alloc, source, sink, limits),
+        (Engine::Show(color), Format::Text) if is_coloured(rt, color) => {
+            run_show_coloured(alloc, source, sink, limits)
+        }
+        (Engine::Show(_), Format::Text) => run_show(alloc, source, sink, limits),
+        (Engine::Show(_), Format::Json) => run_show_json(alloc, source, sink, limits),
         (Engine::ShowBytes(color), format) => {
             run_show_bytes(alloc, source, sink, limits, row_format(rt, color, format))
         }
@@ -199,8 +207,7 @@ fn run_explained(rt: &HostRuntime, name: Name<'_>, input: &[u8], work: &Work) ->
     };
     if answer.is_ok() {
         if let Err(error) = io::writer(rt).write_all(sink.bytes.as_slice()) {
-            let name = Name(Some("standard output"));
-            return faulty(rt, RunError::WriteFault, name, &error, true);
+            return faulty(rt, RunError::WriteFault, STANDARD_OUTPUT, &error, true);
         }
     }
     let status = outcome(rt, name, answer);
@@ -236,21 +243,8 @@ fn perform_work(rt: &HostRuntime, work: &Work, explain: bool, file: Option<&str>
 
 /// The exit status of a recording that was followed, after what was counted, which is said on a
 /// terminal.
-fn followed_status(
-    rt: &HostRuntime,
-    name: Name<'_>,
-    answer: Result<Followed, RunError>,
-) -> ExitCode {
-    let Followed {
-        datagrams,
-        refused,
-        bad_lines,
-        ..
-    } = match answer {
-        Ok(counts) => counts,
-        Err(error) => return outcome(rt, name, Err(error)),
-    };
-    let status = if refused == 0 && bad_lines == 0 {
+fn followed_status(rt: &HostRuntime, ended: Ended) -> ExitCode {
+    let status = if ended.is_clean {
         ExitCode::SUCCESS
     } else {
         ExitCode::from(BLEMISHED)
@@ -258,6 +252,12 @@ fn followed_status(
     if !is_terminal(rt, STDERR) {
         return status;
     }
+    let Followed {
+        datagrams,
+        refused,
+        bad_lines,
+        ..
+    } = ended.counts;
     let counted = eprintln!(rt;
         "rtnl: {datagrams} datagrams, {refused} refused, {bad_lines} bad lines"
     );
@@ -272,16 +272,32 @@ fn follow_over<R: Read + Drop>(
     how: &Follow,
     explain: bool,
 ) -> ExitCode {
-    let mut source = ReadSource::new(reader);
-    let mut sink = WriteSink::new(io::writer(rt));
+    let mut reader = Noting::new(reader);
+    let mut writer = Noting::new(io::writer(rt));
+    let mut source = ReadSource::new(&mut reader);
+    let mut sink = WriteSink::new(&mut writer);
     let mut named = Named {
         rt,
         name,
         explain,
         is_strict: how.is_strict,
+        limits: &how.limits,
+        is_ended: false,
     };
-    let answer = follow(&mut source, &mut sink, &mut named, how);
-    followed_status(rt, name, answer)
+    match follow(&mut source, &mut sink, &mut named, how) {
+        Ok(ended) => followed_status(rt, ended),
+        Err(fault) => {
+            let noted = match fault {
+                RunError::ReadFault => reader.error.map(|error| (name, error)),
+                RunError::WriteFault => writer.error.map(|error| (STANDARD_OUTPUT, error)),
+                RunError::BadLine(_) | RunError::Memory => None,
+            };
+            match noted {
+                Some((name, error)) => faulty(rt, fault, name, &error, explain),
+                None => outcome(rt, name, Err(fault)),
+            }
+        }
+    }
 }
 
 /// Follows a recording as it comes.

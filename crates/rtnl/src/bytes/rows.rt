@@ -5,13 +5,14 @@ ghost use Rattle.std.specs.Prelude.{OnOk, codes};
 ghost use Rattle.std.specs.List.{flat_map};
 ghost use Rattle.rtnl.specs.ByteRows.{beside, blanks, cell, fault_behind};
 ghost use Rattle.rtnl.specs.ByteRows.{margin, mark, paint, refusal_behind, rule_at};
-ghost use Rattle.rtnl.specs.ByteRows.{row_printed, row_text, unpaint, words, words_in};
+ghost use Rattle.rtnl.specs.ByteRows.{row_printed, row_text, words, words_in};
 ghost use Rattle.rtnl.specs.ByteViews.{AddsPart, part_view, row_view};
 
 use crate::bytes::json_lines::push_json;
 use crate::bytes::notation::{Notation, push_value_behind};
 use crate::names::kernel::KernelName;
 use crate::names::reasons::reason_name;
+use crate::pieces::colours::{FAINT, RED, push_end};
 use crate::pieces::segment::Segment;
 use crate::pieces::{push, push_decimal};
 use nl_attr::{BrokenHead, Fault, Order};
@@ -190,20 +191,10 @@ fn colour(is_aside: bool, refusal: Option<ScanError>) -> &'static str
     ensures { result.now ≡ paint is_aside refusal }
 {
     match (refusal, is_aside) {
-        (Some(_), _) => "\x1b[1;31m",
-        (None, true) => "\x1b[2m",
+        (Some(_), _) => RED,
+        (None, true) => FAINT,
         (None, false) => "",
     }
-}
-
-/// Writes the end of a colour, where there is one.
-fn push_end(out: &mut Vec<u8>, colour: &str) -> Result<(), AllocError>
-    ensures { OnOk result (out.new.items ≡ out.old.items ++ unpaint colour.now) }
-{
-    if colour.is_empty() {
-        return Ok(());
-    }
-    push(out, "\x1b[0m")
 }
 
 /// Writes the words of a part in their colour.

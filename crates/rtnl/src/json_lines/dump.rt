@@ -1,16 +1,16 @@
 //! The fields of the report of a dump.
 
-ghost use Rattle.std.specs.Prelude.{◌≡◌, ◌++◌, OnOk, length};
-ghost use Rattle.nl_dump.specs.View.{table_at};
+ghost use Rattle.std.specs.Prelude.{◌≡◌, ◌++◌, OnOk};
 ghost use Rattle.rtnl.specs.Json.{◌⊕◌, fields_tokens, json_line};
 ghost use Rattle.rtnl.specs.Shown.{datagram_object, refusal_fields};
 ghost use Rattle.rtnl.specs.TabledJson.{code_fields, count_fields, dump_fields};
 ghost use Rattle.rtnl.specs.TabledJson.{end_code, end_fields, end_word};
 ghost use Rattle.rtnl.specs.TabledJson.{loss_fields, sum_fields, total_fields};
 
+use crate::ending::Ending;
 use crate::json_lines::datagram::push_refusal;
 use crate::json_lines::line::Line;
-use nl_dump::{Dump, End, Session, State};
+use nl_dump::{Dump, End, Standing, State};
 use nl_frame::ReadError;
 use std::alloc::{AllocError, Global};
 
@@ -94,40 +94,29 @@ pub(crate) fn push_end(line: &mut Line, state: State) -> Result<(), AllocError>
 
 /// Writes what was counted of the dump.
 #[tactic(auto, unfolding(crate::specs::TabledJson::count_fields), using(crate::proofs::Sets::field))]
-pub(crate) fn push_counts(
-    line: &mut Line,
-    dump: &Dump,
-    session: &Session,
-    entries: u32,
-    missed: u64,
-    unfed: usize,
-) -> Result<(), AllocError>
-    requires entries { entries ≡ length (table_at dump.now.kind session.now.tables).entries }
-    requires missed { missed ≡ (table_at dump.now.kind session.now.tables).missed }
-    ensures { OnOk result
-        (line.new ≡ line.old ⊕ fields_tokens (count_fields dump.now unfed session.now)) }
+pub(crate) fn push_counts(line: &mut Line, ending: &Ending) -> Result<(), AllocError>
+    ensures { OnOk result (line.new ≡ line.old ⊕ fields_tokens (count_fields ending.now)) }
 {
-    let _kind = dump.kind;
-    line.number("entries", entries.into())?;
-    line.number("missed", missed)?;
-    line.number("ignored", session.ignored())?;
-    line.number("unfed", unfed as u64)
+    line.number("entries", ending.entries)?;
+    line.number("missed", ending.missed)?;
+    line.number("ignored", ending.standing.ignored)?;
+    line.number("unfed", ending.unfed)
 }
 
 /// Writes whether something of the dump was lost.
 #[tactic(auto, unfolding(crate::specs::TabledJson::loss_fields), using(crate::proofs::Sets::field))]
-pub(crate) fn push_losses(line: &mut Line, session: &Session) -> Result<(), AllocError>
-    ensures { OnOk result (line.new ≡ line.old ⊕ fields_tokens (loss_fields session.now)) }
+pub(crate) fn push_losses(line: &mut Line, standing: &Standing) -> Result<(), AllocError>
+    ensures { OnOk result (line.new ≡ line.old ⊕ fields_tokens (loss_fields standing.now)) }
 {
-    line.boolean("damaged", session.damaged())?;
-    line.boolean("interrupted", session.interrupted())
+    line.boolean("damaged", standing.damaged)?;
+    line.boolean("interrupted", standing.interrupted)
 }
 
 /// Writes what was counted of all datagrams.
 #[tactic(auto, unfolding(crate::specs::TabledJson::sum_fields), using(crate::proofs::Sets::field))]
-pub(crate) fn push_sums(line: &mut Line, session: &Session) -> Result<(), AllocError>
-    ensures { OnOk result (line.new ≡ line.old ⊕ fields_tokens (sum_fields session.now)) }
+pub(crate) fn push_sums(line: &mut Line, standing: &Standing) -> Result<(), AllocError>
+    ensures { OnOk result (line.new ≡ line.old ⊕ fields_tokens (sum_fields standing.now)) }
 {
-    line.number("received", session.received())?;
-    line.number("visits", session.visits())
+    line.number("received", standing.received)?;
+    line.number("visits", standing.visits)
 }

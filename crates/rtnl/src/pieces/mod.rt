@@ -4,6 +4,7 @@ ghost use Rattle.std.specs.Prelude.{◌≡◌, ◌≤◌, ◌++◌, OnOk, decima
 ghost use Rattle.hex.specs.Hex.{encode_lower};
 ghost use Rattle.rtnl.specs.Text.{hex_text};
 
+pub(crate) mod colours;
 pub(crate) mod segment;
 
 use itoa::Buffer;

@@ -4,12 +4,14 @@ ghost use Rattle.std.specs.Prelude.{◌≡◌, ◌++◌, OnOk, length};
 ghost use Rattle.nl_dump.specs.Items.{seen};
 ghost use Rattle.nl_dump.specs.View.{table_at};
 ghost use Rattle.rtnl.specs.Tabled.{entries_text};
+ghost use Rattle.rtnl.specs.Tabled as tabled;
 
+use crate::ending::Ending;
 use crate::json_lines::heads::ItemField;
 use crate::runs::report::ReportFormat;
 use crate::text::heads::ItemLines;
 use nl_attr::Order;
-use nl_dump::{Session, match_table};
+use nl_dump::{Dump, Session, match_table};
 use nl_route::Family;
 use nl_table::{Entry, Table};
 use std::alloc::{AllocError, Global};
@@ -28,7 +30,7 @@ fn push_entries<F: ReportFormat, T: Entry + ItemLines + ItemField>(
         let Some(entry) = table.get(index) else {
             unreachable!()
         };
-        F::push_entry(alloc, out, order, index + 1, entry)?;
+        F::push_entry(alloc, out, order, u64::from(index) + 1, entry)?;
     }
     Ok(())
 }
@@ -48,9 +50,23 @@ pub(crate) fn push_table<F: ReportFormat>(
 }
 
 /// How many entries the table of a family has, and how many it missed.
-pub(crate) fn size_of(session: &Session, kind: Family) -> (u32, u64)
+fn size_of(session: &Session, kind: Family) -> (u32, u64)
     ensures entries { result.0 ≡ length (table_at kind session.now.tables).entries }
     ensures missed { result.1 ≡ (table_at kind session.now.tables).missed }
 {
     match_table!(kind, session, table => (table.len(), table.missed()))
+}
+
+/// How a session's dump ended, with so many datagrams left.
+pub(crate) fn ending_of(session: &Session, dump: &Dump, unfed: usize) -> Ending
+    ensures { result ≡ tabled.ending_of dump.now unfed session.now }
+{
+    let (entries, missed) = size_of(session, dump.kind);
+    Ending {
+        entries: entries.into(),
+        missed,
+        unfed: unfed as u64,
+        standing: session.standing(),
+        complete: session.complete(),
+    }
 }

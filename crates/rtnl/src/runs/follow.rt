@@ -1,17 +1,18 @@
 //! Following a recording, of any length, as it comes.
 
 ghost use Rattle.rtnl.specs.ByteRows.{Views, is_accepted, viewed_text};
-ghost use Rattle.rtnl.specs.Followed.{FollowsAll};
+ghost use Rattle.rtnl.specs.Followed.{FollowsAll, alone, never};
+ghost use Rattle.rtnl.specs.Painted.{coloured_text};
 ghost use Rattle.rtnl.specs.Shown.{Answers, datagram_json, datagram_text, is_taken};
 
 use crate::bytes::rows::RowFormat;
 use crate::error::RunError;
 use crate::runs::following::follow;
-use crate::runs::show::{Show, ShowJson};
+use crate::runs::show::{Show, ShowColoured, ShowJson};
 use crate::runs::show_bytes::ShowBytes;
 use crate::runs::telling::{Followed, OnBadLine};
 use crate::streams::sink::Sink;
-use crate::streams::source::Source;
+use crate::streams::source::LiveSource;
 use nl_frame::Limits;
 use std::alloc::Global;
 
@@ -24,45 +25,62 @@ use std::alloc::Global;
 ///
 /// After a read fault the texts of all whole lines before it were written, after the end of memory
 /// those of some first lines, after a write fault a prefix of these.
-pub fn run_follow<S: Source, W: Sink, B: OnBadLine>(
+pub fn run_follow<S: LiveSource<W>, W: Sink, B: OnBadLine>(
     alloc: Global,
     source: &mut S,
     sink: &mut W,
     bad_lines: &mut B,
     limits: &Limits,
 ) -> Result<Followed, RunError>
-    ensures { FollowsAll (Answers limits.now) (datagram_text limits.now.shape.order) is_taken
-        S.remaining S.is_ended S.failure_count W.contents W.is_stalled W.stall_count
-        W.failure_count B.heard B.is_ended source.old source.new sink.old sink.new
-        bad_lines.old bad_lines.new result }
+    requires { B.is_ended bad_lines.old → ⊥ }
+    ensures { FollowsAll (alone (Answers limits.now)) (datagram_text limits.now.shape.order)
+        is_taken never B.heard B.is_ended S.remaining S.is_ended S.failure_count S.reads
+        W.contents W.is_stalled W.stall_count W.failure_count tt tt
+        source.old source.new sink.old sink.new bad_lines.old bad_lines.new result }
 {
-    follow(alloc, source, sink, bad_lines, &Show { limits: *limits })
+    let each = Show { limits: *limits };
+    follow(alloc, source, sink, bad_lines, &each, &mut ())
+}
+
+/// Follows the lines as `run_follow` does, and writes of each datagram what `run_show_coloured`
+/// writes.
+pub fn run_follow_coloured<S: LiveSource<W>, W: Sink, B: OnBadLine>(
+    alloc: Global,
+    source: &mut S,
+    sink: &mut W,
+    bad_lines: &mut B,
+    limits: &Limits,
+) -> Result<Followed, RunError>
+    requires { B.is_ended bad_lines.old → ⊥ }
+    ensures { FollowsAll (alone (Answers limits.now)) (coloured_text limits.now.shape.order)
+        is_taken never B.heard B.is_ended S.remaining S.is_ended S.failure_count S.reads
+        W.contents W.is_stalled W.stall_count W.failure_count tt tt
+        source.old source.new sink.old sink.new bad_lines.old bad_lines.new result }
+{
+    let each = ShowColoured { limits: *limits };
+    follow(alloc, source, sink, bad_lines, &each, &mut ())
 }
 
 /// Follows the lines as `run_follow` does, and writes of each datagram what `run_show_json` writes.
-pub fn run_follow_json<S: Source, W: Sink, B: OnBadLine>(
+pub fn run_follow_json<S: LiveSource<W>, W: Sink, B: OnBadLine>(
     alloc: Global,
     source: &mut S,
     sink: &mut W,
     bad_lines: &mut B,
     limits: &Limits,
 ) -> Result<Followed, RunError>
-    ensures { FollowsAll (Answers limits.now) (datagram_json limits.now.shape.order) is_taken
-        S.remaining S.is_ended S.failure_count W.contents W.is_stalled W.stall_count
-        W.failure_count B.heard B.is_ended source.old source.new sink.old sink.new
-        bad_lines.old bad_lines.new result }
+    requires { B.is_ended bad_lines.old → ⊥ }
+    ensures { FollowsAll (alone (Answers limits.now)) (datagram_json limits.now.shape.order)
+        is_taken never B.heard B.is_ended S.remaining S.is_ended S.failure_count S.reads
+        W.contents W.is_stalled W.stall_count W.failure_count tt tt
+        source.old source.new sink.old sink.new bad_lines.old bad_lines.new result }
 {
-    follow(
-        alloc,
-        source,
-        sink,
-        bad_lines,
-        &ShowJson { limits: *limits },
-    )
+    let each = ShowJson { limits: *limits };
+    follow(alloc, source, sink, bad_lines, &each, &mut ())
 }
 
 /// Follows the lines as `run_follow` does, and writes of each datagram what `run_show_bytes` writes.
-pub fn run_follow_bytes<S: Source, W: Sink, B: OnBadLine>(
+pub fn run_follow_bytes<S: LiveSource<W>, W: Sink, B: OnBadLine>(
     alloc: Global,
     source: &mut S,
     sink: &mut W,
@@ -70,14 +88,15 @@ pub fn run_follow_bytes<S: Source, W: Sink, B: OnBadLine>(
     limits: &Limits,
     format: RowFormat,
 ) -> Result<Followed, RunError>
-    ensures { FollowsAll (Views limits.now) (viewed_text format limits.now.shape.order)
-        is_accepted S.remaining S.is_ended S.failure_count W.contents W.is_stalled W.stall_count
-        W.failure_count B.heard B.is_ended source.old source.new sink.old sink.new
-        bad_lines.old bad_lines.new result }
+    requires { B.is_ended bad_lines.old → ⊥ }
+    ensures { FollowsAll (alone (Views limits.now)) (viewed_text format limits.now.shape.order)
+        is_accepted never B.heard B.is_ended S.remaining S.is_ended S.failure_count S.reads
+        W.contents W.is_stalled W.stall_count W.failure_count tt tt
+        source.old source.new sink.old sink.new bad_lines.old bad_lines.new result }
 {
     let each = ShowBytes {
         limits: *limits,
         format,
     };
-    follow(alloc, source, sink, bad_lines, &each)
+    follow(alloc, source, sink, bad_lines, &each, &mut ())
 }

@@ -1,8 +1,10 @@
 //! The commands over a recording, and the request that begins a dump.
 
 pub(crate) mod check;
-pub(crate) mod entries;
+mod dump_so_far;
+mod entries;
 pub(crate) mod follow;
+pub(crate) mod follow_dump;
 pub(crate) mod following;
 pub(crate) mod per_datagram;
 pub(crate) mod report;
@@ -11,4 +13,5 @@ pub(crate) mod run;
 pub(crate) mod show;
 pub(crate) mod show_bytes;
 pub(crate) mod table;
+pub(crate) mod teller;
 pub(crate) mod telling;

@@ -1,20 +1,24 @@
 //! The report of a dump.
 
+use crate::ending::Ending;
+use crate::json_lines::body::push_body as push_body_field;
 use crate::json_lines::dump as fields;
 use crate::json_lines::heads::ItemField;
 use crate::json_lines::line::Line;
-use crate::runs::entries::size_of;
+use crate::text::body::push_body;
 use crate::text::dump as lines;
 use crate::text::heads::ItemLines;
 use nl_attr::Order;
-use nl_dump::{Dump, FeedError, Session};
-use nl_frame::ReadError;
+use nl_dump::{Dump, FeedError};
+use nl_frame::{Body, ReadError};
 use std::alloc::{AllocError, Global};
 
 /// The report of a dump: which dump is read, the datagrams that were refused, the entries, and how
 /// the dump ended.
 pub(crate) trait ReportFormat {
     ghost use Rattle.std.specs.Prelude.{◌≡◌, ◌≢◌, ◌++◌, OnOk};
+    ghost use Rattle.nl_frame.specs.Message.{object};
+    ghost use Rattle.nl_frame.specs.View.{body_view};
     ghost use Rattle.rtnl.specs.Tabled.{Report};
 
     ghost report: { Report };
@@ -39,22 +43,32 @@ pub(crate) trait ReportFormat {
         alloc: Global,
         out: &mut Vec<u8>,
         order: Order,
-        number: u32,
+        number: u64,
         entry: &T,
     ) -> Result<(), AllocError>
-        ensures { OnOk result (out.new.items
-            ≡ out.old.items ++ report.entry order number (T.item entry.now)) };
+        ensures { OnOk result (out.new.items ≡ out.old.items
+            ++ report.entry order number (object (T.item entry.now).0 (T.item entry.now).1)) };
 
-    /// Writes how the dump ended, with so many datagrams left.
+    /// Writes the entry of this number, which has this body.
+    fn push_body(
+        alloc: Global,
+        out: &mut Vec<u8>,
+        order: Order,
+        number: u64,
+        body: &Body,
+    ) -> Result<(), AllocError>
+        ensures { OnOk result (out.new.items
+            ≡ out.old.items ++ report.entry order number (body_view body.now)) };
+
+    /// Writes how the dump ended.
     fn push_ending(
         alloc: Global,
         out: &mut Vec<u8>,
         dump: &Dump,
-        session: &Session,
-        unfed: usize,
+        ending: &Ending,
     ) -> Result<(), AllocError>
         ensures { OnOk result (out.new.items
-            ≡ out.old.items ++ report.ending dump.now unfed session.now) };
+            ≡ out.old.items ++ report.ending dump.now ending.now) };
 }
 
 /// A report in lines of text.
@@ -83,33 +97,36 @@ impl ReportFormat for InText {
         alloc: Global,
         out: &mut Vec<u8>,
         order: Order,
-        number: u32,
+        number: u64,
         entry: &T,
     ) -> Result<(), AllocError> {
         lines::push_entry_line(out, number)?;
         entry.push(alloc, out, order)
     }
 
+    #[tactic(auto, using(crate::proofs::Sets::joins))]
+    fn push_body(
+        alloc: Global,
+        out: &mut Vec<u8>,
+        order: Order,
+        number: u64,
+        body: &Body,
+    ) -> Result<(), AllocError> {
+        lines::push_entry_line(out, number)?;
+        push_body(alloc, out, order, body)
+    }
+
+    #[tactic(auto, unfolding(crate::specs::Tabled::ending_text))]
     fn push_ending(
         _alloc: Global,
         out: &mut Vec<u8>,
-        dump: &Dump,
-        session: &Session,
-        unfed: usize,
+        _dump: &Dump,
+        ending: &Ending,
     ) -> Result<(), AllocError> {
-        lines::push_end_line(out, session.state())?;
-        let (entries, missed) = size_of(session, dump.kind);
-        let counts = lines::Counts {
-            entries,
-            missed,
-            ignored: session.ignored(),
-            unfed,
-            damaged: session.damaged(),
-            interrupted: session.interrupted(),
-        };
-        lines::push_counts_line(out, counts)?;
-        lines::push_sums_line(out, session.received(), session.visits())?;
-        lines::push_complete_line(out, session.complete())
+        lines::push_end_line(out, ending.standing.state)?;
+        lines::push_counts_line(out, ending)?;
+        lines::push_sums_line(out, &ending.standing)?;
+        lines::push_complete_line(out, ending.complete)
     }
 }
 
@@ -146,17 +163,31 @@ impl ReportFormat for InJson {
         }
     }
 
-    #[tactic(auto, unfolding(crate::specs::TabledJson::entry_json), using(crate::proofs::Sets::field))]
+    #[tactic(auto, unfolding(crate::specs::TabledJson::entry_json, crate::specs::MessagesJson::body_field), using(crate::proofs::Sets::field))]
     fn push_entry<T: ItemLines + ItemField>(
         alloc: Global,
         out: &mut Vec<u8>,
         order: Order,
-        number: u32,
+        number: u64,
         entry: &T,
     ) -> Result<(), AllocError> {
         let mut line = Line::begin(alloc, out)?;
-        line.number("entry", number.into())?;
+        line.number("entry", number)?;
         entry.push_field(&mut line, order)?;
+        line.end(out)
+    }
+
+    #[tactic(auto, unfolding(crate::specs::TabledJson::entry_json), using(crate::proofs::Sets::field))]
+    fn push_body(
+        alloc: Global,
+        out: &mut Vec<u8>,
+        order: Order,
+        number: u64,
+        body: &Body,
+    ) -> Result<(), AllocError> {
+        let mut line = Line::begin(alloc, out)?;
+        line.number("entry", number)?;
+        push_body_field(&mut line, order, body)?;
         line.end(out)
     }
 
@@ -165,17 +196,15 @@ impl ReportFormat for InJson {
         alloc: Global,
         out: &mut Vec<u8>,
         dump: &Dump,
-        session: &Session,
-        unfed: usize,
+        ending: &Ending,
     ) -> Result<(), AllocError> {
-        let (entries, missed) = size_of(session, dump.kind);
         let mut line = Line::begin(alloc, out)?;
         fields::push_dump(&mut line, dump)?;
-        fields::push_end(&mut line, session.state())?;
-        fields::push_counts(&mut line, dump, session, entries, missed, unfed)?;
-        fields::push_losses(&mut line, session)?;
-        fields::push_sums(&mut line, session)?;
-        line.boolean("complete", session.complete())?;
+        fields::push_end(&mut line, ending.standing.state)?;
+        fields::push_counts(&mut line, ending)?;
+        fields::push_losses(&mut line, &ending.standing)?;
+        fields::push_sums(&mut line, &ending.standing)?;
+        line.boolean("complete", ending.complete)?;
         line.end(out)
     }
 }

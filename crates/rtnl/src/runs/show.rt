@@ -3,6 +3,7 @@
 ghost use Rattle.std.specs.Prelude.{◌≡◌, ◌+◌, ◌++◌, IfOk, OnErr};
 ghost use Rattle.rtnl.specs.Runs as fixed;
 ghost use Rattle.rtnl.specs.Streams.{ConsumesAtMost};
+ghost use Rattle.rtnl.specs.Painted.{ShowsColoured, ShowsInputColoured};
 ghost use Rattle.rtnl.specs.Runs.{Runs};
 ghost use Rattle.rtnl.specs.Shown.{Answer, Answers, datagram_text, is_taken};
 ghost use Rattle.rtnl.specs.Shown.{Shows, ShowsInput, ShowsInputJson, ShowsJson};
@@ -16,6 +17,7 @@ use crate::streams::sink::Sink;
 use crate::streams::source::Source;
 use crate::text::datagram::{push_datagram_line, push_refusal};
 use crate::text::message::push_messages;
+use crate::text::painting::push_in_colours;
 use nl_frame::{Limits, read_datagram};
 use std::alloc::{AllocError, Global};
 
@@ -98,6 +100,38 @@ impl PerDatagram for Show {
     }
 }
 
+/// To show datagrams in colours.
+#[derive(Clone, Copy)]
+pub(crate) struct ShowColoured {
+    pub(crate) limits: Limits,
+}
+
+impl PerDatagram for ShowColoured {
+    ghost use Rattle.rtnl.specs.Painted.{coloured_text};
+    ghost use Rattle.rtnl.specs.Shown.{Answer, Answers, is_taken};
+
+    ghost Found = { Answer };
+
+    ghost finds = { λ s. Answers s.limits };
+
+    ghost text = { λ s. coloured_text s.limits.shape.order };
+
+    ghost takes = { is_taken };
+
+    fn push(
+        &self,
+        alloc: Global,
+        out: &mut Vec<u8>,
+        number: usize,
+        bytes: &[u8],
+    ) -> Result<bool, AllocError> {
+        let mut text = Vec::new(alloc);
+        let taken = push_answer(alloc, &mut text, number, bytes, &self.limits)?;
+        push_in_colours(out, text.as_slice())?;
+        Ok(taken)
+    }
+}
+
 /// To show datagrams as lines of JSON.
 #[derive(Clone, Copy)]
 pub(crate) struct ShowJson {
@@ -168,6 +202,31 @@ pub fn run_show<S: Source, W: Sink>(
         (S.remaining source.old) (S.remaining source.new) }
 {
     run(alloc, source, sink, &Show { limits: *limits })
+}
+
+/// Shows each datagram as `run_show` does, in colours for a terminal: the line of a refusal red, the
+/// type of a message bold, the name of an attribute cyan. Without its escapes the text is what
+/// `run_show` writes (`laws::colours_change_nothing`).
+///
+/// It reads, writes and ends as `run_show` does.
+pub fn run_show_coloured<S: Source, W: Sink>(
+    alloc: Global,
+    source: &mut S,
+    sink: &mut W,
+    limits: &Limits,
+) -> Result<Verdict, RunError>
+    // What was written is the text of the datagrams of what was read in colours, and the verdict
+    // is theirs.
+    ensures shown { IfOk result
+        (ShowsInputColoured limits.now (S.remaining source.old) (S.remaining source.new)
+        (W.contents sink.old) (W.contents sink.new)) }
+    ensures runs { Runs S.remaining S.is_ended S.failure_count
+        W.contents W.is_stalled W.stall_count W.failure_count
+        (ShowsColoured limits.now) source.old source.new sink.old sink.new result }
+    ensures bounded { ConsumesAtMost (fixed.LONGEST_INPUT + 1)
+        (S.remaining source.old) (S.remaining source.new) }
+{
+    run(alloc, source, sink, &ShowColoured { limits: *limits })
 }
 
 /// Shows each datagram as `run_show` does, as a line of JSON (RFC 8259) in place of text: an object

@@ -14,7 +14,7 @@ ghost use Rattle.rtnl.specs.Tabled.{TablesInput, answer_text, refusals_text, ver
 
 use crate::error::{RunError, Verdict};
 use crate::recordings::recording::Datagrams;
-use crate::runs::entries::push_table;
+use crate::runs::entries::{ending_of, push_table};
 use crate::runs::report::{InJson, InText, ReportFormat};
 use crate::runs::request::begun;
 use crate::runs::run::{Command, run};
@@ -109,7 +109,8 @@ impl<F: ReportFormat> Tabulate<F> {
         let unfed = datagrams.len() - fed;
         let order = self.limits.order();
         push_table::<F>(alloc, &mut out, order, session, self.dump.kind)?;
-        F::push_ending(alloc, &mut out, &self.dump, session, unfed)?;
+        let ending = ending_of(session, &self.dump, unfed);
+        F::push_ending(alloc, &mut out, &self.dump, &ending)?;
         Ok((out, verdict(session.complete())))
     }
 }

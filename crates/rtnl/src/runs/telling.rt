@@ -1,13 +1,13 @@
 //! What is told of each line of a recording that is followed.
 
-ghost use Rattle.std.specs.Prelude.{◌≡◌, ◌∷◌, [], ℕ, List, Option, Ok, false};
-ghost use Rattle.std.specs.Io.KnownBytes.{Appends};
-ghost use Rattle.rtnl.specs.Lines.{line_at};
-ghost use Rattle.rtnl.specs.Followed.{IsCounted, TellsLine, one_bad};
+ghost use Rattle.std.specs.Prelude.{◌≡◌, ◌↔◌, ◌∷◌, [], List, Option, Some, false};
+ghost use Rattle.std.specs.Option.{option_copied};
+ghost use Rattle.rtnl.specs.Streams.{Gains};
+ghost use Rattle.rtnl.specs.Followed.{GoesOn, IsCounted, TellsLine, one_bad};
 
 use crate::error::RunError;
 use crate::recordings::lines::read_line;
-use crate::runs::per_datagram::PerDatagram;
+use crate::runs::teller::Teller;
 use crate::streams::sink::{Sink, give_all};
 use std::alloc::Global;
 
@@ -26,18 +26,29 @@ pub struct Followed {
 
 /// What hears of the bad lines of a recording that is followed.
 pub trait OnBadLine {
-    /// The numbers of the lines that it heard of so far, where it says them.
-    ghost heard: { Self → Option (List ℕ) };
+    ghost use Rattle.std.specs.Prelude.{◌≡◌, ◌↔◌, ◌∷◌, [], List, Option, false};
+    ghost use Rattle.std.specs.Option.{option_copied};
+    ghost use Rattle.rtnl.specs.Streams.{Gains};
+    ghost use Rattle.rtnl.specs.Followed.{HeardLine};
+
+    /// The lines that it heard of so far, where it says them: their numbers, and the lines.
+    ghost heard: { Self → Option (List HeardLine) };
 
     /// Its last call answered that the lines behind aren't followed.
     ghost is_ended: { Self → Type 0 };
 
     /// Hears that the line of this number, counted from 1, is bad, and answers whether the lines
     /// behind it are followed. The line is handed in without its newline; there is none where it
-    /// is longer than `LONGEST_LINE`.
+    /// is longer than `LONGEST_LINE`. Behind an answer that they aren't it is not called again.
     fn hear(&mut self, number: u64, line: Option<&[u8]>) -> bool
-        ensures heard { Appends (heard self.old) (heard self.new) (number ∷ []) }
-        ensures ended { result ≡ false → is_ended self.new };
+        requires { is_ended self.old → ⊥ }
+        ensures heard { Gains (heard self.old) (heard self.new)
+            (record { number = number; line = option_copied line.entry } ∷ []) }
+        ensures ended { is_ended self.new ↔ (result ≡ false) };
+
+    /// Sees a datagram that was refused, by its number among the datagrams, counted from 1, behind
+    /// its text. It can change nothing of what clauses speak of, and none says that it is called.
+    fn see_refused(&self, number: u64, datagram: &[u8]);
 }
 
 /// What was counted so far, and room that is used again for each line: for the bytes of its
@@ -75,11 +86,12 @@ pub(crate) fn tell_bad<B: OnBadLine>(
     counts: &mut Followed,
     line: Option<&[u8]>,
 ) -> bool
-    requires { IsCounted 1 counts.old }
+    requires counted { IsCounted 1 counts.old }
+    requires going { B.is_ended bad_lines.old → ⊥ }
     ensures counted { counts.new ≡ one_bad counts.old }
-    ensures heard { Appends (B.heard bad_lines.old) (B.heard bad_lines.new)
-        (counts.new.lines ∷ []) }
-    ensures ended { result ≡ false → B.is_ended bad_lines.new }
+    ensures heard { Gains (B.heard bad_lines.old) (B.heard bad_lines.new)
+        (record { number = counts.new.lines; line = option_copied line.entry } ∷ []) }
+    ensures ended { B.is_ended bad_lines.new ↔ (result ≡ false) }
 {
     counts.lines += 1;
     counts.bad_lines += 1;
@@ -87,21 +99,22 @@ pub(crate) fn tell_bad<B: OnBadLine>(
 }
 
 /// Tells of a line: writes the text of its datagram, if it has one, or says that it is bad. It
-/// answers whether the lines behind it are followed.
-pub(crate) fn tell_line<W: Sink, B: OnBadLine, E: PerDatagram>(
+/// answers whether the lines behind it are told.
+pub(crate) fn tell_line<W: Sink, B: OnBadLine, E: Teller>(
     alloc: Global,
     each: &E,
+    kept: &mut E::Kept,
     sink: &mut W,
     bad_lines: &mut B,
     telling: &mut Telling,
     line: &[u8],
 ) -> Result<bool, RunError>
-    requires { IsCounted 1 telling.old.counts }
-    ensures tells { TellsLine (E.finds each.now) (E.text each.now) E.takes
+    requires counted { IsCounted 1 telling.old.counts }
+    requires going { GoesOn E.ends B.is_ended kept.old bad_lines.old }
+    ensures { TellsLine (E.finds each.now) (E.text each.now) E.takes E.ends B.heard B.is_ended
         W.contents W.is_stalled W.stall_count W.failure_count
-        (line_at 0 line.now) telling.old.counts telling.new.counts
-        (B.heard bad_lines.old) (B.heard bad_lines.new) sink.old sink.new result }
-    ensures ended { result ≡ Ok false → B.is_ended bad_lines.new }
+        (Some line.now) kept.old kept.new telling.old.counts telling.new.counts
+        bad_lines.old bad_lines.new sink.old sink.new result }
 {
     let Telling {
         counts,
@@ -120,10 +133,13 @@ pub(crate) fn tell_line<W: Sink, B: OnBadLine, E: PerDatagram>(
     }
     text.clear();
     let number = counts.datagrams + 1;
-    let taken = each.push(alloc, text, number as usize, bytes.as_slice())?;
+    let told = each.tell(alloc, kept, text, number as usize, bytes.as_slice())?;
     give_all(sink, text.as_slice())?;
+    if !told.taken {
+        bad_lines.see_refused(number, bytes.as_slice());
+    }
     counts.lines += 1;
     counts.datagrams = number;
-    counts.refused += u64::from(!taken);
-    Ok(true)
+    counts.refused += u64::from(!told.taken);
+    Ok(told.goes_on)
 }

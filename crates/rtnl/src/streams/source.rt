@@ -9,6 +9,7 @@ ghost use Rattle.rtnl.specs.Streams.{ConsumesAtMost, ConsumesMoreThan, IsRead, M
 
 use crate::error::RunError;
 use crate::streams::calls::{Broken, moves_none};
+use crate::streams::sink::Sink;
 use std::alloc::Global;
 use std::io::{self, ErrorKind, Read};
 
@@ -36,6 +37,32 @@ pub trait Source {
         ensures sound { OnOk result (failure_count self.new ≡ failure_count self.old) }
         ensures failed { OnErr result
             (failure_count self.new ≡ one_more (failure_count self.old)) };
+}
+
+/// Where the bytes of a recording come from that is followed into a sink. At each read it may look
+/// at what the sink has taken so far.
+pub trait LiveSource<W: Sink>: Source {
+    ghost use Rattle.std.specs.Prelude.{◌≡◌, ◌≤◌, ◌↔◌, List, Option, length};
+    ghost use Rattle.std.specs.Prelude.{OnOk, OnErr, IfOk};
+    ghost use Rattle.std.specs.Io.KnownBytes.{ReadConsumes};
+    ghost use Rattle.rtnl.specs.Streams.{AddsRead, MovesNone, Read, one_more};
+
+    /// Its reads, the newest last, where it says them: what the sink had taken when each came, and
+    /// the bytes that it moved.
+    ghost reads: { Self → Option (List Read) };
+
+    /// Moves the next bytes as `take` does.
+    fn take_behind(&mut self, sink: &W, buffer: &mut [u8]) -> Result<usize, Broken>
+        ensures fits { IfOk result (λ count. count ≤ length buffer.old) }
+        ensures bytes { ReadConsumes (Self.remaining self.old) (Self.remaining self.new)
+            result buffer.new }
+        ensures end { Self.is_ended self.new ↔ MovesNone result (length buffer.old) }
+        ensures sound { OnOk result
+            (Self.failure_count self.new ≡ Self.failure_count self.old) }
+        ensures failed { OnErr result
+            (Self.failure_count self.new ≡ one_more (Self.failure_count self.old)) }
+        ensures seen { AddsRead (reads self.old) (reads self.new) (W.contents sink.now)
+            result buffer.new };
 }
 
 /// Gives the bytes of a slice, from the first on.
@@ -78,6 +105,16 @@ impl Source for SliceSource<'_> {
         self.bytes = rest;
         self.ended = moves_none(count, buffer.len());
         Ok(count)
+    }
+}
+
+impl<W: Sink> LiveSource<W> for SliceSource<'_> {
+    ghost use Rattle.std.specs.Prelude.{None};
+
+    ghost reads = { λ _. None };
+
+    fn take_behind(&mut self, _sink: &W, buffer: &mut [u8]) -> Result<usize, Broken> {
+        self.take(buffer)
     }
 }
 
@@ -143,6 +180,16 @@ impl<R: Read> Source for ReadSource<R> {
                 Err(Broken)
             }
         }
+    }
+}
+
+impl<R: Read, W: Sink> LiveSource<W> for ReadSource<R> {
+    ghost use Rattle.std.specs.Prelude.{None};
+
+    ghost reads = { λ _. None };
+
+    fn take_behind(&mut self, _sink: &W, buffer: &mut [u8]) -> Result<usize, Broken> {
+        self.take(buffer)
     }
 }
 

@@ -5,10 +5,11 @@ ghost use Rattle.std.specs.Fmt.{signed_decimal};
 ghost use Rattle.rtnl.specs.Tabled.{complete_line, counts_line, dump_line, end_line};
 ghost use Rattle.rtnl.specs.Tabled.{entry_line, refusal_line, sums_line, total_line, yes_no};
 
+use crate::ending::Ending;
 use crate::pieces::push;
 use crate::pieces::segment::Segment;
 use crate::text::datagram::{push_number, push_refusal};
-use nl_dump::{Dump, End, FeedError, State};
+use nl_dump::{Dump, End, FeedError, Standing, State};
 use nl_frame::ReadError;
 use std::alloc::AllocError;
 
@@ -98,58 +99,37 @@ pub(crate) fn push_end_line(out: &mut Vec<u8>, state: State) -> Result<(), Alloc
     }
 }
 
-/// What was counted of a dump.
-#[derive(Clone, Copy)]
-pub(crate) struct Counts {
-    pub entries: u32,
-    pub missed: u64,
-    pub ignored: u64,
-    pub unfed: usize,
-    pub damaged: bool,
-    pub interrupted: bool,
-}
-
 /// Writes what was counted of the dump.
 #[tactic(auto, unfolding(crate::specs::Tabled::counts_line))]
-pub(crate) fn push_counts_line(out: &mut Vec<u8>, counts: Counts) -> Result<(), AllocError>
+pub(crate) fn push_counts_line(out: &mut Vec<u8>, ending: &Ending) -> Result<(), AllocError>
     ensures { OnOk result (out.new.items ≡ out.old.items
-        ++ counts_line counts.entries
-        counts.missed counts.ignored counts.unfed counts.damaged counts.interrupted) }
+        ++ counts_line ending.now.entries ending.now.missed ending.now.standing.ignored
+        ending.now.unfed ending.now.standing.damaged ending.now.standing.interrupted) }
 {
-    let Counts {
-        entries,
-        missed,
-        ignored,
-        unfed,
-        damaged,
-        interrupted,
-    } = counts;
+    let standing = &ending.standing;
     let mut line = Segment::new();
     line.put("\n");
-    line.put(yes_or_no(interrupted));
+    line.put(yes_or_no(standing.interrupted));
     line.put(" interrupted ");
-    line.put(yes_or_no(damaged));
+    line.put(yes_or_no(standing.damaged));
     line.put(" damaged ");
-    line.put_field(" unfed ", unfed as u64);
-    line.put_field(" ignored ", ignored);
-    line.put_field(" missed ", missed);
-    line.put_field("entries ", entries as u64);
+    line.put_field(" unfed ", ending.unfed);
+    line.put_field(" ignored ", standing.ignored);
+    line.put_field(" missed ", ending.missed);
+    line.put_field("entries ", ending.entries);
     line.push_to(out)
 }
 
 /// Writes what was counted of all datagrams.
 #[tactic(auto, unfolding(crate::specs::Tabled::sums_line))]
-pub(crate) fn push_sums_line(
-    out: &mut Vec<u8>,
-    received: u64,
-    visits: u64,
-) -> Result<(), AllocError>
-    ensures { OnOk result (out.new.items ≡ out.old.items ++ sums_line received visits) }
+pub(crate) fn push_sums_line(out: &mut Vec<u8>, standing: &Standing) -> Result<(), AllocError>
+    ensures { OnOk result (out.new.items ≡ out.old.items
+        ++ sums_line standing.now.received standing.now.visits) }
 {
     let mut line = Segment::new();
     line.put("\n");
-    line.put_field(" visits ", visits);
-    line.put_field("received ", received);
+    line.put_field(" visits ", standing.visits);
+    line.put_field("received ", standing.received);
     line.push_to(out)
 }
 
@@ -165,11 +145,11 @@ pub(crate) fn push_complete_line(out: &mut Vec<u8>, complete: bool) -> Result<()
 
 /// Writes the line of the entry of this number, counted from 1.
 #[tactic(auto, unfolding(crate::specs::Tabled::entry_line))]
-pub(crate) fn push_entry_line(out: &mut Vec<u8>, number: u32) -> Result<(), AllocError>
+pub(crate) fn push_entry_line(out: &mut Vec<u8>, number: u64) -> Result<(), AllocError>
     ensures { OnOk result (out.new.items ≡ out.old.items ++ entry_line number) }
 {
     let mut line = Segment::new();
     line.put("\n");
-    line.put_field("entry ", number as u64);
+    line.put_field("entry ", number);
     line.push_to(out)
 }

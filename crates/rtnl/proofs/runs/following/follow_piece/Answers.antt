@@ -4,15 +4,15 @@ use Rattle.rtnl.specs.Followed.{IsCounted, said_of, with_part}
 use Rattle.std.proofs.lemmas.Result.{err_from_is_err_and}
 use Rattle.rtnl.specs.Lines.{lines_of}
 use Rattle.rtnl.proofs.Cuts.{first_line, last_line, line_parts}
-use Rattle.rtnl.proofs.Following.{tells_counted}
+use Rattle.rtnl.proofs.Following.{goes_more, tells_counted}
 use Rattle.rtnl.proofs.FollowedPieces.{piece_ended, piece_failed, piece_kept, piece_lost, piece_more}
 use Rattle.rtnl.proofs.runs.following.follow_piece.Goals as goal
 
-pub returns-then-not-branch-clause-follows : goal.returns-then-not-branch-clause-follows
-returns-then-not-branch-clause-follows g c = λ input heard old follows.
+pub returns-then-not-branch : goal.returns-then-not-branch
+returns-then-not-branch g c = λ before first unheard old follows.
     let l = c.loop-end in
     let i = l.invariant in
-    let h = i.front.2 input heard old follows in
+    let h = i.front.2 before first unheard old follows in
     let left = l.left.now in
     let k = c.in-Some.end in
     let part = c.split_at.result.0.now in
@@ -21,15 +21,15 @@ returns-then-not-branch-clause-follows g c = λ input heard old follows.
     ap (λ p. i.front.0 ++ ((p ++ 10 ∷ []) ++ drop (k + 1) left)) c.split_at.ensures.front ∙ ap (λ x. i.front.0 ++ x) (line_parts left k c.in-Some.ensures.0 c.in-Some.ensures.1) ∙ i.front.1 in
     let ended : c.end_line.result ≡ Ok false = search rules in
     let tells = rw ended at c.end_line.ensures.tells in
-    piece_ended (g.E.PerDatagram.finds c.args.each.now) (g.E.PerDatagram.text c.args.each.now) g.E.PerDatagram.takes g.W.Sink.contents g.W.Sink.is_stalled g.W.Sink.stall_count g.W.Sink.failure_count
-    input i.front.0 c.args.piece.now l.following.unfinished l.following.telling.counts heard (g.B.OnBadLine.heard l.bad_lines) old c.args.sink.now l.sink h i.sound part (drop (k + 1) left) one is
-    c.end_line.new.following.telling.counts (g.B.OnBadLine.heard c.end_line.new.bad_lines) c.end_line.new.sink c.end_line.new.following.unfinished tells
+    piece_ended (g.E.Teller.finds c.args.each.now) (g.E.Teller.text c.args.each.now) g.E.Teller.takes g.E.Teller.ends g.B.OnBadLine.heard g.B.OnBadLine.is_ended g.W.Sink.contents g.W.Sink.is_stalled g.W.Sink.stall_count g.W.Sink.failure_count
+    before i.front.0 c.args.piece.now l.following.unfinished first l.kept l.following.telling.counts unheard l.bad_lines old c.args.sink.now l.sink h i.going i.sound part (drop (k + 1) left) one is
+    c.end_line.new.kept c.end_line.new.following.telling.counts c.end_line.new.bad_lines c.end_line.new.sink c.end_line.new.following.unfinished tells
 
-pub returns-in_err-end_line-clause-follows : goal.returns-in_err-end_line-clause-follows
-returns-in_err-end_line-clause-follows g c = λ input heard old follows.
+pub returns-in_err-end_line : goal.returns-in_err-end_line
+returns-in_err-end_line g c = λ before first unheard old follows.
     let l = c.loop-end in
     let i = l.invariant in
-    let h = i.front.2 input heard old follows in
+    let h = i.front.2 before first unheard old follows in
     let left = l.left.now in
     let k = c.in-Some.end in
     let part = c.split_at.result.0.now in
@@ -38,9 +38,9 @@ returns-in_err-end_line-clause-follows g c = λ input heard old follows.
     ap (λ p. i.front.0 ++ ((p ++ 10 ∷ []) ++ drop (k + 1) left)) c.split_at.ensures.front ∙ ap (λ x. i.front.0 ++ x) (line_parts left k c.in-Some.ensures.0 c.in-Some.ensures.1) ∙ i.front.1 in
     let error = err_from_is_err_and c.from_residual.result c.from_residual.ensures.1 in
     let tells = rw c.in_err-end_line.was at c.end_line.ensures.tells in
-    rw (error.1, error.2) (piece_failed (g.E.PerDatagram.finds c.args.each.now) (g.E.PerDatagram.text c.args.each.now) g.E.PerDatagram.takes g.W.Sink.contents g.W.Sink.is_stalled g.W.Sink.stall_count g.W.Sink.failure_count
-    input i.front.0 c.args.piece.now l.following.unfinished l.following.telling.counts heard (g.B.OnBadLine.heard l.bad_lines) old c.args.sink.now l.sink h i.sound part (drop (k + 1) left) one is
-    c.end_line.new.following.telling.counts (g.B.OnBadLine.heard c.end_line.new.bad_lines) c.end_line.new.sink c.end_line.new.following.unfinished c.end_line.new.following.telling.counts _ tells)
+    rw (error.1, error.2) (piece_failed (g.E.Teller.finds c.args.each.now) (g.E.Teller.text c.args.each.now) g.E.Teller.takes g.E.Teller.ends g.B.OnBadLine.heard g.B.OnBadLine.is_ended g.W.Sink.contents g.W.Sink.is_stalled g.W.Sink.stall_count g.W.Sink.failure_count
+    before i.front.0 c.args.piece.now l.following.unfinished first l.kept l.following.telling.counts unheard l.bad_lines old c.args.sink.now l.sink h i.going i.sound part (drop (k + 1) left) one is
+    c.end_line.new.kept c.end_line.new.following.telling.counts c.end_line.new.bad_lines c.end_line.new.sink c.end_line.new.following.unfinished c.end_line.new.following.telling.counts _ tells)
 
 pub loop-end-preserved : goal.loop-end-preserved
 loop-end-preserved g c =
@@ -64,36 +64,39 @@ loop-end-preserved g c =
       front = (
         i.front.0 ++ (part ++ 10 ∷ []),
         append_assoc i.front.0 (part ++ 10 ∷ []) behind ∙ ap (λ x. i.front.0 ++ ((part ++ 10 ∷ []) ++ x)) (sym new) ∙ is,
-        λ input heard old follows.
-            let h = i.front.2 input heard old follows in
-            rw cleared (piece_more (g.E.PerDatagram.finds c.args.each.now) (g.E.PerDatagram.text c.args.each.now) g.E.PerDatagram.takes g.W.Sink.contents g.W.Sink.is_stalled g.W.Sink.stall_count g.W.Sink.failure_count
-            input i.front.0 c.args.piece.now l.following.unfinished l.following.telling.counts heard (g.B.OnBadLine.heard l.bad_lines) old c.args.sink.now l.sink h i.sound part (drop (k + 1) left) one is
-            c.end_line.new.following.telling.counts (g.B.OnBadLine.heard c.end_line.new.bad_lines) c.end_line.new.sink tells.told),
+        λ before first unheard old follows.
+            let h = i.front.2 before first unheard old follows in
+            rw cleared (piece_more (g.E.Teller.finds c.args.each.now) (g.E.Teller.text c.args.each.now) g.E.Teller.takes g.E.Teller.ends g.B.OnBadLine.heard g.B.OnBadLine.is_ended g.W.Sink.contents g.W.Sink.is_stalled g.W.Sink.stall_count g.W.Sink.failure_count
+            before i.front.0 c.args.piece.now l.following.unfinished first l.kept l.following.telling.counts unheard l.bad_lines old c.args.sink.now l.sink h i.going i.sound part (drop (k + 1) left) one is
+            c.end_line.new.kept c.end_line.new.following.telling.counts c.end_line.new.bad_lines c.end_line.new.sink tells.told).0,
       );
-      counted = tells_counted (g.E.PerDatagram.finds c.args.each.now) (g.E.PerDatagram.text c.args.each.now) g.E.PerDatagram.takes (said_of (with_part l.following.unfinished part)) l.following.telling.counts c.end_line.new.following.telling.counts
-          (g.B.OnBadLine.heard l.bad_lines) (g.B.OnBadLine.heard c.end_line.new.bad_lines) (g.W.Sink.contents l.sink) (g.W.Sink.contents c.end_line.new.sink) (length behind) room tells.told;
+      going = goes_more (g.E.Teller.finds c.args.each.now) (g.E.Teller.text c.args.each.now) g.E.Teller.takes g.E.Teller.ends g.B.OnBadLine.heard g.B.OnBadLine.is_ended
+          (with_part l.following.unfinished part) l.kept c.end_line.new.kept l.following.telling.counts c.end_line.new.following.telling.counts l.bad_lines c.end_line.new.bad_lines
+          (g.W.Sink.contents l.sink) (g.W.Sink.contents c.end_line.new.sink) (said_of (with_part l.following.unfinished part)) tells.told i.going;
+      counted = tells_counted (g.E.Teller.finds c.args.each.now) (g.E.Teller.text c.args.each.now) g.E.Teller.takes g.E.Teller.ends g.B.OnBadLine.heard g.B.OnBadLine.is_ended
+          (with_part l.following.unfinished part) (said_of (with_part l.following.unfinished part)) true l.kept c.end_line.new.kept l.following.telling.counts c.end_line.new.following.telling.counts
+          l.bad_lines c.end_line.new.bad_lines (g.W.Sink.contents l.sink) (g.W.Sink.contents c.end_line.new.sink) (length behind) room tells.told;
       short = omega (arith, size, i.short);
       sound = (tells.sound.0 ∙ i.sound.0, tells.sound.1 ∙ i.sound.1);
     }
 
-pub returns-in_err-push-clause-follows : goal.returns-in_err-push-clause-follows
-returns-in_err-push-clause-follows g c = λ input heard old follows.
+pub returns-in_err-push : goal.returns-in_err-push
+returns-in_err-push g c = λ before first unheard old follows.
     let l = c.loop-end in
     let i = l.invariant in
-    let h = i.front.2 input heard old follows in
+    let h = i.front.2 before first unheard old follows in
     let left = l.left.now in
     let one : lines_of left ≡ left ∷ [] = last_line left c.in_default.ensures in
-    let lost = piece_lost (g.E.PerDatagram.finds c.args.each.now) (g.E.PerDatagram.text c.args.each.now) g.E.PerDatagram.takes g.W.Sink.contents g.W.Sink.is_stalled g.W.Sink.stall_count g.W.Sink.failure_count
-    input i.front.0 c.args.piece.now l.following.unfinished l.following.telling.counts heard (g.B.OnBadLine.heard l.bad_lines) old c.args.sink.now l.sink h i.sound left one i.front.1 c.push.new.self in
     let error = err_from_is_err_and c.from_residual-in_err-push.result c.from_residual-in_err-push.ensures.1 in
-    rw (error.1, error.2) lost
+    rw (error.1, error.2) (piece_lost (g.E.Teller.finds c.args.each.now) (g.E.Teller.text c.args.each.now) g.E.Teller.takes g.E.Teller.ends g.B.OnBadLine.heard g.B.OnBadLine.is_ended g.W.Sink.contents g.W.Sink.is_stalled g.W.Sink.stall_count g.W.Sink.failure_count
+    before i.front.0 c.args.piece.now l.following.unfinished first l.kept l.following.telling.counts unheard l.bad_lines old c.args.sink.now l.sink h i.going i.sound left one i.front.1 c.push.new.self)
 
-pub returns-clause-follows : goal.returns-clause-follows
-returns-clause-follows g c = λ input heard old follows.
+pub returns : goal.returns
+returns g c = λ before first unheard old follows.
     let l = c.loop-end in
     let i = l.invariant in
-    let h = i.front.2 input heard old follows in
+    let h = i.front.2 before first unheard old follows in
     let left = l.left.now in
     let one : lines_of left ≡ left ∷ [] = last_line left c.in_default.ensures in
-    piece_kept (g.E.PerDatagram.finds c.args.each.now) (g.E.PerDatagram.text c.args.each.now) g.E.PerDatagram.takes g.W.Sink.contents g.W.Sink.is_stalled g.W.Sink.stall_count g.W.Sink.failure_count
-    input i.front.0 c.args.piece.now l.following.unfinished l.following.telling.counts heard (g.B.OnBadLine.heard l.bad_lines) old c.args.sink.now l.sink h i.sound left one i.front.1 c.push.new.self (search rules)
+    piece_kept (g.E.Teller.finds c.args.each.now) (g.E.Teller.text c.args.each.now) g.E.Teller.takes g.E.Teller.ends g.B.OnBadLine.heard g.B.OnBadLine.is_ended g.W.Sink.contents g.W.Sink.is_stalled g.W.Sink.stall_count g.W.Sink.failure_count
+    before i.front.0 c.args.piece.now l.following.unfinished first l.kept l.following.telling.counts unheard l.bad_lines old c.args.sink.now l.sink h i.going i.sound left one i.front.1 c.push.new.self (search rules)

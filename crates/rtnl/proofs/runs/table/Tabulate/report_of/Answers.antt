@@ -1,6 +1,6 @@
 use Rattle.std.proofs.Common.{◌++◌, ◌-◌, ◌∙◌, ap, arith, drop, length, sym}
 use Rattle.std.proofs.lemmas.List.{drop_all, length-drop}
-use Rattle.rtnl.specs.Tabled.{verdict_of}
+use Rattle.rtnl.specs.Tabled.{ending_of, verdict_of}
 use Rattle.rtnl.proofs.Feeding.{report_text}
 use Rattle.rtnl.proofs.runs.table.Tabulate.report_of.Goals as goal
 
@@ -19,6 +19,6 @@ returns g c =
       feeds = ensured.2.1;
       all = λ w. drop_all count ds (omega (arith, ensured.1 w));
       text_is = report_text t d ensured.2.0 unfed v c.order-order.result c.args.self.now.limits.shape.order (length ds - count) c.new-out.result.items c.push_front.new.out.items c.feed_all.new.out.items c.push_ending.new.out.items c.new-out.ensures.items c.in_ok-push_front.ensures ensured.2.2
-          (c.in_ok-push_ending.ensures ∙ λ i. c.in_ok-push_table.ensures i ++ t.ending d (c.len.ensures i - count) v) c.order-order.ensures (sym (length-drop count ds));
+          (c.in_ok-push_ending.ensures ∙ λ i. c.in_ok-push_table.ensures i ++ t.ending d ((c.ending_of-ending.ensures ∙ λ j. ending_of d (c.len.ensures j - count) v) i)) c.order-order.ensures (sym (length-drop count ds));
       verdict_is = c.verdict.ensures ∙ ap verdict_of c.complete.ensures;
     }

@@ -1,0 +1,218 @@
+//! Following a dump of any length: its items are told of as they come, and how it ended.
+
+ghost use Rattle.std.specs.Prelude.{◌≡◌, ◌<◌, ◌+◌, ◌^◌, ◌++◌, false, length, map, OnOk};
+ghost use Rattle.nl_frame.specs.View.{message_view};
+ghost use Rattle.rtnl.specs.FollowedDump.{FollowsDump, IsBegun, ending_at, is_done};
+ghost use Rattle.rtnl.specs.Tabled.{bodies_text, in_text};
+ghost use Rattle.rtnl.specs.TabledJson.{in_json};
+
+use crate::ending::Ending;
+use crate::error::RunError;
+use crate::runs::dump_so_far::DumpSoFar;
+use crate::runs::following::follow;
+use crate::runs::report::{InJson, InText, ReportFormat};
+use crate::runs::teller::{Teller, Told};
+use crate::runs::telling::{Followed, OnBadLine};
+use crate::streams::sink::{Sink, give_all};
+use crate::streams::source::LiveSource;
+use nl_attr::Order;
+use nl_dump::{Dump, State, Stream};
+use nl_frame::{Limits, Message};
+use std::alloc::{AllocError, Global};
+use std::marker::PhantomData;
+
+/// How the following of a dump ended.
+#[derive(Clone, Copy, Debug, PartialEq, Eq, Hash)]
+pub struct DumpFollowed {
+    /// What was counted of its lines.
+    pub counts: Followed,
+    /// Whether the dump ended by DONE with no failure, no datagram of it was refused, and it was not
+    /// interrupted.
+    pub complete: bool,
+}
+
+/// Whether no dump waits.
+fn is_over(state: State) -> bool
+    ensures { result ≡ is_done state }
+{
+    match state {
+        State::Waiting(_) => false,
+        State::Idle | State::Ended(_, _) => true,
+    }
+}
+
+/// A dump that begins under these limits. A new stream has no dump that waits and no last sequence
+/// number, so nothing is refused.
+fn begun(dump: Dump, limits: &Limits) -> DumpSoFar
+    ensures { IsBegun limits.now dump result }
+{
+    let mut stream = Stream::new(*limits);
+    let Ok(()) = stream.begin(dump) else {
+        unreachable!()
+    };
+    DumpSoFar { stream, items: 0 }
+}
+
+/// How a dump ended that was followed.
+fn ending_of(kept: &DumpSoFar) -> Ending
+    ensures { result ≡ ending_at kept.now }
+{
+    Ending {
+        entries: kept.items,
+        missed: 0,
+        unfed: 0,
+        standing: kept.stream.standing(),
+        complete: kept.stream.complete(),
+    }
+}
+
+/// Reports the entries of items, behind so many others.
+#[tactic(auto, unfolding(crate::specs::Tabled::bodies_text))]
+fn push_items<F: ReportFormat>(
+    alloc: Global,
+    out: &mut Vec<u8>,
+    order: Order,
+    before: u64,
+    items: &[Message],
+) -> Result<(), AllocError>
+    requires { before + length items.now < 2 ^ 64 }
+    ensures { OnOk result (out.new.items ≡ out.old.items
+        ++ bodies_text (λ m. m.body) F.report order (before + 1) (map message_view items.now)) }
+{
+    let mut number = before;
+    for item in items {
+        number += 1;
+        F::push_body(alloc, out, order, number, &item.body)?;
+    }
+    Ok(())
+}
+
+/// To tell of the datagrams that answer a dump, numbers in this order.
+#[derive(Clone, Copy)]
+struct TellDump<F> {
+    order: Order,
+    report: PhantomData<F>,
+}
+
+impl<F: ReportFormat> Teller for TellDump<F> {
+    ghost use Rattle.rtnl.specs.FollowedDump.{Given, Reads, ends_dump, given_text, is_given};
+
+    type Kept = DumpSoFar;
+
+    ghost Found = { Given };
+
+    ghost finds = { λ _. Reads };
+
+    ghost text = { λ e. given_text F.report e.order };
+
+    ghost takes = { is_given };
+
+    ghost ends = { ends_dump };
+
+    fn tell(
+        &self,
+        alloc: Global,
+        kept: &mut DumpSoFar,
+        out: &mut Vec<u8>,
+        number: usize,
+        bytes: &[u8],
+    ) -> Result<Told, AllocError> {
+        let mut stream = kept.stream;
+        let mut items = kept.items;
+        let taken = match stream.read(alloc, bytes) {
+            Ok(read) => {
+                push_items::<F>(alloc, out, self.order, items, read.items.as_slice())?;
+                items += read.items.len() as u64;
+                true
+            }
+            Err(error) => {
+                F::push_refusal(alloc, out, number, error)?;
+                false
+            }
+        };
+        *kept = DumpSoFar { stream, items };
+        Ok(Told {
+            taken,
+            goes_on: !is_over(stream.state()),
+        })
+    }
+}
+
+/// Follows a dump, and reports of it in this form.
+fn follow_dump<F: ReportFormat, S: LiveSource<W>, W: Sink, B: OnBadLine>(
+    alloc: Global,
+    source: &mut S,
+    sink: &mut W,
+    bad_lines: &mut B,
+    dump: Dump,
+    limits: &Limits,
+) -> Result<DumpFollowed, RunError>
+    requires { B.is_ended bad_lines.old → ⊥ }
+    ensures { FollowsDump S.remaining S.is_ended S.failure_count S.reads
+        W.contents W.is_stalled W.stall_count W.failure_count B.heard B.is_ended
+        F.report limits.now dump source.old source.new sink.old sink.new
+        bad_lines.old bad_lines.new result }
+{
+    let mut text = Vec::new(alloc);
+    F::push_front(alloc, &mut text, &dump)?;
+    give_all(sink, text.as_slice())?;
+    let mut kept = begun(dump, limits);
+    let each = TellDump::<F> {
+        order: limits.order(),
+        report: PhantomData,
+    };
+    let counts = follow(alloc, source, sink, bad_lines, &each, &mut kept)?;
+    let ending = ending_of(&kept);
+    text.clear();
+    F::push_ending(alloc, &mut text, &dump, &ending)?;
+    give_all(sink, text.as_slice())?;
+    Ok(DumpFollowed {
+        counts,
+        complete: ending.complete,
+    })
+}
+
+/// Follows the lines that a source gives as the answers to a dump, of any length: it writes which
+/// dump is read, as `run_table` does; of each datagram, before it reads on, the entries of its
+/// items, or why it is refused; and where the dump has ended, or the input, how it ended. Entries,
+/// datagrams and lines are numbered from 1. Nothing is read behind the line that ends the dump but
+/// what came with it, so no datagram is unfed.
+///
+/// It keeps no table: the entries are the items as they come, and none is missed. It reads bad
+/// lines, and ends where a read, a write or memory fails, as `run_follow` does; then nothing is
+/// written of how the dump ended.
+pub fn run_follow_dump<S: LiveSource<W>, W: Sink, B: OnBadLine>(
+    alloc: Global,
+    source: &mut S,
+    sink: &mut W,
+    bad_lines: &mut B,
+    dump: Dump,
+    limits: &Limits,
+) -> Result<DumpFollowed, RunError>
+    requires { B.is_ended bad_lines.old → ⊥ }
+    ensures { FollowsDump S.remaining S.is_ended S.failure_count S.reads
+        W.contents W.is_stalled W.stall_count W.failure_count B.heard B.is_ended
+        in_text limits.now dump source.old source.new sink.old sink.new
+        bad_lines.old bad_lines.new result }
+{
+    follow_dump::<InText, _, _, _>(alloc, source, sink, bad_lines, dump, limits)
+}
+
+/// Follows the lines as `run_follow_dump` does, and writes the dump as lines of JSON, as
+/// `run_table_json` does.
+pub fn run_follow_dump_json<S: LiveSource<W>, W: Sink, B: OnBadLine>(
+    alloc: Global,
+    source: &mut S,
+    sink: &mut W,
+    bad_lines: &mut B,
+    dump: Dump,
+    limits: &Limits,
+) -> Result<DumpFollowed, RunError>
+    requires { B.is_ended bad_lines.old → ⊥ }
+    ensures { FollowsDump S.remaining S.is_ended S.failure_count S.reads
+        W.contents W.is_stalled W.stall_count W.failure_count B.heard B.is_ended
+        in_json limits.now dump source.old source.new sink.old sink.new
+        bad_lines.old bad_lines.new result }
+{
+    follow_dump::<InJson, _, _, _>(alloc, source, sink, bad_lines, dump, limits)
+}
