@@ -23,6 +23,8 @@ struct rtnlc_checked proved_check(const uint8_t *, size_t, const struct rtnlc_op
 struct rtnlc_shown proved_show(size_t, const uint8_t *, size_t, const struct rtnlc_options *,
                                uint8_t *, size_t);
 struct rtnlc_put proved_request(uint16_t, uint8_t, uint32_t, bool, uint8_t *, size_t);
+struct rtnlc_put proved_type_name(uint16_t, uint8_t *, size_t);
+struct rtnlc_put proved_attr_name(uint8_t, uint16_t, uint8_t *, size_t);
 
 uint8_t proved_session_new(struct handle *, const struct rtnlc_options *);
 void proved_session_free(struct handle *);
@@ -123,6 +125,18 @@ struct rtnlc_put rtnlc_request(uint16_t kind, uint8_t family, uint32_t seq, bool
 {
 	uint8_t nowhere;
 	return proved_request(kind, family, seq, big, out ? out : &nowhere, room);
+}
+
+struct rtnlc_put rtnlc_type_name(uint16_t kind, char *out, size_t room)
+{
+	uint8_t nowhere;
+	return proved_type_name(kind, out ? (uint8_t *)out : &nowhere, room);
+}
+
+struct rtnlc_put rtnlc_attr_name(uint8_t context, uint16_t number, char *out, size_t room)
+{
+	uint8_t nowhere;
+	return proved_attr_name(context, number, out ? (uint8_t *)out : &nowhere, room);
 }
 
 /* A null pointer is a handle with no session. */

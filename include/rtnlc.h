@@ -438,6 +438,20 @@ struct rtnlc_status rtnlc_stream_status(const struct rtnlc_stream *stream);
 
 /* ---- Words ---- */
 
+/* Room for any name of a message type or an attribute: none has more bytes than 31. */
+#define RTNLC_NAME 32
+
+/* Puts the name of a message type in the kernel's headers, as "RTM_NEWLINK" or "NLMSG_DONE", into
+ * `out`, and no zero byte behind it: NEW, DEL, GET and SET of links, addresses, routes, neighbours
+ * and rules, and the types of netlink itself. RTNLC_END where it is another; RTNLC_NO_ROOM. */
+RTNLC_WRITES(2, 3)
+struct rtnlc_put rtnlc_type_name(uint16_t kind, char *out, size_t room);
+
+/* The same of an attribute of this number (without the two flag bits) where it stands, as
+ * "IFLA_IFNAME". RTNLC_END where it has no name here, or `context` is no context. */
+RTNLC_WRITES(3, 4)
+struct rtnlc_put rtnlc_attr_name(uint8_t context, uint16_t number, char *out, size_t room);
+
 /* What a code says, in a few words, as "bad length": a string that is always there and never
  * null. */
 const char *rtnlc_code_name(uint8_t code);

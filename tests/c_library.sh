@@ -15,7 +15,7 @@ program=$(tests/helpers/proved.py) || exit 1
 . tests/helpers/cases.sh
 
 tests/helpers/install_packages.sh cc gcc c++ g++ objcopy binutils pkg-config pkg-config \
-  mandoc mandoc groff groff-base go golang-go rustc rustc valgrind valgrind
+  mandoc mandoc groff groff-base valgrind valgrind
 # What is installed is what is proved.
 export RTNL_PROVE=1
 c/build.sh "$folder/library" || exit 1

@@ -70,6 +70,15 @@ finds() { sees_all "$1" "$folder/$2.$3" "$3"; }
 # says_version PROGRAM: the library's version is the program's.
 says_version() { [ "rtnl $("$folder/$1")" = "$("$program" --version)" ]; }
 
+# names_so PROGRAM: the names of attributes are those on docs/FORMAT.md, all of them.
+names_so() {
+  "$folder/$1" | sort >"$folder/named" &&
+    sed -nE 's/^\| .*`(.*_)` \| ([0-9]+) \| `(.*)` \| .*/\1 \2 \1\3/p' docs/FORMAT.md |
+    awk 'BEGIN { split("IFLA_ IFLA_INFO_ IFA_ RTA_ RTAX_ NDA_ FRA_", prefixes)
+           for (it in prefixes) contexts[prefixes[it]] = it }
+         { print contexts[$1], $2, $3 }' | sort | diff "$folder/named" -
+}
+
 # all_programs NAME COMMAND..: each program by this compiler, built and run.
 all_programs() {
   local name=$1 order sort program_name
@@ -92,6 +101,8 @@ all_programs() {
     check "$name: $program_name.c" built "$program_name" "$program_name $name" "$@"
     check "$name: $program_name.c runs" "$folder/$program_name $name"
   done
+  check "$name: named.c" built named "named $name" "$@"
+  check "$name: names of types and attributes" names_so "named $name"
   check "$name: words.c" built words "words $name" "$@"
   check "$name: names of codes, and the version" says_version "words $name"
 }
@@ -110,8 +121,8 @@ for standard in c11 c17; do
   check "$standard: fixed.c runs" "$folder/fixed"
 done
 for standard in c++11 c++17 c++20; do
-  for name in fixed threads stack find misuse room words session stream session_threads dumps \
-    million; do
+  for name in fixed threads stack find misuse room named words session stream session_threads \
+    dumps million; do
     check "$standard: $name.c" built "$name" "$name" c++ "-std=$standard" -x c++
   done
   for name in refused session_refused; do

@@ -93,6 +93,8 @@ static void call_others(const struct datagram *one, const struct rtnlc_options *
 	sum += rtnlc_find(one->bytes, one->len, 0, 1, limits->big).code;
 	sum += call_stream(one, limits);
 	sum += rtnlc_family_of(16).context + rtnlc_holds(RTNLC_LINK, 18, false).context;
+	sum += rtnlc_type_name(16, (char *)out, ROOM).code;
+	sum += rtnlc_attr_name(RTNLC_LINK, 66, (char *)out, ROOM).code;
 	if (asked)
 		fail("a call that asks for memory", one->number + sum * 0);
 	memset(out, PAINT, ROOM);

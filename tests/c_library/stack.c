@@ -39,6 +39,13 @@ static void call_hop_at(void) { code = rtnlc_hop_at(bytes, len, 0, false).code; 
 static void call_find(void) { code = rtnlc_find(bytes, len, 0, 9999, false).code; }
 static void call_family_of(void) { code = rtnlc_family_of(16).context; }
 static void call_holds(void) { code = rtnlc_holds(RTNLC_LINK, 18, false).sort; }
+static void call_type_name(void) { code = rtnlc_type_name(16, (char *)out, ROOM).code; }
+
+static void call_attr_name(void)
+{
+	code = rtnlc_attr_name(RTNLC_LINK, 66, (char *)out, ROOM).code;
+}
+
 static void call_check(void) { code = rtnlc_check(bytes, len, &widest).code; }
 
 static void call_show(void)
@@ -114,6 +121,8 @@ static struct measured all[] = {
 	{ "find", call_find, 0 },
 	{ "family_of", call_family_of, 0 },
 	{ "holds", call_holds, 0 },
+	{ "type_name", call_type_name, 0 },
+	{ "attr_name", call_attr_name, 0 },
 	{ "check", call_check, 0 },
 	{ "show", call_show, 0 },
 	{ "request", call_request, 0 },

@@ -35,6 +35,10 @@ static void pass_nothing(void)
 	expect("a message of nothing", rtnlc_message_at(NULL, 0, 0, false).code, RTNLC_END);
 	expect("a find in nothing", rtnlc_find(NULL, 0, 0, 3, false).code, RTNLC_END);
 	expect_put("no room", rtnlc_request(16, 0, 1, false, NULL, 0), RTNLC_NO_ROOM, 32);
+	expect_put("no room for a name", rtnlc_type_name(16, NULL, 0), RTNLC_NO_ROOM, 11);
+	expect_put("no name of a type", rtnlc_type_name(23, NULL, 0), RTNLC_END, 0);
+	expect_put("no name of an attribute", rtnlc_attr_name(RTNLC_PLAIN, 1, NULL, 0), RTNLC_END, 0);
+	expect_put("no context", rtnlc_attr_name(9, 1, NULL, 0), RTNLC_END, 0);
 }
 
 static void pass_limits(void)

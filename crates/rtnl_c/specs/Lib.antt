@@ -8,6 +8,7 @@ pub mod Find
 pub mod Numbers
 pub mod Kinds
 pub mod Put
+pub mod Names
 pub mod Requests
 pub mod Fed
 pub mod Status

@@ -6,7 +6,7 @@ pub(crate) const TOO_LARGE: u8 = 6;
 /// A session is made already.
 pub(crate) const BUSY: u8 = 9;
 
-/// A growth was refused.
+/// An allocation was refused.
 pub(crate) const NO_MEMORY: u8 = 13;
 
 /// The buffer has less room than the answer needs.

@@ -10,6 +10,7 @@ mod find;
 mod handle;
 mod kinds;
 mod loose;
+mod names;
 mod numbers;
 mod options;
 mod put;

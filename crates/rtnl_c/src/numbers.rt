@@ -46,7 +46,7 @@ fn number(ctx: Ctx) -> u8
 }
 
 /// The context of a number.
-fn context(number: u8) -> Option<Ctx>
+pub(crate) fn context(number: u8) -> Option<Ctx>
     ensures { result ≡ context_in number }
 {
     match number {

@@ -38,6 +38,19 @@ impl Put {
         Put { len, code: 0 }
     }
 
+    /// Puts bytes at the front of a buffer, and others right behind them, where it has room for all.
+    pub(crate) fn both(front: &[u8], rest: &[u8], out: &mut [u8]) -> Put
+        ensures { IsPut (front.now ++ rest.now) out.old out.new result }
+    {
+        let len = front.len() + rest.len();
+        if out.len() < len {
+            return Put { len, code: NO_ROOM };
+        }
+        lay(front, out);
+        lay(rest, &mut out[front.len()..]);
+        Put { len, code: 0 }
+    }
+
     /// Puts the request of a dump.
     pub(crate) fn request(dump: &Dump, order: Order, out: &mut [u8]) -> Put
         ensures { IsPut (request_of order dump.now) out.old out.new result }
