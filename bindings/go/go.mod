@@ -1,0 +1,3 @@
+module rtnlc
+
+go 1.19

@@ -1,0 +1,75 @@
+"""A proved reader of rtnetlink datagrams (netlink(7), rtnetlink(7)), over the library librtnlc.
+
+A datagram is bytes: what one receive on a netlink socket gave. Nothing here opens a socket.
+
+* Datagram: the messages of a datagram, their attributes, and views of the five families: Link,
+  Address, Route, Neighbour and Rule. Of what breaks a rule it raises an Error, with its place.
+* Session: reads dumps into bounded tables.
+* Stream: reads dumps of any length in constant space. A MessageList keeps what it hands out.
+* scan, tape, check and show: what the library says of a datagram.
+
+The kernel's numbers, as RTM_NEWLINK, are in rtnl.constants.
+"""
+from ._loading import VERSION as __version__
+from ._view import View
+from .address import Address
+from .attributes import Attribute, Attributes, NextHop, NextHops
+from .datagram import Datagram, Event, Scanned, Taped, scan, tape
+from .dump import Dump, State, Status, request
+from .errors import Code, Error, LibraryError
+from .limits import Limits
+from .link import Link
+from .message import Message, Messages
+from .message_list import MessageList
+from .names import attribute_name, type_name
+from .neighbour import Neighbour
+from .route import Route
+from .rule import Rule
+from .session import Fed, Session
+from .stream import Items, Stream
+from .table import Table
+from .text import Checked, check, show
+from .values import HardwareAddress, Prefix
+
+__all__ = [
+    "Address",
+    "Attribute",
+    "Attributes",
+    "Checked",
+    "Code",
+    "Datagram",
+    "Dump",
+    "Error",
+    "Event",
+    "Fed",
+    "HardwareAddress",
+    "Items",
+    "LibraryError",
+    "Limits",
+    "Link",
+    "Message",
+    "MessageList",
+    "Messages",
+    "Neighbour",
+    "NextHop",
+    "NextHops",
+    "Prefix",
+    "Route",
+    "Rule",
+    "Scanned",
+    "Session",
+    "State",
+    "Status",
+    "Stream",
+    "Table",
+    "Taped",
+    "View",
+    "__version__",
+    "attribute_name",
+    "check",
+    "request",
+    "scan",
+    "show",
+    "tape",
+    "type_name",
+]

@@ -1,0 +1,29 @@
+"""Bytes of the caller's, as calls of the library take them, and the numbers of a request."""
+import operator
+from ctypes import byref, c_char
+from typing import Any, Literal, Tuple, Union
+
+Readable = Union[bytes, bytearray, memoryview]
+"""The bytes of a datagram. Of what can't be written to and is not bytes, a copy is read."""
+Indexed = Union[bytes, memoryview]
+Order = Literal["little", "big"]
+"""The order of numbers: their lowest byte first, or their highest."""
+
+
+def readable(data: Readable) -> Tuple[Indexed, Any]:
+    """The bytes, one for each index, and what a call is handed for a pointer to them."""
+    if isinstance(data, bytes):
+        return data, data
+    view = memoryview(data)
+    if view.readonly or not view.c_contiguous or not view.nbytes:
+        copy = bytes(view)
+        return copy, copy
+    view = view.cast("B")
+    return view, byref(c_char.from_buffer(view))
+
+
+def within(bits: int, **numbers: int) -> None:
+    """Raises a ValueError where one of these numbers doesn't fit so many bits."""
+    for name, value in numbers.items():
+        if not 0 <= operator.index(value) < 1 << bits:
+            raise ValueError(f"{name} must be from 0 to {(1 << bits) - 1}, not {value}")

@@ -1,0 +1,159 @@
+"""The structs of rtnlc.h, field by field, under their names there without `rtnlc_`."""
+import struct
+from ctypes import (
+    Structure,
+    c_bool,
+    c_int32,
+    c_size_t,
+    c_uint8,
+    c_uint16,
+    c_uint32,
+    c_uint64,
+    c_void_p,
+)
+
+
+class Options(Structure):
+    """The limits of a call, of a session or of a stream."""
+
+    _fields_ = [
+        ("total", c_uint64),
+        ("datagram", c_uint32),
+        ("entries", c_uint32),
+        ("depth", c_uint8),
+        ("big", c_bool),
+    ]
+
+
+class Scanned(Structure):
+    """What a scan answers."""
+
+    _fields_ = [("visits", c_uint64), ("place", c_uint32), ("code", c_uint8)]
+
+
+class Event(Structure):
+    """A head."""
+
+    _fields_ = [
+        ("place", c_uint32),
+        ("len", c_uint32),
+        ("number", c_uint16),
+        ("level", c_uint8),
+        ("sort", c_uint8),
+        ("nested", c_bool),
+        ("net", c_bool),
+    ]
+
+
+# The same struct, as the module struct reads it out of a tape.
+EVENT = struct.Struct("@IIHBB??2x")
+
+
+class Taped(Structure):
+    """What a tape answers."""
+
+    _fields_ = [("count", c_size_t), ("visits", c_uint64), ("place", c_uint32), ("code", c_uint8)]
+
+
+class Family(Structure):
+    """What the body of a message begins with."""
+
+    _fields_ = [("head_size", c_uint8), ("context", c_uint8)]
+
+
+class Holds(Structure):
+    """What an attribute holds."""
+
+    _fields_ = [("sort", c_uint8), ("context", c_uint8)]
+
+
+class Checked(Structure):
+    """What a check answers."""
+
+    _fields_ = [("place", c_uint32), ("code", c_uint8), ("canonical", c_bool)]
+
+
+class Shown(Structure):
+    """The length of a text."""
+
+    _fields_ = [("len", c_size_t), ("code", c_uint8)]
+
+
+class Put(Structure):
+    """The length of a request, an entry or a key."""
+
+    _fields_ = [("len", c_size_t), ("code", c_uint8)]
+
+
+class Status(Structure):
+    """Where a dump stands."""
+
+    _fields_ = [
+        ("received", c_uint64),
+        ("visits", c_uint64),
+        ("ignored", c_uint64),
+        ("seq", c_uint32),
+        ("port", c_uint32),
+        ("status", c_int32),
+        ("kind", c_uint16),
+        ("family", c_uint8),
+        ("state", c_uint8),
+        ("damaged", c_bool),
+        ("interrupted", c_bool),
+        ("complete", c_bool),
+        ("code", c_uint8),
+    ]
+
+
+class Fed(Structure):
+    """What a datagram was to a dump."""
+
+    _fields_ = [
+        ("events", c_size_t),
+        ("items", c_uint32),
+        ("ignored", c_uint32),
+        ("place", c_uint32),
+        ("ended", c_bool),
+        ("code", c_uint8),
+    ]
+
+
+class Session(Structure):
+    """The handle of a session."""
+
+    _fields_ = [("at", c_void_p)]
+
+
+class Table(Structure):
+    """The size of a table."""
+
+    _fields_ = [("missed", c_uint64), ("count", c_uint32), ("limit", c_uint32), ("code", c_uint8)]
+
+
+class Found(Structure):
+    """The index of an entry."""
+
+    _fields_ = [("index", c_uint32), ("code", c_uint8)]
+
+
+class Stream(Structure):
+    """Where the dumps of a socket stand."""
+
+    _fields_ = [
+        ("total", c_uint64),
+        ("received", c_uint64),
+        ("visits", c_uint64),
+        ("ignored", c_uint64),
+        ("datagram", c_uint32),
+        ("entries", c_uint32),
+        ("seq", c_uint32),
+        ("port", c_uint32),
+        ("status", c_int32),
+        ("kind", c_uint16),
+        ("family", c_uint8),
+        ("state", c_uint8),
+        ("depth", c_uint8),
+        ("big", c_uint8),
+        ("damaged", c_uint8),
+        ("interrupted", c_uint8),
+    ]

@@ -1,3 +1,0 @@
-module links
-
-go 1.18

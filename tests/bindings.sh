@@ -1,0 +1,83 @@
+#!/usr/bin/env bash
+# Installs the library for C under a prefix of its own, and over it builds and tests the packages
+# for Rust, Go and Python, each by its script in tests/bindings/. Then it runs the programs `links`,
+# `routes` and `watch` of each of them and those of examples/c: over a kernel that a test plays, and
+# over the kernel itself where a network namespace can be made. Where RTNLC_PREFIX is set already,
+# the library is the one that is installed there. Packages that are missing are installed where that
+# can be, and what can't run says so and isn't counted. The last line is 'N passed, M failed', and
+# the status is 1 where a case failed.
+set -u
+cd "$(dirname "${BASH_SOURCE[0]}")/.." || exit 1
+top=$PWD
+RTNL=${RTNL:-$(tests/helpers/proved.py)} || exit 1
+export RTNL
+. tests/helpers/cases.sh
+unset DESTDIR libdir
+
+tests/helpers/install_packages.sh cc gcc pkg-config pkg-config cargo cargo go golang-go mypy mypy \
+  ip iproute2 /usr/share/doc/python3-venv python3-venv
+
+if [ -z "${RTNLC_PREFIX-}" ]; then
+  export RTNLC_PREFIX=$folder/prefix
+  # The archive is made over what is proved already; what is installed is that.
+  c/build.sh "$folder/library" && RTNL_BUILD=no ./install --library "$RTNLC_PREFIX" >/dev/null ||
+    exit 1
+fi
+export PKG_CONFIG_PATH=$RTNLC_PREFIX/lib/pkgconfig LD_LIBRARY_PATH=$RTNLC_PREFIX/lib
+flags() { pkg-config "$@" rtnlc; }
+
+# The datagrams in the cases of the program, whole and broken, which each package takes too.
+export RTNL_DATAGRAMS=$folder/program.hex
+grep -ohE '\b[0-9a-f]{8}[0-9a-f ]{24,}' tests/program.sh tests/program/*.sh | tr -d ' ' |
+  awk 'length % 2 == 0' | sort -u >"$RTNL_DATAGRAMS"
+check 'datagrams in the cases of the program' [ "$(wc -l <"$RTNL_DATAGRAMS")" -ge 80 ]
+
+# adds COMMAND..: a script that counts cases. What it says is shown, and its cases are counted here;
+# one that fails otherwise than by a case is one that failed.
+adds() {
+  local status found wrong
+  "$@" >"$folder/said" 2>&1
+  status=$?
+  sed '$d' "$folder/said"
+  read -r found wrong < <(sed -nE '$s/^([0-9]+) passed, ([0-9]+) failed$/\1 \2/p' "$folder/said")
+  [ -n "${found-}" ] || tail -n 1 "$folder/said"
+  [ "$status" = 0 ] || [ "${wrong:-0}" != 0 ] || wrong=1
+  echo "$(basename "$1"): ${found:-0} passed, ${wrong:-0} failed"
+  passed=$((passed + ${found:-0})) failed=$((failed + ${wrong:-0}))
+}
+
+# in_c FOLDER ARGUMENT..: the examples in C, built with these arguments of the compiler.
+in_c() {
+  local name
+  mkdir -p "$1" && for name in links routes watch; do
+    # shellcheck disable=SC2046
+    cc -std=c99 -O2 -Wall -Wextra -pedantic -Werror $(flags --cflags) "examples/c/$name.c" \
+      "${@:2}" -o "$1/$name" || return 1
+  done
+}
+
+languages=()
+# offers NAME FOLDER: the programs of a language, where they were built.
+offers() { [ ! -x "$2/watch" ] || languages+=("$1" "$2/links" "$2/routes" "$2/watch"); }
+
+for name in rust go python; do
+  PROGRAMS=$folder/$name adds "tests/bindings/$name.sh"
+done
+
+check 'the examples in C with librtnlc.a' in_c "$folder/static" "$RTNLC_PREFIX/lib/librtnlc.a"
+offers 'C with librtnlc.a' "$folder/static"
+# shellcheck disable=SC2046
+check 'the examples in C with librtnlc.so' in_c "$folder/shared" $(flags --libs)
+offers 'C with librtnlc.so' "$folder/shared"
+# These two scripts have left their programs, where they could build them.
+has cargo 'the programs in Rust' && check 'the programs in Rust' [ -x "$folder/rust/watch" ]
+offers Rust "$folder/rust"
+has go 'the programs in Go' && check 'the programs in Go' [ -x "$folder/go/watch" ]
+offers Go "$folder/go"
+python="env RTNLC_LIB_DIR=$RTNLC_PREFIX/lib PYTHONPATH=$top/bindings/python/src python3 -B"
+examples=$top/bindings/python/examples
+languages+=(Python "$python $examples/links.py" "$python $examples/routes.py"
+  "$python $examples/watch.py")
+adds tests/bindings/live.py "${languages[@]}"
+
+finish

@@ -1,0 +1,120 @@
+#!/usr/bin/env bash
+# Builds and tests the package for Go, in bindings/go, offline and in a copy of that folder alone,
+# over the library that is installed under RTNLC_PREFIX: its tests and the examples of its pages,
+# as they are, under the race detector and with each check of cgo; a program of another module that
+# uses it; and what is said where the library is missing or is of another version. Its example
+# programs are left in the folder that PROGRAMS names, for tests/bindings.sh, which runs them. The
+# answers are compared with those of the program that RTNL names, or of the proved one. Packages
+# that are missing are installed where that can be. The last line is 'N passed, M failed', and the
+# status is 1 where a case failed.
+set -u
+cd "$(dirname "${BASH_SOURCE[0]}")/../.." || exit 1
+top=$PWD
+: "${RTNLC_PREFIX:?names the folder under which the library is installed}"
+RTNL=${RTNL:-$(tests/helpers/proved.py)} || exit 1
+. tests/helpers/cases.sh
+
+tests/helpers/install_packages.sh cc gcc pkg-config pkg-config go golang-go
+if ! has go 'the package for Go' || ! has pkg-config 'the package for Go'; then
+  finish
+  exit
+fi
+
+export PKG_CONFIG_PATH=$RTNLC_PREFIX/lib/pkgconfig LD_LIBRARY_PATH=$RTNLC_PREFIX/lib
+export GOFLAGS='' GOPROXY=off GOTOOLCHAIN=local GOWORK=off GOCACHE=${GOCACHE:-$folder/cache}
+export RTNL RTNLC_REPOSITORY=$top
+package=$folder/go
+programs=${PROGRAMS:-$folder/programs}
+cp -r bindings/go "$package"
+
+# in_package COMMAND..: in the copy; what it prints is shown where it fails.
+in_package() { (cd "$package" && "$@") >"$folder/output" 2>&1 || ! tail -n 40 "$folder/output"; }
+
+# prints_nothing COMMAND..: in the copy.
+prints_nothing() { in_package "$@" && [ ! -s "$folder/output" ] || ! cat "$folder/output"; }
+
+# has_race: the race detector comes with this Go.
+has_race() {
+  [ -e "$folder/nothing.go" ] || echo 'package main; func main() {}' >"$folder/nothing.go"
+  go build -race -o "$folder/nothing" "$folder/nothing.go" 2>"$folder/output"
+}
+
+# tested NAME ARGUMENT..: the tests with these arguments of go test; each test is a case.
+tested() {
+  local name=$1 line found=0
+  shift
+  (cd "$package" && go test -count=1 -v "$@" ./...) >"$folder/tests" 2>&1
+  local status=$?
+  while read -r _ line _ _; do
+    check "$name: $line" grep -q "^--- PASS: $line " "$folder/tests"
+    found=$((found + 1))
+  done < <(sed -nE 's/^=== RUN +([A-Za-z0-9_]+)$/run \1 -/p' "$folder/tests")
+  check "$name" test "$status" = 0 -a "$found" -gt 40
+  grep -q '^--- SKIP' "$folder/tests" && check "$name: none is skipped" false
+  [ "$status" = 0 ] || grep -vE '^(=== RUN|--- PASS|ok )' "$folder/tests" | tail -n 40
+}
+
+# uses_it: a program of another module, which says where the package is.
+uses_it() {
+  mkdir "$folder/user" &&
+    printf '%s\n' 'module user' '' 'go 1.19' '' 'require rtnlc v0.3.0' '' \
+      "replace rtnlc => $package" >"$folder/user/go.mod" &&
+    printf '%s\n' 'package main' '' 'import (' '	"fmt"' '' '	"rtnlc"' ')' '' 'func main() {' \
+      '	messages, err := rtnlc.Parse(make([]byte, 15))' '	fmt.Println(len(messages), err)' '}' \
+      >"$folder/user/main.go" &&
+    [ "$(cd "$folder/user" && go run . 2>&1)" = '0 rtnlc: cut at 0' ]
+}
+
+# says_version: over a library of another version a program says which one is here.
+says_version() {
+  mkdir "$folder/other" && grep -oE '\brtnlc_[a-z_]+\(' include/rtnlc.h | tr -d '(' | sort -u |
+    sed 's/.*/const char *&(void) { return "0.4.1"; }/' >"$folder/other.c" &&
+    echo 'RTNLC_0.3 { global: rtnlc_*; };' >"$folder/other.map" &&
+    cc -shared -fPIC -Wl,-soname,librtnlc.so.0 -Wl,--version-script="$folder/other.map" \
+      -o "$folder/other/librtnlc.so.0" "$folder/other.c" &&
+    ! LD_LIBRARY_PATH=$folder/other "$programs/links" 2>"$folder/output" &&
+    grep -q 'librtnlc 0.4.1 is here, and this package needs 0.3: install that' "$folder/output"
+}
+
+# says_missing: without the library, the build of another copy says what it looked for.
+says_missing() {
+  cp -r bindings/go "$folder/copy" &&
+    ! (cd "$folder/copy" && PKG_CONFIG_PATH='' go build . >"$folder/output" 2>&1) &&
+    grep -q 'Package rtnlc was not found' "$folder/output"
+}
+
+# has_version: the versions of the package, of the changes and of the library are one.
+has_version() {
+  local version
+  version=$(pkg-config --modversion rtnlc) &&
+    grep -qx "const Version = \"$version\"" bindings/go/library.go &&
+    [ "$(sed -n 's/^## //p' bindings/go/CHANGELOG.md | head -n 1)" = "$version" ]
+}
+
+# is_short LINES FILE..: each file has at most so many lines.
+is_short() {
+  local file
+  for file in "${@:2}"; do [ "$(wc -l <"$file")" -le "$1" ] || return 1; done
+}
+
+check 'gofmt' prints_nothing gofmt -l .
+check 'go vet' prints_nothing go vet ./...
+check 'go build' prints_nothing go build ./...
+mkdir -p "$programs"
+check 'the example programs' in_package go build -o "$programs/" ./examples/{links,routes,watch}
+check 'the example programs are short' \
+  is_short 60 bindings/go/examples/{links,routes,watch}/main.go
+check 'what they share is short' is_short 120 bindings/go/examples/source/source.go
+tested 'go test'
+GODEBUG=cgocheck=2 tested 'go test with cgocheck=2'
+has_race || tests/helpers/install_packages.sh "$(go env GOROOT)/src/runtime/race" golang-src
+if has_race; then
+  tested 'go test -race' -race
+else
+  echo 'skipped: go test -race, since this Go has no race detector'
+fi
+check 'a program of another module' uses_it
+check 'a library of another version' says_version
+check 'no library' says_missing
+check 'its version' has_version
+finish
