@@ -41,7 +41,7 @@ GLOSSARY = "words"
 # Pages whose blocks of code are compared, and where the code of a block stands.
 SHOWING = [README, LIBRARIES, C]
 SHOWN = {
-    "c": "examples/c/", "go": "examples/go/", "python": "examples/python/",
+    "c": "examples/c/", "go": "bindings/go/", "python": "bindings/python/",
     "rust": "crates/rtnl_uses/src/",
 }
 CODE = (".rt", ".antt", ".c", ".h", ".go", ".py", ".rs")
@@ -88,8 +88,10 @@ class Repository(NamedTuple):
         return sorted(it for it in self.texts if it.endswith(".md"))
 
     def using(self) -> List[str]:
-        """The pages that link words to the glossary. Packages have CHANGELOG.md as a plain text."""
-        return [it for it in self.pages() if it not in (FORMAT, CHANGELOG)]
+        """The pages that link words to the glossary. Packages have CHANGELOG.md as a plain text, and
+        those of languages have pages that stand alone."""
+        others = (it for it in self.pages() if not it.startswith("bindings/"))
+        return [it for it in others if it not in (FORMAT, CHANGELOG)]
 
     def promising(self) -> List[str]:
         """The crates with definitions of their own, on each of which there are claims."""
@@ -100,7 +102,7 @@ def read_repository() -> Repository:
     files: Set[str] = set()
     texts: Texts = {}
     for at, folders, names in os.walk(ROOT):
-        folders[:] = [it for it in folders if it not in ("out", ".git")]
+        folders[:] = [it for it in folders if it not in ("out", "target", ".git")]
         inside = os.path.relpath(at, ROOT)
         files.add(inside)
         for name in names:
@@ -311,7 +313,7 @@ def sources(repository: Repository, sort: str) -> Iterator[str]:
     for path, text in repository.texts.items():
         if path.startswith(SHOWN[sort]):
             yield CONTRACT.sub(" {", text) if path.endswith(".rt") else text
-        elif sort == "rust" and path.startswith("examples/rust/"):
+        elif sort == "rust" and path.startswith("bindings/rust/rtnl/examples/"):
             yield text
 
 
@@ -539,14 +541,14 @@ FAULTS: Dict[Check, List[Fault]] = {
               "count += 1;", "count += 2;"),
         Fault("a contract that is shown", LIBRARIES, LIBRARIES, "Result<usize, Fault> {\n",
               "Result<usize, Fault>\n    requires { length region.now ≤ LONGEST_REGION }\n{\n"),
-        Fault("another line of C", C, "examples/c/notifications.c", "fflush(stdout);",
-              "fflush(stderr);"),
-        Fault("another line of Go", LIBRARIES, "examples/go/links.go", "#cgo pkg-config: rtnlc",
-              "#cgo LDFLAGS: -lrtnlc"),
-        Fault("another line of Python", LIBRARIES, "examples/python/links.py",
-              "restype = Taped", "restype = Event"),
-        Fault("another line of Rust", LIBRARIES, "examples/rust/links.rs", "*const Options",
-              "*mut Options"),
+         Fault("another line of C", C, "examples/c/watch.c", "source_next(&source, true)",
+               "source_next(&source, false)"),
+         Fault("another line of Go", LIBRARIES, "bindings/go/examples/links/main.go", "link.MTU()",
+               "link.Index()"),
+         Fault("another line of Python", LIBRARIES, "bindings/python/examples/links.py",
+               "link.mtu", "link.index"),
+         Fault("another line of Rust", LIBRARIES, "bindings/rust/rtnl/examples/links.rs",
+               "Message::link", "Message::route"),
         Fault("a page without Rattle", LIBRARIES, LIBRARIES, "```rust\n", "```text\n"),
         Fault("a page without C", C, C, "```c\n", "```text\n"),
     ],
