@@ -5,6 +5,7 @@ import os
 import re
 import struct
 import subprocess
+from itertools import islice
 
 import proved
 from proved import ROOT
@@ -106,23 +107,20 @@ class FaultyDump(Faulty):
     ended are each written by a call. The entries are those of `table`."""
 
     def __init__(self, library):
-        self.library, self.form = library, []
+        self.library = library
         with open(f"{ROOT}/examples/{DUMP}.hex", encoding="ascii") as lines:
             self.recording = lines.read()
-        datagrams = [bytes.fromhex(it) for it in self.recording.split("\n") if it[:1] not in "#"]
+        datagrams = [bytes.fromhex(it) for it in self.recording.splitlines() if it[0] != "#"]
         _, self.kind, _, seq, port = HEADER.unpack_from(datagrams[0])
         self.form = ["--kind", "route", "--seq", str(seq), "--port", str(port)]
-        front, *entries = ENTRY.split(self.ran("table")[1])
-        last, end = re.split("^(?=end )", entries[-1], flags=re.M)
+        whole, end = re.split("^(?=end )", self.ran("table")[1], flags=re.M)
+        front, *entries = ENTRY.split(whole)
         counts = [self.items(it) for it in datagrams]
-        self.texts = [front]
-        for count in counts:
-            self.texts.append("".join([*entries[:-1], last][:count]))
-            del entries[:count]
-        self.texts.append(end)
-        # What ends the dump has no entry, and an empty text is not written.
-        self.texts = [it for it in self.texts if it]
-        self.wrong = [] if sum(counts) > 1 else ["no entries"]
+        self.wrong = [] if 1 < sum(counts) == len(entries) else ["other entries"]
+        left = iter(entries)
+        by_datagram = ["".join(islice(left, count)) for count in counts]
+        # A datagram without an entry, as that of the end, has no text, and none is written.
+        self.texts = [it for it in (front, *by_datagram, end) if it]
 
     def items(self, datagram):
         """How many messages of a datagram are of the dump's type."""
