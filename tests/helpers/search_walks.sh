@@ -101,7 +101,8 @@ same 'heads are read by the walkers, by a scan at one place for each sort of hea
   "$(counts '\b(head_len|kind_at|span_at)\(')" \
   'crates/nl_attr/src/broken.rt 1
 crates/nl_attr/src/taping/fronts.rt 3
-crates/nl_attr/src/taping/steps.rt 2
+crates/nl_attr/src/taping/leaves.rt 1
+crates/nl_attr/src/taping/steps.rt 1
 crates/nl_attr/src/walk/attrs.rt 3
 crates/nl_attr/src/walk/hops.rt 2
 crates/nl_attr/src/walk/mod.rt 3'
@@ -118,16 +119,19 @@ same 'a message is taken from the front once by a reading, a scan and a cursor' 
 crates/nl_frame/src/reading.rt 1
 crates/nl_frame/src/taping.rt 1'
 
-same 'a scan is one loop over heads and one over messages' \
+same 'a scan is a loop over heads that hold bytes, one over heads that hold others, and one over messages' \
   "$(lines '\b(loop|while|for)\b[^<]*\{$' "${scan[@]}" crates/nl_frame/src/scanning.rt "$taping" |
     sed 's/^[^:]*: *//')" \
-  "'heads: loop {
+  "'leaves: loop {
+'heads: loop {
 'messages: while !left.is_empty() {"
 
 same 'a region is scanned by the calls that are made for it and once by the scan of a message, and in no reading' \
-  "$(counts '\b(scan_list_ordered|tape_list|tape_region)\b.*\(')" \
+  "$(counts '\b(scan_list_ordered|tape_(list|attrs|region|leaves|like)|step_(attrs|container|hop))\b.*\(')" \
   'crates/nl_attr/src/scanning.rt 2
-crates/nl_attr/src/taping/mod.rt 3
+crates/nl_attr/src/taping/leaves.rt 5
+crates/nl_attr/src/taping/mod.rt 5
+crates/nl_attr/src/taping/steps.rt 7
 crates/nl_frame/src/taping.rt 1'
 
 same 'a datagram is scanned by the calls that are made for it, and in no reading' \
@@ -140,7 +144,7 @@ crates/rtnl_c/src/scan.rt 2'
 
 same 'a scan of a datagram adds the visits of each message, and nothing else' \
   "$(lines '\bvisits [-+*]?=' "$taping" | sed 's/^[^:]*: *//')" 'let mut visits = 0u64;
-visits += taped.visits;'
+visits += counts.visits;'
 
 same 'the item at a place is sought by those who ask for one, and in no walk' \
   "$(counts '\b(attr_at|hop_at|message_at)\(')" \

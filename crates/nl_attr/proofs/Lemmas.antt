@@ -25,5 +25,6 @@ pub mod Comparing
 pub mod Fronts
 pub mod Putting
 pub mod Taping
+pub mod Leaves
 pub mod Scanned
 pub mod Listed

@@ -4,6 +4,7 @@
 ghost use Rattle.std.specs.Prelude.{◌≡◌, ◌≤◌, ◌+◌, ◌*◌, length, None, IfSome};
 ghost use Rattle.nl_attr.specs.Fixed as fixed;
 ghost use Rattle.nl_attr.specs.Shape.{shape_of};
+ghost use Rattle.nl_attr.specs.Taped.{found};
 ghost use Rattle.nl_route.specs.Families.{head_size};
 ghost use Rattle.nl_frame.specs.Broken.{IsBrokenHead, IsBrokenIn};
 ghost use Rattle.nl_frame.specs.Form.{least_body};
@@ -14,7 +15,7 @@ ghost use Rattle.nl_frame.specs.HeadOrder.{header_event, region_trail, trail_of}
 use crate::broken::header_at_fault;
 use crate::form::Form;
 use crate::front::{Frame, front};
-use nl_attr::{Depth, Event, OpenRegions, Order, SORT_MESSAGE, Taped, tape_list};
+use nl_attr::{Counts, Depth, Event, OpenRegions, Order, SORT_MESSAGE, Taped, tape_attrs};
 use nl_route::Family;
 
 /// The event of a message's header.
@@ -46,14 +47,16 @@ fn tape_object<'a>(
     order: Order,
     out: &mut [Event],
     count: usize,
-) -> Taped
+) -> Counts
+    requires none { regions.old.broken ≡ None }
     requires least { head_size family ≤ length payload.now }
     requires size { length payload.now ≤ fixed.LONGEST_REGION }
     requires place { place + length payload.now ≤ fixed.FARTHEST_END }
     requires count { count ≤ 4294967296 }
     ensures taped { IsTaped (shape_of order depth) (region_trail (shape_of order depth)
-        (region_in (Form.Object family) place payload.now)) count out.old out.new result }
-    ensures head { IfSome result.broken (IsBrokenIn (shape_of order depth)
+        (region_in (Form.Object family) place payload.now)) count out.old out.new
+        (found regions.new.broken result) }
+    ensures head { IfSome regions.new.broken (IsBrokenIn (shape_of order depth)
         (region_in (Form.Object family) place payload.now)) }
     ensures bound { result.visits ≤ (depth + 1) * length payload.now }
     ensures count { result.count ≤ count + result.visits }
@@ -61,7 +64,7 @@ fn tape_object<'a>(
     let row = family.row();
     let bytes = &payload[row.head_size..];
     let base = place + row.head_size as u32;
-    tape_list(
+    tape_attrs(
         regions,
         bytes,
         base,
@@ -85,14 +88,16 @@ fn tape_body<'a>(
     order: Order,
     out: &mut [Event],
     count: usize,
-) -> Taped
+) -> Counts
+    requires none { regions.old.broken ≡ None }
     requires least { least_body form ≤ length payload.now }
     requires size { length payload.now ≤ fixed.LONGEST_REGION }
     requires place { place + length payload.now ≤ fixed.FARTHEST_END }
     requires count { count ≤ 4294967296 }
     ensures taped { IsTaped (shape_of order depth) (region_trail (shape_of order depth)
-        (region_in form place payload.now)) count out.old out.new result }
-    ensures head { IfSome result.broken (IsBrokenIn (shape_of order depth)
+        (region_in form place payload.now)) count out.old out.new
+        (found regions.new.broken result) }
+    ensures head { IfSome regions.new.broken (IsBrokenIn (shape_of order depth)
         (region_in form place payload.now)) }
     ensures bound { result.visits ≤ (depth + 1) * length payload.now }
     ensures count { result.count ≤ count + result.visits }
@@ -101,8 +106,7 @@ fn tape_body<'a>(
         Form::Object(family) => {
             tape_object(regions, payload, family, place, depth, order, out, count)
         }
-        Form::Noop | Form::Error | Form::Done | Form::Overrun | Form::Get | Form::Other => Taped {
-            broken: None,
+        Form::Noop | Form::Error | Form::Done | Form::Overrun | Form::Get | Form::Other => Counts {
             count,
             visits: 0,
         },
@@ -119,14 +123,15 @@ fn tape_frame<'a>(
     order: Order,
     out: &mut [Event],
     count: usize,
-) -> Taped
+) -> Counts
+    requires none { regions.old.broken ≡ None }
     requires least { least_body frame.now.form ≤ length frame.now.payload.now }
     requires size { length frame.now.payload.now ≤ fixed.LONGEST_REGION }
     requires place { place + 16 + length frame.now.payload.now ≤ fixed.FARTHEST_END }
     requires count { count + 1 ≤ 4294967296 }
     ensures taped { IsFrameTaped (shape_of order depth) frame.now place count
-        out.old out.new result }
-    ensures head { IfSome result.broken (IsBrokenIn (shape_of order depth)
+        out.old out.new (found regions.new.broken result) }
+    ensures head { IfSome regions.new.broken (IsBrokenIn (shape_of order depth)
         (region_in frame.now.form (place + 16) frame.now.payload.now)) }
     ensures bound { result.visits ≤ (depth + 1) * length frame.now.payload.now }
     ensures count { result.count ≤ count + 1 + result.visits }
@@ -172,10 +177,10 @@ fn tape_ordered(bytes: &[u8], depth: Depth, order: Order, out: &mut [Event]) -> 
                 };
             }
         };
-        let taped = tape_frame(&mut regions, &frame, place, depth, order, out, count);
-        count = taped.count;
-        visits += taped.visits;
-        if let Some(head) = taped.broken {
+        let counts = tape_frame(&mut regions, &frame, place, depth, order, out, count);
+        count = counts.count;
+        visits += counts.visits;
+        if let Some(head) = regions.broken {
             return Taped {
                 broken: Some(head),
                 count,

@@ -1,28 +1,29 @@
 -- What stands at the front of a region, part by part, and the step past it.
-use Rattle.std.proofs.Common.{◌≡◌, ℕ, zero, suc, ◌+◌, ◌-◌, ◌%◌, false, List, [], ◌∷◌, take, drop, length, slice_set, Option, Some, None, refl, sym, ap, subst, ◌∙◌, arith, length-drop}
+use Rattle.std.proofs.Common.{◌≡◌, ℕ, ◌+◌, ◌-◌, ◌%◌, Bool, true, false, cond, nat_eq, unwrap_or, List, [], ◌∷◌, take, drop, length, slice_set, Option, Some, None, refl, sym, ap, subst, ◌∙◌, arith, length-drop}
 use Rattle.std.proofs.lemmas.List.{take_all}
 use Rattle.nl_attr.specs.declared.fault.Reason.{Reason}
 use Rattle.nl_attr.specs.declared.order.Order.{Order}
-use Rattle.nl_attr.specs.declared.taping.Taped.{Taped}
+use Rattle.nl_attr.specs.declared.taping.Counts.{Counts}
 use Rattle.nl_attr.specs.declared.tree.AttrFlags.{AttrFlags}
 use Rattle.nl_attr.specs.declared.tree.Ctx.{Ctx}
-use Rattle.nl_attr.specs.declared.tree.Ctx.TheVariants.{Route}
+use Rattle.nl_attr.specs.declared.tree.Ctx.TheVariants.{Link, LinkInfo, Route, Metrics, Plain}
 use Rattle.nl_attr.specs.declared.tree.Content.{Content}
 use Rattle.nl_attr.specs.declared.tree.Content.TheVariants as content
+use Rattle.nl_attr.specs.declared.region.OpenRegion.{OpenRegion}
 use Rattle.nl_attr.specs.declared.region.Parts.{Parts}
 use Rattle.nl_attr.specs.declared.region.Parts.TheVariants.{Attrs, Hops}
 use Rattle.nl_attr.specs.declared.events.Event.{Event}
 use Rattle.nl_attr.specs.Fixed.{SORT_BYTES, SORT_NEXT_HOP}
 use Rattle.nl_attr.specs.Shape.{Shape}
 use Rattle.nl_attr.specs.Numbers.{kind_of, len_of}
-use Rattle.nl_attr.specs.Tree.{holds_of}
+use Rattle.nl_attr.specs.Tree.{holds_of, named}
 use Rattle.nl_attr.specs.Walk.{broken_length, flags_of, payload_of}
 use Rattle.nl_attr.specs.Grammar.{unless}
-use Rattle.nl_attr.specs.Heads.{Head, content_at, broken, broken_container, inner_in, inner_of, span_at, start_of, heads}
-use Rattle.nl_attr.specs.Region.{content_in, ctx_in, sort_in}
+use Rattle.nl_attr.specs.Heads.{Head, content_at, broken, broken_container, inner_in, inner_of, or_else, span_at, start_of, heads}
+use Rattle.nl_attr.specs.Region.{content_in, ctx_in, head_of, sort_in}
 use Rattle.nl_attr.specs.Taped.{Adds, hops_start}
 use Rattle.nl_attr.specs.HeadOrder.{event_of, sort_of, counted}
-use Rattle.nl_attr.proofs.Lemmas.Putting.{put_one}
+use Rattle.nl_attr.proofs.Lemmas.Putting.{put_none, put_one}
 
 -- the event of an attribute, as of one that holds bytes
 pub bytes_event_so : (o : Order) (ctx : Ctx) (l place : ℕ) (left : List ℕ) (len kind : ℕ) (flags : AttrFlags) → len ≡ length (payload_of o 4 2 left) → kind ≡ kind_of o left → flags ≡ flags_of kind
@@ -41,11 +42,25 @@ event_so o ctx l place left e content sort a b c = rw (a, c, b) refl
 pub bytes_event : (o : Order) (ctx : Ctx) (l place : ℕ) (left : List ℕ) → content_at o ctx left ≡ content.Bytes → ◌≡◌ {A = Event} (record (event_of o (start_of ctx l place left)) { sort = SORT_BYTES }) (event_of o (start_of ctx l place left))
 bytes_event o ctx l place left e = ap (λ (k : Content). record (event_of o (start_of ctx l place left)) { sort = sort_of k }) (sym e)
 
--- an event that is put in the place of another
-pub put_again : (xs : List Event) (n : ℕ) (a b : Event) → slice_set (slice_set xs n a) n b ≡ slice_set xs n b
-put_again [] n a b = refl
-put_again (x ∷ xs) zero a b = refl
-put_again (x ∷ xs) (suc n) a b = ap (λ (ys : List Event). x ∷ ys) (put_again xs n a b)
+-- and isn't nested
+named_container : (c : Ctx) (n : ℕ) → named c n ≡ Some content.Bytes → ⊥
+named_container Link n e = one (nat_eq n 18) e where
+  one : (b : Bool) → cond b (Some (content.List LinkInfo)) None ≡ Some content.Bytes → ⊥
+  one true e = absurd cc
+  one false e = absurd cc
+named_container Route n e = two (nat_eq n 9) (nat_eq n 8) e where
+  two : (a b : Bool) → cond a (Some content.Hops) (cond b (Some (content.List Metrics)) None) ≡ Some content.Bytes → ⊥
+  two true b e = absurd cc
+  two false true e = absurd cc
+  two false false e = absurd cc
+named_container c n e = absurd cc
+
+pub not_nested : (c : Ctx) (n : ℕ) (flags : AttrFlags) → holds_of c n flags ≡ content.Bytes → flags.nested ≡ false
+not_nested c n flags e = plain (named c n) flags.nested (named_container c n) e where
+  plain : (o : Option Content) (b : Bool) → (o ≡ Some content.Bytes → ⊥) → unwrap_or o (cond b (content.List Plain) content.Bytes) ≡ content.Bytes → b ≡ false
+  plain (Some x) b never e = absurd (never (ap Some e))
+  plain None true never e = absurd cc
+  plain None false never e = refl
 
 -- what is left behind an item
 left_so : (left : List ℕ) (n m : ℕ) → n ≡ m → take (length left - n) (drop n left) ≡ drop m left
@@ -68,16 +83,34 @@ hop_attrs_so l place payload body e = ap (λ (xs : List ℕ). start_of Route (l 
 pub hop_rest_so : (l place : ℕ) (left : List ℕ) (n m : ℕ) → n ≡ m → hops_start l (place + n) (take (length left - n) (drop n left)) ≡ hops_start l (place + m) (drop m left)
 hop_rest_so l place left n m e = ap (λ (xs : List ℕ). hops_start l (place + n) xs) (left_so left n m e) ∙ ap (λ (k : ℕ). hops_start l (place + k) (drop m left)) e
 
+-- ---- the head at the front of a region
+
+pub attrs_head : (r : OpenRegion) (c : Ctx) → r.parts ≡ Attrs c → start_of c r.level r.place r.left.now ≡ head_of r
+attrs_head r c e = ap (λ (p : Parts). record { place = r.place; sort = sort_in p; ctx = ctx_in p; level = r.level; left = r.left.now }) (sym e)
+
+pub hops_head : (r : OpenRegion) → r.parts ≡ Hops → hops_start r.level r.place r.left.now ≡ head_of r
+hops_head r e = ap (λ (p : Parts). record { place = r.place; sort = sort_in p; ctx = ctx_in p; level = r.level; left = r.left.now }) (sym e)
+
 -- ---- steps
 
 module _ (S : Shape) where
+  -- none is added
+  pub adds_none : (counts : Counts) (out : List Event) → Adds S [] counts counts out out
+  adds_none counts out = record { count = omega arith; visits = omega arith; events = sym (put_none counts.count out) }
+
+  -- an attribute whose length breaks a rule
+  pub attr_unsound : (ctx : Ctx) (l place : ℕ) (left : List ℕ) (r : Reason) (counts : Counts) (out : List Event) → broken_length S.order 4 2 left ≡ Some r → (broken S (start_of ctx l place left) ≡ Some r) × Adds S (counted S (start_of ctx l place left)) counts counts out out
+  attr_unsound ctx l place left r counts out e = (
+    ap (λ (o : Option Reason). or_else o (broken_container S l (content_at S.order ctx left) (len_of S.order 2 left))) e,
+    subst (λ (hs : List Head). Adds S hs counts counts out out) (ap (λ (o : Option Reason). unless o (start_of ctx l place left)) (sym e)) (adds_none counts out),
+  )
+
   -- a head that is added
-  pub added : (h : Head) (before after : Taped) (old new : List Event) (e : Event) (span : ℕ) → e ≡ event_of S.order h → span ≡ span_at S h → new ≡ slice_set old before.count e → after ≡ record before { count = before.count + 1; visits = before.visits + span } → Adds S (h ∷ []) before after old new
+  pub added : (h : Head) (before after : Counts) (old new : List Event) (e : Event) (span : ℕ) → e ≡ event_of S.order h → span ≡ span_at S h → new ≡ slice_set old before.count e → after ≡ record { count = before.count + 1; visits = before.visits + span } → Adds S (h ∷ []) before after old new
   unfolding heads
   added h before after old new e span is s out counts = record {
-    broken = ap (λ (t : Taped). t.broken) counts;
-    count = ap (λ (t : Taped). t.count) counts;
-    visits = omega (arith, ap (λ (t : Taped). t.visits) counts, s);
+    count = ap (λ (t : Counts). t.count) counts;
+    visits = omega (arith, ap (λ (t : Counts). t.visits) counts, s);
     events = out ∙ ap (λ (x : Event). slice_set old before.count x) is ∙ sym (put_one before.count (event_of S.order h) old);
   }
 
@@ -87,7 +120,7 @@ module _ (S : Shape) where
     attr_breaks = rw (sound, holds, is) refl
 
     -- it breaks one, and is added
-    pub attr_fails : (r : Reason) (before after : Taped) (old new : List Event) → broken_container S l held len ≡ Some r → Adds S (start_of ctx l place left ∷ []) before after old new → (broken S (start_of ctx l place left) ≡ Some r) × Adds S (counted S (start_of ctx l place left)) before after old new
+    pub attr_fails : (r : Reason) (before after : Counts) (old new : List Event) → broken_container S l held len ≡ Some r → Adds S (start_of ctx l place left ∷ []) before after old new → (broken S (start_of ctx l place left) ≡ Some r) × Adds S (counted S (start_of ctx l place left)) before after old new
     attr_fails r before after old new e a = (attr_breaks ∙ e, subst (λ (hs : List Head). Adds S hs before after old new) (ap (λ (o : Option Reason). unless o (start_of ctx l place left)) (sym sound)) a)
 
     -- it breaks none

@@ -1,5 +1,5 @@
 -- The loop over a stack of open regions.
-use Rattle.std.proofs.Common.{◌≡◌, ◌≢◌, ℕ, suc, ◌+◌, ◌-◌, ◌*◌, ◌≤◌, ◌<◌, true, false, List, [], ◌∷◌, ◌++◌, length, drop, map, Option, Some, None, refl, sym, ap, subst, ◌∙◌, arith, length-append, eqb, IfSome}
+use Rattle.std.proofs.Common.{◌≡◌, ◌≢◌, ℕ, suc, ◌+◌, ◌-◌, ◌*◌, ◌≤◌, ◌<◌, true, false, List, [], ◌∷◌, ◌++◌, length, drop, map, Option, Some, None, refl, sym, ap, subst, ◌∙◌, arith, length-append, eqb}
 use Rattle.std.proofs.lemmas.Bool.{eqb-true}
 use Rattle.std.specs.List.{All}
 use Rattle.std.proofs.lemmas.List.Elements.{All-head, All-tail}
@@ -8,14 +8,21 @@ use Rattle.nl_attr.specs.Fixed.{FARTHEST_END, LONGEST_REGION, MOST_VISITS}
 use Rattle.nl_attr.specs.declared.fault.Reason.{Reason}
 use Rattle.nl_attr.specs.declared.events.Event.{Event}
 use Rattle.nl_attr.specs.declared.broken.BrokenHead.{BrokenHead}
+use Rattle.nl_attr.specs.declared.taping.Counts.{Counts}
 use Rattle.nl_attr.specs.declared.taping.Taped.{Taped}
+use Rattle.nl_attr.specs.declared.region.OpenRegion.{OpenRegion}
+use Rattle.nl_attr.specs.declared.taping.steps.Advance.{Advance}
+use Rattle.nl_attr.specs.declared.taping.steps.Lead.{Lead}
+use Rattle.nl_attr.specs.declared.taping.steps.Lead.TheVariants as lead
 use Rattle.nl_attr.specs.declared.tree.Ctx.{Ctx}
 use Rattle.nl_attr.specs.Shape.{Shape}
-use Rattle.nl_attr.specs.Broken.{IsBrokenHead, facts_of, fault_in}
+use Rattle.nl_attr.specs.Numbers.{span_of}
+use Rattle.nl_attr.specs.Broken.{facts_of}
 use Rattle.nl_attr.specs.Grammar.{and_on, first}
 use Rattle.nl_attr.specs.Heads.{Sort, attr_head, Head, HeadAt, IsSound, broken, follower, inner_of, start_of, heads}
 use Rattle.nl_attr.specs.HeadOrder.{Trail, counted, trail_of, event_of, put_from, visits_of, fault_of}
-use Rattle.nl_attr.specs.Taped.{Adds, IsTaped}
+use Rattle.nl_attr.specs.Region.{head_of}
+use Rattle.nl_attr.specs.Taped.{Adds, IsTaped, LeadsTo, Passes, Steps, found}
 use Rattle.nl_attr.proofs.Lemmas.Grammars.{front, front_on, front_front, weigh-append, behind_then, inside_then, each, trail_ends, trail_stops, trail_goes}
 use Rattle.nl_attr.proofs.Lemmas.Scan.{IsLow, sound_of, inner_is, inner_fills, fills, laws}
 use Rattle.nl_attr.proofs.Lemmas.First.{walk_low}
@@ -39,6 +46,30 @@ module _ (S : Shape) where
   resume_fault : (fs : List Head) (hs : List Head) (f : ℕ × Reason) → resume fs (hs, Some f) ≡ (hs, Some f)
   resume_fault [] hs f = refl
   resume_fault (g ∷ fs) hs f = ap (λ (x : Trail). and_on x (trail_of S g)) (resume_fault fs hs f)
+
+  -- ---- heads that are passed
+
+  passes_trail : (h : Head) (hs : List Head) (g : Head) → Passes S h hs g → trail_of S h ≡ front hs (trail_of S g)
+  unfolding heads
+  passes_trail h [] g p = ap (trail_of S) p
+  passes_trail h (k ∷ ks) g p =
+      trail_goes (heads S) (laws S) h None p.1 p.2 p.3 ∙ ap (front (h ∷ [])) (passes_trail (follower S h) ks g p.4) ∙ front_front (h ∷ []) ks (trail_of S g)
+      ∙ ap (λ (x : Head). front (x ∷ ks) (trail_of S g)) (sym p.0)
+
+  -- one more
+  pub passes_push : (h : Head) (hs : List Head) (g : Head) → Passes S h hs g → g.left ≢ [] → broken S g ≡ None → inner_of S g ≡ None → Passes S h (hs ++ g ∷ []) (follower S g)
+  passes_push h [] g p some b i = subst (λ (x : Head). Passes S x (g ∷ []) (follower S g)) (sym p) (refl, some, b, i, refl)
+  passes_push h (k ∷ ks) g p some b i = (p.0, p.1, p.2, p.3, passes_push (follower S h) ks g p.4 some b i)
+
+  -- they occupy what is less behind them, and each four bytes at least
+  pub passes_sum : (h : Head) (hs : List Head) (g : Head) → Passes S h hs g → (visits_of S hs + length g.left ≡ length h.left) × (4 * length hs ≤ visits_of S hs)
+  unfolding heads
+  passes_sum h [] g p = (omega (arith, ap (λ (x : Head). length x.left) p), omega arith)
+  passes_sum h (k ∷ ks) g p =
+      let f = fills S h (sound_of S h p.2) in
+      let r = passes_sum (follower S h) ks g p.4 in
+      let same = ap (λ (x : Head). span_of S.order 2 x.left) p.0 in
+      (omega (arith, same, f.rest, r.0), omega (arith, same, f.some, f.low, f.high, r.1))
 
   -- ---- where regions stand
 
@@ -75,6 +106,10 @@ module _ (S : Shape) where
         place = omega (arith, f.rest, s.place);
       }
 
+  passes_level : (start : Head) (l : ℕ) (h : Head) (hs : List Head) (g : Head) → Passes S h hs g → IsAtLevel start l h → IsAtLevel start l g
+  passes_level start l h [] g p s = subst (IsAtLevel start l) p s
+  passes_level start l h (k ∷ ks) g p s = passes_level start l (follower S h) ks g p.4 (follower_level start l h p.1 p.2 s)
+
   -- what is left behind a head is less, together with what is in it
   pub inner_less : (h k : Head) → broken S h ≡ None → inner_of S h ≡ Some k → length (follower S h).left + (length k.left + 4) ≤ length h.left
   inner_less h k e is = let f = fills S h (sound_of S h e) in omega (arith, f.rest, f.high, f.some, (inner_fills S h k e is).1)
@@ -91,9 +126,8 @@ module _ (S : Shape) where
   -- ---- what is added
 
   -- some, and then others
-  adds_then : (hs gs : List Head) (a b c : Taped) (old mid new : List Event) → Adds S hs a b old mid → Adds S gs b c mid new → Adds S (hs ++ gs) a c old new
+  adds_then : (hs gs : List Head) (a b c : Counts) (old mid new : List Event) → Adds S hs a b old mid → Adds S gs b c mid new → Adds S (hs ++ gs) a c old new
   adds_then hs gs a b c old mid new x y = record {
-    broken = y.broken ∙ x.broken;
     count = omega (arith, x.count, y.count, length-append hs gs);
     visits = omega (arith, x.visits, y.visits, weigh-append (heads S) (heads S).visited hs gs);
     events = y.events
@@ -125,11 +159,11 @@ trail_few S start = few S start (trail_of S start).0 (each (heads S) (laws S) st
 -- ---- the state of the loop
 
 -- nothing is found yet
-abbrev pub begun : ℕ → Taped
-begun count = record { broken = None; count = count; visits = 0 }
+abbrev pub begun : ℕ → Counts
+begun count = record { count = count; visits = 0 }
 
 -- these regions wait, the last of the list first, and this is left of the one at hand
-pub record IsTaping (S : Shape) (start : Head) (count : ℕ) (old : List Event) (fs : List Head) (top : Head) (t : Taped) (out : List Event) : Type 0 where
+pub record IsTaping (S : Shape) (start : Head) (count : ℕ) (old : List Event) (fs : List Head) (top : Head) (t : Counts) (out : List Event) : Type 0 where
   pub hs : List Head
   pub same : trail_of S start ≡ front hs (resume S fs (trail_of S top))
   pub adds : Adds S hs (begun count) t old out
@@ -141,12 +175,12 @@ pub begins : (S : Shape) (start : Head) (count : ℕ) (old : List Event) (fs : L
 begins S start count old fs none kind level size place = subst (λ (xs : List Head). IsTaping S start count old xs start (begun count) old) (sym none) (record {
   hs = [];
   same = refl;
-  adds = record { broken = refl; count = omega arith; visits = omega arith; events = sym (put_none count old) };
+  adds = record { count = omega arith; visits = omega arith; events = sym (put_none count old) };
   below = tt;
   stands = record { reach = λ k p. p; level = omega arith; low = subst (λ (s : Sort). IsLow S s start.level) (sym kind) level; size = size; place = place };
 })
 
-module _ {S : Shape} {start : Head} {count : ℕ} {old : List Event} {fs : List Head} {top : Head} {t : Taped} {out : List Event} (now : IsTaping S start count old fs top t out) where
+module _ {S : Shape} {start : Head} {count : ℕ} {old : List Event} {fs : List Head} {top : Head} {t : Counts} {out : List Event} (now : IsTaping S start count old fs top t out) where
   -- the region at hand is at its end, and the last that waits goes on
   pub pops : (gs : List Head) (b : Head) → top.left ≡ [] → fs ≡ gs ++ b ∷ [] → IsTaping S start count old gs b t out
   unfolding heads
@@ -164,19 +198,18 @@ module _ {S : Shape} {start : Head} {count : ℕ} {old : List Event} {fs : List 
   comes : (x : Trail) → trail_of S top ≡ front (top ∷ []) x → trail_of S start ≡ front (now.hs ++ top ∷ []) (resume S fs x)
   comes x e = now.same ∙ ap (λ (y : Trail). front now.hs (resume S fs y)) e ∙ ap (front now.hs) (resume_front S fs (top ∷ []) x) ∙ front_front now.hs (top ∷ []) (resume S fs x)
 
-  -- it holds no region
-  pub goes : (n : Head) (u : Taped) (new : List Event) → top.left ≢ [] → broken S top ≡ None → inner_of S top ≡ None → n ≡ follower S top → Adds S (top ∷ []) t u out new → IsTaping S start count old fs n u new
-  unfolding heads
-  goes n u new some b none next a = subst (λ (x : Head). IsTaping S start count old fs x u new) (sym next) (record {
-    hs = now.hs ++ top ∷ [];
-    same = comes (trail_of S (follower S top)) (trail_goes (heads S) (laws S) top None some b none);
-    adds = adds_then S now.hs (top ∷ []) (begun count) t u old out new now.adds a;
+  -- heads that hold none are passed
+  pub passes : (gs : List Head) (g : Head) (u : Counts) (new : List Event) → Passes S top gs g → Adds S gs t u out new → IsTaping S start count old fs g u new
+  passes gs g u new p a = record {
+    hs = now.hs ++ gs;
+    same = now.same ∙ ap (λ (y : Trail). front now.hs (resume S fs y)) (passes_trail S top gs g p) ∙ ap (front now.hs) (resume_front S fs gs (trail_of S g)) ∙ front_front now.hs gs (resume S fs (trail_of S g));
+    adds = adds_then S now.hs gs (begun count) t u old out new now.adds a;
     below = now.below;
-    stands = follower_level S start (start.level + length fs) top some b now.stands;
-  })
+    stands = passes_level S start (start.level + length fs) top gs g p now.stands;
+  }
 
   -- it holds one
-  pub opens : (n k : Head) (gs : List Head) (u : Taped) (new : List Event) → top.left ≢ [] → broken S top ≡ None → inner_of S top ≡ Some k → n ≡ follower S top → gs ≡ fs ++ n ∷ [] → Adds S (top ∷ []) t u out new → IsTaping S start count old gs k u new
+  pub opens : (n k : Head) (gs : List Head) (u : Counts) (new : List Event) → top.left ≢ [] → broken S top ≡ None → inner_of S top ≡ Some k → n ≡ follower S top → gs ≡ fs ++ n ∷ [] → Adds S (top ∷ []) t u out new → IsTaping S start count old gs k u new
   unfolding heads
   opens n k gs u new some b inner next push a =
       let pushed : gs ≡ fs ++ follower S top ∷ [] = push ∙ ap (λ (x : Head). fs ++ x ∷ []) next in
@@ -206,31 +239,70 @@ module _ {S : Shape} {start : Head} {count : ℕ} {old : List Event} {fs : List 
   -- ---- the events
 
   -- all is accepted
-  pub tells_none : top.left ≡ [] → fs ≡ [] → IsTaped S start count old out t
+  pub tells_none : top.left ≡ [] → fs ≡ [] → IsTaped S start count old out (found None t)
   unfolding heads
   tells_none e is =
       let all : trail_of S start ≡ (now.hs, None) = now.same ∙ ap (λ (x : Trail). front now.hs (resume S fs x)) (trail_ends (heads S) (laws S) top e) ∙ ap (λ (xs : List Head). front now.hs (resume S xs ([], None))) is ∙ ap (λ (l : List Head). (l, None)) (append-nil now.hs) in
       record {
-        fault = ap fault_in now.adds.broken ∙ ap (λ (x : Trail). fault_of x.1) (sym all);
-        head = subst (λ (o : Option BrokenHead). IfSome o (λ b. IsBrokenHead S start b)) (sym now.adds.broken) tt;
+        fault = ap (λ (x : Trail). fault_of x.1) (sym all);
+        head = tt;
         visits = now.adds.visits ∙ omega arith ∙ ap (λ (x : Trail). visits_of S x.0) (sym all);
         counted = now.adds.count ∙ ap (λ (x : Trail). count + length x.0) (sym all);
         events = now.adds.events ∙ ap (λ (x : Trail). put_from count (map (event_of S.order) x.0) old) (sym all);
       }
 
   -- the head at hand breaks a rule
-  pub tells_fault : (r : Reason) (x : BrokenHead) (u : Taped) (new : List Event) → top.left ≢ [] → broken S top ≡ Some r → x ≡ facts_of S.order r top → Adds S (counted S top) t u out new → IsTaped S start count old new (record u { broken = Some x })
+  pub tells_fault : (r : Reason) (x : BrokenHead) (u : Counts) (new : List Event) → top.left ≢ [] → broken S top ≡ Some r → x ≡ facts_of S.order r top → Adds S (counted S top) t u out new → IsTaped S start count old new (found (Some x) u)
   unfolding heads
   tells_fault r x u new some b is a =
       let all : trail_of S start ≡ (now.hs ++ counted S top, Some (top.place, r)) = now.same ∙ ap (λ (x : Trail). front now.hs (resume S fs x)) (trail_stops (heads S) (laws S) top r some b) ∙ ap (front now.hs) (resume_fault S fs (counted S top) (top.place, r)) in
       let sum = adds_then S now.hs (counted S top) (begun count) t u old out new now.adds a in
-      subst (λ (y : BrokenHead). IsTaped S start count old new (record u { broken = Some y })) (sym is) (record {
+      subst (λ (y : BrokenHead). IsTaped S start count old new (found (Some y) u)) (sym is) (record {
         fault = ap (λ (x : Trail). fault_of x.1) (sym all);
         head = (top, now.stands.reach top (first some), b, refl);
         visits = sum.visits ∙ omega arith ∙ ap (λ (x : Trail). visits_of S x.0) (sym all);
         counted = sum.count ∙ ap (λ (x : Trail). count + length x.0) (sym all);
         events = sum.events ∙ ap (λ (x : Trail). put_from count (map (event_of S.order) x.0) old) (sym all);
       })
+
+-- ---- a step of the loop
+
+module _ {S : Shape} {start : Head} {count : ℕ} {old : List Event} {fs : List Head} {top : Head} {t : Counts} {out : List Event} (now : IsTaping S start count old fs top t out)
+    {u : Counts} {new : List Event} {a : Advance} (step : Steps S top t u out new a) where
+  -- behind the heads that are passed
+  moved : IsTaping S start count old fs step.at step.between step.events
+  moved = passes now step.passed step.at step.between step.events step.passes step.adds
+
+  leads : (l : Lead) → a.lead ≡ l → LeadsTo S step.at step.between u step.events new (head_of a.rest) l
+  leads l e = subst (LeadsTo S step.at step.between u step.events new (head_of a.rest)) e step.leads
+
+  ended : a.lead ≡ lead.Ends → IsTaping S start count old fs step.at u new × (step.at.left ≡ [])
+  ended e =
+      let l = leads lead.Ends e in
+      (subst (λ (x : Counts). IsTaping S start count old fs step.at x new) (sym l.1) (subst (IsTaping S start count old fs step.at step.between) (sym l.2) moved), l.0)
+
+  pub step_ends : (b : Option BrokenHead) → a.lead ≡ lead.Ends → fs ≡ [] → b ≡ None → IsTaped S start count old new (found b u)
+  step_ends b e is none = let x = ended e in subst (λ (o : Option BrokenHead). IsTaped S start count old new (found o u)) (sym none) (tells_none x.0 x.1 is)
+
+  pub step_pops : (gs : List Head) (g : Head) → a.lead ≡ lead.Ends → fs ≡ gs ++ g ∷ [] → IsTaping S start count old gs g u new
+  step_pops gs g e is = let x = ended e in pops x.0 gs g x.1 is
+
+  pub step_size : (r : Reason) → a.lead ≡ lead.Fails r → length a.rest.left.now ≤ LONGEST_REGION
+  step_size r e = omega (arith, ap (λ (h : Head). length h.left) (leads (lead.Fails r) e).1, moved.stands.size)
+
+  pub step_fails : (r : Reason) (b : Option BrokenHead) → a.lead ≡ lead.Fails r → b ≡ Some (facts_of S.order r (head_of a.rest)) → IsTaped S start count old new (found b u)
+  step_fails r b e is =
+      let l = leads (lead.Fails r) e in
+      subst (λ (o : Option BrokenHead). IsTaped S start count old new (found o u)) (sym is) (tells_fault moved r (facts_of S.order r (head_of a.rest)) u new l.0 l.2 (ap (facts_of S.order r) l.1) l.3)
+
+  pub step_opens : (k : OpenRegion) (gs : List Head) → a.lead ≡ lead.Opens k → gs ≡ fs ++ head_of a.rest ∷ [] → IsTaping S start count old gs (head_of k) u new
+  step_opens k gs e is = let l = leads (lead.Opens k) e in opens moved (head_of a.rest) (head_of k) gs u new l.0 l.1 l.2 l.3 is l.4
+
+  -- less is left in both
+  pub step_less : (k : OpenRegion) → a.lead ≡ lead.Opens k → length a.rest.left.now + (length k.left.now + 4) ≤ length top.left
+  step_less k e =
+      let l = leads (lead.Opens k) e in
+      omega (arith, ap (λ (h : Head). length h.left) l.3, inner_less S step.at (head_of k) l.1 l.2, (passes_sum S top step.passed step.at step.passes).0)
 
 pub not_empty : (left : List ℕ) → false ≡ eqb (length left) 0 → left ≢ []
 not_empty [] e = absurd cc

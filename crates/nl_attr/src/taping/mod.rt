@@ -1,22 +1,25 @@
 //! Scanning a region by one loop over a stack of open regions, which takes no memory and no call
 //! stack: each head is checked, and its event is put into a buffer.
 
-ghost use Rattle.std.specs.Prelude.{◌^◌, ◌≡◌, ◌≤◌, ◌+◌, ◌-◌, ◌*◌, drop, length, slice_set};
+ghost use Rattle.std.specs.Prelude.{◌^◌, ◌≡◌, ◌≤◌, ◌<◌, ◌+◌, ◌-◌, ◌*◌, drop, length, slice_set};
+ghost use Rattle.nl_attr.specs.Broken.{facts_of};
 ghost use Rattle.nl_attr.specs.Fixed as fixed;
 ghost use Rattle.nl_attr.specs.Heads.{attr_head, start_of};
 ghost use Rattle.nl_attr.specs.Region.{head_of, sort_in};
 ghost use Rattle.nl_attr.specs.Shape.{shape_of};
-ghost use Rattle.nl_attr.specs.Taped.{IsTaped};
+ghost use Rattle.nl_attr.specs.Taped.{IsTaped, found};
 
 mod fronts;
+mod leaves;
 mod steps;
 
 use crate::broken::BrokenHead;
 use crate::events::Event;
+use crate::fault::Reason;
 use crate::limits::{Depth, Shape};
 use crate::order::Order;
 use crate::region::{OpenRegion, Parts};
-use crate::taping::steps::{Advance, step};
+use crate::taping::steps::{Lead, step};
 use crate::tree::Ctx;
 use arrayvec::ArrayVec;
 
@@ -32,14 +35,23 @@ pub struct Taped {
     pub visits: u64,
 }
 
-impl Taped {
+/// What a scan counted.
+#[derive(Clone, Copy, Debug, PartialEq, Eq, Hash)]
+pub struct Counts {
+    /// The place in the buffer behind the last event, also where the buffer ends before it.
+    pub count: usize,
+    /// How many attribute bytes were visited, on a fault too, as for `Tally`.
+    pub visits: u64,
+}
+
+impl Counts {
     /// Adds a head that is visited: puts its event into a buffer, where that goes so far.
     #[inline(always)]
     fn add(&mut self, out: &mut [Event], event: Event, span: u32)
-        requires count { self.old.count ≤ 2 ^ 32 + fixed.MOST_VISITS }
-        requires visits { self.old.visits ≤ fixed.MOST_VISITS }
+        requires count { self.old.count < 2 ^ 63 }
+        requires visits { self.old.visits < 2 ^ 63 }
         ensures event { out.new ≡ slice_set out.old self.old.count event }
-        ensures counts { self.new ≡ record self.old {
+        ensures counts { self.new ≡ record {
           count = self.old.count + 1;
           visits = self.old.visits + span;
         } }
@@ -49,76 +61,132 @@ impl Taped {
         self.count = at + 1;
         self.visits += span as u64;
     }
+
+    /// Adds heads whose events have been put up to a place, and whose items occupy so many bytes.
+    #[inline(always)]
+    fn pass(&mut self, count: usize, spans: usize)
+        requires spans { spans ≤ fixed.LONGEST_REGION }
+        requires visits { self.old.visits ≤ fixed.MOST_VISITS }
+        ensures { self.new ≡ record { count = count; visits = self.old.visits + spans } }
+    {
+        self.count = count;
+        self.visits += spans as u64;
+    }
 }
 
 /// How many regions may be open below the one that is scanned.
 const MOST_OPEN: usize = 33;
 
-/// Room for the regions that are open below the one that is scanned. It is made once for all scans
-/// of a datagram: none leaves anything in it that the next one sees.
+/// Room for the regions that are open below the one that is scanned, and for the head at which a
+/// scan ends. It is made once for all scans of a datagram.
 #[derive(Drop)]
 pub struct OpenRegions<'a> {
     stack: ArrayVec<OpenRegion<'a>, MOST_OPEN>,
+    /// The head that breaks a rule at the first fault of the last scan, or none. It stays here, so
+    /// that a scan that finds none hands out nothing but its counts.
+    pub broken: Option<BrokenHead>,
 }
 
 impl OpenRegions<'_> {
-    /// Room in which no region is open.
-    pub fn new() -> Self {
+    /// Room in which no region is open, and no fault was found.
+    pub fn new() -> Self
+        ensures { result.broken ≡ None }
+    {
         OpenRegions {
             stack: ArrayVec::new(),
+            broken: None,
         }
     }
+}
+
+/// Keeps the head at the front, which breaks this rule. A scan comes here once: a function of its
+/// own keeps the registers of its loop free.
+#[inline(never)]
+fn keep_broken(broken: &mut Option<BrokenHead>, at: OpenRegion<'_>, reason: Reason, shape: Shape)
+    requires { length at.left.now ≤ fixed.LONGEST_REGION }
+    ensures { broken.new ≡ Some (facts_of shape.order reason (head_of at.entry)) }
+{
+    *broken = Some(at.broken(reason, shape));
 }
 
 /// Scans a region of attributes from its front to its end or its first fault.
 #[inline(always)]
 fn tape_region<'a>(
-    stack: &mut ArrayVec<OpenRegion<'a>, MOST_OPEN>,
+    regions: &mut OpenRegions<'a>,
     start: OpenRegion<'a>,
     shape: Shape,
     out: &mut [Event],
     count: usize,
-) -> Taped
+) -> Counts
+    requires none { regions.old.broken ≡ None }
     requires limit { shape.depth ≤ fixed.MOST_LEVELS }
     requires parts { sort_in start.parts ≡ attr_head }
     requires level { start.level ≤ shape.depth }
     requires size { length start.left.now ≤ fixed.LONGEST_REGION }
     requires place { start.place + length start.left.now ≤ fixed.FARTHEST_END }
     requires count { count ≤ 2 ^ 32 }
-    ensures { IsTaped shape (head_of start.entry) count out.old out.new result }
+    ensures { IsTaped shape (head_of start.entry) count out.old out.new
+        (found regions.new.broken result) }
 {
-    stack.clear();
+    regions.stack.clear();
     let mut top = start;
-    let mut taped = Taped {
-        broken: None,
-        count,
-        visits: 0,
-    };
+    let mut counts = Counts { count, visits: 0 };
     'heads: loop {
-        if top.left.is_empty() {
-            match stack.pop() {
-                None => return taped,
-                Some(below) => {
-                    top = below;
-                    continue 'heads;
-                }
+        let stepped = step(top, shape, out, &mut counts);
+        match stepped.lead {
+            Lead::Ends => match regions.stack.pop() {
+                None => return counts,
+                Some(below) => top = below,
+            },
+            Lead::Fails(reason) => {
+                keep_broken(&mut regions.broken, stepped.rest, reason, shape);
+                return counts;
             }
-        }
-        match step(top, shape, out, &mut taped) {
-            Advance::Fails(reason) => {
-                taped.broken = Some(top.broken(reason, shape));
-                return taped;
-            }
-            Advance::Goes(rest) => {
-                top.left = rest.left;
-                top.place = rest.place;
-            }
-            Advance::Opens(rest, inner) => {
-                stack.push(rest);
+            Lead::Opens(inner) => {
+                regions.stack.push(stepped.rest);
                 top = inner;
             }
         }
     }
+}
+
+/// Scans a region of attributes, as `tape_list` does, and answers the counts alone: the head that
+/// breaks a rule at the first fault is left in `regions`.
+#[inline(always)]
+pub fn tape_attrs<'a>(
+    regions: &mut OpenRegions<'a>,
+    bytes: &'a [u8],
+    base: u32,
+    ctx: Ctx,
+    level: u8,
+    depth: Depth,
+    order: Order,
+    out: &mut [Event],
+    count: usize,
+) -> Counts
+    // No fault has been found.
+    requires none { regions.old.broken ≡ None }
+    requires level { level ≤ depth }
+    requires size { length bytes.now ≤ fixed.LONGEST_REGION }
+    requires place { base + length bytes.now ≤ fixed.FARTHEST_END }
+    requires count { count ≤ 2 ^ 32 }
+    // The heads are those of the region up to its first fault, and so are the visits; where there is
+    // a fault, the head that breaks its rule stands in the region at its place.
+    ensures taped { IsTaped (shape_of order depth) (start_of ctx level base bytes.now)
+        count out.old out.new (found regions.new.broken result) }
+    ensures bound { result.visits ≤ (depth - level + 1) * length bytes.now }
+    ensures count { result.count ≤ count + result.visits }
+    // From the last event on the buffer is as it was.
+    ensures untouched { drop result.count out.new ≡ drop result.count out.old }
+{
+    let shape = Shape::of(depth, order);
+    let start = OpenRegion {
+        left: bytes,
+        place: base,
+        level,
+        parts: Parts::Attrs(ctx),
+    };
+    tape_region(regions, start, shape, out, count)
 }
 
 /// Scans a region of attributes, as `read_list_ordered` reads it, and puts the event of each head
@@ -154,12 +222,11 @@ pub fn tape_list<'a>(
     // From the last event on the buffer is as it was.
     ensures untouched { drop result.count out.new ≡ drop result.count out.old }
 {
-    let shape = Shape::of(depth, order);
-    let start = OpenRegion {
-        left: bytes,
-        place: base,
-        level,
-        parts: Parts::Attrs(ctx),
-    };
-    tape_region(&mut regions.stack, start, shape, out, count)
+    regions.broken = None;
+    let counts = tape_attrs(regions, bytes, base, ctx, level, depth, order, out, count);
+    Taped {
+        broken: regions.broken,
+        count: counts.count,
+        visits: counts.visits,
+    }
 }

@@ -1,70 +1,120 @@
-//! One step of a scan: past the head at the front of a region.
+//! One step of a scan: from the front of a region past the first head that holds a region.
 
-ghost use Rattle.std.specs.Prelude.{◌^◌, ◌≤◌, ◌+◌, length};
+ghost use Rattle.std.specs.Prelude.{◌^◌, ◌≡◌, ◌≢◌, ◌≤◌, ◌<◌, ◌+◌, [], length, Ok};
 ghost use Rattle.nl_attr.specs.Fixed as fixed;
-ghost use Rattle.nl_attr.specs.Heads.{start_of};
+ghost use Rattle.nl_attr.specs.Heads.{content_at, start_of};
+ghost use Rattle.nl_attr.specs.Taped.{Leads, Steps, hops_start};
 ghost use Rattle.nl_attr.specs.Region.{head_of};
-ghost use Rattle.nl_attr.specs.Taped.{Steps, hops_start};
+ghost use Rattle.nl_attr.specs.Walk.{HeadIs};
 
 use crate::events::Event;
 use crate::fault::Reason;
 use crate::limits::Shape;
 use crate::region::{OpenRegion, Parts};
 use crate::stack::container_fault;
-use crate::taping::Taped;
+use crate::taping::Counts;
 use crate::taping::fronts::{attr_front, hop_front, inside, sort};
-use crate::tree::{Ctx, holds};
+use crate::taping::leaves::{Next, tape_leaves};
+use crate::tree::{Content, Ctx, holds};
 use crate::walk::head_len;
 
-/// Where the head at the front of a region leads.
+/// Where a region leads.
 #[derive(Clone, Copy)]
-pub(super) enum Advance<'a> {
-    /// To no other: it breaks this rule.
+pub(super) enum Lead<'a> {
+    /// To its end.
+    Ends,
+    /// To a head that breaks this rule.
     Fails(Reason),
-    /// To what is left behind it.
-    Goes(OpenRegion<'a>),
-    /// To the region in its item, the second, and then to what is left behind it, the first.
-    Opens(OpenRegion<'a>, OpenRegion<'a>),
+    /// To this region in an item.
+    Opens(OpenRegion<'a>),
 }
 
-/// The step past an attribute.
+/// A step of a scan.
+#[derive(Clone, Copy)]
+pub(super) struct Advance<'a> {
+    pub(super) lead: Lead<'a>,
+    /// What is left of the region: behind the item, or from the head that breaks a rule on.
+    pub(super) rest: OpenRegion<'a>,
+}
+
+/// The step past the attribute of `len` bytes at the front, which holds a region.
 #[inline(always)]
-fn step_attr<'a>(
+fn step_container<'a>(
+    region: OpenRegion<'a>,
+    ctx: Ctx,
+    len: usize,
+    shape: Shape,
+    out: &mut [Event],
+    counts: &mut Counts,
+) -> Advance<'a>
+    requires some { region.left.now ≢ [] }
+    requires size { length region.left.now ≤ fixed.LONGEST_REGION }
+    requires place { region.place + length region.left.now ≤ fixed.FARTHEST_END }
+    requires level { region.level ≤ fixed.MOST_LEVELS }
+    requires parts { region.parts ≡ Parts.Attrs ctx }
+    requires sound { HeadIs shape.order 4 2 region.left.now (Ok len) }
+    requires holds { content_at shape.order ctx region.left.now ≢ Content.Bytes }
+    requires count { counts.old.count < 2 ^ 63 }
+    requires visits { counts.old.visits < 2 ^ 63 }
+    ensures { Leads shape (head_of region.entry) counts.old counts.new out.old out.new result }
+{
+    let (left, place, level) = (region.left, region.place, region.level);
+    let attr = attr_front(left, len, place, level, ctx, shape.order());
+    let content = holds(ctx, attr.event.number, attr.flags);
+    let Some(parts) = Parts::of(content) else {
+        unreachable!();
+    };
+    let sort = sort(content);
+    counts.add(out, Event { sort, ..attr.event }, attr.span);
+    match container_fault(content, len, level, shape) {
+        Some(reason) => Advance {
+            lead: Lead::Fails(reason),
+            rest: region,
+        },
+        None => Advance {
+            lead: Lead::Opens(inside(attr.payload, place, 4, level, parts)),
+            rest: attr.rest,
+        },
+    }
+}
+
+/// The steps past attributes that hold bytes, and past the one behind them that holds a region.
+#[inline(always)]
+fn step_attrs<'a>(
     region: OpenRegion<'a>,
     ctx: Ctx,
     shape: Shape,
     out: &mut [Event],
-    taped: &mut Taped,
+    counts: &mut Counts,
 ) -> Advance<'a>
     requires size { length region.left.now ≤ fixed.LONGEST_REGION }
     requires place { region.place + length region.left.now ≤ fixed.FARTHEST_END }
     requires level { region.level ≤ fixed.MOST_LEVELS }
-    requires count { taped.old.count ≤ 2 ^ 32 + fixed.MOST_VISITS }
-    requires visits { taped.old.visits ≤ fixed.MOST_VISITS }
-    ensures { Steps shape
-        (start_of ctx region.entry.level region.entry.place region.entry.left.now)
-        taped.old taped.new out.old out.new result }
+    requires parts { region.parts ≡ Parts.Attrs ctx }
+    requires count { counts.old.count ≤ 2 ^ 32 + fixed.MOST_VISITS }
+    requires visits { counts.old.visits ≤ fixed.MOST_VISITS }
+    ensures { Steps shape (head_of region.entry) counts.old counts.new out.old out.new result }
 {
-    let order = shape.order();
-    let (left, place, level) = (region.left, region.place, region.level);
-    let len = match head_len(order, left, 4) {
-        Ok(len) => len,
-        Err(reason) => return Advance::Fails(reason),
+    let (bytes, level, count) = (region.left, region.level, counts.count);
+    let end = region.place + bytes.len() as u32;
+    let leaves = tape_leaves(bytes, end, level, ctx, shape, out, count);
+    counts.pass(leaves.count, bytes.len() - leaves.left.len());
+    let rest = OpenRegion {
+        left: leaves.left,
+        place: end - leaves.left.len() as u32,
+        ..region
     };
-    let attr = attr_front(left, len, place, level, ctx, order);
-    let at = taped.count;
-    taped.add(out, attr.event, attr.span);
-    let content = holds(ctx, attr.event.number, attr.flags);
-    let Some(parts) = Parts::of(content) else {
-        return Advance::Goes(attr.rest);
-    };
-    // A container's event is put again, with its sort; most attributes hold bytes and are done.
-    let sort = sort(content);
-    Event { sort, ..attr.event }.put(out, at);
-    if let Some(reason) = container_fault(content, len, level, shape) {
-        return Advance::Fails(reason);
+    match leaves.next {
+        Next::Ends => Advance {
+            lead: Lead::Ends,
+            rest,
+        },
+        Next::Fails(reason) => Advance {
+            lead: Lead::Fails(reason),
+            rest,
+        },
+        Next::Opens(len) => step_container(rest, ctx, len, shape, out, counts),
     }
-    Advance::Opens(attr.rest, inside(attr.payload, place, 4, level, parts))
 }
 
 /// The step past a next hop.
@@ -73,43 +123,56 @@ fn step_hop<'a>(
     region: OpenRegion<'a>,
     shape: Shape,
     out: &mut [Event],
-    taped: &mut Taped,
+    counts: &mut Counts,
 ) -> Advance<'a>
     requires size { length region.left.now ≤ fixed.LONGEST_REGION }
     requires place { region.place + length region.left.now ≤ fixed.FARTHEST_END }
     requires level { region.level ≤ fixed.MOST_LEVELS }
-    requires count { taped.old.count ≤ 2 ^ 32 + fixed.MOST_VISITS }
-    requires visits { taped.old.visits ≤ fixed.MOST_VISITS }
-    ensures { Steps shape (hops_start region.entry.level region.entry.place region.entry.left.now)
-        taped.old taped.new out.old out.new result }
+    requires parts { region.parts ≡ Parts.Hops }
+    requires count { counts.old.count ≤ 2 ^ 32 + fixed.MOST_VISITS }
+    requires visits { counts.old.visits ≤ fixed.MOST_VISITS }
+    ensures { Leads shape (head_of region.entry) counts.old counts.new out.old out.new result }
 {
+    if region.left.is_empty() {
+        return Advance {
+            lead: Lead::Ends,
+            rest: region,
+        };
+    }
     let order = shape.order();
-    let len = match head_len(order, region.left, 8) {
-        Ok(len) => len,
-        Err(reason) => return Advance::Fails(reason),
-    };
-    let hop = hop_front(region.left, len, region.place, region.level, order);
-    taped.add(out, hop.event, hop.span);
-    Advance::Opens(hop.rest, hop.attrs)
+    match head_len(order, region.left, 8) {
+        Err(reason) => Advance {
+            lead: Lead::Fails(reason),
+            rest: region,
+        },
+        Ok(len) => {
+            let hop = hop_front(region.left, len, region.place, region.level, order);
+            counts.add(out, hop.event, hop.span);
+            Advance {
+                lead: Lead::Opens(hop.attrs),
+                rest: hop.rest,
+            }
+        }
+    }
 }
 
-/// The step past the head at the front of a region.
+/// The steps past the heads at the front of a region, up to the first that holds a region.
 #[inline(always)]
 pub(super) fn step<'a>(
     region: OpenRegion<'a>,
     shape: Shape,
     out: &mut [Event],
-    taped: &mut Taped,
+    counts: &mut Counts,
 ) -> Advance<'a>
     requires size { length region.left.now ≤ fixed.LONGEST_REGION }
     requires place { region.place + length region.left.now ≤ fixed.FARTHEST_END }
     requires level { region.level ≤ fixed.MOST_LEVELS }
-    requires count { taped.old.count ≤ 2 ^ 32 + fixed.MOST_VISITS }
-    requires visits { taped.old.visits ≤ fixed.MOST_VISITS }
-    ensures { Steps shape (head_of region.entry) taped.old taped.new out.old out.new result }
+    requires count { counts.old.count ≤ 2 ^ 32 + fixed.MOST_VISITS }
+    requires visits { counts.old.visits ≤ fixed.MOST_VISITS }
+    ensures { Steps shape (head_of region.entry) counts.old counts.new out.old out.new result }
 {
     match region.parts {
-        Parts::Attrs(ctx) => step_attr(region, ctx, shape, out, taped),
-        Parts::Hops => step_hop(region, shape, out, taped),
+        Parts::Attrs(ctx) => step_attrs(region, ctx, shape, out, counts),
+        Parts::Hops => step_hop(region, shape, out, counts),
     }
 }

@@ -1,10 +1,10 @@
-use Rattle.std.proofs.Common.{◌+◌, length, map}
+use Rattle.std.proofs.Common.{◌≡◌, ◌+◌, length, map, None}
 use Rattle.nl_attr.specs.Region.{head_of}
 use Rattle.nl_attr.proofs.Lemmas.Taping.{IsTaping, work}
 use Rattle.nl_attr.proofs.taping.tape_region.Given as goal
 
 abbrev pub invariant-heads : goal.invariant-heads
-invariant-heads l = IsTaping l.shape (head_of l.start) l.count l.fn.out (map head_of l.stack.items) (head_of l.top) l.taped l.out
+invariant-heads l = (l.regions.broken ≡ None) × IsTaping l.shape (head_of l.start) l.count l.fn.out (map head_of l.regions.stack.items) (head_of l.top) l.counts l.out
 
 abbrev pub decreases-heads : goal.decreases-heads
-decreases-heads l = work (map head_of l.stack.items) + length l.top.left.now
+decreases-heads l = work (map head_of l.regions.stack.items) + length l.top.left.now

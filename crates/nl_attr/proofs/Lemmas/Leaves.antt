@@ -1,0 +1,122 @@
+-- Attributes that hold bytes, passed one behind the other.
+use Rattle.std.proofs.Common.{◌≡◌, ◌≢◌, ℕ, ◌+◌, ◌-◌, ◌≤◌, List, [], ◌∷◌, ◌++◌, length, drop, map, None, refl, sym, ap, subst, ◌∙◌, arith, length-append, length-drop}
+use Rattle.std.proofs.lemmas.List.{length-map, map-append}
+use Rattle.nl_attr.specs.declared.events.Event.{Event}
+use Rattle.nl_attr.specs.declared.fault.Reason.{Reason}
+use Rattle.nl_attr.specs.declared.region.OpenRegion.{OpenRegion}
+use Rattle.nl_attr.specs.declared.region.Parts.TheVariants.{Attrs}
+use Rattle.nl_attr.specs.declared.taping.Counts.{Counts}
+use Rattle.nl_attr.specs.declared.taping.leaves.Leaves.{Leaves}
+use Rattle.nl_attr.specs.declared.taping.leaves.Next.{Next}
+use Rattle.nl_attr.specs.declared.taping.leaves.Next.TheVariants as next
+use Rattle.nl_attr.specs.declared.taping.steps.Advance.{Advance}
+use Rattle.nl_attr.specs.declared.taping.steps.Lead.TheVariants as lead
+use Rattle.nl_attr.specs.declared.tree.Ctx.{Ctx}
+use Rattle.nl_attr.specs.Shape.{Shape}
+use Rattle.nl_attr.specs.Numbers.{span_of}
+use Rattle.nl_attr.specs.Heads.{Head, start_of, broken, inner_of, follower}
+use Rattle.nl_attr.specs.HeadOrder.{event_of, put_from}
+use Rattle.nl_attr.specs.Region.{head_of}
+use Rattle.nl_attr.specs.Taped.{IsNext, LeadsTo, Passes, PassesLeaves, Steps, head_with}
+use Rattle.nl_attr.proofs.Lemmas.Fronts.{attrs_head, attr_unsound}
+use Rattle.nl_attr.proofs.Lemmas.Scan.{span_within}
+use Rattle.nl_attr.proofs.Lemmas.Putting.{put_none, put_on}
+use Rattle.nl_attr.proofs.Lemmas.Taping.{passes_push, passes_sum}
+
+-- these were passed, their events stand in the buffer, and this is left
+pub record IsPassing (S : Shape) (h : Head) (count : ℕ) (old : List Event) (left : List ℕ) (n : ℕ) (out : List Event) : Type 0 where
+  pub passed : List Head
+  pub passes : Passes S h passed (head_with h left)
+  pub counted : n ≡ count + length passed
+  pub events : out ≡ put_from count (map (event_of S.order) passed) old
+
+pub some_left : (left : List ℕ) → 4 ≤ length left → left ≢ []
+some_left left e = λ n. absurd (let z : length left ≡ 0 = ap (length {A = ℕ}) n in omega (arith, z, e))
+
+-- none was
+pub begins : (S : Shape) (h : Head) (count : ℕ) (old : List Event) → IsPassing S h count old h.left count old
+begins S h count old = record {
+  passed = [];
+  passes = ap (λ (p : ℕ). record h { place = p }) (omega arith);
+  counted = omega arith;
+  events = sym (put_none count old);
+}
+
+module _ {S : Shape} {h : Head} {count : ℕ} {old : List Event} {left : List ℕ} {n : ℕ} {out : List Event} (now : IsPassing S h count old left n out) where
+  -- there are no more of them than bytes
+  pub within : (length left ≤ length h.left) × (n + length left ≤ count + length h.left)
+  within = let s = passes_sum S h now.passed (head_with h left) now.passes in (omega (arith, s.0), omega (arith, s.0, s.1, now.counted))
+
+  -- where the region stands then
+  behind : head_with h (drop (span_of S.order 2 left) left) ≡ follower S (head_with h left)
+  behind =
+      let span = span_of S.order 2 left in
+      ap (λ (p : ℕ). record h { place = p; left = drop span left }) (omega (arith, within.0, length-drop span left, span_within S.order 2 left))
+
+  -- one more
+  pub goes : (rest : List ℕ) (new : List Event) → rest ≡ drop (span_of S.order 2 left) left → left ≢ [] → broken S (head_with h left) ≡ None → inner_of S (head_with h left) ≡ None → new ≡ put_from n (event_of S.order (head_with h left) ∷ []) out → IsPassing S h count old rest (n + 1) new
+  goes rest new is some b i put = record {
+    passed = now.passed ++ head_with h left ∷ [];
+    passes = subst (Passes S h (now.passed ++ head_with h left ∷ [])) (sym behind ∙ ap (head_with h) (sym is)) (passes_push S h now.passed (head_with h left) now.passes some b i);
+    counted = omega (arith, now.counted, length-append now.passed (head_with h left ∷ []));
+    events =
+        let e = event_of S.order in
+        put
+        ∙ ap (put_from n (e (head_with h left) ∷ [])) now.events
+        ∙ ap (λ (m : ℕ). put_from m (e (head_with h left) ∷ []) (put_from count (map e now.passed) old)) (omega (arith, now.counted, length-map now.passed e))
+        ∙ put_on count (map e now.passed) (e (head_with h left) ∷ []) old
+        ∙ ap (λ (es : List Event). put_from count es old) (sym (map-append e now.passed (head_with h left ∷ [])));
+  }
+
+-- ---- the step past them
+
+-- what is left of a region of which so many bytes are left
+abbrev pub rest_of : OpenRegion → Leaves → OpenRegion
+rest_of g r = record { left = r.left; place = g.place + length g.left.now - length r.left.now; level = g.level; parts = g.parts }
+
+module _ {S : Shape} (g : OpenRegion) (ctx : Ctx) (before : Counts) {old new : List Event} {r : Leaves} (kind : g.parts ≡ Attrs ctx)
+    (is : PassesLeaves S (start_of ctx g.level (g.place + length g.left.now - length g.left.now) g.left.now) before.count old new r) where
+  abbrev start : Head
+  start = start_of ctx g.level g.place g.left.now
+
+  whole : PassesLeaves S start before.count old new r
+  whole = subst (λ (p : ℕ). PassesLeaves S (start_of ctx g.level p g.left.now) before.count old new r) (omega arith) is
+
+  pub fewer : (length r.left.now ≤ length g.left.now) × (r.count ≤ before.count + length g.left.now)
+  fewer = let s = passes_sum S start whole.passed (head_with start r.left.now) whole.passes in (omega (arith, s.0), omega (arith, s.0, s.1, whole.counted))
+
+  rest_at : head_with start r.left.now ≡ head_of (rest_of g r)
+  rest_at = ap (λ (p : ℕ). start_of ctx g.level p r.left.now) (omega (arith, fewer.0)) ∙ attrs_head (rest_of g r) ctx kind
+
+  -- they are passed and added, and what stands behind them leads on
+  pub steps : (between later : Counts) (last : List Event) (a : Advance) → between ≡ record { count = r.count; visits = before.visits + (length g.left.now - length r.left.now) } → LeadsTo S (head_of (rest_of g r)) between later new last (head_of a.rest) a.lead
+      → Steps S (head_of g) before later old last a
+  steps between later last a sums leads =
+      let s = passes_sum S start whole.passed (head_with start r.left.now) whole.passes in
+      record {
+        passed = whole.passed;
+        at = head_of (rest_of g r);
+        between = between;
+        events = new;
+        passes = subst (λ (h : Head). Passes S h whole.passed (head_of (rest_of g r))) (attrs_head g ctx kind) (subst (Passes S start whole.passed) rest_at whole.passes);
+        adds = record {
+          count = ap (λ (t : Counts). t.count) sums ∙ whole.counted;
+          visits = omega (arith, ap (λ (t : Counts). t.visits) sums, s.0);
+          events = whole.events;
+        };
+        leads = leads;
+      }
+
+  what_is_next : (n : Next) → r.next ≡ n → IsNext S (head_of (rest_of g r)) n
+  what_is_next n e = subst (λ (h : Head). IsNext S h n) rest_at (subst (IsNext S (head_with start r.left.now)) e whole.next)
+
+  -- nothing does
+  pub ends : (counts : Counts) → r.next ≡ next.Ends → LeadsTo S (head_of (rest_of g r)) counts counts new new (head_of (rest_of g r)) lead.Ends
+  ends counts e = (what_is_next next.Ends e, refl, refl)
+
+  -- a head whose length breaks a rule
+  pub fails : (counts : Counts) (w : Reason) → r.next ≡ next.Fails w → LeadsTo S (head_of (rest_of g r)) counts counts new new (head_of (rest_of g r)) (lead.Fails w)
+  fails counts w e =
+      let n = what_is_next (next.Fails w) e in
+      let u = attr_unsound S ctx g.level (rest_of g r).place r.left.now w counts new n.1 in
+      subst (λ (h : Head). LeadsTo S h counts counts new new h (lead.Fails w)) (attrs_head (rest_of g r) ctx kind) (n.0, refl, u.0, u.1)
