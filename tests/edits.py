@@ -12,9 +12,9 @@ each TEXT one line; the old one stands in that file once.
 
 The lock has a line for each crate: its name, how many edits it has, and a sum of what their refusal
 depends on (docs/GATE.md says why): the kit; HANDLES; what crates.txt says of the crate and those
-below; its text, definitions, proofs and edits; and of each crate below it the interface, which the
-kit writes into a built library, the definitions and the lemmas. So the libraries are built first,
-by rt ci or rt lib.
+below; its text, definitions, proofs and edits; of each crate below it the public interface, which
+the kit writes into a built library; and the definitions and lemmas of those crates that these name,
+or that one of them names. So the libraries are built first, by rt ci or rt lib.
 
 The last line is 'N passed, M failed'. The status is 1 where an edit was not refused or can't be
 applied, or the lock is not one, and 2 where this is called wrongly.
@@ -34,8 +34,8 @@ sys.path.insert(0, f"{os.path.dirname(os.path.realpath(__file__))}/../launch")
 from crates import ROOT, Crates, NotBuilt, below, files, library, listed
 
 LOCK = "tests/edits.lock"
-# The files of a function's own proof, which nothing can cite.
-OF_FUNCTION = ("Invariants.antt", "Answers.antt", "Proof.antt")
+# A definition or a lemma where a text names it, in a file of the crate's folder specs/ or proofs/.
+NAMED = re.compile(r"\b(\w+)(?:\.|::)(specs|proofs)((?:(?:\.|::)\w+)+)")
 SAID = re.compile(r"(?:rt: )?must-fail (\w+)/(\S+\.edit): (.*)")
 SUM = re.compile(r"[0-9a-f]{64}")
 
@@ -80,20 +80,33 @@ def misplaced(name: str, edit: str) -> Optional[str]:
     return None if texts else "1: it names no file"
 
 
-def is_cited(path: str) -> bool:
-    return os.path.basename(path) not in OF_FUNCTION
-
-
-def contracts(name: str) -> Iterator[Tuple[str, str]]:
-    """What a crate above reads of a built library: the names of files, and where they are."""
-    interface = f"{library(name)}/lang/src"
-    for at, folders, names in os.walk(interface):
+def interface(name: str) -> Iterator[Tuple[str, str]]:
+    """The public interface of a built library: the names of its files, and where they are."""
+    folder = f"{library(name)}/interface/lang/src"
+    for at, folders, names in os.walk(folder):
         folders.sort()
         for it in sorted(names):
-            yield f"{name}/{os.path.relpath(f'{at}/{it}', interface)}", f"{at}/{it}"
-    for part in ("specs", "proofs"):
-        for path in filter(is_cited, files(name, part)):
-            yield path, f"{ROOT}/{path}"
+            yield f"{name}/{os.path.relpath(f'{at}/{it}', folder)}", f"{at}/{it}"
+
+
+def cited(text: str) -> Iterator[str]:
+    """The files of definitions and lemmas that a text names."""
+    for crate, part, rest in NAMED.findall(text):
+        words = re.split(r"\W+", rest)[1:]
+        paths = ("/".join([crate, part, *words[:it]]) for it in range(len(words), 0, -1))
+        yield from (it for it in paths if os.path.isfile(f"{ROOT}/crates/{it}.antt"))
+
+
+def reached(texts: List[str]) -> List[str]:
+    """The files of definitions and lemmas that these texts name, and those that such a file does."""
+    found: Set[str] = set()
+    waiting = [*texts]
+    while waiting:
+        for it in {*cited(waiting.pop())} - found:
+            found.add(it)
+            with open(f"{ROOT}/crates/{it}.antt", encoding="utf-8") as text:
+                waiting.append(text.read())
+    return sorted(found)
 
 
 def sum_of(crates: Crates, name: str) -> str:
@@ -104,10 +117,15 @@ def sum_of(crates: Crates, name: str) -> str:
     own = [it for part in ("src", "specs", "proofs", "edits") for it in files(name, part)]
     read = [("HANDLES", f"{ROOT}/HANDLES"), *((it, f"{ROOT}/{it}") for it in own)]
     for it in names[1:]:
-        read += contracts(it)
+        read += interface(it)
+    texts = []
     for path, file in read:
-        with open(file, "rb") as text:
-            made.update(repr((path, text.read())).encode())
+        with open(file, encoding="utf-8") as text:
+            texts.append(text.read())
+        made.update(repr((path, texts[-1])).encode())
+    for it in reached(texts):
+        with open(f"{ROOT}/crates/{it}.antt", encoding="utf-8") as text:
+            made.update(repr((it, text.read())).encode())
     return made.hexdigest()
 
 

@@ -20,6 +20,13 @@ cat >"$low/src/lib.rt" <<'TEXT'
 
 ghost use Rattle.std.specs.Prelude.{◌≤◌};
 
+/// What is added for each.
+fn step() -> u16
+    ensures { result ≤ 255 }
+{
+    255
+}
+
 /// A number of so many, at most a hundred.
 pub fn sum(count: u8) -> u16
     ensures { result ≤ 25500 }
@@ -27,7 +34,7 @@ pub fn sum(count: u8) -> u16
     let mut sum: u16 = 0;
     let mut left = count.min(100);
     while left > 0 {
-        sum = sum.saturating_add(255);
+        sum = sum.saturating_add(step());
         left -= 1;
     }
     sum.min(25500)
@@ -129,7 +136,9 @@ check 'an edit of no file' misplaced '1: there is no file src/other.rt' 'file: s
 check 'an edit that names nothing' misplaced '1: it names no file' 'lesser'
 cp "$folder/edit" "$edit"
 
-# A body and a proof below are others, in the same contracts: the edit stands by the lock, and is refused.
+# A body, a private contract and a proof below are others, in the same public contracts: the edit stands by the lock,
+# and is refused.
+sed -i 's/{ result ≤ 255 }/{ result ≤ 260 }/' "$low/src/lib.rt"
 sed -i 's/if a < b { a } else { b }/if b < a { b } else { a }/' "$low/src/lib.rt"
 sed -i 's/≤ 255$/≤ 300/' "$low/proofs/sum/Invariants.antt"
 check 'a body and a proof below' proves

@@ -28,3 +28,5 @@ pub mod Taping
 pub mod Leaves
 pub mod Scanned
 pub mod Listed
+pub mod Elements
+pub mod Filling

@@ -7,10 +7,13 @@
 -- left, then whatever waits. Each turn of the loop keeps that outcome, so at the end it is that of
 -- the whole region. Then it says where open regions lie, which bounds the loop and the stack.
 use Rattle.std.specs.Prelude.{◌≡◌, ◌+◌, ◌<◌, ◌≤◌, ℕ, suc, List, [], ◌∷◌, ◌++◌, length, map, Some, None, Result, Ok, Err}
+use Rattle.std.specs.Global.{Vec}
 use Rattle.nl_attr.specs.Fixed.{LONGEST_REGION, FARTHEST_END}
 use Rattle.nl_attr.specs.declared.fault.ListError.{ListError}
 use Rattle.nl_attr.specs.declared.fault.ListError.TheVariants.{Layout, Memory}
 use Rattle.nl_attr.specs.declared.tree.AttrFlags.{AttrFlags}
+use Rattle.nl_attr.specs.declared.tree.Attr.{Attr}
+use Rattle.nl_attr.specs.declared.tree.Ctx.{Ctx}
 use Rattle.nl_attr.specs.declared.walk.attrs.Part.{Part}
 use Rattle.nl_attr.specs.declared.stack.regions.ListRegion.{ListRegion}
 use Rattle.nl_attr.specs.declared.stack.regions.HopsRegion.{HopsRegion}
@@ -134,6 +137,10 @@ HopsGo S n o m r (hops_turn.Fails e) = FailsAs n o m e
 abbrev pub NextGoes : Shape → ℕ → Outcome Items → ℕ → Result Next ListError → Type 0
 NextGoes S n o m (Ok x) = more_visits n o ≡ more_visits m (next_rest S x)
 NextGoes S n o m (Err e) = FailsAs n o m e
+
+-- a region of attributes of which so much is left, and so much was collected
+abbrev pub region_at : Region → Vec Attr → ℕ → ℕ → Ctx → ListRegion
+region_at walk kept base level ctx = record { walk = walk; list = kept; base = base; level = level; ctx = ctx }
 
 -- ---- where open regions lie
 

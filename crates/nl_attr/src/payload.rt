@@ -1,7 +1,7 @@
 //! The bytes of an attribute that holds neither a list nor next hops.
 
 ghost use Rattle.std.specs.Prelude.{◌≡◌, ◌≤◌, ◌<◌, ◌==◌, ◌↔◌, nat_eq};
-ghost use Rattle.std.specs.Prelude.{length, IsTrue, IsOk, IfOk, IfErr};
+ghost use Rattle.std.specs.Prelude.{length, take, IsTrue, IsOk, IfOk, IfErr};
 ghost use Rattle.std.specs.Cmp.Lexicographic.{pointwise, nat_list_eq_equiv};
 ghost use Rattle.std.specs.Cmp.{partial_equiv_from_equiv};
 
@@ -53,8 +53,7 @@ impl Payload {
     }
 
     /// A copy of at most 23 bytes, which takes no memory.
-    #[inline(always)]
-    pub(crate) fn short(bytes: &[u8]) -> Payload
+    fn short(bytes: &[u8]) -> Payload
         requires { length bytes.now ≤ INLINE }
         ensures { result ≡ bytes.now }
     {
@@ -65,15 +64,13 @@ impl Payload {
         Payload { store }
     }
 
-    /// A copy of four bytes: one store.
+    /// The first bytes of a buffer.
     #[inline(always)]
-    pub(crate) fn four(bytes: &[u8]) -> Payload
-        requires { length bytes.now ≡ 4 }
-        ensures { result ≡ bytes.now }
+    pub(crate) fn front_of(buffer: [u8; INLINE], len: u8) -> Payload
+        requires { len ≤ INLINE }
+        ensures { result ≡ take len buffer }
     {
-        let mut buffer = [0; INLINE];
-        buffer[..4].copy_from_slice(bytes);
-        let store = Store::Inline(4, buffer);
+        let store = Store::Inline(len, buffer);
         Payload { store }
     }
 

@@ -13,10 +13,10 @@ ghost use Rattle.nl_frame.specs.Outcomes.{read_code, read_error};
 ghost use Rattle.nl_frame.specs.declared.reading.ReadError.TheVariants.{Memory};
 
 use crate::body::{Body, Message};
-use crate::front::{Frame, front};
+use crate::front::{Frame, frame_len, front};
 use crate::header::Header;
 use crate::limits::Limits;
-use nl_attr::{Fault, ListError, Tally};
+use nl_attr::{Fault, ListError, Order, Tally};
 use std::alloc::{AllocError, AllocFailed, Global};
 use thiserror::Error;
 
@@ -111,6 +111,17 @@ fn keep(list: &mut Vec<Message>, message: Message) -> bool
     list.push(message).is_ok()
 }
 
+/// How many messages there are where all are as long as the first says that it is: so they mostly
+/// are in a dump.
+fn first_room(bytes: &[u8], order: Order) -> usize
+    ensures { 16 * result ≤ length bytes.now }
+{
+    match frame_len(bytes, order) {
+        Ok(len) => bytes.len() / len,
+        Err(_) => 0,
+    }
+}
+
 /// The messages of a datagram.
 fn read_messages(alloc: Global, bytes: &[u8], limits: &Limits) -> Tally<Vec<Message>, ListError>
     requires { length bytes.now ≤ fixed.LONGEST_REGION }
@@ -121,7 +132,15 @@ fn read_messages(alloc: Global, bytes: &[u8], limits: &Limits) -> Tally<Vec<Mess
     // The depth is at most 32, so the visits fit their number.
     let _limit = limits.depth();
     let order = limits.order();
-    let mut list = Vec::new(alloc);
+    let mut list = match Vec::with_capacity(alloc, first_room(bytes, order)) {
+        Ok(list) => list,
+        Err(AllocError) => {
+            return Tally {
+                result: Err(ListError::Memory),
+                visits: 0,
+            };
+        }
+    };
     let mut visits = 0u64;
     let mut place = 0u32;
     let mut left = bytes;

@@ -2,14 +2,14 @@
 
 ghost use Rattle.std.specs.Prelude.{◌^◌, ◌≤◌, ◌<◌, ◌+◌, length};
 ghost use Rattle.nl_attr.specs.Fixed as fixed;
-ghost use Rattle.nl_attr.specs.Open.{TurnsAt, list_rest, list_spot, Goes, Moves, IsWithinLimits};
+ghost use Rattle.nl_attr.specs.Open.{TurnsAt, list_rest, list_spot, region_at, Goes, Moves, IsWithinLimits};
 
 use crate::fault::{Fault, ListError};
 use crate::limits::Shape;
 use crate::region::Parts;
 use crate::stack::regions::{ListRegion, container_fault, keep_bytes, layout};
-use crate::tree::{AttrFlags, holds};
-use crate::walk::Part;
+use crate::tree::{Attr, AttrFlags, Ctx, holds};
+use crate::walk::{CountedAttrs, Part};
 use std::alloc::{AllocError, Global};
 
 /// An attribute whose payload is a region, of which nothing is read.
@@ -53,8 +53,46 @@ fn turn_at<'a>(part: Part<'a>, parts: Parts, base: u32, level: u8, shape: Shape)
     })
 }
 
-/// Reads a region of attributes up to the first that opens another region.
+/// Reads what is left of a region of attributes up to the first that opens another region. Where the
+/// caller's walk and list are local variables, they stay in registers.
 #[inline(always)]
+pub(super) fn read_walk<'a>(
+    alloc: Global,
+    walk: &mut CountedAttrs<'a>,
+    list: &mut Vec<Attr>,
+    base: u32,
+    ctx: Ctx,
+    level: u8,
+    shape: Shape,
+    visits: &mut u64,
+) -> Turn<'a>
+    requires limit { shape.depth ≤ fixed.MOST_LEVELS }
+    requires limits { IsWithinLimits shape (list_spot (region_at walk.old list.old base level ctx)) }
+    requires room { visits.old + (list_rest shape (region_at walk.old list.old base level ctx)).1
+        ≤ fixed.MOST_VISITS }
+    ensures goes { Goes shape visits.old
+        (list_rest shape (region_at walk.old list.old base level ctx))
+        visits.new (region_at walk.new list.new base level ctx) result }
+    ensures moves { Moves shape (list_spot (region_at walk.old list.old base level ctx))
+        (region_at walk.new list.new base level ctx) result }
+{
+    'attrs: loop {
+        let part = match walk.step(visits) {
+            None => return Turn::Ends,
+            Some(Err(fault)) => return Turn::Fails(layout(base, fault)),
+            Some(Ok(part)) => part,
+        };
+        match Parts::of(holds(ctx, part.number, part.flags)) {
+            None => match keep_bytes(alloc, list, part.number, part.flags, part.payload) {
+                Ok(()) => continue 'attrs,
+                Err(AllocError) => return Turn::Fails(ListError::Memory),
+            },
+            Some(parts) => return turn_at(part, parts, base, level, shape),
+        }
+    }
+}
+
+/// Reads a region of attributes, where it stands, up to the first that opens another region.
 pub(super) fn read_attrs<'a>(
     alloc: Global,
     region: &mut ListRegion<'a>,
@@ -67,21 +105,15 @@ pub(super) fn read_attrs<'a>(
     ensures goes { Goes shape visits.old (list_rest shape region.old) visits.new region.new result }
     ensures moves { Moves shape (list_spot region.old) region.new result }
 {
-    'attrs: loop {
-        let part = match region.walk.step(visits) {
-            None => return Turn::Ends,
-            Some(Err(fault)) => return Turn::Fails(layout(region.base, fault)),
-            Some(Ok(part)) => part,
-        };
-        match Parts::of(holds(region.ctx, part.number, part.flags)) {
-            None => {
-                let list = &mut region.list;
-                match keep_bytes(alloc, list, part.number, part.flags, part.payload) {
-                    Ok(()) => continue 'attrs,
-                    Err(AllocError) => return Turn::Fails(ListError::Memory),
-                }
-            }
-            Some(parts) => return turn_at(part, parts, region.base, region.level, shape),
-        }
-    }
+    let (base, ctx, level) = (region.base, region.ctx, region.level);
+    read_walk(
+        alloc,
+        &mut region.walk,
+        &mut region.list,
+        base,
+        ctx,
+        level,
+        shape,
+        visits,
+    )
 }

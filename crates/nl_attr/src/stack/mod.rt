@@ -2,7 +2,9 @@
 
 ghost use Rattle.std.specs.Prelude.{◌≡◌, ◌≤◌, ◌+◌, ◌-◌, ◌*◌, length};
 ghost use Rattle.nl_attr.specs.Fixed as fixed;
-ghost use Rattle.nl_attr.specs.Reading.{items_of_region};
+ghost use Rattle.nl_attr.specs.Reading.{items_of_region, more_visits};
+ghost use Rattle.nl_attr.specs.Open.{opening_rest, list_spot, opening_spot, room_in};
+ghost use Rattle.nl_attr.specs.Open.{IsIn, IsWithinLimits};
 ghost use Rattle.nl_attr.specs.View.{attrs_view};
 ghost use Rattle.nl_attr.specs.Outcomes.{IsOutcome};
 
@@ -13,42 +15,38 @@ mod regions;
 
 use crate::fault::ListError;
 use crate::limits::Shape;
+use crate::order::Order;
 use crate::region::Parts;
-use crate::stack::attributes::{Turn, read_attrs};
+use crate::stack::attributes::{Opening, Turn, read_attrs, read_walk};
 use crate::stack::nested::{HopsWaits, Outer, read_nested, waits_for};
 use crate::stack::next_hops::{HopsTurn, read_hops};
 pub(crate) use crate::stack::regions::container_fault;
-use crate::stack::regions::{hops_of, keep_attr, list_of};
+use crate::stack::regions::{ListRegion, first_room, hops_of, keep_attr, list_of};
 use crate::tree::{Attr, Ctx, Value};
+use crate::walk::CountedAttrs;
 use std::alloc::Global;
 
-/// The attributes of a region. A region that opens in it is read at once, and so are the attributes
-/// of next hops; the stack is made where another opens in those: most need none.
-pub(crate) fn read_region(
+/// The attributes of a region from the first that opens another on. A region that opens in it is
+/// read at once, and so are the attributes of next hops; the stack is made where another opens in
+/// those: most need none.
+#[inline(never)]
+fn read_on<'a>(
     alloc: Global,
-    bytes: &[u8],
-    base: u32,
-    ctx: Ctx,
-    level: u8,
+    mut region: ListRegion<'a>,
+    first: Opening<'a>,
     shape: Shape,
     visits: &mut u64,
 ) -> Result<Vec<Attr>, ListError>
-    requires level { level ≤ shape.depth }
     requires limit { shape.depth ≤ fixed.MOST_LEVELS }
-    requires none { visits.old ≡ 0 }
-    requires size { length bytes.now ≤ fixed.LONGEST_REGION }
-    requires place { base + length bytes.now ≤ fixed.FARTHEST_END }
+    requires limits { IsWithinLimits shape (list_spot region) }
+    requires inside { IsIn shape (room_in (list_spot region)) (opening_spot shape region first) }
+    requires room { visits.old + (opening_rest shape region first).1 ≤ fixed.MOST_VISITS }
     ensures outcome { IsOutcome (λ v. attrs_view v.items) result visits.new
-        (items_of_region shape ctx level base bytes.now) }
-    ensures bound { visits.new ≤ (shape.depth - level + 1) * length bytes.now }
+        (more_visits visits.old (opening_rest shape region.entry first.entry)) }
+    ensures bound { visits.new ≤ visits.old + (opening_rest shape region.entry first.entry).1 }
 {
-    let mut region = list_of(alloc, bytes, base, ctx, level, shape)?;
+    let mut opening = first;
     'items: loop {
-        let opening = match read_attrs(alloc, &mut region, shape, visits) {
-            Turn::Ends => return Ok(region.list),
-            Turn::Opens(opening) => opening,
-            Turn::Fails(error) => return Err(error),
-        };
         let (number, flags) = (opening.number, opening.flags);
         let (payload, place) = (opening.payload, opening.place);
         match opening.parts {
@@ -80,5 +78,75 @@ pub(crate) fn read_region(
                 }
             }
         }
+        opening = match read_attrs(alloc, &mut region, shape, visits) {
+            Turn::Ends => return Ok(region.list),
+            Turn::Opens(opening) => opening,
+            Turn::Fails(error) => return Err(error),
+        };
+    }
+}
+
+/// The attributes of a region whose numbers are in an order that the caller writes as a constant.
+#[inline(always)]
+fn read_ordered(
+    alloc: Global,
+    bytes: &[u8],
+    base: u32,
+    ctx: Ctx,
+    level: u8,
+    order: Order,
+    shape: Shape,
+    visits: &mut u64,
+) -> Result<Vec<Attr>, ListError>
+    requires order { order ≡ shape.order }
+    requires level { level ≤ shape.depth }
+    requires limit { shape.depth ≤ fixed.MOST_LEVELS }
+    requires none { visits.old ≡ 0 }
+    requires size { length bytes.now ≤ fixed.LONGEST_REGION }
+    requires place { base + length bytes.now ≤ fixed.FARTHEST_END }
+    ensures outcome { IsOutcome (λ v. attrs_view v.items) result visits.new
+        (items_of_region shape ctx level base bytes.now) }
+    ensures bound { visits.new ≤ (shape.depth - level + 1) * length bytes.now }
+{
+    let mut walk = CountedAttrs::over(bytes, order);
+    let mut list = Vec::with_capacity(alloc, first_room(bytes, 8))?;
+    match read_walk(alloc, &mut walk, &mut list, base, ctx, level, shape, visits) {
+        Turn::Ends => Ok(list),
+        Turn::Opens(opening) => {
+            let region = ListRegion {
+                walk,
+                list,
+                base,
+                level,
+                ctx,
+            };
+            read_on(alloc, region, opening, shape, visits)
+        }
+        Turn::Fails(error) => Err(error),
+    }
+}
+
+/// The attributes of a region, by a loop for each order: no head asks for it.
+pub(crate) fn read_region(
+    alloc: Global,
+    bytes: &[u8],
+    base: u32,
+    ctx: Ctx,
+    level: u8,
+    shape: Shape,
+    visits: &mut u64,
+) -> Result<Vec<Attr>, ListError>
+    requires level { level ≤ shape.depth }
+    requires limit { shape.depth ≤ fixed.MOST_LEVELS }
+    requires none { visits.old ≡ 0 }
+    requires size { length bytes.now ≤ fixed.LONGEST_REGION }
+    requires place { base + length bytes.now ≤ fixed.FARTHEST_END }
+    ensures outcome { IsOutcome (λ v. attrs_view v.items) result visits.new
+        (items_of_region shape ctx level base bytes.now) }
+    ensures bound { visits.new ≤ (shape.depth - level + 1) * length bytes.now }
+{
+    match shape.order() {
+        Order::Little => read_ordered(alloc, bytes, base, ctx, level, Order::Little, shape, visits),
+        Order::Big => read_ordered(alloc, bytes, base, ctx, level, Order::Big, shape, visits),
     }
 }

@@ -1,6 +1,6 @@
 //! Open regions, and what is collected in them.
 
-ghost use Rattle.std.specs.Prelude.{◌^◌, ◌≡◌, ◌≤◌, ◌<◌, ◌+◌, [], ◌∷◌, ◌++◌, length, map, IfOk};
+ghost use Rattle.std.specs.Prelude.{◌^◌, ◌≡◌, ◌≤◌, ◌<◌, ◌+◌, ◌*◌, [], ◌∷◌, ◌++◌, length, map, take, IfOk};
 ghost use Rattle.nl_attr.specs.Fixed as fixed;
 ghost use Rattle.nl_attr.specs.Heads.{broken_container, attr_head, hop_head};
 ghost use Rattle.nl_attr.specs.Reading.{items_of_region, hops_of_region};
@@ -78,8 +78,18 @@ pub(super) fn layout(base: u32, fault: Fault) -> ListError
     })
 }
 
-/// The most items for which room is made before the first is read.
-const FIRST_ROOM: usize = 32;
+/// The most items for which room is made before the first is read: a link of a recent kernel has
+/// some 38 attributes.
+const FIRST_ROOM: usize = 40;
+
+/// How many items there are in a region where each has so many bytes; at most those for which room
+/// is made before the first is read.
+pub(super) fn first_room(bytes: &[u8], each: usize) -> usize
+    requires { 1 ≤ each }
+    ensures { result * each ≤ length bytes.now }
+{
+    (bytes.len() / each).min(FIRST_ROOM)
+}
 
 /// A region of attributes, of which nothing is read; with room for as many as it has where each has
 /// eight bytes.
@@ -101,7 +111,7 @@ pub(super) fn list_of<'a>(
         ctx,
         base,
         level,
-        list: Vec::with_capacity(alloc, (bytes.len() / 8).min(FIRST_ROOM))?,
+        list: Vec::with_capacity(alloc, first_room(bytes, 8))?,
     })
 }
 
@@ -123,7 +133,7 @@ pub(super) fn hops_of<'a>(
         walk: CountedHopParts::over(bytes, shape.order()),
         base,
         level,
-        list: Vec::with_capacity(alloc, (bytes.len() / 16).min(FIRST_ROOM))?,
+        list: Vec::with_capacity(alloc, first_room(bytes, 16))?,
     })
 }
 
@@ -147,7 +157,29 @@ pub(super) fn keep_attr(
     Ok(())
 }
 
-/// Adds an attribute of these bytes: most are numbers or addresses of four.
+/// Adds an attribute of the first bytes of a buffer.
+#[inline(always)]
+fn keep_front(
+    list: &mut Vec<Attr>,
+    number: u16,
+    flags: AttrFlags,
+    buffer: [u8; INLINE],
+    len: u8,
+) -> Result<(), AllocError>
+    requires { len ≤ INLINE }
+    ensures { IfOk result (λ _. map attr_view list.new.items
+        ≡ map attr_view list.old.items ++ item number flags (held (take len buffer)) ∷ []) }
+{
+    keep_attr(
+        list,
+        number,
+        flags,
+        Value::Bytes(Payload::front_of(buffer, len)),
+    )
+}
+
+/// Adds an attribute of these bytes. Most are addresses or numbers, of one of five lengths, whose
+/// bytes are written out: a copy of a length that is known at run time alone is a call.
 #[inline(always)]
 pub(super) fn keep_bytes(
     alloc: Global,
@@ -159,14 +191,55 @@ pub(super) fn keep_bytes(
     ensures { IfOk result (λ _. map attr_view list.new.items
         ≡ map attr_view list.old.items ++ item number flags (held payload.now) ∷ []) }
 {
-    if payload.len() == 4 {
-        keep_attr(list, number, flags, Value::Bytes(Payload::four(payload)))
-    } else if payload.len() <= INLINE {
-        keep_attr(list, number, flags, Value::Bytes(Payload::short(payload)))
-    } else {
-        let payload = Payload::from_slice(alloc, payload)?;
-        keep_attr(list, number, flags, Value::Bytes(payload))
+    match *payload {
+        [a, b, c, d] => {
+            let buffer = [
+                a, b, c, d, 0, 0, 0, 0, 0, 0, 0, 0, 0, 0, 0, 0, 0, 0, 0, 0, 0, 0, 0,
+            ];
+            keep_front(list, number, flags, buffer, 4)
+        }
+        [a, b, c, d, e, f, g, h, i, j, k, l, m, n, o, p] => {
+            let buffer = [
+                a, b, c, d, e, f, g, h, i, j, k, l, m, n, o, p, 0, 0, 0, 0, 0, 0, 0,
+            ];
+            keep_front(list, number, flags, buffer, 16)
+        }
+        [a, b, c, d, e, f] => {
+            let buffer = [
+                a, b, c, d, e, f, 0, 0, 0, 0, 0, 0, 0, 0, 0, 0, 0, 0, 0, 0, 0, 0, 0,
+            ];
+            keep_front(list, number, flags, buffer, 6)
+        }
+        [a] => {
+            let buffer = [
+                a, 0, 0, 0, 0, 0, 0, 0, 0, 0, 0, 0, 0, 0, 0, 0, 0, 0, 0, 0, 0, 0, 0,
+            ];
+            keep_front(list, number, flags, buffer, 1)
+        }
+        [a, b, c, d, e, f, g, h] => {
+            let buffer = [
+                a, b, c, d, e, f, g, h, 0, 0, 0, 0, 0, 0, 0, 0, 0, 0, 0, 0, 0, 0, 0,
+            ];
+            keep_front(list, number, flags, buffer, 8)
+        }
+        _ => keep_others(alloc, list, number, flags, payload),
     }
+}
+
+/// Adds an attribute of bytes of any number.
+#[inline(never)]
+fn keep_others(
+    alloc: Global,
+    list: &mut Vec<Attr>,
+    number: u16,
+    flags: AttrFlags,
+    payload: &[u8],
+) -> Result<(), AllocError>
+    ensures { IfOk result (λ _. map attr_view list.new.items
+        ≡ map attr_view list.old.items ++ item number flags (held payload.now) ∷ []) }
+{
+    let payload = Payload::from_slice(alloc, payload)?;
+    keep_attr(list, number, flags, Value::Bytes(payload))
 }
 
 /// Adds a next hop to those that were collected.

@@ -4,21 +4,21 @@ use Rattle.nl_attr.specs.declared.walk.attrs.Part.{Part}
 use Rattle.nl_attr.specs.Walk.{GivesPart, broken_length, span_given}
 use Rattle.nl_attr.specs.View.{attr_view}
 use Rattle.nl_attr.specs.Heads.{attr_head}
-use Rattle.nl_attr.specs.Open.{before, list_rest, list_spot}
+use Rattle.nl_attr.specs.Open.{before, list_rest, list_spot, region_at}
 use Rattle.nl_attr.proofs.Lemmas.Loop.{part_turns, counted, list_done, list_cut, passes}
 use Rattle.nl_attr.proofs.Lemmas.Going.{goes_further, stays_within, visits_so_far, turns_so, moves_so, list_leaf, leaf_visits}
 use Rattle.nl_attr.proofs.Lemmas.Opens.{turn_goes, turn_moves}
-use Rattle.nl_attr.proofs.stack.attributes.read_attrs.Goals as goal
+use Rattle.nl_attr.proofs.stack.attributes.read_walk.Goals as goal
 
 pub returns-in-None-clause-goes : goal.returns-in-None-clause-goes
 returns-in-None-clause-goes c =
-    let r = c.attrs.region in
+    let r = region_at c.attrs.walk c.attrs.list c.args.base c.args.level c.args.ctx in
     let n : c.step.new.visits ≡ c.attrs.visits = omega (arith, c.in-None.ensures.counts) in
     rw n (c.attrs.invariant.same ∙ list_done c.args.shape r.ctx r.level (r.base + r.walk.place) r.walk.left (map attr_view r.list.items) c.attrs.visits c.in-None.ensures.steps.0)
 
 pub returns-in-Some-Err-clause-goes : goal.returns-in-Some-Err-clause-goes
 returns-in-Some-Err-clause-goes c =
-    let r = c.attrs.region in
+    let r = region_at c.attrs.walk c.attrs.list c.args.base c.args.level c.args.ctx in
     let w = r.walk in
     let g : GivesPart w (Some (Err c.in-Some-Err.fault)) c.step.new.self = subst (λ x. GivesPart w (Some x) c.step.new.self) c.in-Some-Err.field-0-is c.in-Some-Err.ensures.steps in
     let within = stays_within c.attrs.invariant c.requires.limits in
@@ -27,7 +27,7 @@ returns-in-Some-Err-clause-goes c =
 
 pub attrs-preserved : goal.attrs-preserved
 attrs-preserved c =
-    let r = c.attrs.region in
+    let r = region_at c.attrs.walk c.attrs.list c.args.base c.args.level c.args.ctx in
     let w = r.walk in
     let s = c.step.new.self in
     let p = c.in-Some-Ok.part in
@@ -40,7 +40,7 @@ attrs-preserved c =
 
 pub returns-in-Err-clause-goes : goal.returns-in-Err-clause-goes
 returns-in-Err-clause-goes c =
-    let r = c.attrs.region in
+    let r = region_at c.attrs.walk c.attrs.list c.args.base c.args.level c.args.ctx in
     let w = r.walk in
     let s = c.step.new.self in
     let p = c.in-Some-Ok.part in
@@ -51,7 +51,7 @@ returns-in-Err-clause-goes c =
 
 pub returns-in-Some : goal.returns-in-Some
 returns-in-Some c =
-    let r = c.attrs.region in
+    let r = region_at c.attrs.walk c.attrs.list c.args.base c.args.level c.args.ctx in
     let s = c.step.new.self in
     let p = c.in-Some-Ok.part in
     let after = record r { walk = s } in
