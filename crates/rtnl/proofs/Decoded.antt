@@ -1,8 +1,8 @@
 -- What hexadecimal digits decode to, by their parts.
-use Rattle.std.proofs.Common.{◌≡◌, ℕ, ◌+◌, ◌*◌, ◌/◌, ◌%◌, min, true, false, List, [], ◌∷◌, ◌++◌, length, Option, Some, None, unwrap_or, Result, Ok, Err, refl, sym, ap, ◌∙◌, arith, append-nil, append_assoc, length-append, inl, inr}
-use Rattle.std.specs.Prelude.{MatchResult, is_err}
+use Rattle.std.proofs.Common.{◌≡◌, ℕ, ◌+◌, ◌*◌, ◌/◌, ◌%◌, ◌<◌, min, Bool, true, false, List, [], ◌∷◌, ◌++◌, length, Option, Some, None, unwrap_or, Result, Ok, Err, refl, sym, ap, ◌∙◌, arith, append-nil, append_assoc, length-append, inl, inr}
+use Rattle.std.specs.Prelude.{MatchResult}
 use Rattle.std.proofs.lemmas.Bool.{cases_eq}
-use Rattle.hex.specs.Hex.{decode_of, decode_pairs, decode_sized, digit_or_error, hex_digit_value, ◌>>=◌}
+use Rattle.hex.specs.Hex.{decode_of, decode_pairs, decode_sized, digit_or_error, hex_digit_value, pair_value, value_at, ◌>>=◌}
 use Rattle.hex.specs.declared.error.FromHexError.{FromHexError}
 use Rattle.hex.proofs.HexLemmas.{decode_of-even, decode_of-odd, decode_sized-ok, decode_sized-twice}
 use Rattle.rtnl.specs.Lines.{decoded}
@@ -107,7 +107,7 @@ leads_more all done left piece more bytes n so_far parts is =
     ∙ joined_more done bytes (found (decode_of more))
 
 -- a piece that does not decode is one of digits that do not
-pub leads_bad : (all done left piece more : List ℕ) (n : ℕ) → Leads all done left → left ≡ piece ++ more → length piece ≡ min 64 (length left) → n ≡ length piece / 2 → found (decode_sized piece n) ≡ None →
+pub leads_bad : (all done left piece more : List ℕ) (n : ℕ) → Leads all done left → left ≡ piece ++ more → length piece ≡ min 256 (length left) → n ≡ length piece / 2 → found (decode_sized piece n) ≡ None →
     found (decode_of all) ≡ None
 leads_bad all done left piece more n so_far parts size room bad =
     let sum = ap length parts ∙ length-append piece more in
@@ -131,19 +131,28 @@ unfolding decode_pairs
 leads_all all done left so_far none =
     whole (decode_of all) done (so_far ∙ ap (λ digits. joined (Some done) (found (decode_of digits))) none ∙ ap Some (append-nil done))
 
+-- the byte of two digits of these values
+pub pair_of : (a b i high low : ℕ) → high < 16 → low < 16 → hex_digit_value a ≡ Some high → hex_digit_value b ≡ Some low → pair_value a b i ≡ Ok (high % 16 * 16 + low % 16)
+pair_of a b i high low small less first second =
+    let one : value_at a i ≡ Ok high = ap (digit_or_error a i) first in
+    let other : value_at b (i + 1) ≡ Ok low = ap (digit_or_error b (i + 1)) second in
+    let both : pair_value a b i ≡ Ok (high * 16 + low) = rw (one, other) refl in
+    let same : high * 16 + low ≡ high % 16 * 16 + low % 16 = omega arith in
+    both ∙ ap Ok same
+
 -- digits that do not decode are a bad line
 pub bad_digits : (number : ℕ) (read : Result (List ℕ) FromHexError) → found read ≡ None → decoded number read ≡ Err number
 bad_digits number (Ok x) none = cc none
 bad_digits number (Err e) none = refl
 
 -- what a slice's decoding answers
-pub slice_decoded : (read : Result (List ℕ) FromHexError) (answer : Result Unit FromHexError) (out : List ℕ) →
-    MatchResult read (λ bytes. (answer ≡ Ok tt) × (out ≡ bytes)) (λ e. answer ≡ Err e) → is_err answer ≡ false → read ≡ Ok out
+pub slice_decoded : (read : Result (List ℕ) FromHexError) (answer : Bool) (out : List ℕ) →
+    MatchResult read (λ bytes. (answer ≡ true) × (out ≡ bytes)) (λ e. answer ≡ false) → answer ≡ true → read ≡ Ok out
 slice_decoded (Ok bytes) answer out is fine = ap Ok (sym is.1)
-slice_decoded (Err e) answer out is fine = cc (sym fine ∙ ap is_err is)
+slice_decoded (Err e) answer out is fine = cc (sym fine ∙ is)
 
 -- what it answers where it fails
-pub slice_failed : (read : Result (List ℕ) FromHexError) (answer : Result Unit FromHexError) (out : List ℕ) →
-    MatchResult read (λ bytes. (answer ≡ Ok tt) × (out ≡ bytes)) (λ e. answer ≡ Err e) → is_err answer ≡ true → found read ≡ None
-slice_failed (Ok bytes) answer out is bad = cc (sym bad ∙ ap is_err is.0)
+pub slice_failed : (read : Result (List ℕ) FromHexError) (answer : Bool) (out : List ℕ) →
+    MatchResult read (λ bytes. (answer ≡ true) × (out ≡ bytes)) (λ e. answer ≡ false) → answer ≡ false → found read ≡ None
+slice_failed (Ok bytes) answer out is bad = cc (sym bad ∙ is.0)
 slice_failed (Err e) answer out is bad = refl

@@ -1,5 +1,5 @@
 -- What is written of a line, a token after another.
-use Rattle.std.proofs.Common.{◌≡◌, ◌+◌, ℕ, [], ◌∷◌, ◌++◌, Bool, true, false, cond, List, drop, arith, append_assoc, append-nil, ap, ap₂, codes, refl, sym, ◌∙◌}
+use Rattle.std.proofs.Common.{◌≡◌, ◌+◌, ℕ, [], ◌∷◌, ◌++◌, Bool, true, false, cond, List, drop, arith, append_assoc, append-nil, ap, ap₂, codes, decimal, refl, sym, ◌∙◌}
 use Rattle.std.proofs.lemmas.Bool.{and_parts}
 use Rattle.json.specs.Json.{Json}
 use Rattle.json.specs.Print.{begins, ends, escape, escape_byte, print, print_from, quoted, separator, token_text}
@@ -8,7 +8,11 @@ use Rattle.json.specs.Token.{Token, begin_array, begin_object, boolean, end_arra
 use Rattle.json.specs.Token as token
 use Rattle.json.specs.Tree.{items_tokens, json_tokens, members_tokens}
 use Rattle.json.proofs.Printed.Strings.{escape_byte_plain}
-use Rattle.rtnl.specs.Json.{Field, IsUnescaped, Line, ◌⊕◌, array, behind, closed, comma, fields_tokens, is_unescaped, items_of, json_line, members_of, object, object_behind, opened, put, string, value_text, values_tokens}
+use Rattle.rtnl.specs.MessagesJson.{form_tokens, reading_fields, reading_json}
+use Rattle.hex.specs.Hex.{encode_lower}
+use Rattle.rtnl.specs.Values.{Reading, ipv4_text, ipv6_text}
+use Rattle.rtnl.specs.Values as values
+use Rattle.rtnl.specs.Json.{Field, IsUnescaped, Line, ◌⊕◌, array, behind, closed, comma, fields_tokens, is_unescaped, items_of, json_line, members_of, number, object, object_behind, opened, put, string, value_text, values_tokens}
 
 -- a byte that stands for itself
 one_byte : (x : ℕ) → is_plain x ≡ true → escape_byte x ≡ x ∷ []
@@ -202,10 +206,6 @@ falsehood_written w = opens w (boolean false) [] (codes "false") true refl refl 
 pub tokens_put : (w : Line) (name : List ℕ) (ts : List Token) → w ⊕ (key name ∷ ts) ≡ opened w (print (key name ∷ ts)) (ended false (key name ∷ ts))
 tokens_put w name ts = sym (opens w (key name) ts _ _ refl refl refl)
 
--- a number
-pub digits_written : (w : Line) (digits : List ℕ) → w ⊕ (token.number digits ∷ []) ≡ record { text = (w.text ++ (comma w.after ++ [])) ++ digits; after = true }
-digits_written w digits = sym (one_token w (opened w [] true) [] digits true (token.number digits) _ refl refl refl refl refl)
-
 -- a string
 pub quoted_written : (w : Line) (text : List ℕ) → w ⊕ (token.string text ∷ []) ≡ record { text = (w.text ++ (comma w.after ++ [])) ++ quoted text; after = true }
 quoted_written w text = sym (one_token w (opened w [] true) [] (quoted text) true (token.string text) _ refl refl refl refl refl)
@@ -225,3 +225,54 @@ key_written w name plain =
 -- a text in quotes
 pub quoted_behind : (out text : List ℕ) → IsUnescaped text → out ++ quoted text ≡ ((out ++ codes "\"") ++ text) ++ codes "\""
 quoted_behind out text plain = rw (no_escape text plain) (simp append_assoc)
+
+-- ---- what is put together
+
+-- the text of tokens, and of others behind them
+print_more : (after : Bool) (a b : List Token) → print_from after (a ++ b) ≡ print_from after a ++ print_from (ended after a) b
+unfolding print_from
+print_more after [] b = refl
+print_more after (t ∷ ts) b =
+    let s = separator after t in
+    let first = print_from (ends t) ts in
+    let rest = print_from (ended (ends t) ts) b in
+    ap (λ l. s ++ (token_text t ++ l)) (print_more (ends t) ts b)
+    ∙ sym (append_assoc s (token_text t ++ first) rest ∙ ap (λ l. s ++ l) (append_assoc (token_text t) first rest))
+
+-- the text of a number
+pub number_text : (n : ℕ) → value_text (number n) ≡ decimal n
+unfolding print_from
+number_text n = append-nil (decimal n)
+
+-- the text of a form, and of the value behind it
+pub form_text : (r : Reading) → print (fields_tokens (reading_fields r)) ≡ print (form_tokens r) ++ value_text (reading_json r)
+unfolding reading_fields fields_tokens
+form_text r = print_more false (form_tokens r) (json_tokens (reading_json r) ++ []) ∙ ap (λ ts. print (form_tokens r) ++ print ts) (append-nil (json_tokens (reading_json r)))
+
+-- a value that is put together
+pub value_together : (w : Line) (r : Reading) → opened w (value_text (reading_json r)) true ≡ w ⊕ json_tokens (reading_json r)
+unfolding reading_json
+value_together w (values.u8 n) = opens w (token.number (decimal n)) [] _ true refl refl refl
+value_together w (values.u16 n) = opens w (token.number (decimal n)) [] _ true refl refl refl
+value_together w (values.u32 n) = opens w (token.number (decimal n)) [] _ true refl refl refl
+value_together w (values.text t) = opens w (token.string t) [] _ true refl refl refl
+value_together w (values.ipv4 address) = opens w (token.string (ipv4_text address)) [] _ true refl refl refl
+value_together w (values.ipv6 address) = opens w (token.string (ipv6_text address)) [] _ true refl refl refl
+value_together w (values.hex bytes) = opens w (token.string (encode_lower bytes)) [] _ true refl refl refl
+
+-- a field with a number that is put together
+pub number_field : (w : Line) (name : List ℕ) (n : ℕ) → IsUnescaped name → w ⊕ fields_tokens ((name, number n) ∷ []) ≡ opened w (codes "\"" ++ (name ++ (codes "\":" ++ (decimal n ++ [])))) true
+unfolding fields_tokens print_from
+number_field w name n plain =
+    let digits = decimal n ++ [] in
+    let named : 34 ∷ (name ++ codes "\":") ≡ token_text (key name) =
+    ap (λ t. 34 ∷ (t ++ codes "\":")) (sym (no_escape name plain)) ∙ sym (append_assoc (34 ∷ escape name) (codes "\"") (codes ":")) in
+    let words : (codes "\"" ++ (name ++ (codes "\":" ++ digits))) ≡ print (fields_tokens ((name, number n) ∷ [])) =
+    ap (λ t. 34 ∷ t) (sym (append_assoc name (codes "\":") digits)) ∙ ap (λ t. t ++ digits) named in
+    sym (fields_together w ((name, number n) ∷ []) _ words refl)
+
+-- an object that is put together of its front, what is behind it, and its end
+pub together : (w : Line) (front value : List ℕ) → closed (opened (opened w front true) value true) (codes "}") ≡ opened w (front ++ (44 ∷ (value ++ codes "}"))) true
+together w front value =
+    let all : ((w.text ++ (comma w.after ++ front)) ++ (44 ∷ value)) ++ codes "}" ≡ w.text ++ (comma w.after ++ (front ++ (44 ∷ (value ++ codes "}")))) = simp append_assoc in
+    λ i. record { text = all i; after = true }

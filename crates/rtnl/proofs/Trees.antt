@@ -6,9 +6,10 @@ use Rattle.nl_attr.specs.declared.tree.Attr.{Attr}
 use Rattle.nl_attr.specs.declared.tree.Ctx.{Ctx}
 use Rattle.nl_attr.specs.declared.tree.Ctx.TheVariants.{Route}
 use Rattle.nl_attr.specs.declared.tree.Hop.{Hop, out-Hop}
-use Rattle.nl_attr.specs.declared.tree.Value.TheFolds.{fold_out-Attr}
+use Rattle.nl_attr.specs.declared.tree.Value.TheFolds.{fold_out-Attr, fold-roll-Value}
+use Rattle.nl_attr.specs.declared.tree.Value.TheOpen.{Value-F}
 use Rattle.nl_attr.specs.declared.tree.Value.TheVariants as value
-use Rattle.nl_attr.specs.Tree.{Val, Items, item, HopItems, hop}
+use Rattle.nl_attr.specs.Tree.{Val, bytes, Items, item, HopItems, hop}
 use Rattle.nl_attr.specs.View.{Front, HopFront, value_step, attr_step, hop_step, value_view, attr_view, attrs_view, hop_view, hops_view}
 use Rattle.nl_attr.proofs.Lemmas.Opened.{attr_is, hop_is, value_list, value_hops}
 use Rattle.rtnl.specs.declared.names.attributes.Style.{Style}
@@ -29,6 +30,11 @@ item_count_lem (attr ∷ more) = ap item_count (attr_is attr more) ∙ omega (ar
 hop_count_lem : (items : List Hop) → hop_count (hops_view items) ≡ length items
 hop_count_lem [] = refl
 hop_count_lem (one ∷ more) = ap (λ (f : HopFront). hop_count (f (hops_view more))) (hop_is one) ∙ omega (arith, hop_count_lem more)
+
+-- a payload is its bytes
+pub value_bytes : (payload : List ℕ) → value_view (value.Bytes payload) ≡ bytes payload
+value_bytes payload =
+    ap value_view (sym (value.rolls-Bytes payload)) ∙ fold-roll-Value Val Front HopFront value_step attr_step hop_step (Value-F.Bytes payload)
 
 -- a list says the number of its attributes
 pub inline_list : (o : Order) (style : Style) (net : Bool) (attrs : Vec Attr Global) →

@@ -1,5 +1,5 @@
 -- Texts that stand for themselves, in a string of JSON or as UTF-8.
-use Rattle.std.proofs.Common.{◌≡◌, ℕ, zero, suc, ◌+◌, ◌*◌, ◌/◌, ◌%◌, ◌<◌, ◌≤◌, ◌^◌, ◌&&◌, ◌==◌, Bool, true, List, [], ◌∷◌, ◌++◌, length, refl, rules, arith, codes, decimal, slice_index, inl, inr}
+use Rattle.std.proofs.Common.{◌≡◌, ℕ, zero, suc, ◌+◌, ◌*◌, ◌/◌, ◌%◌, ◌<◌, ◌≤◌, ◌^◌, ◌&&◌, ◌==◌, Bool, true, List, [], ◌∷◌, ◌++◌, length, Option, Some, None, refl, rules, subst, arith, codes, decimal, slice_index, inl, inr}
 use Rattle.std.specs.Prelude.{nat_le}
 use Rattle.std.proofs.lemmas.Bool.{agree_below_at, and_parts, cases_Bool}
 use Rattle.std.specs.List.{list_all}
@@ -13,11 +13,20 @@ use Rattle.nl_attr.specs.declared.tree.Ctx.TheVariants as ctx
 use Rattle.nl_route.specs.declared.family.Family.{Family}
 use Rattle.nl_route.specs.declared.family.Family.TheVariants as family
 use Rattle.nl_route.specs.Families.{name_of}
-use Rattle.rtnl.specs.declared.names.attributes.Style.{Style}
 use Rattle.rtnl.specs.Attributes.{attribute_name, attribute_rows, row_of}
 use Rattle.rtnl.specs.Json.{IsUnescaped, is_unescaped}
 use Rattle.rtnl.specs.Named.{Named, find_named, name_in}
 use Rattle.rtnl.specs.Text.{padded_hex}
+use Rattle.nl_route.specs.declared.family.RouteType.{RouteType}
+use Rattle.nl_route.specs.declared.family.Verb.{Verb}
+use Rattle.nl_route.specs.declared.family.Verb.TheVariants as verb
+use Rattle.nl_route.specs.Types.{route_type}
+use Rattle.rtnl.specs.declared.names.flags.Bits.{Bits}
+use Rattle.rtnl.specs.declared.names.flags.Bits.TheVariants as bits
+use Rattle.rtnl.specs.declared.names.types.FlagNames.TheVariants.{Common, Get, New, Error}
+use Rattle.rtnl.specs.NamedBits.{bit_names}
+use Rattle.rtnl.specs.Names.{are_unescaped}
+use Rattle.rtnl.specs.Types.{controls, name_for, type_name, verb_name}
 use Rattle.rtnl.specs.Values as values
 use Rattle.rtnl.specs.Values.{group_at, groups_text, ipv4_text, ipv6_text}
 use Rattle.rtnl.proofs.Digits.{four_digits}
@@ -59,17 +68,17 @@ abbrev is_name : List ℕ → Bool
 is_name name = nat_le (length name) 16 && is_unescaped name
 
 -- the names of rows
-abbrev names : List (Named Style) → Bool
+abbrev names : {T : Type 0} → List (Named T) → Bool
 names [] = true
 names (row ∷ rows) = is_name row.1 && names rows
 
-found : (rows : List (Named Style)) (number : ℕ) → names rows ≡ true → is_name (name_in (codes "-") (find_named number rows)) ≡ true
-found [] number named = refl
-found (row ∷ rows) number named =
+found : {T : Type 0} (other : List ℕ) (rows : List (Named T)) (number : ℕ) → is_name other ≡ true → names rows ≡ true → is_name (name_in other (find_named number rows)) ≡ true
+found other [] number is named = is
+found other (row ∷ rows) number is named =
     let parts = and_parts (is_name row.1) (names rows) named in
     elim (cases_Bool (row.0 == number)) [
       | inl here ↦ rw here parts.0
-      | inr there ↦ rw there (found rows number parts.1)
+      | inr there ↦ rw there (found other rows number is parts.1)
     ]
 
 all : (c : Ctx) → names (attribute_rows c) ≡ true
@@ -84,7 +93,7 @@ all ctx.Plain = refl
 
 both_of_name : (c : Ctx) (number : ℕ) → (nat_le (length (attribute_name c number)) 16 ≡ true) × IsUnescaped (attribute_name c number)
 unfolding row_of
-both_of_name c number = and_parts _ _ (found (attribute_rows c) number (all c))
+both_of_name c number = and_parts _ _ (found (codes "-") (attribute_rows c) number refl (all c))
 
 -- the name of an attribute is short
 pub short_name : (c : Ctx) (number : ℕ) → length (attribute_name c number) ≤ 16
@@ -101,6 +110,33 @@ unescaped_family family.Addr = refl
 unescaped_family family.Route = refl
 unescaped_family family.Neigh = refl
 unescaped_family family.Rule = refl
+
+-- the names of bits
+pub unescaped_bits : (b : Bits) → are_unescaped (bit_names b) ≡ true
+unescaped_bits (bits.Message Common) = refl
+unescaped_bits (bits.Message Get) = refl
+unescaped_bits (bits.Message New) = refl
+unescaped_bits (bits.Message Error) = refl
+unescaped_bits bits.Link = refl
+unescaped_bits bits.NeighState = refl
+unescaped_bits bits.NeighFlags = refl
+unescaped_bits bits.NextHop = refl
+
+unescaped_verb : (v : Verb) → IsUnescaped (verb_name v)
+unescaped_verb verb.New = refl
+unescaped_verb verb.Del = refl
+unescaped_verb verb.Get = refl
+unescaped_verb verb.Set = refl
+
+of_type : (kind : ℕ) (of : Option RouteType) → IsUnescaped (name_for kind of)
+unfolding controls
+of_type kind None = (and_parts _ _ (found (codes "other") controls kind refl refl)).1
+of_type kind (Some t) = unescaped_append (verb_name t.verb) (name_of t.family) (unescaped_verb t.verb) (unescaped_family t.family)
+
+-- the two parts of the name of a message type
+pub unescaped_parts : (kind : ℕ) (first second : List ℕ) → type_name kind ≡ first ++ second → IsUnescaped (first ++ second)
+unfolding type_name
+unescaped_parts kind first second is = subst IsUnescaped is (of_type kind (route_type kind))
 
 -- a text that stands for itself
 abbrev Unescaped : Type 0

@@ -1,5 +1,5 @@
 -- Messages, their bodies and their attributes as values of JSON, with the words of the printed text.
-use Rattle.std.specs.Prelude.{ℕ, ℤ, List, [], ◌∷◌, ◌++◌, map, codes, Bool, true, false, Option, Some, None}
+use Rattle.std.specs.Prelude.{ℕ, ℤ, ⊤, ◌≤◌, length, List, [], ◌∷◌, ◌++◌, map, codes, Bool, true, false, Option, Some, None}
 use Rattle.json.specs.Json as json
 use Rattle.json.specs.Token.{Token}
 use Rattle.json.specs.Token as token
@@ -16,7 +16,7 @@ use Rattle.nl_frame.specs.Message.{BodyVal, noop, error, done, overrun, object a
 use Rattle.nl_dump.specs.Items.{Item}
 use Rattle.rtnl.specs.Attributes.{attribute_style, row_of, inner_context}
 use Rattle.rtnl.specs.declared.names.attributes.Style.{Style}
-use Rattle.rtnl.specs.Json.{Field, object, array, number, signed, string, strings, digits}
+use Rattle.rtnl.specs.Json.{Field, IsUnescaped, object, array, number, signed, string, strings, digits}
 use Rattle.rtnl.specs.Link.{link_head_fields}
 use Rattle.rtnl.specs.Addr.{addr_head_fields}
 use Rattle.rtnl.specs.Route.{route_head_fields}
@@ -72,6 +72,16 @@ reading_fields r = (codes "form", string (reading_word r)) ∷ (codes "value", r
 -- for private clauses: the form, and the name of the field of the value
 abbrev pub form_tokens : Reading → List Token
 form_tokens r = token.key (codes "form") ∷ token.string (reading_word r) ∷ token.key (codes "value") ∷ []
+
+-- for private clauses: a number, an address, a text of at most 128 bytes that stands for itself, or at most 64 bytes
+abbrev pub IsReady : Reading → Type 0
+IsReady (u8 n) = ⊤
+IsReady (u16 n) = ⊤
+IsReady (u32 n) = ⊤
+IsReady (text t) = (length t ≤ 128) × IsUnescaped t
+IsReady (ipv4 address) = ⊤
+IsReady (ipv6 address) = ⊤
+IsReady (hex payload) = length payload ≤ 64
 
 -- the form of a container, and what it holds
 unfoldable pub items_fields : List ℕ → List json.Json → List Field

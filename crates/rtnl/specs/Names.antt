@@ -1,9 +1,9 @@
 -- The names of the bits that a number has.
 use Rattle.std.specs.Prelude.{ℕ, ◌==◌, Bool, true, false, List, [], ◌∷◌, ◌++◌, map, filter, codes}
 use Rattle.std.specs.Int.RustNames.{bit_and}
-use Rattle.std.specs.List.{join_with_byte}
+use Rattle.std.specs.List.{join_with_byte, list_all}
 use Rattle.json.specs.Json.{Json}
-use Rattle.rtnl.specs.Json.{strings}
+use Rattle.rtnl.specs.Json.{is_unescaped, strings}
 use Rattle.rtnl.specs.NamedBits.{BitName}
 
 -- the names, in the order of the table, of which the number has all bits
@@ -28,3 +28,7 @@ abbrev pub rest_text : Bool → List (List ℕ) → List ℕ
 rest_text false names = listed names
 rest_text true [] = []
 rest_text true (name ∷ names) = 44 ∷ (name ++ rest_text true names)
+
+-- for private clauses: whether each name stands for itself in a string of JSON
+abbrev pub are_unescaped : List BitName → Bool
+are_unescaped table = list_all (λ (row : BitName). is_unescaped row.0) table

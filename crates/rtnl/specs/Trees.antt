@@ -79,3 +79,7 @@ abbrev mutual
   hops_text o indent no_hops = []
   hops_text o indent (hop flags count index attrs more) =
       hop_line indent flags count index ⨟ items_text o (deeper indent) Route attrs ⨟ hops_text o indent more
+
+-- for private clauses: what stands on an attribute's own line before what it says of its value
+abbrev pub attr_front : ℕ → List ℕ → AttrFlags → List ℕ
+attr_front n name flags = codes "attr " ⨟ decimal n ⨟ codes " " ⨟ name ⨟ codes " " ⨟ flags_text flags ⨟ codes " "

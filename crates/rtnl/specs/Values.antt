@@ -1,5 +1,5 @@
 -- What a payload is read as, and how that is printed.
-use Rattle.std.specs.Prelude.{ℕ, ◌+◌, ◌*◌, ◌-◌, ◌==◌, ◌&&◌, not, nat_le, Bool, false, if◌then◌else◌, List, length, take, codes, slice_index}
+use Rattle.std.specs.Prelude.{ℕ, ⊤, ◌≤◌, ◌+◌, ◌*◌, ◌-◌, ◌==◌, ◌&&◌, not, nat_le, Bool, false, if◌then◌else◌, List, length, take, codes, slice_index}
 use Rattle.std.specs.List.{list_all}
 use Rattle.std.specs.Fmt.{decimal}
 use Rattle.nl_attr.specs.declared.order.Order.{Order}
@@ -119,3 +119,13 @@ reading_text (hex bytes) = hex_text bytes
 -- the word and what stands behind it
 unfoldable pub value_text : Reading → List ℕ
 value_text r = reading_word r ⨟ codes " " ⨟ reading_text r
+
+-- for private clauses: a number, an address, a text of at most 128 bytes, or at most 64 bytes
+abbrev pub IsShort : Reading → Type 0
+IsShort (u8 n) = ⊤
+IsShort (u16 n) = ⊤
+IsShort (u32 n) = ⊤
+IsShort (text t) = length t ≤ 128
+IsShort (ipv4 address) = ⊤
+IsShort (ipv6 address) = ⊤
+IsShort (hex bytes) = length bytes ≤ 64

@@ -11,7 +11,7 @@ ghost use Rattle.rtnl.specs.Json.{is_unescaped, json_line, number, object, objec
 ghost use Rattle.rtnl.specs.Json.{signed, string};
 
 use crate::pieces::segment::Segment;
-use crate::pieces::{push, push_decimal, push_digits};
+use crate::pieces::{push, push_digits};
 use json::Writer;
 use std::alloc::{AllocError, Global};
 use std::marker::Model;
@@ -27,7 +27,7 @@ fn is_plain(byte: u8) -> bool
 
 /// Whether each byte of a text does.
 #[inline(always)]
-fn is_unescaped(text: &[u8]) -> bool
+pub(crate) fn is_unescaped(text: &[u8]) -> bool
     ensures { result ≡ is_unescaped text.now }
 {
     text.iter().all(|byte| is_plain(*byte))
@@ -208,25 +208,19 @@ impl Line {
         self.open("null", true)
     }
 
-    /// A number.
+    /// A field with a number, put together.
     #[inline(always)]
-    #[tactic(auto, using(crate::proofs::Json::digits_written))]
-    pub(crate) fn unsigned(&mut self, n: u64) -> Result<(), AllocError>
-        ensures { OnOk result (self.new ≡ self.old ⊕ json_tokens (number n)) }
-    {
-        self.open("", true)?;
-        push_decimal(&mut self.text, n)
-    }
-
-    /// A field with a number.
-    #[inline(always)]
-    #[tactic(auto, using(crate::proofs::Sets::one))]
+    #[tactic(auto, using(crate::proofs::Json::number_field))]
     pub(crate) fn number(&mut self, name: &str, n: u64) -> Result<(), AllocError>
-        requires { IsUnescaped name.now }
+        requires plain { IsUnescaped name.now }
+        requires short { length name.now ≤ 64 }
         ensures { OnOk result (self.new ≡ self.old ⊕ fields_tokens ((name.now, number n) ∷ [])) }
     {
-        self.key(name)?;
-        self.unsigned(n)
+        let mut piece = Segment::new();
+        piece.put_field("\":", n);
+        piece.put(name);
+        piece.put("\"");
+        self.piece(&mut piece, true)
     }
 
     /// A number with a sign.
@@ -297,12 +291,26 @@ impl Line {
     /// A string that stands for itself.
     #[inline(always)]
     #[tactic(auto, using(crate::proofs::Json::plain_written))]
-    pub(crate) fn unescaped(&mut self, text: &Segment) -> Result<(), AllocError>
+    pub(crate) fn unescaped(&mut self, text: &str) -> Result<(), AllocError>
         requires { IsUnescaped text.now }
         ensures { OnOk result (self.new ≡ self.old ⊕ json_tokens (string text.now)) }
     {
         self.open("\"", true)?;
-        text.push_to(&mut self.text)?;
+        push(&mut self.text, text)?;
+        push(&mut self.text, "\"")
+    }
+
+    /// A string of two parts, which stands for itself.
+    #[inline(always)]
+    #[tactic(auto, using(crate::proofs::Json::plain_written, crate::proofs::Sets::joins))]
+    pub(crate) fn joined(&mut self, first: &str, second: &str) -> Result<(), AllocError>
+        requires { IsUnescaped (first.now ++ second.now) }
+        ensures { OnOk result
+            (self.new ≡ self.old ⊕ json_tokens (string (first.now ++ second.now))) }
+    {
+        self.open("\"", true)?;
+        push(&mut self.text, first)?;
+        push(&mut self.text, second)?;
         push(&mut self.text, "\"")
     }
 

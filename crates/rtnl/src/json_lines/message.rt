@@ -1,10 +1,11 @@
 //! Messages as objects.
 
-ghost use Rattle.std.specs.Prelude.{◌≡◌, ◌∷◌, [], OnOk, codes, map};
+ghost use Rattle.std.specs.Prelude.{◌≡◌, ◌∷◌, [], ◌++◌, OnOk, codes, map};
 ghost use Rattle.json.specs.Tree.{json_tokens};
 ghost use Rattle.nl_frame.specs.View.{message_view};
-ghost use Rattle.rtnl.specs.Json.{◌⊕◌, array, fields_tokens, values_tokens};
+ghost use Rattle.rtnl.specs.Json.{◌⊕◌, array, fields_tokens, string, values_tokens};
 ghost use Rattle.rtnl.specs.MessagesJson.{header_fields, message_json, messages_json};
+ghost use Rattle.rtnl.specs.Types.{type_name};
 
 use crate::json_lines::body::push_body;
 use crate::json_lines::flags::push_names;
@@ -15,17 +16,28 @@ use nl_attr::Order;
 use nl_frame::Message;
 use std::alloc::{AllocError, Global};
 
+/// Writes a field with the type of a message.
+#[inline(always)]
+#[tactic(auto, using(crate::proofs::Sets::one, crate::proofs::Unescaped::unescaped_parts))]
+fn push_type(line: &mut Line, kind: u16, verb: &str, name: &str) -> Result<(), AllocError>
+    requires { type_name kind ≡ verb.now ++ name.now }
+    ensures { OnOk result
+        (line.new ≡ line.old ⊕ fields_tokens ((codes "type", string (type_name kind)) ∷ [])) }
+{
+    line.key("type")?;
+    line.joined(verb, name)
+}
+
 /// Writes what a message's header says.
 #[tactic(auto, unfolding(crate::specs::MessagesJson::header_fields), using(crate::proofs::Sets::field))]
-fn push_header(alloc: Global, line: &mut Line, message: &Message) -> Result<(), AllocError>
+fn push_header(line: &mut Line, message: &Message) -> Result<(), AllocError>
     ensures { OnOk result (line.new ≡ line.old
         ⊕ fields_tokens
         (header_fields message.now.kind message.now.flags message.now.seq message.now.port)) }
 {
     let (verb, name, names) = message_type(message.kind);
-    let type_name = format!(in alloc; "{verb}{name}")?;
     line.number("message", message.kind.into())?;
-    line.text("type", type_name.as_str())?;
+    push_type(line, message.kind, verb, name)?;
     line.number("flags", message.flags.into())?;
     push_names(
         line,
@@ -39,33 +51,23 @@ fn push_header(alloc: Global, line: &mut Line, message: &Message) -> Result<(), 
 
 /// Writes a message.
 #[tactic(auto, unfolding(crate::specs::MessagesJson::message_json), using(crate::proofs::Sets::whole_value, crate::proofs::Sets::field))]
-fn push_message(
-    alloc: Global,
-    line: &mut Line,
-    order: Order,
-    message: &Message,
-) -> Result<(), AllocError>
+fn push_message(line: &mut Line, order: Order, message: &Message) -> Result<(), AllocError>
     ensures { OnOk result
         (line.new ≡ line.old ⊕ json_tokens (message_json order (message_view message.now))) }
 {
     line.begin_object()?;
-    push_header(alloc, line, message)?;
+    push_header(line, message)?;
     push_body(line, order, &message.body)?;
     line.end_object()
 }
 
 #[tactic(auto, using(crate::proofs::Sets::all_written))]
-fn push_each(
-    alloc: Global,
-    line: &mut Line,
-    order: Order,
-    messages: &[Message],
-) -> Result<(), AllocError>
+fn push_each(line: &mut Line, order: Order, messages: &[Message]) -> Result<(), AllocError>
     ensures { OnOk result (line.new
         ≡ line.old ⊕ values_tokens (messages_json order (map message_view messages.now))) }
 {
     for message in messages {
-        push_message(alloc, line, order, message)?;
+        push_message(line, order, message)?;
     }
     Ok(())
 }
@@ -73,7 +75,7 @@ fn push_each(
 /// Writes a field with messages.
 #[tactic(auto, using(crate::proofs::Sets::whole_value))]
 pub(crate) fn push_messages(
-    alloc: Global,
+    _alloc: Global,
     line: &mut Line,
     order: Order,
     messages: &[Message],
@@ -84,6 +86,6 @@ pub(crate) fn push_messages(
 {
     line.key("messages")?;
     line.begin_array()?;
-    push_each(alloc, line, order, messages)?;
+    push_each(line, order, messages)?;
     line.end_array()
 }

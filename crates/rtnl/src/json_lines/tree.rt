@@ -4,31 +4,37 @@ ghost use Rattle.std.specs.Prelude.{◌≡◌, ◌≤◌, ◌+◌, ◌∷◌, []
 ghost use Rattle.json.specs.Token.{begin_object};
 ghost use Rattle.nl_attr.specs.Tree.{HopItems, Items};
 ghost use Rattle.nl_attr.specs.View.{attr_view, attrs_view, hop_view, hops_view, value_view};
-ghost use Rattle.rtnl.specs.Json.{IsUnescaped, ◌⊕◌, array, fields_tokens, value_text, values_tokens};
-ghost use Rattle.rtnl.specs.MessagesJson.{attr_front, attrs_json, flags_json};
-ghost use Rattle.rtnl.specs.MessagesJson.{hop_front, hops_json, name_json, value_fields};
+ghost use Rattle.json.specs.Print.{print};
+ghost use Rattle.json.specs.Tree.{json_tokens};
+ghost use Rattle.rtnl.specs.Json.{IsUnescaped, ◌⊕◌, array, fields_tokens, object, value_text};
+ghost use Rattle.rtnl.specs.Json.{values_tokens};
+ghost use Rattle.rtnl.specs.MessagesJson.{IsReady, attr_front, attrs_json, flags_json, hop_front};
+ghost use Rattle.rtnl.specs.MessagesJson.{hops_json, name_json, reading_fields, value_fields};
+ghost use Rattle.rtnl.specs.Values.{reading_view};
 
 use crate::json_lines::flags::push_names;
 use crate::json_lines::line::Line;
-use crate::json_lines::values::push_reading;
+use crate::json_lines::values::{is_ready, push_reading, put_reading};
 use crate::names::attributes::{Style, attribute, find, inner};
 use crate::names::flags::Bits;
-use crate::names::values::read_payload;
+use crate::names::values::{Reading, read_payload};
 use crate::pieces::segment::Segment;
 use nl_attr::{Attr, AttrFlags, Ctx, Hop, Order, Value};
 use std::alloc::AllocError;
 
-/// An array of the words of an attribute's flags.
+/// Puts the words of an attribute's flags in front, as an array.
+#[inline(always)]
 #[tactic(auto, unfolding(crate::specs::MessagesJson::flags_json, crate::specs::Json::array, json::specs::Print::print_from, json::specs::Print::escape_byte))]
-fn flag_words(flags: AttrFlags) -> &'static str
-    ensures text { result.now ≡ value_text (flags_json flags) }
-    ensures len { length result.now ≤ 16 }
+fn put_flags(piece: &mut Segment, flags: AttrFlags)
+    requires { 16 + length piece.old ≤ 248 }
+    ensures text { piece.new ≡ value_text (flags_json flags) ++ piece.old }
+    ensures len { length piece.new ≤ 16 + length piece.old }
 {
     match (flags.nested, flags.net) {
-        (false, false) => "[]",
-        (false, true) => "[\"net\"]",
-        (true, false) => "[\"nested\"]",
-        (true, true) => "[\"nested\",\"net\"]",
+        (false, false) => piece.put("[]"),
+        (false, true) => piece.put("[\"net\"]"),
+        (true, false) => piece.put("[\"nested\"]"),
+        (true, true) => piece.put("[\"nested\",\"net\"]"),
     }
 }
 
@@ -49,7 +55,23 @@ fn put_name(piece: &mut Segment, ctx: Ctx, number: u16)
     }
 }
 
+/// Puts the beginning of the object of an attribute in front, and what every attribute has.
+#[inline(always)]
+fn put_front(piece: &mut Segment, ctx: Ctx, number: u16, flags: AttrFlags)
+    requires { 81 + length piece.old ≤ 248 }
+    ensures text { piece.new
+        ≡ print (begin_object ∷ fields_tokens (attr_front ctx number flags)) ++ piece.old }
+    ensures len { length piece.new ≤ 81 + length piece.old }
+{
+    put_flags(piece, flags);
+    piece.put(",\"flags\":");
+    put_name(piece, ctx, number);
+    piece.put(",\"name\":");
+    piece.put_field("{\"number\":", number as u64);
+}
+
 /// Begins the object of an attribute, and writes what every attribute has.
+#[inline(never)]
 fn push_attr_front(
     line: &mut Line,
     ctx: Ctx,
@@ -60,11 +82,28 @@ fn push_attr_front(
         (line.new ≡ line.old ⊕ (begin_object ∷ fields_tokens (attr_front ctx number flags))) }
 {
     let mut piece = Segment::new();
-    piece.put(flag_words(flags));
-    piece.put(",\"flags\":");
-    put_name(&mut piece, ctx, number);
-    piece.put(",\"name\":");
-    piece.put_field("{\"number\":", number as u64);
+    put_front(&mut piece, ctx, number, flags);
+    line.piece(&mut piece, true)
+}
+
+/// Writes an attribute of which all is put together.
+#[inline(always)]
+fn push_whole(
+    line: &mut Line,
+    ctx: Ctx,
+    number: u16,
+    flags: AttrFlags,
+    reading: Reading<'_>,
+) -> Result<(), AllocError>
+    requires { IsReady (reading_view reading) }
+    ensures { OnOk result (line.new ≡ line.old ⊕ json_tokens
+        (object (attr_front ctx number flags ++ reading_fields (reading_view reading.entry)))) }
+{
+    let mut piece = Segment::new();
+    piece.put("}");
+    put_reading(&mut piece, reading);
+    piece.put(",");
+    put_front(&mut piece, ctx, number, flags);
     line.piece(&mut piece, true)
 }
 
@@ -115,6 +154,12 @@ fn push_attr(line: &mut Line, order: Order, ctx: Ctx, attr: &Attr) -> Result<(),
         ≡ line.old ⊕ values_tokens (attrs_json order ctx (attr_view attr.now more))) }
 {
     let (_, style) = attribute(ctx, attr.number);
+    if let Value::Bytes(payload) = &attr.value {
+        let reading = read_payload(order, style, attr.flags.net, payload.as_slice());
+        if is_ready(reading) {
+            return push_whole(line, ctx, attr.number, attr.flags, reading);
+        }
+    }
     let inside = inner(ctx, attr.number, attr.flags);
     push_attr_front(line, ctx, attr.number, attr.flags)?;
     push_held(line, order, style, attr.flags.net, inside, &attr.value)?;

@@ -11,6 +11,12 @@ use crate::names::attributes::Style;
 use crate::pieces::segment::Segment;
 use nl_attr::Order;
 
+/// The longest text that is put together with what stands around it, in bytes.
+pub(crate) const LONGEST_TEXT: usize = 128;
+
+/// The most bytes whose digits are.
+pub(crate) const MOST_BYTES: usize = 64;
+
 /// What a payload is read as.
 #[derive(Clone, Copy)]
 pub(crate) enum Reading<'a> {
@@ -123,31 +129,19 @@ pub(crate) fn read_payload(order: Order, style: Style, net: bool, bytes: &[u8]) 
     }
 }
 
-/// Puts an address of IPv4 where there is no text.
+/// Puts an address of IPv4 in front.
 #[inline(always)]
-#[tactic(auto, unfolding(crate::specs::Values::ipv4_text))]
+#[tactic(auto, unfolding(crate::specs::Values::ipv4_text), using(crate::proofs::Sets::joins))]
 pub(crate) fn put_ipv4(text: &mut Segment, address: [u8; 4])
-    requires { text.old ≡ [] }
-    ensures { text.new ≡ ipv4_text address }
+    requires { 33 + length text.old ≤ 248 }
+    ensures text { text.new ≡ ipv4_text address ++ text.old }
+    ensures len { length text.new ≤ 15 + length text.old }
 {
     let [a, b, c, d] = address;
-    text.put_number(d as u64);
-    text.put(".");
-    text.put_number(c as u64);
-    text.put(".");
-    text.put_number(b as u64);
-    text.put(".");
-    text.put_number(a as u64);
-}
-
-/// An address of IPv4.
-#[inline(always)]
-pub(crate) fn ipv4(address: [u8; 4]) -> Segment
-    ensures { result ≡ ipv4_text address }
-{
-    let mut text = Segment::new();
-    put_ipv4(&mut text, address);
-    text
+    text.put_small(".", d);
+    text.put_small(".", c);
+    text.put_small(".", b);
+    text.put_small("", a);
 }
 
 #[inline(always)]
@@ -179,23 +173,14 @@ fn put_groups(text: &mut Segment, address: &[u8; 16], i: usize)
     put_group(text, address, i);
 }
 
-/// Puts an address of IPv6 where there is no text.
-#[inline(always)]
+/// Puts an address of IPv6 in front.
 #[tactic(auto, unfolding(crate::specs::Values::ipv6_text), using(crate::proofs::Sets::joins))]
 pub(crate) fn put_ipv6(text: &mut Segment, address: &[u8; 16])
-    requires { text.old ≡ [] }
-    ensures { text.new ≡ ipv6_text address.now }
+    requires { 39 + length text.old ≤ 248 }
+    ensures text { text.new ≡ ipv6_text address.now ++ text.old }
+    ensures len { length text.new ≡ 39 + length text.old }
 {
     put_groups(text, address, 8);
     text.put(":");
     put_groups(text, address, 0);
-}
-
-/// An address of IPv6.
-pub(crate) fn ipv6(address: &[u8; 16]) -> Segment
-    ensures { result ≡ ipv6_text address.now }
-{
-    let mut text = Segment::new();
-    put_ipv6(&mut text, address);
-    text
 }

@@ -5,6 +5,7 @@ ghost use Rattle.std.specs.Fmt.{signed_decimal};
 ghost use Rattle.hex.specs.Hex.{encode_lower};
 ghost use Rattle.rtnl.specs.Text.{padded_hex};
 
+use crate::pieces::encode;
 use itoa::write_digits;
 use std::alloc::AllocError;
 use std::marker::Model;
@@ -102,15 +103,13 @@ impl Segment {
 
     /// Puts bytes in front, in hexadecimal digits.
     #[inline(always)]
-    fn put_digits(&mut self, bytes: &[u8])
+    pub(crate) fn put_digits(&mut self, bytes: &[u8])
         requires { 2 * length bytes.now + length self.old ≤ 248 }
         ensures text { self.new ≡ encode_lower bytes.now ++ self.old }
         ensures len { length self.new ≡ 2 * length bytes.now + length self.old }
     {
         let start = self.start - 2 * bytes.len();
-        if hex::encode_to_slice(bytes, &mut self.buffer[start..self.start]).is_err() {
-            unreachable!();
-        }
+        encode(bytes, &mut self.buffer[start..self.start]);
         self.start = start;
     }
 

@@ -11,6 +11,7 @@ ghost use Rattle.rtnl.specs.Lines.{lines_left};
 ghost use Rattle.std.specs.Iterator.{YieldsFirstRef, item_count};
 
 use crate::error::RunError;
+use crate::recordings::digits::decode;
 use crate::recordings::recording::Datagrams;
 use crate::streams::source::LONGEST_INPUT;
 use memchr::{memchr, memchr3};
@@ -96,7 +97,7 @@ pub fn line_fault(line: &[u8]) -> Option<LineFault>
 }
 
 /// How many digits are decoded at a time, an even number.
-const PIECE: usize = 64;
+const PIECE: usize = 256;
 
 /// Appends the bytes of the digits of the line of this number. They go through a buffer on the
 /// stack, a piece at a time; after an error those of some pieces may have been appended.
@@ -108,7 +109,7 @@ fn push_decoded(bytes: &mut Vec<u8>, number: u32, digits: &[u8]) -> Result<(), R
     let mut buffer = [0; PIECE / 2];
     for piece in digits.chunks(PIECE) {
         let part = &mut buffer[..piece.len() / 2];
-        if hex::decode_to_slice(piece, part).is_err() {
+        if !decode(piece, part) {
             return Err(RunError::BadLine(number));
         }
         bytes.extend_from_slice(part)?;

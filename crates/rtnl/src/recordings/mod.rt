@@ -1,5 +1,6 @@
 //! The datagrams of the lines of a recording.
 
+pub(crate) mod digits;
 pub(crate) mod lines;
 pub(crate) mod recording;
 pub(crate) mod unfinished;

@@ -1,18 +1,19 @@
 //! The printed text of attributes and next hops.
 
-ghost use Rattle.std.specs.Prelude.{◌≡◌, ◌≤◌, ◌+◌, ◌++◌, OnOk, length};
+ghost use Rattle.std.specs.Prelude.{◌≡◌, ◌≤◌, ◌+◌, ◌++◌, MatchOption, OnOk, codes, length};
 ghost use Rattle.nl_attr.specs.Tree.{HopItems, Items};
 ghost use Rattle.nl_attr.specs.View.{attr_view, attrs_view, hop_view, hops_view, value_view};
-ghost use Rattle.rtnl.specs.Trees.{attr_line, deeper, flags_text, held_text, hop_line, hops_text};
-ghost use Rattle.rtnl.specs.Trees.{indented, inline_text, items_text};
+ghost use Rattle.rtnl.specs.Trees.{attr_front, attr_line, deeper, flags_text, held_text, hop_line};
+ghost use Rattle.rtnl.specs.Trees.{hops_text, indented, inline_text, items_text};
+ghost use Rattle.rtnl.specs.Values.{reading_view, value_text};
 
 use crate::names::attributes::{Style, attribute, inner};
 use crate::names::flags::Bits;
-use crate::names::values::read_payload;
+use crate::names::values::{Reading, read_payload};
+use crate::pieces::push;
 use crate::pieces::segment::Segment;
-use crate::pieces::{push, push_decimal};
 use crate::text::flags::push_names;
-use crate::text::values::push_value;
+use crate::text::values::{is_short, push_value, put_value};
 use nl_attr::{Attr, AttrFlags, Ctx, Hop, Order, Value};
 use std::alloc::AllocError;
 
@@ -57,31 +58,82 @@ fn push_front(out: &mut Vec<u8>, indent: &[u8], front: &mut Segment) -> Result<(
     front.push_to(out)
 }
 
+/// Puts the words of an attribute in front of what its line says of its value.
+#[inline(always)]
+#[tactic(auto, using(crate::proofs::Sets::joins))]
+fn put_front(line: &mut Segment, number: u16, name: &str, flags: AttrFlags)
+    requires short { length name.now ≤ 16 }
+    requires room { 54 + length line.old ≤ 248 }
+    ensures text { line.new ≡ attr_front number name.now flags ++ line.old }
+    ensures len { length line.new ≤ 54 + length line.old }
+{
+    line.put(" ");
+    put_flags(line, flags);
+    line.put(" ");
+    line.put(name);
+    line.put(" ");
+    line.put_field("attr ", number as u64);
+}
+
+/// Puts what an attribute's line says of its value in front, or answers what is read, where that is
+/// too long.
+#[inline(always)]
 #[tactic(auto, unfolding(crate::specs::Trees::inline_text), using(crate::proofs::Sets::inline))]
-fn push_inline(
-    out: &mut Vec<u8>,
+fn put_inline<'a>(
+    line: &mut Segment,
     order: Order,
     style: Style,
     net: bool,
-    value: &Value,
-) -> Result<(), AllocError>
-    ensures { OnOk result
-        (out.new.items ≡ out.old.items ++ inline_text order style net (value_view value.now)) }
+    value: &'a Value,
+) -> Option<Reading<'a>>
+    requires { 140 + length line.old ≤ 248 }
+    ensures text { MatchOption result
+        (line.new ≡ inline_text order style net (value_view value.now) ++ line.old)
+        (λ reading. (line.new ≡ line.old) × (inline_text order style net (value_view value.now)
+        ≡ value_text (reading_view reading))) }
+    ensures len { length line.new ≤ 140 + length line.old }
 {
     match value {
-        Value::Bytes(payload) => push_value(
-            out,
-            read_payload(order, style, net, payload.as_slice()),
-        ),
+        Value::Bytes(payload) => {
+            let reading = read_payload(order, style, net, payload.as_slice());
+            if !is_short(reading) {
+                return Some(reading);
+            }
+            put_value(line, reading);
+            None
+        }
         Value::List(attrs) => {
-            push(out, "list ")?;
-            push_decimal(out, attrs.len() as u64)
+            line.put_field("list ", attrs.len() as u64);
+            None
         }
         Value::Hops(hops) => {
-            push(out, "hops ")?;
-            push_decimal(out, hops.len() as u64)
+            line.put_field("hops ", hops.len() as u64);
+            None
         }
     }
+}
+
+/// Writes an attribute's own line, of whose value a long one is read.
+#[inline(never)]
+#[tactic(auto, using(crate::proofs::Sets::joins))]
+fn push_long_line(
+    out: &mut Vec<u8>,
+    indent: &[u8],
+    number: u16,
+    name: &str,
+    flags: AttrFlags,
+    reading: Reading<'_>,
+) -> Result<(), AllocError>
+    requires { length name.now ≤ 16 }
+    ensures { OnOk result (out.new.items ≡ out.old.items
+        ++ (indented indent.now ++ (attr_front number name.now flags
+        ++ (value_text (reading_view reading.entry) ++ codes "\n")))) }
+{
+    let mut front = Segment::new();
+    put_front(&mut front, number, name, flags);
+    push_front(out, indent, &mut front)?;
+    push_value(out, reading)?;
+    push(out, "\n")
 }
 
 /// Writes an attribute's own line.
@@ -99,16 +151,15 @@ fn push_attr_line(
         (indented indent.now) ctx attr.now.number attr.now.flags (value_view attr.now.value)) }
 {
     let (name, style) = attribute(ctx, attr.number);
-    let mut front = Segment::new();
-    front.put(" ");
-    put_flags(&mut front, attr.flags);
-    front.put(" ");
-    front.put(name);
-    front.put(" ");
-    front.put_field("attr ", attr.number as u64);
-    push_front(out, indent, &mut front)?;
-    push_inline(out, order, style, attr.flags.net, &attr.value)?;
-    push(out, "\n")
+    let mut line = Segment::new();
+    line.put("\n");
+    match put_inline(&mut line, order, style, attr.flags.net, &attr.value) {
+        None => {
+            put_front(&mut line, attr.number, name, attr.flags);
+            push_front(out, indent, &mut line)
+        }
+        Some(reading) => push_long_line(out, indent, attr.number, name, attr.flags, reading),
+    }
 }
 
 /// Writes a next hop's own line.

@@ -1,76 +1,94 @@
 //! How a payload is printed.
 
-ghost use Rattle.std.specs.Prelude.{◌≡◌, ◌++◌, codes, OnOk};
-ghost use Rattle.rtnl.specs.Values.{ipv4_text, ipv6_text, reading_text, reading_view};
-ghost use Rattle.rtnl.specs.Values.{reading_word, value_text};
+ghost use Rattle.std.specs.Prelude.{◌≡◌, ◌≤◌, ◌*◌, ◌+◌, ◌++◌, OnOk, length, true};
+ghost use Rattle.rtnl.specs.Values.{IsShort, reading_view, value_text};
+ghost use Rattle.rtnl.specs.Text.{hex_text};
 
-use crate::names::values::{Reading, put_ipv4, put_ipv6};
+use crate::names::values::{LONGEST_TEXT, MOST_BYTES, Reading, put_ipv4, put_ipv6};
 use crate::pieces::segment::Segment;
-use crate::pieces::{push, push_decimal, push_hex};
+use crate::pieces::{push, push_hex};
 use std::alloc::AllocError;
 
-/// The word for what is read, and the blank behind it.
-#[tactic(auto, unfolding(crate::specs::Values::reading_word))]
-fn opening(reading: Reading<'_>) -> &'static str
-    ensures { result.now ≡ reading_word (reading_view reading.entry) ++ codes " " }
+/// Puts bytes in front, in hexadecimal digits, or a dash where there are none.
+#[inline(always)]
+#[tactic(auto, unfolding(crate::specs::Text::hex_text))]
+fn put_hex(text: &mut Segment, bytes: &[u8])
+    requires { 1 + 2 * length bytes.now + length text.old ≤ 248 }
+    ensures text { text.new ≡ hex_text bytes.now ++ text.old }
+    ensures len { length text.new ≤ 1 + 2 * length bytes.now + length text.old }
 {
-    match reading {
-        Reading::U8(_) => "u8 ",
-        Reading::U16(_) => "u16 ",
-        Reading::U32(_) => "u32 ",
-        Reading::Text(_) => "text ",
-        Reading::Ipv4(_) => "ipv4 ",
-        Reading::Ipv6(_) => "ipv6 ",
-        Reading::Hex(_) => "hex ",
+    if bytes.is_empty() {
+        text.put("-");
+    } else {
+        text.put_digits(bytes);
     }
 }
 
-/// Writes an address of IPv4. A function pays at its entry for what its locals have room for, so the
-/// texts of addresses have functions of their own.
-#[inline(never)]
-fn push_ipv4(out: &mut Vec<u8>, address: [u8; 4]) -> Result<(), AllocError>
-    ensures { OnOk result (out.new.items ≡ out.old.items ++ ipv4_text address) }
-{
-    let mut text = Segment::new();
-    put_ipv4(&mut text, address);
-    text.push_to(out)
-}
-
-/// Writes an address of IPv6.
-#[inline(never)]
-fn push_ipv6(out: &mut Vec<u8>, address: &[u8; 16]) -> Result<(), AllocError>
-    ensures { OnOk result (out.new.items ≡ out.old.items ++ ipv6_text address.now) }
-{
-    let mut text = Segment::new();
-    put_ipv6(&mut text, address);
-    text.push_to(out)
-}
-
-/// Writes what is printed behind the word.
+/// Whether what is read may be put together with its line.
 #[inline(always)]
-#[tactic(auto, unfolding(crate::specs::Values::reading_text))]
-fn push_reading(out: &mut Vec<u8>, reading: Reading<'_>) -> Result<(), AllocError>
-    ensures { OnOk result
-        (out.new.items ≡ out.old.items ++ reading_text (reading_view reading.entry)) }
+pub(crate) fn is_short(reading: Reading<'_>) -> bool
+    ensures { result ≡ true → IsShort (reading_view reading.entry) }
 {
     match reading {
-        Reading::U8(number) => push_decimal(out, number as u64),
-        Reading::U16(number) => push_decimal(out, number as u64),
-        Reading::U32(number) => push_decimal(out, number as u64),
-        Reading::Text(text) => push(out, text),
-        Reading::Ipv4(address) => push_ipv4(out, address),
-        Reading::Ipv6(address) => push_ipv6(out, &address),
-        Reading::Hex(bytes) => push_hex(out, bytes),
+        Reading::Text(text) => text.len() <= LONGEST_TEXT,
+        Reading::Hex(bytes) => bytes.len() <= MOST_BYTES,
+        _ => true,
     }
 }
 
-/// Writes the word and what stands behind it.
+/// Puts the word for what is read in front, and what is read behind it.
 #[inline(always)]
-#[tactic(auto, unfolding(crate::specs::Values::value_text), using(crate::proofs::Sets::joins))]
+#[tactic(auto, unfolding(crate::specs::Values::value_text, crate::specs::Values::reading_word, crate::specs::Values::reading_text), using(crate::proofs::Sets::joins))]
+pub(crate) fn put_value(text: &mut Segment, reading: Reading<'_>)
+    requires short { IsShort (reading_view reading) }
+    requires room { 140 + length text.old ≤ 248 }
+    ensures text { text.new ≡ value_text (reading_view reading.entry) ++ text.old }
+    ensures len { length text.new ≤ 140 + length text.old }
+{
+    match reading {
+        Reading::U8(number) => text.put_field("u8 ", number as u64),
+        Reading::U16(number) => text.put_field("u16 ", number as u64),
+        Reading::U32(number) => text.put_field("u32 ", number as u64),
+        Reading::Text(words) => {
+            text.put(words);
+            text.put("text ");
+        }
+        Reading::Ipv4(address) => {
+            put_ipv4(text, address);
+            text.put("ipv4 ");
+        }
+        Reading::Ipv6(address) => {
+            put_ipv6(text, &address);
+            text.put("ipv6 ");
+        }
+        Reading::Hex(bytes) => {
+            put_hex(text, bytes);
+            text.put("hex ");
+        }
+    }
+}
+
+/// Writes the word for what is read and what is read behind it, where that is too long to be put
+/// together.
+#[inline(never)]
+#[tactic(auto, unfolding(crate::specs::Values::value_text, crate::specs::Values::reading_word, crate::specs::Values::reading_text), using(crate::proofs::Sets::joins))]
 pub(crate) fn push_value(out: &mut Vec<u8>, reading: Reading<'_>) -> Result<(), AllocError>
     ensures { OnOk result
         (out.new.items ≡ out.old.items ++ value_text (reading_view reading.entry)) }
 {
-    push(out, opening(reading))?;
-    push_reading(out, reading)
+    match reading {
+        Reading::Text(text) => {
+            push(out, "text ")?;
+            push(out, text)
+        }
+        Reading::Hex(bytes) => {
+            push(out, "hex ")?;
+            push_hex(out, bytes)
+        }
+        _ => {
+            let mut text = Segment::new();
+            put_value(&mut text, reading);
+            text.push_to(out)
+        }
+    }
 }

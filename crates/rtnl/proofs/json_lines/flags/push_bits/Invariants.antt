@@ -1,11 +1,12 @@
-use Rattle.std.proofs.Common.{◌≡◌, map, drop}
+use Rattle.std.proofs.Common.{◌≡◌, map, drop, true}
 use Rattle.rtnl.specs.Json.{◌⊕◌, string, values_tokens}
 use Rattle.rtnl.specs.NamedBits.{bit_view}
-use Rattle.rtnl.specs.Names.{names_set}
+use Rattle.rtnl.specs.Names.{are_unescaped, names_set}
 use Rattle.rtnl.proofs.json_lines.flags.push_bits.Given as goal
 
--- what is written and what the rest of the table gives are all names
+-- what is written and what the rest of the table gives are all names, and the rest stands for itself
 abbrev pub invariant-loop-row : goal.invariant-loop-row
 invariant-loop-row l =
-    l.line ⊕ values_tokens (map string (names_set (map bit_view (drop l.row-index l.table)) l.number.0))
-    ≡ l.initial.line ⊕ values_tokens (map string (names_set (map bit_view l.table) l.number.0))
+    (l.line ⊕ values_tokens (map string (names_set (map bit_view (drop l.row-index l.table)) l.number.0))
+    ≡ l.initial.line ⊕ values_tokens (map string (names_set (map bit_view l.table) l.number.0)))
+    × (are_unescaped (map bit_view (drop l.row-index l.table)) ≡ true)

@@ -1,16 +1,18 @@
-use Rattle.std.proofs.Common.{◌≡◌, ◌∷◌, ◌∙◌, [], ap, codes, of_z, refl, rules, sym, to_z, w32}
+use Rattle.std.proofs.Common.{◌≡◌, ◌∷◌, ◌++◌, ◌∙◌, [], ap, codes, of_z, refl, rules, sym, to_z, w32}
 use Rattle.std.proofs.lemmas.Result.{IfOk-weaker}
 use Rattle.json.specs.Token.{begin_object}
 use Rattle.nl_attr.specs.declared.tree.Ctx.TheVariants.{Route}
 use Rattle.nl_attr.specs.declared.tree.Hop.{out-Hop}
-use Rattle.nl_attr.specs.Tree.{holds_of, hops, list}
+use Rattle.nl_attr.specs.Tree.{bytes, holds_of, hops, list}
 use Rattle.nl_attr.specs.View.{attrs_view, hops_view, value_view}
 use Rattle.nl_attr.proofs.Lemmas.Opened.{value_hops, value_list}
 use Rattle.rtnl.specs.Attributes.{attribute_style, inner_context}
-use Rattle.rtnl.specs.Json.{◌⊕◌, array, fields_tokens, string, values_tokens}
-use Rattle.rtnl.specs.MessagesJson.{attr_front, attrs_json, hop_front, hops_json, items_fields, value_fields}
+use Rattle.json.specs.Tree.{json_tokens}
+use Rattle.rtnl.specs.Json.{◌⊕◌, array, fields_tokens, object, string, values_tokens}
+use Rattle.rtnl.specs.MessagesJson.{attr_front, attrs_json, hop_front, hops_json, items_fields, reading_fields, value_fields}
+use Rattle.rtnl.specs.Values.{reading_of, reading_view}
 use Rattle.rtnl.proofs.Json.{an_item, more as tokens_more, then_fields}
-use Rattle.rtnl.proofs.Trees.{attr_item, hop_item}
+use Rattle.rtnl.proofs.Trees.{attr_item, hop_item, value_bytes}
 use Rattle.rtnl.proofs.json_lines.tree.+writing.Goals as goal
 
 pub push_attr-returns : goal.push_attr-returns
@@ -26,6 +28,22 @@ push_attr-returns t c =
     (λ _ ended more. an_item w begun c.push_attr_front.new.line c.push_held.new.line c.end_object.new.self front held (attrs_json c.args.order c.args.ctx more)
     refl (c.in_ok-push_attr_front.ensures ∙ sym (tokens_more w (begin_object ∷ []) (fields_tokens front))) is_held ended
     ∙ sym (ap (λ items. c.args.line.now ⊕ values_tokens (attrs_json c.args.order c.args.ctx items)) (attr_item attr more))) c.end_object.ensures
+
+pub push_attr-returns-then-is_ready : goal.push_attr-returns-then-is_ready
+push_attr-returns-then-is_ready t c =
+    let attr = c.args.attr.now in
+    let o = c.args.order in
+    let w = c.args.line.now in
+    let inside = inner_context (holds_of c.args.ctx attr.number attr.flags) in
+    let front = attr_front c.args.ctx attr.number attr.flags in
+    let is : value_view attr.value ≡ bytes c.as_slice.result.now = ap value_view c.in-Bytes.is ∙ value_bytes c.in-Bytes.payload ∙ ap bytes (sym c.as_slice.ensures) in
+    let read : reading_fields (reading_view c.read_payload-reading.result) ≡ value_fields o (attribute_style c.args.ctx attr.number) attr.flags.net inside (value_view attr.value) =
+    ap reading_fields (c.read_payload-reading.ensures ∙ ap (λ s. reading_of o s attr.flags.net c.as_slice.result.now) c.attribute-style.ensures.style)
+    ∙ sym (ap (value_fields o (attribute_style c.args.ctx attr.number) attr.flags.net inside) is) in
+    IfOk-weaker c.push_whole.result _ _
+    (λ _ written more. ap (λ l. l ⊕ values_tokens (attrs_json o c.args.ctx more)) (written ∙ ap (λ fields. w ⊕ json_tokens (object (front ++ fields))) read)
+    ∙ tokens_more w _ (values_tokens (attrs_json o c.args.ctx more))
+    ∙ sym (ap (λ items. w ⊕ values_tokens (attrs_json o c.args.ctx items)) (attr_item attr more))) c.push_whole.ensures
 
 pub push_held-returns-in_ok-text-in-List : goal.push_held-returns-in_ok-text-in-List
 unfolding items_fields

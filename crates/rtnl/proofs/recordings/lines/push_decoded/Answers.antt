@@ -4,21 +4,21 @@ use Rattle.std.specs.Slice.Iter.{chunks_rest}
 use Rattle.rtnl.proofs.Decoded.{bad_digits, leads_all, leads_bad, leads_more, slice_decoded, slice_failed}
 use Rattle.rtnl.proofs.recordings.lines.push_decoded.Goals as goal
 
-pub returns-then-is_err-clause-failed : goal.returns-then-is_err-clause-failed
-returns-then-is_err-clause-failed c =
+pub returns-then-not-decode-clause-failed : goal.returns-then-not-decode-clause-failed
+returns-then-not-decode-clause-failed c =
     let so_far = c.loop-piece.invariant.3 in
     let steps = c.in-Some.ensures.steps in
     let size = rw c.loop-piece.invariant.2 at steps.1.1 in
     let room : length (take (length c.in-Some.piece.now / 2) c.loop-piece.buffer) ≡ length c.in-Some.piece.now / 2 = search (rules, size) in
-    let bad = slice_failed _ _ _ c.decode_to_slice.ensures.value (search rules) in
+    let bad = slice_failed _ _ _ c.decode.ensures (search rules) in
     bad_digits c.args.number _ (leads_bad _ so_far.0 _ c.in-Some.piece.now (chunks_rest c.next.new.self) _ so_far.2 steps.1.0 size room bad)
 
 pub loop-piece-preserved : goal.loop-piece-preserved
 loop-piece-preserved c =
     let so_far = c.loop-piece.invariant.3 in
     let steps = c.in-Some.ensures.steps in
-    let part = c.decode_to_slice.new.out in
-    let read = slice_decoded _ _ _ c.decode_to_slice.ensures.value (search rules) in (
+    let part = c.decode.new.bytes in
+    let read = slice_decoded _ _ _ c.decode.ensures (search rules) in (
       search rules,
       tt,
       steps.0 ∙ c.loop-piece.invariant.2,

@@ -8,5 +8,5 @@ abbrev pub invariant-loop-piece : goal.invariant-loop-piece
 invariant-loop-piece l =
     (goal.iterator-loop-piece).can_next l.piece-iterator
     × (goal.iterator-loop-piece).is_finite l.piece-iterator
-    × (chunks_size l.piece-iterator ≡ 64)
+    × (chunks_size l.piece-iterator ≡ 256)
     × ((done : List ℕ) × (l.bytes.items ≡ l.initial.bytes.items ++ done) × Leads l.digits done (chunks_rest l.piece-iterator))
