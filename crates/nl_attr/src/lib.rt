@@ -7,6 +7,7 @@ mod broken;
 mod comparing;
 mod events;
 mod fault;
+mod heads;
 pub mod laws;
 mod limits;
 mod measuring;
@@ -27,6 +28,7 @@ pub use broken::{BrokenHead, HeadKind};
 pub use comparing::{begins_with, begins_with_bytes, begins_with_zeros};
 pub use events::{Event, SORT_BYTES, SORT_HOPS, SORT_LIST, SORT_MESSAGE, SORT_NEXT_HOP};
 pub use fault::{Fault, LimitFault, ListError, Reason, Tally, UnknownName, WriteError};
+pub use heads::{attr_head, hop_head};
 pub use limits::{
     Depth, FARTHEST_END, LONGEST_CONTAINER, LONGEST_ITEM, LONGEST_REGION, MOST_LEVELS, MOST_VISITS,
 };

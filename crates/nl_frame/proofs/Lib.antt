@@ -11,3 +11,11 @@ pub mod Tapes
 pub mod Outcomes
 pub mod Within
 pub mod WrittenLayouts
+mod Opens
+mod Snocs
+mod Puts
+mod Begins
+mod Closes
+mod Ends
+pub mod Running
+mod Rooms

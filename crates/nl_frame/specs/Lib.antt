@@ -34,3 +34,8 @@ pub use Rattle.nl_attr.specs.Proper as RegionProper
 pub use Rattle.nl_attr.specs.Broken as RegionBroken
 pub use Rattle.nl_attr.specs.HeadOrder as RegionHeadOrder
 pub use Rattle.nl_attr.specs.Listed as RegionListed
+pub mod BuildCodes
+pub mod Building
+pub mod AnyHeads
+pub mod Draft
+pub mod Calls

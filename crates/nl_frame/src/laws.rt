@@ -20,6 +20,11 @@ ghost use Rattle.nl_frame.specs.HeadOrder.{ComesUpTo, IsEnd, StandsIn, events_of
 ghost use Rattle.nl_frame.specs.Limits.{Bounds, AreLimits};
 ghost use Rattle.nl_frame.specs.OneList.{IsTheList};
 ghost use Rattle.nl_frame.specs.Written.{written, written_len};
+ghost use Rattle.nl_frame.specs.Building.{Built};
+ghost use Rattle.nl_frame.specs.Calls.{Call, IsCall, KeepsRoom, called, put_by_all, run};
+ghost use Rattle.nl_frame.specs.Draft.{Draft, Holds};
+ghost use Rattle.nl_frame.specs.declared.building.refusal.BuildError.{BuildError};
+ghost use Rattle.std.specs.List.{AllByRecursion};
 ghost use Rattle.nl_frame.specs.Proper.{IsProper, IsRanged};
 
 /// At most one list of messages is the layout of a datagram.
@@ -117,4 +122,22 @@ pub fn layout_is_proper()
         → Layout s ms d → written_len ms ≡ aligned (length d) }
     ensures ranged { (s : Shape) (ms : List MessageVal) (d : List ℕ)
         → AreBytes d → Layout s ms d → IsRanged ms }
+{}
+
+/// What calls of a builder make together, whatever they are.
+pub fn calls_build()
+    // Where none of them is refused, what is built holds what was put, in their order.
+    ensures puts { (b : Built) (d : Draft) (cs : List Call) → AllByRecursion IsCall cs
+        → Holds b d → (run b cs).refusal ≡ None → Holds (run b cs) (put_by_all d cs) }
+    // A refusal sticks: no call behind it changes anything.
+    ensures sticks { (b : Built) (cs : List Call) (e : BuildError)
+        → b.refusal ≡ Some e → run b cs ≡ b }
+    // A call that is refused changes nothing else: what was accepted stays.
+    ensures refused { (b : Built) (c : Call) (e : BuildError) → (called b c).refusal ≡ Some e
+        → called b c ≡ record b { refusal = Some e } }
+    // The limits stay those that it was made with.
+    ensures limits { (b : Built) (cs : List Call) → (run b cs).bounds ≡ b.bounds }
+    // No more than the slice is taken, and what is behind the accepted bytes stays as it was.
+    ensures room { (b : Built) (d : Draft) (cs : List Call) → AllByRecursion IsCall cs
+        → Holds b d → KeepsRoom b (run b cs) }
 {}

@@ -4,6 +4,7 @@
 mod appending;
 mod body;
 mod broken;
+mod building;
 mod canonical;
 mod comparing;
 mod form;
@@ -18,6 +19,7 @@ mod taping;
 mod writing;
 
 pub use body::{Body, Message};
+pub use building::{BuildError, Builder, FamilyHead};
 pub use canonical::is_canonical;
 pub use form::Form;
 pub use front::{Frame, message_at};

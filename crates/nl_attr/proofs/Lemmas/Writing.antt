@@ -49,11 +49,11 @@ mutual
 
 -- a region that is written ends at an aligned place
 mutual
-  items_whole : (is : Items) → items_len is % 4 ≡ 0
+  pub items_whole : (is : Items) → items_len is % 4 ≡ 0
   items_whole no_items = refl
   items_whole (item n flags v more) = omega (arith, items_whole more)
 
-  hops_whole : (hs : HopItems) → hops_len hs % 4 ≡ 0
+  pub hops_whole : (hs : HopItems) → hops_len hs % 4 ≡ 0
   hops_whole no_hops = refl
   hops_whole (hop flags count index attrs more) = omega (arith, hops_whole more)
 

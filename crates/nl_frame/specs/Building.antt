@@ -1,0 +1,229 @@
+-- What a builder of datagrams has built, and what each call makes of it.
+use Rattle.std.specs.Prelude.{◌+◌, ◌-◌, ◌≤◌, ℕ, ℤ, Bool, false, nat_lt, if◌then◌else◌, List, [], ◌∷◌, ◌++◌, length, drop, Option, Some, None, Result, Ok, Err}
+use Rattle.std.specs.Int.{w32, cast_unsigned}
+use Rattle.std.specs.List.{splice}
+use Rattle.nl_attr.specs.Fixed.{NUMBERS, LONGEST_ITEM, LONGEST_CONTAINER}
+use Rattle.nl_attr.specs.declared.order.Order.{Order}
+use Rattle.nl_attr.specs.declared.tree.AttrFlags.{AttrFlags}
+use Rattle.nl_attr.specs.declared.tree.Ctx.TheVariants.{Route}
+use Rattle.nl_attr.specs.declared.tree.Content.{Content}
+use Rattle.nl_attr.specs.declared.tree.Content.TheVariants as content
+use Rattle.nl_attr.specs.Numbers.{num, aligned}
+use Rattle.nl_attr.specs.Layout.{kind_number}
+use Rattle.nl_attr.specs.Tree.{holds_of}
+use Rattle.nl_attr.specs.Written.{with_padding, attr_item}
+use Rattle.nl_route.specs.declared.family.Family.{Family}
+use Rattle.nl_route.specs.Families.{AnyHead, head_size, context_of, same_family, family_of, fields_of}
+use Rattle.nl_route.specs.Fields as fields
+use Rattle.nl_frame.specs.declared.building.refusal.BuildError.{BuildError}
+use Rattle.nl_frame.specs.declared.building.refusal.BuildError.TheVariants.{Mismatch, TooDeep, TooLong, TooLarge, NoRoom, NothingOpen, StillOpen}
+use Rattle.nl_frame.specs.declared.building.OpenHead.{OpenHead}
+use Rattle.nl_frame.specs.declared.form.Form.{Form}
+use Rattle.nl_frame.specs.declared.form.Form.TheVariants as form
+use Rattle.nl_frame.specs.declared.header.Header.{Header}
+use Rattle.nl_frame.specs.Header.{header_fields}
+use Rattle.nl_frame.specs.Form.{form_of}
+use Rattle.nl_frame.specs.Limits.{Bounds}
+
+-- what is built
+pub record Built : Type 0 where
+  pub bounds : Bounds
+  -- the bytes that are accepted, and those of the slice behind them
+  pub front : List ℕ
+  pub free : List ℕ
+  -- the heads whose length isn't set yet, the innermost first
+  pub heads : List OpenHead
+  -- the first refusal
+  pub refusal : Option BuildError
+
+-- nothing is built
+abbrev pub nothing_built : Bounds → List ℕ → Built
+nothing_built bounds free = record { bounds = bounds; front = []; free = free; heads = []; refusal = None }
+
+-- the order of its numbers
+abbrev pub order_of : Built → Order
+order_of b = b.bounds.shape.order
+
+-- ---- what a call does that isn't refused
+
+-- so many bytes are accepted
+abbrev pub grown : Built → List ℕ → Built
+grown b bs = record b { front = b.front ++ bs; free = drop (length bs) b.free }
+
+-- a head is open, behind which this stands
+abbrev pub opened : Built → Content → List ℕ → Built
+opened b c head = record (grown b head) { heads = record { start = length b.front; content = c } ∷ b.heads }
+
+-- the innermost head has its length, in these bytes
+abbrev pub head_ended : Built → List OpenHead → List ℕ → Built
+head_ended b [] field = b
+head_ended b (h ∷ hs) field = record b { front = splice b.front h.start (h.start + length field) field; heads = hs }
+
+-- how many bytes there are from the innermost head on
+abbrev pub length_from : Built → List OpenHead → ℕ
+length_from b [] = 0
+length_from b (h ∷ hs) = length b.front - h.start
+
+-- the innermost head has its length, in w bytes
+abbrev pub ended : Built → ℕ → Built
+ended b w = head_ended b b.heads (num (length_from b b.heads) w (order_of b))
+
+-- ---- why a call is refused
+
+-- the second where there is no first
+abbrev pub or_next : Option BuildError → Option BuildError → Option BuildError
+or_next None e = e
+or_next (Some f) e = Some f
+
+-- so many bytes have no room, in the slice or in the datagram
+abbrev pub lacks : Built → ℕ → Option BuildError
+lacks b n =
+    if nat_lt (length b.free) n then Some NoRoom
+    else (if nat_lt b.bounds.datagram (length b.front + n) then Some TooLarge else None)
+
+-- the innermost head
+abbrev pub top : List OpenHead → Option OpenHead
+top [] = None
+top (h ∷ hs) = Some h
+
+-- what an attribute holds where this stands, or why none stands there
+abbrev pub held_in : Content → ℕ → AttrFlags → Result Content BuildError
+held_in (content.List c) n f = if nat_lt n NUMBERS then Ok (holds_of c n f) else Err Mismatch
+held_in c n f = Err Mismatch
+
+-- the same behind the innermost head
+abbrev pub held : Option OpenHead → ℕ → AttrFlags → Result Content BuildError
+held None n f = Err NothingOpen
+held (Some h) n f = held_in h.content n f
+
+-- so many bytes of an attribute that holds this
+abbrev pub bytes_refusal : Built → Result Content BuildError → ℕ → Option BuildError
+bytes_refusal b (Err e) n = Some e
+bytes_refusal b (Ok content.Bytes) n = if nat_lt LONGEST_ITEM (4 + n) then Some TooLong else lacks b (aligned (4 + n))
+bytes_refusal b (Ok c) n = Some Mismatch
+
+-- how many levels are inside what stands behind a head
+abbrev pub levels_in : Content → ℕ
+levels_in content.Hops = 1
+levels_in c = 0
+
+-- an attribute opens that holds this
+abbrev pub open_refusal : Built → Result Content BuildError → Option BuildError
+open_refusal b (Err e) = Some e
+open_refusal b (Ok content.Bytes) = Some Mismatch
+open_refusal b (Ok c) = if nat_lt b.bounds.shape.depth (length b.heads + levels_in c) then Some TooDeep else lacks b 4
+
+-- a next hop opens where this stands
+abbrev pub hop_refusal_in : Built → Content → Option BuildError
+hop_refusal_in b content.Hops = lacks b 8
+hop_refusal_in b c = Some Mismatch
+
+-- the same behind the innermost head
+abbrev pub hop_refusal : Built → Option OpenHead → Option BuildError
+hop_refusal b None = Some NothingOpen
+hop_refusal b (Some h) = hop_refusal_in b h.content
+
+-- an attribute or a next hop is closed
+abbrev pub close_refusal : Built → Option BuildError
+close_refusal b =
+    if nat_lt (length b.heads) 2 then Some NothingOpen
+    else (if nat_lt LONGEST_CONTAINER (length_from b b.heads) then Some TooLong else None)
+
+-- a message ends
+abbrev pub end_refusal : List OpenHead → Option BuildError
+end_refusal [] = Some NothingOpen
+end_refusal (h ∷ []) = None
+end_refusal (h ∷ k ∷ hs) = Some StillOpen
+
+-- a body of this form begins with a head of the family
+abbrev pub has_head : Form → Family → Bool
+has_head (form.Object g) h = same_family g h
+has_head f h = false
+
+-- a message begins with a head of this family, which its type has or not
+abbrev pub first_refusal : Built → List OpenHead → Bool → Family → Option BuildError
+first_refusal b [] has g = if has then lacks b (16 + head_size g) else Some Mismatch
+first_refusal b (h ∷ hs) has g = Some StillOpen
+
+-- a message of this type begins, with a head of this family
+abbrev pub begin_refusal : Built → List OpenHead → ℕ → Family → Option BuildError
+begin_refusal b hs kind g = first_refusal b hs (has_head (form_of kind) g) g
+
+-- the datagram is taken
+abbrev pub finish_refusal : List OpenHead → Option BuildError
+finish_refusal [] = None
+finish_refusal (h ∷ hs) = Some StillOpen
+
+-- ---- what each call makes of it
+
+-- a refusal sticks, and nothing else changes
+abbrev pub settled : Built → Option BuildError → Built → Built
+settled b None next = next
+settled b (Some e) next = record b { refusal = Some e }
+
+-- what each call answers
+abbrev pub answer : Option BuildError → Result (Unit {0}) BuildError
+answer None = Ok tt
+answer (Some e) = Err e
+
+-- an attribute of bytes
+abbrev pub put : Built → ℕ → AttrFlags → List ℕ → Built
+put b n f bs =
+    settled b (or_next b.refusal (bytes_refusal b (held (top b.heads) n f) (length bs)))
+    (grown b (with_padding (attr_item (order_of b) n f bs)))
+
+-- what an attribute holds, where one stands
+abbrev pub content_or_bytes : Result Content BuildError → Content
+content_or_bytes (Ok c) = c
+content_or_bytes (Err e) = content.Bytes
+
+-- the head of an attribute whose length isn't set yet
+abbrev pub attr_begun : Order → ℕ → AttrFlags → List ℕ
+attr_begun o n f = num 0 2 o ++ num (kind_number n f) 2 o
+
+-- an attribute that holds attributes or next hops opens
+abbrev pub open_attr : Built → ℕ → AttrFlags → Built
+open_attr b n f =
+    let c = held (top b.heads) n f in
+    settled b (or_next b.refusal (open_refusal b c)) (opened b (content_or_bytes c) (attr_begun (order_of b) n f))
+
+-- the head of a next hop whose length isn't set yet
+abbrev pub hop_begun : Order → ℕ → ℕ → ℤ → List ℕ
+hop_begun o f c i = num 0 2 o ++ (f ∷ c ∷ num (cast_unsigned w32 i) 4 o)
+
+-- a next hop opens
+abbrev pub open_hop : Built → ℕ → ℕ → ℤ → Built
+open_hop b f c i = settled b (or_next b.refusal (hop_refusal b (top b.heads))) (opened b (content.List Route) (hop_begun (order_of b) f c i))
+
+-- the innermost attribute or next hop is closed
+abbrev pub close : Built → Built
+close b = settled b (or_next b.refusal (close_refusal b)) (ended b 2)
+
+-- the header of a message whose length isn't set yet
+abbrev pub header_begun : ℕ → ℕ → ℕ → ℕ → Header
+header_begun kind flags seq port = record { len = 0; kind = kind; flags = flags; seq = seq; port = port }
+
+-- that header, and the family's head
+abbrev pub message_begun : Order → Header → AnyHead → List ℕ
+message_begun o header head = fields.written o (header_fields header) ++ fields.written o (fields_of head)
+
+-- a message begins
+abbrev pub begin : Built → ℕ → ℕ → ℕ → ℕ → AnyHead → Built
+begin b kind flags seq port head =
+    settled b (or_next b.refusal (begin_refusal b b.heads kind (family_of head)))
+    (opened b (content.List (context_of (family_of head))) (message_begun (order_of b) (header_begun kind flags seq port) head))
+
+-- the message ends
+abbrev pub end : Built → Built
+end b = settled b (or_next b.refusal (end_refusal b.heads)) (ended b 4)
+
+-- why what is built isn't handed out, if it isn't
+abbrev pub finish : Built → Option BuildError
+finish b = or_next b.refusal (finish_refusal b.heads)
+
+-- ---- what holds of each builder
+
+-- each head is among the accepted bytes, and no deeper than D levels allow
+abbrev pub AreOpen : ℕ → ℕ → List OpenHead → Type 0
+AreOpen D len [] = Unit {0}
+AreOpen D len (h ∷ hs) = (h.start + 4 ≤ len) × (length hs + levels_in h.content ≤ D) × AreOpen D len hs
