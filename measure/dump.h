@@ -26,6 +26,17 @@ static FILE *opened(const char *path)
 	return file;
 }
 
+/* The type of the first message of all. */
+static inline uint16_t first_kind(FILE *file)
+{
+	struct { uint32_t size, len; uint16_t kind; } begin = { 0 };
+
+	if (fread(&begin, sizeof(begin), 1, file) != 1)
+		fputs("no datagram\n", stderr);
+	rewind(file);
+	return begin.kind;
+}
+
 /* The bytes of the next datagram, or 0 at the end. */
 static size_t next(FILE *file)
 {

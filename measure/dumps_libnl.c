@@ -1,4 +1,5 @@
-/* Reads a dump of links into libnl's cache, and says what came of it.
+/* Reads a dump into libnl's cache, and says what came of it: the entries, and how many messages it
+ * refused.
  * usage: dumps_libnl read|parsed|pickup FILE, as dump.h has it. By `read` nothing is made of
  * it; by `parsed` each message is parsed and put into the cache by nl_msg_parse and
  * nl_cache_add; by `pickup` libnl's own loop does that, nl_cache_pickup, which receives the
@@ -8,17 +9,18 @@
 #include <netlink/msg.h>
 #include <netlink/netlink.h>
 #include <netlink/object.h>
-#include <netlink/route/link.h>
 #include <netlink/socket.h>
-#include <stdbool.h>
+
+/* Each family's cache, in the order of message types. */
+static const char *const caches[] = { "route/link", "route/addr", "route/route", "route/neigh",
+	                              "route/rule" };
 
 static FILE *file;
-static int status;
+static unsigned long refused;
 
 static void put(struct nl_object *object, void *cache)
 {
-	if (nl_cache_add(cache, object) < 0)
-		status = FAILED;
+	refused += nl_cache_add(cache, object) < 0;
 }
 
 static void parse(struct nl_cache *cache)
@@ -34,7 +36,7 @@ static void parse(struct nl_cache *cache)
 
 			nlmsg_set_proto(message, NETLINK_ROUTE);
 			if (head->nlmsg_type >= NLMSG_MIN_TYPE && nl_msg_parse(message, put, cache) < 0)
-				status = FAILED;
+				refused++;
 			nlmsg_free(message);
 		}
 	}
@@ -53,34 +55,37 @@ static int receive(struct nl_sock *sock, struct sockaddr_nl *from, unsigned char
 	return len;
 }
 
-static void pick_up(struct nl_cache *cache)
+static int pick_up(struct nl_cache *cache)
 {
 	struct nl_sock *sock = nl_socket_alloc();
 	struct nl_cb *callbacks = nl_socket_get_cb(sock);
+	int error;
 
 	nl_socket_set_local_port(sock, PORT);
 	nl_socket_disable_seq_check(sock);
 	nl_cb_overwrite_recv(callbacks, receive);
-	if (nl_cache_pickup(sock, cache) < 0)
-		status = FAILED;
+	error = nl_cache_pickup(sock, cache);
 	nl_cb_put(callbacks);
 	nl_socket_free(sock);
+	return error;
 }
 
 int main(int argc, char **argv)
 {
 	struct nl_cache *cache;
+	unsigned int family;
 
 	file = opened(argc > 2 ? argv[2] : NULL);
 	if (!strcmp(argv[1], "read"))
 		return printf("%lu bytes\n", read_all(file)) < 0 ? FAILED : 0;
-	if (rtnl_link_alloc_cache(NULL, 0, &cache) < 0)
+	family = (first_kind(file) - NLMSG_MIN_TYPE) / 4;
+	if (family >= sizeof(caches) / sizeof(*caches) || nl_cache_alloc_name(caches[family], &cache) < 0)
 		return FAILED;
-	if (!strcmp(argv[1], "pickup"))
-		pick_up(cache);
-	else
+	if (strcmp(argv[1], "pickup"))
 		parse(cache);
-	printf("%d links\n", nl_cache_nitems(cache));
+	else if (pick_up(cache) < 0)
+		return FAILED;
+	printf("%d entries, %lu refused\n", nl_cache_nitems(cache), refused);
 	nl_cache_free(cache);
-	return status;
+	return 0;
 }

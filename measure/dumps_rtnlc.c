@@ -1,11 +1,14 @@
 /* Reads a dump by the C library, and says what came of it.
- * usage: dumps_rtnlc read|stream|routes|links FILE, as dump.h has it. By `read` nothing is made
- * of it; by `stream` it goes through a stream of routes; by `routes` too, and what each route
- * holds is looked at; by `links` it goes into the table of a session. */
+ * usage: dumps_rtnlc read|stream|routes|session FILE, as dump.h has it. By `read` nothing is made
+ * of it; by `stream` it goes through a stream; by `routes` too, and what each route holds is
+ * looked at; by `session` it goes into the table of a session. */
 #include "dump.h"
 #include <linux/rtnetlink.h>
 #include <rtnlc.h>
 #include <stdbool.h>
+
+/* The type that asks for the entries of a NEW. */
+#define GET(kind) ((kind) + (RTM_GETLINK - RTM_NEWLINK))
 
 static const struct rtnlc_options options = { 1099511627776, LONGEST, 65536,
 	                                          RTNLC_STANDARD_DEPTH, false };
@@ -91,7 +94,8 @@ static int stream(FILE *file, bool looks)
 	unsigned long items = 0;
 	size_t len;
 
-	if (rtnlc_stream_begin(&stream, RTM_GETROUTE, 0, SEQ, PORT, request, sizeof(request)).code)
+	if (rtnlc_stream_begin(&stream, GET(first_kind(file)), 0, SEQ, PORT, request,
+	                       sizeof(request)).code)
 		return FAILED;
 	while (fed.code == RTNLC_OK && !fed.ended && (len = next(file))) {
 		fed = rtnlc_stream_feed(&stream, datagram, len, events, LONGEST / 4);
@@ -99,22 +103,23 @@ static int stream(FILE *file, bool looks)
 		if (looks && !look_at_all(events, fed.events))
 			return FAILED;
 	}
-	printf("%lu routes, %lu\n", items, count);
+	printf("%lu entries, %lu\n", items, count);
 	return rtnlc_stream_status(&stream).complete ? 0 : FAILED;
 }
 
-static int links(FILE *file)
+static int session(FILE *file)
 {
 	struct rtnlc_session session = { 0 };
 	struct rtnlc_fed fed = { .code = rtnlc_session_new(&session, &options) };
+	uint16_t kind = first_kind(file);
 	bool complete;
 	size_t len;
 
-	if (rtnlc_session_begin(&session, RTM_GETLINK, 0, SEQ, PORT, request, sizeof(request)).code)
+	if (rtnlc_session_begin(&session, GET(kind), 0, SEQ, PORT, request, sizeof(request)).code)
 		return FAILED;
 	while (fed.code == RTNLC_OK && !fed.ended && (len = next(file)))
 		fed = rtnlc_session_feed(&session, datagram, len);
-	printf("%u links\n", rtnlc_session_table(&session, RTM_NEWLINK).count);
+	printf("%u entries\n", rtnlc_session_table(&session, kind).count);
 	complete = rtnlc_session_status(&session).complete;
 	rtnlc_session_free(&session);
 	return complete ? 0 : FAILED;
@@ -124,8 +129,8 @@ int main(int argc, char **argv)
 {
 	FILE *file = opened(argc > 2 ? argv[2] : NULL);
 
-	if (!strcmp(argv[1], "links"))
-		return links(file);
+	if (!strcmp(argv[1], "session"))
+		return session(file);
 	if (!strcmp(argv[1], "read"))
 		return printf("%lu bytes\n", read_all(file)) < 0 ? FAILED : 0;
 	return stream(file, !strcmp(argv[1], "routes"));

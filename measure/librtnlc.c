@@ -1,14 +1,19 @@
 /* Goes over a recording's datagrams by the calls of the C library, and counts what it finds; it
  * keeps nothing.
- * usage: librtnlc scan|tape|cursors PASSES < BINARY, where each datagram stands behind its
- * size, four bytes, lowest first. */
+ * usage: librtnlc scan|tape|cursors|heads PASSES < BINARY, where each datagram stands behind its
+ * size, four bytes, lowest first. By `heads` it prints how many heads there are, how many of
+ * messages, of those behind which other heads stand, and of payloads longer than INLINE. */
 #include <rtnlc.h>
 #include <stdio.h>
 #include <stdlib.h>
 #include <string.h>
 
+/* As long as a payload may be that takes no memory of its own. */
+#define INLINE 31
+
 static unsigned long count;
 static struct rtnlc_event events[1 << 16];
+static unsigned long heads, messages, regions, payloads;
 
 static void attributes(const uint8_t *region, uint32_t size, uint8_t context);
 
@@ -48,6 +53,27 @@ static void by_cursors(const uint8_t *bytes, uint32_t size)
 	}
 }
 
+static void count_heads(const struct rtnlc_event *at, const struct rtnlc_event *end)
+{
+	for (; at < end; at++) {
+		uint32_t front = at->sort == RTNLC_MESSAGE ? rtnlc_family_of(at->number).head_size : 0;
+
+		heads++;
+		messages += at->sort == RTNLC_MESSAGE;
+		regions += at->sort != RTNLC_BYTES && at->len > front;
+		payloads += at->sort == RTNLC_BYTES && at->len > INLINE;
+	}
+}
+
+static void by_tape(const uint8_t *bytes, uint32_t size, const struct rtnlc_options *options, bool counts)
+{
+	size_t found = rtnlc_tape(bytes, size, options, events, sizeof(events) / sizeof(*events)).count;
+
+	count += found;
+	if (counts)
+		count_heads(events, events + found);
+}
+
 int main(int argc, char **argv)
 {
 	static uint8_t bytes[1 << 24];
@@ -63,13 +89,16 @@ int main(int argc, char **argv)
 			memcpy(&len, bytes + at, 4);
 			if (!strcmp(way, "scan"))
 				count += rtnlc_scan(bytes + at + 4, len, &options).visits;
-			else if (!strcmp(way, "tape"))
-				count += rtnlc_tape(bytes + at + 4, len, &options, events, sizeof(events) / sizeof(*events)).count;
+			else if (!strcmp(way, "tape") || !strcmp(way, "heads"))
+				by_tape(bytes + at + 4, len, &options, !strcmp(way, "heads"));
 			else
 				by_cursors(bytes + at + 4, len);
 			at += 4 + ((len + 3) & ~3u);
 		}
 	}
-	printf("%lu\n", count);
+	if (!strcmp(way, "heads"))
+		printf("%lu %lu %lu %lu\n", heads, messages, regions, payloads);
+	else
+		printf("%lu\n", count);
 	return 0;
 }

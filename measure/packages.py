@@ -41,17 +41,20 @@ import shutil
 import subprocess
 import sys
 import tempfile
+from typing import Callable, Dict, Iterable, List, Sequence, Tuple
 
-from measure import TOP, instructions, kept, peak, seconds, shown, table
+from counting import (
+    Command, Count, Rows, instructions, kept, less, over, peak, seconds, shown, table)
+from programs import (
+    CRATES, PACKAGES as FOLDER, TOP, files_of, in_rust, install, over_rust_peer, recorded, run)
 
-PROGRAMS = os.path.join(TOP, "measure/packages")
-sys.path.insert(0, PROGRAMS)
+sys.path.insert(0, FOLDER)
 from dumps import LINKS, NOTIFICATIONS, ROUTES, Recording
 from lines import lines_of
 
 # Where Debian's packages have what they hold, and what is needed, as
 # tests/helpers/install_packages.sh takes it.
-CRATES, GO_PATH, PYTHON = "/usr/share/cargo/registry", "/usr/share/gocode", "/usr/bin/python3"
+GO_PATH, PYTHON = "/usr/share/gocode", "/usr/bin/python3"
 PACKAGES = [
     "cc", "gcc", "pkg-config", "pkg-config", "valgrind", "valgrind", "/usr/bin/time", "time",
     "/usr/include/libnl3/netlink/route/link.h", "libnl-route-3-dev",
@@ -71,7 +74,7 @@ OURS = {
     "routes_stream": ("routes, as a stream", "routes"),
     "watch": ("watch", "watch"),
 }
-PEERS = "links", "routes", "watch"
+PEERS = ["links", "routes", "watch"]
 HEADS = (
     "language", "program", "peer", "lines", "its lines", "cost / its cost", "without printing",
     "megabytes", "its megabytes")
@@ -83,12 +86,7 @@ TIMED, RUNS, LONG = ("Go", "Python"), 10, 60
 HAVE_QUIET = "Rust", "Go", "Python"
 
 
-def run(command, **options):
-    """Whether a command ends well; what it says goes to standard error."""
-    return subprocess.run(command, stdout=sys.stderr, check=False, **options).returncode == 0
-
-
-def asked(*command):
+def asked(*command: str) -> str:
     """What a command prints, or nothing."""
     if not shutil.which(command[0]):
         return ""
@@ -96,41 +94,46 @@ def asked(*command):
     return found.stdout.strip() if found.returncode == 0 else ""
 
 
-def files_of(*names):
-    """Files of measure/packages/."""
-    return [os.path.abspath(os.path.join(PROGRAMS, name)) for name in names]
-
-
-def those_of(pattern, names):
+def those_of(pattern: str, names: Iterable[str]) -> List[str]:
     """The names by which there are such files."""
-    return [it for it in names if os.path.exists(*files_of(pattern.format(it)))]
+    return [it for it in names if all(map(os.path.exists, files_of(pattern.format(it))))]
+
+
+# The commands of programs by their names.
+Made = Dict[str, Command]
+# What a program reads, and the same without an entry.
+Files = Tuple[str, str]
 
 
 class Side:
     """The programs over ours or over a peer: the commands of those that could be made, by name,
     the source of each, and the files that they share."""
 
-    def __init__(self, made, source, *shared):
+    def __init__(self, made: Made, source: str, *shared: str) -> None:
         self.made, self.source, self.shared = made, source, shared
 
-    def lines(self, name):
+    def lines(self, name: str) -> int:
         """How many lines of code a program has."""
-        return lines_of(*files_of(self.source.format(name)), files_of(*self.shared))
+        [source] = files_of(self.source.format(name))
+        return lines_of(source, files_of(*self.shared))
 
 
-def in_c(folder, side, package, names):
+Sides = Tuple[Side, Side]
+
+
+def in_c(folder: str, side: str, package: str, names: Iterable[str]) -> Made:
     """The programs in C of a side."""
     flags = asked("pkg-config", "--cflags", "--libs", package).split()
-    made = {}
+    made: Made = {}
     for name in those_of(f"c/{side}_{{}}.c", names) if flags else ():
-        source, program = *files_of(f"c/{side}_{name}.c"), os.path.join(folder, f"{side}_{name}")
+        [source], program = files_of(f"c/{side}_{name}.c"), os.path.join(folder, f"{side}_{name}")
         # libnl-route is used by what it adds to libnl as it is loaded, and by no call.
         if run(["cc", "-O2", "-o", program, source, "-Wl,--no-as-needed", *flags]):
             made[name] = [program]
     return made
 
 
-def c_sides(folder):
+def c_sides(folder: str) -> Sides:
     """Those in C."""
     ours = in_c(folder, "rtnlc", "rtnlc", OURS)
     peer = in_c(folder, "libnl", "libnl-route-3.0", PEERS)
@@ -140,31 +143,11 @@ def c_sides(folder):
         Side(peer, "c/libnl_{}.c", "c/libnl_text.h"))
 
 
-def in_rust(folder, side, dependency, names, *options):
-    """The programs in Rust of a side, as those of a crate that has this dependency."""
-    folder = os.path.join(folder, f"rust_{side}")
-    os.makedirs(folder)
-    manifest = ["[package]", 'name = "programs"', 'edition = "2021"', "[workspace]"]
-    for name in names:
-        [path] = files_of(f"rust/{side}/{name}.rs")
-        manifest += ["[[bin]]", f'name = "{name}"', f'path = "{path}"']
-    manifest += ["[dependencies]", dependency, ""]
-    kept(folder, "Cargo.toml", "\n".join(manifest).encode())
-    build = ["cargo", "build", "--quiet", "--release", "--offline", *options]
-    if not shutil.which("cargo") or not run(build, cwd=folder):
-        return {}
-    return {name: [os.path.join(folder, "target/release", name)] for name in names}
-
-
-def rust_sides(folder):
-    """Those in Rust. Debian's crates lie in a folder that takes the place of crates.io."""
+def rust_sides(folder: str) -> Sides:
+    """Those in Rust."""
     [package] = files_of("../../bindings/rust/rtnl")
-    ours = in_rust(folder, "rtnl", f'rtnl = {{ path = "{package}" }}', OURS)
-    crate = 'netlink-packet-route = { version = "0.12", features = ["rich_nlas"] }'
-    peer = in_rust(
-        folder, "netlink_packet_route", crate, PEERS,
-        "--config", 'source.crates-io.replace-with="debian"',
-        "--config", f'source.debian.directory="{CRATES}"')
+    ours = in_rust(folder, "rtnl", f'rtnl = {{ path = "{package}" }}', [*OURS])
+    peer = over_rust_peer(folder, PEERS)
     own = [f"rust/rtnl/{name}.rs" for name in ("common", "link", "route")]
     others = [f"rust/netlink_packet_route/{name}.rs" for name in ("dump", "text")]
     return (
@@ -172,7 +155,7 @@ def rust_sides(folder):
         Side(peer, "rust/netlink_packet_route/{}.rs", *others))
 
 
-def in_go(folder, side, names):
+def in_go(folder: str, side: str, names: Iterable[str]) -> Made:
     """The programs in Go of a side. Debian's packages for Go lie in a GOPATH, and so do ours."""
     path = os.path.join(folder, "go")
     os.makedirs(os.path.join(path, "src"), exist_ok=True)
@@ -182,7 +165,7 @@ def in_go(folder, side, names):
     way = {
         **os.environ, "GO111MODULE": "off", "GOFLAGS": "", "GOPATH": f"{path}:{GO_PATH}",
         "GOCACHE": os.path.join(folder, "go_cache")}
-    made = {}
+    made: Made = {}
     for name in those_of(f"go/{side}/{{}}", names) if shutil.which("go") else ():
         program = os.path.join(folder, f"go_{side}_{name}")
         if run(["go", "build", "-o", program, f"measure/{side}/{name}"], env=way):
@@ -190,14 +173,15 @@ def in_go(folder, side, names):
     return made
 
 
-def go_sides(folder):
+def go_sides(folder: str) -> Sides:
     """Those in Go."""
-    return tuple(
+    ours, peer = (
         Side(in_go(folder, side, names), f"go/{side}/{{}}/main.go", f"go/{side}/text/text.go")
-        for side, names in (("rtnlc", OURS), ("rtnetlink", PEERS)))
+        for side, names in (("rtnlc", [*OURS]), ("rtnetlink", PEERS)))
+    return ours, peer
 
 
-def in_python(side, names):
+def in_python(side: str, names: Iterable[str]) -> Made:
     """The programs in Python of a side, which are named by what they import."""
     is_there = ["-c", f"import {side}"]
     if not shutil.which(PYTHON) or not run([PYTHON, *is_there], stderr=subprocess.DEVNULL):
@@ -205,14 +189,15 @@ def in_python(side, names):
     return {name: [PYTHON, *files_of(f"python/{side}_{name}.py")] for name in names}
 
 
-def python_sides(_):
+def python_sides(_: str) -> Sides:
     """Those in Python."""
-    return tuple(
+    ours, peer = (
         Side(in_python(side, names), f"python/{side}_{{}}.py", f"python/{side}_dump.py")
-        for side, names in (("rtnl", OURS), ("pyroute2", PEERS)))
+        for side, names in (("rtnl", [*OURS]), ("pyroute2", PEERS)))
+    return ours, peer
 
 
-LANGUAGES = {
+LANGUAGES: Dict[str, Tuple[str, Callable[[str], Sides]]] = {
     "Rust": ("netlink-packet-route", rust_sides),
     "Go": ("jsimonetti/rtnetlink", go_sides),
     "Python": ("pyroute2", python_sides),
@@ -220,18 +205,19 @@ LANGUAGES = {
 }
 
 
-def by_instructions(commands, file, empty):
+def by_instructions(commands: Sequence[Command], file: str, empty: str) -> List[Count]:
     """The instructions of each program over a file, less those over one without an entry."""
-    return [instructions([*it, file]) - instructions([*it, empty]) for it in commands]
+    return [less(instructions([*it, file]), instructions([*it, empty])) for it in commands]
 
 
-def by_time(commands, file, empty):
+def by_time(commands: Sequence[Command], file: str, empty: str) -> List[Count]:
     """The same of the processor's time: the shortest of some runs, in turn."""
-    shortest, spent = {}, 0
+    shortest: Dict[Tuple[int, str], float] = {}
+    spent = 0.0
     for _ in range(RUNS):
         for index, command in enumerate(commands):
             for read in file, empty:
-                took = seconds([*command, read], b"")
+                took = seconds([*command, read])
                 shortest[index, read] = min(shortest.get((index, read), took), took)
                 spent += took
         if spent > LONG:
@@ -239,7 +225,7 @@ def by_time(commands, file, empty):
     return [shortest[index, file] - shortest[index, empty] for index in range(len(commands))]
 
 
-def ratio(language, commands, files):
+def ratio(language: str, commands: Sequence[Command], files: Files) -> Count:
     """What the first program costs over what the second one costs; none where that isn't known."""
     if language in TIMED:
         ours, peer = by_time(commands, *files)
@@ -247,10 +233,10 @@ def ratio(language, commands, files):
         ours, peer = by_instructions(commands, *files)
     else:
         return None
-    return ours / peer
+    return over(ours, peer)
 
 
-def quiet_ratio(language, commands, files):
+def quiet_ratio(language: str, commands: Sequence[Command], files: Files) -> Count:
     """The same where they print nothing."""
     if language not in HAVE_QUIET:
         return None
@@ -260,18 +246,19 @@ def quiet_ratio(language, commands, files):
     return found
 
 
-def print_the_same(commands, file):
+def print_the_same(commands: Sequence[Command], file: str) -> bool:
     """Whether the programs end well, and print the same."""
     runs = [subprocess.run([*it, file], stdout=subprocess.PIPE, check=False) for it in commands]
     return all(it.returncode == 0 and it.stdout == runs[0].stdout != b"" for it in runs)
 
 
-def row(language, name, sides, files):
+def row(language: str, name: str, sides: Sides, files: Dict[str, Files]) -> Sequence[str]:
     """What is told of one program."""
     (shown_name, peer_name), (ours, peer) = OURS[name], sides
-    commands = [ours.made.get(name), peer.made.get(peer_name)]
-    costs, memory = [None, None], [None, None]
-    if None not in commands:
+    commands = [it for it in (ours.made.get(name), peer.made.get(peer_name)) if it]
+    costs: List[Count] = [None, None]
+    memory: List[Count] = [None, None]
+    if len(commands) == 2:
         if not print_the_same(commands, files[peer_name][0]):
             sys.exit(f"{language}: {name} prints other lines than its peer's program, or fails")
         costs = [way(language, commands, files[peer_name]) for way in (ratio, quiet_ratio)]
@@ -282,18 +269,9 @@ def row(language, name, sides, files):
         *(shown(it) for it in memory))
 
 
-def recorded(folder, made):
-    """The recordings of a folder, or of one that measure/record.sh makes."""
-    if not folder:
-        folder = os.path.join(made, "recorded")
-        if not run([os.path.join(TOP, "measure/record.sh"), folder]):
-            sys.exit("measure/record.sh can't make recordings here: name a folder of some")
-    return Recording(folder)
-
-
-def written(found, made):
+def written(found: Recording, made: str) -> Dict[str, Files]:
     """What the programs read, by their names, and the same without an entry."""
-    ways = {
+    ways: Dict[str, Tuple[Callable[[int], bytes], int]] = {
         "links": (found.links, LINKS), "routes": (found.all_routes, ROUTES),
         "watch": (found.notifications, NOTIFICATIONS)}
     return {
@@ -301,20 +279,20 @@ def written(found, made):
         for name, (make, many) in ways.items()}
 
 
-def main():
+def main() -> None:
     options = argparse.ArgumentParser(
         description=__doc__, formatter_class=argparse.RawDescriptionHelpFormatter)
     options.add_argument("folder", nargs="?")
     options.add_argument("--only", choices=LANGUAGES, action="append")
     chosen = options.parse_args()
-    run([os.path.join(TOP, "tests/helpers/install_packages.sh"), *PACKAGES])
+    install(*PACKAGES)
     os.environ["PYTHONPATH"] = os.path.join(TOP, "bindings/python/src")
     library = asked("pkg-config", "--variable=libdir", "rtnlc")
     if library:
         os.environ.update(LD_LIBRARY_PATH=library, RTNLC_LIB_DIR=library)
-    rows = [HEADS]
+    rows: Rows = [HEADS]
     with tempfile.TemporaryDirectory() as made:
-        files = written(recorded(chosen.folder, made), made)
+        files = written(Recording(recorded(chosen.folder, made)), made)
         for language in chosen.only or LANGUAGES:
             sides = LANGUAGES[language][1](made)
             names = those_of(sides[0].source, OURS)

@@ -4,9 +4,10 @@ import os
 import re
 import struct
 import sys
+from typing import Callable, Iterable, Iterator, List, Tuple
 
 sys.path.insert(0, os.path.join(os.path.dirname(os.path.abspath(__file__)), ".."))
-from measure import DATAGRAM, attribute, datagrams_of, number, sized
+from datagrams import DATAGRAM, attribute, datagrams_of, number, sized
 
 # The port id of the answers, as measure/dump.h and the sources of the programs have it.
 PORT = 2
@@ -33,12 +34,12 @@ RECORDINGS = {
     NEW_NEIGH: "neighbours.hex"}
 
 
-def message(kind, body, seq, port, flags=2):
+def message(kind: int, body: bytes, seq: int, port: int, flags: int = 2) -> bytes:
     """A message of a dump, or a notification where its flags and numbers are 0."""
     return struct.pack("<IHHII", 16 + len(body), kind, flags, seq, port) + body
 
 
-def parts_of(region, begin, head):
+def parts_of(region: bytes, begin: int, head: int) -> Iterator[Tuple[int, bytes]]:
     """What stands one behind another in a region, from an offset on: the numbers and the bytes
     behind the head of messages or attributes, whose length stands first."""
     form, at = {16: "<IH", 4: "<HH"}[head], begin
@@ -48,14 +49,14 @@ def parts_of(region, begin, head):
         at += (size + 3) // 4 * 4
 
 
-def bodies_of(path, kind):
+def bodies_of(path: str, kind: int) -> List[bytes]:
     """The bodies of a recording's messages of a type."""
     return [
         body for datagram in datagrams_of(path) for found, body in parts_of(datagram, 0, 16)
         if found == kind]
 
 
-def link(body, index):
+def link(body: bytes, index: int) -> bytes:
     """A link with an index and a name of its own."""
     attributes = b"".join(
         attribute(it, b"eth%05d\0" % index if it == IFNAME else payload)
@@ -63,7 +64,7 @@ def link(body, index):
     return body[:4] + struct.pack("<i", index + 1) + body[8:16] + attributes
 
 
-def next_hops(index):
+def next_hops(index: int) -> bytes:
     """RTA_MULTIPATH: next hops with an interface and a gateway each."""
     hops = b""
     for hop in range(HOPS):
@@ -73,7 +74,7 @@ def next_hops(index):
     return attribute(MULTIPATH, hops)
 
 
-def route(body, index):
+def route(body: bytes, index: int) -> bytes:
     """A route with a destination of its own, and one of the interfaces."""
     has_hops = body[0] == INET and index % EACH == 0
     attributes = b""
@@ -89,7 +90,7 @@ def route(body, index):
     return body[:12] + attributes + (next_hops(index) if has_hops else b"")
 
 
-def dump(kind, bodies, seq):
+def dump(kind: int, bodies: Iterable[bytes], seq: int) -> List[bytes]:
     """The datagrams of a dump, as large as the kernel makes them for a buffer that is large
     enough."""
     datagrams = [b""]
@@ -101,7 +102,8 @@ def dump(kind, bodies, seq):
     return [*filter(None, datagrams), message(DONE, bytes(4), seq, PORT)]
 
 
-def numbered(make, bodies, many):
+def numbered(make: Callable[[bytes, int], bytes], bodies: List[bytes],
+             many: int) -> Iterator[bytes]:
     """So many bodies, made of these again and again."""
     return (make(bodies[it % len(bodies)], it) for it in range(many))
 
@@ -109,7 +111,7 @@ def numbered(make, bodies, many):
 class Recording:
     """The messages of a folder's recordings, as measure/record.sh makes them."""
 
-    def __init__(self, folder):
+    def __init__(self, folder: str) -> None:
         self.bodies = {
             kind: bodies_of(os.path.join(folder, name), kind) for kind, name in RECORDINGS.items()}
         links = self.bodies[NEW_LINK]
@@ -119,19 +121,19 @@ class Recording:
             family: [it for it in self.bodies[NEW_ROUTE] if it[0] == family and it[1] >= least]
             for family, least in ((INET, 24), (INET6, 64))}
 
-    def links(self, many, further=()):
+    def links(self, many: int, further: Iterable[bytes] = ()) -> bytes:
         """What `links` reads: a dump of so many links."""
         bodies = numbered(link, self.bodies[NEW_LINK], many)
         return sized([*dump(NEW_LINK, bodies, 1), *further])
 
-    def all_routes(self, many):
+    def all_routes(self, many: int) -> bytes:
         """What `routes` reads: links, and so many routes of each address family."""
         routes = [
             it for seq, family in ((2, INET), (3, INET6))
             for it in dump(NEW_ROUTE, numbered(route, self.routes[family], many), seq)]
         return self.links(min(many, INTERFACES), routes)
 
-    def notification(self, index):
+    def notification(self, index: int) -> bytes:
         """One of many notifications."""
         kind, turn = MIX[index % len(MIX)], index // len(MIX)
         found = self.bodies[kind]
@@ -142,6 +144,6 @@ class Recording:
             body = (link if kind == NEW_LINK else route)(body, turn)
         return message(kind + (index % GONE == GONE - 1), body, 0, 0, 0)
 
-    def notifications(self, many):
+    def notifications(self, many: int) -> bytes:
         """What `watch` reads: notifications, one a datagram."""
         return sized([self.notification(it) for it in range(many)])

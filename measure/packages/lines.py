@@ -1,6 +1,7 @@
 """Lines of code of a program: without comments, blank lines and imports. Of the files that
 programs share those of the definitions count that the program comes to."""
 import re
+from typing import Iterable, List, Tuple
 
 C_COMMENTS, PYTHON_COMMENTS = r"/\*.*?\*/|(^|(?<=\s))//.*?$", r'^\s*""".*?"""$|^\s*#.*?$'
 
@@ -18,7 +19,7 @@ DEFINITION = re.compile(
     r"(?:#define |type |func \(\w+ \*?|[\w<>\[\]{}* ,]*[\s*])?(\w+)\s*(?:[(\[=<;:{)]|\d|struct)")
 
 
-def code_of(path):
+def code_of(path: str) -> List[str]:
     """A file's lines of code."""
     comments, imports = SYNTAX[path.rsplit(".", 1)[-1]]
     with open(path, encoding="utf-8") as file:
@@ -27,9 +28,9 @@ def code_of(path):
     return [line for line in text.splitlines() if line.strip()]
 
 
-def definitions_of(path):
+def definitions_of(path: str) -> List[Tuple[str, List[str]]]:
     """The definitions of a file: their names and lines."""
-    found = []
+    found: List[Tuple[str, List[str]]] = []
     for line in code_of(path):
         begins = None if line[0] in " \t})]" else DEFINITION.match(line)
         if begins or not found:
@@ -38,7 +39,7 @@ def definitions_of(path):
     return found
 
 
-def lines_of(path, shared):
+def lines_of(path: str, shared: Iterable[str]) -> int:
     """How many lines of code a program has, with those that it comes to in the files that it
     shares with others."""
     lines = code_of(path)
