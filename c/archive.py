@@ -2,21 +2,32 @@
 """Builds crates/rtnl_c/out/librtnl_c.a over the libraries that lie built in the crates' folders
 out/, as `rt lib` does at its end. It is for a repository that `rt ci` passed: that command builds
 those libraries anew, but no static library, and `rt lib` would prove all of them once more. Here
-rtnl_c alone is proved again. Nothing is done where the archive is there and no source, definition
-or proof is newer.
+rtnl_c alone is proved again. Beside the archive librtnl_c.bc is kept, the code that the kit hands
+to its clang, of which wasm.py makes the module of the page. Nothing is done where the archive is
+there and no source, definition or proof is newer.
 The status is 1 where a library is missing or older than its sources, or rtnl_c is not proved.
 """
 import os
 import shutil
 import subprocess
 import sys
+import tempfile
 from typing import Any, Dict, List, NoReturn
 
 sys.dont_write_bytecode = True
 sys.path.insert(0, f"{os.path.dirname(os.path.realpath(__file__))}/../launch")
 from crates import ROOT, Crates, NotBuilt, below, library, listed, newer
+from stand_in import stand_in
 
 NAME = "rtnl_c"
+ARCHIVE, CODE = (f"{ROOT}/crates/{NAME}/out/lib{NAME}.{it}" for it in ("a", "bc"))
+# Keeps the module that is compiled.
+KEEPER = """#!/bin/sh
+for word in "$@"; do
+  case $word in *.bc) cp "$word" '{room}/kept' || exit ;; esac
+done
+exec '{clang}' "$@"
+"""
 
 
 def stop(why: str) -> NoReturn:
@@ -29,8 +40,16 @@ def is_current(crates: Crates, made: str) -> bool:
     return not any(newer(it, time, "specs", "proofs") for it in [NAME, *below(crates, NAME)])
 
 
-def words(kit: str, crates: Crates, to: str) -> List[str]:
-    """The command of the compiler."""
+def kit_folder() -> str:
+    """The kit's folder."""
+    command = shutil.which("rt")
+    if command is None:
+        stop("rt, with which the compiler comes, is not on the PATH")
+    return os.path.dirname(os.path.dirname(os.path.realpath(command)))
+
+
+def words(kit: str, crates: Crates, toolchain: str, to: str) -> List[str]:
+    """The command of the compiler, which compiles by the clang of this toolchain."""
     libraries = {name: library(name) for name in below(crates, NAME)}
     uses = crates[NAME].uses
     found = [f"{kit}/bin/rattle", "build", "--crate-name", NAME, "src/lib.rt"]
@@ -43,35 +62,38 @@ def words(kit: str, crates: Crates, to: str) -> List[str]:
         found += ["-L", f"dependency={os.path.dirname(folder)}"]
     found += ["--antt-project", f"{kit}/rattle/logic/antt-project.json"]
     found += ["--logic-built", f"{kit}/logic_built", "--jobs", "2", "--links", f"{NAME}="]
-    found += ["--crate-type", "staticlib", "--toolchain", f"{kit}/toolchain"]
+    found += ["--crate-type", "staticlib", "--toolchain", toolchain]
     return [*found, "--backend", "llvm", "-o", to]
 
 
-def build(crates: Crates, made: str) -> None:
-    command = shutil.which("rt")
-    if command is None:
-        stop("rt, with which the compiler comes, is not on the PATH")
-    kit = os.path.dirname(os.path.dirname(os.path.realpath(command)))
-    os.makedirs(os.path.dirname(made), exist_ok=True)
+def build(crates: Crates) -> None:
+    """Proves rtnl_c, and makes its archive and keeps its code."""
+    os.makedirs(os.path.dirname(ARCHIVE), exist_ok=True)
     how: Dict[str, Any] = {"stdin": subprocess.DEVNULL, "stdout": subprocess.PIPE}
     how.update(stderr=subprocess.STDOUT, cwd=f"{ROOT}/crates/{NAME}", errors="replace")
-    ran = subprocess.run(words(kit, crates, f"{made}.new"), check=False, **how)
-    lines = ran.stdout.splitlines()
-    if ran.returncode or not lines or not lines[-1].startswith("logic=proved "):
-        print(ran.stdout, end="", file=sys.stderr)
-        stop(f"{NAME} is not proved, or not built")
-    os.replace(f"{made}.new", made)
+    with tempfile.TemporaryDirectory() as room:
+        kit = kit_folder()
+        command = words(kit, crates, stand_in(kit, room, KEEPER), f"{ARCHIVE}.new")
+        ran = subprocess.run(command, check=False, **how)
+        lines = ran.stdout.splitlines()
+        if ran.returncode or not lines or not lines[-1].startswith("logic=proved "):
+            print(ran.stdout, end="", file=sys.stderr)
+            stop(f"{NAME} is not proved, or not built")
+        shutil.copyfile(f"{room}/kept", f"{CODE}.new")
+    os.replace(f"{CODE}.new", CODE)
+    os.replace(f"{ARCHIVE}.new", ARCHIVE)
 
 
-def main() -> None:
+def make(*wanted: str) -> None:
+    """Makes these files, the archive or the code, where one of them is not there or is older than
+    the sources."""
     crates = listed()
-    made = f"{ROOT}/crates/{NAME}/out/lib{NAME}.a"
-    if not is_current(crates, made):
+    if not all(is_current(crates, it) for it in wanted):
         try:
-            build(crates, made)
+            build(crates)
         except NotBuilt as error:
             stop(f"{error}")
 
 
 if __name__ == "__main__":
-    main()
+    make(ARCHIVE)

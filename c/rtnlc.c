@@ -11,6 +11,7 @@ struct handle {
 };
 
 struct rtnlc_scanned proved_scan(const uint8_t *, size_t, const struct rtnlc_options *);
+struct rtnlc_broken_head proved_broken(const uint8_t *, size_t, const struct rtnlc_options *);
 struct rtnlc_taped proved_tape(const uint8_t *, size_t, const struct rtnlc_options *,
                                struct rtnlc_event *, size_t);
 struct rtnlc_message proved_message_at(const uint8_t *, size_t, uint32_t, bool);
@@ -22,6 +23,8 @@ struct rtnlc_holds proved_holds(uint8_t, uint16_t, bool);
 struct rtnlc_checked proved_check(const uint8_t *, size_t, const struct rtnlc_options *);
 struct rtnlc_shown proved_show(size_t, const uint8_t *, size_t, const struct rtnlc_options *,
                                uint8_t *, size_t);
+struct rtnlc_shown proved_show_json(size_t, const uint8_t *, size_t, const struct rtnlc_options *,
+                                    uint8_t *, size_t);
 struct rtnlc_put proved_request(uint16_t, uint8_t, uint32_t, bool, uint8_t *, size_t);
 struct rtnlc_put proved_type_name(uint16_t, uint8_t *, size_t);
 struct rtnlc_put proved_attr_name(uint8_t, uint16_t, uint8_t *, size_t);
@@ -65,6 +68,12 @@ struct rtnlc_scanned rtnlc_scan(const uint8_t *bytes, size_t len,
                                 const struct rtnlc_options *options)
 {
 	return proved_scan(read_at(bytes), len, limits_at(options));
+}
+
+struct rtnlc_broken_head rtnlc_broken(const uint8_t *bytes, size_t len,
+                                      const struct rtnlc_options *options)
+{
+	return proved_broken(read_at(bytes), len, limits_at(options));
 }
 
 struct rtnlc_taped rtnlc_tape(const uint8_t *bytes, size_t len,
@@ -118,6 +127,14 @@ struct rtnlc_shown rtnlc_show(size_t number, const uint8_t *bytes, size_t len,
 	uint8_t nowhere;
 	uint8_t *to = out ? (uint8_t *)out : &nowhere;
 	return proved_show(number, read_at(bytes), len, limits_at(options), to, room);
+}
+
+struct rtnlc_shown rtnlc_show_json(size_t number, const uint8_t *bytes, size_t len,
+                                   const struct rtnlc_options *options, char *out, size_t room)
+{
+	uint8_t nowhere;
+	uint8_t *to = out ? (uint8_t *)out : &nowhere;
+	return proved_show_json(number, read_at(bytes), len, limits_at(options), to, room);
 }
 
 struct rtnlc_put rtnlc_request(uint16_t kind, uint8_t family, uint32_t seq, bool big, uint8_t *out,

@@ -19,10 +19,10 @@
  * Threads: no call writes anything but its result, what it was handed to write, and its session.
  * Any thread may call, and a session or a stream may go from one thread to another between two
  * calls.
- * Memory: rtnlc_check and rtnlc_show take some from malloc, realloc and free, and have given all
- * of it back when they return. A session holds memory until it is freed, and its calls take some.
- * These two and all calls of a session can't be made from a signal handler; the others take no
- * memory, and can.
+ * Memory: rtnlc_check, rtnlc_show and rtnlc_show_json take some from malloc, realloc and free, and
+ * have given all of it back when they return. A session holds memory until it is freed, and its
+ * calls take some. These three and all calls of a session can't be made from a signal handler; the
+ * others take no memory, and can.
  * Stack: no call needs more than RTNLC_STACK bytes, however deep the datagram is.
  *
  * Places are offsets in bytes, from the front of the bytes that were handed in. `len` fields count
@@ -124,6 +124,25 @@ struct rtnlc_scanned {
 RTNLC_READS(1, 2)
 struct rtnlc_scanned rtnlc_scan(const uint8_t *bytes, size_t len,
                                 const struct rtnlc_options *options);
+
+struct rtnlc_broken_head {
+	uint32_t place;  /* of the head, which is that of the first fault */
+	uint32_t len;    /* the length that it says, with its own bytes */
+	uint32_t left;   /* bytes from there to the end of the list that it lies in; for a message, to
+	                  * the end of the datagram */
+	uint16_t number; /* as in struct rtnlc_event */
+	uint8_t level;   /* as there */
+	uint8_t sort;    /* RTNLC_MESSAGE, RTNLC_NEXT_HOP, or RTNLC_BYTES for any attribute */
+	bool whole;      /* its bytes are all there; else `len` and `number` are 0 */
+	uint8_t code;    /* as for rtnlc_scan; where it is no rule, all else is 0 */
+};
+
+/* The head that breaks a rule at the first fault that rtnlc_scan answers, and what it says of
+ * itself. The heads in which it lies are the last events of rtnlc_tape before its place: the last
+ * message, and the last event of each level below its own. */
+RTNLC_READS(1, 2)
+struct rtnlc_broken_head rtnlc_broken(const uint8_t *bytes, size_t len,
+                                      const struct rtnlc_options *options);
 
 /* ---- Its heads, in one pass ---- */
 
@@ -244,6 +263,12 @@ struct rtnlc_shown {
 RTNLC_READS(2, 3) RTNLC_WRITES(5, 6)
 struct rtnlc_shown rtnlc_show(size_t number, const uint8_t *bytes, size_t len,
                               const struct rtnlc_options *options, char *out, size_t room);
+
+/* As rtnlc_show, of the line of JSON that `rtnl show --format json` prints of it, with its
+ * newline. Its objects are those of share/rtnl.schema.json. */
+RTNLC_READS(2, 3) RTNLC_WRITES(5, 6)
+struct rtnlc_shown rtnlc_show_json(size_t number, const uint8_t *bytes, size_t len,
+                                   const struct rtnlc_options *options, char *out, size_t room);
 
 /* ---- The request of a dump ---- */
 

@@ -8,6 +8,7 @@ import os
 import subprocess
 from typing import Iterator, List, NamedTuple, NoReturn, Optional, Tuple
 
+import page
 import record
 from crates import ROOT
 from folders import Folder, Linked, Reached, Taken, reach
@@ -62,7 +63,8 @@ def open_prefix(target: Target, make: bool) -> Reached:
 def content(row: Row, target: Target, program: str, built: str) -> Tuple[bytes, str]:
     """What a row puts, with its mode; of a link what it points to."""
     sort, _, name = row.source.partition("/")
-    path = {"program": program, "built": f"{built}/{name}"}.get(sort, f"{ROOT}/{row.source}")
+    made = {"program": program, "page": page.MADE, "built": f"{built}/{name}"}
+    path = made.get(sort, f"{ROOT}/{row.source}")
     if row.mode == "link":
         return os.fsencode(os.readlink(path)), row.mode
     with open(path, "rb") as file:

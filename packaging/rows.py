@@ -3,11 +3,12 @@ import os
 import re
 from typing import Dict, List, NamedTuple
 
+import page
 from crates import ROOT
 
 # A file of the repository, its place under the prefix, and its mode. `program` is the one that
-# ./rtnl runs, and of the library the files that c/build.sh makes stand in built/. In places
-# @LIBDIR@ is the library's folder.
+# ./rtnl runs, `page` the one that web/build.py makes, and of the library the files that c/build.sh
+# makes stand in built/. In places @LIBDIR@ is the library's folder.
 PROGRAM = """
 program bin/rtnl 755
 share/man/man1/rtnl.1 share/man/man1/rtnl.1 644
@@ -22,6 +23,7 @@ share/completions/rtnl-record.bash share/bash-completion/completions/rtnl-record
 share/completions/_rtnl-record share/zsh/site-functions/_rtnl-record 644
 share/completions/rtnl-record.fish share/fish/vendor_completions.d/rtnl-record.fish 644
 """
+PAGE = "page share/rtnl/rtnl.html 644"
 # The modules of rtnl-record, each of which is installed, and their folder under the prefix.
 MODULES, MODULES_PLACE = "record", "share/rtnl-record"
 LIBRARY = """
@@ -53,10 +55,10 @@ def rows(table: str, libdir: str) -> List[Row]:
 
 
 def program_rows() -> List[Row]:
-    """What is installed of the programs."""
+    """What is installed of the programs, and the page where it is of these sources."""
     names = sorted(it for it in os.listdir(f"{ROOT}/{MODULES}") if it.endswith(".py"))
     modules = [Row(f"{MODULES}/{it}", f"{MODULES_PLACE}/{it}", "644") for it in names]
-    return [*rows(PROGRAM, ""), *modules]
+    return [*rows(PROGRAM, ""), *modules, *rows(PAGE if page.is_current() else "", "")]
 
 
 def version() -> str:

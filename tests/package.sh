@@ -3,8 +3,9 @@
 # the same bytes twice, what they need of the C library, what lintian says of them, and what is
 # refused. They are installed into a root that has the C library and nothing else, as root, where
 # the program runs, a program in C, and with Python rtnl-record; and NOTICE is compared with the
-# kit. The library is built where it is missing, as tests/c_library.sh has it; but under tests/run
-# --quick, where the program is not proved, there is none then. Packages that are missing are
+# kit. The library and the page are built where they are missing, as tests/c_library.sh and
+# tests/page.sh have them; but under tests/run --quick, where the program is not proved, there are
+# none then. Packages that are missing are
 # installed where that can be, and what can't run says so and isn't counted. The last line is 'N
 # passed, M failed', and the status is 1 where a case failed.
 set -u
@@ -15,7 +16,7 @@ program=$(tests/helpers/proved.py) || exit 1
 . tests/helpers/cases.sh
 
 tests/helpers/install_packages.sh cc gcc objcopy binutils pkg-config pkg-config dpkg-deb dpkg \
-  lintian lintian git git
+  lintian lintian git git wasm-opt binaryen
 
 # What is made here, and how ./package is told of it.
 how=()
@@ -23,10 +24,13 @@ said_of_program='program proved where it was built'
 tests/helpers/proved.py "$program" ||
   how+=(--unproved) said_of_program='program NOT PROVED where it was built'
 has_library=yes
-[ -n "${RTNL_PROGRAM-}" ] || c/build.sh "$folder/library" || exit 1
-if ! RTNL_BUILD=no launch/build.py library 2>/dev/null; then
+if [ -z "${RTNL_PROGRAM-}" ]; then
+  c/build.sh "$folder/library" || exit 1
+  launch/page.py >/dev/null || ! has wasm-opt 'the page' || web/build.py || exit 1
+fi
+if ! RTNL_BUILD=no launch/build.py library 2>/dev/null || ! launch/page.py >/dev/null; then
   has_library=no how+=(--without-library)
-  echo 'skipped: what has the library, since it is not built here'
+  echo 'skipped: what has the library, since it or the page is not built here'
 fi
 version=$(sed -n 's/^## //p' CHANGELOG.md | head -n 1)
 archive=rtnl-$version-x86_64-linux

@@ -23,6 +23,53 @@ static void expect_scan(const char *what, uint8_t *bytes, size_t len,
 	free(bytes);
 }
 
+/* Of a head that breaks a rule: its sort, its level, its number, its length, and what is left. */
+static void expect_broken(const char *what, uint8_t *bytes, size_t len,
+                          const struct rtnlc_options *limits, struct rtnlc_broken_head wanted)
+{
+	struct rtnlc_broken_head found = rtnlc_broken(bytes, len, limits);
+	expect(what, found.place, wanted.place);
+	expect(what, found.len, wanted.len);
+	expect(what, found.left, wanted.left);
+	expect(what, found.number, wanted.number);
+	expect(what, found.level, wanted.level);
+	expect(what, found.sort, wanted.sort);
+	expect(what, found.whole, wanted.whole);
+	expect(what, found.code, wanted.code);
+	free(bytes);
+}
+
+static void expect_heads(void)
+{
+	static const struct rtnlc_broken_head none = { 0, 0, 0, 0, 0, 0, false, RTNLC_OK };
+	static const struct rtnlc_broken_head large = { 0, 0, 0, 0, 0, 0, false, RTNLC_TOO_LARGE };
+	static const struct rtnlc_broken_head cut = { 0, 0, 15, 0, 0, RTNLC_MESSAGE, false, RTNLC_CUT };
+	static const struct rtnlc_broken_head longer = { 0, 40, 39, 16, 0, RTNLC_MESSAGE, true,
+		                                             RTNLC_BAD_LENGTH };
+	static const struct rtnlc_broken_head attr = { LINK_HEAD, 3, 8, 3, 0, RTNLC_BYTES, true,
+		                                           RTNLC_BAD_LENGTH };
+	static const struct rtnlc_broken_head deep = { LINK_HEAD + 32, 4, 4, 1, 8, RTNLC_BYTES, true,
+		                                           RTNLC_TOO_DEEP };
+	static const struct rtnlc_broken_head hop = { ROUTE_HEAD + 4, 7, 12, 0, 1, RTNLC_NEXT_HOP, true,
+		                                          RTNLC_BAD_LENGTH };
+	size_t len;
+	uint8_t *bytes = link_with(40, 3);
+	expect_broken("nothing is broken", link_with(40, 3), 40, NULL, none);
+	expect_broken("too many bytes", link_with(RTNLC_STANDARD_DATAGRAM + 1, 3),
+	              RTNLC_STANDARD_DATAGRAM + 1, NULL, large);
+	expect_broken("a header of 15 bytes", link_with(40, 3), 15, NULL, cut);
+	expect_broken("fewer bytes than a length", link_with(40, 3), 39, NULL, longer);
+	put_attr(bytes + LINK_HEAD, 3, 3);
+	expect_broken("an attribute of 3 bytes", bytes, 40, NULL, attr);
+	bytes = chain_of(9, &len);
+	expect_broken("a level more", bytes, len, NULL, deep);
+	bytes = (uint8_t *)calloc(44, 1);
+	put_header(bytes, 44, 24);
+	put_attr(bytes + ROUTE_HEAD, 16, 9);
+	put_number(bytes + ROUTE_HEAD + 4, 2, 7);
+	expect_broken("a next hop of 7 bytes", bytes, 44, NULL, hop);
+}
+
 static void expect_faults(void)
 {
 	uint8_t *bytes = link_with(40, 3);
@@ -184,13 +231,17 @@ static void expect_sorts(void)
 static void expect_nothing(void)
 {
 	static const char wanted[] = "datagram 7 bytes 0\n";
-	char text[sizeof wanted];
+	static const char wanted_json[] = "{\"datagram\":7,\"bytes\":0,\"messages\":[]}\n";
+	char text[sizeof wanted], json[sizeof wanted_json];
 	struct rtnlc_shown shown = rtnlc_show(7, NULL, 0, NULL, text, sizeof text);
 	expect("the text of nothing", shown.len, sizeof wanted - 1);
 	expect("its code", shown.code, RTNLC_OK);
 	expect("its bytes", memcmp(text, wanted, sizeof wanted - 1) != 0, 0);
 	expect("its length without a buffer", rtnlc_show(7, NULL, 0, NULL, NULL, 0).len,
 	       sizeof wanted - 1);
+	shown = rtnlc_show_json(7, NULL, 0, NULL, json, sizeof json);
+	expect("the JSON of nothing", shown.len, sizeof wanted_json - 1);
+	expect("its bytes", memcmp(json, wanted_json, sizeof wanted_json - 1) != 0, 0);
 	expect("a scan of nothing", rtnlc_scan(NULL, 0, NULL).code, RTNLC_OK);
 	expect("its visits", rtnlc_scan(NULL, 0, NULL).visits, 0);
 	expect("a tape of nothing", rtnlc_tape(NULL, 0, NULL, NULL, 0).code, RTNLC_OK);
@@ -204,6 +255,7 @@ static void expect_nothing(void)
 
 int main(void)
 {
+	expect_heads();
 	expect_faults();
 	expect_limits();
 	expect_cursors();

@@ -104,6 +104,7 @@ program_things=(bin/rtnl share/man/man1/rtnl.1 share/bash-completion/completions
   share/bash-completion/completions/rtnl-record share/zsh/site-functions/_rtnl-record
   share/fish/vendor_completions.d/rtnl-record.fish)
 for module in record/*.py; do program_things+=("share/rtnl-record/${module##*/}"); done
+! launch/page.py >/dev/null || program_things+=(share/rtnl/rtnl.html)
 
 library=$(each installed "${library_things[@]}")
 

@@ -23,6 +23,16 @@ IS_AT(rtnlc_scanned, visits, 0);
 IS_AT(rtnlc_scanned, place, 8);
 IS_AT(rtnlc_scanned, code, 12);
 
+IS_SIZE(rtnlc_broken_head, 20);
+IS_AT(rtnlc_broken_head, place, 0);
+IS_AT(rtnlc_broken_head, len, 4);
+IS_AT(rtnlc_broken_head, left, 8);
+IS_AT(rtnlc_broken_head, number, 12);
+IS_AT(rtnlc_broken_head, level, 14);
+IS_AT(rtnlc_broken_head, sort, 15);
+IS_AT(rtnlc_broken_head, whole, 16);
+IS_AT(rtnlc_broken_head, code, 17);
+
 IS_SIZE(rtnlc_event, 16);
 IS_AT(rtnlc_event, place, 0);
 IS_AT(rtnlc_event, len, 4);

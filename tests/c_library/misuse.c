@@ -69,6 +69,8 @@ static void is_bad(struct rtnlc_options options, const char *what)
 	must(rtnlc_tape(done, sizeof done, &options, out, 1).code == RTNLC_BAD_LIMIT, what);
 	must(rtnlc_check(done, sizeof done, &options).code == RTNLC_BAD_LIMIT, what);
 	must(rtnlc_show(1, done, sizeof done, &options, text, 1).code == RTNLC_BAD_LIMIT, what);
+	must(rtnlc_show_json(1, done, sizeof done, &options, text, 1).code == RTNLC_BAD_LIMIT, what);
+	must(rtnlc_broken(done, sizeof done, &options).code == RTNLC_BAD_LIMIT, what);
 	must(is_painted(out, sizeof *out), what);
 }
 

@@ -3,10 +3,10 @@
 for order in little big; do
   for sort in recorded mutated; do
     tests/c_library/print_datagrams.py "$sort" "$order" >"$folder/$sort.$order" || exit 1
-    for command in check show; do
-      "$program" "$command" --order "$order" "$folder/$sort.$order" \
-        >"$folder/$command.$sort.$order"
-    done
+    "$program" check --order "$order" "$folder/$sort.$order" >"$folder/check.$sort.$order"
+    "$program" show --order "$order" "$folder/$sort.$order" >"$folder/show.$sort.$order"
+    "$program" show --format json --order "$order" "$folder/$sort.$order" \
+      >"$folder/json.$sort.$order"
   done
 done
 
@@ -35,7 +35,7 @@ every() {
   local order sort command
   for order in little big; do
     for sort in recorded mutated; do
-      for command in check show; do
+      for command in check show json; do
         check "$1: $command of $sort datagrams, $order" prints_so "$1" "$command" "$sort" "$order"
       done
       check "$1: calls on $sort datagrams, $order" compares "$1" "$sort" "$order"

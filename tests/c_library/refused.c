@@ -1,7 +1,7 @@
 /*
- * Refuses the allocations of rtnlc_check and of rtnlc_show on each datagram of a recording in
- * turn: the first in one call, the second in the next, until a call asks for no more. It is
- * linked with --wrap for malloc, calloc, realloc and free, and says how many were refused.
+ * Refuses the allocations of rtnlc_check, rtnlc_show and rtnlc_show_json on each datagram of a
+ * recording in turn: the first in one call, the second in the next, until a call asks for no more.
+ * It is linked with --wrap for malloc, calloc, realloc and free, and says how many were refused.
  */
 #include "refusing.h"
 
@@ -42,15 +42,19 @@ static void refuse_check(const struct datagram *one, const struct rtnlc_options 
 		fail("a check behind refusals", one->number);
 }
 
-static void refuse_show(const struct datagram *one, const struct rtnlc_options *limits)
+/* rtnlc_show or rtnlc_show_json. */
+typedef struct rtnlc_shown shows(size_t, const uint8_t *, size_t, const struct rtnlc_options *,
+                                 char *, size_t);
+
+static void refuse_show(shows *show, const struct datagram *one,
+                        const struct rtnlc_options *limits)
 {
-	struct rtnlc_shown whole = rtnlc_show(one->number, one->bytes, one->len, limits, NULL, 0),
-					  found;
+	struct rtnlc_shown whole = show(one->number, one->bytes, one->len, limits, NULL, 0), found;
 	unsigned long number = 0;
 	bool is_again;
 	do {
 		begin(++number);
-		found = rtnlc_show(one->number, one->bytes, one->len, limits, out, ROOM);
+		found = show(one->number, one->bytes, one->len, limits, out, ROOM);
 		is_again = end("what a text leaves allocated", one->number);
 		if (is_again &&
 		    (found.code != RTNLC_NO_MEMORY || found.len || memcmp(out, painted, ROOM)))
@@ -86,6 +90,7 @@ static void call_others(const struct datagram *one, const struct rtnlc_options *
 	uint8_t sum = 0;
 	begin(0);
 	sum += rtnlc_scan(one->bytes, one->len, limits).code;
+	sum += rtnlc_broken(one->bytes, one->len, limits).code;
 	sum += rtnlc_tape(one->bytes, one->len, limits, events, ROOM / sizeof *events).code;
 	sum += rtnlc_message_at(one->bytes, one->len, 0, limits->big).code;
 	sum += rtnlc_attr_at(one->bytes, one->len, 0, limits->big).code;
@@ -110,7 +115,8 @@ int main(int count, char **words)
 	memset(painted, PAINT, ROOM);
 	while (next_datagram(stdin, &one)) {
 		refuse_check(&one, &limits);
-		refuse_show(&one, &limits);
+		refuse_show(rtnlc_show, &one, &limits);
+		refuse_show(rtnlc_show_json, &one, &limits);
 		call_others(&one, &limits);
 		free(one.bytes);
 	}

@@ -32,6 +32,7 @@ static unsigned long code;
 
 static void call_nothing(void) {}
 static void call_scan(void) { code = rtnlc_scan(bytes, len, &widest).code; }
+static void call_broken(void) { code = rtnlc_broken(bytes, len, &widest).code; }
 static void call_tape(void) { code = rtnlc_tape(bytes, len, &widest, events, 64).code; }
 static void call_message_at(void) { code = rtnlc_message_at(bytes, len, 0, false).code; }
 static void call_attr_at(void) { code = rtnlc_attr_at(bytes, len, 0, false).code; }
@@ -51,6 +52,11 @@ static void call_check(void) { code = rtnlc_check(bytes, len, &widest).code; }
 static void call_show(void)
 {
 	code = rtnlc_show(1, bytes, len, &widest, (char *)out, sizeof out).code;
+}
+
+static void call_show_json(void)
+{
+	code = rtnlc_show_json(1, bytes, len, &widest, (char *)out, sizeof out).code;
 }
 
 static void call_request(void) { code = rtnlc_request(16, 0, 1, false, out, sizeof out).code; }
@@ -114,6 +120,7 @@ static void call_version(void) { code = rtnlc_version() == NULL; }
 static struct measured all[] = {
 	{ "nothing", call_nothing, 0 },
 	{ "scan", call_scan, 0 },
+	{ "broken", call_broken, 0 },
 	{ "tape", call_tape, 0 },
 	{ "message_at", call_message_at, 0 },
 	{ "attr_at", call_attr_at, 0 },
@@ -125,6 +132,7 @@ static struct measured all[] = {
 	{ "attr_name", call_attr_name, 0 },
 	{ "check", call_check, 0 },
 	{ "show", call_show, 0 },
+	{ "show_json", call_show_json, 0 },
 	{ "request", call_request, 0 },
 	{ "session_new", call_session_new, 0 },
 	{ "session_begin", call_session_begin, 0 },

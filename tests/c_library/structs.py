@@ -13,6 +13,7 @@ ROOT = os.path.join(os.path.dirname(os.path.abspath(__file__)), "../..")
 NAMES = {
     "Options": "rtnlc_options",
     "Scanned": "rtnlc_scanned",
+    "Broken": "rtnlc_broken_head",
     "Event": "rtnlc_event",
     "Taped": "rtnlc_taped",
     "MessageAt": "rtnlc_message",

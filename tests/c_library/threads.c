@@ -33,10 +33,15 @@ static uint64_t with_datagram(uint64_t sum, const struct datagram *one, struct r
 	struct rtnlc_taped taped = rtnlc_tape(one->bytes, one->len, NULL, events, ROOM);
 	struct rtnlc_checked checked = rtnlc_check(one->bytes, one->len, NULL);
 	struct rtnlc_shown shown = rtnlc_show(one->number, one->bytes, one->len, NULL, text, ROOM);
+	struct rtnlc_broken_head broken = rtnlc_broken(one->bytes, one->len, NULL);
 	size_t at;
 	sum = with_number(sum, scanned.visits + scanned.place * 256u + scanned.code);
+	sum = with_number(sum, broken.left * 256u + broken.level);
 	sum = with_number(sum, taped.count + taped.visits + taped.place * 256u + taped.code);
 	sum = with_number(sum, checked.place * 65536u + checked.code * 2u + checked.canonical);
+	sum = added(with_number(sum, shown.len + shown.code), text,
+	            shown.len < ROOM ? shown.len : ROOM);
+	shown = rtnlc_show_json(one->number, one->bytes, one->len, NULL, text, ROOM);
 	sum = added(with_number(sum, shown.len + shown.code), text,
 	            shown.len < ROOM ? shown.len : ROOM);
 	for (at = 0; at < taped.count; at++)

@@ -1,6 +1,6 @@
 /*
  * A walk over a datagram by the cursors, rtnlc_family_of and rtnlc_holds alone. It keeps an event
- * for each head that it meets, up to the first fault.
+ * for each head that it meets, up to the first fault, and what the head there says.
  */
 #ifndef WALK_H
 #define WALK_H
@@ -16,14 +16,37 @@ struct walk {
 	struct rtnlc_event *events; /* room for len / 4 + 1, more than there are heads */
 	size_t count;
 	uint64_t visits;
-	uint32_t place;
-	uint8_t code;
+	struct rtnlc_broken_head broken; /* its place and its code are those of the fault */
 };
 
-static inline bool stop_at(struct walk *w, uint32_t place, uint8_t code)
+/* A number of two or of four bytes of the datagram, in its order. */
+static inline uint32_t number_at(const struct walk *w, uint32_t place, unsigned size)
 {
-	w->place = place;
-	w->code = code;
+	uint32_t found = 0;
+	unsigned at;
+	for (at = 0; at < size; at++)
+		found |= (uint32_t)w->bytes[place + at] << 8 * (w->limits.big ? size - 1 - at : at);
+	return found;
+}
+
+/* Ends at a head of a region that has so many bytes from there on. */
+static inline bool stop_at(struct walk *w, uint32_t place, uint32_t left, uint8_t sort,
+                           unsigned level, uint8_t code)
+{
+	struct rtnlc_broken_head *broken = &w->broken;
+	bool is_message = sort == RTNLC_MESSAGE;
+	broken->place = place;
+	broken->left = left;
+	broken->sort = sort;
+	broken->level = (uint8_t)level;
+	broken->code = code;
+	broken->whole = left >= (is_message ? 16 : sort == RTNLC_NEXT_HOP ? 8 : 4);
+	if (broken->whole) {
+		broken->len = number_at(w, place, is_message ? 4 : 2);
+		if (sort != RTNLC_NEXT_HOP)
+			broken->number = (uint16_t)(number_at(w, place + (is_message ? 4 : 2), 2) %
+			                            (is_message ? 65536 : 16384));
+	}
 	return false;
 }
 
@@ -53,7 +76,7 @@ static inline bool walk_hops(struct walk *w, uint32_t base, uint32_t len, unsign
 		if (hop.code == RTNLC_END)
 			return true;
 		if (hop.code)
-			return stop_at(w, base + at, hop.code);
+			return stop_at(w, base + at, len - at, RTNLC_NEXT_HOP, level, hop.code);
 		w->visits += hop.next - at;
 		met(w, base + at, hop.len, RTNLC_NEXT_HOP, level);
 		if (!walk_attrs(w, base + at + 8, hop.len, RTNLC_ROUTE, level + 1))
@@ -63,15 +86,15 @@ static inline bool walk_hops(struct walk *w, uint32_t base, uint32_t len, unsign
 }
 
 /* What an attribute holds, where it opens levels: no more bytes and no more levels than may be. */
-static inline bool walk_held(struct walk *w, uint32_t place, uint32_t len,
+static inline bool walk_held(struct walk *w, uint32_t place, uint32_t len, uint32_t left,
                              struct rtnlc_holds holds, unsigned level)
 {
 	if (holds.sort == RTNLC_BYTES)
 		return true;
 	if (4 + len > LONGEST_CONTAINER)
-		return stop_at(w, place, RTNLC_TOO_LONG);
+		return stop_at(w, place, left, RTNLC_BYTES, level, RTNLC_TOO_LONG);
 	if (level + (holds.sort == RTNLC_HOPS ? 2 : 1) > w->limits.depth)
-		return stop_at(w, place, RTNLC_TOO_DEEP);
+		return stop_at(w, place, left, RTNLC_BYTES, level, RTNLC_TOO_DEEP);
 	if (holds.sort == RTNLC_HOPS)
 		return walk_hops(w, place + 4, len, level + 1);
 	return walk_attrs(w, place + 4, len, holds.context, level + 1);
@@ -91,14 +114,14 @@ static inline bool walk_attrs(struct walk *w, uint32_t base, uint32_t len, uint8
 		if (attr.code == RTNLC_END)
 			return true;
 		if (attr.code)
-			return stop_at(w, base + at, attr.code);
+			return stop_at(w, base + at, len - at, RTNLC_BYTES, level, attr.code);
 		holds = rtnlc_holds(context, attr.number, attr.nested);
 		w->visits += attr.next - at;
 		event = met(w, base + at, attr.len, holds.sort, level);
 		event->number = attr.number;
 		event->nested = attr.nested;
 		event->net = attr.net;
-		if (!walk_held(w, base + at, attr.len, holds, level))
+		if (!walk_held(w, base + at, attr.len, len - at, holds, level))
 			return false;
 		at = attr.next;
 	}
@@ -117,7 +140,7 @@ static inline bool walk_messages(struct walk *w)
 		if (message.code == RTNLC_END)
 			return true;
 		if (message.code)
-			return stop_at(w, at, message.code);
+			return stop_at(w, at, (uint32_t)w->len - at, RTNLC_MESSAGE, 0, message.code);
 		met(w, at, message.len, RTNLC_MESSAGE, 0)->number = message.kind;
 		if (family.head_size && !walk_attrs(w, at + 16 + family.head_size,
 		                                    message.len - family.head_size, family.context, 0))
@@ -138,7 +161,7 @@ static inline struct walk walked(const uint8_t *bytes, size_t len, size_t number
 	w.limits = limits;
 	w.events = (struct rtnlc_event *)taken((len / 4 + 1) * sizeof *w.events);
 	if (len > limits.datagram)
-		stop_at(&w, 0, RTNLC_TOO_LARGE);
+		w.broken.code = RTNLC_TOO_LARGE;
 	else
 		walk_messages(&w);
 	return w;

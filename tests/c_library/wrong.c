@@ -32,6 +32,8 @@ static void pass_nothing(void)
 	expect("a tape of nothing", rtnlc_tape(NULL, 0, NULL, NULL, 0).code, RTNLC_OK);
 	expect("a check of nothing", rtnlc_check(NULL, 0, NULL).code, RTNLC_OK);
 	expect("no room for text", rtnlc_show(1, NULL, 0, NULL, NULL, 0).code, RTNLC_OK);
+	expect("no room for JSON", rtnlc_show_json(1, NULL, 0, NULL, NULL, 0).code, RTNLC_OK);
+	expect("nothing is broken", rtnlc_broken(NULL, 0, NULL).code, RTNLC_OK);
 	expect("a message of nothing", rtnlc_message_at(NULL, 0, 0, false).code, RTNLC_END);
 	expect("a find in nothing", rtnlc_find(NULL, 0, 0, 3, false).code, RTNLC_END);
 	expect_put("no room", rtnlc_request(16, 0, 1, false, NULL, 0), RTNLC_NO_ROOM, 32);
@@ -49,6 +51,8 @@ static void pass_limits(void)
 	expect("limits of a tape", rtnlc_tape(NULL, 0, &none, NULL, 0).code, RTNLC_BAD_LIMIT);
 	expect("limits of a check", rtnlc_check(NULL, 0, &none).code, RTNLC_BAD_LIMIT);
 	expect("limits of a text", rtnlc_show(1, NULL, 0, &none, NULL, 0).code, RTNLC_BAD_LIMIT);
+	expect("limits of JSON", rtnlc_show_json(1, NULL, 0, &none, NULL, 0).code, RTNLC_BAD_LIMIT);
+	expect("limits of a head", rtnlc_broken(NULL, 0, &none).code, RTNLC_BAD_LIMIT);
 	expect("limits of a session", rtnlc_session_new(&s, &none), RTNLC_BAD_LIMIT);
 	expect("no session", rtnlc_session_status(&s).code, RTNLC_NO_SESSION);
 	memset(&stream, 0xaa, sizeof stream);

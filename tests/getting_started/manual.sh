@@ -53,7 +53,8 @@ is_formed() {
   fi
 }
 
-mapfile -t files_of_rtnl < <(printf '%s\n' "${things[@]}" | grep -v rtnl-record)
+files_of_rtnl=(share/rtnl/rtnl.html)
+mapfile -t -O 1 files_of_rtnl < <(printf '%s\n' "${things[@]}" | grep -vE 'rtnl-record|\.html$')
 is_formed "${files_of_rtnl[@]}"
 check 'the versions of the page' has_versions
 

@@ -140,6 +140,7 @@ same 'a datagram is scanned by the calls that are made for it, and in no reading
 crates/nl_frame/src/scanning.rt 4
 crates/nl_frame/src/taping.rt 9
 crates/rtnl/src/bytes/tape.rt 1
+crates/rtnl_c/src/broken.rt 1
 crates/rtnl_c/src/scan.rt 2'
 
 same 'a scan of a datagram adds the visits of each message, and nothing else' \
@@ -178,7 +179,8 @@ same 'a tally is ended without its visits by those who answer none' "$(counts '\
   'crates/nl_frame/src/canonical.rt 1
 crates/rtnl/src/bytes/tape.rt 1
 crates/rtnl/src/runs/show.rt 2
-crates/rtnl_bench/src/main.rt 1'
+crates/rtnl_bench/src/main.rt 1
+crates/rtnl_c/src/broken.rt 1'
 
 same 'a tally is taken apart with its visits' "$(counts 'visits: *_')" 'crates/nl_attr/src/fault.rt 1'
 

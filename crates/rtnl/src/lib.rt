@@ -28,7 +28,9 @@ pub use runs::check::{run_check, run_check_json};
 pub use runs::follow::{run_follow, run_follow_bytes, run_follow_coloured, run_follow_json};
 pub use runs::follow_dump::{DumpFollowed, run_follow_dump, run_follow_dump_json};
 pub use runs::request::{run_request, run_request_ordered};
-pub use runs::show::{push_datagram, run_show, run_show_coloured, run_show_json};
+pub use runs::show::{
+    push_datagram, push_datagram_json, run_show, run_show_coloured, run_show_json,
+};
 pub use runs::show_bytes::run_show_bytes;
 pub use runs::table::{run_table, run_table_json};
 pub use runs::telling::{Followed, OnBadLine};

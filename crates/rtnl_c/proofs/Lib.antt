@@ -1,5 +1,7 @@
 mod Checks
 mod Scans
+mod Shows
+mod Breaking
 mod Pointers
 mod Handles
 mod Seen

@@ -15,7 +15,7 @@ use Rattle.rtnl_c.specs.Scanned.{Scans, Tapes, place_of, refused, untaped}
 use Rattle.rtnl_c.specs.Scanned as found
 
 -- what is not refused for its size is within the limit
-within : {X : Type 0} (r : Result X ScanError) (n m : ℕ) → r ≡ Err TooLarge ↔ n < m → r ≢ Err TooLarge → m ≤ n
+pub within : {X : Type 0} (r : Result X ScanError) (n m : ℕ) → r ≡ Err TooLarge ↔ n < m → r ≢ Err TooLarge → m ≤ n
 within r n m large other = let f : n < m → ⊥ = λ h. other (large.1 h) in omega (arith, f)
 
 module _ (b : Bounds) (d : List ℕ) where

@@ -1,6 +1,7 @@
 pub mod Options
 pub mod Codes
 pub mod Scanned
+pub mod Broken
 pub mod Checked
 pub mod Shown
 pub mod Cursors

@@ -1,6 +1,7 @@
 //! The codec for C and whatever calls C: a static library. What C owes stands in include/rtnlc.h.
 #![tactic(auto)]
 
+mod broken;
 mod check;
 mod codes;
 mod cursors;

@@ -1,14 +1,15 @@
-//! The text of a datagram, which takes memory while it is made.
+//! The text of a datagram, and its line of JSON, which take memory while they are made.
 
 ghost use Rattle.std.specs.Prelude.{◌≡◌, IfOk};
 ghost use Rattle.nl_frame.specs.Limits.{AreLimits};
-ghost use Rattle.rtnl.specs.Shown.{Answer, Answers, datagram_text};
+ghost use Rattle.rtnl.specs.Shown.{Answer, Answers, datagram_json, datagram_text};
 ghost use Rattle.rtnl_c.specs.Options.{bounds_in};
-ghost use Rattle.rtnl_c.specs.Shown.{Shows, laid, unshown};
+ghost use Rattle.rtnl_c.specs.Shown.{IsShown, Shows, ShowsJson, laid, unshown};
 
+use crate::codes::NO_MEMORY;
 use crate::options::{Options, limits};
 use nl_frame::Limits;
-use rtnl::push_datagram;
+use rtnl::{push_datagram, push_datagram_json};
 use std::alloc::{AllocError, Global};
 
 /// How a datagram was shown.
@@ -19,6 +20,15 @@ pub struct Shown {
     pub len: usize,
     /// 0 where there is a text, else why there is none.
     pub code: u8,
+}
+
+impl Shown {
+    /// There is no text, for this reason.
+    fn none(code: u8) -> Shown
+        ensures { result ≡ unshown code }
+    {
+        Shown { len: 0, code }
+    }
 }
 
 /// The text of a datagram.
@@ -36,6 +46,21 @@ fn text_of(
     Ok(text)
 }
 
+/// The line of JSON of a datagram.
+fn json_of(
+    alloc: Global,
+    number: usize,
+    bytes: &[u8],
+    limits: &Limits,
+) -> Result<Vec<u8>, AllocError>
+    ensures { IfOk result (λ text. (answer : Answer) × Answers limits.now bytes.now answer
+        × (text.items ≡ datagram_json limits.now.shape.order number bytes.now answer)) }
+{
+    let mut text = Vec::new(alloc);
+    push_datagram_json(alloc, &mut text, number, bytes, limits)?;
+    Ok(text)
+}
+
 /// Puts a text into a buffer, as far as it goes.
 pub(crate) fn lay(text: &[u8], out: &mut [u8])
     ensures { out.new ≡ laid text.now out.old }
@@ -44,11 +69,11 @@ pub(crate) fn lay(text: &[u8], out: &mut [u8])
     out[..count].copy_from_slice(&text[..count]);
 }
 
-/// Shows a datagram within limits.
-fn show(alloc: Global, number: usize, bytes: &[u8], limits: &Limits, out: &mut [u8]) -> Shown
-    ensures { Shows limits.now number bytes.now out.old out.new result }
+/// Puts a text into a buffer, as far as it goes, where memory sufficed for it.
+fn show(text: Result<Vec<u8>, AllocError>, out: &mut [u8]) -> Shown
+    ensures { IsShown text out.old out.new result }
 {
-    match text_of(alloc, number, bytes, limits) {
+    match text {
         Ok(text) => {
             let text = text.as_slice();
             lay(text, out);
@@ -57,7 +82,7 @@ fn show(alloc: Global, number: usize, bytes: &[u8], limits: &Limits, out: &mut [
                 code: 0,
             }
         }
-        Err(AllocError) => Shown { len: 0, code: 13 },
+        Err(AllocError) => Shown::none(NO_MEMORY),
     }
 }
 
@@ -78,10 +103,28 @@ pub extern "C" fn rtnlc_show(
         → (result ≡ unshown 12) × (out.new ≡ out.old) }
 {
     match limits(options) {
-        Ok(limits) => show(alloc, number, bytes, &limits, out),
-        Err(fault) => Shown {
-            len: 0,
-            code: fault.code(),
-        },
+        Ok(limits) => show(text_of(alloc, number, bytes, &limits), out),
+        Err(fault) => Shown::none(fault.code()),
+    }
+}
+
+/// Puts the line of JSON of a datagram, which `rtnl show --format json` prints of the datagram of
+/// this number, into `out`, as `rtnlc_show` does its text.
+#[unsafe(no_mangle)]
+pub extern "C" fn rtnlc_show_json(
+    alloc: Global,
+    number: usize,
+    bytes: &[u8],
+    options: &Options,
+    out: &mut [u8],
+) -> Shown
+    ensures shown { AreLimits (bounds_in options.now)
+        → ShowsJson (bounds_in options.now) number bytes.now out.old out.new result }
+    ensures limits { (AreLimits (bounds_in options.now) → ⊥)
+        → (result ≡ unshown 12) × (out.new ≡ out.old) }
+{
+    match limits(options) {
+        Ok(limits) => show(json_of(alloc, number, bytes, &limits), out),
+        Err(fault) => Shown::none(fault.code()),
     }
 }

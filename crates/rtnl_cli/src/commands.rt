@@ -32,7 +32,7 @@ pub(crate) struct Values<'a> {
     pub entries: &'a str,
 }
 
-const EXAMPLES_AND_STATUSES: &str = "Examples:
+const EXAMPLES_STATUSES_AND_FILES: &str = "Examples:
   rtnl show links.hex
   rtnl follow links.hex
   rtnl check --explain links.hex
@@ -44,7 +44,10 @@ Exit status:
   1  a datagram was refused, the dump is not complete, or a line is bad
   2  usage error
   3  a read or a write failed
-  4  out of memory";
+  4  out of memory
+
+Files:
+  PREFIX/share/rtnl/rtnl.html  a page that shows recordings in a browser, where it was built";
 
 const SHOW_EXAMPLE: &str = "Example:
   echo 1400000003000200010000003930000000000000 | rtnl show
@@ -322,7 +325,7 @@ pub(crate) fn rtnl<'a>(
         .bin_name("rtnl")?
         .version(VERSION)
         .about("Decodes recorded rtnetlink datagrams. Without a command it is `rtnl show`.")
-        .after_help(EXAMPLES_AND_STATUSES);
+        .after_help(EXAMPLES_STATUSES_AND_FILES);
     match command_named(alloc, values, first.unwrap_or(""))? {
         // Nor is the command `help` named, which clap adds.
         Some(command) => program.disable_help_subcommand(true).subcommand(command),

@@ -52,6 +52,7 @@ fn add_structs(lines: &mut Lines) {
     structs!(lines:
         rtnlc_options { total, datagram, entries, depth, big }
         rtnlc_scanned { visits, place, code }
+        rtnlc_broken_head { place, len, left, number, level, sort, whole, code }
         rtnlc_event { place, len, number, level, sort, nested, net }
         rtnlc_taped { count, visits, place, code }
         rtnlc_message { place, next, len, seq, port, kind, flags, code }

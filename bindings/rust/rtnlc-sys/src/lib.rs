@@ -150,6 +150,28 @@ pub struct rtnlc_scanned {
     pub code: u8,
 }
 
+/// What [`rtnlc_broken`] answers.
+#[repr(C)]
+#[derive(Clone, Copy, Debug, Default, PartialEq, Eq, Hash)]
+pub struct rtnlc_broken_head {
+    /// Of the head, which is that of the first fault.
+    pub place: u32,
+    /// The length that it says, with its own bytes.
+    pub len: u32,
+    /// Bytes from there to the end of the list that it lies in; for a message, of the datagram.
+    pub left: u32,
+    /// As in [`rtnlc_event`].
+    pub number: u16,
+    /// As there.
+    pub level: u8,
+    /// [`RTNLC_MESSAGE`], [`RTNLC_NEXT_HOP`], or [`RTNLC_BYTES`] for any attribute.
+    pub sort: u8,
+    /// Its bytes are all there; else `len` and `number` are 0.
+    pub whole: bool,
+    /// As of [`rtnlc_scanned`]; where it is no rule, all else is 0.
+    pub code: u8,
+}
+
 /// A head of a datagram.
 #[repr(C)]
 #[derive(Clone, Copy, Debug, Default, PartialEq, Eq, Hash)]
@@ -427,6 +449,13 @@ extern "C" {
         options: *const rtnlc_options,
     ) -> rtnlc_scanned;
 
+    /// The head that breaks a rule at the first fault, and what it says of itself.
+    pub fn rtnlc_broken(
+        bytes: *const u8,
+        len: usize,
+        options: *const rtnlc_options,
+    ) -> rtnlc_broken_head;
+
     /// As [`rtnlc_scan`], and puts an event for each head into `out`, as far as it has room.
     pub fn rtnlc_tape(
         bytes: *const u8,
@@ -469,6 +498,16 @@ extern "C" {
 
     /// Puts the text that `rtnl show` prints of a datagram of this number, as far as it fits.
     pub fn rtnlc_show(
+        number: usize,
+        bytes: *const u8,
+        len: usize,
+        options: *const rtnlc_options,
+        out: *mut c_char,
+        room: usize,
+    ) -> rtnlc_shown;
+
+    /// Puts the line of JSON that `rtnl show --format json` prints of it, as far as it fits.
+    pub fn rtnlc_show_json(
         number: usize,
         bytes: *const u8,
         len: usize,

@@ -5,7 +5,7 @@ ghost use Rattle.rtnl.specs.Runs as fixed;
 ghost use Rattle.rtnl.specs.Streams.{ConsumesAtMost};
 ghost use Rattle.rtnl.specs.Painted.{ShowsColoured, ShowsInputColoured};
 ghost use Rattle.rtnl.specs.Runs.{Runs};
-ghost use Rattle.rtnl.specs.Shown.{Answer, Answers, datagram_text, is_taken};
+ghost use Rattle.rtnl.specs.Shown.{Answer, Answers, datagram_json, datagram_text, is_taken};
 ghost use Rattle.rtnl.specs.Shown.{Shows, ShowsInput, ShowsInputJson, ShowsJson};
 
 use crate::error::{RunError, Verdict};
@@ -68,6 +68,67 @@ pub fn push_datagram(
 {
     let mut text = Vec::new(alloc);
     let taken = push_answer(alloc, &mut text, number, bytes, limits)?;
+    out.extend_from_slice(&text)?;
+    Ok(taken)
+}
+
+/// Writes a datagram as a line of JSON: its messages, or why it is refused.
+fn push_answer_json(
+    alloc: Global,
+    out: &mut Vec<u8>,
+    number: usize,
+    bytes: &[u8],
+    limits: &Limits,
+) -> Result<bool, AllocError>
+    // The line is that of the datagram's answer under these limits.
+    ensures { IfOk result (λ taken. (answer : Answer) × Answers limits.now bytes.now answer
+        × (out.new.items ≡ out.old.items
+        ++ datagram_json limits.now.shape.order number bytes.now answer)
+        × (taken ≡ is_taken answer)) }
+{
+    let mut line = Line::begin(alloc, out)?;
+    line.number("datagram", number as u64)?;
+    match read_datagram(alloc, bytes, limits).into_result() {
+        Ok(messages) => {
+            line.number("bytes", bytes.len() as u64)?;
+            json_lines::message::push_messages(
+                alloc,
+                &mut line,
+                limits.order(),
+                messages.as_slice(),
+            )?;
+            line.end(out)?;
+            Ok(true)
+        }
+        Err(error) => {
+            json_lines::datagram::push_refusal(&mut line, error)?;
+            line.end(out)?;
+            Ok(false)
+        }
+    }
+}
+
+/// Appends the line of JSON of a datagram, which `run_show_json` writes of the datagram of this
+/// number: its messages and their attributes, or why it is refused. It answers whether it was
+/// taken.
+///
+/// Only memory can be refused; then `out` is as it was.
+pub fn push_datagram_json(
+    alloc: Global,
+    out: &mut Vec<u8>,
+    number: usize,
+    bytes: &[u8],
+    limits: &Limits,
+) -> Result<bool, AllocError>
+    // The line is that of the datagram's answer under these limits.
+    ensures text { IfOk result (λ taken. (answer : Answer) × Answers limits.now bytes.now answer
+        × (out.new.items ≡ out.old.items
+        ++ datagram_json limits.now.shape.order number bytes.now answer)
+        × (taken ≡ is_taken answer)) }
+    ensures unchanged { OnErr result (out.new.items ≡ out.old.items) }
+{
+    let mut text = Vec::new(alloc);
+    let taken = push_answer_json(alloc, &mut text, number, bytes, limits)?;
     out.extend_from_slice(&text)?;
     Ok(taken)
 }
@@ -156,26 +217,7 @@ impl PerDatagram for ShowJson {
         number: usize,
         bytes: &[u8],
     ) -> Result<bool, AllocError> {
-        let mut line = Line::begin(alloc, out)?;
-        line.number("datagram", number as u64)?;
-        match read_datagram(alloc, bytes, &self.limits).into_result() {
-            Ok(messages) => {
-                line.number("bytes", bytes.len() as u64)?;
-                json_lines::message::push_messages(
-                    alloc,
-                    &mut line,
-                    self.limits.order(),
-                    messages.as_slice(),
-                )?;
-                line.end(out)?;
-                Ok(true)
-            }
-            Err(error) => {
-                json_lines::datagram::push_refusal(&mut line, error)?;
-                line.end(out)?;
-                Ok(false)
-            }
-        }
+        push_answer_json(alloc, out, number, bytes, &self.limits)
     }
 }
 
