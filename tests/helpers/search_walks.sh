@@ -49,16 +49,17 @@ crates/nl_attr/src/walk/counted.rt 2
 crates/nl_attr/src/walk/hops.rt 1'
 
 same 'counted walks are made where a region is opened, and for the blank of the stack' \
-  "$(counts 'Counted(Attrs|HopParts)::over')" "$folder/nested.rt 1
+  "$(counts 'Counted(Attrs|HopParts)::over')" "$folder/mod.rt 1
+$folder/nested.rt 1
 $folder/regions.rt 2"
 
 same 'regions are opened by those who then read them' "$(counts '\b(list_of|hops_of)\(' "${stack[@]}")" \
-  "$folder/mod.rt 3
+  "$folder/mod.rt 2
 $folder/nested.rt 2
 $folder/next_hops.rt 1"
 
 same 'a counted walk is stepped with the count of its reading' "$(lines '\.step\(' | sed 's/^[^:]*: *//')" \
-  'let part = match region.walk.step(visits) {
+  'let part = match walk.step(visits) {
 let part = match region.walk.step(visits) {'
 
 same 'only a counted walk steps a walker' \
@@ -67,12 +68,12 @@ same 'only a counted walk steps a walker' \
 
 same 'the count of a reading is handed on, never made' \
   "$(lines '\b(let|if|for|while)\b.*\bvisits\b' "${stack[@]}" "$reading" |
-    grep -vE ' match (region\.walk\.step\(|[a-z_]+\([^()]*, )visits\) \{$| let next = (open|close)\([^()]*, visits\)\?;$')" \
+    grep -vE ' match ((region\.)?walk\.step\(|[a-z_]+\([^()]*, )visits\) \{$| let next = (open|close)\([^()]*, visits\)\?;$')" \
   "$reading:    let mut visits: u64 = 0;
 $reading:    let result = read_region(alloc, bytes, base, ctx, level, shape, &mut visits);"
 
 same 'each call that reads a region is handed the count' \
-  "$(lines '\b(read_(attrs|hops|nested|region)|next_hop|go_on_hops|open|close)\(' "${stack[@]}" |
+  "$(lines '\b(read_(attrs|hops|nested|on|ordered|region|walk)|next_hop|go_on_hops|open|close)\(' "${stack[@]}" |
     grep -vE '\bfn |[( ]visits\)')" ''
 
 same 'those who read regions look at none of their bytes' \
@@ -107,11 +108,13 @@ crates/nl_attr/src/walk/attrs.rt 3
 crates/nl_attr/src/walk/hops.rt 2
 crates/nl_attr/src/walk/mod.rt 3'
 
-same 'headers are read at the front of a message, where an error quotes one, and at the end of a scan' \
+# The room for a datagram's messages is made by the length of the first.
+same 'headers are read at the front of a message, where an error quotes one, at the end of a scan, and for room' \
   "$(counts '\b(frame_len|Header::read)\(')" \
   'crates/nl_frame/src/body.rt 1
 crates/nl_frame/src/broken.rt 1
-crates/nl_frame/src/front.rt 3'
+crates/nl_frame/src/front.rt 3
+crates/nl_frame/src/reading.rt 1'
 
 same 'a message is taken from the front once by a reading, a scan and a cursor' \
   "$(counts '\bfront\(' $(sources | grep '^crates/nl_frame/'))" \

@@ -93,6 +93,7 @@ pub(super) fn read_walk<'a>(
 }
 
 /// Reads a region of attributes, where it stands, up to the first that opens another region.
+#[inline(always)]
 pub(super) fn read_attrs<'a>(
     alloc: Global,
     region: &mut ListRegion<'a>,
@@ -106,14 +107,6 @@ pub(super) fn read_attrs<'a>(
     ensures moves { Moves shape (list_spot region.old) region.new result }
 {
     let (base, ctx, level) = (region.base, region.ctx, region.level);
-    read_walk(
-        alloc,
-        &mut region.walk,
-        &mut region.list,
-        base,
-        ctx,
-        level,
-        shape,
-        visits,
-    )
+    let (walk, list) = (&mut region.walk, &mut region.list);
+    read_walk(alloc, walk, list, base, ctx, level, shape, visits)
 }

@@ -14,7 +14,7 @@ use crate::names::flags::Bits;
 use crate::names::types::message_type;
 use nl_attr::Order;
 use nl_frame::Message;
-use std::alloc::{AllocError, Global};
+use std::alloc::AllocError;
 
 /// Writes a field with the type of a message.
 #[inline(always)]
@@ -75,7 +75,6 @@ fn push_each(line: &mut Line, order: Order, messages: &[Message]) -> Result<(), 
 /// Writes a field with messages.
 #[tactic(auto, using(crate::proofs::Sets::whole_value))]
 pub(crate) fn push_messages(
-    _alloc: Global,
     line: &mut Line,
     order: Order,
     messages: &[Message],

@@ -91,12 +91,7 @@ fn push_answer_json(
     match read_datagram(alloc, bytes, limits).into_result() {
         Ok(messages) => {
             line.number("bytes", bytes.len() as u64)?;
-            json_lines::message::push_messages(
-                alloc,
-                &mut line,
-                limits.order(),
-                messages.as_slice(),
-            )?;
+            json_lines::message::push_messages(&mut line, limits.order(), messages.as_slice())?;
             line.end(out)?;
             Ok(true)
         }
