@@ -12,9 +12,10 @@ each TEXT one line; the old one stands in that file once.
 
 The lock has a line for each crate: its name, how many edits it has, and a sum of what their refusal
 depends on (docs/GATE.md says why): the kit; HANDLES; what crates.txt says of the crate and those
-below; its text, definitions, proofs and edits; of each crate below it the public interface, which
-the kit writes into a built library; and the definitions and lemmas of those crates that these name,
-or that one of them names. So the libraries are built first, by rt ci or rt lib.
+below; its text, definitions, proofs and edits; of each crate below it the types and contracts, as
+the kit writes them into a built library, in the files that have a part in its interface; and the
+definitions and lemmas that these name, or that one of them names. So the libraries are built first,
+by rt ci or rt lib.
 
 The last line is 'N passed, M failed'. The status is 1 where an edit was not refused or can't be
 applied, or the lock is not one, and 2 where this is called wrongly.
@@ -80,13 +81,14 @@ def misplaced(name: str, edit: str) -> Optional[str]:
     return None if texts else "1: it names no file"
 
 
-def interface(name: str) -> Iterator[Tuple[str, str]]:
-    """The public interface of a built library: the names of its files, and where they are."""
-    folder = f"{library(name)}/interface/lang/src"
-    for at, folders, names in os.walk(folder):
+def contracts(name: str) -> Iterator[Tuple[str, str]]:
+    """What a crate above reads of a built library: each file that has a part in the interface."""
+    built = library(name)
+    interface = f"{built}/interface/lang/src"
+    for at, folders, names in os.walk(interface):
         folders.sort()
-        for it in sorted(names):
-            yield f"{name}/{os.path.relpath(f'{at}/{it}', folder)}", f"{at}/{it}"
+        for it in (os.path.relpath(f"{at}/{it}", interface) for it in sorted(names)):
+            yield f"{name}/{it}", f"{built}/lang/src/{it}"
 
 
 def cited(text: str) -> Iterator[str]:
@@ -117,7 +119,7 @@ def sum_of(crates: Crates, name: str) -> str:
     own = [it for part in ("src", "specs", "proofs", "edits") for it in files(name, part)]
     read = [("HANDLES", f"{ROOT}/HANDLES"), *((it, f"{ROOT}/{it}") for it in own)]
     for it in names[1:]:
-        read += interface(it)
+        read += contracts(it)
     texts = []
     for path, file in read:
         with open(file, encoding="utf-8") as text:

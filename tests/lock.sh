@@ -20,12 +20,9 @@ cat >"$low/src/lib.rt" <<'TEXT'
 
 ghost use Rattle.std.specs.Prelude.{◌≤◌};
 
-/// What is added for each.
-fn step() -> u16
-    ensures { result ≤ 255 }
-{
-    255
-}
+mod steps;
+
+use crate::steps::step;
 
 /// A number of so many, at most a hundred.
 pub fn sum(count: u8) -> u16
@@ -46,6 +43,18 @@ pub fn lesser(a: u32, b: u32) -> u32
     ensures right { result ≤ b }
 {
     if a < b { a } else { b }
+}
+TEXT
+cat >"$low/src/steps.rt" <<'TEXT'
+//! What no other crate sees.
+
+ghost use Rattle.std.specs.Prelude.{◌≤◌};
+
+/// What is added for each.
+pub(crate) fn step() -> u16
+    ensures { result ≤ 255 }
+{
+    255
 }
 TEXT
 cat >"$low/proofs/sum/Invariants.antt" <<'TEXT'
@@ -136,9 +145,9 @@ check 'an edit of no file' misplaced '1: there is no file src/other.rt' 'file: s
 check 'an edit that names nothing' misplaced '1: it names no file' 'lesser'
 cp "$folder/edit" "$edit"
 
-# A body, a private contract and a proof below are others, in the same public contracts: the edit stands by the lock,
-# and is refused.
-sed -i 's/{ result ≤ 255 }/{ result ≤ 260 }/' "$low/src/lib.rt"
+# A body, a contract in a private file and a proof below are others, in the same public contracts: the edit stands by
+# the lock, and is refused.
+sed -i 's/{ result ≤ 255 }/{ result ≤ 260 }/' "$low/src/steps.rt"
 sed -i 's/if a < b { a } else { b }/if b < a { b } else { a }/' "$low/src/lib.rt"
 sed -i 's/≤ 255$/≤ 300/' "$low/proofs/sum/Invariants.antt"
 check 'a body and a proof below' proves

@@ -5,7 +5,7 @@ import re
 import sys
 from typing import Iterator, List, Tuple
 
-from browser import Browser
+from browser import SMOOTH, Browser, soonest
 from expected import (ROOT, as_lines, datagrams_of, differ, explained, recordings, run, shown)
 
 sys.path.insert(0, f"{ROOT}/tests/helpers")
@@ -91,12 +91,12 @@ def dense(browser: Browser) -> Iterator[Case]:
     wide = (65504).to_bytes(2, "little") + b"\x01\x00" + bytes(65500)
     for name, item in (("empty", bytes.fromhex("04000100")), ("nested", nested), ("wide", wide)):
         lines = as_lines([head + item * (65504 // len(item))])
-        took = min((browser.paste(lines) for _ in range(3)), key=lambda it: it["longest"])
+        took = soonest(lambda: browser.paste(lines), lambda it: it["longest"])
         yield f"{name} attributes", texts(browser, lines, "little")
         last, first = browser.call("key", "tree", "End"), browser.call("key", "grid", "Home")
         right = " to 65535: head 4, " in last["chosen"] and first["cursor"] == [0]
         yield f"{name} attributes, both ends", [] if right else [last["chosen"], str(first)]
-        is_soon = took["time"] < 3000 and took["longest"] < 100
+        is_soon = took["time"] < 3000 and took["longest"] < SMOOTH
         yield f"{name} attributes, in time", [] if is_soon else [str(took)[:300]]
 
 

@@ -3,12 +3,12 @@ forbids; and what an older browser is told."""
 import re
 from typing import Iterator, List, Tuple
 
-from browser import Browser
+from browser import SMOOTH, Browser, soonest
 from expected import datagrams_of, differ, recordings, shown
 
 Case = Tuple[str, List[str]]
 LARGE = 5_000_000
-SOON, SMOOTH = 3000, 100
+SOON = 3000
 LOOPBACK = ("30000000 1000 0200 01000000 39300000 00000403 01000000 49000100 00000000 "
             "07000300 6c6f0000 08000400 00000100")
 UNKNOWN = "2800000010000200010000003930000000000403010000004900010000000000 0500f43f 01000000"
@@ -127,12 +127,12 @@ def large(browser: Browser) -> Iterator[Case]:
     whole = "".join(f"{it.hex()}\n" for it in datagrams_of(lines))
     text = whole * (LARGE // len(whole))
     browser.paste(LOOPBACK)
-    took = min((browser.paste(text, "auto") for _ in range(3)), key=lambda it: it["longest"])
+    took = soonest(lambda: browser.paste(text, "auto"), lambda it: it["longest"])
     print(f"{len(text)} characters of {name}: {took['time']:.0f} ms, the window waited for "
           f"{took['longest']:.0f} ms")
     yield says("5 MB in time", took["time"] < SOON, took)
     yield says("5 MB without a pause", took["longest"] < SMOOTH, took)
-    longest = min(browser.call("jumped", 60) for _ in range(3))
+    longest = soonest(lambda: browser.call("jumped", 60), float)
     print(f"scrolled: a frame took {longest:.0f} ms")
     yield says("5 MB scrolled", longest < SMOOTH, longest)
     end = browser.call("key", "tree", "End")["chosen"]

@@ -106,6 +106,7 @@ refuse_rows key
 
 # ---- datagrams
 
+# Room for the messages is made before the first is read, and that for attributes before they are visited.
 names=('the end' 'a link' 'a request' 'next hops' 'a metric')
 # What the datagrams are written as: the request with its padding, the metric with that inside its list.
 declare -A written=(
@@ -125,8 +126,7 @@ declare -A canonical=(['the end']=yes ['a link']=yes ['a request']=no ['next hop
 
 for name in "${names[@]}"; do
   for order in $orders; do
-    row "read_datagram $order, $name" "visits ${visits_of[$name]}, written ${written[$order $name]}" \
-      'memory, visits ALL'
+    row "read_datagram $order, $name" "visits ${visits_of[$name]}, written ${written[$order $name]}" "$unread"
   done
 done
 refuse_rows read_datagram
