@@ -154,6 +154,7 @@ same 'the item at a place is sought by those who ask for one, and in no walk' \
   "$(counts '\b(attr_at|hop_at|message_at)\(')" \
   'crates/nl_attr/src/walk/cursors.rt 2
 crates/nl_dump/src/sifting.rt 1
+crates/nl_frame/src/building/copying.rt 2
 crates/nl_frame/src/front.rt 1
 crates/rtnl_c/src/cursors.rt 3
 crates/rtnl_cli/src/hints.rt 1'

@@ -19,6 +19,7 @@ use Rattle.nl_route.specs.Fields.{AreRanged}
 use Rattle.nl_route.specs.Fields as fields
 use Rattle.nl_route.proofs.Fields.{length-written}
 use Rattle.nl_route.proofs.Families.{one_or_other, size_of_head}
+use Rattle.nl_frame.specs.Limits.{Bounds}
 use Rattle.nl_frame.specs.declared.form.Form.{Form}
 use Rattle.nl_frame.specs.declared.form.Form.TheVariants as form
 use Rattle.nl_frame.specs.declared.building.refusal.BuildError.{BuildError}
@@ -82,10 +83,10 @@ module _ (o : Order) where
 pub goes_on : (b new next : Built) (r : Option BuildError) → r ≡ None → new ≡ settled b r next → new ≡ next
 goes_on b new next r e f = f ∙ ap (λ (x : Option BuildError). settled b x next) e
 
-pub opens : (b new : Built) (d : Draft) (h : Begun) (c : Content) (bytes : List ℕ) → Holds b d → MayBegin b.bounds.shape.depth h d.layers
+pub opens : {L : Bounds} (b new : Built) (d : Draft) (h : Begun) (c : Content) (bytes : List ℕ) → Holds L b d → MayBegin b.bounds.shape.depth h d.layers
     → c ≡ content_behind h (content_at d.layers) → bytes ≡ begun_bytes (order_of b) h → lacks b (length bytes) ≡ None → new ≡ opened b c bytes
-    → Holds new (draft.open_head d h)
-opens b new d h c bytes holds may e g room is =
+    → Holds L new (draft.open_head d h)
+opens {L} b new d h c bytes holds may e g room is =
     let o = order_of b in
     let k = content_behind h (content_at d.layers) in
     let has = has_room b (length bytes) room in
@@ -95,7 +96,8 @@ opens b new d h c bytes holds may e g room is =
     ap (λ (hs : List OpenHead). start ∷ hs) holds.heads
     ∙ ap (λ (x : Content). record { start = length b.front; content = x } ∷ heads_of o d.ended d.layers) e
     ∙ ap (λ (xs : List ℕ). record { start = length xs; content = k } ∷ heads_of o d.ended d.layers) holds.front in
-    subst (λ (x : Built). Holds x (draft.open_head d h)) (sym is) (record {
+    subst (λ (x : Built). Holds L x (draft.open_head d h)) (sym is) (record {
+      bounds = holds.bounds;
       front = ap (λ (xs : List ℕ). xs ++ bytes) holds.front ∙ ap (λ (xs : List ℕ). before ++ xs) (g ∙ sym (append-nil (begun_bytes o h)) ∙ ap (λ (xs : List ℕ). begun_bytes o h ++ xs) (sym (none_written o k)));
       heads = first;
       layers = (
@@ -137,8 +139,8 @@ pub length-heads : (o : Order) (ms : List MessageVal) (xs : List Layer) → leng
 length-heads o ms [] = refl
 length-heads o ms (x ∷ xs) = let e = length-heads o ms xs in omega (arith, e)
 
-module _ (b : Built) (ms : List MessageVal) (n : ℕ) (f : AttrFlags) (c : Content) where
-  may_open : (xs : List Layer) → Holds b (record { ended = ms; layers = xs }) → or_next b.refusal (open_refusal b (held (top b.heads) n f)) ≡ None → held (top b.heads) n f ≡ Ok c
+module _ {L : Bounds} (b : Built) (ms : List MessageVal) (n : ℕ) (f : AttrFlags) (c : Content) where
+  may_open : (xs : List Layer) → Holds L b (record { ended = ms; layers = xs }) → or_next b.refusal (open_refusal b (held (top b.heads) n f)) ≡ None → held (top b.heads) n f ≡ Ok c
       → MayBegin b.bounds.shape.depth (attribute n f) xs × (c ≡ content_behind (attribute n f) (content_at xs)) × (lacks b 4 ≡ None)
   may_open [] h e g = let z : Err NothingOpen ≡ Ok c = sym (ap (λ (hs : List OpenHead). held (top hs) n f) h.heads) ∙ g in absurd (cc)
   may_open (x ∷ xs) h e g =
@@ -154,15 +156,15 @@ module _ (b : Built) (ms : List MessageVal) (n : ℕ) (f : AttrFlags) (c : Conte
         o.room,
       )
 
-pub open_holds : (b new : Built) (d : Draft) (n : ℕ) (f : AttrFlags) (c : Content) (bytes : List ℕ) → or_next b.refusal (open_refusal b (held (top b.heads) n f)) ≡ None
-    → held (top b.heads) n f ≡ Ok c → bytes ≡ attr_begun (order_of b) n f → new ≡ opened b c bytes → Holds b d → Holds new (draft.open_head d (attribute n f))
+pub open_holds : {L : Bounds} (b new : Built) (d : Draft) (n : ℕ) (f : AttrFlags) (c : Content) (bytes : List ℕ) → or_next b.refusal (open_refusal b (held (top b.heads) n f)) ≡ None
+    → held (top b.heads) n f ≡ Ok c → bytes ≡ attr_begun (order_of b) n f → new ≡ opened b c bytes → Holds L b d → Holds L new (draft.open_head d (attribute n f))
 open_holds b new d n f c bytes e g is made h =
     let may = may_open b d.ended n f c d.layers h e g in
     opens b new d (attribute n f) c bytes h may.0 may.1 is (ap (lacks b) (ap (length {A = ℕ}) is ∙ attr_length (order_of b) n f) ∙ may.2) made
 
 -- ---- a next hop
 
-pub hop_may : (b : Built) (ms : List MessageVal) (xs : List Layer) → Holds b (record { ended = ms; layers = xs }) → or_next b.refusal (hop_refusal b (top b.heads)) ≡ None
+pub hop_may : {L : Bounds} (b : Built) (ms : List MessageVal) (xs : List Layer) → Holds L b (record { ended = ms; layers = xs }) → or_next b.refusal (hop_refusal b (top b.heads)) ≡ None
     → (content_at xs ≡ content.Hops) × (lacks b 8 ≡ None)
 hop_may b ms [] h e = let z = ap (λ (hs : List OpenHead). hop_refusal b (top hs)) (sym h.heads) ∙ (neither b.refusal _ e).1 in absurd (cc)
 hop_may b ms (x ∷ xs) h e = in_hops (content_at (x ∷ xs)) (ap (λ (hs : List OpenHead). hop_refusal b (top hs)) (sym h.heads) ∙ (neither b.refusal _ e).1) where
@@ -171,8 +173,8 @@ hop_may b ms (x ∷ xs) h e = in_hops (content_at (x ∷ xs)) (ap (λ (hs : List
   in_hops (content.List c) z = absurd (cc)
   in_hops content.Bytes z = absurd (cc)
 
-pub hop_holds : (b new : Built) (d : Draft) (f c : ℕ) (i : ℤ) → or_next b.refusal (hop_refusal b (top b.heads)) ≡ None → FitsSigned w32 i
-    → new ≡ open_hop b f c i → Holds b d → Holds new (draft.open_head d (next_hop f c i))
+pub hop_holds : {L : Bounds} (b new : Built) (d : Draft) (f c : ℕ) (i : ℤ) → or_next b.refusal (hop_refusal b (top b.heads)) ≡ None → FitsSigned w32 i
+    → new ≡ open_hop b f c i → Holds L b d → Holds L new (draft.open_head d (next_hop f c i))
 hop_holds b new d f c i e r made h =
     let may = hop_may b d.ended d.layers h e in
     let bytes = hop_begun (order_of b) f c i in
@@ -196,12 +198,12 @@ is_object form.Other g e = absurd (cc)
 abbrev pub HasRanges : ℕ → ℕ → ℕ → ℕ → AnyHead → Type 0
 HasRanges kind flags seq port h = (kind < 2 ^ 16) × (flags < 2 ^ 16) × (seq < 2 ^ 32) × (port < 2 ^ 32) × AreRanged (fields_of h)
 
-no_layers : (o : Order) (ms : List MessageVal) (xs : List Layer) → heads_of o ms xs ≡ [] → xs ≡ []
+pub no_layers : (o : Order) (ms : List MessageVal) (xs : List Layer) → heads_of o ms xs ≡ [] → xs ≡ []
 no_layers o ms [] e = refl
 no_layers o ms (x ∷ xs) e = absurd (cc)
 
-pub begin_holds : (b new : Built) (d : Draft) (kind flags seq port : ℕ) (head : AnyHead) → or_next b.refusal (begin_refusal b b.heads kind (family_of head)) ≡ None
-    → HasRanges kind flags seq port head → new ≡ begin b kind flags seq port head → Holds b d → Holds new (draft.open_head d (message kind flags seq port head))
+pub begin_holds : {L : Bounds} (b new : Built) (d : Draft) (kind flags seq port : ℕ) (head : AnyHead) → or_next b.refusal (begin_refusal b b.heads kind (family_of head)) ≡ None
+    → HasRanges kind flags seq port head → new ≡ begin b kind flags seq port head → Holds L b d → Holds L new (draft.open_head d (message kind flags seq port head))
 begin_holds b new d kind flags seq port head e r made h =
     let g = family_of head in
     let a = begin_allowed b kind g e in

@@ -20,6 +20,7 @@ use Rattle.nl_attr.specs.Tree.{holds_of}
 use Rattle.nl_attr.specs.Written.{attr_item, hop_item, written_val, written, items_len}
 use Rattle.nl_attr.proofs.Lemmas.Numbers.{length-num}
 use Rattle.nl_attr.proofs.Lemmas.Lengths.{length-attr, length-hop, length-val, length-items}
+use Rattle.nl_frame.specs.Limits.{Bounds}
 use Rattle.nl_frame.specs.declared.building.OpenHead.{OpenHead}
 use Rattle.nl_frame.specs.Message.{MessageVal}
 use Rattle.nl_frame.specs.Building.{Built, order_of, levels_in, ended, head_ended, length_from, attr_begun, hop_begun, or_next, close_refusal}
@@ -96,9 +97,9 @@ module _ (b : Built) (ms : List MessageVal) (x : Layer) (xs : List Layer) (w : �
 
 -- ---- an attribute is closed
 
-module _ (b : Built) (ms : List MessageVal) (n : ℕ) (f : AttrFlags) (v : Val) (y : Layer) (zs : List Layer) where
-  close_attr : Holds b (record { ended = ms; layers = record { head = attribute n f; inside = v } ∷ y ∷ zs }) → length_from b b.heads ≤ LONGEST_CONTAINER
-      → Holds (ended b 2) (record { ended = ms; layers = layers_and_item (y ∷ zs) n f v })
+module _ {L : Bounds} (b : Built) (ms : List MessageVal) (n : ℕ) (f : AttrFlags) (v : Val) (y : Layer) (zs : List Layer) where
+  close_attr : Holds L b (record { ended = ms; layers = record { head = attribute n f; inside = v } ∷ y ∷ zs }) → length_from b b.heads ≤ LONGEST_CONTAINER
+      → Holds L (ended b 2) (record { ended = ms; layers = layers_and_item (y ∷ zs) n f v })
   close_attr h short =
       let o = order_of b in
       let D = b.bounds.shape.depth in
@@ -136,7 +137,8 @@ module _ (b : Built) (ms : List MessageVal) (n : ℕ) (f : AttrFlags) (v : Val) 
       } in
       let attrs = subst (λ (k : Content). IsMismatchedVal y.inside k → ⊥) l.head.2 m.matched in
       let new = num (2 + length (kind ++ body)) 2 o ++ (kind ++ body) in
-      subst (λ (z : Built). Holds z (record { ended = ms; layers = layers_and_item (y ∷ zs) n f v })) (sym is) (record {
+      subst (λ (z : Built). Holds L z (record { ended = ms; layers = layers_and_item (y ∷ zs) n f v })) (sym is) (record {
+        bounds = h.bounds;
         front = ap (λ (ys : List ℕ). before ++ ys) item ∙ sym (laid_more o ms y zs (val_and_item y.inside n f v) (with_padding (attr_item o n f body)) (val_written n f v o y.inside ctx attrs));
         heads = refl;
         layers = (layer_and_item D y zs ctx n f v m l.head.2 i, h.layers.1.1);
@@ -183,9 +185,9 @@ module _ (f c : ℕ) (i : ℤ) (is : Items) where
   hops_ranged (bytes bs) r a b = r
   hops_ranged (list js) r a b = r
 
-module _ (b : Built) (ms : List MessageVal) (f c : ℕ) (i : ℤ) (is : Items) (y : Layer) (zs : List Layer) where
-  close_hop : Holds b (record { ended = ms; layers = record { head = next_hop f c i; inside = list is } ∷ y ∷ zs }) → length_from b b.heads ≤ LONGEST_CONTAINER
-      → Holds (ended b 2) (record { ended = ms; layers = layers_and_hop (y ∷ zs) f c i is })
+module _ {L : Bounds} (b : Built) (ms : List MessageVal) (f c : ℕ) (i : ℤ) (is : Items) (y : Layer) (zs : List Layer) where
+  close_hop : Holds L b (record { ended = ms; layers = record { head = next_hop f c i; inside = list is } ∷ y ∷ zs }) → length_from b b.heads ≤ LONGEST_CONTAINER
+      → Holds L (ended b 2) (record { ended = ms; layers = layers_and_hop (y ∷ zs) f c i is })
   close_hop h short =
       let o = order_of b in
       let D = b.bounds.shape.depth in
@@ -211,7 +213,8 @@ module _ (b : Built) (ms : List MessageVal) (f c : ℕ) (i : ℤ) (is : Items) (
       let matched = subst (λ (k : Content). IsMismatchedVal y.inside k → ⊥) at m.matched in
       let w = val_and_hop y.inside f c i is in
       let new = num (2 + length (kind ++ body)) 2 o ++ (kind ++ body) in
-      subst (λ (z : Built). Holds z (record { ended = ms; layers = layers_and_hop (y ∷ zs) f c i is })) (sym closed) (record {
+      subst (λ (z : Built). Holds L z (record { ended = ms; layers = layers_and_hop (y ∷ zs) f c i is })) (sym closed) (record {
+        bounds = h.bounds;
         front = ap (λ (ys : List ℕ). before ++ ys) item ∙ sym (laid_more o ms y zs w (with_padding (hop_item o f c i body)) (hops_written f c i is o y.inside matched));
         heads = refl;
         layers = (
@@ -243,21 +246,21 @@ module _ (b : Built) (ms : List MessageVal) (f c : ℕ) (i : ℤ) (is : Items) (
 closes_at : (b : Built) → close_refusal b ≡ None → (2 ≤ length b.heads) × (length_from b b.heads ≤ LONGEST_CONTAINER)
 closes_at b e = (grind arith, grind arith)
 
-module _ (b : Built) (ms : List MessageVal) (short : length_from b b.heads ≤ LONGEST_CONTAINER) where
-  close_layer : (h : Begun) (v : Val) (y : Layer) (zs : List Layer) → Holds b (record { ended = ms; layers = record { head = h; inside = v } ∷ y ∷ zs })
-      → Holds (ended b 2) (record { ended = ms; layers = layers_and h v (y ∷ zs) })
+module _ {L : Bounds} (b : Built) (ms : List MessageVal) (short : length_from b b.heads ≤ LONGEST_CONTAINER) where
+  close_layer : (h : Begun) (v : Val) (y : Layer) (zs : List Layer) → Holds L b (record { ended = ms; layers = record { head = h; inside = v } ∷ y ∷ zs })
+      → Holds L (ended b 2) (record { ended = ms; layers = layers_and h v (y ∷ zs) })
   close_layer (message kind flags seq port head) v y zs h = let e = h.layers.0.head.0 in absurd (cc)
   close_layer (attribute n f) v y zs h = close_attr b ms n f v y zs h short
   close_layer (next_hop f c i) (list is) y zs h = close_hop b ms f c i is y zs h short
   close_layer (next_hop f c i) (bytes bs) y zs h = absurd (h.layers.0.matched tt)
   close_layer (next_hop f c i) (hops hs) y zs h = absurd (h.layers.0.matched tt)
 
-  close_at : (xs : List Layer) → 2 ≤ length b.heads → Holds b (record { ended = ms; layers = xs }) → Holds (ended b 2) (record { ended = ms; layers = layers_closed xs })
+  close_at : (xs : List Layer) → 2 ≤ length b.heads → Holds L b (record { ended = ms; layers = xs }) → Holds L (ended b 2) (record { ended = ms; layers = layers_closed xs })
   close_at [] two h = absurd (omega (arith, two, ap (length {A = OpenHead}) h.heads))
   close_at (x ∷ []) two h = absurd (omega (arith, two, ap (length {A = OpenHead}) h.heads))
   close_at (x ∷ y ∷ zs) two h = close_layer x.head x.inside y zs h
 
-pub close_holds : (b new : Built) (d : Draft) → or_next b.refusal (close_refusal b) ≡ None → new ≡ ended b 2 → Holds b d → Holds new (draft.close d)
-close_holds b new d e made h =
+pub close_holds : {L : Bounds} (b new : Built) (d : Draft) → or_next b.refusal (close_refusal b) ≡ None → new ≡ ended b 2 → Holds L b d → Holds L new (draft.close d)
+close_holds {L} b new d e made h =
     let at = closes_at b (neither b.refusal (close_refusal b) e).1 in
-    subst (λ (x : Built). Holds x (draft.close d)) (sym made) (close_at b d.ended at.1 d.layers at.0 h)
+    subst (λ (x : Built). Holds L x (draft.close d)) (sym made) (close_at b d.ended at.1 d.layers at.0 h)

@@ -15,6 +15,7 @@ use Rattle.nl_route.specs.Fields as fields
 use Rattle.nl_route.specs.Families.{AnyHead, head_size, context_of, family_of, fields_of}
 use Rattle.nl_route.proofs.Fields.{length-written}
 use Rattle.nl_route.proofs.Families.{is_family, size_of_head}
+use Rattle.nl_frame.specs.Limits.{Bounds}
 use Rattle.nl_frame.specs.declared.building.OpenHead.{OpenHead}
 use Rattle.nl_frame.specs.Layout.{Layout}
 use Rattle.nl_frame.specs.Message.{object, MessageVal}
@@ -38,9 +39,9 @@ use Rattle.nl_frame.proofs.Snocs.{message_written, message_matched, message_shal
 abbrev behind_length : ℕ → ℕ → ℕ → ℕ → List Field
 behind_length kind flags seq port = number 2 kind ∷ number 2 flags ∷ number 4 seq ∷ number 4 port ∷ []
 
-module _ (b : Built) (ms : List MessageVal) (kind flags seq port : ℕ) (head : AnyHead) (is : Items) where
-  end_message : Holds b (record { ended = ms; layers = record { head = message kind flags seq port head; inside = list is } ∷ [] })
-      → Holds (ended b 4) (record { ended = ms ++ message_in (message kind flags seq port head) (list is); layers = [] })
+module _ {L : Bounds} (b : Built) (ms : List MessageVal) (kind flags seq port : ℕ) (head : AnyHead) (is : Items) where
+  end_message : Holds L b (record { ended = ms; layers = record { head = message kind flags seq port head; inside = list is } ∷ [] })
+      → Holds L (ended b 4) (record { ended = ms ++ message_in (message kind flags seq port head) (list is); layers = [] })
   end_message h =
       let o = order_of b in
       let D = b.bounds.shape.depth in
@@ -62,7 +63,8 @@ module _ (b : Built) (ms : List MessageVal) (kind flags seq port : ℕ) (head : 
       let all : length b.front ≡ length before + (16 + (size + items_len is)) = ap (length {A = ℕ}) (h.front ∙ ap (λ (ys : List ℕ). before ++ ys) parts) ∙ length-append before (num 0 4 o ++ rest) ∙ ap (λ k. length before + k) (length-append (num 0 4 o) rest ∙ ap (λ k. k + length rest) (length-num o 0 4) ∙ rest_len) in
       let new = num (4 + length rest) 4 o ++ rest in
       let low : items_len is ≤ LONGEST_REGION = omega (arith, all, h.size, h.limits.3) in
-      subst (λ (z : Built). Holds z (record { ended = ms ++ m ∷ []; layers = [] })) (sym closed) (record {
+      subst (λ (z : Built). Holds L z (record { ended = ms ++ m ∷ []; layers = [] })) (sym closed) (record {
+        bounds = h.bounds;
         front = ap (λ (ys : List ℕ). before ++ ys) item ∙ sym (message_written m o ms);
         heads = refl;
         layers = tt;
@@ -85,21 +87,21 @@ module _ (b : Built) (ms : List MessageVal) (kind flags seq port : ℕ) (head : 
       body_short low s (inl x) = omega (arith, low, x)
       body_short low s (inr x) = s x
 
-module _ (b : Built) (ms : List MessageVal) where
-  end_layer : (h : Begun) (v : Val) → Holds b (record { ended = ms; layers = record { head = h; inside = v } ∷ [] }) → Holds (ended b 4) (record { ended = ms ++ message_in h v; layers = [] })
+module _ {L : Bounds} (b : Built) (ms : List MessageVal) where
+  end_layer : (h : Begun) (v : Val) → Holds L b (record { ended = ms; layers = record { head = h; inside = v } ∷ [] }) → Holds L (ended b 4) (record { ended = ms ++ message_in h v; layers = [] })
   end_layer (message kind flags seq port head) (list is) h = end_message b ms kind flags seq port head is h
   end_layer (message kind flags seq port head) (bytes bs) h = absurd (h.layers.0.matched tt)
   end_layer (message kind flags seq port head) (hops hs) h = absurd (h.layers.0.matched tt)
   end_layer (attribute n f) v h = let e = h.layers.0.head.2 in absurd (cc)
   end_layer (next_hop f c i) v h = let e = h.layers.0.head.1 in absurd (cc)
 
-  end_at : (xs : List Layer) → end_refusal b.heads ≡ None → Holds b (record { ended = ms; layers = xs }) → Holds (ended b 4) (record { ended = ms ++ messages_in xs; layers = [] })
+  end_at : (xs : List Layer) → end_refusal b.heads ≡ None → Holds L b (record { ended = ms; layers = xs }) → Holds L (ended b 4) (record { ended = ms ++ messages_in xs; layers = [] })
   end_at [] e h = let z = ap end_refusal (sym h.heads) ∙ e in absurd (cc)
   end_at (x ∷ []) e h = end_layer x.head x.inside h
   end_at (x ∷ y ∷ zs) e h = let z = ap end_refusal (sym h.heads) ∙ e in absurd (cc)
 
-pub end_holds : (b new : Built) (d : Draft) → or_next b.refusal (end_refusal b.heads) ≡ None → new ≡ ended b 4 → Holds b d → Holds new (draft.end d)
-end_holds b new d e made h = subst (λ (x : Built). Holds x (draft.end d)) (sym made) (end_at b d.ended d.layers (neither b.refusal (end_refusal b.heads) e).1 h)
+pub end_holds : {L : Bounds} (b new : Built) (d : Draft) → or_next b.refusal (end_refusal b.heads) ≡ None → new ≡ ended b 4 → Holds L b d → Holds L new (draft.end d)
+end_holds {L} b new d e made h = subst (λ (x : Built). Holds L x (draft.end d)) (sym made) (end_at b d.ended d.layers (neither b.refusal (end_refusal b.heads) e).1 h)
 
 -- ---- the datagram is handed out
 
@@ -112,8 +114,8 @@ pub none_open : (b : Built) (hs : List OpenHead) → b.refusal ≡ None → reve
 none_open b [] e f g = rw (e, sym f) refl
 none_open b (h ∷ hs) e f g = absurd (omega (arith, g))
 
-pub finishes : (b : Built) (d : Draft) → finish b ≡ None → Holds b d → (b.front ≡ written (order_of b) d.ended) × IsTheList b.bounds b.front d.ended
-finishes b d e h =
+at_bounds : {L : Bounds} (b : Built) (d : Draft) → finish b ≡ None → Holds L b d → (b.front ≡ written (order_of b) d.ended) × IsTheList b.bounds b.front d.ended
+at_bounds b d e h =
     let o = order_of b in
     let S = b.bounds.shape in
     let ms = d.ended in
@@ -138,3 +140,6 @@ finishes b d e h =
     not_long : written_len d.ended ≤ LONGEST_REGION → IsLong d.ended → ⊥
     not_long low (inl x) = omega (arith, x, low)
     not_long low (inr x) = h.short x
+
+pub finishes : (b : Built) (d : Draft) (L : Bounds) → finish b ≡ None → Holds L b d → (b.front ≡ written L.shape.order d.ended) × IsTheList L b.front d.ended
+finishes b d L e h = subst (λ (x : Bounds). (b.front ≡ written x.shape.order d.ended) × IsTheList x b.front d.ended) h.bounds (at_bounds b d e h)

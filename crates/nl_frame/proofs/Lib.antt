@@ -13,9 +13,15 @@ pub mod Within
 pub mod WrittenLayouts
 mod Opens
 mod Snocs
-mod Puts
+pub mod Puts
 mod Begins
 mod Closes
 mod Ends
+mod Wholes
 pub mod Running
 mod Rooms
+pub mod Trees
+mod Accepted
+mod Builds
+mod Copied
+mod Copying

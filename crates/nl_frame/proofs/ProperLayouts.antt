@@ -59,7 +59,7 @@ module _ (S : Shape) where
 
   -- ---- they can be written
 
-  body_allowed : (c : BodyVal) (f : Form) (payload : List ℕ) → BodyOf S c f payload
+  pub body_allowed : (c : BodyVal) (f : Form) (payload : List ℕ) → BodyOf S c f payload
       → IsAllowed (IsMismatchedBody c f) (IsDeepBody c S.depth) ((length payload ≤ LONGEST_REGION) × IsLongBody c) (AreBytes payload → IsRangedBody c) (body_kept c) (length payload)
   body_allowed (error z x tail) f payload b = record {
     matched = λ h. h b.0;

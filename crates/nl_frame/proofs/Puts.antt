@@ -11,6 +11,7 @@ use Rattle.nl_attr.specs.Tree.{Val, bytes, list, hops, holds_of}
 use Rattle.nl_attr.specs.Written.{with_padding, attr_item, written_val, val_len}
 use Rattle.nl_attr.specs.Proper.{IsMismatchedVal, IsDeepVal, IsLongItem, HasLongVal, IsRangedVal}
 use Rattle.nl_attr.proofs.Lemmas.Lengths.{length-padded_attr}
+use Rattle.nl_frame.specs.Limits.{Bounds}
 use Rattle.nl_frame.specs.declared.building.refusal.BuildError.{BuildError}
 use Rattle.nl_frame.specs.declared.building.OpenHead.{OpenHead}
 use Rattle.nl_frame.specs.Message.{MessageVal}
@@ -121,8 +122,8 @@ of ms xs = record { ended = ms; layers = xs }
 no_head : (b : Built) (n : ℕ) (f : AttrFlags) (len : ℕ) → or_next b.refusal (bytes_refusal b (held None n f) len) ≡ None → ⊥
 no_head b n f len e = let h = (neither b.refusal _ e).1 in cc
 
-put_at : (b : Built) (ms : List MessageVal) (xs : List Layer) (n : ℕ) (f : AttrFlags) (bs : List ℕ) → Holds b (of ms xs) → or_next b.refusal (bytes_refusal b (held (top b.heads) n f) (length bs)) ≡ None
-    → Holds (grown b (with_padding (attr_item (order_of b) n f bs))) (draft.put (of ms xs) n f bs)
+put_at : {L : Bounds} (b : Built) (ms : List MessageVal) (xs : List Layer) (n : ℕ) (f : AttrFlags) (bs : List ℕ) → Holds L b (of ms xs) → or_next b.refusal (bytes_refusal b (held (top b.heads) n f) (length bs)) ≡ None
+    → Holds L (grown b (with_padding (attr_item (order_of b) n f bs))) (draft.put (of ms xs) n f bs)
 put_at b ms [] n f bs h e = absurd (no_head b n f (length bs) (ap (λ (hs : List OpenHead). or_next b.refusal (bytes_refusal b (held (top hs) n f) (length bs))) (sym h.heads) ∙ e))
 put_at b ms (x ∷ xs) n f bs h e =
     let o = order_of b in
@@ -142,6 +143,7 @@ put_at b ms (x ∷ xs) n f bs h e =
       ranged = tt;
     } in
     record {
+      bounds = h.bounds;
       front = ap (λ (ys : List ℕ). ys ++ one) h.front ∙ sym (laid_more o ms x xs (val_and_item x.inside n f (bytes bs)) one (val_written n f (bytes bs) o x.inside at.ctx (subst (λ (c : Content). IsMismatchedVal x.inside c → ⊥) at.is l.matched)));
       heads = h.heads;
       layers = (layer_and_item b.bounds.shape.depth x xs at.ctx n f (bytes bs) l at.is i, h.layers.1);
@@ -153,6 +155,6 @@ put_at b ms (x ∷ xs) n f bs h e =
       size = omega (arith, length-append b.front one, len, room.1);
     }
 
-pub put_holds : (b new : Built) (d : Draft) (n : ℕ) (f : AttrFlags) (bs : List ℕ) → or_next b.refusal (bytes_refusal b (held (top b.heads) n f) (length bs)) ≡ None
-    → new ≡ grown b (with_padding (attr_item (order_of b) n f bs)) → Holds b d → Holds new (draft.put d n f bs)
-put_holds b new d n f bs e g h = subst (λ (x : Built). Holds x (draft.put d n f bs)) (sym g) (put_at b d.ended d.layers n f bs h e)
+pub put_holds : {L : Bounds} (b new : Built) (d : Draft) (n : ℕ) (f : AttrFlags) (bs : List ℕ) → or_next b.refusal (bytes_refusal b (held (top b.heads) n f) (length bs)) ≡ None
+    → new ≡ grown b (with_padding (attr_item (order_of b) n f bs)) → Holds L b d → Holds L new (draft.put d n f bs)
+put_holds {L} b new d n f bs e g h = subst (λ (x : Built). Holds L x (draft.put d n f bs)) (sym g) (put_at b d.ended d.layers n f bs h e)

@@ -2,33 +2,43 @@
 use Rattle.std.proofs.Common.{◌≡◌, ℕ, ◌+◌, ◌-◌, ◌≤◌, List, [], ◌∷◌, ◌++◌, length, drop, Option, Some, None, refl, sym, ap, subst, ◌∙◌, arith, length-append, length-drop}
 use Rattle.std.specs.List.{AllByRecursion}
 use Rattle.nl_attr.specs.declared.order.Order.{Order}
-use Rattle.nl_attr.specs.Numbers.{num}
+use Rattle.nl_attr.specs.Numbers.{aligned, num}
 use Rattle.nl_attr.specs.Tree.{bytes}
 use Rattle.nl_attr.specs.Written.{with_padding, attr_item, written_val}
-use Rattle.nl_attr.proofs.Lemmas.Lengths.{length-padded_attr}
+use Rattle.nl_attr.proofs.Lemmas.Lengths.{length-padded, length-padded_attr}
 use Rattle.nl_attr.proofs.Lemmas.Numbers.{length-num}
+use Rattle.nl_route.specs.Fields as fields
 use Rattle.nl_route.specs.Families.{family_of}
+use Rattle.nl_route.proofs.Fields.{length-written}
+use Rattle.nl_frame.specs.Header.{header_fields}
+use Rattle.nl_frame.specs.Written.{body_written}
+use Rattle.nl_frame.specs.Limits.{Bounds}
 use Rattle.nl_frame.specs.declared.building.refusal.BuildError.{BuildError}
 use Rattle.nl_frame.specs.declared.building.OpenHead.{OpenHead}
 use Rattle.nl_frame.specs.Message.{MessageVal}
-use Rattle.nl_frame.specs.Building.{Built, order_of, settled, lacks, held, top, attr_begun, hop_begun, message_begun, header_begun, ended, head_ended, length_from}
+use Rattle.nl_frame.specs.Building.{Built, order_of, settled, lacks, held, top, attr_begun, hop_begun, message_begun, header_begun, header_whole, ended, head_ended, length_from}
 use Rattle.nl_frame.specs.Draft.{Begun, message, attribute, next_hop, Layer, Draft, begun_bytes, laid, heads_of, Holds}
-use Rattle.nl_frame.specs.Calls.{Call, begin, put, open_attr, open_hop, close, end, IsCall, called, put_by, run, KeepsRoom}
+use Rattle.nl_frame.specs.Calls.{Call, begin, put, open_attr, open_hop, close, end, put_message, IsCall, called, put_by, run, KeepsRoom}
 use Rattle.nl_frame.proofs.Opens.{has_room, begin_allowed, drop_twice, length-over}
 use Rattle.nl_frame.proofs.Puts.{neither, has_bytes}
 use Rattle.nl_frame.proofs.Begins.{opens_at, hop_may, attr_length, hop_length, message_length}
+use Rattle.nl_frame.proofs.Wholes.{is_whole}
 use Rattle.nl_frame.proofs.Running.{not_refused, refused, sticks, called_holds}
 
 -- ---- one part
 
 -- the same bytes, or as many of them, with the same behind them
-as_long : (b c : Built) → length c.front ≡ length b.front → c.free ≡ b.free → KeepsRoom b c
-as_long b c e f =
-    let none : length c.front - length b.front ≡ 0 = omega (arith, e) in
+pub record IsAsLong (b c : Built) : Type 0 where
+  pub front : length c.front ≡ length b.front
+  pub free : c.free ≡ b.free
+
+as_long : (b c : Built) → IsAsLong b c → KeepsRoom b c
+as_long b c s =
+    let none : length c.front - length b.front ≡ 0 = omega (arith, s.front) in
     record {
-      grows = omega (arith, e);
-      all = omega (arith, e, ap (length {A = ℕ}) f);
-      behind = f ∙ sym (ap (λ k. drop k b.free) none);
+      grows = omega (arith, s.front);
+      all = omega (arith, s.front, ap (length {A = ℕ}) s.free);
+      behind = s.free ∙ sym (ap (λ k. drop k b.free) none);
     }
 
 -- so many bytes more
@@ -60,9 +70,9 @@ begun_long o (message kind flags seq port h) = omega (arith, message_length o ki
 begun_long o (attribute n f) = omega (arith, attr_length o n f)
 begun_long o (next_hop f c i) = omega (arith, hop_length o f c i)
 
-same_length : (b : Built) (ms : List MessageVal) (xs : List Layer) (w : ℕ) → w ≤ 4 → Holds b (record { ended = ms; layers = xs })
-    → KeepsRoom b (head_ended b (heads_of (order_of b) ms xs) (num (length_from b (heads_of (order_of b) ms xs)) w (order_of b)))
-same_length b ms [] w le h = as_long b b refl refl
+same_length : {L : Bounds} (b : Built) (ms : List MessageVal) (xs : List Layer) (w : ℕ) → w ≤ 4 → Holds L b (record { ended = ms; layers = xs })
+    → IsAsLong b (head_ended b (heads_of (order_of b) ms xs) (num (length_from b (heads_of (order_of b) ms xs)) w (order_of b)))
+same_length b ms [] w le h = record { front = refl; free = refl }
 same_length b ms (x ∷ xs) w le h =
     let o = order_of b in
     let s = length (laid o ms xs) in
@@ -70,10 +80,10 @@ same_length b ms (x ∷ xs) w le h =
     let inside = begun_bytes o x.head ++ written_val o x.inside in
     let len : length b.front ≡ s + (length (begun_bytes o x.head) + length (written_val o x.inside)) = ap (length {A = ℕ}) h.front ∙ length-append (laid o ms xs) inside ∙ ap (λ k. s + k) (length-append (begun_bytes o x.head) (written_val o x.inside)) in
     let low : s + length field ≤ length b.front = omega (arith, len, begun_long o x.head, le, length-num o (length b.front - s) w) in
-    as_long b _ (length-over b.front field s (s + length field) refl low) refl
+    record { front = length-over b.front field s (s + length field) refl low; free = refl }
 
-ends_room : (b : Built) (d : Draft) (w : ℕ) → w ≤ 4 → Holds b d → KeepsRoom b (ended b w)
-ends_room b d w le h = subst (λ (hs : List OpenHead). KeepsRoom b (head_ended b hs (num (length_from b hs) w (order_of b)))) (sym h.heads) (same_length b d.ended d.layers w le h)
+pub ends_as_long : {L : Bounds} (b : Built) (d : Draft) (w : ℕ) → w ≤ 4 → Holds L b d → IsAsLong b (ended b w)
+ends_as_long b d w le h = subst (λ (hs : List OpenHead). IsAsLong b (head_ended b hs (num (length_from b hs) w (order_of b)))) (sym h.heads) (same_length b d.ended d.layers w le h)
 
 -- ---- a call
 
@@ -81,7 +91,7 @@ ends_room b d w le h = subst (λ (hs : List OpenHead). KeepsRoom b (head_ended b
 done : (b next : Built) (r : Option BuildError) → r ≡ None → KeepsRoom b next → KeepsRoom b (settled b r next)
 done b next r e k = subst (λ (x : Option BuildError). KeepsRoom b (settled b x next)) (sym e) k
 
-called_room : (b : Built) (d : Draft) (c : Call) → Holds b d → (called b c).refusal ≡ None → KeepsRoom b (called b c)
+pub called_room : {L : Bounds} (b : Built) (d : Draft) (c : Call) → Holds L b d → (called b c).refusal ≡ None → KeepsRoom b (called b c)
 called_room b d (begin kind flags seq port h) holds e =
     let none = not_refused b _ _ e in
     let bytes = message_begun (order_of b) (header_begun kind flags seq port) h in
@@ -98,12 +108,19 @@ called_room b d (open_hop f c i) holds e =
     let none = not_refused b _ _ e in
     let room = (hop_may b d.ended d.layers holds none).1 in
     done b _ _ none (more_room b _ (hop_begun (order_of b) f c i) (ap (lacks b) (hop_length (order_of b) f c i) ∙ room) refl refl)
-called_room b d close holds e = done b _ _ (not_refused b _ _ e) (ends_room b d 2 (omega arith) holds)
-called_room b d end holds e = done b _ _ (not_refused b _ _ e) (ends_room b d 4 (omega arith) holds)
+called_room b d close holds e = done b _ _ (not_refused b _ _ e) (as_long b _ (ends_as_long b d 2 (omega arith) holds))
+called_room b d end holds e = done b _ _ (not_refused b _ _ e) (as_long b _ (ends_as_long b d 4 (omega arith) holds))
+called_room b d (put_message kind flags seq port v) holds e =
+    let none = not_refused b _ _ e in
+    let bs = body_written (order_of b) v in
+    let front = header_fields (header_whole kind flags seq port (length bs)) in
+    let it = fields.written (order_of b) front ++ bs in
+    let len : length (with_padding it) ≡ aligned (16 + length bs) = length-padded it ∙ ap aligned (length-append (fields.written (order_of b) front) bs ∙ ap (λ k. k + length bs) (length-written (order_of b) front)) in
+    done b _ _ none (more_room b _ (with_padding it) (ap (lacks b) len ∙ (is_whole b kind (length bs) none).room) refl refl)
 
-pub runs_room : (b : Built) (d : Draft) (cs : List Call) → AllByRecursion IsCall cs → Holds b d → KeepsRoom b (run b cs)
-runs_room b d [] r h = as_long b b refl refl
-runs_room b d (c ∷ cs) r h = at (called b c).refusal refl (λ g. runs_room (called b c) (put_by d c) cs r.1 (called_holds b d c r.0 h g)) where
+pub runs_room : (b : Built) (d : Draft) (L : Bounds) (cs : List Call) → AllByRecursion IsCall cs → Holds L b d → KeepsRoom b (run b cs)
+runs_room b d L [] r h = as_long b b (record { front = refl; free = refl })
+runs_room b d L (c ∷ cs) r h = at (called b c).refusal refl (λ g. runs_room (called b c) (put_by d c) L cs r.1 (called_holds b d c r.0 h g)) where
   at : (e : Option BuildError) → (called b c).refusal ≡ e → ((called b c).refusal ≡ None → KeepsRoom (called b c) (run (called b c) cs)) → KeepsRoom b (run (called b c) cs)
   at None g more = room_then b (called b c) (run (called b c) cs) (called_room b d c h g) (more g)
-  at (Some x) g more = subst (KeepsRoom b) (sym (sticks (called b c) cs x g)) (subst (KeepsRoom b) (sym (refused b c x g)) (as_long b (record b { refusal = Some x }) refl refl))
+  at (Some x) g more = subst (KeepsRoom b) (sym (sticks (called b c) cs x g)) (subst (KeepsRoom b) (sym (refused b c x g)) (as_long b (record b { refusal = Some x }) (record { front = refl; free = refl })))

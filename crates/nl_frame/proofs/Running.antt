@@ -3,15 +3,18 @@ use Rattle.std.proofs.Common.{◌≡◌, ℕ, List, [], ◌∷◌, Option, Some,
 use Rattle.std.specs.List.{AllByRecursion}
 use Rattle.nl_attr.specs.Numbers.{num}
 use Rattle.nl_attr.specs.declared.tree.Content.{Content}
+use Rattle.nl_frame.specs.Limits.{Bounds}
 use Rattle.nl_frame.specs.declared.building.refusal.BuildError.{BuildError}
 use Rattle.nl_frame.specs.declared.building.OpenHead.{OpenHead}
 use Rattle.nl_frame.specs.Building.{Built, order_of, settled, or_next, open_refusal, content_or_bytes, ended, head_ended, length_from}
 use Rattle.nl_frame.specs.Draft.{Draft, Holds}
-use Rattle.nl_frame.specs.Calls.{Call, begin, put, open_attr, open_hop, close, end, IsCall, called, put_by, run, put_by_all}
+use Rattle.nl_frame.specs.Written.{body_written}
+use Rattle.nl_frame.specs.Calls.{Call, begin, put, open_attr, open_hop, close, end, put_message, IsCall, called, put_by, run, put_by_all}
 use Rattle.nl_frame.proofs.Puts.{neither, put_holds}
 use Rattle.nl_frame.proofs.Begins.{goes_on, open_holds, hop_holds, begin_holds}
 use Rattle.nl_frame.proofs.Closes.{close_holds}
 use Rattle.nl_frame.proofs.Ends.{end_holds}
+use Rattle.nl_frame.proofs.Wholes.{message_holds}
 
 -- ---- a call that is refused
 
@@ -34,7 +37,7 @@ module _ (b next : Built) where
 none_before : (r s : Option BuildError) → or_next r s ≡ None → r ≡ None
 none_before r s e = (neither r s e).0
 
-same_refusal : (b : Built) (w : ℕ) → (ended b w).refusal ≡ b.refusal
+pub same_refusal : (b : Built) (w : ℕ) → (ended b w).refusal ≡ b.refusal
 same_refusal b w = of_heads b.heads where
   of_heads : (hs : List OpenHead) → (head_ended b hs (num (length_from b hs) w (order_of b))).refusal ≡ b.refusal
   of_heads [] = refl
@@ -45,7 +48,7 @@ settled_bounds : (b next : Built) (r : Option BuildError) → next.bounds ≡ b.
 settled_bounds b next None e = e
 settled_bounds b next (Some x) e = refl
 
-ended_bounds : (b : Built) (w : ℕ) → (ended b w).bounds ≡ b.bounds
+pub ended_bounds : (b : Built) (w : ℕ) → (ended b w).bounds ≡ b.bounds
 ended_bounds b w = of_heads b.heads where
   of_heads : (hs : List OpenHead) → (head_ended b hs (num (length_from b hs) w (order_of b))).bounds ≡ b.bounds
   of_heads [] = refl
@@ -58,6 +61,7 @@ called_bounds b (open_attr n f) = settled_bounds b _ _ refl
 called_bounds b (open_hop f c i) = settled_bounds b _ _ refl
 called_bounds b close = settled_bounds b _ _ (ended_bounds b 2)
 called_bounds b end = settled_bounds b _ _ (ended_bounds b 4)
+called_bounds b (put_message kind flags seq port v) = settled_bounds b _ _ refl
 
 pub same_bounds : (b : Built) (cs : List Call) → (run b cs).bounds ≡ b.bounds
 same_bounds b [] = refl
@@ -71,6 +75,7 @@ stays b (open_attr n f) e g = sticks_at b _ b.refusal _ e g g
 stays b (open_hop f c i) e g = sticks_at b _ b.refusal _ e g g
 stays b close e g = sticks_at b _ b.refusal _ e g g
 stays b end e g = sticks_at b _ b.refusal _ e g g
+stays b (put_message kind flags seq port v) e g = sticks_at b _ b.refusal _ e g g
 
 pub sticks : (b : Built) (cs : List Call) (e : BuildError) → b.refusal ≡ Some e → run b cs ≡ b
 sticks b [] e g = refl
@@ -84,6 +89,7 @@ refused b (open_attr n f) e g = refused_at b _ _ e refl (none_before b.refusal _
 refused b (open_hop f c i) e g = refused_at b _ _ e refl (none_before b.refusal _) g
 refused b close e g = refused_at b _ _ e (same_refusal b 2) (none_before b.refusal _) g
 refused b end e g = refused_at b _ _ e (same_refusal b 4) (none_before b.refusal _) g
+refused b (put_message kind flags seq port v) e g = refused_at b _ _ e refl (none_before b.refusal _) g
 
 -- ---- a call that isn't
 
@@ -92,7 +98,7 @@ holds_what : (b : Built) (r : Result Content BuildError) → or_next b.refusal (
 holds_what b (Ok c) e = refl
 holds_what b (Err x) e = let z = (neither b.refusal (Some x) e).1 in absurd (cc)
 
-pub called_holds : (b : Built) (d : Draft) (c : Call) → IsCall c → Holds b d → (called b c).refusal ≡ None → Holds (called b c) (put_by d c)
+pub called_holds : {L : Bounds} (b : Built) (d : Draft) (c : Call) → IsCall c → Holds L b d → (called b c).refusal ≡ None → Holds L (called b c) (put_by d c)
 called_holds b d (begin kind flags seq port h) r holds e = begin_holds b _ d kind flags seq port h (not_refused b _ _ e) r refl holds
 called_holds b d (put n f bs) r holds e = let none = not_refused b _ _ e in put_holds b _ d n f bs none (goes_on b _ _ _ none refl) holds
 called_holds b d (open_attr n f) r holds e =
@@ -101,14 +107,16 @@ called_holds b d (open_attr n f) r holds e =
 called_holds b d (open_hop f c i) r holds e = hop_holds b _ d f c i (not_refused b _ _ e) r refl holds
 called_holds b d close r holds e = let none = not_refused b _ _ e in close_holds b _ d none (goes_on b _ _ _ none refl) holds
 called_holds b d end r holds e = let none = not_refused b _ _ e in end_holds b _ d none (goes_on b _ _ _ none refl) holds
+called_holds b d (put_message kind flags seq port v) r holds e =
+    message_holds b _ d (record { kind = kind; flags = flags; seq = seq; port = port; body = v }) (body_written (order_of b) v) (not_refused b _ _ e) refl r.5 (r.0, r.1, r.2, r.3, r.4, tt) refl holds
 
 -- there was no refusal before these calls
-before : (b : Built) (cs : List Call) → (run b cs).refusal ≡ None → b.refusal ≡ None
+pub before : (b : Built) (cs : List Call) → (run b cs).refusal ≡ None → b.refusal ≡ None
 before b cs e = at b.refusal refl where
   at : (r : Option BuildError) → b.refusal ≡ r → b.refusal ≡ None
   at None g = g
   at (Some x) g = let z = sym (ap (λ (y : Built). y.refusal) (sticks b cs x g)) ∙ e in z
 
-pub runs_hold : (b : Built) (d : Draft) (cs : List Call) → AllByRecursion IsCall cs → Holds b d → (run b cs).refusal ≡ None → Holds (run b cs) (put_by_all d cs)
-runs_hold b d [] r h e = h
-runs_hold b d (c ∷ cs) r h e = runs_hold (called b c) (put_by d c) cs r.1 (called_holds b d c r.0 h (before (called b c) cs e)) e
+pub runs_hold : (b : Built) (d : Draft) (L : Bounds) (cs : List Call) → AllByRecursion IsCall cs → Holds L b d → (run b cs).refusal ≡ None → Holds L (run b cs) (put_by_all d cs)
+runs_hold b d L [] r h e = h
+runs_hold b d L (c ∷ cs) r h e = runs_hold (called b c) (put_by d c) L cs r.1 (called_holds b d c r.0 h (before (called b c) cs e)) e

@@ -68,7 +68,7 @@ unfolding route_type
 form_of-kind_for (form.Object g) = ap (form_for (type_of g New)) (is_family g).new
 form_of-kind_for f = refl
 
-same_form : (f g : Form) → (f ≢ g → ⊥) → f ≡ g
+pub same_form : (f g : Form) → (f ≢ g → ⊥) → f ≡ g
 same_form f g h = elim (cases_eq (kind_for f) (kind_for g)) [
   | inl e ↦ sym (form_of-kind_for f) ∙ ap form_of e ∙ form_of-kind_for g
   | inr ne ↦ absurd (h (λ e. ne (ap kind_for e)))
@@ -93,7 +93,7 @@ front_written o fs n tail e r =
 
 -- ---- bodies
 
-body_writes : (S : Shape) (c : BodyVal) (f : Form) → IsRangedBody c → (IsMismatchedBody c f → ⊥) → (IsDeepBody c S.depth → ⊥) → (IsLongBody c → ⊥) → BodyOf S c f (body_written S.order c)
+pub body_writes : (S : Shape) (c : BodyVal) (f : Form) → IsRangedBody c → (IsMismatchedBody c f → ⊥) → (IsDeepBody c S.depth → ⊥) → (IsLongBody c → ⊥) → BodyOf S c f (body_written S.order c)
 body_writes S (error z h tail) f r m d s =
     let front = front_written S.order (signed z ∷ header_fields h) 20 tail refl r in
     (same_form f form.Error m, front.long, front.are, front.rest)

@@ -1,8 +1,8 @@
 -- What a builder of datagrams has built, and what each call makes of it.
-use Rattle.std.specs.Prelude.{◌+◌, ◌-◌, ◌≤◌, ℕ, ℤ, Bool, false, nat_lt, if◌then◌else◌, List, [], ◌∷◌, ◌++◌, length, drop, Option, Some, None, Result, Ok, Err}
+use Rattle.std.specs.Prelude.{◌+◌, ◌-◌, ◌≤◌, ℕ, ℤ, Bool, true, false, nat_lt, if◌then◌else◌, List, [], ◌∷◌, ◌++◌, length, drop, Option, Some, None, Result, Ok, Err}
 use Rattle.std.specs.Int.{w32, cast_unsigned}
 use Rattle.std.specs.List.{splice}
-use Rattle.nl_attr.specs.Fixed.{NUMBERS, LONGEST_ITEM, LONGEST_CONTAINER}
+use Rattle.nl_attr.specs.Fixed.{NUMBERS, LONGEST_ITEM, LONGEST_CONTAINER, LONGEST_REGION}
 use Rattle.nl_attr.specs.declared.order.Order.{Order}
 use Rattle.nl_attr.specs.declared.tree.AttrFlags.{AttrFlags}
 use Rattle.nl_attr.specs.declared.tree.Ctx.TheVariants.{Route}
@@ -22,7 +22,7 @@ use Rattle.nl_frame.specs.declared.form.Form.{Form}
 use Rattle.nl_frame.specs.declared.form.Form.TheVariants as form
 use Rattle.nl_frame.specs.declared.header.Header.{Header}
 use Rattle.nl_frame.specs.Header.{header_fields}
-use Rattle.nl_frame.specs.Form.{form_of}
+use Rattle.nl_frame.specs.Form.{form_of, least_body}
 use Rattle.nl_frame.specs.Limits.{Bounds}
 
 -- what is built
@@ -149,6 +149,20 @@ first_refusal b (h ∷ hs) has g = Some StillOpen
 abbrev pub begin_refusal : Built → List OpenHead → ℕ → Family → Option BuildError
 begin_refusal b hs kind g = first_refusal b hs (has_head (form_of kind) g) g
 
+-- so many bytes are no whole body of this form, or one that begins with a head of a family
+abbrev pub is_no_body : Form → ℕ → Bool
+is_no_body (form.Object g) n = true
+is_no_body f n = nat_lt n (least_body f)
+
+-- a message is put whose body is so many bytes, which are other than its type has or not
+abbrev pub body_refusal : Built → List OpenHead → Bool → ℕ → Option BuildError
+body_refusal b [] other n = if other then Some Mismatch else (if nat_lt LONGEST_REGION (16 + n) then Some TooLong else lacks b (aligned (16 + n)))
+body_refusal b (h ∷ hs) other n = Some StillOpen
+
+-- a message of this type is put, whose body is so many bytes
+abbrev pub message_refusal : Built → List OpenHead → ℕ → ℕ → Option BuildError
+message_refusal b hs kind n = body_refusal b hs (is_no_body (form_of kind) n) n
+
 -- the datagram is taken
 abbrev pub finish_refusal : List OpenHead → Option BuildError
 finish_refusal [] = None
@@ -212,6 +226,16 @@ abbrev pub begin : Built → ℕ → ℕ → ℕ → ℕ → AnyHead → Built
 begin b kind flags seq port head =
     settled b (or_next b.refusal (begin_refusal b b.heads kind (family_of head)))
     (opened b (content.List (context_of (family_of head))) (message_begun (order_of b) (header_begun kind flags seq port) head))
+
+-- the header of a message whose body is so many bytes
+abbrev pub header_whole : ℕ → ℕ → ℕ → ℕ → ℕ → Header
+header_whole kind flags seq port n = record { len = 16 + n; kind = kind; flags = flags; seq = seq; port = port }
+
+-- a message of these bytes
+abbrev pub put_message : Built → ℕ → ℕ → ℕ → ℕ → List ℕ → Built
+put_message b kind flags seq port bs =
+    settled b (or_next b.refusal (message_refusal b b.heads kind (length bs)))
+    (grown b (with_padding (fields.written (order_of b) (header_fields (header_whole kind flags seq port (length bs))) ++ bs)))
 
 -- the message ends
 abbrev pub end : Built → Built

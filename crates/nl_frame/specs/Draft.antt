@@ -17,8 +17,8 @@ use Rattle.nl_route.specs.Families.{AnyHead, context_of, family_of, fields_of}
 use Rattle.nl_frame.specs.declared.building.OpenHead.{OpenHead}
 use Rattle.nl_frame.specs.declared.form.Form.TheVariants as form
 use Rattle.nl_frame.specs.Form.{form_of}
-use Rattle.nl_frame.specs.Limits.{AreLimits}
-use Rattle.nl_frame.specs.Message.{object, MessageVal}
+use Rattle.nl_frame.specs.Limits.{Bounds, AreLimits}
+use Rattle.nl_frame.specs.Message.{BodyVal, object, MessageVal}
 use Rattle.nl_frame.specs.Written.{written}
 use Rattle.nl_frame.specs.Proper.{IsMismatched, IsDeep, HasLong, IsRanged}
 use Rattle.nl_frame.specs.Building.{Built, order_of, levels_in, attr_begun, hop_begun, header_begun, message_begun}
@@ -139,6 +139,10 @@ messages_in (x ∷ xs) = message_in x.head x.inside
 abbrev pub end : Draft → Draft
 end d = record { ended = d.ended ++ messages_in d.layers; layers = [] }
 
+-- a whole message is put
+abbrev pub put_message : Draft → ℕ → ℕ → ℕ → ℕ → BodyVal → Draft
+put_message d kind flags seq port v = record d { ended = d.ended ++ record { kind = kind; flags = flags; seq = seq; port = port; body = v } ∷ [] }
+
 -- ---- which bytes it stands for
 
 module _ (o : Order) where
@@ -194,8 +198,9 @@ abbrev pub AreLayers : ℕ → List Layer → Type 0
 AreLayers D [] = Unit {0}
 AreLayers D (x ∷ xs) = IsLayer D x xs × AreLayers D xs
 
--- what is built holds what was put, and all of it can be written
-pub record Holds (b : Built) (d : Draft) : Type 0 where
+-- what is built within the limits L holds what was put, and all of it can be written
+pub record Holds (L : Bounds) (b : Built) (d : Draft) : Type 0 where
+  pub bounds : b.bounds ≡ L
   pub front : b.front ≡ laid (order_of b) d.ended d.layers
   pub heads : b.heads ≡ heads_of (order_of b) d.ended d.layers
   pub layers : AreLayers b.bounds.shape.depth d.layers

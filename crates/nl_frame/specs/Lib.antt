@@ -39,3 +39,5 @@ pub mod Building
 pub mod AnyHeads
 pub mod Draft
 pub mod Calls
+pub mod Parts
+pub mod Copies

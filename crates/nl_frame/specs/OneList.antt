@@ -1,8 +1,10 @@
--- The one list of messages that the layout of a datagram gives, written back.
+-- The one list of messages that the layout of a datagram gives, written back; and the one body that bytes are.
 use Rattle.std.specs.Prelude.{◌≡◌, ◌≤◌, ℕ, List}
 use Rattle.nl_frame.specs.Limits.{Bounds}
-use Rattle.nl_frame.specs.Message.{MessageVal}
-use Rattle.nl_frame.specs.Layout.{Layout}
+use Rattle.nl_attr.specs.Shape.{Shape}
+use Rattle.nl_frame.specs.declared.form.Form.{Form}
+use Rattle.nl_frame.specs.Message.{BodyVal, MessageVal}
+use Rattle.nl_frame.specs.Layout.{BodyOf, Layout}
 use Rattle.nl_frame.specs.Written.{written, written_len}
 use Rattle.nl_frame.specs.Proper.{IsProper}
 
@@ -14,3 +16,8 @@ pub record IsTheList (b : Bounds) (bytes : List ℕ) (ms : List MessageVal) : Ty
   pub short : written_len ms ≤ b.datagram
   pub again : Layout b.shape ms (written b.shape.order ms)
   pub only_again : (ns : List MessageVal) → Layout b.shape ns (written b.shape.order ms) → ns ≡ ms
+
+-- this body is the one of the form that the bytes are
+pub record IsTheBody (S : Shape) (f : Form) (bytes : List ℕ) (v : BodyVal) : Type 0 where
+  pub is : BodyOf S v f bytes
+  pub only : (w : BodyVal) → BodyOf S w f bytes → w ≡ v

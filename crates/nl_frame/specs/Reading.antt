@@ -23,6 +23,15 @@ signed_of o bytes = cast_signed w32 (number_of o 4 bytes)
 abbrev pub done_at : Order → List ℕ → BodyVal
 done_at o payload = if nat_lt (length payload) 4 then done None payload else done (Some (signed_of o payload)) (drop 4 payload)
 
+-- the body in this payload, of a form that begins with no head of a family
+abbrev pub plain_body : Order → Form → List ℕ → BodyVal
+plain_body o form.Noop payload = noop payload
+plain_body o form.Error payload = error (signed_of o payload) (header_of o (drop 4 payload)) (drop 20 payload)
+plain_body o form.Done payload = done_at o payload
+plain_body o form.Overrun payload = overrun payload
+plain_body o form.Get payload = get (slice_index payload 0) (drop 1 payload)
+plain_body o f payload = other payload
+
 -- a header's message with this body
 abbrev pub message_of : Header → BodyVal → MessageVal
 message_of h body = record { kind = h.kind; flags = h.flags; seq = h.seq; port = h.port; body = body }
@@ -40,13 +49,8 @@ module _ (S : Shape) where
 
   -- the body in the payload at a place, when it is long enough for its form
   abbrev pub body_at : Form → ℕ → List ℕ → Outcome BodyVal
-  body_at form.Noop place payload = (Ok (noop payload), 0)
-  body_at form.Error place payload = (Ok (error (signed_of S.order payload) (header_of S.order (drop 4 payload)) (drop 20 payload)), 0)
-  body_at form.Done place payload = (Ok (done_at S.order payload), 0)
-  body_at form.Overrun place payload = (Ok (overrun payload), 0)
   body_at (form.Object g) place payload = object_body_at g place payload
-  body_at form.Get place payload = (Ok (get (slice_index payload 0) (drop 1 payload)), 0)
-  body_at form.Other place payload = (Ok (other payload), 0)
+  body_at f place payload = (Ok (plain_body S.order f payload), 0)
 
   -- the message at the front of what is left, when its head breaks no rule
   abbrev pub message_at : ℕ → List ℕ → Outcome MessageVal

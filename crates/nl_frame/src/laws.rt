@@ -1,6 +1,6 @@
 //! Laws over the definitions alone: each contract is a law, and each body is empty.
 
-ghost use Rattle.std.specs.Prelude.{◌≡◌, ◌≤◌, ◌+◌, ◌*◌, ◌↔◌, ℕ, List, length};
+ghost use Rattle.std.specs.Prelude.{◌≡◌, ◌≤◌, ◌+◌, ◌*◌, ◌↔◌, ◌++◌, ℕ, List, [], drop, length};
 ghost use Rattle.std.specs.Prelude.{All, Contains, map};
 ghost use Rattle.std.specs.List.Sorted.{IsStrictlyIncreasing};
 ghost use Rattle.nl_attr.specs.Fixed as fixed;
@@ -20,12 +20,13 @@ ghost use Rattle.nl_frame.specs.HeadOrder.{ComesUpTo, IsEnd, StandsIn, events_of
 ghost use Rattle.nl_frame.specs.Limits.{Bounds, AreLimits};
 ghost use Rattle.nl_frame.specs.OneList.{IsTheList};
 ghost use Rattle.nl_frame.specs.Written.{written, written_len};
-ghost use Rattle.nl_frame.specs.Building.{Built};
-ghost use Rattle.nl_frame.specs.Calls.{Call, IsCall, KeepsRoom, called, put_by_all, run};
+ghost use Rattle.nl_frame.specs.Building.{Built, nothing_built};
+ghost use Rattle.nl_frame.specs.Calls.{Call, IsCall, KeepsRoom, called, calls_of, put_by_all, run};
+ghost use Rattle.nl_frame.specs.Copies.{calls_of_events};
 ghost use Rattle.nl_frame.specs.Draft.{Draft, Holds};
 ghost use Rattle.nl_frame.specs.declared.building.refusal.BuildError.{BuildError};
 ghost use Rattle.std.specs.List.{AllByRecursion};
-ghost use Rattle.nl_frame.specs.Proper.{IsProper, IsRanged};
+ghost use Rattle.nl_frame.specs.Proper.{IsMismatched, IsProper, IsRanged};
 
 /// At most one list of messages is the layout of a datagram.
 #[tactic(auto, using(crate::proofs::Firsts::one_layout))]
@@ -127,8 +128,8 @@ pub fn layout_is_proper()
 /// What calls of a builder make together, whatever they are.
 pub fn calls_build()
     // Where none of them is refused, what is built holds what was put, in their order.
-    ensures puts { (b : Built) (d : Draft) (cs : List Call) → AllByRecursion IsCall cs
-        → Holds b d → (run b cs).refusal ≡ None → Holds (run b cs) (put_by_all d cs) }
+    ensures puts { (b : Built) (d : Draft) (L : Bounds) (cs : List Call) → AllByRecursion IsCall cs
+        → Holds L b d → (run b cs).refusal ≡ None → Holds L (run b cs) (put_by_all d cs) }
     // A refusal sticks: no call behind it changes anything.
     ensures sticks { (b : Built) (cs : List Call) (e : BuildError)
         → b.refusal ≡ Some e → run b cs ≡ b }
@@ -138,6 +139,40 @@ pub fn calls_build()
     // The limits stay those that it was made with.
     ensures limits { (b : Built) (cs : List Call) → (run b cs).bounds ≡ b.bounds }
     // No more than the slice is taken, and what is behind the accepted bytes stays as it was.
-    ensures room { (b : Built) (d : Draft) (cs : List Call) → AllByRecursion IsCall cs
-        → Holds b d → KeepsRoom b (run b cs) }
+    ensures room { (b : Built) (d : Draft) (L : Bounds) (cs : List Call) → AllByRecursion IsCall cs
+        → Holds L b d → KeepsRoom b (run b cs) }
+{}
+
+/// What the calls make that copy a datagram by the events of its tape.
+pub fn calls_of_tape()
+    // They are those that put the messages which are its layout.
+    ensures calls { (s : Shape) (d : List ℕ) (ms : List MessageVal) → Layout s ms d
+        → calls_of_events s.order d (events_of s (whole d)) ≡ calls_of ms }
+    // So what is built is the one writing of these messages, in as many bytes as the datagram has
+    // with its last padding.
+    ensures builds { (L : Bounds) (d free : List ℕ) (ms : List MessageVal) → AreLimits L
+        → AreBytes d → length d ≤ L.datagram → Layout L.shape ms d
+        → aligned (length d) ≤ length free
+        → run (nothing_built L free)
+        (calls_of_events L.shape.order d (events_of L.shape (whole d)))
+        ≡ record (nothing_built L free) {
+          front = written L.shape.order ms;
+          free = drop (aligned (length d)) free;
+        } }
+{}
+
+/// What the calls that put messages make, one message after another.
+pub fn calls_of_messages()
+    // They put these messages, where no head is open.
+    ensures puts { (d : Draft) (ms : List MessageVal) → d.layers ≡ [] → (IsMismatched ms → ⊥)
+        → put_by_all d (calls_of ms) ≡ record d { ended = d.ended ++ ms } }
+    // Where these can be written, within the limits and the slice, no call is refused: what is
+    // built is the bytes that they are written as, and the slice behind them is as it was.
+    ensures builds { (L : Bounds) (free : List ℕ) (ms : List MessageVal) → AreLimits L
+        → IsProper ms L.shape.depth → IsRanged ms → written_len ms ≤ L.datagram
+        → written_len ms ≤ length free → run (nothing_built L free) (calls_of ms)
+        ≡ record (nothing_built L free) {
+          front = written L.shape.order ms;
+          free = drop (written_len ms) free;
+        } }
 {}

@@ -1,10 +1,11 @@
 //! The head of a message's body, whatever its family.
 
-ghost use Rattle.std.specs.Prelude.{◌≡◌};
+ghost use Rattle.std.specs.Prelude.{◌≡◌, ◌≤◌, length, take};
 ghost use Rattle.nl_frame.specs.AnyHeads.{any_head};
-ghost use Rattle.nl_route.specs.Families.{family_of};
+ghost use Rattle.nl_route.specs.Families.{family_of, head_of, head_size};
 
-use nl_route::{AddrHead, Family, LinkHead, NeighHead, RouteHead, RuleHead};
+use nl_attr::Order;
+use nl_route::{AddrHead, Family, Head, LinkHead, NeighHead, RouteHead, RuleHead};
 
 /// The head of a message's body, of any family.
 #[derive(Clone, Copy, Debug, PartialEq, Eq, Hash)]
@@ -17,6 +18,21 @@ pub enum FamilyHead {
 }
 
 impl FamilyHead {
+    /// The head of this family at the front of a body, which has at least its bytes, numbers in this
+    /// order.
+    pub fn read(family: Family, bytes: &[u8], order: Order) -> FamilyHead
+        requires { head_size family ≤ length bytes.now }
+        ensures { any_head result ≡ head_of order family (take (head_size family) bytes.now) }
+    {
+        match family {
+            Family::Link => FamilyHead::Link(LinkHead::read_front(bytes, order)),
+            Family::Addr => FamilyHead::Addr(AddrHead::read_front(bytes, order)),
+            Family::Route => FamilyHead::Route(RouteHead::read_front(bytes, order)),
+            Family::Neigh => FamilyHead::Neigh(NeighHead::read_front(bytes, order)),
+            Family::Rule => FamilyHead::Rule(RuleHead::read_front(bytes, order)),
+        }
+    }
+
     /// Its family.
     pub fn family(&self) -> Family
         ensures { result ≡ family_of (any_head self.now) }

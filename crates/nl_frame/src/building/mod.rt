@@ -1,54 +1,46 @@
 //! A builder of datagrams over a slice, which takes no memory.
 
 ghost use Rattle.std.specs.Prelude.{◌≡◌, ◌≤◌, ◌<◌, ◌+◌, ◌-◌, ◌∷◌, ◌++◌, length, [], Ok, Err};
-ghost use Rattle.std.specs.Prelude.{Some, None, IsOk, IfOk, OnOk, IfSome, MatchOption};
-ghost use Rattle.nl_attr.specs.Fixed as fixed;
-ghost use Rattle.nl_attr.specs.Numbers.{aligned, num};
-ghost use Rattle.nl_attr.specs.Written.{attr_item, with_padding};
+ghost use Rattle.std.specs.Prelude.{Some, IsOk, IfOk, OnOk, MatchOption};
+ghost use Rattle.nl_attr.specs.Numbers.{num};
+ghost use Rattle.nl_attr.specs.Shape.{Shape};
 ghost use Rattle.nl_attr.specs.declared.tree.Content.TheVariants as content;
-ghost use Rattle.nl_route.specs.Families.{family_of, fields_of, head_size};
-ghost use Rattle.nl_route.specs.Fields as fields;
 ghost use Rattle.nl_frame.specs.AnyHeads.{any_head};
-ghost use Rattle.nl_frame.specs.Building.{answer, begin, begin_refusal, bytes_refusal, close};
-ghost use Rattle.nl_frame.specs.Building.{close_refusal, end, end_refusal, finish};
-ghost use Rattle.nl_frame.specs.Building.{grown, head_ended, held, hop_refusal, lacks};
-ghost use Rattle.nl_frame.specs.Building.{length_from, levels_in, nothing_built};
-ghost use Rattle.nl_frame.specs.Building.{open_attr, open_hop, open_refusal, opened, or_next};
-ghost use Rattle.nl_frame.specs.Building.{order_of, put, settled, top};
+ghost use Rattle.nl_frame.specs.Building.{answer, begin, close};
+ghost use Rattle.nl_frame.specs.Building.{end, finish};
+ghost use Rattle.nl_frame.specs.Building.{levels_in, nothing_built};
+ghost use Rattle.nl_frame.specs.Building.{open_attr, open_hop, opened, order_of};
+ghost use Rattle.nl_frame.specs.Building.{put, put_message};
 ghost use Rattle.nl_frame.specs.Draft.{Draft, Holds, attribute, message, next_hop};
 ghost use Rattle.nl_frame.specs.Draft as draft;
-ghost use Rattle.nl_frame.specs.Limits.{AreLimits};
-ghost use Rattle.nl_frame.specs.OneList.{IsTheList};
+ghost use Rattle.nl_frame.specs.Limits.{Bounds};
+ghost use Rattle.nl_frame.specs.Form.{form_of};
+ghost use Rattle.nl_frame.specs.Message.{BodyVal};
+ghost use Rattle.nl_frame.specs.OneList.{IsTheBody, IsTheList};
 ghost use Rattle.nl_frame.specs.Written.{written};
 
+mod copying;
 mod head;
+mod parts;
 mod refusal;
 mod slices;
+mod standing;
 
-use crate::building::slices::put_at;
-use crate::form::Form;
-use crate::header::Header;
 use crate::limits::Limits;
-use arrayvec::ArrayVec;
 pub use head::FamilyHead;
-use nl_attr::{
-    AttrFlags, Content, Ctx, LONGEST_CONTAINER, LONGEST_ITEM, NUMBERS, Order, align4, attr_head,
-    holds, hop_head,
-};
-use nl_route::{Family, match_object};
+use nl_attr::{AttrFlags, Content, Order};
+pub use parts::BuilderParts;
 pub use refusal::BuildError;
+pub use standing::NoBuilder;
 use std::marker::Model;
-
-/// How many heads may be open: that of the message, and one for each level.
-const MOST_OPEN: usize = 33;
 
 /// A head whose length isn't set yet.
 #[derive(Clone, Copy, Drop)]
-struct OpenHead {
+pub struct OpenHead {
     /// The place of its first byte.
-    start: usize,
+    pub start: u32,
     /// What stands behind it: attributes or next hops.
-    content: Content,
+    pub content: Content,
 }
 
 /// The blank that an empty place of a stack holds.
@@ -75,31 +67,20 @@ impl Default for OpenHead {
 /// accepted, and none needs more room than the slice has.
 #[derive(Drop)]
 pub struct Builder<'a> {
-    limits: Limits,
     out: &'a mut [u8],
-    /// How many bytes are accepted.
-    len: usize,
-    /// The heads whose length isn't set yet, the innermost last.
-    heads: ArrayVec<OpenHead, MOST_OPEN>,
-    refusal: Option<BuildError>,
+    parts: BuilderParts,
 }
 
 impl<'a> Model for Builder<'a> {
-    ghost use Rattle.std.specs.Prelude.{◌≤◌, take, drop, length, reverse};
-    ghost use Rattle.nl_frame.specs.Building.{AreOpen, Built};
+    ghost use Rattle.std.specs.Prelude.{◌≤◌, length};
+    ghost use Rattle.nl_frame.specs.Building.{Built};
+    ghost use Rattle.nl_frame.specs.Parts.{over};
 
     ghost Value = { Built };
 
-    ghost view = { λ b. record {
-      bounds = b.limits;
-      front = take b.len b.out.now;
-      free = drop b.len b.out.now;
-      heads = reverse b.heads.items;
-      refusal = b.refusal;
-    } };
+    ghost view = { λ b. over b.parts b.out.now };
 
-    ghost invariant = { λ b. (b.len ≤ length b.out.now) × (b.len ≤ b.limits.datagram)
-        × AreOpen b.limits.shape.depth b.len (reverse b.heads.items) };
+    ghost invariant = { λ b. b.parts.len ≤ length b.out.now };
 }
 
 impl<'a> Builder<'a> {
@@ -108,143 +89,29 @@ impl<'a> Builder<'a> {
     /// datagram.
     pub fn new(out: &'a mut [u8], limits: &Limits) -> Builder<'a>
         ensures built { result ≡ nothing_built limits.now out.old }
-        ensures puts { Holds result draft.nothing_put }
+        ensures puts { Holds limits.now result draft.nothing_put }
     {
-        let _limits = limits.datagram();
         Builder {
-            limits: *limits,
             out,
-            len: 0,
-            heads: ArrayVec::new(),
-            refusal: None,
+            parts: BuilderParts::new(limits),
         }
     }
 
-    /// How many bytes are accepted.
-    fn len(&self) -> usize
-        ensures value { result ≡ length self.now.front }
-        ensures limit { result ≤ self.now.bounds.datagram }
-        ensures limits { AreLimits self.now.bounds }
+    /// The order of the datagram's numbers, that of its limits.
+    pub fn order(&self) -> Order
+        ensures { result ≡ order_of self.now }
     {
-        let _limit = self.limits.datagram();
-        self.len
+        self.parts.limits.order()
     }
 
-    /// Why so many bytes have no room, if they haven't.
-    fn lacks(&self, len: usize) -> Option<BuildError>
-        requires { len ≤ fixed.LONGEST_REGION }
-        ensures { result ≡ lacks self.now len }
+    /// What each call answers.
+    fn answer(&self) -> Result<(), BuildError>
+        ensures { result ≡ answer self.now.refusal }
     {
-        if self.out.len() - self.len < len {
-            return Some(BuildError::NoRoom);
+        match self.parts.refusal {
+            None => Ok(()),
+            Some(refusal) => Err(refusal),
         }
-        if self.len + len > self.limits.datagram() as usize {
-            return Some(BuildError::TooLarge);
-        }
-        None
-    }
-
-    /// The innermost head.
-    fn top(&self) -> Option<OpenHead>
-        ensures value { result ≡ top self.now.heads }
-        ensures inside { IfSome result (λ h. h.start + 4 ≤ length self.now.front) }
-        ensures level { IfSome result (λ h. length self.now.heads + levels_in h.content
-            ≤ self.now.bounds.shape.depth + 1) }
-    {
-        self.heads.as_slice().last().copied()
-    }
-
-    /// What an attribute holds behind the innermost head, or why none stands there.
-    fn held(&self, number: u16, flags: AttrFlags) -> Result<Content, BuildError>
-        ensures { result ≡ held (top self.now.heads) number flags }
-    {
-        match self.top() {
-            None => Err(BuildError::NothingOpen),
-            Some(head) => match head.content {
-                Content::List(ctx) if number < NUMBERS => Ok(holds(ctx, number, flags)),
-                Content::List(_) | Content::Hops | Content::Bytes => Err(BuildError::Mismatch),
-            },
-        }
-    }
-
-    /// Accepts bytes for which there is room.
-    fn accept(&mut self, bytes: &[u8])
-        requires lacks { lacks self.old (length bytes.now) ≡ None }
-        ensures { self.new ≡ grown self.old bytes.now }
-    {
-        let out = &mut *self.out;
-        put_at(out, self.len, bytes);
-        self.len += bytes.len();
-    }
-
-    /// Keeps a refusal, and answers it.
-    fn refuse(&mut self, refusal: BuildError) -> Result<(), BuildError>
-        ensures kept { self.new ≡ settled self.old (Some refusal) self.old }
-        ensures answer { result ≡ Err refusal }
-    {
-        self.refusal = Some(refusal);
-        Err(refusal)
-    }
-
-    /// Opens a head, for which there is room, behind which this stands.
-    fn open_head(&mut self, content: Content, head: &[u8])
-        requires lacks { lacks self.old (length head.now) ≡ None }
-        requires least { 4 ≤ length head.now }
-        requires level { length self.old.heads + levels_in content ≤ self.old.bounds.shape.depth }
-        ensures { self.new ≡ opened self.old content head.now }
-    {
-        let start = self.len();
-        self.accept(head);
-        self.heads.push(OpenHead { start, content });
-    }
-
-    /// Sets the length of the innermost head, in these bytes, and closes it.
-    fn end_head(&mut self, field: &[u8])
-        requires { length field.now ≤ 4 }
-        ensures { self.new ≡ head_ended self.old self.old.heads field.now }
-    {
-        if let Some(head) = self.top() {
-            let out = &mut *self.out;
-            put_at(out, head.start, field);
-            let _head = self.heads.pop();
-        }
-    }
-
-    /// Why so many bytes are not put for this attribute, if they aren't.
-    fn bytes_refusal(&self, number: u16, flags: AttrFlags, len: usize) -> Option<BuildError>
-        ensures { result ≡ or_next self.now.refusal
-            (bytes_refusal self.now (held (top self.now.heads) number flags) len) }
-    {
-        if self.refusal.is_some() {
-            return self.refusal;
-        }
-        match self.held(number, flags) {
-            Err(refusal) => Some(refusal),
-            Ok(Content::Bytes) => {
-                if len > LONGEST_ITEM - 4 {
-                    return Some(BuildError::TooLong);
-                }
-                self.lacks(align4(4 + len as u32) as usize)
-            }
-            Ok(_) => Some(BuildError::Mismatch),
-        }
-    }
-
-    /// Accepts an attribute of these bytes, in two parts, for which there is room.
-    fn accept_attr(&mut self, number: u16, flags: AttrFlags, bytes: &[u8], tail: &[u8])
-        requires number { number < fixed.NUMBERS }
-        requires short { 4 + (length bytes.now + length tail.now) ≤ fixed.LONGEST_ITEM }
-        requires lacks { lacks self.old (aligned (4 + (length bytes.now + length tail.now)))
-            ≡ None }
-        ensures { self.new ≡ grown self.old (with_padding
-            (attr_item (order_of self.old) number flags (bytes.now ++ tail.now))) }
-    {
-        let len = 4 + (bytes.len() + tail.len()) as u32;
-        let head = attr_head(len as u16, number, flags, self.limits.order());
-        self.accept(&head);
-        self.accept(bytes);
-        self.accept(tail);
-        self.accept(&[0; 3][..(align4(len) - len) as usize]);
     }
 
     /// Puts an attribute of these bytes, in two parts.
@@ -258,14 +125,11 @@ impl<'a> Builder<'a> {
         requires { length tail.now ≤ 1 }
         ensures built { self.new ≡ put self.old number flags (bytes.now ++ tail.now) }
         ensures answer { result ≡ answer self.new.refusal }
-        ensures puts { OnOk result ((d : Draft) → Holds self.old d
-            → Holds self.new (draft.put d number flags (bytes.now ++ tail.now))) }
+        ensures puts { OnOk result ((d : Draft) (L : Bounds) → Holds L self.old d
+            → Holds L self.new (draft.put d number flags (bytes.now ++ tail.now))) }
     {
-        if let Some(refusal) = self.bytes_refusal(number, flags, bytes.len() + tail.len()) {
-            return self.refuse(refusal);
-        }
-        self.accept_attr(number, flags, bytes, tail);
-        Ok(())
+        let out = &mut *self.out;
+        self.parts.put_parts(out, number, flags, bytes, tail)
     }
 
     /// Puts an attribute that holds these bytes, with zeros behind it up to a multiple of four.
@@ -282,8 +146,8 @@ impl<'a> Builder<'a> {
     ) -> Result<(), BuildError>
         ensures built { self.new ≡ put self.old number flags bytes.now }
         ensures answer { result ≡ answer self.new.refusal }
-        ensures puts { OnOk result ((d : Draft) → Holds self.old d
-            → Holds self.new (draft.put d number flags bytes.now)) }
+        ensures puts { OnOk result ((d : Draft) (L : Bounds) → Holds L self.old d
+            → Holds L self.new (draft.put d number flags bytes.now)) }
     {
         self.put_parts(number, flags, bytes, &[])
     }
@@ -293,8 +157,8 @@ impl<'a> Builder<'a> {
     pub fn put_text(&mut self, number: u16, flags: AttrFlags, text: &[u8]) -> Result<(), BuildError>
         ensures built { self.new ≡ put self.old number flags (text.now ++ 0 ∷ []) }
         ensures answer { result ≡ answer self.new.refusal }
-        ensures puts { OnOk result ((d : Draft) → Holds self.old d
-            → Holds self.new (draft.put d number flags (text.now ++ 0 ∷ []))) }
+        ensures puts { OnOk result ((d : Draft) (L : Bounds) → Holds L self.old d
+            → Holds L self.new (draft.put d number flags (text.now ++ 0 ∷ []))) }
     {
         self.put_parts(number, flags, text, &[0])
     }
@@ -303,8 +167,8 @@ impl<'a> Builder<'a> {
     pub fn put_u8(&mut self, number: u16, flags: AttrFlags, value: u8) -> Result<(), BuildError>
         ensures built { self.new ≡ put self.old number flags (value ∷ []) }
         ensures answer { result ≡ answer self.new.refusal }
-        ensures puts { OnOk result ((d : Draft) → Holds self.old d
-            → Holds self.new (draft.put d number flags (value ∷ []))) }
+        ensures puts { OnOk result ((d : Draft) (L : Bounds) → Holds L self.old d
+            → Holds L self.new (draft.put d number flags (value ∷ []))) }
     {
         self.put_bytes(number, flags, &[value])
     }
@@ -320,8 +184,8 @@ impl<'a> Builder<'a> {
     ) -> Result<(), BuildError>
         ensures built { self.new ≡ put self.old number flags (num value 2 order) }
         ensures answer { result ≡ answer self.new.refusal }
-        ensures puts { OnOk result ((d : Draft) → Holds self.old d
-            → Holds self.new (draft.put d number flags (num value 2 order))) }
+        ensures puts { OnOk result ((d : Draft) (L : Bounds) → Holds L self.old d
+            → Holds L self.new (draft.put d number flags (num value 2 order))) }
     {
         self.put_bytes(number, flags, &order.u16_bytes(value))
     }
@@ -337,8 +201,8 @@ impl<'a> Builder<'a> {
     ) -> Result<(), BuildError>
         ensures built { self.new ≡ put self.old number flags (num value 4 order) }
         ensures answer { result ≡ answer self.new.refusal }
-        ensures puts { OnOk result ((d : Draft) → Holds self.old d
-            → Holds self.new (draft.put d number flags (num value 4 order))) }
+        ensures puts { OnOk result ((d : Draft) (L : Bounds) → Holds L self.old d
+            → Holds L self.new (draft.put d number flags (num value 4 order))) }
     {
         self.put_bytes(number, flags, &order.u32_bytes(value))
     }
@@ -354,29 +218,10 @@ impl<'a> Builder<'a> {
     ) -> Result<(), BuildError>
         ensures built { self.new ≡ put self.old number flags (num value 8 order) }
         ensures answer { result ≡ answer self.new.refusal }
-        ensures puts { OnOk result ((d : Draft) → Holds self.old d
-            → Holds self.new (draft.put d number flags (num value 8 order))) }
+        ensures puts { OnOk result ((d : Draft) (L : Bounds) → Holds L self.old d
+            → Holds L self.new (draft.put d number flags (num value 8 order))) }
     {
         self.put_bytes(number, flags, &order.u64_bytes(value))
-    }
-
-    /// Why no attribute opens that holds this, if none does.
-    fn open_refusal(&self, held: Result<Content, BuildError>) -> Option<BuildError>
-        ensures { result ≡ or_next self.now.refusal (open_refusal self.now held) }
-    {
-        if self.refusal.is_some() {
-            return self.refusal;
-        }
-        match held {
-            Err(refusal) => Some(refusal),
-            Ok(Content::Bytes) => Some(BuildError::Mismatch),
-            Ok(content) => {
-                if self.heads.len() + levels(content) > self.limits.depth().get() as usize {
-                    return Some(BuildError::TooDeep);
-                }
-                self.lacks(4)
-            }
-        }
     }
 
     /// Opens an attribute that holds attributes or next hops, as its context, number and flags say.
@@ -387,34 +232,11 @@ impl<'a> Builder<'a> {
     pub fn open_attr(&mut self, number: u16, flags: AttrFlags) -> Result<(), BuildError>
         ensures built { self.new ≡ open_attr self.old number flags }
         ensures answer { result ≡ answer self.new.refusal }
-        ensures puts { OnOk result ((d : Draft) → Holds self.old d
-            → Holds self.new (draft.open_head d (attribute number flags))) }
+        ensures puts { OnOk result ((d : Draft) (L : Bounds) → Holds L self.old d
+            → Holds L self.new (draft.open_head d (attribute number flags))) }
     {
-        let held = self.held(number, flags);
-        if let Some(refusal) = self.open_refusal(held) {
-            return self.refuse(refusal);
-        }
-        if let Ok(content) = held {
-            let head = attr_head(0, number, flags, self.limits.order());
-            self.open_head(content, &head);
-        }
-        Ok(())
-    }
-
-    /// Why no next hop opens, if none does.
-    fn hop_refusal(&self) -> Option<BuildError>
-        ensures { result ≡ or_next self.now.refusal (hop_refusal self.now (top self.now.heads)) }
-    {
-        if self.refusal.is_some() {
-            return self.refusal;
-        }
-        match self.top() {
-            None => Some(BuildError::NothingOpen),
-            Some(head) => match head.content {
-                Content::Hops => self.lacks(8),
-                Content::List(_) | Content::Bytes => Some(BuildError::Mismatch),
-            },
-        }
+        let out = &mut *self.out;
+        self.parts.open_attr(out, number, flags)
     }
 
     /// Opens a next hop: its flags, its hops (the weight less one), and the index of its interface.
@@ -425,42 +247,11 @@ impl<'a> Builder<'a> {
     pub fn open_hop(&mut self, flags: u8, hops: u8, ifindex: i32) -> Result<(), BuildError>
         ensures built { self.new ≡ open_hop self.old flags hops ifindex }
         ensures answer { result ≡ answer self.new.refusal }
-        ensures puts { OnOk result ((d : Draft) → Holds self.old d
-            → Holds self.new (draft.open_head d (next_hop flags hops ifindex))) }
+        ensures puts { OnOk result ((d : Draft) (L : Bounds) → Holds L self.old d
+            → Holds L self.new (draft.open_head d (next_hop flags hops ifindex))) }
     {
-        if let Some(refusal) = self.hop_refusal() {
-            return self.refuse(refusal);
-        }
-        let head = hop_head(0, flags, hops, ifindex, self.limits.order());
-        self.open_head(Content::List(Ctx::Route), &head);
-        Ok(())
-    }
-
-    /// How many bytes there are from the innermost head on.
-    fn length_from(&self) -> usize
-        ensures value { result ≡ length_from self.now self.now.heads }
-        ensures limit { result ≤ fixed.LONGEST_REGION }
-    {
-        match self.top() {
-            None => 0,
-            Some(head) => self.len() - head.start,
-        }
-    }
-
-    /// Why the innermost attribute or next hop isn't closed, if it isn't.
-    fn close_refusal(&self) -> Option<BuildError>
-        ensures { result ≡ or_next self.now.refusal (close_refusal self.now) }
-    {
-        if self.refusal.is_some() {
-            return self.refusal;
-        }
-        if self.heads.len() < 2 {
-            return Some(BuildError::NothingOpen);
-        }
-        if self.length_from() > LONGEST_CONTAINER {
-            return Some(BuildError::TooLong);
-        }
-        None
+        let out = &mut *self.out;
+        self.parts.open_hop(out, flags, hops, ifindex)
     }
 
     /// Closes the innermost attribute or next hop: its length is set. It needs no room.
@@ -470,47 +261,11 @@ impl<'a> Builder<'a> {
     pub fn close(&mut self) -> Result<(), BuildError>
         ensures built { self.new ≡ close self.old }
         ensures answer { result ≡ answer self.new.refusal }
-        ensures puts { OnOk result ((d : Draft) → Holds self.old d
-            → Holds self.new (draft.close d)) }
+        ensures puts { OnOk result ((d : Draft) (L : Bounds) → Holds L self.old d
+            → Holds L self.new (draft.close d)) }
     {
-        if let Some(refusal) = self.close_refusal() {
-            return self.refuse(refusal);
-        }
-        let field = self.limits.order().u16_bytes(self.length_from() as u16);
-        self.end_head(&field);
-        Ok(())
-    }
-
-    /// Why no message of this type begins with a head of this family, if none does.
-    fn begin_refusal(&self, kind: u16, family: Family) -> Option<BuildError>
-        ensures { result ≡ or_next self.now.refusal
-            (begin_refusal self.now self.now.heads kind family) }
-    {
-        if self.refusal.is_some() {
-            return self.refusal;
-        }
-        if !self.heads.is_empty() {
-            return Some(BuildError::StillOpen);
-        }
-        let size = family.row().head_size;
-        match Form::of(kind) {
-            Form::Object(form) if form.row().new_type == family.row().new_type => {
-                self.lacks(16 + size)
-            }
-            _ => Some(BuildError::Mismatch),
-        }
-    }
-
-    /// Accepts a family's head, for which there is room.
-    fn accept_head(&mut self, head: &FamilyHead)
-        requires { lacks self.old (head_size (family_of (any_head head.now))) ≡ None }
-        ensures built { self.new ≡ grown self.old
-            (fields.written (order_of self.old) (fields_of (any_head head.now))) }
-        // What a head of the program holds is in the range of its fields.
-        ensures ranged { fields.AreRanged (fields_of (any_head head.now)) }
-    {
-        let order = self.limits.order();
-        match_object!(head, FamilyHead, head => self.accept(&head.write_ordered(order)), {})
+        let out = &mut *self.out;
+        self.parts.close(out)
     }
 
     /// Begins a message: its type, flags, sequence number and port id, and the head of its body.
@@ -527,38 +282,12 @@ impl<'a> Builder<'a> {
     ) -> Result<(), BuildError>
         ensures built { self.new ≡ begin self.old kind flags seq port (any_head head.now) }
         ensures answer { result ≡ answer self.new.refusal }
-        ensures puts { OnOk result ((d : Draft) → Holds self.old d
-            → Holds self.new (draft.open_head d (message kind flags seq port (any_head head.now)))) }
+        ensures puts { OnOk result ((d : Draft) (L : Bounds) → Holds L self.old d
+            → Holds L self.new
+            (draft.open_head d (message kind flags seq port (any_head head.now)))) }
     {
-        let family = head.family();
-        if let Some(refusal) = self.begin_refusal(kind, family) {
-            return self.refuse(refusal);
-        }
-        let header = Header {
-            len: 0,
-            kind,
-            flags,
-            seq,
-            port,
-        };
-        let front = header.bytes(self.limits.order());
-        self.open_head(Content::List(family.row().context), &front);
-        self.accept_head(head);
-        Ok(())
-    }
-
-    /// Why the message doesn't end, if it doesn't.
-    fn end_refusal(&self) -> Option<BuildError>
-        ensures { result ≡ or_next self.now.refusal (end_refusal self.now.heads) }
-    {
-        if self.refusal.is_some() {
-            return self.refusal;
-        }
-        match self.heads.len() {
-            0 => Some(BuildError::NothingOpen),
-            1 => None,
-            _ => Some(BuildError::StillOpen),
-        }
+        let out = &mut *self.out;
+        self.parts.begin(out, kind, flags, seq, port, head)
     }
 
     /// Ends the message: its length is set. It needs no room.
@@ -568,15 +297,41 @@ impl<'a> Builder<'a> {
     pub fn end(&mut self) -> Result<(), BuildError>
         ensures built { self.new ≡ end self.old }
         ensures answer { result ≡ answer self.new.refusal }
-        ensures puts { OnOk result ((d : Draft) → Holds self.old d
-            → Holds self.new (draft.end d)) }
+        ensures puts { OnOk result ((d : Draft) (L : Bounds) → Holds L self.old d
+            → Holds L self.new (draft.end d)) }
     {
-        if let Some(refusal) = self.end_refusal() {
-            return self.refuse(refusal);
-        }
-        let field = self.limits.order().u32_bytes(self.length_from() as u32);
-        self.end_head(&field);
-        Ok(())
+        let out = &mut *self.out;
+        self.parts.end(out)
+    }
+
+    /// Puts a whole message whose body is these bytes, with zeros behind it up to a multiple of
+    /// four: one of no family, as NOOP, ERROR, DONE and OVERRUN of netlink(7), one of a type that
+    /// this crate knows nothing of, or a GET of rtnetlink(7).
+    ///
+    /// It refuses, in this order, behind an earlier refusal: `StillOpen` where a message is open;
+    /// `Mismatch` for NEW, DEL or SET of a family, which `begin` begins, and where the body is
+    /// shorter than its type says (ERROR 20 bytes, GET 1); `TooLong` for a message of more than
+    /// 1,048,576 bytes; `NoRoom`; `TooLarge`.
+    pub fn message(
+        &mut self,
+        kind: u16,
+        flags: u16,
+        seq: u32,
+        port: u32,
+        body: &[u8],
+    ) -> Result<(), BuildError>
+        ensures built { self.new ≡ put_message self.old kind flags seq port body.now }
+        ensures answer { result ≡ answer self.new.refusal }
+        // The bytes are one body of the type,
+        ensures body { OnOk result ((s : Shape) → (v : BodyVal)
+            × IsTheBody s (form_of kind) body.now v) }
+        // and a message with it is put.
+        ensures puts { OnOk result ((d : Draft) (L : Bounds) (v : BodyVal)
+            → IsTheBody L.shape (form_of kind) body.now v → Holds L self.old d
+            → Holds L self.new (draft.put_message d kind flags seq port v)) }
+    {
+        let out = &mut *self.out;
+        self.parts.message(out, kind, flags, seq, port, body)
     }
 
     /// The datagram: the front of the slice, as far as it is accepted. Or the first refusal, and
@@ -585,24 +340,14 @@ impl<'a> Builder<'a> {
         ensures refused { MatchOption (finish self.entry) (IsOk result) (λ e. result ≡ Err e) }
         ensures bytes { IfOk result (λ bytes. bytes.now ≡ self.entry.front) }
         // They are the messages that were put, and are read as these alone.
-        ensures puts { (d : Draft) → Holds self.entry d → IfOk result (λ bytes.
-            (bytes.now ≡ written (order_of self.entry) d.ended)
-            × IsTheList self.entry.bounds bytes.now d.ended) }
+        ensures puts { (d : Draft) (L : Bounds) → Holds L self.entry d → IfOk result (λ bytes.
+            (bytes.now ≡ written L.shape.order d.ended) × IsTheList L bytes.now d.ended) }
     {
-        let Builder {
-            out,
-            len,
-            heads,
-            refusal,
-            ..
-        } = self;
-        if let Some(refusal) = refusal {
+        let Builder { out, parts } = self;
+        if let Some(refusal) = parts.finish_refusal() {
             return Err(refusal);
         }
-        if !heads.is_empty() {
-            return Err(BuildError::StillOpen);
-        }
-        Ok(&out[..len])
+        Ok(&out[..parts.accepted()])
     }
 }
 

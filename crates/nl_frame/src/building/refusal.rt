@@ -9,14 +9,14 @@ use thiserror::Error;
 pub enum BuildError {
     /// The part can't stand there: an attribute where next hops are, or the reverse; a number of
     /// 16,384 or more; bytes for an attribute that holds attributes or next hops, or the reverse;
-    /// a head that isn't of the message's type.
+    /// a head or a body that isn't of the message's type.
     #[error("mismatch")]
     Mismatch,
     /// A container would open a level above the depth limit.
     #[error("too deep")]
     TooDeep,
     /// An attribute has more than 65,535 bytes, or one that holds attributes or next hops, or a
-    /// next hop, more than 65,532.
+    /// next hop, more than 65,532, or a message that is put whole more than 1,048,576.
     #[error("too long")]
     TooLong,
     /// The datagram would be above the datagram limit.

@@ -1,17 +1,13 @@
-use Rattle.std.proofs.Common.{◌≡◌, ap, sym, ◌∙◌}
-use Rattle.nl_attr.specs.declared.order.Order.{Order}
-use Rattle.nl_attr.specs.declared.tree.Content.{Content}
-use Rattle.std.specs.Prelude.{Result}
-use Rattle.nl_frame.specs.declared.building.refusal.BuildError.{BuildError}
-use Rattle.nl_frame.specs.Building.{attr_begun, order_of, or_next, open_refusal}
-use Rattle.nl_frame.proofs.Begins.{open_holds}
+use Rattle.std.proofs.Common.{subst}
+use Rattle.std.specs.Prelude.{OnOk}
+use Rattle.nl_frame.specs.Building.{Built}
+use Rattle.nl_frame.specs.Draft.{Draft, Holds, attribute}
+use Rattle.nl_frame.specs.Draft as draft
+use Rattle.nl_frame.specs.Limits.{Bounds}
+use Rattle.nl_frame.specs.Parts.{over}
 use Rattle.nl_frame.proofs.building.Builder.open_attr.Goals as goal
 
-pub returns-in-Ok-clause-puts : goal.returns-in-Ok-clause-puts
-returns-in-Ok-clause-puts c =
-    let b = c.args.self.now in
-    let o : c.order.result ≡ order_of b = c.order.ensures ∙ ap order_of c.self.view_is in
-    let head = c.attr_head-head.ensures ∙ ap (λ (x : Order). attr_begun x c.args.number c.args.flags) o in
-    let held = c.held-held.ensures in
-    let none = ap (λ (r : Result Content BuildError). or_next b.refusal (open_refusal b r)) (sym held) ∙ sym c.open_refusal.ensures ∙ c.in_default.is in
-    λ d h. open_holds b c.open_head.new.self d c.args.number c.args.flags c.in-Ok.content c.attr_head-head.result none (sym held ∙ c.in-Ok.is) head c.open_head.ensures h
+pub returns-clause-puts : goal.returns-clause-puts
+returns-clause-puts c =
+    let t = c.open_attr in
+    subst (λ (x : Built). OnOk t.result ((d : Draft) (L : Bounds) → Holds L x d → Holds L (over t.new.self t.new.out) (draft.open_head d (attribute c.args.number c.args.flags)))) c.self.view_is t.ensures.puts

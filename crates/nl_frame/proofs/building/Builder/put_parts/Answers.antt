@@ -1,11 +1,13 @@
-use Rattle.std.proofs.Common.{◌++◌, ℕ, ap, sym, ◌∙◌, length-append}
-use Rattle.nl_frame.specs.Building.{or_next, bytes_refusal, held, top}
-use Rattle.nl_frame.proofs.Puts.{put_holds}
+use Rattle.std.proofs.Common.{subst, ◌++◌}
+use Rattle.std.specs.Prelude.{OnOk}
+use Rattle.nl_frame.specs.Building.{Built}
+use Rattle.nl_frame.specs.Draft.{Draft, Holds}
+use Rattle.nl_frame.specs.Draft as draft
+use Rattle.nl_frame.specs.Limits.{Bounds}
+use Rattle.nl_frame.specs.Parts.{over}
 use Rattle.nl_frame.proofs.building.Builder.put_parts.Goals as goal
 
 pub returns-clause-puts : goal.returns-clause-puts
 returns-clause-puts c =
-    let b = c.args.self.now in
-    let len = length-append c.args.bytes.now c.args.tail.now in
-    let none = ap (λ (k : ℕ). or_next b.refusal (bytes_refusal b (held (top b.heads) c.args.number c.args.flags) k)) len ∙ sym c.bytes_refusal.ensures ∙ c.in_default.is in
-    λ d h. put_holds b c.accept_attr.new.self d c.args.number c.args.flags (c.args.bytes.now ++ c.args.tail.now) none c.accept_attr.ensures h
+    let t = c.put_parts in
+    subst (λ (x : Built). OnOk t.result ((d : Draft) (L : Bounds) → Holds L x d → Holds L (over t.new.self t.new.out) (draft.put d c.args.number c.args.flags (c.args.bytes.now ++ c.args.tail.now)))) c.self.view_is t.ensures.puts
