@@ -1,7 +1,6 @@
 -- What a datagram and its messages become, inside the program. No public clause cites this module.
 use Rattle.std.specs.Prelude.{◌≡◌, ◌+◌, ◌&&◌, ◌||◌, ◌==◌, not, if◌then◌else◌, bit_and, ℕ, Bool, List, length, map, Option, Some, None, is_some, ◌<◌, ◌≤◌, Result, Ok, Err, true, false}
 use Rattle.std.specs.List.{AllByRecursion}
-use Rattle.std.specs.declared.vec.Vec.{Vec}
 use Rattle.nl_frame.specs.Message.{MessageVal}
 use Rattle.nl_frame.specs.Limits.{Bounds}
 use Rattle.nl_frame.specs.Layout.{Layout}
@@ -70,10 +69,10 @@ pub record Sums (d : Dump) (ms : List MessageVal) (ignored : ℕ) (interrupted :
   pub end_is : end ≡ end_of d ms
 
 -- the messages are sorted so: the items with their keys, how many are ignored, whether the dump was interrupted, and how it ended
-pub record Sorts {Z T : Type 0} (item : T → Item) (key : T → List ℕ) (d : Dump) (ms : List MessageVal)
-    (pairs : List (Vec ℕ Z × T)) (ignored : ℕ) (interrupted : Bool) (end : Option End) : Type 0 where
+pub record Sorts {T : Type 0} (item : T → Item) (key : T → List ℕ) (d : Dump) (ms : List MessageVal)
+    (pairs : List (List ℕ × T)) (ignored : ℕ) (interrupted : Bool) (end : Option End) : Type 0 where
   pub items : map (λ p. item p.1) pairs ≡ items_of d ms
-  pub keyed : AllByRecursion (λ p. p.0.items ≡ key p.1) pairs
+  pub keyed : AllByRecursion (λ p. p.0 ≡ key p.1) pairs
   pub sums : Sums d ms ignored interrupted end
 
 -- so much was found of these messages

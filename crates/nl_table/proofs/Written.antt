@@ -4,7 +4,6 @@ use Rattle.std.proofs.lemmas.Grind.{common_steps}
 use Rattle.std.proofs.lemmas.Bool.Decides.{nat_tests}
 use Rattle.std.specs.List.{list_any, position_or_len}
 use Rattle.std.specs.Map.{keys_of}
-use Rattle.std.specs.declared.vec.Vec.{Vec}
 use Rattle.std.specs.declared.cmp.PartialEq as eq
 use Rattle.std.specs.declared.hash.Hash as hash
 use Rattle.std.specs.declared.hash.Hasher as hasher
@@ -14,10 +13,9 @@ use Rattle.indexmap.specs.declared.map.entry.Entry.{Entry}
 use Rattle.indexmap.specs.declared.map.entry.OccupiedEntry.{OccupiedEntry}
 use Rattle.indexmap.specs.Entry.{entry_index, entry_map, map_with_value, IsEntryFor, IsWritten}
 use Rattle.indexmap.specs.IndexMap.{IndexMap, KeepsRoom, index_map_len, insert_entry, spare}
-use Rattle.nl_table.specs.Pairs.{entries_of}
 
 -- a key is held exactly where its place is among those of the entries
-pub place-held : {Z T : Type 0} (test : List ℕ → Bool) (es : List (Vec ℕ Z × T)) → nat_lt (position_or_len (λ k. test k.items) (keys_of es)) (length es) ≡ list_any test (keys_of (entries_of es))
+pub place-held : {T : Type 0} (test : List ℕ → Bool) (es : List (List ℕ × T)) → nat_lt (position_or_len test (keys_of es)) (length es) ≡ list_any test (keys_of es)
 place-held test [] = refl
 place-held test (e ∷ es) = grind (arith, common_steps, nat_tests, place-held test es)
 

@@ -4,6 +4,7 @@ ghost use Rattle.std.specs.Prelude.{◌≡◌, ⊤};
 ghost use Rattle.std.specs.Iterator.{YieldsFirstBy, YieldsLastBy, item_count};
 ghost use Rattle.std.specs.Map.Iter.{deref_pair};
 
+use crate::compact::CompactKey;
 use indexmap::map;
 use std::alloc::AllocError;
 use std::iter::FusedIterator;
@@ -13,16 +14,15 @@ use std::marker::Model;
 #[derive(Drop)]
 #[must_use = "iterators are lazy and do nothing unless consumed"]
 pub struct Iter<'a, T> {
-    pub(crate) pairs: map::Iter<'a, Vec<u8>, T>,
+    pub(crate) pairs: map::Iter<'a, CompactKey, T>,
 }
 
 impl<'a, T> Model for Iter<'a, T> {
     ghost use Rattle.std.specs.Prelude.{ℕ, List};
-    ghost use Rattle.nl_table.specs.Pairs.{entries_of};
 
     ghost Value = { List (List ℕ × T) };
 
-    ghost view = { λ it. entries_of it.pairs };
+    ghost view = { λ it. it.pairs };
 }
 
 impl<'a, T> Clone for Iter<'a, T> {

@@ -1,10 +1,10 @@
 //! The key of an address. Its fields are those of linux/if_addr.h.
 
 use crate::entry::Entry;
-use crate::key::{KeyPart, key_of_parts};
+use crate::key::{KeyBuffer, KeyPart, append_parts};
 use nl_attr::Order;
 use nl_route::Addr;
-use std::alloc::{AllocError, Global};
+use std::alloc::AllocError;
 
 impl Entry for Addr {
     ghost use Rattle.std.specs.Prelude.{refl};
@@ -19,9 +19,10 @@ impl Entry for Addr {
 
     /// An address is kept under `ifa_family` in 1 byte, `ifa_index` in 4, `ifa_prefixlen` in 1,
     /// `IFA_ADDRESS` and `IFA_LOCAL`. The order is not looked at.
-    fn key_ordered(&self, alloc: Global, _order: Order) -> Result<Vec<u8>, AllocError> {
-        key_of_parts!(
-            alloc,
+    #[inline(always)]
+    fn append_key<B: KeyBuffer>(&self, key: &mut B, _order: Order) -> Result<(), AllocError> {
+        append_parts!(
+            key,
             [
                 KeyPart::Byte(self.head.family),
                 KeyPart::Four(self.head.index),

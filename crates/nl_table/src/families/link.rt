@@ -1,10 +1,10 @@
 //! The key of a link. Its fields are those of linux/rtnetlink.h and linux/if_link.h.
 
 use crate::entry::Entry;
-use crate::key::{interface, key_of_parts};
+use crate::key::{KeyBuffer, append_parts, interface};
 use nl_attr::Order;
 use nl_route::Link;
-use std::alloc::{AllocError, Global};
+use std::alloc::AllocError;
 
 impl Entry for Link {
     ghost use Rattle.std.specs.Prelude.{refl};
@@ -18,7 +18,8 @@ impl Entry for Link {
     ghost key_is = { λ o e. refl };
 
     /// A link is kept under its index, `ifi_index`, in 4 bytes.
-    fn key_ordered(&self, alloc: Global, _order: Order) -> Result<Vec<u8>, AllocError> {
-        key_of_parts!(alloc, [interface(&self.head.index)])
+    #[inline(always)]
+    fn append_key<B: KeyBuffer>(&self, key: &mut B, _order: Order) -> Result<(), AllocError> {
+        append_parts!(key, [interface(&self.head.index)])
     }
 }

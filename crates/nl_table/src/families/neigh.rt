@@ -1,10 +1,10 @@
 //! The key of a neighbour. Its fields are those of linux/neighbour.h.
 
 use crate::entry::Entry;
-use crate::key::{KeyPart, interface, key_of_parts};
+use crate::key::{KeyBuffer, KeyPart, append_parts, interface};
 use nl_attr::Order;
 use nl_route::Neigh;
-use std::alloc::{AllocError, Global};
+use std::alloc::AllocError;
 
 /// The family of the entries of a bridge's forwarding table: `AF_BRIDGE` of linux/socket.h.
 pub(crate) const AF_BRIDGE: u8 = 7;
@@ -28,16 +28,17 @@ impl Entry for Neigh {
     ///
     /// An entry of a bridge, whose family is `AF_BRIDGE`, is also kept under `NDA_LLADDR`,
     /// `NDA_VLAN` in 2 bytes and `NDA_VNI` in 4, each number 0 where it is absent.
-    fn key_ordered(&self, alloc: Global, order: Order) -> Result<Vec<u8>, AllocError> {
+    #[inline(always)]
+    fn append_key<B: KeyBuffer>(&self, key: &mut B, order: Order) -> Result<(), AllocError> {
         let family = KeyPart::Byte(self.head.family);
         let interface = interface(&self.head.ifindex);
         let flags = KeyPart::Byte(self.head.flags & IDENTIFYING_FLAGS);
         let address = KeyPart::Bytes(self.dst());
         if self.head.family != AF_BRIDGE {
-            return key_of_parts!(alloc, [family, interface, flags, address]);
+            return append_parts!(key, [family, interface, flags, address]);
         }
-        key_of_parts!(
-            alloc,
+        append_parts!(
+            key,
             [
                 family,
                 interface,

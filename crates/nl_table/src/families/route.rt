@@ -1,10 +1,10 @@
 //! The key of a route. Its fields are those of linux/rtnetlink.h.
 
 use crate::entry::Entry;
-use crate::key::{KeyPart, key_of_parts};
+use crate::key::{KeyBuffer, KeyPart, append_parts};
 use nl_attr::Order;
 use nl_route::Route;
-use std::alloc::{AllocError, Global};
+use std::alloc::AllocError;
 
 impl Entry for Route {
     ghost use Rattle.std.specs.Prelude.{refl};
@@ -23,9 +23,10 @@ impl Entry for Route {
     ///
     /// The table is `RTA_TABLE`, or else `rtm_table`. A priority or an interface that is absent
     /// is 0.
-    fn key_ordered(&self, alloc: Global, order: Order) -> Result<Vec<u8>, AllocError> {
-        key_of_parts!(
-            alloc,
+    #[inline(always)]
+    fn append_key<B: KeyBuffer>(&self, key: &mut B, order: Order) -> Result<(), AllocError> {
+        append_parts!(
+            key,
             [
                 KeyPart::Byte(self.head.family),
                 KeyPart::Byte(self.head.dst_len),

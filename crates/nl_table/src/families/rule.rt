@@ -5,10 +5,10 @@ ghost use Rattle.std.specs.Option.{option_copied};
 ghost use Rattle.nl_route.specs.Views.{attrs_in, bytes_view};
 
 use crate::entry::Entry;
-use crate::key::{KeyPart, key_of_parts};
+use crate::key::{KeyBuffer, KeyPart, append_parts};
 use nl_attr::{Order, find};
 use nl_route::{FRA_IIFNAME, FRA_OIFNAME, Rule};
-use std::alloc::{AllocError, Global};
+use std::alloc::AllocError;
 
 /// All bytes of the first attribute of a number.
 fn bytes_of(rule: &Rule, number: u16) -> Option<&[u8]>
@@ -34,9 +34,10 @@ impl Entry for Rule {
     ///
     /// The table is `FRA_TABLE`, or else `table`. A number that is absent is 0. The names stand
     /// there as the attributes have them, with the zero byte at their end.
-    fn key_ordered(&self, alloc: Global, order: Order) -> Result<Vec<u8>, AllocError> {
-        key_of_parts!(
-            alloc,
+    #[inline(always)]
+    fn append_key<B: KeyBuffer>(&self, key: &mut B, order: Order) -> Result<(), AllocError> {
+        append_parts!(
+            key,
             [
                 KeyPart::Byte(self.head.family),
                 KeyPart::Byte(self.head.dst_len),

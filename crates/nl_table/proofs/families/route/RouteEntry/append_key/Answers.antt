@@ -1,12 +1,12 @@
 use Rattle.std.specs.Option.{option_copied}
 use Rattle.nl_table.specs.Keys.{byte, number, bytes}
 use Rattle.nl_table.proofs.Appending.{none, more}
-use Rattle.nl_table.proofs.families.route.RouteEntry.key_ordered.Goals as goal
+use Rattle.nl_table.proofs.families.route.RouteEntry.append_key.Goals as goal
 
 pub returns-clause-key : goal.returns-clause-key
-returns-clause-key c =
+returns-clause-key g c =
     let h = c.args.self.now.head in
-    let k0 = none c.in_ok-key.ensures in
+    let k0 = none c.requires.empty in
     let k1 = more k0 (byte h.family) c.in_ok-append_part.ensures.bytes in
     let k2 = more k1 (byte h.dst_len) c.in_ok-append_part-2.ensures.bytes in
     let k3 = more k2 (bytes (option_copied c.dst.result)) c.in_ok-append_part-3.ensures.bytes in
