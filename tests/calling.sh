@@ -51,6 +51,7 @@ compare() {
 compare nl_attr attributes
 compare nl_route families
 compare nl_frame datagrams
+compare nl_request requests
 compare nl_table tables
 compare nl_dump dumps
 compare rtnl recordings

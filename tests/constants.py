@@ -18,7 +18,7 @@ from counting import counted
 from crates import ROOT, files
 
 # The libraries whose contracts a caller reads; those of the other crates' functions are their own.
-CRATES = "nl_attr nl_route nl_frame nl_table nl_dump rtnl rtnl_c".split()
+CRATES = "nl_attr nl_route nl_frame nl_request nl_table nl_dump rtnl rtnl_c".split()
 NUMBER = re.compile(r"^(?:abbrev pub )?([A-Z][A-Z_]+) = \w+$", re.M)
 # A clause ends with a line's last brace. In a ghost member of an impl an import decides, not the code.
 CLAUSE = re.compile(r"^ *(?:requires|ensures)\b[^\n{]*\{.*?\}$", re.M | re.S)

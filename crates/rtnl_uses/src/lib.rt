@@ -7,5 +7,6 @@ pub mod dumps;
 pub mod families;
 pub mod links;
 pub mod recordings;
+pub mod requests;
 pub mod streams;
 pub mod tables;

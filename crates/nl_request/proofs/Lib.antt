@@ -1,0 +1,4 @@
+pub mod Runs
+pub mod Routes
+pub mod Puts
+pub mod Fits

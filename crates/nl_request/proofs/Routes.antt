@@ -1,0 +1,59 @@
+-- The lists of a route: its metrics and its next hops.
+use Rattle.std.proofs.Common.{◌≡◌, ℕ, ◌+◌, ◌<◌, ◌==◌, false, List, [], ◌∷◌, ◌++◌, length, get_or, drop, map, refl, sym, subst, ap, ◌∙◌, Option, Some, None, Bor, FitsSigned}
+use Rattle.std.specs.Int.{w32}
+use Rattle.nl_attr.specs.Proper.{IsRanged, IsRangedHops}
+use Rattle.std.proofs.lemmas.List.{drop_more}
+use Rattle.nl_attr.specs.Fixed.{RTA_METRICS, RTA_MULTIPATH}
+use Rattle.nl_attr.specs.declared.order.Order.{Order}
+use Rattle.nl_route.specs.Route.{RTA_GATEWAY}
+use Rattle.nl_frame.specs.Building.{Built}
+use Rattle.nl_frame.specs.Building as building
+use Rattle.nl_frame.specs.Calls.{open_attr, close, run, calls_of_items, calls_of_hops}
+use Rattle.nl_request.specs.declared.route.Metric.{Metric}
+use Rattle.nl_request.specs.declared.route.NextHop.{NextHop}
+use Rattle.nl_request.specs.Parts.{no_flags, bytes_part, items_of, calls_of_part}
+use Rattle.nl_request.specs.Route.{metric_part, metrics_part, hops_of, hops_part}
+use Rattle.nl_request.proofs.Runs.{run_both, parts_run}
+
+module _ (b closed : Built) where
+  -- the list of metrics is there where one is
+  pub some_metrics : (o : Order) (ms : List Metric) → false ≡ (length ms == 0) → closed ≡ run b (open_attr RTA_METRICS no_flags ∷ (calls_of_items (items_of (map (metric_part o) ms)) ++ (close ∷ [])))
+      → closed ≡ run b (calls_of_part (metrics_part o ms))
+  some_metrics o [] e h = absurd (cc)
+  some_metrics o (m ∷ ms) e h = h
+
+  -- and so are next hops
+  pub some_hops : (hs : List NextHop) → false ≡ (length hs == 0) → closed ≡ run b (open_attr RTA_MULTIPATH no_flags ∷ (calls_of_hops (hops_of hs) ++ (close ∷ []))) → closed ≡ run b (calls_of_part (hops_part hs))
+  some_hops [] e h = absurd (cc)
+  some_hops (x ∷ hs) e h = h
+
+-- the first next hop, then the others
+pub first_hop : (b : Built) (h : NextHop) (hs : List NextHop) → run b (calls_of_hops (hops_of (h ∷ hs))) ≡ run (run b (calls_of_hops (hops_of (h ∷ [])))) (calls_of_hops (hops_of hs))
+first_hop b h hs =
+    let opened = building.open_hop b h.flags h.hops h.index in
+    let is = calls_of_items (items_of (bytes_part RTA_GATEWAY h.gateway ∷ [])) in
+    run_both opened is (close ∷ calls_of_hops (hops_of hs)) ∙ ap (λ (x : Built). run x (calls_of_hops (hops_of hs))) (sym (run_both opened is (close ∷ [])))
+
+-- the next hops that are left, once one more is put
+pub hop_step : (b next whole : Built) (hs : List NextHop) (i : ℕ) (d : NextHop) → i < length hs → run b (calls_of_hops (hops_of (drop i hs))) ≡ whole → next ≡ run b (calls_of_hops (hops_of (get_or hs i d ∷ [])))
+    → run next (calls_of_hops (hops_of (drop (i + 1) hs))) ≡ whole
+hop_step b next whole hs i d l e f =
+    let more = drop (i + 1) hs in
+    ap (λ (x : Built). run x (calls_of_hops (hops_of more))) f ∙ sym (first_hop b (get_or hs i d) more) ∙ ap (λ (ys : List NextHop). run b (calls_of_hops (hops_of ys))) (sym (drop_more hs i d l)) ∙ e
+
+-- one next hop: it opens, has its gateway, and is closed
+pub hop_run : (b opened filled closed : Built) (h : NextHop) → opened ≡ building.open_hop b h.flags h.hops h.index → filled ≡ run opened (calls_of_part (bytes_part RTA_GATEWAY h.gateway)) → closed ≡ building.close filled
+    → closed ≡ run b (calls_of_hops (hops_of (h ∷ [])))
+hop_run b opened filled closed h e f g =
+    let is = calls_of_items (items_of (bytes_part RTA_GATEWAY h.gateway ∷ [])) in
+    g ∙ ap (λ (x : Built). building.close x) (parts_run opened (bytes_part RTA_GATEWAY h.gateway ∷ []) filled (filled, f, refl) ∙ ap (λ (x : Built). run x is) e)
+    ∙ sym (run_both (building.open_hop b h.flags h.hops h.index) is (close ∷ []))
+
+-- the indices of the next hops that are left are in range, and so is that of one before them
+pub hop_ranged : (hs : List NextHop) (i : ℕ) (d : NextHop) → i < length hs → FitsSigned w32 (get_or hs i d).index → IsRangedHops (hops_of (drop (i + 1) hs)) → IsRangedHops (hops_of (drop i hs))
+hop_ranged hs i d l f r =
+    let h = get_or hs i d in
+    subst (λ (xs : List NextHop). IsRangedHops (hops_of xs)) (sym (drop_more hs i d l)) (f, gateway_ranged h.gateway, r) where
+      gateway_ranged : (g : Option (Bor (List ℕ))) → IsRanged (items_of (bytes_part RTA_GATEWAY g ∷ []))
+      gateway_ranged None = tt
+      gateway_ranged (Some b) = (tt, tt)

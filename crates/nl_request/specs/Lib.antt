@@ -1,0 +1,12 @@
+pub mod Operations
+pub mod Parts
+pub mod Prefixes
+pub mod Tables
+pub mod Link
+pub mod Addr
+pub mod Route
+pub mod Neigh
+pub mod Rule
+pub use Rattle.nl_frame.specs.Message
+pub use Rattle.nl_frame.specs.Building
+pub use Rattle.nl_frame.specs.Calls

@@ -1,0 +1,37 @@
+//! Prefixes of requests.
+
+ghost use Rattle.std.specs.Prelude.{◌≡◌};
+ghost use Rattle.nl_frame.specs.Calls.{run};
+ghost use Rattle.nl_request.specs.Parts.{calls_of_part};
+ghost use Rattle.nl_request.specs.Prefixes.{prefix_length, prefix_part};
+
+use crate::parts::NO_FLAGS;
+use nl_frame::Builder;
+
+/// An address of which the first bits count.
+#[derive(Clone, Copy, Debug)]
+pub struct Prefix<'a> {
+    /// The bytes of the address, in network order: four for IPv4, 16 for IPv6.
+    pub address: &'a [u8],
+    /// How many bits count: up to 32 for IPv4, up to 128 for IPv6.
+    pub length: u8,
+}
+
+/// How many bits count: none where there is no prefix.
+pub(crate) fn length_of(prefix: Option<Prefix<'_>>) -> u8
+    ensures { result ≡ prefix_length prefix.entry }
+{
+    match prefix {
+        None => 0,
+        Some(prefix) => prefix.length,
+    }
+}
+
+/// Puts an attribute of the prefix's address, where there is one.
+pub(crate) fn put_prefix(builder: &mut Builder<'_>, number: u16, prefix: Option<Prefix<'_>>)
+    ensures { builder.new ≡ run builder.old (calls_of_part (prefix_part number prefix.entry)) }
+{
+    if let Some(prefix) = prefix {
+        let _ = builder.put_bytes(number, NO_FLAGS, prefix.address);
+    }
+}
