@@ -1,13 +1,13 @@
 -- Lines of an input that comes in pieces, and what is told of them one after another.
-use Rattle.std.proofs.Common.{◌≡◌, ◌+◌, ◌<◌, ◌≤◌, ◌^◌, ℕ, Bool, true, false, cond, List, [], ◌∷◌, ◌++◌, length, not, Option, Some, None, Result, Ok, Err, refl, sym, ap, ◌∙◌, subst, append_assoc, append-nil, take, arith, length-append, add-zero}
+use Rattle.std.proofs.Common.{◌≡◌, ◌+◌, ◌<◌, ◌≤◌, ◌^◌, ℕ, Bool, true, false, cond, List, [], ◌∷◌, ◌++◌, length, not, Option, Some, None, Result, Ok, Err, refl, sym, ap, ◌∙◌, subst, append_assoc, append-nil, arith, length-append, add-zero}
 use Rattle.std.specs.List.{onto_first}
 use Rattle.std.specs.Io.KnownBytes.{Appends, Consumes}
 use Rattle.std.specs.Prelude.{nat_le, if◌then◌else◌}
 use Rattle.std.proofs.lemmas.Grind.{common_steps}
 use Rattle.std.proofs.lemmas.Bool.Decides.{nat_tests}
-use Rattle.std.proofs.Math.Seq.{take-append-add}
 use Rattle.rtnl.specs.Streams.{AppendsPrefix, Gains, Read, all_moved}
 use Rattle.rtnl.proofs.Cuts.{length-lines_of}
+use Rattle.rtnl.proofs.KnownBytes.{prefix_more}
 use Rattle.std.proofs.KnownBytes.{Appends-trans, Appends-nil, Consumes-nil, Consumes-trans}
 use Rattle.rtnl.specs.Lines.{is_newline, lines_of}
 use Rattle.rtnl.specs.Runs.{texts_from}
@@ -226,10 +226,6 @@ module _ {X T B : Type 0} (Is : T → List ℕ → X → T → Type 0) (text : �
     pub tells_more : (goes_on : Bool) → TellsOne Is text is_taken ends heard is_over (kept_of line) (line_says line) goes_on m b s t k h mid new → Tells Is text is_taken ends heard is_over (lines ++ line ∷ []) a b t g h old new
     tells_more goes_on one = more_by (line_says line) goes_on refl one
 
--- what was written, and then a front of a text
-prefix_more : (a b c : Option (List ℕ)) (x y : List ℕ) → Appends a b x → AppendsPrefix b c y → AppendsPrefix a c (x ++ y)
-prefix_more a b c x y h k = (length x + k.0, subst (Appends a c) (sym (take-append-add x y k.0)) (Appends-trans a b c x (take k.0 y) h k.1))
-
 -- ---- an input so far
 
 -- a part more of a line is kept as the line with it is
@@ -242,7 +238,7 @@ kept_more rest part = by_case (nat_le (length rest) LONGEST_LINE) refl where
       rw long refl
 
 -- the lines of a part without a newline, and of the newline
-one_ended : (part : List ℕ) → lines_of part ≡ part ∷ [] → lines_of (part ++ 10 ∷ []) ≡ part ∷ [] ∷ []
+pub one_ended : (part : List ℕ) → lines_of part ≡ part ∷ [] → lines_of (part ++ 10 ∷ []) ≡ part ∷ [] ∷ []
 one_ended part one = lines_more part (10 ∷ []) [] part [] ([] ∷ []) one refl ∙ ap (λ l. l ∷ [] ∷ []) (append-nil part)
 
 -- the first line of a part that ends it

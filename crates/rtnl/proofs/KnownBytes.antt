@@ -1,8 +1,11 @@
 -- Runs of reads and of writes, seen by what is known of the bytes.
-use Rattle.std.proofs.Common.{◌≡◌, ℕ, ◌+◌, ◌≤◌, List, ◌++◌, Option, Some, None, append_assoc, append-nil, ap, sym, ◌∙◌, subst, take, take_all, drop, length, arith, length-append}
-use Rattle.std.proofs.Math.Seq.{take-add}
-use Rattle.std.proofs.lemmas.List.{length-take}
-use Rattle.std.proofs.KnownBytes.{Appends-kept, Consumes-trans}
+use Rattle.std.proofs.Common.{◌≡◌, ℕ, ◌+◌, ◌≤◌, Bool, true, false, List, ◌++◌, Option, refl, Some, None, append_assoc, append-nil, ap, sym, ◌∙◌, subst, take, take_all, drop, length, arith, length-append}
+use Rattle.std.specs.Prelude.{nat_le}
+use Rattle.std.proofs.Math.Seq.{take-add, take-append-add, take-append_seam}
+use Rattle.std.proofs.lemmas.Bool.Decides.{nat_tests}
+use Rattle.std.proofs.lemmas.Grind.{common_steps}
+use Rattle.std.proofs.lemmas.List.{length-take, take-append-le}
+use Rattle.std.proofs.KnownBytes.{Appends-kept, Appends-trans, Consumes-trans}
 use Rattle.rtnl.specs.Streams.{AppendsPrefix, ConsumesAtMost}
 use Rattle.std.specs.Io.KnownBytes.{Appends, Consumes, Keeps}
 
@@ -31,3 +34,18 @@ prefix_of a b c s d h k = (d, Appends-kept a b c (take d s) h k)
 -- all of s was written
 pub whole : (a b : Option (List ℕ)) (s : List ℕ) (d : ℕ) → Appends a b (take d s) → length s ≤ d → Appends a b s
 whole a b s d h far = let all : take d s ≡ s = take_all d s far in subst (λ t. Appends a b t) all h
+
+-- what was written, and then a front of a text
+pub prefix_more : (a b c : Option (List ℕ)) (x y : List ℕ) → Appends a b x → AppendsPrefix b c y → AppendsPrefix a c (x ++ y)
+prefix_more a b c x y h k = (length x + k.0, subst (Appends a c) (sym (take-append-add x y k.0)) (Appends-trans a b c x (take k.0 y) h k.1))
+
+-- a front of a text is a front of what begins with it
+pub prefix_longer : (a b : Option (List ℕ)) (x y : List ℕ) → AppendsPrefix a b x → AppendsPrefix a b (x ++ y)
+prefix_longer a b x y h = by_case (nat_le h.0 (length x)) refl where
+  by_case : (c : Bool) → nat_le h.0 (length x) ≡ c → AppendsPrefix a b (x ++ y)
+  by_case true is =
+      let short : h.0 ≤ length x = grind (arith, common_steps, nat_tests) in
+      (h.0, subst (Appends a b) (sym (take-append-le h.0 x y short)) h.1)
+  by_case false is =
+      let far : length x ≤ h.0 = grind (arith, common_steps, nat_tests) in
+      (length x, subst (Appends a b) (take_all h.0 x far ∙ sym (take-append_seam x y)) h.1)

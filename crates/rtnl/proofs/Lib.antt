@@ -18,9 +18,11 @@ mod Json
 mod KnownBytes
 mod Listing
 mod Painting
+mod Parts
 mod PieceEnds
 mod Reading
 mod Running
+mod Said
 mod Sets
 mod Showing
 mod Taping

@@ -20,10 +20,12 @@ pub mod NamedBits
 pub mod Names
 pub mod Notations
 pub mod Painted
+pub mod Parts
 pub mod MessagesJson
 pub mod Requested
 pub mod Named
 pub mod Runs
+pub mod Said
 pub mod Shown
 pub mod Streams
 pub mod Tabled

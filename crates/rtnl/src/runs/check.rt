@@ -12,7 +12,7 @@ use crate::json_lines;
 use crate::json_lines::line::Line;
 use crate::pieces::push;
 use crate::runs::per_datagram::PerDatagram;
-use crate::runs::run::run;
+use crate::runs::run_each::run_each;
 use crate::streams::sink::Sink;
 use crate::streams::source::Source;
 use crate::text::datagram::{push_number, push_refusal};
@@ -115,9 +115,10 @@ impl PerDatagram for CheckJson {
 /// Says of each datagram of the lines that a source gives whether it is canonical, accepted though
 /// not canonical, or why it is refused.
 ///
-/// The input is read to its end and all lines are checked, then the text is made, then it is
-/// written. After a bad line, a read fault or the end of memory nothing was written; after a write
-/// fault a prefix of the text was. The verdict is Blemished exactly where a datagram was refused.
+/// The text is made as the input is read, and it is written once the input has come to its end and
+/// no line is bad. After a bad line, a read fault or the end of memory nothing was written; after a
+/// write fault a prefix of the text was. The verdict is Blemished exactly where a datagram was
+/// refused.
 pub fn run_check<S: Source, W: Sink>(
     alloc: Global,
     source: &mut S,
@@ -135,7 +136,7 @@ pub fn run_check<S: Source, W: Sink>(
     ensures bounded { ConsumesAtMost (fixed.LONGEST_INPUT + 1)
         (S.remaining source.old) (S.remaining source.new) }
 {
-    run(alloc, source, sink, &Check { limits: *limits })
+    run_each(alloc, source, sink, &Check { limits: *limits })
 }
 
 /// Checks each datagram as `run_check` does, and says it as a line of JSON (RFC 8259) in place of
@@ -159,5 +160,5 @@ pub fn run_check_json<S: Source, W: Sink>(
     ensures bounded { ConsumesAtMost (fixed.LONGEST_INPUT + 1)
         (S.remaining source.old) (S.remaining source.new) }
 {
-    run(alloc, source, sink, &CheckJson { limits: *limits })
+    run_each(alloc, source, sink, &CheckJson { limits: *limits })
 }

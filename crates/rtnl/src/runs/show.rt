@@ -12,7 +12,7 @@ use crate::error::{RunError, Verdict};
 use crate::json_lines;
 use crate::json_lines::line::Line;
 use crate::runs::per_datagram::PerDatagram;
-use crate::runs::run::run;
+use crate::runs::run_each::run_each;
 use crate::streams::sink::Sink;
 use crate::streams::source::Source;
 use crate::text::datagram::{push_datagram_line, push_refusal};
@@ -219,9 +219,10 @@ impl PerDatagram for ShowJson {
 /// Shows each datagram of the lines that a source gives: its messages and their attributes, or why
 /// it is refused.
 ///
-/// The input is read to its end and all lines are checked, then the text is made, then it is
-/// written. After a bad line, a read fault or the end of memory nothing was written; after a write
-/// fault a prefix of the text was. The verdict is Blemished exactly where a datagram was refused.
+/// The text is made as the input is read, and it is written once the input has come to its end and
+/// no line is bad. After a bad line, a read fault or the end of memory nothing was written; after a
+/// write fault a prefix of the text was. The verdict is Blemished exactly where a datagram was
+/// refused.
 pub fn run_show<S: Source, W: Sink>(
     alloc: Global,
     source: &mut S,
@@ -238,7 +239,7 @@ pub fn run_show<S: Source, W: Sink>(
     ensures bounded { ConsumesAtMost (fixed.LONGEST_INPUT + 1)
         (S.remaining source.old) (S.remaining source.new) }
 {
-    run(alloc, source, sink, &Show { limits: *limits })
+    run_each(alloc, source, sink, &Show { limits: *limits })
 }
 
 /// Shows each datagram as `run_show` does, in colours for a terminal: the line of a refusal red, the
@@ -263,7 +264,7 @@ pub fn run_show_coloured<S: Source, W: Sink>(
     ensures bounded { ConsumesAtMost (fixed.LONGEST_INPUT + 1)
         (S.remaining source.old) (S.remaining source.new) }
 {
-    run(alloc, source, sink, &ShowColoured { limits: *limits })
+    run_each(alloc, source, sink, &ShowColoured { limits: *limits })
 }
 
 /// Shows each datagram as `run_show` does, as a line of JSON (RFC 8259) in place of text: an object
@@ -286,5 +287,5 @@ pub fn run_show_json<S: Source, W: Sink>(
     ensures bounded { ConsumesAtMost (fixed.LONGEST_INPUT + 1)
         (S.remaining source.old) (S.remaining source.new) }
 {
-    run(alloc, source, sink, &ShowJson { limits: *limits })
+    run_each(alloc, source, sink, &ShowJson { limits: *limits })
 }

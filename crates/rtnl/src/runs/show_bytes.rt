@@ -11,7 +11,7 @@ use crate::bytes::tape::tape_of;
 use crate::bytes::{push_ending, push_opening, push_rows};
 use crate::error::{RunError, Verdict};
 use crate::runs::per_datagram::PerDatagram;
-use crate::runs::run::run;
+use crate::runs::run_each::run_each;
 use crate::streams::sink::Sink;
 use crate::streams::source::Source;
 use nl_frame::Limits;
@@ -87,5 +87,5 @@ pub fn run_show_bytes<S: Source, W: Sink>(
         limits: *limits,
         format,
     };
-    run(alloc, source, sink, &show)
+    run_each(alloc, source, sink, &show)
 }

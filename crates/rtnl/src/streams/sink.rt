@@ -4,6 +4,7 @@ ghost use Rattle.std.specs.Prelude.{◌≡◌, ◌≢◌, ℕ, ◌≤◌, ◌↔
 ghost use Rattle.std.specs.Prelude.{Some, OnOk, OnErr, IfOk, IfErr, IsTrue};
 ghost use Rattle.std.specs.Io.KnownBytes.{Appends, WriteAppends};
 ghost use Rattle.std.specs.IoError.{error_kind};
+ghost use Rattle.rtnl.specs.Parts.{joined};
 ghost use Rattle.rtnl.specs.Streams.{AppendsPrefix, MovesNone, StopsOnce, one_more};
 
 use crate::error::RunError;
@@ -194,6 +195,25 @@ pub(crate) fn give_all<W: Sink>(sink: &mut W, text: &[u8]) -> Result<(), RunErro
             Err(Broken) | Ok(0) => return Err(RunError::WriteFault),
             Ok(count) => done += count,
         }
+    }
+    Ok(())
+}
+
+/// Gives the parts of a text to a sink, one behind the other, as `give_all` gives each.
+pub(crate) fn give_parts<W: Sink>(sink: &mut W, parts: &[Vec<u8>]) -> Result<(), RunError>
+    ensures all { OnOk result
+        (Appends (W.contents sink.old) (W.contents sink.new) (joined parts.now)) }
+    ensures sound { OnOk result (W.failure_count sink.new ≡ W.failure_count sink.old) }
+    ensures steady { OnOk result (W.stall_count sink.new ≡ W.stall_count sink.old) }
+
+    ensures part { OnErr result
+        (AppendsPrefix (W.contents sink.old) (W.contents sink.new) (joined parts.now)) }
+    ensures once { OnErr result
+        (StopsOnce W.is_stalled W.stall_count W.failure_count sink.old sink.new) }
+    ensures error { IfErr result (λ e. e ≡ RunError.WriteFault) }
+{
+    for index in 0..parts.len() {
+        give_all(sink, parts[index].as_slice())?;
     }
     Ok(())
 }

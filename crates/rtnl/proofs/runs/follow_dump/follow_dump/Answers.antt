@@ -1,7 +1,6 @@
-use Rattle.std.proofs.Common.{◌≡◌, ◌++◌, ◌∙◌, Ok, Err, refl, ap, subst, inl, inr}
+use Rattle.std.proofs.Common.{◌≡◌, ◌++◌, ◌∙◌, refl, ap, inl, inr}
 use Rattle.std.proofs.lemmas.Result.{err_from_is_err_and}
-use Rattle.rtnl.specs.Followed.{FollowsAll}
-use Rattle.rtnl.specs.FollowedDump.{Reads, ends_dump, ending_at, given_text, is_given}
+use Rattle.rtnl.specs.FollowedDump.{ending_at}
 use Rattle.rtnl.specs.declared.ending.Ending.{Ending}
 use Rattle.rtnl.proofs.FollowingDump.{wrote_all, wrote_none, wrote_part}
 use Rattle.rtnl.proofs.runs.follow_dump.follow_dump.Goals as goal

@@ -1,4 +1,4 @@
-use Rattle.std.proofs.Common.{◌≡◌, ◌+◌, ◌++◌, drop, map, ℕ}
+use Rattle.std.proofs.Common.{◌≡◌, ◌+◌, ◌++◌, drop, map}
 use Rattle.nl_frame.specs.View.{message_view}
 use Rattle.rtnl.specs.Tabled.{bodies_text}
 use Rattle.rtnl.proofs.runs.follow_dump.push_items.Given as goal
