@@ -17,7 +17,7 @@ trap 'rm -rf "$folder"' EXIT
 c/archive.py
 
 # The names that the header declares, and those of the proved calls, which give way to them.
-grep -oE '\brtnlc_[a-z_]+\(' include/rtnlc.h | tr -d '(' | sort -u >"$folder/names"
+grep -oE '\brtnlc_[a-z0-9_]+\(' include/rtnlc.h | tr -d '(' | sort -u >"$folder/names"
 sed 's/rtnlc_\(.*\)/rtnlc_\1 proved_\1/' "$folder/names" >"$folder/renamed"
 # Of a shared library they carry the version that had them first in this form.
 {

@@ -49,6 +49,28 @@ struct rtnlc_fed proved_stream_feed(struct rtnlc_stream *, const uint8_t *, size
 uint8_t proved_stream_abandon(struct rtnlc_stream *);
 struct rtnlc_status proved_stream_status(const struct rtnlc_stream *);
 
+uint8_t proved_builder_new(struct rtnlc_built *, const struct rtnlc_options *);
+uint8_t proved_builder_begin(struct rtnlc_built *, uint8_t *, size_t, uint16_t, uint16_t, uint32_t,
+                             uint32_t, const uint8_t *, size_t);
+uint8_t proved_builder_put(struct rtnlc_built *, uint8_t *, size_t, uint16_t, const uint8_t *,
+                           size_t);
+uint8_t proved_builder_put_text(struct rtnlc_built *, uint8_t *, size_t, uint16_t, const uint8_t *,
+                                size_t);
+uint8_t proved_builder_put_u8(struct rtnlc_built *, uint8_t *, size_t, uint16_t, uint8_t);
+uint8_t proved_builder_put_u16(struct rtnlc_built *, uint8_t *, size_t, uint16_t, uint16_t);
+uint8_t proved_builder_put_u32(struct rtnlc_built *, uint8_t *, size_t, uint16_t, uint32_t);
+uint8_t proved_builder_put_u64(struct rtnlc_built *, uint8_t *, size_t, uint16_t, uint64_t);
+uint8_t proved_builder_put_be16(struct rtnlc_built *, uint8_t *, size_t, uint16_t, uint16_t);
+uint8_t proved_builder_put_be32(struct rtnlc_built *, uint8_t *, size_t, uint16_t, uint32_t);
+uint8_t proved_builder_put_be64(struct rtnlc_built *, uint8_t *, size_t, uint16_t, uint64_t);
+uint8_t proved_builder_open(struct rtnlc_built *, uint8_t *, size_t, uint16_t);
+uint8_t proved_builder_open_hop(struct rtnlc_built *, uint8_t *, size_t, uint8_t, uint8_t, int32_t);
+uint8_t proved_builder_close(struct rtnlc_built *, uint8_t *, size_t);
+uint8_t proved_builder_end(struct rtnlc_built *, uint8_t *, size_t);
+uint8_t proved_builder_message(struct rtnlc_built *, uint8_t *, size_t, uint16_t, uint16_t,
+                               uint32_t, uint32_t, const uint8_t *, size_t);
+struct rtnlc_put proved_builder_finish(const struct rtnlc_built *, const uint8_t *, size_t);
+
 static const struct rtnlc_options standard = { RTNLC_STANDARD_TOTAL, RTNLC_STANDARD_DATAGRAM,
 	                                           RTNLC_STANDARD_ENTRIES, RTNLC_STANDARD_DEPTH,
 	                                           false };
@@ -295,6 +317,127 @@ struct rtnlc_status rtnlc_stream_status(const struct rtnlc_stream *stream)
 	return proved_stream_status(stream ? stream : &none);
 }
 
+/* The buffer of a builder; a null pointer is one of no bytes, which may lie anywhere. */
+static uint8_t *buffer_of(struct rtnlc_builder *b)
+{
+	return b->out ? b->out : (uint8_t *)b;
+}
+
+static size_t room_of(const struct rtnlc_builder *b)
+{
+	return b->out ? b->room : 0;
+}
+
+uint8_t rtnlc_builder_new(struct rtnlc_builder *b, const struct rtnlc_options *options,
+                          uint8_t *out, size_t room)
+{
+	uint8_t code = b ? proved_builder_new(&b->built, limits_at(options)) : RTNLC_NO_BUILDER;
+	if (code == RTNLC_OK) {
+		b->out = out;
+		b->room = room;
+	}
+	return code;
+}
+
+uint8_t rtnlc_builder_begin(struct rtnlc_builder *b, uint16_t kind, uint16_t flags, uint32_t seq,
+                            uint32_t port, const void *head, size_t len)
+{
+	return b ? proved_builder_begin(&b->built, buffer_of(b), room_of(b), kind, flags, seq, port,
+	                                read_at(head), len)
+	         : RTNLC_NO_BUILDER;
+}
+
+uint8_t rtnlc_builder_put(struct rtnlc_builder *b, uint16_t type, const void *bytes, size_t len)
+{
+	return b ? proved_builder_put(&b->built, buffer_of(b), room_of(b), type, read_at(bytes), len)
+	         : RTNLC_NO_BUILDER;
+}
+
+uint8_t rtnlc_builder_put_text(struct rtnlc_builder *b, uint16_t type, const char *text, size_t len)
+{
+	const uint8_t *bytes = read_at((const uint8_t *)text);
+	return b ? proved_builder_put_text(&b->built, buffer_of(b), room_of(b), type, bytes, len)
+	         : RTNLC_NO_BUILDER;
+}
+
+uint8_t rtnlc_builder_put_u8(struct rtnlc_builder *b, uint16_t type, uint8_t value)
+{
+	return b ? proved_builder_put_u8(&b->built, buffer_of(b), room_of(b), type, value)
+	         : RTNLC_NO_BUILDER;
+}
+
+uint8_t rtnlc_builder_put_u16(struct rtnlc_builder *b, uint16_t type, uint16_t value)
+{
+	return b ? proved_builder_put_u16(&b->built, buffer_of(b), room_of(b), type, value)
+	         : RTNLC_NO_BUILDER;
+}
+
+uint8_t rtnlc_builder_put_u32(struct rtnlc_builder *b, uint16_t type, uint32_t value)
+{
+	return b ? proved_builder_put_u32(&b->built, buffer_of(b), room_of(b), type, value)
+	         : RTNLC_NO_BUILDER;
+}
+
+uint8_t rtnlc_builder_put_u64(struct rtnlc_builder *b, uint16_t type, uint64_t value)
+{
+	return b ? proved_builder_put_u64(&b->built, buffer_of(b), room_of(b), type, value)
+	         : RTNLC_NO_BUILDER;
+}
+
+uint8_t rtnlc_builder_put_be16(struct rtnlc_builder *b, uint16_t type, uint16_t value)
+{
+	return b ? proved_builder_put_be16(&b->built, buffer_of(b), room_of(b), type, value)
+	         : RTNLC_NO_BUILDER;
+}
+
+uint8_t rtnlc_builder_put_be32(struct rtnlc_builder *b, uint16_t type, uint32_t value)
+{
+	return b ? proved_builder_put_be32(&b->built, buffer_of(b), room_of(b), type, value)
+	         : RTNLC_NO_BUILDER;
+}
+
+uint8_t rtnlc_builder_put_be64(struct rtnlc_builder *b, uint16_t type, uint64_t value)
+{
+	return b ? proved_builder_put_be64(&b->built, buffer_of(b), room_of(b), type, value)
+	         : RTNLC_NO_BUILDER;
+}
+
+uint8_t rtnlc_builder_open(struct rtnlc_builder *b, uint16_t type)
+{
+	return b ? proved_builder_open(&b->built, buffer_of(b), room_of(b), type) : RTNLC_NO_BUILDER;
+}
+
+uint8_t rtnlc_builder_open_hop(struct rtnlc_builder *b, uint8_t flags, uint8_t hops,
+                               int32_t ifindex)
+{
+	return b ? proved_builder_open_hop(&b->built, buffer_of(b), room_of(b), flags, hops, ifindex)
+	         : RTNLC_NO_BUILDER;
+}
+
+uint8_t rtnlc_builder_close(struct rtnlc_builder *b)
+{
+	return b ? proved_builder_close(&b->built, buffer_of(b), room_of(b)) : RTNLC_NO_BUILDER;
+}
+
+uint8_t rtnlc_builder_end(struct rtnlc_builder *b)
+{
+	return b ? proved_builder_end(&b->built, buffer_of(b), room_of(b)) : RTNLC_NO_BUILDER;
+}
+
+uint8_t rtnlc_builder_message(struct rtnlc_builder *b, uint16_t kind, uint16_t flags,
+                              uint32_t seq, uint32_t port, const void *body, size_t len)
+{
+	return b ? proved_builder_message(&b->built, buffer_of(b), room_of(b), kind, flags, seq, port,
+	                                  read_at(body), len)
+	         : RTNLC_NO_BUILDER;
+}
+
+struct rtnlc_put rtnlc_builder_finish(const struct rtnlc_builder *b)
+{
+	static const struct rtnlc_put none = { 0, RTNLC_NO_BUILDER };
+	return b ? proved_builder_finish(&b->built, read_at(b->out), room_of(b)) : none;
+}
+
 /* Words, which no proof is about. */
 const char *rtnlc_code_name(uint8_t code)
 {
@@ -317,6 +460,9 @@ const char *rtnlc_code_name(uint8_t code)
 	case RTNLC_NO_STREAM: return "no stream";
 	case RTNLC_NO_KIND: return "no such family";
 	case RTNLC_NO_SESSION: return "no session";
+	case RTNLC_NOTHING_OPEN: return "nothing open";
+	case RTNLC_STILL_OPEN: return "still open";
+	case RTNLC_NO_BUILDER: return "no builder";
 	case RTNLC_END: return "end";
 	default: return "unknown code";
 	}

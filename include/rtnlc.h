@@ -1,24 +1,24 @@
 /* SPDX-License-Identifier: MIT OR Apache-2.0 */
 /* Copyright (c) 2026 the rtnl authors */
 /*
- * rtnlc: a proved reader of rtnetlink datagrams, for C and C++ (netlink(7), rtnetlink(7),
- * RFC 3549).
+ * rtnlc: a proved reader and builder of rtnetlink datagrams, for C and C++ (netlink(7),
+ * rtnetlink(7), RFC 3549).
  *
- * A datagram is bytes in memory: what one recv(2) on a netlink socket gave. No call opens a
- * socket, and none keeps a pointer that it was handed. docs/C.md has a table of all calls, and
- * three loops.
+ * A datagram is bytes in memory: what one recv(2) on a netlink socket gave, or what is to be sent.
+ * No call opens a socket, and none keeps a pointer that it was handed, but that of the buffer in a
+ * struct rtnlc_builder. docs/C.md has a table of all calls, three loops and a request.
  *
  * What the caller owes, and no more:
  *  - `bytes` points to `len` bytes that can be read. A null pointer is taken where `len` is 0.
  *  - `out` points to `room` elements that can be written, and that overlap nothing else that the
  *    call is handed. A null pointer is taken where `room` is 0.
  *  - `options` points to a struct rtnlc_options, or is null: then the standard limits hold.
- *  - A session or a stream is in one call at a time.
+ *  - A session, a stream or a builder is in one call at a time.
  * Any bytes are taken, and each call ends, whatever they hold. A datagram needn't be aligned.
  *
  * Threads: no call writes anything but its result, what it was handed to write, and its session.
- * Any thread may call, and a session or a stream may go from one thread to another between two
- * calls.
+ * Any thread may call, and a session, a stream or a builder may go from one thread to another
+ * between two calls.
  * Memory: rtnlc_check, rtnlc_show and rtnlc_show_json take some from malloc, realloc and free, and
  * have given all of it back when they return. A session holds memory until it is freed, and its
  * calls take some. These three and all calls of a session can't be made from a signal handler; the
@@ -57,20 +57,23 @@ enum rtnlc_code {
 	RTNLC_CUT = 1,          /* fewer bytes are left than a head has */
 	RTNLC_BAD_LENGTH = 2,   /* a length is below its head's size, or above the bytes that are left */
 	RTNLC_SHORT_BODY = 3,   /* a message is shorter than the head of its type */
-	RTNLC_TOO_LONG = 4,     /* a container has more than 65,532 bytes */
+	RTNLC_TOO_LONG = 4,     /* a container has more than 65,532 bytes, an attribute above 65,535 */
 	RTNLC_TOO_DEEP = 5,     /* a container opens a level above the depth limit */
 	RTNLC_TOO_LARGE = 6,    /* the datagram is above the datagram limit; nothing was looked at */
 	RTNLC_TOTAL = 7,        /* all datagrams would be above the total limit; nothing was looked at */
 	RTNLC_NOT_WAITING = 8,  /* no dump waits for its answers */
 	RTNLC_BUSY = 9,         /* a dump waits for its answers, or the session is made already */
 	RTNLC_SAME_SEQ = 10,    /* the sequence number is that of the dump before */
-	RTNLC_MISMATCH = 11,    /* a value is of another kind than its attribute holds */
+	RTNLC_MISMATCH = 11,    /* a value is of another kind than its attribute, or its type, holds */
 	RTNLC_BAD_LIMIT = 12,   /* one of the options is out of its range; nothing was looked at */
 	RTNLC_NO_MEMORY = 13,   /* an allocation was refused */
 	RTNLC_NO_ROOM = 17,     /* the buffer has less room than the answer needs, which is told */
 	RTNLC_NO_STREAM = 18,   /* null, or what no call leaves in a struct rtnlc_stream */
 	RTNLC_NO_KIND = 19,     /* the message type is of no family that is dumped */
 	RTNLC_NO_SESSION = 20,  /* null, or a session that was never made, or is freed */
+	RTNLC_NOTHING_OPEN = 21, /* nothing is open that could be closed, or into which could be put */
+	RTNLC_STILL_OPEN = 22,  /* something is still open in what should end, or before the next */
+	RTNLC_NO_BUILDER = 23,  /* null, or what no call leaves in a struct rtnlc_builder */
 	RTNLC_END = 255         /* nothing more stands there */
 };
 
@@ -96,7 +99,8 @@ enum rtnlc_context {
 	RTNLC_PLAIN = 8      /* any other list */
 };
 
-/* The limits of a call, of a session or of a stream, each in its range, whichever a call uses. */
+/* The limits of a call, of a session, a stream or a builder, each in its range, whichever a call
+ * uses. */
 struct rtnlc_options {
 	uint64_t total;    /* bytes of all datagrams of a session or a stream at most: 0 to 2^40 */
 	uint32_t datagram; /* bytes of a datagram at most: a multiple of 4 from 16 to 1,048,576 */
@@ -461,6 +465,117 @@ uint8_t rtnlc_stream_abandon(struct rtnlc_stream *stream);
 /* Where the last dump stands, as of a session. */
 struct rtnlc_status rtnlc_stream_status(const struct rtnlc_stream *stream);
 
+/* ---- Building a datagram ---- */
+
+/* What is built in a buffer of the caller's: messages one after another, in each its family's head
+ * and attributes, which are put, or opened and closed where they hold others. It takes no memory,
+ * and what it hands out is never malformed: within the limits, canonical, and read again as exactly
+ * what was put, each attribute by its context as rtnlc_holds has it.
+ *
+ * The first refusal sticks: each call behind it answers it again and does nothing, and so does
+ * rtnlc_builder_finish; so a caller may look at the code of that call alone. A call that is
+ * refused changes no byte of the buffer. No call changes one at `room` or behind it.
+ *
+ * The caller keeps it, and may read it, copy it and store it; between two calls the buffer may move
+ * with what is in it, if `out` is set to where it is. Any bytes of `built` are taken for one:
+ * RTNLC_NO_BUILDER, and nothing is written, where a limit is out of its range, where more bytes are
+ * accepted than `room` or than the datagram limit, where an open head is not among them or deeper
+ * than the depth limit, where a number is none of those said here. No call leaves one so. */
+struct rtnlc_built {
+	uint64_t total;       /* as in struct rtnlc_options; it says nothing of a builder */
+	uint32_t entries;     /* the same */
+	uint32_t datagram;    /* as in struct rtnlc_options */
+	uint32_t len;         /* bytes of the buffer that are accepted */
+	uint32_t starts[33];  /* the offsets of the open heads, that of the message first; what is
+	                       * behind the last one says nothing */
+	uint8_t contents[33]; /* what stands behind each head: enum rtnlc_context of attributes, or
+	                       * RTNLC_HOPS_BEHIND */
+	uint8_t count;        /* how many heads are open: at most `depth` plus one */
+	uint8_t depth, big;   /* as in struct rtnlc_options; big is 0 or 1 */
+	uint8_t refusal;      /* the code of the first refusal, or 0 */
+};
+
+#define RTNLC_HOPS_BEHIND 9
+
+struct rtnlc_builder {
+	uint8_t *out;  /* the buffer: `room` bytes that can be written, and that overlap nothing else */
+	size_t room;
+	struct rtnlc_built built;
+};
+
+/* Makes a builder over a buffer that has accepted nothing yet. RTNLC_BAD_LIMIT, or RTNLC_NO_BUILDER
+ * for a null pointer: then nothing is written. No byte of the buffer is touched. */
+uint8_t rtnlc_builder_new(struct rtnlc_builder *b, const struct rtnlc_options *options,
+                          uint8_t *out, size_t room);
+
+/* Begins a message of a type NEW, DEL or SET. `head` points to its family's struct, as the kernel
+ * has it: ifinfomsg, ifaddrmsg, rtmsg, ndmsg or fib_rule_hdr, of `len` bytes, with numbers in the
+ * builder's order; bytes that mean nothing go out as zeros. The first that applies is answered, as
+ * by all calls below: RTNLC_NO_BUILDER; an earlier refusal; RTNLC_STILL_OPEN where a message is
+ * open; RTNLC_MISMATCH where the type is none of these, or its head has another length;
+ * RTNLC_NO_ROOM; RTNLC_TOO_LARGE. */
+RTNLC_READS(6, 7)
+uint8_t rtnlc_builder_begin(struct rtnlc_builder *b, uint16_t kind, uint16_t flags, uint32_t seq,
+                            uint32_t port, const void *head, size_t len);
+
+/* Puts an attribute that holds these bytes, with zeros behind it up to a multiple of four. `type`
+ * is its number, with NLA_F_NESTED and NLA_F_NET_BYTEORDER where they are meant; neither changes
+ * the bytes. RTNLC_NOTHING_OPEN where no message is open; RTNLC_MISMATCH where next hops stand, and
+ * for an attribute that holds others, by its context, number and NLA_F_NESTED; RTNLC_TOO_LONG for
+ * more than 65,531 bytes; RTNLC_NO_ROOM; RTNLC_TOO_LARGE. */
+RTNLC_READS(3, 4)
+uint8_t rtnlc_builder_put(struct rtnlc_builder *b, uint16_t type, const void *bytes, size_t len);
+
+/* The same of a text of `len` bytes, with one zero byte behind it. */
+RTNLC_READS(3, 4)
+uint8_t rtnlc_builder_put_text(struct rtnlc_builder *b, uint16_t type, const char *text,
+                               size_t len);
+
+/* The same of a number in one byte; in two, four or eight bytes in the builder's order, as the
+ * kernel has most numbers; and in network byte order, as it has those of the types __be16 to
+ * __be64. */
+uint8_t rtnlc_builder_put_u8(struct rtnlc_builder *b, uint16_t type, uint8_t value);
+uint8_t rtnlc_builder_put_u16(struct rtnlc_builder *b, uint16_t type, uint16_t value);
+uint8_t rtnlc_builder_put_u32(struct rtnlc_builder *b, uint16_t type, uint32_t value);
+uint8_t rtnlc_builder_put_u64(struct rtnlc_builder *b, uint16_t type, uint64_t value);
+uint8_t rtnlc_builder_put_be16(struct rtnlc_builder *b, uint16_t type, uint16_t value);
+uint8_t rtnlc_builder_put_be32(struct rtnlc_builder *b, uint16_t type, uint32_t value);
+uint8_t rtnlc_builder_put_be64(struct rtnlc_builder *b, uint16_t type, uint64_t value);
+
+/* Opens an attribute that holds attributes, or next hops: what is put next stands in it.
+ * RTNLC_NOTHING_OPEN; RTNLC_MISMATCH where next hops stand, and for an attribute that holds bytes;
+ * RTNLC_TOO_DEEP; RTNLC_NO_ROOM; RTNLC_TOO_LARGE. */
+uint8_t rtnlc_builder_open(struct rtnlc_builder *b, uint16_t type);
+
+/* Opens a next hop in RTA_MULTIPATH: rtnh_flags, rtnh_hops (the weight less one), rtnh_ifindex.
+ * Attributes of routes stand in it. RTNLC_NOTHING_OPEN; RTNLC_MISMATCH where no next hops stand;
+ * RTNLC_NO_ROOM; RTNLC_TOO_LARGE. */
+uint8_t rtnlc_builder_open_hop(struct rtnlc_builder *b, uint8_t flags, uint8_t hops,
+                               int32_t ifindex);
+
+/* Closes the attribute or the next hop that was opened last: its length is set. It needs no room.
+ * RTNLC_NOTHING_OPEN; RTNLC_TOO_LONG for more than 65,532 bytes. */
+uint8_t rtnlc_builder_close(struct rtnlc_builder *b);
+
+/* Ends the message: its length is set. It needs no room. RTNLC_NOTHING_OPEN where none is open;
+ * RTNLC_STILL_OPEN where an attribute or a next hop is. */
+uint8_t rtnlc_builder_end(struct rtnlc_builder *b);
+
+/* Puts a whole message of no family, whose body is these bytes, with zeros behind it up to a
+ * multiple of four: NOOP, ERROR, DONE and OVERRUN of netlink itself, a type that is not known here,
+ * or a GET. RTNLC_STILL_OPEN where a message is open; RTNLC_MISMATCH for NEW, DEL and SET of a
+ * family, which rtnlc_builder_begin begins, and for a body that is shorter than its type says (20
+ * bytes of ERROR, 1 of GET); RTNLC_TOO_LONG for a message of more than 1,048,576 bytes;
+ * RTNLC_NO_ROOM; RTNLC_TOO_LARGE. */
+RTNLC_READS(6, 7)
+uint8_t rtnlc_builder_message(struct rtnlc_builder *b, uint16_t kind, uint16_t flags,
+                              uint32_t seq, uint32_t port, const void *body, size_t len);
+
+/* How many bytes the datagram has, at the front of `out`. RTNLC_NO_BUILDER; the first refusal;
+ * RTNLC_STILL_OPEN where a message is open: then `len` is 0. It changes nothing, and more messages
+ * may come behind. */
+struct rtnlc_put rtnlc_builder_finish(const struct rtnlc_builder *b);
+
 /* ---- Words ---- */
 
 /* Room for any name of a message type or an attribute: none has more bytes than 31. */
@@ -483,8 +598,6 @@ const char *rtnlc_code_name(uint8_t code);
 
 /* The version of the library that is linked, as RTNLC_VERSION is that of this header. */
 const char *rtnlc_version(void);
-
-/* Missing so far: writing messages. */
 
 #undef RTNLC_READS
 #undef RTNLC_WRITES

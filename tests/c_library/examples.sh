@@ -19,6 +19,7 @@ hops+=' 0c00 0900 0800 0000 03000000'
 ended='14000000 0300 0200 01000000 01000000 00000000'
 interrupted='14000000 0300 1200 01000000 01000000 00000000'
 programs=(links routes watch stream)
+writers=(link_up route_add)
 
 # in_json: the link of the recording, its name and what the program's JSON says.
 in_json() {
@@ -99,6 +100,21 @@ is_told() {
     kill "$told"; exit 1' sh "$folder/watch" "$folder/output"
 }
 
+# writes: in a namespace a link is brought up, and routes over one next hop and over two are there;
+# the same route once more is refused by the kernel.
+writes() {
+  # shellcheck disable=SC2016
+  in_namespace sh -c '
+    "$1" lo && ip addr add 10.1.0.1/24 dev lo &&
+      "$2" 192.0.2.0/24 via 10.1.0.2 dev lo &&
+      "$2" 198.51.100.0/24 via 10.1.0.2 dev lo via 10.1.0.3 dev lo &&
+      ip -o link show lo | grep -q "[<,]UP" &&
+      ip route show 192.0.2.0/24 | grep -q "via 10.1.0.2 dev lo" &&
+      [ "$(ip route show 198.51.100.0/24 | grep -c "nexthop via 10.1.0.[23]")" = 2 ] || exit
+    "$2" 192.0.2.0/24 via 10.1.0.2 dev lo; [ $? = 3 ]' \
+    sh "$folder/link_up" "$folder/route_add"
+}
+
 # The programs in C, over the library that is $1.
 run_programs() {
   check "links.c, $1" prints "$link" played links examples/links.hex
@@ -113,11 +129,17 @@ run_programs() {
 
 check 'what is expected of the examples' is_in_json
 for name in "${programs[@]}"; do check "$name.c is short" is_short "$name.c" 60; done
-for name in source parts dump; do check "$name.h is short" is_short "$name.h" 120; done
-for name in "${programs[@]}"; do check "$name.c with librtnlc.a" in_static "$name"; done
+for name in source parts dump change; do check "$name.h is short" is_short "$name.h" 120; done
+check 'link_up.c is short' is_short link_up.c 60
+check 'route_add.c is short' is_short route_add.c 110
+for name in "${programs[@]}" "${writers[@]}"; do
+  check "$name.c with librtnlc.a" in_static "$name"
+done
 run_programs 'with librtnlc.a'
 if has pkg-config 'the examples in C with pkg-config'; then
-  for name in "${programs[@]}"; do check "$name.c with librtnlc.so" compiled "$name"; done
+  for name in "${programs[@]}" "${writers[@]}"; do
+    check "$name.c with librtnlc.so" compiled "$name"
+  done
   run_programs 'with librtnlc.so'
 fi
 if "$folder/links" >/dev/null 2>&1; then
@@ -129,6 +151,7 @@ else
 fi
 if in_namespace ip link set lo up; then
   check 'watch.c hears the kernel' is_told
+  check 'link_up.c and route_add.c ask the kernel' writes
 else
   echo 'skipped: watch.c over a socket, since no network namespace can be made here'
 fi

@@ -66,6 +66,10 @@ if has gcc 'what gcc says of wrong uses' && [ "$(gcc -dumpversion | cut -d . -f 
     'return rtnlc_request(16, 0, 1, false, NULL, 32).code;'
   check 'fewer bytes than len' warns -Wstringop-overread \
     'uint8_t bytes[16] = { 0 }; return rtnlc_scan(bytes, 20, NULL).code;'
+  check 'a head of a builder that is null' warns -Wnonnull \
+    'struct rtnlc_builder b = { 0 }; return rtnlc_builder_begin(&b, 16, 0, 1, 0, NULL, 16);'
+  check 'fewer bytes of an attribute than len' warns -Wstringop-overread \
+    'struct rtnlc_builder b = { 0 }; uint8_t a[4] = { 0 }; return rtnlc_builder_put(&b, 1, a, 6);'
   check 'less than the room' warns -Wstringop-overflow \
     'uint8_t out[16]; return rtnlc_request(16, 0, 1, false, out, 32).code;'
   check 'bytes for elements' warns -Wstringop-overflow \

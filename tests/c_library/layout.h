@@ -151,4 +151,21 @@ IS_AT(rtnlc_stream, big, 57);
 IS_AT(rtnlc_stream, damaged, 58);
 IS_AT(rtnlc_stream, interrupted, 59);
 
+IS_SIZE(rtnlc_built, 192);
+IS_AT(rtnlc_built, total, 0);
+IS_AT(rtnlc_built, entries, 8);
+IS_AT(rtnlc_built, datagram, 12);
+IS_AT(rtnlc_built, len, 16);
+IS_AT(rtnlc_built, starts, 20);
+IS_AT(rtnlc_built, contents, 152);
+IS_AT(rtnlc_built, count, 185);
+IS_AT(rtnlc_built, depth, 186);
+IS_AT(rtnlc_built, big, 187);
+IS_AT(rtnlc_built, refusal, 188);
+
+IS_SIZE(rtnlc_builder, 208);
+IS_AT(rtnlc_builder, out, 0);
+IS_AT(rtnlc_builder, room, 8);
+IS_AT(rtnlc_builder, built, 16);
+
 #endif

@@ -1,6 +1,7 @@
 /*
- * What wrong uses of sessions and streams get: what is no session and no stream, each field of a
- * stream broken in turn, limits out of their ranges, and calls in a wrong order.
+ * What wrong uses of sessions, streams and builders get: what is no session, no stream and no
+ * builder, each field of a stream or of a builder broken in turn, limits out of their ranges, and
+ * calls in a wrong order.
  */
 #include "answers.h"
 
@@ -57,14 +58,19 @@ static void is_bad(struct rtnlc_options options, const char *what)
 {
 	struct rtnlc_session s = { 0 };
 	struct rtnlc_stream stream, painted;
+	struct rtnlc_builder builder, unmade;
 	struct rtnlc_event *out = (struct rtnlc_event *)(void *)(out_end - sizeof *out);
 	char *text = (char *)out_end - 1;
 	memset(&stream, PAINT, sizeof stream);
 	memset(&painted, PAINT, sizeof painted);
+	memset(&builder, PAINT, sizeof builder);
+	memset(&unmade, PAINT, sizeof unmade);
 	memset(out, PAINT, sizeof *out);
 	must(rtnlc_session_new(&s, &options) == RTNLC_BAD_LIMIT && !s.at, what);
 	must(rtnlc_stream_new(&stream, &options) == RTNLC_BAD_LIMIT, what);
 	must(is_same(&stream, &painted, sizeof stream), what);
+	must(rtnlc_builder_new(&builder, &options, out_end - 1, 1) == RTNLC_BAD_LIMIT, what);
+	must(is_same(&builder, &unmade, sizeof builder), what);
 	must(rtnlc_scan(done, sizeof done, &options).code == RTNLC_BAD_LIMIT, what);
 	must(rtnlc_tape(done, sizeof done, &options, out, 1).code == RTNLC_BAD_LIMIT, what);
 	must(rtnlc_check(done, sizeof done, &options).code == RTNLC_BAD_LIMIT, what);
@@ -98,6 +104,17 @@ static void bad_limits(void)
 	is_bad(options, "limits of zero");
 }
 
+/* Whether it is a new builder of these limits, over this buffer. */
+static bool is_new(const struct rtnlc_builder *b, const struct rtnlc_options *options,
+                   const uint8_t *out, size_t room)
+{
+	const struct rtnlc_built *it = &b->built;
+	return b->out == out && b->room == room && it->total == options->total &&
+	       it->entries == options->entries && it->datagram == options->datagram &&
+	       it->depth == options->depth && it->big == options->big && !it->len && !it->count &&
+	       !it->refusal;
+}
+
 /* The greatest and the least of each limit are within its range. */
 static void good_limits(void)
 {
@@ -107,6 +124,9 @@ static void good_limits(void)
 	for (at = 0; at < 2; at++) {
 		struct rtnlc_session s = { 0 };
 		struct rtnlc_stream stream;
+		struct rtnlc_builder builder;
+		must(rtnlc_builder_new(&builder, &all[at], out_end - 1, 1) == RTNLC_OK, "of a builder");
+		must(is_new(&builder, &all[at], out_end - 1, 1), "a new builder");
 		must(rtnlc_session_new(&s, &all[at]) == RTNLC_OK && s.at, "limits of a session");
 		must(rtnlc_session_table(&s, 16).limit == all[at].entries, "its entries");
 		must(rtnlc_stream_new(&stream, &all[at]) == RTNLC_OK, "limits of a stream");
@@ -300,6 +320,184 @@ static void no_streams(void)
 	changed_fields();
 }
 
+/* ---- The calls of a builder in a wrong order ---- */
+
+#define BUILT 64
+
+static const uint8_t route_head[12] = { 2 };
+
+/* A builder whose buffer ends at a page that can't be touched, with a route's message open. */
+static struct rtnlc_builder begun(void)
+{
+	struct rtnlc_builder it;
+	/* What is behind its open heads says nothing, but whole builders are compared here. */
+	memset(&it, 0, sizeof it);
+	uint8_t *out = out_end - BUILT;
+	memset(out, PAINT, BUILT);
+	must(rtnlc_builder_new(&it, NULL, out, BUILT) == RTNLC_OK, "a builder");
+	must(rtnlc_builder_begin(&it, 24, 5, 1, 0, route_head, 12) == RTNLC_OK, "a message");
+	return it;
+}
+
+/* A refusal is all that has changed, in the buffer nothing; and so it stays. */
+static void is_refused(struct rtnlc_builder *it, struct rtnlc_builder before, const uint8_t *bytes,
+                       uint8_t code)
+{
+	before.built.refusal = code;
+	must(is_same(it, &before, sizeof before), "what is refused");
+	must(rtnlc_builder_begin(it, 24, 5, 1, 0, route_head, 12) == code, "begin behind it");
+	must(rtnlc_builder_put(it, 1, route_head, 4) == code, "put behind it");
+	must(rtnlc_builder_put_text(it, 1, "lo", 2) == code, "put_text behind it");
+	must(rtnlc_builder_put_u8(it, 1, 1) == code, "put_u8 behind it");
+	must(rtnlc_builder_open(it, 9) == code, "open behind it");
+	must(rtnlc_builder_open_hop(it, 0, 0, 1) == code, "open_hop behind it");
+	must(rtnlc_builder_close(it) == code, "close behind it");
+	must(rtnlc_builder_end(it) == code, "end behind it");
+	must(rtnlc_builder_message(it, 3, 0, 1, 0, NULL, 0) == code, "message behind it");
+	must(is_put(rtnlc_builder_finish(it), 0, code), "finish behind it");
+	must(is_same(it, &before, sizeof before), "what is refused again");
+	must(is_same(it->out, bytes, BUILT), "the bytes of what is refused");
+}
+
+static void order_of_builder(void)
+{
+	struct rtnlc_builder good = begun(), it;
+	uint8_t bytes[BUILT];
+#define REFUSED(code, call)                                                                        \
+	(it = good, memcpy(bytes, it.out, BUILT), must((call) == (code), #call),                       \
+	 is_refused(&it, good, bytes, code))
+	REFUSED(RTNLC_STILL_OPEN, rtnlc_builder_begin(&it, 24, 5, 2, 0, route_head, 12));
+	REFUSED(RTNLC_STILL_OPEN, rtnlc_builder_message(&it, 3, 2, 2, 0, route_head, 4));
+	REFUSED(RTNLC_NOTHING_OPEN, rtnlc_builder_close(&it));
+	must(rtnlc_builder_open(&good, 9) == RTNLC_OK && good.built.len == 32, "next hops");
+	REFUSED(RTNLC_STILL_OPEN, rtnlc_builder_end(&it));
+	REFUSED(RTNLC_MISMATCH, rtnlc_builder_put_u32(&it, 4, 1));
+	REFUSED(RTNLC_MISMATCH, rtnlc_builder_open(&it, 8));
+	must(rtnlc_builder_open_hop(&good, 0, 0, 7) == RTNLC_OK && good.built.count == 3, "a hop");
+	REFUSED(RTNLC_STILL_OPEN, rtnlc_builder_end(&it));
+	REFUSED(RTNLC_MISMATCH, rtnlc_builder_open_hop(&it, 0, 0, 7));
+	must(rtnlc_builder_close(&good) == RTNLC_OK, "a hop is closed");
+	must(rtnlc_builder_close(&good) == RTNLC_OK, "next hops are closed");
+	REFUSED(RTNLC_NOTHING_OPEN, rtnlc_builder_close(&it));
+	it = good;
+	must(is_put(rtnlc_builder_finish(&it), 0, RTNLC_STILL_OPEN), "a message is open");
+	must(is_same(&it, &good, sizeof it), "what is only asked");
+	must(rtnlc_builder_end(&good) == RTNLC_OK && good.built.count == 0, "the message is ended");
+	REFUSED(RTNLC_NOTHING_OPEN, rtnlc_builder_end(&it));
+	REFUSED(RTNLC_NOTHING_OPEN, rtnlc_builder_put_u32(&it, 4, 1));
+	REFUSED(RTNLC_NOTHING_OPEN, rtnlc_builder_open(&it, 9));
+	REFUSED(RTNLC_NOTHING_OPEN, rtnlc_builder_open_hop(&it, 0, 0, 7));
+	REFUSED(RTNLC_NO_ROOM, rtnlc_builder_begin(&it, 24, 5, 1, 0, route_head, 12));
+	must(is_put(rtnlc_builder_finish(&good), 40, RTNLC_OK), "its bytes");
+	must(rtnlc_check(good.out, 40, NULL).canonical, "they are canonical");
+	must(is_painted(good.out + 40, BUILT - 40), "what is behind them");
+}
+
+/* ---- What is no builder ---- */
+
+static void is_no_builder(struct rtnlc_builder *it, const char *what)
+{
+	struct rtnlc_builder before = *it;
+	memset(out_end - BUILT, PAINT, BUILT);
+	must(rtnlc_builder_begin(it, 24, 5, 1, 0, route_head, 12) == RTNLC_NO_BUILDER, what);
+	must(rtnlc_builder_put(it, 1, route_head, 4) == RTNLC_NO_BUILDER, what);
+	must(rtnlc_builder_put_text(it, 1, "lo", 2) == RTNLC_NO_BUILDER, what);
+	must(rtnlc_builder_put_u16(it, 1, 1) == RTNLC_NO_BUILDER, what);
+	must(rtnlc_builder_put_be64(it, 1, 1) == RTNLC_NO_BUILDER, what);
+	must(rtnlc_builder_open(it, 9) == RTNLC_NO_BUILDER, what);
+	must(rtnlc_builder_open_hop(it, 0, 0, 1) == RTNLC_NO_BUILDER, what);
+	must(rtnlc_builder_close(it) == RTNLC_NO_BUILDER, what);
+	must(rtnlc_builder_end(it) == RTNLC_NO_BUILDER, what);
+	must(rtnlc_builder_message(it, 3, 0, 1, 0, NULL, 0) == RTNLC_NO_BUILDER, what);
+	must(is_put(rtnlc_builder_finish(it), 0, RTNLC_NO_BUILDER), what);
+	must(is_same(it, &before, sizeof before), what);
+	must(is_painted(out_end - BUILT, BUILT), what);
+}
+
+/* Each field of a builder in which a next hop is open, broken in turn. */
+static void broken_builders(void)
+{
+	struct rtnlc_builder good = begun(), bad;
+	must(rtnlc_builder_open(&good, 9) == RTNLC_OK, "next hops");
+	must(rtnlc_builder_open_hop(&good, 0, 0, 7) == RTNLC_OK && good.built.len == 40, "a hop");
+#define NO_BUILDER(field, value)                                                                   \
+	(bad = good, bad.field = (value), is_no_builder(&bad, "a builder broken in " #field))
+	NO_BUILDER(out, NULL);
+	NO_BUILDER(room, 39);
+	NO_BUILDER(built.total, ((uint64_t)1 << 40) + 1);
+	NO_BUILDER(built.entries, 65537);
+	NO_BUILDER(built.datagram, 0);
+	NO_BUILDER(built.datagram, 18);
+	NO_BUILDER(built.datagram, 36);
+	NO_BUILDER(built.datagram, LARGEST + 4);
+	NO_BUILDER(built.len, BUILT + 1);
+	NO_BUILDER(built.len, UINT32_MAX);
+	NO_BUILDER(built.starts[2], 41);
+	NO_BUILDER(built.starts[0], UINT32_MAX);
+	NO_BUILDER(built.contents[0], 10);
+	NO_BUILDER(built.contents[2], 255);
+	NO_BUILDER(built.count, 34);
+	NO_BUILDER(built.count, 255);
+	NO_BUILDER(built.depth, 1);
+	NO_BUILDER(built.depth, 33);
+	NO_BUILDER(built.big, 2);
+	NO_BUILDER(built.refusal, RTNLC_CUT);
+	NO_BUILDER(built.refusal, RTNLC_NO_BUILDER);
+	memset(&bad.built, 0, sizeof bad.built);
+	is_no_builder(&bad, "a builder of zeros");
+	memset(&bad.built, 255, sizeof bad.built);
+	is_no_builder(&bad, "a builder of ones");
+}
+
+/* What the caller may change: a copy is a builder of its own, which goes on where it was over the
+ * same bytes; the buffer may move; limits are what the fields say. */
+static void changed_builders(void)
+{
+	struct rtnlc_builder it = begun(), copy;
+	uint8_t wanted[36], moved[BUILT];
+	must(rtnlc_builder_put_u32(&it, 4, 7) == RTNLC_OK, "an attribute");
+	copy = it;
+	must(rtnlc_builder_end(&copy) == RTNLC_OK, "a message");
+	memcpy(wanted, copy.out, sizeof wanted);
+	copy = it;
+	must(rtnlc_builder_open(&copy, 9) == RTNLC_OK, "next hops, which are dropped");
+	must(rtnlc_builder_open_hop(&copy, 1, 2, 3) == RTNLC_OK, "a hop, which is dropped");
+	must(rtnlc_builder_end(&copy) == RTNLC_STILL_OPEN, "a refusal, which is dropped");
+	must(rtnlc_builder_end(&it) == RTNLC_OK, "the one from before goes on");
+	must(is_put(rtnlc_builder_finish(&it), 36, RTNLC_OK), "its length");
+	must(is_same(it.out, wanted, 36), "its bytes");
+	copy = it;
+	must(rtnlc_builder_begin(&copy, 24, 5, 2, 0, route_head, 12) == RTNLC_OK, "one more");
+	must(rtnlc_builder_put_u32(&copy, 4, 7) == RTNLC_NO_ROOM, "which has no room");
+	must(is_put(rtnlc_builder_finish(&it), 36, RTNLC_OK), "those that had room");
+	must(is_same(it.out, wanted, 36), "their bytes");
+	memcpy(moved, it.out, 36);
+	it.out = moved;
+	it.built.big = 1;
+	must(rtnlc_builder_message(&it, 1, 2, 3, 0, NULL, 0) == RTNLC_OK, "in a moved buffer");
+	must(moved[36] == 0 && moved[39] == 16 && moved[51] == 0, "in the other order");
+	it = begun();
+	it.built.depth = 0;
+	must(rtnlc_builder_open(&it, 9) == RTNLC_TOO_DEEP, "a lower depth");
+	it = begun();
+	it.room = it.built.len;
+	must(rtnlc_builder_put(&it, 1, NULL, 0) == RTNLC_NO_ROOM, "a smaller room");
+	it = begun();
+	it.built.refusal = RTNLC_TOO_LONG;
+	must(is_put(rtnlc_builder_finish(&it), 0, RTNLC_TOO_LONG), "a refusal of the caller's");
+}
+
+static void no_builders(void)
+{
+	must(rtnlc_builder_new(NULL, NULL, request, 32) == RTNLC_NO_BUILDER, "nowhere to make one");
+	must(rtnlc_builder_begin(NULL, 24, 0, 0, 0, route_head, 12) == RTNLC_NO_BUILDER, "null");
+	must(rtnlc_builder_put(NULL, 1, NULL, 0) == RTNLC_NO_BUILDER, "null");
+	must(rtnlc_builder_end(NULL) == RTNLC_NO_BUILDER, "null");
+	must(is_put(rtnlc_builder_finish(NULL), 0, RTNLC_NO_BUILDER), "null");
+	broken_builders();
+	changed_builders();
+}
+
 int main(void)
 {
 	out_end = guarded_end(PAGE);
@@ -309,5 +507,7 @@ int main(void)
 	order_of_session();
 	order_of_stream();
 	no_streams();
+	order_of_builder();
+	no_builders();
 	return 0;
 }

@@ -4,7 +4,7 @@ archive=$folder/library/librtnlc.a
 shared=$folder/library/librtnlc.so.0
 
 # declared: the functions of the header.
-declared() { grep -oE '\brtnlc_[a-z_]+\(' include/rtnlc.h | tr -d '(' | sort -u; }
+declared() { grep -oE '\brtnlc_[a-z0-9_]+\(' include/rtnlc.h | tr -d '(' | sort -u; }
 
 # names_in FILE [OPTION..]: the names that nm prints of it, but for that of the version itself.
 names_in() {
@@ -13,7 +13,7 @@ names_in() {
 
 # Each call of the header is one that the programs of this folder make.
 calls_all() {
-  diff <(declared) <(grep -ohE '\brtnlc_[a-z_]+\(' tests/c_library/*.[ch] | tr -d '(' | sort -u)
+  diff <(declared) <(grep -ohE '\brtnlc_[a-z0-9_]+\(' tests/c_library/*.[ch] | tr -d '(' | sort -u)
 }
 
 # Each code of the header is one that words.c asks for the name of.
@@ -23,7 +23,7 @@ names_all_codes() {
     <(sed -n '/codes\[\]/,/^};/p' tests/c_library/words.c | grep -oE 'RTNLC_[A-Z_]+' | sort)
 }
 
-defines_the_calls() { [ "$(declared | wc -l)" = 32 ] && diff <(declared) <(names_in "$@"); }
+defines_the_calls() { [ "$(declared | wc -l)" = 49 ] && diff <(declared) <(names_in "$@"); }
 
 # Each call of the shared library carries the version of its interface.
 carries_version() {

@@ -97,7 +97,7 @@ all_programs() {
       check "$name: what is found in $sort datagrams, $order" finds "find $name" "$sort" "$order"
     done
   done
-  for program_name in misuse room; do
+  for program_name in misuse room builder; do
     check "$name: $program_name.c" built "$program_name" "$program_name $name" "$@"
     check "$name: $program_name.c runs" "$folder/$program_name $name"
   done
@@ -121,14 +121,14 @@ for standard in c11 c17; do
   check "$standard: fixed.c runs" "$folder/fixed"
 done
 for standard in c++11 c++17 c++20; do
-  for name in fixed threads stack find misuse room named words session stream session_threads \
-    dumps million; do
+  for name in fixed threads stack find misuse room builder named words session stream \
+    session_threads dumps million; do
     check "$standard: $name.c" built "$name" "$name" c++ "-std=$standard" -x c++
   done
   for name in refused session_refused; do
     check "$standard: $name.c" built "$name" "$name" c++ "-std=$standard" "$wraps" -x c++
   done
-  for name in fixed misuse room words; do
+  for name in fixed misuse room builder words; do
     check "$standard: $name.c runs" quietly "$folder/$name"
   done
 done

@@ -24,14 +24,16 @@ NAMES = {
     "Checked": "rtnlc_checked",
     "Shown": "rtnlc_shown",
     "Kept": "rtnlc_stream",
+    "KeptBuilder": "rtnlc_built",
     "Fed": "rtnlc_fed",
     "Put": "rtnlc_put",
     "Status": "rtnlc_status",
     "TableSize": "rtnlc_table",
     "FoundEntry": "rtnlc_found",
 }
-# What C keeps of a session has no field that is compared: c/rtnlc.c makes the one of the other.
-APART = ("rtnlc_session", "Handle")
+# What C keeps of a session has no field that is compared: c/rtnlc.c makes the one of the other. A
+# builder for C has the buffer beside what the code keeps.
+APART = ("rtnlc_session", "Handle", "rtnlc_builder")
 # Calls that answer words: they are made in c/rtnlc.c alone.
 WORDS = {"code_name", "version"}
 TYPES = {f"u{bits}": f"uint{bits}_t" for bits in (8, 16, 32, 64)}
@@ -45,6 +47,8 @@ for name in ("u8", "Event"):
 PARAMETERS["&Options"] = ["const struct rtnlc_options *"]
 PARAMETERS["&Kept"] = ["const struct rtnlc_stream *"]
 PARAMETERS["&mut Kept"] = ["struct rtnlc_stream *"]
+PARAMETERS["&KeptBuilder"] = ["const struct rtnlc_built *"]
+PARAMETERS["&mut KeptBuilder"] = ["struct rtnlc_built *"]
 PARAMETERS["&mut Handle"] = ["struct rtnlc_session *"]
 
 
@@ -74,7 +78,8 @@ def structs_in_code(text):
     found = {}
     struct = r"#\[repr\(C\)\]\s*(?:#\[[^\n]*\s*)*pub struct (\w+) \{(.*?)\n\}"
     for name, body in re.findall(struct, text, re.S):
-        fields = re.findall(r"^\s*pub (\w+): (\w+),$", body, re.M)
+        body = re.sub(r"(\w+): \[(\w+); (\d+)\]", r"\1[\3]: \2", body)
+        fields = re.findall(r"^\s*pub ([\w\[\]]+): (\w+),$", body, re.M)
         found[NAMES.get(name, name)] = [(field, TYPES.get(kind, kind)) for field, kind in fields]
     return found
 
@@ -103,6 +108,20 @@ def calls_in_code(text):
     return found
 
 
+def with_buffer(calls):
+    """The calls of a builder as the code has them, in which its buffer stands apart."""
+    found = dict(calls)
+    for name, (result, kinds) in calls.items():
+        if name.startswith("builder_"):
+            is_read = kinds[0].startswith("const ")
+            own = [kinds[0].replace("rtnlc_builder", "rtnlc_built")]
+            buffer = [f"{'const ' if is_read else ''}uint8_t *", "size_t"]
+            rest = [it.replace("void", "uint8_t") for it in kinds[1:]]
+            is_new = name == "builder_new"
+            found[name] = (result, own + (rest[:1] if is_new else buffer + rest))
+    return found
+
+
 def differences(what, one, other):
     for name in sorted({*one, *other}):
         if one.get(name) != other.get(name):
@@ -116,7 +135,7 @@ def main():
     events = structs_in_code(text_of("crates/nl_attr/src/events.rt"))
     calls = calls_in_code(code)
     # A text is of bytes in the code, and of characters in the header.
-    declared = calls_in_c(header.replace(" char *out", " uint8_t *out"), "rtnlc")
+    declared = calls_in_c(re.sub(r" char \*(out|text)", r" uint8_t *\1", header), "rtnlc")
     glue = plain(text_of("c/rtnlc.c")).replace("struct handle *", "struct rtnlc_session *")
     between = calls_in_c(glue, "proved")
     structs, known = structs_in_c(header), structs_in_code(code) | events
@@ -124,7 +143,7 @@ def main():
         structs.pop(name, None)
         known.pop(name, None)
     found = [*differences("struct", structs, known)]
-    found += differences("the call", declared, calls)
+    found += differences("the call", with_buffer(declared), calls)
     found += differences("the proved call", between, calls)
     names = {*re.findall(r"\brtnlc_(\w+)\(", header)}
     found += [f"the call {name} is in C alone" for name in sorted(names - {*calls} - WORDS)]

@@ -28,6 +28,7 @@ static void expect_put(const char *what, struct rtnlc_put put, uint8_t code, siz
 
 static void pass_nothing(void)
 {
+	struct rtnlc_builder b;
 	expect("a scan of nothing", rtnlc_scan(NULL, 0, NULL).code, RTNLC_OK);
 	expect("a tape of nothing", rtnlc_tape(NULL, 0, NULL, NULL, 0).code, RTNLC_OK);
 	expect("a check of nothing", rtnlc_check(NULL, 0, NULL).code, RTNLC_OK);
@@ -41,12 +42,21 @@ static void pass_nothing(void)
 	expect_put("no name of a type", rtnlc_type_name(23, NULL, 0), RTNLC_END, 0);
 	expect_put("no name of an attribute", rtnlc_attr_name(RTNLC_PLAIN, 1, NULL, 0), RTNLC_END, 0);
 	expect_put("no context", rtnlc_attr_name(9, 1, NULL, 0), RTNLC_END, 0);
+	expect("a builder over nothing", rtnlc_builder_new(&b, NULL, NULL, 0), RTNLC_OK);
+	expect_put("nothing is built", rtnlc_builder_finish(&b), RTNLC_OK, 0);
+	expect("no room for a message", rtnlc_builder_message(&b, 1, 0, 1, 0, NULL, 0), RTNLC_NO_ROOM);
+	expect("no buffer, whatever its room", rtnlc_builder_new(&b, NULL, NULL, 64), RTNLC_OK);
+	expect("nor then", rtnlc_builder_message(&b, 1, 0, 1, 0, NULL, 0), RTNLC_NO_ROOM);
+	expect("a builder", rtnlc_builder_new(&b, NULL, out, sizeof out), RTNLC_OK);
+	expect("a message without a body", rtnlc_builder_message(&b, 1, 0, 1, 0, NULL, 0), RTNLC_OK);
+	expect("a head of nothing", rtnlc_builder_begin(&b, 24, 0, 1, 0, NULL, 0), RTNLC_MISMATCH);
 }
 
 static void pass_limits(void)
 {
 	struct rtnlc_session s = { NULL };
 	struct rtnlc_stream stream, before;
+	struct rtnlc_builder builder, painted;
 	expect("limits of a scan", rtnlc_scan(NULL, 0, &none).code, RTNLC_BAD_LIMIT);
 	expect("limits of a tape", rtnlc_tape(NULL, 0, &none, NULL, 0).code, RTNLC_BAD_LIMIT);
 	expect("limits of a check", rtnlc_check(NULL, 0, &none).code, RTNLC_BAD_LIMIT);
@@ -59,6 +69,10 @@ static void pass_limits(void)
 	before = stream;
 	expect("limits of a stream", rtnlc_stream_new(&stream, &none), RTNLC_BAD_LIMIT);
 	expect("it isn't written", memcmp(&stream, &before, sizeof stream) == 0, true);
+	memset(&builder, 0xaa, sizeof builder);
+	painted = builder;
+	expect("limits of a builder", rtnlc_builder_new(&builder, &none, out, 64), RTNLC_BAD_LIMIT);
+	expect("nor is it", memcmp(&builder, &painted, sizeof builder) == 0, true);
 	expect("a large datagram", rtnlc_scan(zeros, RTNLC_STANDARD_DATAGRAM + 1, NULL).code,
 	       RTNLC_TOO_LARGE);
 	expect("many bytes", rtnlc_attr_at(zeros, LARGEST + 1, 0, false).code, RTNLC_TOO_LARGE);
@@ -184,6 +198,105 @@ static void pass_streams(void)
 	expect("what is behind it", memcmp(kept.behind, before.behind, sizeof kept.behind) == 0, true);
 }
 
+/* All calls of a builder that isn't there. */
+static void pass_no_builder(struct rtnlc_builder *b)
+{
+	const uint8_t code = RTNLC_NO_BUILDER;
+	expect("begin", rtnlc_builder_begin(b, 24, 0, 1, 0, zeros, 12), code);
+	expect("put", rtnlc_builder_put(b, 1, NULL, 0), code);
+	expect("put_text", rtnlc_builder_put_text(b, 3, "lo", 2), code);
+	expect("put_u8", rtnlc_builder_put_u8(b, 1, 1), code);
+	expect("put_u16", rtnlc_builder_put_u16(b, 1, 1), code);
+	expect("put_u32", rtnlc_builder_put_u32(b, 1, 1), code);
+	expect("put_u64", rtnlc_builder_put_u64(b, 1, 1), code);
+	expect("put_be16", rtnlc_builder_put_be16(b, 1, 1), code);
+	expect("put_be32", rtnlc_builder_put_be32(b, 1, 1), code);
+	expect("put_be64", rtnlc_builder_put_be64(b, 1, 1), code);
+	expect("open", rtnlc_builder_open(b, 9), code);
+	expect("open_hop", rtnlc_builder_open_hop(b, 0, 0, 1), code);
+	expect("close", rtnlc_builder_close(b), code);
+	expect("end", rtnlc_builder_end(b), code);
+	expect("message", rtnlc_builder_message(b, 3, 0, 1, 0, NULL, 0), code);
+	expect_put("finish", rtnlc_builder_finish(b), code, 0);
+}
+
+/* A builder in which the message of a route is begun. */
+static void begin_route(struct rtnlc_builder *b)
+{
+	expect("a builder", rtnlc_builder_new(b, NULL, out, sizeof out), RTNLC_OK);
+	expect("begun", rtnlc_builder_begin(b, 24, 5, 1, 0, zeros, 12), RTNLC_OK);
+}
+
+/* A call gets this code where no message is begun, or in one; and what comes behind gets it too. */
+#define GETS(code, call)                                                                \
+	(expect(#call, call, code), expect("it sticks", rtnlc_builder_put_u8(b, 1, 1), code), \
+	 expect_put("in the end", rtnlc_builder_finish(b), code, 0))
+#define GETS_FIRST(code, call) (rtnlc_builder_new(b, NULL, out, sizeof out), GETS(code, call))
+#define GETS_WITHIN(code, call) (begin_route(b), GETS(code, call))
+
+/* All orders of calls that are wrong, of a builder. */
+static void pass_orders(struct rtnlc_builder *b)
+{
+	GETS_FIRST(RTNLC_NOTHING_OPEN, rtnlc_builder_put(b, 1, zeros, 4));
+	GETS_FIRST(RTNLC_NOTHING_OPEN, rtnlc_builder_open(b, 9));
+	GETS_FIRST(RTNLC_NOTHING_OPEN, rtnlc_builder_open_hop(b, 0, 0, 1));
+	GETS_FIRST(RTNLC_NOTHING_OPEN, rtnlc_builder_close(b));
+	GETS_FIRST(RTNLC_NOTHING_OPEN, rtnlc_builder_end(b));
+	GETS_WITHIN(RTNLC_NOTHING_OPEN, rtnlc_builder_close(b));
+	GETS_WITHIN(RTNLC_STILL_OPEN, rtnlc_builder_begin(b, 24, 0, 2, 0, zeros, 12));
+	GETS_WITHIN(RTNLC_STILL_OPEN, rtnlc_builder_message(b, 3, 0, 2, 0, zeros, 4));
+	begin_route(b);
+	expect("next hops", rtnlc_builder_open(b, 9), RTNLC_OK);
+	GETS(RTNLC_STILL_OPEN, rtnlc_builder_end(b));
+	begin_route(b);
+	expect_put("asked in a message", rtnlc_builder_finish(b), RTNLC_STILL_OPEN, 0);
+	expect("it goes on", rtnlc_builder_end(b), RTNLC_OK);
+	expect_put("asked behind it", rtnlc_builder_finish(b), RTNLC_OK, 28);
+}
+
+/* What doesn't belong where it is put, or has no room there. */
+static void pass_kinds(struct rtnlc_builder *b)
+{
+	static uint8_t before[sizeof out];
+	GETS_FIRST(RTNLC_MISMATCH, rtnlc_builder_begin(b, 16, 0, 1, 0, zeros, 12));
+	GETS_FIRST(RTNLC_MISMATCH, rtnlc_builder_begin(b, 3, 0, 1, 0, zeros, 4));
+	GETS_FIRST(RTNLC_MISMATCH, rtnlc_builder_begin(b, 26, 0, 1, 0, zeros, 12));
+	GETS_FIRST(RTNLC_MISMATCH, rtnlc_builder_message(b, 24, 0, 1, 0, zeros, 12));
+	GETS_FIRST(RTNLC_MISMATCH, rtnlc_builder_message(b, 2, 0, 1, 0, zeros, 19));
+	GETS_FIRST(RTNLC_MISMATCH, rtnlc_builder_message(b, 26, 0, 1, 0, NULL, 0));
+	GETS_WITHIN(RTNLC_MISMATCH, rtnlc_builder_put_u32(b, 9, 1));
+	GETS_WITHIN(RTNLC_MISMATCH, rtnlc_builder_put_u32(b, 0x8000 | 1, 1));
+	GETS_WITHIN(RTNLC_MISMATCH, rtnlc_builder_open(b, 1));
+	GETS_WITHIN(RTNLC_MISMATCH, rtnlc_builder_open_hop(b, 0, 0, 1));
+	GETS_WITHIN(RTNLC_TOO_LONG, rtnlc_builder_put(b, 1, zeros, 65532));
+	begin_route(b);
+	memcpy(before, out, sizeof out);
+	GETS(RTNLC_NO_ROOM, rtnlc_builder_put(b, 1, a_link, 33));
+	expect("no byte changes", memcmp(before, out, sizeof out) == 0, true);
+	begin_route(b);
+	b->built.big = 1; /* the caller's, within its range */
+	expect("in another order", rtnlc_builder_put_u16(b, 1, 0x102), RTNLC_OK);
+	expect("its bytes", out[32] == 1 && out[33] == 2, true);
+}
+
+/* Builders in front of bytes that no call may touch. */
+static void pass_builders(void)
+{
+	struct {
+		struct rtnlc_builder builder;
+		uint8_t behind[64];
+	} kept, before;
+	memset(&kept, 0xff, sizeof kept);
+	kept.builder.out = out;
+	kept.builder.room = sizeof out;
+	before = kept;
+	pass_no_builder(&kept.builder);
+	expect("it isn't written", memcmp(&kept, &before, sizeof kept) == 0, true);
+	pass_orders(&kept.builder);
+	pass_kinds(&kept.builder);
+	expect("what is behind it", memcmp(kept.behind, before.behind, sizeof kept.behind) == 0, true);
+}
+
 int main(void)
 {
 	struct rtnlc_session s = { NULL };
@@ -200,5 +313,8 @@ int main(void)
 	expect("a null stream", rtnlc_stream_new(NULL, NULL), RTNLC_NO_STREAM);
 	pass_no_stream(NULL);
 	pass_streams();
+	expect("a null builder", rtnlc_builder_new(NULL, NULL, out, 64), RTNLC_NO_BUILDER);
+	pass_no_builder(NULL);
+	pass_builders();
 	return failures > 0;
 }

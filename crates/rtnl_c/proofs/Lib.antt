@@ -7,3 +7,4 @@ mod Handles
 mod Seen
 mod Streams
 mod Finding
+mod Keeping

@@ -29,6 +29,10 @@ no_kind = 19
 abbrev pub no_session : ℕ
 no_session = 20
 
+-- what is kept is no builder
+abbrev pub no_builder : ℕ
+no_builder = 23
+
 -- nothing stands there
 abbrev pub nothing_there : ℕ
 nothing_there = 255

@@ -17,3 +17,4 @@ pub mod Held
 pub mod Sessions
 pub mod Entries
 pub mod Streams
+pub mod Building

@@ -21,5 +21,8 @@ pub(crate) const NO_KIND: u8 = 19;
 /// There is no session.
 pub(crate) const NO_SESSION: u8 = 20;
 
+/// What is kept is no builder.
+pub(crate) const NO_BUILDER: u8 = 23;
+
 /// Nothing stands there: at the end of the bytes, behind the last entry, under a key.
 pub(crate) const END: u8 = 255;

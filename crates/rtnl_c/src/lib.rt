@@ -2,6 +2,7 @@
 #![tactic(auto)]
 
 mod broken;
+mod building;
 mod check;
 mod codes;
 mod cursors;

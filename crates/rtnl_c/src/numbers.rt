@@ -30,7 +30,7 @@ pub struct Holds {
 }
 
 /// The number of a context.
-fn number(ctx: Ctx) -> u8
+pub(crate) fn number(ctx: Ctx) -> u8
     ensures { result ≡ context_number ctx }
 {
     match ctx {

@@ -1,0 +1,184 @@
+-- A builder that C keeps: its heads, and the way back.
+use Rattle.std.proofs.Common.{◌≡◌, ◌≢◌, ◌==◌, true, false, ℕ, ◌+◌, ◌<◌, ◌≤◌, ◌⊎◌, List, [], ◌∷◌, length, slice_index_or, slice_set, Option, Some, None, Result, Ok, Err, refl, sym, ap, subst, ◌∙◌, arith, inl, inr}
+use Rattle.std.specs.Prelude.{MatchOption}
+use Rattle.std.proofs.lemmas.List.{get_or-set_same, get_or-set_other}
+use Rattle.std.proofs.Math.Nat.{eq-or-lt_of_le}
+use Rattle.nl_attr.specs.declared.order.Order.{Order}
+use Rattle.nl_attr.specs.declared.order.Order.TheVariants.{Little, Big}
+use Rattle.nl_attr.specs.declared.tree.Ctx.TheVariants.{Link, LinkInfo, Addr, Route, Metrics, Neigh, Rule, Plain}
+use Rattle.nl_attr.specs.declared.tree.Content.{Content}
+use Rattle.nl_attr.specs.declared.tree.Content.TheVariants as content
+use Rattle.nl_frame.specs.declared.building.OpenHead.{OpenHead}
+use Rattle.nl_frame.specs.declared.building.refusal.BuildError.{BuildError}
+use Rattle.nl_frame.specs.declared.building.refusal.BuildError.TheVariants.{Mismatch, TooDeep, TooLong, TooLarge, NoRoom, NothingOpen, StillOpen}
+use Rattle.nl_frame.specs.Building.{Built, AreOpen, order_of}
+use Rattle.nl_frame.specs.Limits.{bounds_of}
+use Rattle.nl_frame.specs.Parts.{Parts, AreParts, over, resumed}
+use Rattle.rtnl_c.specs.declared.building.KeptBuilder.{KeptBuilder}
+use Rattle.rtnl_c.specs.Options.{order_in}
+use Rattle.rtnl_c.specs.Building.{AreKept, IsKept, IsNone, Reopens, Calls, on_none, calls, content_in, content_number, order_by, order_number, refusal_in, refusal_number}
+
+-- ---- numbers
+
+pub order_back : (o : Order) → order_by (order_number o) ≡ Some o
+order_back Little = refl
+order_back Big = refl
+
+pub content_back : (c : Content) → content_in (content_number c) ≡ Some c
+content_back content.Bytes = refl
+content_back content.Hops = refl
+content_back (content.List Link) = refl
+content_back (content.List LinkInfo) = refl
+content_back (content.List Addr) = refl
+content_back (content.List Route) = refl
+content_back (content.List Metrics) = refl
+content_back (content.List Neigh) = refl
+content_back (content.List Rule) = refl
+content_back (content.List Plain) = refl
+
+pub refusal_back : (r : Option BuildError) → refusal_in (refusal_number r) ≡ Some r
+refusal_back None = refl
+refusal_back (Some Mismatch) = refl
+refusal_back (Some TooDeep) = refl
+refusal_back (Some TooLong) = refl
+refusal_back (Some TooLarge) = refl
+refusal_back (Some NoRoom) = refl
+refusal_back (Some NothingOpen) = refl
+refusal_back (Some StillOpen) = refl
+
+pub order_said : (n : ℕ) (o : Order) → order_by n ≡ Some o → n ≡ order_number o
+order_said n Little e = grind arith
+order_said n Big e = grind arith
+
+pub refusal_said : (n : ℕ) (r : Option BuildError) → refusal_in n ≡ Some r → n ≡ refusal_number r
+refusal_said n None e = grind arith
+refusal_said n (Some Mismatch) e = grind arith
+refusal_said n (Some TooDeep) e = grind arith
+refusal_said n (Some TooLong) e = grind arith
+refusal_said n (Some TooLarge) e = grind arith
+refusal_said n (Some NoRoom) e = grind arith
+refusal_said n (Some NothingOpen) e = grind arith
+refusal_said n (Some StillOpen) e = grind arith
+
+pub content_said : (n : ℕ) (c : Content) → content_in n ≡ Some c → n ≡ content_number c
+content_said n content.Bytes e = grind arith
+content_said n content.Hops e = grind arith
+content_said n (content.List Link) e = grind arith
+content_said n (content.List LinkInfo) e = grind arith
+content_said n (content.List Addr) e = grind arith
+content_said n (content.List Route) e = grind arith
+content_said n (content.List Metrics) e = grind arith
+content_said n (content.List Neigh) e = grind arith
+content_said n (content.List Rule) e = grind arith
+content_said n (content.List Plain) e = grind arith
+
+-- ---- heads that are kept
+
+-- two heads of one place and one content are one
+same_head : (h g : OpenHead) → h.start ≡ g.start → h.content ≡ g.content → h ≡ g
+same_head h g e f = ap (λ s. record h { start = s }) e ∙ ap (λ (k : Content). record g { content = k }) f
+
+same_content : (k l : Content) → content_number k ≡ content_number l → k ≡ l
+same_content k l e =
+    let both : Some k ≡ Some l = sym (content_back k) ∙ ap content_in e ∙ content_back l in
+    cc
+
+module _ (ss cs : List ℕ) where
+  -- so many heads are kept in one way
+  pub same_heads : (hs gs : List OpenHead) → length hs ≡ length gs → AreKept ss cs hs → AreKept ss cs gs → hs ≡ gs
+  same_heads [] [] e a b = refl
+  same_heads [] (g ∷ gs) e a b = absurd (omega (arith, e))
+  same_heads (h ∷ hs) [] e a b = absurd (omega (arith, e))
+  same_heads (h ∷ hs) (g ∷ gs) e a b =
+      let len : length hs ≡ length gs = omega (arith, e) in
+      let start : h.start ≡ g.start = sym a.0 ∙ ap (λ k. slice_index_or ss k 0) len ∙ b.0 in
+      let number : content_number h.content ≡ content_number g.content = sym a.1 ∙ ap (λ k. slice_index_or cs k 0) len ∙ b.1 in
+      ap (λ (x : OpenHead). x ∷ hs) (same_head h g start (same_content h.content g.content number)) ∙ ap (λ (xs : List OpenHead). g ∷ xs) (same_heads hs gs len a.2 b.2)
+
+  -- the heads up to one of them
+  pub record IsAt (D n i : ℕ) : Type 0 where
+    pub head : OpenHead
+    pub outer : List OpenHead
+    pub count : length outer ≡ i
+    pub kept : AreKept ss cs (head ∷ outer)
+    pub open_heads : AreOpen D n (head ∷ outer)
+
+  pub at_place : (D n : ℕ) (hs : List OpenHead) (i : ℕ) → i < length hs → AreKept ss cs hs → AreOpen D n hs → IsAt D n i
+  at_place D n [] i lt a o = absurd (omega (arith, lt))
+  at_place D n (h ∷ hs) i lt a o = by_case (eq-or-lt_of_le (omega (arith, lt))) (λ l. at_place D n hs i l a.2 o.2) where
+    by_case : (i ≡ length hs) ⊎ (i < length hs) → (i < length hs → IsAt D n i) → IsAt D n i
+    by_case (inl e) further = record { head = h; outer = hs; count = sym e; kept = a; open_heads = o }
+    by_case (inr l) further = further l
+
+-- heads that are open are no more than the levels and one
+pub few_heads : (D n : ℕ) (hs : List OpenHead) → AreOpen D n hs → length hs ≤ D + 1
+few_heads D n [] o = omega arith
+few_heads D n (h ∷ hs) o = omega (arith, o.1)
+
+-- those that are kept before a place are not touched by what is kept there
+pub keeps_set : (ss cs : List ℕ) (i s c : ℕ) (hs : List OpenHead) → length hs ≤ i → AreKept ss cs hs → AreKept (slice_set ss i s) (slice_set cs i c) hs
+keeps_set ss cs i s c [] le a = tt
+keeps_set ss cs i s c (h ∷ hs) le a =
+    let other : length hs ≢ i = λ e. omega (arith, le, e) in
+    (get_or-set_other ss i (length hs) s 0 other ∙ a.0, get_or-set_other cs i (length hs) c 0 other ∙ a.1, keeps_set ss cs i s c hs (omega (arith, le)) a.2)
+
+-- one more is kept
+pub keeps_one : (ss cs : List ℕ) (h : OpenHead) (hs : List OpenHead) → length hs < length ss → length hs < length cs → AreKept ss cs hs
+    → AreKept (slice_set ss (length hs) h.start) (slice_set cs (length hs) (content_number h.content)) (h ∷ hs)
+keeps_one ss cs h hs l m a =
+    (get_or-set_same ss (length hs) h.start 0 l, get_or-set_same cs (length hs) (content_number h.content) 0 m, keeps_set ss cs (length hs) h.start (content_number h.content) hs (omega arith) a)
+
+-- ---- the builder that is kept
+
+abbrev order_kept : ℕ → Order
+order_kept big = order_in (big == 1)
+
+-- the order of a builder that is kept
+pub kept_order : (big : ℕ) (o : Order) → big ≡ order_number o → order_kept big ≡ o
+kept_order big Little e = ap order_kept e
+kept_order big Big e = ap order_kept e
+
+-- a call in the order that is kept is one in the builder's order
+pub ordered : (call : Order → Built → Built) (old new : KeptBuilder) (before after : List ℕ) (code : ℕ)
+    → Calls (call (order_in (old.big == 1))) old before new after code → Calls (λ b. call (order_of b) b) old before new after code
+ordered call old new before after code (on_none n) = on_none n
+ordered call old new before after code (calls p q is kept bytes e k) =
+    calls p q is kept bytes (e ∙ ap (λ o. call o (over p before)) (kept_order old.big p.bounds.shape.order is.big)) k
+
+-- what is kept is a builder's again
+pub restored : (k : KeptBuilder) (room : ℕ) (o : Order) (r : Option BuildError) (p q : Parts) → order_by k.big ≡ Some o → refusal_in k.refusal ≡ Some r
+    → p ≡ resumed (bounds_of o k.depth k.datagram k.total k.entries) k.len r → k.len ≤ room → Reopens k p true q → AreParts q → IsKept k room q
+restored k room o r p q big code is fits (same, count, heads) parts =
+    let all : q ≡ record { bounds = bounds_of o k.depth k.datagram k.total k.entries; len = k.len; heads = q.heads; refusal = r } = same ∙ ap (λ (x : Parts). record x { heads = q.heads }) is in
+    record {
+      total = sym (ap (λ (x : Parts). x.bounds.total) all);
+      entries = sym (ap (λ (x : Parts). x.bounds.entries) all);
+      datagram = sym (ap (λ (x : Parts). x.bounds.datagram) all);
+      depth = sym (ap (λ (x : Parts). x.bounds.shape.depth) all);
+      big = order_said k.big o big ∙ sym (ap (λ (x : Parts). order_number x.bounds.shape.order) all);
+      len = sym (ap (λ (x : Parts). x.len) all);
+      count = count;
+      heads = heads;
+      refusal = refusal_said k.refusal r code ∙ sym (ap (λ (x : Parts). refusal_number x.refusal) all);
+      parts = parts;
+      fits = omega (arith, ap (λ (x : Parts). x.len) all, fits);
+    }
+
+-- no builder has other heads than those that are kept
+pub no_heads : (k : KeptBuilder) (room : ℕ) (o : Order) (r : Option BuildError) (p q : Parts)
+    → p ≡ resumed (bounds_of o k.depth k.datagram k.total k.entries) k.len r → Reopens k p false q → IsNone k room
+no_heads k room o r p q is none x has =
+    let depth : p.bounds.shape.depth ≡ x.bounds.shape.depth = ap (λ (y : Parts). y.bounds.shape.depth) is ∙ has.depth in
+    let len : p.len ≡ x.len = ap (λ (y : Parts). y.len) is ∙ has.len in
+    none x.heads has.count has.heads (subst (λ D. AreOpen D p.len x.heads) (sym depth) (subst (λ n. AreOpen x.bounds.shape.depth n x.heads) (sym len) has.parts.2))
+
+-- ---- the end
+
+-- a length is the whole, where nothing is refused
+pub done : (r : Result ℕ BuildError) (n m : ℕ) (o : Option BuildError) → r ≡ Ok n → MatchOption o (r ≡ Ok m) (λ e. r ≡ Err e) → (o ≡ None) × (n ≡ m)
+done r n m None i h = let both : Ok n ≡ Ok m = sym i ∙ h in (refl, cc)
+done r n m (Some e) i h = absurd (cc)
+
+pub not_done : (r : Result ℕ BuildError) (e : BuildError) (m : ℕ) (o : Option BuildError) → r ≡ Err e → MatchOption o (r ≡ Ok m) (λ x. r ≡ Err x) → o ≡ Some e
+not_done r e m None i h = absurd (cc)
+not_done r e m (Some x) i h = let both : Err x ≡ Err e = sym h ∙ i in let same : x ≡ e = cc in ap Some same

@@ -1,0 +1,9 @@
+use Rattle.std.proofs.Common.{ℕ, List, subst}
+use Rattle.nl_frame.specs.Building.{put}
+use Rattle.rtnl_c.specs.Building.{Calls, flags_in, number_in}
+use Rattle.rtnl_c.proofs.building.rtnlc_builder_put_be32.Goals as goal
+
+pub returns : goal.returns
+returns c =
+    let t = c.rtnlc_builder_put in
+    subst (λ (bs : List ℕ). Calls (λ b. put b (number_in c.args.kind) (flags_in c.args.kind) bs) c.args.kept.now c.args.out.now t.new.kept t.new.out t.result) c.u32_bytes-bytes.ensures t.ensures

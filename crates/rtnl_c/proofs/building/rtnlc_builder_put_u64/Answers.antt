@@ -1,0 +1,13 @@
+use Rattle.std.proofs.Common.{ℕ, List, subst, ap, ◌∙◌}
+use Rattle.nl_attr.specs.declared.order.Order.{Order}
+use Rattle.nl_attr.specs.Numbers.{num}
+use Rattle.nl_frame.specs.Building.{put}
+use Rattle.rtnl_c.specs.Building.{Calls, flags_in, number_in}
+use Rattle.rtnl_c.proofs.Keeping.{ordered}
+use Rattle.rtnl_c.proofs.building.rtnlc_builder_put_u64.Goals as goal
+
+pub returns : goal.returns
+returns c =
+    let t = c.rtnlc_builder_put in
+    ordered (λ o b. put b (number_in c.args.kind) (flags_in c.args.kind) (num c.args.value 8 o)) c.args.kept.now t.new.kept c.args.out.now t.new.out t.result
+    (subst (λ (bs : List ℕ). Calls (λ b. put b (number_in c.args.kind) (flags_in c.args.kind) bs) c.args.kept.now c.args.out.now t.new.kept t.new.out t.result) (c.u64_bytes-bytes.ensures ∙ ap (λ (o : Order). num c.args.value 8 o) c.order.ensures) t.ensures)

@@ -1,0 +1,502 @@
+//! A builder that C keeps, over a buffer of its own, which takes no memory.
+
+ghost use Rattle.std.specs.Prelude.{◌≡◌, ◌≤◌, ◌∷◌, ◌++◌, ℕ, [], length, reverse};
+ghost use Rattle.std.specs.Bool.{MatchBool};
+ghost use Rattle.nl_attr.specs.declared.order.Order.TheVariants.{Big};
+ghost use Rattle.nl_attr.specs.Numbers.{num};
+ghost use Rattle.nl_frame.specs.Building.{close, end, open_attr, open_hop, order_of, put};
+ghost use Rattle.nl_frame.specs.Building.{put_message};
+ghost use Rattle.nl_frame.specs.Limits.{AreLimits};
+ghost use Rattle.nl_frame.specs.Parts.{begin_bytes};
+ghost use Rattle.rtnl_c.specs.Building.{AreKept, Calls, Finishes, IsKept, IsNone, News, Reopens};
+ghost use Rattle.rtnl_c.specs.Building.{content_in, content_number, flags_in, number_in};
+ghost use Rattle.rtnl_c.specs.Building.{order_by, order_number, refusal_in, refusal_number};
+
+use crate::codes::NO_BUILDER;
+use crate::numbers::{context, number};
+use crate::options::{Options, limits, order};
+use crate::put::Put;
+use nl_attr::{AttrFlags, Content};
+use nl_frame::{BuildError, BuilderParts, Limits, OpenHead, Order};
+
+/// How many heads may be open.
+const MOST_OPEN: u8 = 33;
+
+/// A builder, as C keeps it.
+#[repr(C)]
+#[derive(Clone, Copy)]
+pub struct KeptBuilder {
+    /// As in `Options`; it says nothing of a builder.
+    pub total: u64,
+    /// The same.
+    pub entries: u32,
+    /// How many bytes a datagram may have: a multiple of 4 from 16 to 1,048,576.
+    pub datagram: u32,
+    /// How many bytes of the buffer are accepted.
+    pub len: u32,
+    /// The places of the open heads, the outermost first.
+    pub starts: [u32; 33],
+    /// What stands behind each: the number of the context of attributes, or 9 for next hops.
+    pub contents: [u8; 33],
+    /// How many heads are open.
+    pub count: u8,
+    pub depth: u8,
+    /// 0 or 1.
+    pub big: u8,
+    /// The number of the first refusal, or 0.
+    pub refusal: u8,
+}
+
+/// The number of an order.
+fn number_of_order(order: Order) -> u8
+    ensures { result ≡ order_number order }
+{
+    match order {
+        Order::Little => 0,
+        Order::Big => 1,
+    }
+}
+
+/// The order of a number.
+fn order_by_number(number: u8) -> Option<Order>
+    ensures { result ≡ order_by number }
+{
+    match number {
+        0 => Some(Order::Little),
+        1 => Some(Order::Big),
+        _ => None,
+    }
+}
+
+/// The number of what stands behind a head.
+fn number_of(content: Content) -> u8
+    ensures { result ≡ content_number content }
+{
+    match content {
+        Content::Bytes => 0,
+        Content::List(ctx) => number(ctx),
+        Content::Hops => 9,
+    }
+}
+
+/// What stands behind a head, by its number.
+fn content_by_number(number: u8) -> Option<Content>
+    ensures { result ≡ content_in number }
+{
+    match context(number) {
+        Some(ctx) => Some(Content::List(ctx)),
+        None => match number {
+            0 => Some(Content::Bytes),
+            9 => Some(Content::Hops),
+            _ => None,
+        },
+    }
+}
+
+/// The refusal of a number, or none of 0.
+fn refusal_by_number(code: u8) -> Option<Option<BuildError>>
+    ensures { result ≡ refusal_in code }
+{
+    match code {
+        0 => Some(None),
+        4 => Some(Some(BuildError::TooLong)),
+        5 => Some(Some(BuildError::TooDeep)),
+        6 => Some(Some(BuildError::TooLarge)),
+        11 => Some(Some(BuildError::Mismatch)),
+        17 => Some(Some(BuildError::NoRoom)),
+        21 => Some(Some(BuildError::NothingOpen)),
+        22 => Some(Some(BuildError::StillOpen)),
+        _ => None,
+    }
+}
+
+/// The number of a refusal, or 0.
+fn code_of(refusal: Option<BuildError>) -> u8
+    ensures { result ≡ refusal_number refusal }
+{
+    match refusal {
+        None => 0,
+        Some(refusal) => refusal.code(),
+    }
+}
+
+/// Opens the heads again that are kept; or says that no builder has them.
+fn reopen(kept: &KeptBuilder, parts: &mut BuilderParts) -> bool
+    requires heads { parts.old.heads ≡ [] }
+    requires limits { AreLimits parts.old.bounds }
+    ensures { Reopens kept.now parts.old result parts.new }
+{
+    if kept.count > MOST_OPEN {
+        return false;
+    }
+    let mut index = 0;
+    while index < kept.count as usize {
+        let Some(content) = content_by_number(kept.contents[index]) else {
+            return false;
+        };
+        let start = kept.starts[index];
+        match parts.reopen(OpenHead { start, content }) {
+            Ok(()) => index += 1,
+            Err(_) => return false,
+        }
+    }
+    true
+}
+
+/// The parts of a builder of the standard limits, into which one that is kept is put.
+fn blank() -> BuilderParts {
+    BuilderParts::new(&Limits::standard())
+}
+
+/// Makes these the parts of the builder that is kept over so many bytes, where one is.
+fn restore(kept: &KeptBuilder, room: usize, parts: &mut BuilderParts) -> bool
+    ensures { MatchBool result (IsKept kept.now room parts.new) (IsNone kept.now room) }
+{
+    let len = kept.len as usize;
+    if len > room {
+        return false;
+    }
+    let Some(order) = order_by_number(kept.big) else {
+        return false;
+    };
+    let Some(refusal) = refusal_by_number(kept.refusal) else {
+        return false;
+    };
+    let Ok(limits) = Limits::new(kept.depth, kept.datagram, kept.total, kept.entries) else {
+        return false;
+    };
+    let Ok(()) = parts.resume(&limits.with_order(order), len, refusal) else {
+        return false;
+    };
+    if !reopen(kept, parts) {
+        return false;
+    }
+    // It is a builder.
+    let _len = parts.accepted();
+    true
+}
+
+/// Keeps the open heads.
+fn keep_heads(heads: &[OpenHead], kept: &mut KeptBuilder)
+    requires { length heads.now ≤ 33 }
+    ensures heads { AreKept kept.new.starts kept.new.contents (reverse heads.now) }
+    ensures rest { kept.new ≡ record kept.old {
+      starts = kept.new.starts;
+      contents = kept.new.contents;
+    } }
+{
+    let mut index = 0;
+    while index < heads.len() {
+        let OpenHead { start, content } = heads[index];
+        kept.starts[index] = start;
+        kept.contents[index] = number_of(content);
+        index += 1;
+    }
+}
+
+/// Keeps a builder in place of the one before, and answers why a call was refused, or 0.
+fn keep(parts: &BuilderParts, kept: &mut KeptBuilder) -> u8
+    ensures kept { (room : ℕ) → parts.now.len ≤ room → IsKept kept.new room parts.now }
+    ensures code { result ≡ refusal_number parts.now.refusal }
+{
+    let limits = parts.limits();
+    kept.total = limits.total();
+    kept.entries = limits.entries();
+    kept.datagram = limits.datagram();
+    kept.depth = limits.depth().get();
+    kept.big = number_of_order(limits.order());
+    kept.len = parts.accepted() as u32;
+    let heads = parts.heads();
+    keep_heads(heads, kept);
+    kept.count = heads.len() as u8;
+    kept.refusal = code_of(parts.refusal());
+    kept.refusal
+}
+
+/// The flag bits of an attribute's type.
+fn flags_of(kind: u16) -> AttrFlags
+    ensures { result ≡ flags_in kind }
+{
+    AttrFlags {
+        nested: kind >= 0x8000,
+        net: kind % 0x8000 >= 0x4000,
+    }
+}
+
+/// The number in an attribute's type.
+fn number_of_type(kind: u16) -> u16
+    ensures { result ≡ number_in kind }
+{
+    kind % 0x4000
+}
+
+/// Keeps a new builder of these limits; 12 where one of them is out of its range.
+#[unsafe(no_mangle)]
+pub extern "C" fn rtnlc_builder_new(kept: &mut KeptBuilder, options: &Options) -> u8
+    ensures { News options.now kept.old result kept.new }
+{
+    match limits(options) {
+        Ok(limits) => keep(&BuilderParts::new(&limits), kept),
+        Err(fault) => fault.code(),
+    }
+}
+
+/// Begins a message, whose body's head is in these bytes.
+#[unsafe(no_mangle)]
+pub extern "C" fn rtnlc_builder_begin(
+    kept: &mut KeptBuilder,
+    out: &mut [u8],
+    kind: u16,
+    flags: u16,
+    seq: u32,
+    port: u32,
+    head: &[u8],
+) -> u8
+    ensures { Calls (λ b. begin_bytes b kind flags seq port head.now)
+        kept.old out.old kept.new out.new result }
+{
+    let mut parts = blank();
+    if !restore(kept, out.len(), &mut parts) {
+        return NO_BUILDER;
+    }
+    let _ = parts.begin_bytes(out, kind, flags, seq, port, head);
+    keep(&parts, kept)
+}
+
+/// Puts an attribute of these bytes.
+#[unsafe(no_mangle)]
+pub extern "C" fn rtnlc_builder_put(
+    kept: &mut KeptBuilder,
+    out: &mut [u8],
+    kind: u16,
+    bytes: &[u8],
+) -> u8
+    ensures { Calls (λ b. put b (number_in kind) (flags_in kind) bytes.now)
+        kept.old out.old kept.new out.new result }
+{
+    let mut parts = blank();
+    if !restore(kept, out.len(), &mut parts) {
+        return NO_BUILDER;
+    }
+    let _ = parts.put_bytes(out, number_of_type(kind), flags_of(kind), bytes);
+    keep(&parts, kept)
+}
+
+/// Puts an attribute of this text, with one zero byte behind it.
+#[unsafe(no_mangle)]
+pub extern "C" fn rtnlc_builder_put_text(
+    kept: &mut KeptBuilder,
+    out: &mut [u8],
+    kind: u16,
+    text: &[u8],
+) -> u8
+    ensures { Calls (λ b. put b (number_in kind) (flags_in kind) (text.now ++ 0 ∷ []))
+        kept.old out.old kept.new out.new result }
+{
+    let mut parts = blank();
+    if !restore(kept, out.len(), &mut parts) {
+        return NO_BUILDER;
+    }
+    let _ = parts.put_text(out, number_of_type(kind), flags_of(kind), text);
+    keep(&parts, kept)
+}
+
+/// Puts an attribute of this number in one byte.
+#[unsafe(no_mangle)]
+pub extern "C" fn rtnlc_builder_put_u8(
+    kept: &mut KeptBuilder,
+    out: &mut [u8],
+    kind: u16,
+    value: u8,
+) -> u8
+    ensures { Calls (λ b. put b (number_in kind) (flags_in kind) (value ∷ []))
+        kept.old out.old kept.new out.new result }
+{
+    rtnlc_builder_put(kept, out, kind, &[value])
+}
+
+/// Puts an attribute of this number in 2 bytes of the builder's order.
+#[unsafe(no_mangle)]
+pub extern "C" fn rtnlc_builder_put_u16(
+    kept: &mut KeptBuilder,
+    out: &mut [u8],
+    kind: u16,
+    value: u16,
+) -> u8
+    ensures { Calls (λ b. put b (number_in kind) (flags_in kind) (num value 2 (order_of b)))
+        kept.old out.old kept.new out.new result }
+{
+    let bytes = order(kept.big == 1).u16_bytes(value);
+    rtnlc_builder_put(kept, out, kind, &bytes)
+}
+
+/// Puts an attribute of this number in 2 bytes of network order.
+#[unsafe(no_mangle)]
+pub extern "C" fn rtnlc_builder_put_be16(
+    kept: &mut KeptBuilder,
+    out: &mut [u8],
+    kind: u16,
+    value: u16,
+) -> u8
+    ensures { Calls (λ b. put b (number_in kind) (flags_in kind) (num value 2 Big))
+        kept.old out.old kept.new out.new result }
+{
+    let bytes = Order::Big.u16_bytes(value);
+    rtnlc_builder_put(kept, out, kind, &bytes)
+}
+
+/// Puts an attribute of this number in 4 bytes of the builder's order.
+#[unsafe(no_mangle)]
+pub extern "C" fn rtnlc_builder_put_u32(
+    kept: &mut KeptBuilder,
+    out: &mut [u8],
+    kind: u16,
+    value: u32,
+) -> u8
+    ensures { Calls (λ b. put b (number_in kind) (flags_in kind) (num value 4 (order_of b)))
+        kept.old out.old kept.new out.new result }
+{
+    let bytes = order(kept.big == 1).u32_bytes(value);
+    rtnlc_builder_put(kept, out, kind, &bytes)
+}
+
+/// Puts an attribute of this number in 4 bytes of network order.
+#[unsafe(no_mangle)]
+pub extern "C" fn rtnlc_builder_put_be32(
+    kept: &mut KeptBuilder,
+    out: &mut [u8],
+    kind: u16,
+    value: u32,
+) -> u8
+    ensures { Calls (λ b. put b (number_in kind) (flags_in kind) (num value 4 Big))
+        kept.old out.old kept.new out.new result }
+{
+    let bytes = Order::Big.u32_bytes(value);
+    rtnlc_builder_put(kept, out, kind, &bytes)
+}
+
+/// Puts an attribute of this number in 8 bytes of the builder's order.
+#[unsafe(no_mangle)]
+pub extern "C" fn rtnlc_builder_put_u64(
+    kept: &mut KeptBuilder,
+    out: &mut [u8],
+    kind: u16,
+    value: u64,
+) -> u8
+    ensures { Calls (λ b. put b (number_in kind) (flags_in kind) (num value 8 (order_of b)))
+        kept.old out.old kept.new out.new result }
+{
+    let bytes = order(kept.big == 1).u64_bytes(value);
+    rtnlc_builder_put(kept, out, kind, &bytes)
+}
+
+/// Puts an attribute of this number in 8 bytes of network order.
+#[unsafe(no_mangle)]
+pub extern "C" fn rtnlc_builder_put_be64(
+    kept: &mut KeptBuilder,
+    out: &mut [u8],
+    kind: u16,
+    value: u64,
+) -> u8
+    ensures { Calls (λ b. put b (number_in kind) (flags_in kind) (num value 8 Big))
+        kept.old out.old kept.new out.new result }
+{
+    let bytes = Order::Big.u64_bytes(value);
+    rtnlc_builder_put(kept, out, kind, &bytes)
+}
+
+/// Opens an attribute that holds attributes or next hops.
+#[unsafe(no_mangle)]
+pub extern "C" fn rtnlc_builder_open(kept: &mut KeptBuilder, out: &mut [u8], kind: u16) -> u8
+    ensures { Calls (λ b. open_attr b (number_in kind) (flags_in kind))
+        kept.old out.old kept.new out.new result }
+{
+    let mut parts = blank();
+    if !restore(kept, out.len(), &mut parts) {
+        return NO_BUILDER;
+    }
+    let _ = parts.open_attr(out, number_of_type(kind), flags_of(kind));
+    keep(&parts, kept)
+}
+
+/// Opens a next hop.
+#[unsafe(no_mangle)]
+pub extern "C" fn rtnlc_builder_open_hop(
+    kept: &mut KeptBuilder,
+    out: &mut [u8],
+    flags: u8,
+    hops: u8,
+    ifindex: i32,
+) -> u8
+    ensures { Calls (λ b. open_hop b flags hops ifindex) kept.old out.old kept.new out.new result }
+{
+    let mut parts = blank();
+    if !restore(kept, out.len(), &mut parts) {
+        return NO_BUILDER;
+    }
+    let _ = parts.open_hop(out, flags, hops, ifindex);
+    keep(&parts, kept)
+}
+
+/// Closes the innermost attribute or next hop.
+#[unsafe(no_mangle)]
+pub extern "C" fn rtnlc_builder_close(kept: &mut KeptBuilder, out: &mut [u8]) -> u8
+    ensures { Calls (λ b. close b) kept.old out.old kept.new out.new result }
+{
+    let mut parts = blank();
+    if !restore(kept, out.len(), &mut parts) {
+        return NO_BUILDER;
+    }
+    let _ = parts.close(out);
+    keep(&parts, kept)
+}
+
+/// Ends the message.
+#[unsafe(no_mangle)]
+pub extern "C" fn rtnlc_builder_end(kept: &mut KeptBuilder, out: &mut [u8]) -> u8
+    ensures { Calls (λ b. end b) kept.old out.old kept.new out.new result }
+{
+    let mut parts = blank();
+    if !restore(kept, out.len(), &mut parts) {
+        return NO_BUILDER;
+    }
+    let _ = parts.end(out);
+    keep(&parts, kept)
+}
+
+/// Puts a whole message of no family, whose body is these bytes.
+#[unsafe(no_mangle)]
+pub extern "C" fn rtnlc_builder_message(
+    kept: &mut KeptBuilder,
+    out: &mut [u8],
+    kind: u16,
+    flags: u16,
+    seq: u32,
+    port: u32,
+    body: &[u8],
+) -> u8
+    ensures { Calls (λ b. put_message b kind flags seq port body.now)
+        kept.old out.old kept.new out.new result }
+{
+    let mut parts = blank();
+    if !restore(kept, out.len(), &mut parts) {
+        return NO_BUILDER;
+    }
+    let _ = parts.message(out, kind, flags, seq, port, body);
+    keep(&parts, kept)
+}
+
+/// How many bytes the datagram has, at the front of the buffer; or why there is none.
+#[unsafe(no_mangle)]
+pub extern "C" fn rtnlc_builder_finish(kept: &KeptBuilder, out: &[u8]) -> Put
+    ensures { Finishes kept.now out.now result }
+{
+    let mut parts = blank();
+    if !restore(kept, out.len(), &mut parts) {
+        return Put::none(NO_BUILDER);
+    }
+    match parts.finish() {
+        Ok(len) => Put { len, code: 0 },
+        Err(refusal) => Put::none(refusal.code()),
+    }
+}
