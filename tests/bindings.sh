@@ -1,11 +1,11 @@
 #!/usr/bin/env bash
 # Installs the library for C under a prefix of its own, and over it builds and tests the packages
 # for Rust, Go and Python, each by its script in tests/bindings/. Then it runs the programs `links`,
-# `routes` and `watch` of each of them and those of examples/c: over a kernel that a test plays, and
-# over the kernel itself where a network namespace can be made. Where RTNLC_PREFIX is set already,
-# the library is the one that is installed there. Packages that are missing are installed where that
-# can be, and what can't run says so and isn't counted. The last line is 'N passed, M failed', and
-# the status is 1 where a case failed.
+# `routes`, `watch`, `link_up` and `route_add` of each of them and those of examples/c: over a kernel
+# that a test plays, and over the kernel itself where a network namespace can be made. Where
+# RTNLC_PREFIX is set already, the library is the one that is installed there. Packages that are
+# missing are installed where that can be, and what can't run says so and isn't counted. The last
+# line is 'N passed, M failed', and the status is 1 where a case failed.
 set -u
 cd "$(dirname "${BASH_SOURCE[0]}")/.." || exit 1
 top=$PWD
@@ -46,10 +46,12 @@ adds() {
   passed=$((passed + ${found:-0})) failed=$((failed + ${wrong:-0}))
 }
 
+programs=(links routes watch link_up route_add)
+
 # in_c FOLDER ARGUMENT..: the examples in C, built with these arguments of the compiler.
 in_c() {
   local name
-  mkdir -p "$1" && for name in links routes watch; do
+  mkdir -p "$1" && for name in "${programs[@]}"; do
     # shellcheck disable=SC2046
     cc -std=c99 -O2 -Wall -Wextra -pedantic -Werror $(flags --cflags) "examples/c/$name.c" \
       "${@:2}" -o "$1/$name" || return 1
@@ -58,7 +60,7 @@ in_c() {
 
 languages=()
 # offers NAME FOLDER: the programs of a language, where they were built.
-offers() { [ ! -x "$2/watch" ] || languages+=("$1" "$2/links" "$2/routes" "$2/watch"); }
+offers() { [ ! -x "$2/route_add" ] || languages+=("$1" "${programs[@]/#/$2/}"); }
 
 for name in rust go python; do
   PROGRAMS=$folder/$name adds "tests/bindings/$name.sh"
@@ -70,14 +72,14 @@ offers 'C with librtnlc.a' "$folder/static"
 check 'the examples in C with librtnlc.so' in_c "$folder/shared" $(flags --libs)
 offers 'C with librtnlc.so' "$folder/shared"
 # These two scripts have left their programs, where they could build them.
-has cargo 'the programs in Rust' && check 'the programs in Rust' [ -x "$folder/rust/watch" ]
+has cargo 'the programs in Rust' && check 'the programs in Rust' [ -x "$folder/rust/route_add" ]
 offers Rust "$folder/rust"
-has go 'the programs in Go' && check 'the programs in Go' [ -x "$folder/go/watch" ]
+has go 'the programs in Go' && check 'the programs in Go' [ -x "$folder/go/route_add" ]
 offers Go "$folder/go"
 python="env RTNLC_LIB_DIR=$RTNLC_PREFIX/lib PYTHONPATH=$top/bindings/python/src python3 -B"
 examples=$top/bindings/python/examples
-languages+=(Python "$python $examples/links.py" "$python $examples/routes.py"
-  "$python $examples/watch.py")
+languages+=(Python)
+for name in "${programs[@]}"; do languages+=("$python $examples/$name.py"); done
 adds tests/bindings/live.py "${languages[@]}"
 
 finish

@@ -1,6 +1,7 @@
 // SPDX-License-Identifier: MIT OR Apache-2.0
 
-// Package rtnlc reads rtnetlink datagrams, by way of the proved library for C of the same name.
+// Package rtnlc reads and builds rtnetlink datagrams, by way of the proved library for C of the
+// same name.
 //
 // A datagram is bytes in memory: what one receive on a NETLINK_ROUTE socket gave. The package
 // opens no socket. A datagram has exactly one reading, or is refused with the offset of its first
@@ -37,14 +38,22 @@
 // Views, messages and attributes are good until the Tape, Table or Stream that they came from goes
 // on, and those of a List until its Reset; Message.Clone makes one that stays.
 //
+// # Requests
+//
+// A Builder puts messages into a buffer of the caller's: a header and a head, attributes by their
+// numbers, lists and next hops. What it hands out is never malformed. The first refusal sticks,
+// and Finish answers it. Message.Errno is what the kernel answered: 0 where it acknowledges a
+// request.
+//
 // # Errors
 //
-// What is refused is an *Error, which has a Code and the Place of the fault. Codes are errors too:
+// What is refused is an *Error, which has a Code and the Place of the fault. Codes are errors too,
+// and what a Builder answers:
 //
 //	errors.Is(err, rtnlc.ErrCut)
 //
 // # Goroutines
 //
 // The functions of the package can be called by any goroutine. A Tape, a Session, a Stream, a
-// List or a Table is used by one at a time.
+// List, a Table or a Builder is used by one at a time.
 package rtnlc

@@ -4,6 +4,7 @@ import (
 	"encoding/hex"
 	"errors"
 	"fmt"
+	"net/netip"
 	"strings"
 
 	"rtnlc"
@@ -213,4 +214,31 @@ func ExampleShow() {
 	// message 3 done flags 0x0002 MULTI seq 1 port 1
 	//   done status 0 tail -
 	// <nil>
+}
+
+func ExampleBuilder() {
+	// ip route add 10.9.0.0/16 nexthop via 192.0.2.254 nexthop via 198.51.100.254 weight 10
+	dst := netip.MustParsePrefix("10.9.0.0/16")
+	head := rtnlc.RouteTo(dst)
+	head.Table, head.Protocol = rtnlc.RT_TABLE_MAIN, rtnlc.RTPROT_BOOT
+	head.Type = rtnlc.RTN_UNICAST
+	flags := uint16(rtnlc.NLM_F_REQUEST | rtnlc.NLM_F_ACK | rtnlc.NLM_F_CREATE | rtnlc.NLM_F_EXCL)
+
+	b := rtnlc.NewBuilder(make([]byte, 256), nil)
+	b.Begin(rtnlc.Header{Type: rtnlc.RTM_NEWROUTE, Flags: flags, Seq: 1}, head)
+	b.PutAddr(rtnlc.RTA_DST, dst.Addr())
+	b.Open(rtnlc.RTA_MULTIPATH)
+	for _, it := range []struct {
+		gateway string
+		weight  uint8
+	}{{"192.0.2.254", 1}, {"198.51.100.254", 10}} {
+		b.OpenNextHop(rtnlc.NextHopHead{Hops: it.weight - 1})
+		b.PutAddr(rtnlc.RTA_GATEWAY, netip.MustParseAddr(it.gateway))
+		b.Close()
+	}
+	b.Close()
+	b.End()
+	datagram, err := b.Finish()
+	fmt.Println(len(datagram), err)
+	// Output: 72 <nil>
 }

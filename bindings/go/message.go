@@ -1,6 +1,9 @@
 package rtnlc
 
-import "encoding/binary"
+import (
+	"encoding/binary"
+	"syscall"
+)
 
 // A part is a head of a Tape and what stands in it: the event at `at`, and those before `end`. The
 // zero part is of no tape, and has nothing.
@@ -121,6 +124,19 @@ func (m Message) Header() Header {
 
 // Body is what stands behind the header, without padding: a part of the datagram.
 func (m Message) Body() []byte { return m.behind(headerSize) }
+
+// Errno is the number in an NLMSG_ERROR: 0 where it acknowledges a request, else why the kernel
+// has refused one.
+func (m Message) Errno() (syscall.Errno, bool) {
+	if m.event().Number != NLMSG_ERROR || len(m.Body()) < 4 {
+		return 0, false
+	}
+	code := int64(int32(m.order().uint32(m.Body())))
+	if code < 0 {
+		code = -code
+	}
+	return syscall.Errno(code), true
+}
 
 // Attrs are the attributes of the message, for a loop over Next. Messages of other types than
 // those of links, addresses, routes, neighbours and rules have none.

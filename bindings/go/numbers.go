@@ -45,6 +45,13 @@ const (
 	NLM_F_APPEND        = 0x800
 )
 
+// The flags of an attribute, beside its number where one is built: that it holds attributes, and
+// that what it holds is in network byte order.
+const (
+	NLA_F_NESTED        = 0x8000
+	NLA_F_NET_BYTEORDER = 0x4000
+)
+
 // The groups of notifications that a netlink socket can join.
 const (
 	RTNLGRP_LINK        = 1

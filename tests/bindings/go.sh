@@ -67,7 +67,7 @@ uses_it() {
 
 # says_version: over a library of another version a program says which one is here.
 says_version() {
-  mkdir "$folder/other" && grep -oE '\brtnlc_[a-z_]+\(' include/rtnlc.h | tr -d '(' | sort -u |
+  mkdir "$folder/other" && grep -oE '\brtnlc_[a-z0-9_]+\(' include/rtnlc.h | tr -d '(' | sort -u |
     sed 's/.*/const char *&(void) { return "0.4.1"; }/' >"$folder/other.c" &&
     echo 'RTNLC_0.3 { global: rtnlc_*; };' >"$folder/other.map" &&
     cc -shared -fPIC -Wl,-soname,librtnlc.so.0 -Wl,--version-script="$folder/other.map" \
@@ -101,9 +101,11 @@ check 'gofmt' prints_nothing gofmt -l .
 check 'go vet' prints_nothing go vet ./...
 check 'go build' prints_nothing go build ./...
 mkdir -p "$programs"
-check 'the example programs' in_package go build -o "$programs/" ./examples/{links,routes,watch}
+check 'the example programs' \
+  in_package go build -o "$programs/" ./examples/{links,routes,watch,link_up,route_add}
 check 'the example programs are short' \
-  is_short 60 bindings/go/examples/{links,routes,watch}/main.go
+  is_short 60 bindings/go/examples/{links,routes,watch,link_up}/main.go
+check 'what adds routes is short' is_short 85 bindings/go/examples/route_add/main.go
 check 'what they share is short' is_short 120 bindings/go/examples/source/source.go
 tested 'go test'
 GODEBUG=cgocheck=2 tested 'go test with cgocheck=2'

@@ -1,6 +1,6 @@
-"""The three programs over the kernel, in a network namespace that this process has alone: links,
-addresses, routes and neighbours are made there by ip(8), `ip -j` says what the dumps are to hold,
-and what `watch` is to hear are the changes that ip(8) makes beside it.
+"""The three programs that read, over the kernel, in a network namespace that this process has
+alone: links, addresses, routes and neighbours are made there by ip(8), `ip -j` says what the dumps
+are to hold, and what `watch` is to hear are the changes that ip(8) makes beside it.
 """
 import json
 import os

@@ -1,6 +1,7 @@
-"""The three programs over a played kernel, whose answers are those of the recordings in examples/,
-or made by hand: whole dumps, an interrupted one, broken and cut datagrams, refusals, and an end in
-the middle. What a program must print and how it must end stands here, or comes from wire.py.
+"""The three programs that read, over a played kernel, whose answers are those of the recordings in
+examples/, or made by hand: whole dumps, an interrupted one, broken and cut datagrams, refusals, and
+an end in the middle. What a program must print and how it must end stands here, or comes from
+wire.py.
 """
 import errno
 import os

@@ -145,11 +145,15 @@ read -r found _ wrong _ < <(tail -n 1 "$folder/compared")
 passed=$((passed + found)) failed=$((failed + wrong))
 check 'all is compared' test "$found" -gt 150
 
-for name in links routes watch; do check "$name.rs is short" is_short "$name.rs" 60; done
+for name in links routes watch link_up; do
+  check "$name.rs is short" is_short "$name.rs" 60
+done
+check 'route_add.rs is short' is_short route_add.rs 80
 check 'source/mod.rs is short' is_short source/mod.rs 120
 if [ -n "${PROGRAMS-}" ]; then
   check 'the example programs, with optimization' in_package cargo build --release --examples
-  mkdir -p "$PROGRAMS" && cp "$folder"/target/release/examples/{links,routes,watch} "$PROGRAMS"
+  mkdir -p "$PROGRAMS" &&
+    cp "$folder"/target/release/examples/{links,routes,watch,link_up,route_add} "$PROGRAMS"
 fi
 
 # Before 1.90 it asks a registry for the crate that another one of the workspace stands on.

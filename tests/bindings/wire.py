@@ -1,5 +1,5 @@
 """Datagrams by Python's struct, for the tests of the packages: what recordings hold, what a kernel
-would answer, and what the three programs are to print of it. It shares no code with the library.
+would answer, and what the programs are to print of it. It shares no code with the library.
 """
 import ipaddress
 import os

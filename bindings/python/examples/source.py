@@ -32,9 +32,9 @@ class Source:
         self._is_kernel = path is None
         if path is None:
             kind = socket.SOCK_RAW | socket.SOCK_CLOEXEC
-            self._socket = socket.socket(socket.AF_NETLINK, kind, socket.NETLINK_ROUTE)
+            self.socket = socket.socket(socket.AF_NETLINK, kind, socket.NETLINK_ROUTE)
         else:
-            self._socket = socket.socket(socket.AF_UNIX, socket.SOCK_SEQPACKET)
+            self.socket = socket.socket(socket.AF_UNIX, socket.SOCK_SEQPACKET)
         try:
             self._open(path, groups)
         except OSError:
@@ -43,19 +43,19 @@ class Source:
 
     def _open(self, path: Optional[str], groups: Iterable[int]) -> None:
         if path is None:
-            self._socket.bind((0, sum(1 << (group - 1) for group in groups)))
-            self.port = self._socket.getsockname()[0]
+            self.socket.bind((0, sum(1 << (group - 1) for group in groups)))
+            self.port = self.socket.getsockname()[0]
         else:
-            self._socket.connect(path)
+            self.socket.connect(path)
 
     def close(self) -> None:
-        self._socket.close()
+        self.socket.close()
 
     def receive(self) -> Optional[memoryview]:
         """A datagram that the kernel sent, and no other process; None where the socket has ended.
         It is good until the next one."""
         while True:
-            size, _, flags, sender = self._socket.recvmsg_into([self._buffer])
+            size, _, flags, sender = self.socket.recvmsg_into([self._buffer])
             if self._is_kernel and sender[0] != 0:
                 continue
             if flags & socket.MSG_TRUNC:
@@ -67,7 +67,7 @@ class Source:
         entries = rtnl.MessageList()
         for _ in range(1 + AGAIN):
             self.seq += 1
-            self._socket.send(stream.begin(kind, family, seq=self.seq, port=self.port))
+            self.socket.send(stream.begin(kind, family, seq=self.seq, port=self.port))
             while stream.waiting:
                 datagram = self.receive()
                 if datagram is None:
@@ -100,16 +100,18 @@ def why(error: Exception) -> Failed:
     return error if isinstance(error, Failed) else Failed(f"{error}")
 
 
-def run(name: str, program: Callable[[Source], None], groups: Iterable[int] = ()) -> None:
-    """Runs a program over the socket that its argument names, or the kernel's, and ends with its
-    status. Names of links are printed in the very bytes that they have."""
+def run(
+    name: str, program: Callable[[Source], None], groups: Iterable[int] = (), at: int = 1
+) -> None:
+    """Runs a program over the socket that its argument of this number names, or the kernel's, and
+    ends with its status. Names of links are printed in the very bytes that they have."""
     signal.signal(signal.SIGINT, signal.SIG_DFL)
     signal.signal(signal.SIGPIPE, signal.SIG_DFL)
     sys.stdout = open(
         1, "w", encoding="utf-8", errors="surrogateescape", buffering=1, closefd=False
     )
     try:
-        with closing(Source(sys.argv[1] if sys.argv[1:] else None, groups)) as source:
+        with closing(Source(sys.argv[at] if sys.argv[at:] else None, groups)) as source:
             program(source)
     except (Failed, OSError, rtnl.Error) as error:
         failed = why(error)

@@ -5,7 +5,7 @@ from typing import Any, Dict, Iterator, List, Tuple
 
 import shared
 from rtnl import Code, State, _families, _heads, _library, _structs, dump, names, table
-from rtnl._library import EVENTS, OPTIONS, SESSION, STREAM
+from rtnl._library import BUILDER, EVENTS, OPTIONS, SESSION, STREAM
 
 HEADER = ["#include <stddef.h>", "#include <rtnlc.h>"]
 SCALARS = {
@@ -18,17 +18,21 @@ SCALARS = {
     ctypes.c_bool: "bool",
     ctypes.c_void_p: "void *",
     ctypes.c_char_p: "const char *",
+    ctypes.POINTER(ctypes.c_uint8): "uint8_t *",
     None: "void",
     _library.Bytes: "const uint8_t *",
     _library.Room: "uint8_t *",
     _library.Text: "char *",
+    _library.Data: "const void *",
+    _library.ReadText: "const char *",
     OPTIONS: "const struct rtnlc_options *",
     EVENTS: "struct rtnlc_event *",
     SESSION: "struct rtnlc_session *",
     STREAM: "struct rtnlc_stream *",
+    BUILDER: "struct rtnlc_builder *",
 }
-# A stream that the call only reads.
-READ_STREAM = {"rtnlc_stream_status"}
+# These calls only read what they have for their first argument.
+READS = {"rtnlc_stream_status", "rtnlc_builder_finish"}
 CONTEXTS = "NO_CONTEXT LINK LINK_INFO ADDR ROUTE METRICS NEIGH RULE PLAIN".split()
 SORTS = "MESSAGE BYTES LIST HOPS NEXT_HOP".split()
 
@@ -44,6 +48,8 @@ def in_c(kind: Any) -> str:
     """A type in C. `uint64_t` and `size_t` are one class of ctypes."""
     if isinstance(kind, type) and issubclass(kind, ctypes.Structure):
         return f"struct rtnlc_{kind.__name__.lower()}"
+    if isinstance(kind, type) and issubclass(kind, ctypes.Array):
+        return f"{in_c(kind._type_)}[{kind._length_}]"
     return SCALARS[kind]
 
 
@@ -62,7 +68,7 @@ def of_fields() -> Iterator[str]:
 def of_calls() -> Iterator[str]:
     for name, (result, arguments) in _library.CALLS.items():
         words = [in_c(it) for it in arguments]
-        if name in READ_STREAM:
+        if name in READS:
             words = [f"const {it}" for it in words]
         kind = f"{in_c(result)} ({', '.join(words)})"
         yield f"__builtin_types_compatible_p(__typeof__({name}), {kind})"
@@ -90,9 +96,8 @@ class Declarations(unittest.TestCase):
         for name, kind in structs().items():
             body = text.partition(f"struct {name} {{\n")[2].partition("\n};")[0]
             found = [it.strip().rstrip(";").rpartition(" ")[2] for it in fields_of(body)]
-            self.assertEqual(
-                [it.lstrip("*") for it in found], [it for it, _ in kind._fields_], name
-            )
+            plain = [it.lstrip("*").partition("[")[0] for it in found]
+            self.assertEqual(plain, [it for it, _ in kind._fields_], name)
 
     def test_calls(self) -> None:
         self.assertEqual(shared.false_in_c(HEADER, list(of_calls())), [])

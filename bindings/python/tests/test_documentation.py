@@ -10,7 +10,7 @@ import re
 import socket
 import unittest
 from types import ModuleType
-from typing import Iterator, Tuple
+from typing import Any, Dict, Iterator, Tuple
 
 import rtnl
 from shared import PACKAGE
@@ -53,9 +53,14 @@ class Documentation(unittest.TestCase):
         self.assertEqual(sorted(rtnl.__all__), sorted({*rtnl.__all__}))
 
     def test_the_readme(self) -> None:
-        """Its program prints the loopback link."""
+        """Its first program prints the loopback link, and its second builds a route."""
         with open(f"{PACKAGE}/README.md", encoding="utf-8") as file:
-            (code,) = re.findall(r"^```python\n(.*?)^```$", file.read(), re.M | re.S)
+            code, built = re.findall(r"^```python\n(.*?)^```$", file.read(), re.M | re.S)
+        names: Dict[str, Any] = {"rtnl": rtnl}
+        exec(built, names)
+        (route,) = rtnl.Datagram(names["request"]).views(rtnl.Route)
+        hops = [(f"{it.gateway}", it.weight) for it in route.hops or ()]
+        self.assertEqual(hops, [("203.0.113.1", 1), ("203.0.113.2", 3)])
         try:
             socket.socket(socket.AF_NETLINK, socket.SOCK_RAW, socket.NETLINK_ROUTE).close()
         except OSError:

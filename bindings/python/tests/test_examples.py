@@ -1,4 +1,4 @@
-"""The three programs, over a socket at whose other end this test plays the kernel, and over the
+"""The five programs, over a socket at whose other end this test plays the kernel, and over the
 kernel where the machine opens a socket. What they print was written by hand, or is in the JSON of
 the program `rtnl`, or in the kernel's files."""
 import contextlib
@@ -21,6 +21,8 @@ from shared import PACKAGE, attr, done, error, link, message, route
 
 Answers = Sequence[Sequence[bytes]]
 
+# How many lines an example has at most, where it isn't 60.
+LINES = {"source.py": 120, "route_add.py": 80}
 # The answers to request 1 of port 0, by which the programs ask here.
 NUMBERS = {"seq": 1, "port": 0}
 LO = link(1, attr(3, b"lo\0"), attr(4, b"\0\0\1\0"), attr(16, b"\0"), attr(1, bytes(6)))
@@ -53,7 +55,7 @@ class Kernel:
         with connection, contextlib.suppress(BrokenPipeError):
             for datagrams in self.answers:
                 if self.answers[0]:
-                    self.requests.append(connection.recv(64))
+                    self.requests.append(connection.recv(4096))
                 for it in datagrams:
                     connection.send(it)
 
@@ -76,10 +78,12 @@ class Examples(unittest.TestCase):
         )
         return ran.stdout.decode(errors="replace"), ran.stderr.decode(), ran.returncode
 
-    def over(self, name: str, *answers: Sequence[bytes]) -> Tuple[str, str, int]:
-        """What a program prints over these answers."""
+    def over(
+        self, name: str, *answers: Sequence[bytes], words: Sequence[str] = ()
+    ) -> Tuple[str, str, int]:
+        """What a program prints over these answers, which has these arguments."""
         kernel = Kernel(self.folder, answers)
-        found = self.ran(name, kernel.path)
+        found = self.ran(name, *words, kernel.path)
         kernel.end()
         self.requests = kernel.requests
         return found
@@ -185,6 +189,35 @@ class Examples(unittest.TestCase):
         self.assertEqual(self.over("links", *often), ("", "links: interrupted\n", 2))
         self.assertEqual(len(self.requests), 11)
 
+    def test_requests(self) -> None:
+        other = error(-errno.EPERM, seq=7, port=0)
+        found = self.over("link_up", [message(16, LO), other, error(0, **NUMBERS)], words=["eth0"])
+        self.assertEqual(found, ("", "", 0))
+        head = struct.pack("<IHHII BxHiII", 44, 16, 5, 1, 0, 0, 0, 0, 1, 1)
+        self.assertEqual(self.requests, [head + attr(3, b"eth0\0")])
+        lo = ["via", "192.0.2.254", "dev", "lo"]
+        found = self.over("route_add", [error(0, **NUMBERS)], words=["10.0.0.0/8", *lo])
+        self.assertEqual(found, ("", "", 0))
+        head = struct.pack("<IHHII BBBBBBBBI", 52, 24, 0x605, 1, 0, 2, 8, 0, 0, 254, 4, 0, 1, 0)
+        ways = attr(5, bytes([192, 0, 2, 254])), attr(4, b"\1\0\0\0")
+        self.assertEqual(self.requests, [head + attr(1, b"\x0a\0\0\0") + b"".join(ways)])
+
+    def test_requests_that_are_refused(self) -> None:
+        ends: List[Tuple[List[bytes], str, int]] = [
+            ([error(-errno.ENODEV, **NUMBERS)], "refused: No such device", 3),
+            ([BROKEN], "broken datagram: bad length at 0", 1),
+            ([bytes(65537)], "cut datagram", 4),
+            ([], "the answer ended early", 2),
+        ]
+        for answers, text, status in ends:
+            found = self.over("link_up", answers or [message(16, LO)], words=["eth0"])
+            self.assertEqual(found, ("", f"link_up: {text}\n", status))
+        words = "10.0.0.0/8 via 192.0.2.254 dev none0".split()
+        self.assertEqual(self.ran("route_add", *words), ("", "route_add: no interface none0\n", 2))
+        for name, usage in (("link_up", "DEV"), ("route_add", "PREFIX via ADDRESS dev DEV")):
+            _, text, status = self.ran(name)
+            self.assertEqual((text.startswith(f"usage: {name} {usage} ["), status), (True, 2))
+
     def test_no_socket(self) -> None:
         for name in ("links", "routes", "watch"):
             found = self.ran(name, f"{self.folder}/none")
@@ -194,7 +227,7 @@ class Examples(unittest.TestCase):
         for name in sorted(os.listdir(f"{PACKAGE}/examples")):
             if name.endswith(".py"):
                 with open(f"{PACKAGE}/examples/{name}", encoding="utf-8") as file:
-                    self.assertLessEqual(len(file.readlines()), 120 if name == "source.py" else 60)
+                    self.assertLessEqual(len(file.readlines()), LINES.get(name, 60))
 
     def test_the_kernel(self) -> None:
         if not hasattr(socket, "AF_NETLINK") or not opens():

@@ -13,7 +13,7 @@ import (
 func main() { source.Exit("links", links()) }
 
 func links() error {
-	socket, err := source.Open(0)
+	socket, err := source.Open(0, source.Arg(1))
 	if err != nil {
 		return err
 	}

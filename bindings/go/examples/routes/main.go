@@ -14,7 +14,7 @@ import (
 func main() { source.Exit("routes", routes()) }
 
 func routes() error {
-	socket, err := source.Open(0)
+	socket, err := source.Open(0, source.Arg(1))
 	if err != nil {
 		return err
 	}

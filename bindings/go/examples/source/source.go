@@ -19,12 +19,12 @@ type Source struct {
 	buffer    [65536]byte
 }
 
-// Open joins groups, bits of 1<<(RTNLGRP_*-1), or connects to the socket of the first argument.
-func Open(groups uint32) (*Source, error) {
-	if len(os.Args) > 1 {
+// Open joins groups, bits of 1<<(RTNLGRP_*-1), or connects to the socket of a path, if any.
+func Open(groups uint32, path string) (*Source, error) {
+	if path != "" {
 		fd, err := syscall.Socket(syscall.AF_UNIX, syscall.SOCK_SEQPACKET, 0)
 		if err == nil {
-			err = syscall.Connect(fd, &syscall.SockaddrUnix{Name: os.Args[1]})
+			err = syscall.Connect(fd, &syscall.SockaddrUnix{Name: path})
 		}
 		return &Source{fd: fd}, err
 	}

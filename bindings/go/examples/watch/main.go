@@ -15,7 +15,7 @@ const groups = 1<<(rtnlc.RTNLGRP_LINK-1) | 1<<(rtnlc.RTNLGRP_NEIGH-1) |
 	1<<(rtnlc.RTNLGRP_IPV4_ROUTE-1) | 1<<(rtnlc.RTNLGRP_IPV6_ROUTE-1)
 
 func main() {
-	socket, err := source.Open(groups)
+	socket, err := source.Open(groups, source.Arg(1))
 	for tape := new(rtnlc.Tape); err == nil; {
 		var datagram []byte
 		var messages []rtnlc.Message

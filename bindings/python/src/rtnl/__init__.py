@@ -1,4 +1,5 @@
-"""A proved reader of rtnetlink datagrams (netlink(7), rtnetlink(7)), over the library librtnlc.
+"""A proved reader and builder of rtnetlink datagrams (netlink(7), rtnetlink(7)), over the library
+librtnlc.
 
 A datagram is bytes: what one receive on a netlink socket gave. Nothing here opens a socket.
 
@@ -6,6 +7,8 @@ A datagram is bytes: what one receive on a netlink socket gave. Nothing here ope
   Address, Route, Neighbour and Rule. Of what breaks a rule it raises an Error, with its place.
 * Session: reads dumps into bounded tables.
 * Stream: reads dumps of any length in constant space. A MessageList keeps what it hands out.
+* Builder: puts messages, with a LinkHead, AddressHead, RouteHead, NeighbourHead or RuleHead, and
+  hands out a datagram that is never malformed.
 * scan, tape, check and show: what the library says of a datagram.
 
 The kernel's numbers, as RTM_NEWLINK, are in rtnl.constants.
@@ -14,9 +17,11 @@ from ._loading import VERSION as __version__
 from ._view import View
 from .address import Address
 from .attributes import Attribute, Attributes, NextHop, NextHops
+from .builder import Builder
 from .datagram import Datagram, Event, Scanned, Taped, scan, tape
 from .dump import Dump, State, Status, request
 from .errors import Code, Error, LibraryError
+from .head import AddressHead, Head, LinkHead, NeighbourHead, RouteHead, RuleHead
 from .limits import Limits
 from .link import Link
 from .message import Message, Messages
@@ -33,8 +38,10 @@ from .values import HardwareAddress, Prefix
 
 __all__ = [
     "Address",
+    "AddressHead",
     "Attribute",
     "Attributes",
+    "Builder",
     "Checked",
     "Code",
     "Datagram",
@@ -43,19 +50,24 @@ __all__ = [
     "Event",
     "Fed",
     "HardwareAddress",
+    "Head",
     "Items",
     "LibraryError",
     "Limits",
     "Link",
+    "LinkHead",
     "Message",
     "MessageList",
     "Messages",
     "Neighbour",
+    "NeighbourHead",
     "NextHop",
     "NextHops",
     "Prefix",
     "Route",
+    "RouteHead",
     "Rule",
+    "RuleHead",
     "Scanned",
     "Session",
     "State",

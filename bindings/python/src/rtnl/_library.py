@@ -1,10 +1,22 @@
 """The calls of the shared library, which is loaded here."""
 import ctypes
-from ctypes import POINTER, c_bool, c_char_p, c_size_t, c_uint8, c_uint16, c_uint32, c_void_p
+from ctypes import (
+    POINTER,
+    c_bool,
+    c_char_p,
+    c_int32,
+    c_size_t,
+    c_uint8,
+    c_uint16,
+    c_uint32,
+    c_uint64,
+    c_void_p,
+)
 from typing import Any, Dict, Tuple
 
 from . import _loading
 from ._structs import (
+    Builder,
     Checked,
     Event,
     Family,
@@ -35,8 +47,16 @@ class Text(c_void_p):
     """char *: room that a call writes a text to."""
 
 
+class Data(c_void_p):
+    """const void *: bytes of any sort that a call reads."""
+
+
+class ReadText(c_void_p):
+    """const char *: a text that a call reads."""
+
+
 SESSION, STREAM, OPTIONS = POINTER(Session), POINTER(Stream), POINTER(Options)
-EVENTS = POINTER(Event)
+EVENTS, BUILDER = POINTER(Event), POINTER(Builder)
 DATAGRAM = (Bytes, c_size_t)
 REQUEST = (c_uint16, c_uint8, c_uint32, c_uint32, Room, c_size_t)
 
@@ -67,6 +87,29 @@ CALLS: Dict[str, Tuple[Any, Tuple[Any, ...]]] = {
     "rtnlc_stream_feed": (Fed, (STREAM, *DATAGRAM, EVENTS, c_size_t)),
     "rtnlc_stream_abandon": (c_uint8, (STREAM,)),
     "rtnlc_stream_status": (Status, (STREAM,)),
+    "rtnlc_builder_new": (c_uint8, (BUILDER, OPTIONS, Room, c_size_t)),
+    "rtnlc_builder_begin": (
+        c_uint8,
+        (BUILDER, c_uint16, c_uint16, c_uint32, c_uint32, Data, c_size_t),
+    ),
+    "rtnlc_builder_message": (
+        c_uint8,
+        (BUILDER, c_uint16, c_uint16, c_uint32, c_uint32, Data, c_size_t),
+    ),
+    "rtnlc_builder_put": (c_uint8, (BUILDER, c_uint16, Data, c_size_t)),
+    "rtnlc_builder_put_text": (c_uint8, (BUILDER, c_uint16, ReadText, c_size_t)),
+    "rtnlc_builder_put_u8": (c_uint8, (BUILDER, c_uint16, c_uint8)),
+    "rtnlc_builder_put_u16": (c_uint8, (BUILDER, c_uint16, c_uint16)),
+    "rtnlc_builder_put_u32": (c_uint8, (BUILDER, c_uint16, c_uint32)),
+    "rtnlc_builder_put_u64": (c_uint8, (BUILDER, c_uint16, c_uint64)),
+    "rtnlc_builder_put_be16": (c_uint8, (BUILDER, c_uint16, c_uint16)),
+    "rtnlc_builder_put_be32": (c_uint8, (BUILDER, c_uint16, c_uint32)),
+    "rtnlc_builder_put_be64": (c_uint8, (BUILDER, c_uint16, c_uint64)),
+    "rtnlc_builder_open": (c_uint8, (BUILDER, c_uint16)),
+    "rtnlc_builder_open_hop": (c_uint8, (BUILDER, c_uint8, c_uint8, c_int32)),
+    "rtnlc_builder_close": (c_uint8, (BUILDER,)),
+    "rtnlc_builder_end": (c_uint8, (BUILDER,)),
+    "rtnlc_builder_finish": (Put, (BUILDER,)),
 }
 
 

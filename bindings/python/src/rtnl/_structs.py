@@ -1,6 +1,7 @@
 """The structs of rtnlc.h, field by field, under their names there without `rtnlc_`."""
 import struct
 from ctypes import (
+    POINTER,
     Structure,
     c_bool,
     c_int32,
@@ -157,3 +158,30 @@ class Stream(Structure):
         ("damaged", c_uint8),
         ("interrupted", c_uint8),
     ]
+
+
+# How many heads a builder has open at most.
+MOST_OPEN = 33
+
+
+class Built(Structure):
+    """What is built in a buffer, and how far."""
+
+    _fields_ = [
+        ("total", c_uint64),
+        ("entries", c_uint32),
+        ("datagram", c_uint32),
+        ("len", c_uint32),
+        ("starts", c_uint32 * MOST_OPEN),
+        ("contents", c_uint8 * MOST_OPEN),
+        ("count", c_uint8),
+        ("depth", c_uint8),
+        ("big", c_uint8),
+        ("refusal", c_uint8),
+    ]
+
+
+class Builder(Structure):
+    """A builder over a buffer."""
+
+    _fields_ = [("out", POINTER(c_uint8)), ("room", c_size_t), ("built", Built)]

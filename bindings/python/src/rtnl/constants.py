@@ -245,6 +245,10 @@ NLM_F_APPEND: Final = 0x800
 NLM_F_CAPPED: Final = 0x100
 NLM_F_ACK_TLVS: Final = 0x200
 
+# Flags of an attribute, beside its number where one is built.
+NLA_F_NESTED: Final = 0x8000
+NLA_F_NET_BYTEORDER: Final = 0x4000
+
 # Flags of a link.
 IFF_UP: Final = 0x1
 IFF_BROADCAST: Final = 0x2
@@ -322,6 +326,22 @@ RTN_PROHIBIT: Final = 8
 RTN_THROW: Final = 9
 RTN_NAT: Final = 10
 RTN_XRESOLVE: Final = 11
+
+# Who has made a route.
+RTPROT_UNSPEC: Final = 0
+RTPROT_REDIRECT: Final = 1
+RTPROT_KERNEL: Final = 2
+RTPROT_BOOT: Final = 3
+RTPROT_STATIC: Final = 4
+RTPROT_RA: Final = 9
+RTPROT_DHCP: Final = 16
+
+# How far an address or a destination is.
+RT_SCOPE_UNIVERSE: Final = 0
+RT_SCOPE_SITE: Final = 200
+RT_SCOPE_LINK: Final = 253
+RT_SCOPE_HOST: Final = 254
+RT_SCOPE_NOWHERE: Final = 255
 
 # What a rule does.
 FR_ACT_TO_TBL: Final = 1

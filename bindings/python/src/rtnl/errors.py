@@ -19,7 +19,7 @@ class Code(enum.IntEnum):
     SHORT_BODY = 3
     """A message is shorter than the head of its type."""
     TOO_LONG = 4
-    """A container has more than 65,532 bytes."""
+    """A container has more than 65,532 bytes; built, an attribute of bytes more than 65,531."""
     TOO_DEEP = 5
     """A container opens a level above the depth limit."""
     TOO_LARGE = 6
@@ -33,7 +33,7 @@ class Code(enum.IntEnum):
     SAME_SEQ = 10
     """The sequence number is that of the dump before."""
     MISMATCH = 11
-    """A value is of another kind than its attribute holds."""
+    """A value is of another kind than its attribute holds, or a head is not that of its type."""
     BAD_LIMIT = 12
     """One of the limits is out of its range; nothing was looked at."""
     NO_MEMORY = 13
@@ -46,6 +46,12 @@ class Code(enum.IntEnum):
     """The message type is of no family that is dumped."""
     NO_SESSION = 20
     """The session is closed."""
+    NOTHING_OPEN = 21
+    """Nothing is open that could be closed, or into which could be put."""
+    STILL_OPEN = 22
+    """Something is still open in what should end, or before the next."""
+    NO_BUILDER = 23
+    """There is no builder."""
     END = 255
     """Nothing more stands there."""
 
@@ -67,7 +73,8 @@ class Error(Exception):
     code: Code
     """The library's code."""
     place: Optional[int]
-    """The offset of the datagram's first fault, in bytes, of the codes from CUT to TOO_DEEP."""
+    """The offset of the datagram's first fault, in bytes, of the codes from CUT to TOO_DEEP. What
+    is built has none."""
 
     def __init__(self, code: Code, place: Optional[int] = None) -> None:
         super().__init__(code, place)

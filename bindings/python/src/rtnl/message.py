@@ -17,7 +17,9 @@ from typing import (
 from ._families import context_of
 from ._heads import Heads
 from .attributes import Attributes
+from .constants import NLMSG_ERROR
 from .names import type_name
+from .values import number
 
 if TYPE_CHECKING:
     from ._view import View
@@ -25,6 +27,8 @@ if TYPE_CHECKING:
 # struct nlmsghdr
 HEADER = {"little": struct.Struct("<IHHII"), "big": struct.Struct(">IHHII")}
 HEADER_SIZE = HEADER["little"].size
+# The first field of struct nlmsgerr.
+ERRNO = {"little": struct.Struct("<i"), "big": struct.Struct(">i")}
 
 V = TypeVar("V", bound="View")
 VIEWS: Dict[int, Type["View"]] = {}
@@ -84,6 +88,14 @@ class Message:
         """What is behind the header, not copied."""
         begin = self.place + HEADER_SIZE
         return memoryview(self._heads.data)[begin : begin + self.size]
+
+    @property
+    def error(self) -> Optional[int]:
+        """The number in an NLMSG_ERROR: 0 where it acknowledges a request, else the errno for
+        which the kernel refused one. None of other messages."""
+        body = bytes(self.body[:4]) if self.kind == NLMSG_ERROR else b""
+        found = number(body, ERRNO[self._heads.order])
+        return None if found is None else abs(found)
 
     @property
     def attributes(self) -> Attributes:

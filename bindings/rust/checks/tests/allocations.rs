@@ -2,8 +2,8 @@
 //! before.
 
 use checks::recordings;
-use rtnl::constants::AF_UNSPEC;
-use rtnl::{Body, Family, Options, Order, Stream, Tape};
+use rtnl::constants::{AF_UNSPEC, IFLA_IFNAME, RTM_NEWLINK};
+use rtnl::{Body, Builder, Family, Header, LinkHead, Options, Order, Stream, Tape};
 use std::alloc::{GlobalAlloc, Layout, System};
 use std::sync::atomic::{AtomicUsize, Ordering};
 
@@ -74,4 +74,13 @@ fn datagrams_take_no_memory() {
     assert!(counts.iter().all(|it| *it > 30), "{counts:?}");
     assert_eq!(taken(|| stream.abandon().unwrap()), 0);
     assert_eq!(taken(|| assert!(stream.begin(Family::Link, AF_UNSPEC, 2, 1).is_ok())), 0);
+
+    let (mut buffer, head) = ([0; 128], LinkHead::default());
+    let header = Header { message_type: RTM_NEWLINK, ..Header::default() };
+    let own = taken(|| {
+        let mut builder = Builder::new(&options, &mut buffer).unwrap();
+        let put = builder.message(&header, &head, |it| it.put_text(IFLA_IFNAME, "eth0"));
+        assert!(put.is_ok() && builder.finish().is_ok());
+    });
+    assert_eq!(own, 0);
 }

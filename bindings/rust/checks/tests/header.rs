@@ -75,6 +75,10 @@ fn add_structs(lines: &mut Lines) {
             total, received, visits, ignored, datagram, entries, seq, port, status, kind, family,
             state, depth, big, damaged, interrupted
         }
+        rtnlc_built {
+            total, entries, datagram, len, starts, contents, count, depth, big, refusal
+        }
+        rtnlc_builder { out, room, built }
     );
 }
 
@@ -82,12 +86,13 @@ fn add_numbers(lines: &mut Lines) {
     numbers!(lines:
         RTNLC_STACK RTNLC_REQUEST RTNLC_NAME RTNLC_OK RTNLC_CUT RTNLC_BAD_LENGTH RTNLC_SHORT_BODY
         RTNLC_TOO_LONG RTNLC_TOO_DEEP RTNLC_TOO_LARGE RTNLC_TOTAL RTNLC_NOT_WAITING RTNLC_BUSY
-        RTNLC_SAME_SEQ RTNLC_MISMATCH RTNLC_BAD_LIMIT RTNLC_NO_MEMORY RTNLC_NO_ROOM
-        RTNLC_NO_STREAM RTNLC_NO_KIND RTNLC_NO_SESSION RTNLC_END RTNLC_MESSAGE RTNLC_BYTES
-        RTNLC_LIST RTNLC_HOPS RTNLC_NEXT_HOP RTNLC_NO_CONTEXT RTNLC_LINK RTNLC_LINK_INFO RTNLC_ADDR
-        RTNLC_ROUTE RTNLC_METRICS RTNLC_NEIGH RTNLC_RULE RTNLC_PLAIN RTNLC_IDLE RTNLC_WAITING
-        RTNLC_DONE RTNLC_FAILED RTNLC_OVERRUN RTNLC_ABANDONED RTNLC_STANDARD_TOTAL
-        RTNLC_STANDARD_DATAGRAM RTNLC_STANDARD_ENTRIES RTNLC_STANDARD_DEPTH
+        RTNLC_SAME_SEQ RTNLC_MISMATCH RTNLC_BAD_LIMIT RTNLC_NO_MEMORY RTNLC_NO_ROOM RTNLC_NO_STREAM
+        RTNLC_NO_KIND RTNLC_NO_SESSION RTNLC_NOTHING_OPEN RTNLC_STILL_OPEN RTNLC_NO_BUILDER
+        RTNLC_END RTNLC_MESSAGE RTNLC_BYTES RTNLC_LIST RTNLC_HOPS RTNLC_NEXT_HOP RTNLC_NO_CONTEXT
+        RTNLC_LINK RTNLC_LINK_INFO RTNLC_ADDR RTNLC_HOPS_BEHIND RTNLC_ROUTE RTNLC_METRICS
+        RTNLC_NEIGH RTNLC_RULE RTNLC_PLAIN RTNLC_IDLE RTNLC_WAITING RTNLC_DONE RTNLC_FAILED
+        RTNLC_OVERRUN RTNLC_ABANDONED RTNLC_STANDARD_TOTAL RTNLC_STANDARD_DATAGRAM
+        RTNLC_STANDARD_ENTRIES RTNLC_STANDARD_DEPTH
     );
 }
 
@@ -134,8 +139,10 @@ fn type_in_c(kind: &str) -> String {
     match kind {
         "usize" => "size_t".into(),
         "c_char" => "char".into(),
+        "c_void" => "void".into(),
         "bool" => "bool".into(),
         it if it.starts_with("rtnlc_") => format!("struct {it}"),
+        it if it.starts_with('i') => format!("int{}_t", &it[1..]),
         it => format!("uint{}_t", &it[1..]),
     }
 }
@@ -174,11 +181,13 @@ fn every_field_of_the_header_is_compared() {
     let (_, structs) = source.split_once("struct rtnlc_options {").expect("it has structs");
     let structs = format!("struct rtnlc_options {{{structs}");
     let mut fields = 0;
-    for part in structs.split("struct ").filter(|it| it.starts_with("rtnlc_")) {
-        // A struct that is defined has nothing but its name before its fields.
-        let (name, rest) = part.split_once('{').unwrap_or(("", ""));
-        if words(name).count() == 1 {
-            let (body, _) = rest.split_once('}').expect("a struct ends");
+    for part in structs.split('}') {
+        // What ends here is a struct where these two words stand before its fields.
+        let (front, body) = part.rsplit_once('{').unwrap_or(("", ""));
+        let mut front = words(front).collect::<Vec<_>>().into_iter().rev();
+        if front.next().map_or(false, |it| it.starts_with("rtnlc_"))
+            && front.next() == Some("struct")
+        {
             fields += body.matches([';', ',']).count();
         }
     }

@@ -6,6 +6,7 @@ mod source;
 
 use rtnl::{constants::AF_UNSPEC, Family, Link, Message, Options, Stream};
 use source::{or_dash, Source};
+use std::env;
 use std::ffi::OsStr;
 use std::io::{self, BufWriter, Write};
 
@@ -15,7 +16,7 @@ fn main() {
 
 fn run() -> source::Result<()> {
     let mut stream = Stream::new(&Options::new())?;
-    let mut source = Source::open(0)?;
+    let mut source = Source::open(0, env::args_os().nth(1))?;
     let links = source.dump(&mut stream, Family::Link, AF_UNSPEC)?;
     let mut out = BufWriter::new(io::stdout().lock());
     for link in links.iter().filter_map(Message::link) {

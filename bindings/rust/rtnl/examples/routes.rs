@@ -10,6 +10,7 @@ use rtnl::{Family, Message, Options, Route, Stream};
 use source::{or_dash, Source};
 use std::borrow::Cow;
 use std::collections::HashMap;
+use std::env;
 use std::fmt::Display;
 use std::io::{self, BufWriter, Write};
 
@@ -21,7 +22,7 @@ fn main() {
 
 fn run() -> source::Result<()> {
     let mut stream = Stream::new(&Options::new())?;
-    let mut source = Source::open(0)?;
+    let mut source = Source::open(0, env::args_os().nth(1))?;
     let links = source.dump(&mut stream, Family::Link, AF_UNSPEC)?;
     let links = links.iter().filter_map(Message::link);
     let names: Names =

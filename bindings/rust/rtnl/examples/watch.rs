@@ -7,19 +7,20 @@ mod source;
 use rtnl::constants::*;
 use rtnl::{Action, Body, Message, Tape};
 use source::{or_dash, Source};
+use std::env;
 use std::ffi::OsStr;
 use std::fmt::Display;
 use std::io::{self, Write};
 
+const IP: u32 = IPV4 | RTMGRP_IPV6_IFADDR | RTMGRP_IPV6_ROUTE;
 const IPV4: u32 = RTMGRP_IPV4_IFADDR | RTMGRP_IPV4_ROUTE;
-const IPV6: u32 = RTMGRP_IPV6_IFADDR | RTMGRP_IPV6_ROUTE;
 
 fn main() {
     run().unwrap_or_else(|error| source::fail("watch", &*error))
 }
 
 fn run() -> source::Result<()> {
-    let mut source = Source::open(RTMGRP_LINK | RTMGRP_NEIGH | IPV4 | IPV6)?;
+    let mut source = Source::open(RTMGRP_LINK | RTMGRP_NEIGH | IP, env::args_os().nth(1))?;
     let mut tape = Tape::new();
     let mut out = io::stdout().lock();
     while let Some(bytes) = source.receive()? {

@@ -155,7 +155,7 @@ impl fmt::Display for Error {
 impl std::error::Error for Error {}
 
 /// What the library says of a code.
-fn words_of(code: u8) -> &'static str {
+pub(crate) fn words_of(code: u8) -> &'static str {
     // SAFETY: the library answers a string that is always there and never null.
     let words = unsafe { CStr::from_ptr(rtnlc_code_name(code)) };
     words.to_str().unwrap_or("unknown")

@@ -1,8 +1,8 @@
-//! Reads rtnetlink: what a Linux kernel says of its links, addresses, routes, neighbours and
-//! rules.
+//! Reads and builds rtnetlink: what a Linux kernel says of its links, addresses, routes,
+//! neighbours and rules, and what it is told.
 //!
-//! All reading is done by `librtnlc`, which is proved: a datagram of up to 65,536 bytes has
-//! exactly one reading, or is refused with the place of its first fault. No bytes, whatever they
+//! All of it is done by `librtnlc`, which is proved: a datagram of up to 65,536 bytes has exactly
+//! one reading, or is refused with the place of its first fault. No bytes, whatever they
 //! are, make a call panic, loop, or read what isn't there. This crate opens no socket: it is
 //! handed what yours has received.
 //!
@@ -13,6 +13,8 @@
 //!   given of them.
 //! - [`Link`], [`Address`], [`Route`], [`Neighbour`] and [`Rule`] say what a message of each
 //!   family says.
+//! - [`Builder`] builds messages in a buffer of yours, in lists and next hops that are closed, and
+//!   takes no memory. What it hands out is never malformed.
 //! - [`scan`], [`check`] and [`show`] say something of a whole datagram.
 //!
 //! ```
@@ -45,12 +47,15 @@
 #![deny(unsafe_op_in_unsafe_fn)]
 
 mod attribute;
+mod build_error;
+mod builder;
 mod checks;
 pub mod constants;
 mod datagram;
 mod dump;
 mod error;
 mod family;
+mod heads;
 mod list;
 mod names;
 mod options;
@@ -63,11 +68,14 @@ mod version;
 mod views;
 
 pub use attribute::{Attribute, Attributes, AttributesIter, NextHop, NextHops};
+pub use build_error::BuildError;
+pub use builder::{Builder, Header, NextHopHead};
 pub use checks::{check, scan, show, Form};
 pub use datagram::{Action, Body, Datagram, Message, Messages};
 pub use dump::{Fed, Incomplete, Request, State, Status};
 pub use error::{Error, Fault, FaultKind};
 pub use family::Family;
+pub use heads::{AddressHead, Head, LinkHead, NeighbourHead, RouteHead, RuleHead};
 pub use list::{MessageList, MessageListIter};
 pub use names::{attribute_name, type_name, Context, Name};
 pub use options::{Options, Order};

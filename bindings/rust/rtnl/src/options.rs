@@ -29,6 +29,20 @@ impl Order {
         }
     }
 
+    pub(crate) fn bytes_of_u16(self, number: u16) -> [u8; 2] {
+        match self {
+            Order::Little => number.to_le_bytes(),
+            Order::Big => number.to_be_bytes(),
+        }
+    }
+
+    pub(crate) fn bytes_of_u32(self, number: u32) -> [u8; 4] {
+        match self {
+            Order::Little => number.to_le_bytes(),
+            Order::Big => number.to_be_bytes(),
+        }
+    }
+
     pub(crate) fn u64(self, bytes: [u8; 8]) -> u64 {
         match self {
             Order::Little => u64::from_le_bytes(bytes),
@@ -44,8 +58,8 @@ impl Default for Order {
     }
 }
 
-/// The limits of a reading, and the order of its numbers. A limit that is out of its range is
-/// answered by [`Error::BadLimit`](crate::Error::BadLimit) where the options are used.
+/// The limits of a reading or a building, and the order of its numbers. A limit that is out of its
+/// range is answered by [`Error::BadLimit`](crate::Error::BadLimit) where the options are used.
 ///
 /// ```
 /// use rtnl::{Options, Order, Session};

@@ -1,6 +1,7 @@
-//! Declarations of `librtnlc`, a proved reader of rtnetlink datagrams: `rtnlc.h` in Rust, under
-//! the names that it has there. The header says of each call what it takes, what it answers and
-//! what is left behind an error; the crate `rtnl` is the same without `unsafe`.
+//! Declarations of `librtnlc`, a proved reader and builder of rtnetlink datagrams: `rtnlc.h`
+//! in Rust, under the names that it has there. The header says of each call what it takes,
+//! what it answers and what is left behind an error; the crate `rtnl` is the same without
+//! `unsafe`.
 //!
 //! The library is found by pkg-config, or in the folder that `RTNLC_LIB_DIR` names; with
 //! `RTNLC_STATIC=1` it is linked statically.
@@ -39,7 +40,7 @@ pub const RTNLC_CUT: u8 = 1;
 pub const RTNLC_BAD_LENGTH: u8 = 2;
 /// A message is shorter than the head of its type.
 pub const RTNLC_SHORT_BODY: u8 = 3;
-/// A container has more than 65,532 bytes.
+/// A container has more than 65,532 bytes; built, an attribute of bytes more than 65,535.
 pub const RTNLC_TOO_LONG: u8 = 4;
 /// A container opens a level above the depth limit.
 pub const RTNLC_TOO_DEEP: u8 = 5;
@@ -53,7 +54,7 @@ pub const RTNLC_NOT_WAITING: u8 = 8;
 pub const RTNLC_BUSY: u8 = 9;
 /// The sequence number is that of the dump before.
 pub const RTNLC_SAME_SEQ: u8 = 10;
-/// A value is of another kind than its attribute holds.
+/// A value is of another kind than its attribute holds, or a head is not that of its message type.
 pub const RTNLC_MISMATCH: u8 = 11;
 /// One of the options is out of its range; nothing was looked at.
 pub const RTNLC_BAD_LIMIT: u8 = 12;
@@ -67,6 +68,12 @@ pub const RTNLC_NO_STREAM: u8 = 18;
 pub const RTNLC_NO_KIND: u8 = 19;
 /// Null, or a session that was never made, or is freed.
 pub const RTNLC_NO_SESSION: u8 = 20;
+/// Nothing is open that could be closed, or into which could be put.
+pub const RTNLC_NOTHING_OPEN: u8 = 21;
+/// Something is still open in what should end, or before the next.
+pub const RTNLC_STILL_OPEN: u8 = 22;
+/// Null, or what no call leaves in a [`rtnlc_builder`].
+pub const RTNLC_NO_BUILDER: u8 = 23;
 /// Nothing more stands there.
 pub const RTNLC_END: u8 = 255;
 
@@ -99,6 +106,8 @@ pub const RTNLC_NEIGH: u8 = 6;
 pub const RTNLC_RULE: u8 = 7;
 /// Any other list.
 pub const RTNLC_PLAIN: u8 = 8;
+/// Next hops, in [`rtnlc_built`] alone.
+pub const RTNLC_HOPS_BEHIND: u8 = 9;
 
 /// No dump was begun.
 pub const RTNLC_IDLE: u8 = 0;
@@ -122,7 +131,7 @@ pub const RTNLC_STANDARD_ENTRIES: u32 = 4_096;
 /// Levels that containers may open at most.
 pub const RTNLC_STANDARD_DEPTH: u8 = 8;
 
-/// The limits of a call, of a session or of a stream.
+/// The limits of a call, of a session, a stream or a builder.
 #[repr(C)]
 #[derive(Clone, Copy, Debug, PartialEq, Eq, Hash)]
 pub struct rtnlc_options {
@@ -441,6 +450,45 @@ pub struct rtnlc_stream {
     pub interrupted: u8,
 }
 
+/// What is built in a buffer, and how far. Any bytes are taken for it.
+#[repr(C)]
+#[derive(Clone, Copy, Debug, PartialEq, Eq, Hash)]
+pub struct rtnlc_built {
+    /// As in [`rtnlc_options`]; it says nothing of a builder.
+    pub total: u64,
+    /// The same.
+    pub entries: u32,
+    /// As in [`rtnlc_options`].
+    pub datagram: u32,
+    /// Bytes of the buffer that are accepted.
+    pub len: u32,
+    /// The offsets of the open heads, the outermost, a message's, first; what is behind the last
+    /// one says nothing.
+    pub starts: [u32; 33],
+    /// What stands behind each: [`RTNLC_LINK`] to [`RTNLC_HOPS_BEHIND`].
+    pub contents: [u8; 33],
+    /// How many heads are open: at most `depth` plus one.
+    pub count: u8,
+    /// As in [`rtnlc_options`].
+    pub depth: u8,
+    /// 0 or 1.
+    pub big: u8,
+    /// The code of the first refusal, or 0.
+    pub refusal: u8,
+}
+
+/// A builder over a buffer of the caller's.
+#[repr(C)]
+#[derive(Clone, Copy, Debug, PartialEq, Eq, Hash)]
+pub struct rtnlc_builder {
+    /// The buffer: `room` bytes that can be written.
+    pub out: *mut u8,
+    /// Its bytes.
+    pub room: usize,
+    /// What is built in it.
+    pub built: rtnlc_built,
+}
+
 extern "C" {
     /// Checks every head of a datagram, and keeps nothing.
     pub fn rtnlc_scan(
@@ -609,6 +657,88 @@ extern "C" {
 
     /// Where the last dump stands.
     pub fn rtnlc_stream_status(stream: *const rtnlc_stream) -> rtnlc_status;
+
+    /// Makes a builder over a buffer, which has accepted nothing yet.
+    pub fn rtnlc_builder_new(
+        b: *mut rtnlc_builder,
+        options: *const rtnlc_options,
+        out: *mut u8,
+        room: usize,
+    ) -> u8;
+
+    /// Begins a message of a family, with its head.
+    pub fn rtnlc_builder_begin(
+        b: *mut rtnlc_builder,
+        kind: u16,
+        flags: u16,
+        seq: u32,
+        port: u32,
+        head: *const c_void,
+        len: usize,
+    ) -> u8;
+
+    /// Puts an attribute that holds these bytes.
+    pub fn rtnlc_builder_put(
+        b: *mut rtnlc_builder,
+        kind: u16,
+        bytes: *const c_void,
+        len: usize,
+    ) -> u8;
+
+    /// The same of a text, with one zero byte behind it.
+    pub fn rtnlc_builder_put_text(
+        b: *mut rtnlc_builder,
+        kind: u16,
+        text: *const c_char,
+        len: usize,
+    ) -> u8;
+
+    /// The same of a number in one byte.
+    pub fn rtnlc_builder_put_u8(b: *mut rtnlc_builder, kind: u16, value: u8) -> u8;
+
+    /// The same in two bytes in the builder's order.
+    pub fn rtnlc_builder_put_u16(b: *mut rtnlc_builder, kind: u16, value: u16) -> u8;
+
+    /// The same in four bytes.
+    pub fn rtnlc_builder_put_u32(b: *mut rtnlc_builder, kind: u16, value: u32) -> u8;
+
+    /// The same in eight bytes.
+    pub fn rtnlc_builder_put_u64(b: *mut rtnlc_builder, kind: u16, value: u64) -> u8;
+
+    /// The same in two bytes in network byte order.
+    pub fn rtnlc_builder_put_be16(b: *mut rtnlc_builder, kind: u16, value: u16) -> u8;
+
+    /// The same in four.
+    pub fn rtnlc_builder_put_be32(b: *mut rtnlc_builder, kind: u16, value: u32) -> u8;
+
+    /// The same in eight.
+    pub fn rtnlc_builder_put_be64(b: *mut rtnlc_builder, kind: u16, value: u64) -> u8;
+
+    /// Opens an attribute that holds attributes, or next hops.
+    pub fn rtnlc_builder_open(b: *mut rtnlc_builder, kind: u16) -> u8;
+
+    /// Opens a next hop.
+    pub fn rtnlc_builder_open_hop(b: *mut rtnlc_builder, flags: u8, hops: u8, ifindex: i32) -> u8;
+
+    /// Closes the attribute or the next hop that was opened last.
+    pub fn rtnlc_builder_close(b: *mut rtnlc_builder) -> u8;
+
+    /// Ends the message.
+    pub fn rtnlc_builder_end(b: *mut rtnlc_builder) -> u8;
+
+    /// Puts a whole message of no family, whose body is these bytes.
+    pub fn rtnlc_builder_message(
+        b: *mut rtnlc_builder,
+        kind: u16,
+        flags: u16,
+        seq: u32,
+        port: u32,
+        body: *const c_void,
+        len: usize,
+    ) -> u8;
+
+    /// How many bytes the datagram has.
+    pub fn rtnlc_builder_finish(b: *const rtnlc_builder) -> rtnlc_put;
 
     /// Puts the name of a message type in the kernel's headers into `out`.
     pub fn rtnlc_type_name(kind: u16, out: *mut c_char, room: usize) -> rtnlc_put;

@@ -8,6 +8,7 @@
 //!
 //! Texts, payloads and hardware addresses are hexadecimal.
 
+use checks::hex;
 use rtnl::constants::AF_UNSPEC;
 use rtnl::*;
 use std::env;
@@ -51,10 +52,6 @@ impl Display for Object {
     fn fmt(&self, f: &mut fmt::Formatter<'_>) -> fmt::Result {
         write!(f, "{{{}}}", self.0)
     }
-}
-
-fn hex(bytes: &[u8]) -> String {
-    bytes.iter().map(|it| format!("{it:02x}")).collect()
 }
 
 fn array(objects: impl Iterator<Item = Object>) -> String {

@@ -1,8 +1,9 @@
 //! What the programs beside it share: a socket, a dump over it, and how they end.
 #![allow(dead_code)] // No program uses all of it.
 
+pub mod change;
 use rtnl::{Family, Incomplete, MessageList, State, Stream};
-use std::{env, error::Error, fmt::Display, io, os::unix::ffi::OsStrExt, process};
+use std::{error::Error, ffi::OsString, fmt::Display, io, os::unix::ffi::OsStrExt, process};
 
 pub type Result<T> = std::result::Result<T, Box<dyn Error>>;
 
@@ -40,9 +41,8 @@ pub struct Source {
 }
 
 impl Source {
-    /// Joins groups, `RTMGRP_*`, or connects to the socket of the argument.
-    pub fn open(groups: u32) -> io::Result<Source> {
-        let path = env::args_os().nth(1);
+    /// Joins groups, `RTMGRP_*`, or connects to the socket of this path.
+    pub fn open(groups: u32, path: Option<OsString>) -> io::Result<Source> {
         let (domain, kind) = path.as_ref().map_or(NETLINK, |_| UNIX);
         let (mut to, mut own) = (Address(domain, [0; 108]), Address(0, [0; 108]));
         // SAFETY: each call is handed whole addresses, with their sizes.
