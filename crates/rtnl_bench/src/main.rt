@@ -1,12 +1,15 @@
 //! Measures the libraries over a recording on standard input, all datagrams N times:
-//! `rtnl_bench read N`, `rtnl_bench write N` what was read, `rtnl_bench show N`. It prints a count
-//! that depends on what was done.
+//! `rtnl_bench read N`, `rtnl_bench write N` what was read, `rtnl_bench show N`. By
+//! `rtnl_bench one N` and `rtnl_bench two N` it builds N thousand requests for routes, of one and of
+//! two next hops. It prints a count that depends on what was done.
 #![tactic(auto)]
 
 use anyhow::{Result, bail};
-use nl_attr::{Attr, Tally};
-use nl_frame::{Body, Limits, Message, read_datagram, write_datagram};
-use nl_route::match_object;
+use nl_attr::{Attr, AttrFlags, Order, Tally};
+use nl_frame::{
+    Body, BuildError, Builder, FamilyHead, Limits, Message, read_datagram, write_datagram,
+};
+use nl_route::{RouteHead, match_object};
 use rtnl::{SliceSource, VecSink, run_show};
 use std::alloc::Global;
 
@@ -76,12 +79,70 @@ fn show(alloc: Global, recording: &str, limits: &Limits) -> Result<u64> {
     Ok(sink.bytes.len() as u64)
 }
 
+/// The head of the routes that are built: of IPv4, a network of 24 bits, in the main table.
+const ROUTE: RouteHead = RouteHead {
+    family: 2,
+    dst_len: 24,
+    src_len: 0,
+    tos: 0,
+    table: 254,
+    protocol: 3,
+    scope: 0,
+    sort: 1,
+    flags: 0,
+};
+
+const NO_FLAGS: AttrFlags = AttrFlags {
+    nested: false,
+    net: false,
+};
+
+/// Puts where a route leads: one next hop by itself, or so many in a list. The numbers of the
+/// attributes are those of linux/rtnetlink.h.
+fn put_way(builder: &mut Builder<'_>, hops: i32) -> Result<(), BuildError> {
+    if hops == 1 {
+        builder.put_bytes(5, NO_FLAGS, &[192, 0, 2, 254])?;
+        return builder.put_u32(4, NO_FLAGS, 10, Order::Little);
+    }
+    builder.open_attr(9, NO_FLAGS)?;
+    for at in 0..hops {
+        builder.open_hop(0, 9, at)?;
+        builder.put_bytes(5, NO_FLAGS, &[192, 0, 2, 254])?;
+        builder.close()?;
+    }
+    builder.close()
+}
+
+/// Builds the request for a route of this number, with so many next hops: its length, and one of
+/// its bytes, so that none can be left out.
+fn build(out: &mut [u8], number: u32, hops: i32, limits: &Limits) -> Result<u64, BuildError> {
+    let mut builder = Builder::new(out, limits);
+    builder.begin(24, 0x605, number, 0, &FamilyHead::Route(ROUTE))?;
+    builder.put_bytes(1, NO_FLAGS, &Order::Big.u32_bytes(number))?;
+    builder.put_u32(6, NO_FLAGS, number % 1024, Order::Little)?;
+    put_way(&mut builder, hops)?;
+    builder.end()?;
+    let bytes = builder.finish()?;
+    let byte = bytes.get(number as usize % 64).copied().unwrap_or(0);
+    Ok(bytes.len() as u64 + u64::from(byte))
+}
+
+/// Builds a thousand requests: the sum.
+fn build_all(hops: i32, limits: &Limits) -> Result<u64> {
+    let mut out = [0; 512];
+    let mut count: u64 = 0;
+    for number in 0..1000 {
+        count = count.wrapping_add(build(&mut out, number, hops, limits)?);
+    }
+    Ok(count)
+}
+
 fn main(rt: HostRuntime) -> Result<()> {
     let alloc = rt.alloc();
     let words: Vec<String> = std::env::args(&rt)?.collect(alloc)?;
     let (what, passes) = match words.as_slice() {
         [_, what, passes] => (what.as_str(), passes.parse::<u32>()?),
-        _ => bail!("rtnl_bench read|write|show N < RECORDING"),
+        _ => bail!("rtnl_bench read|write|show|one|two N < RECORDING"),
     };
     let recording = std::io::read_to_string(alloc, rt.reader())?;
     let limits = Limits::standard();
@@ -97,7 +158,9 @@ fn main(rt: HostRuntime) -> Result<()> {
             "read" => read(alloc, datagrams.as_slice(), &limits)?,
             "write" => write(alloc, all.as_slice(), &limits)?,
             "show" => show(alloc, &recording, &limits)?,
-            _ => bail!("rtnl_bench read|write|show N < RECORDING"),
+            "one" => build_all(1, &limits)?,
+            "two" => build_all(2, &limits)?,
+            _ => bail!("rtnl_bench read|write|show|one|two N < RECORDING"),
         });
     }
     println!(rt; "{count}")?;
