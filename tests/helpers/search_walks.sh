@@ -99,14 +99,14 @@ scan=(crates/nl_attr/src/scanning.rt crates/nl_attr/src/taping/*.rt)
 taping=crates/nl_frame/src/taping.rt
 
 same 'heads are read by the walkers, by a scan at one place for each sort of head, and at its end' \
-  "$(counts '\b(head_len|kind_at|span_at)\(')" \
+  "$(counts '\b(head_len|len_at|kind_at|span_at)\(')" \
   'crates/nl_attr/src/broken.rt 1
 crates/nl_attr/src/taping/fronts.rt 3
-crates/nl_attr/src/taping/leaves.rt 1
+crates/nl_attr/src/taping/leaves.rt 2
 crates/nl_attr/src/taping/steps.rt 1
 crates/nl_attr/src/walk/attrs.rt 3
 crates/nl_attr/src/walk/hops.rt 2
-crates/nl_attr/src/walk/mod.rt 3'
+crates/nl_attr/src/walk/mod.rt 5'
 
 # The room for a datagram's messages is made by the length of the first.
 same 'headers are read at the front of a message, where an error quotes one, at the end of a scan, and for room' \
@@ -122,19 +122,21 @@ same 'a message is taken from the front once by a reading, a scan and a cursor' 
 crates/nl_frame/src/reading.rt 1
 crates/nl_frame/src/taping.rt 1'
 
-same 'a scan is a loop over heads that hold bytes, one over heads that hold others, and one over messages' \
-  "$(lines '\b(loop|while|for)\b[^<]*\{$' "${scan[@]}" crates/nl_frame/src/scanning.rt "$taping" |
+# The first goes past the heads at the front of a region, and the second on from where that ended.
+same 'a scan is two loops over heads that hold bytes, one over heads that hold others, and one over messages' \
+  "$(lines '\b(loop|while|for)\b([^<]|< )*\{$' "${scan[@]}" crates/nl_frame/src/scanning.rt "$taping" |
     sed 's/^[^:]*: *//')" \
-  "'leaves: loop {
+  "'leaves: while at < limit {
+'leaves: loop {
 'heads: loop {
 'messages: while !left.is_empty() {"
 
 same 'a region is scanned by the calls that are made for it and once by the scan of a message, and in no reading' \
-  "$(counts '\b(scan_list_ordered|tape_(list|attrs|region|leaves|like)|step_(attrs|container|hop))\b.*\(')" \
+  "$(counts '\b(scan_list_ordered|tape_(list|attrs|region|leaves|like)|pass_(front|leaves|like)|step_(attrs|container|hop))\b.*\(')" \
   'crates/nl_attr/src/scanning.rt 2
-crates/nl_attr/src/taping/leaves.rt 5
-crates/nl_attr/src/taping/mod.rt 5
-crates/nl_attr/src/taping/steps.rt 7
+crates/nl_attr/src/taping/leaves.rt 10
+crates/nl_attr/src/taping/mod.rt 6
+crates/nl_attr/src/taping/steps.rt 9
 crates/nl_frame/src/taping.rt 1'
 
 same 'a datagram is scanned by the calls that are made for it, and in no reading' \

@@ -63,6 +63,13 @@ Passes S h (k ∷ ks) g = (k ≡ h) × (h.left ≢ []) × (broken S h ≡ None) 
 abbrev pub head_with : Head → List ℕ → Head
 head_with h left = record h { place = h.place + (length h.left - length left); left = left }
 
+-- attributes that hold bytes were passed, their events stand in the buffer from place `count` on, and this is left
+pub record IsPassing (S : Shape) (h : Head) (count : ℕ) (old : List Event) (left : List ℕ) (n : ℕ) (new : List Event) : Type 0 where
+  pub passed : List Head
+  pub passes : Passes S h passed (head_with h left)
+  pub counted : n ≡ count + length passed
+  pub events : new ≡ put_from count (map (event_of S.order) passed) old
+
 -- what is at the front
 abbrev pub IsNext : Shape → Head → Next → Type 0
 IsNext S h next.Ends = h.left ≡ []
@@ -84,6 +91,12 @@ pub record Adds (S : Shape) (hs : List Head) (before after : Counts) (old new : 
   pub count : after.count ≡ before.count + length hs
   pub visits : after.visits ≡ before.visits + visits_of S hs
   pub events : new ≡ put_from before.count (map (event_of S.order) hs) old
+
+-- heads that hold none are passed and added, and the last is what is left
+pub record Skips (S : Shape) (h g : Head) (before after : Counts) (old new : List Event) : Type 0 where
+  pub passed : List Head
+  pub passes : Passes S h passed g
+  pub adds : Adds S passed before after old new
 
 -- where the head leads, that it is added where its length is sound, and what is left then
 abbrev pub LeadsTo : Shape → Head → Counts → Counts → List Event → List Event → Head → Lead → Type 0

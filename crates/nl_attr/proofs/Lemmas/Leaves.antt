@@ -1,34 +1,32 @@
 -- Attributes that hold bytes, passed one behind the other.
-use Rattle.std.proofs.Common.{◌≡◌, ◌≢◌, ℕ, ◌+◌, ◌-◌, ◌≤◌, List, [], ◌∷◌, ◌++◌, length, drop, map, None, refl, sym, ap, subst, ◌∙◌, arith, length-append, length-drop}
-use Rattle.std.proofs.lemmas.List.{length-map, map-append}
+use Rattle.std.proofs.Common.{◌≡◌, ◌≢◌, ℕ, ◌+◌, ◌-◌, ◌*◌, ◌/◌, ◌%◌, ◌||◌, ◌≤◌, nat_lt, if◌then◌else◌, List, [], ◌∷◌, ◌++◌, length, drop, map, Some, None, refl, sym, ap, subst, ◌∙◌, arith, length-append, length-drop}
+use Rattle.std.proofs.lemmas.Bool.{le-ltb}
+use Rattle.std.proofs.lemmas.List.{drop-drop, length-map, map-append}
 use Rattle.nl_attr.specs.declared.events.Event.{Event}
 use Rattle.nl_attr.specs.declared.fault.Reason.{Reason}
 use Rattle.nl_attr.specs.declared.region.OpenRegion.{OpenRegion}
 use Rattle.nl_attr.specs.declared.region.Parts.TheVariants.{Attrs}
 use Rattle.nl_attr.specs.declared.taping.Counts.{Counts}
 use Rattle.nl_attr.specs.declared.taping.leaves.Leaves.{Leaves}
+use Rattle.nl_attr.specs.declared.taping.leaves.Passed.{Passed}
 use Rattle.nl_attr.specs.declared.taping.leaves.Next.{Next}
 use Rattle.nl_attr.specs.declared.taping.leaves.Next.TheVariants as next
 use Rattle.nl_attr.specs.declared.taping.steps.Advance.{Advance}
 use Rattle.nl_attr.specs.declared.taping.steps.Lead.TheVariants as lead
 use Rattle.nl_attr.specs.declared.tree.Ctx.{Ctx}
 use Rattle.nl_attr.specs.Shape.{Shape}
-use Rattle.nl_attr.specs.Numbers.{span_of}
+use Rattle.nl_attr.specs.Numbers.{len_of, span_of}
+use Rattle.nl_attr.specs.Walk.{broken_length}
+use Rattle.nl_attr.specs.declared.fault.Reason.TheVariants.{Cut, BadLength}
+use Rattle.nl_attr.specs.declared.order.Order.{Order}
 use Rattle.nl_attr.specs.Heads.{Head, start_of, broken, inner_of, follower}
 use Rattle.nl_attr.specs.HeadOrder.{event_of, put_from}
 use Rattle.nl_attr.specs.Region.{head_of}
-use Rattle.nl_attr.specs.Taped.{IsNext, LeadsTo, Passes, PassesLeaves, Steps, head_with}
+use Rattle.nl_attr.specs.Taped.{IsNext, IsPassing, LeadsTo, Passes, PassesLeaves, Skips, Steps, head_with}
 use Rattle.nl_attr.proofs.Lemmas.Fronts.{attrs_head, attr_unsound}
 use Rattle.nl_attr.proofs.Lemmas.Scan.{span_within}
 use Rattle.nl_attr.proofs.Lemmas.Putting.{put_none, put_on}
 use Rattle.nl_attr.proofs.Lemmas.Taping.{passes_push, passes_sum}
-
--- these were passed, their events stand in the buffer, and this is left
-pub record IsPassing (S : Shape) (h : Head) (count : ℕ) (old : List Event) (left : List ℕ) (n : ℕ) (out : List Event) : Type 0 where
-  pub passed : List Head
-  pub passes : Passes S h passed (head_with h left)
-  pub counted : n ≡ count + length passed
-  pub events : out ≡ put_from count (map (event_of S.order) passed) old
 
 pub some_left : (left : List ℕ) → 4 ≤ length left → left ≢ []
 some_left left e = λ n. absurd (let z : length left ≡ 0 = ap (length {A = ℕ}) n in omega (arith, z, e))
@@ -67,6 +65,19 @@ module _ {S : Shape} {h : Head} {count : ℕ} {old : List Event} {left : List �
         ∙ put_on count (map e now.passed) (e (head_with h left) ∷ []) old
         ∙ ap (λ (es : List Event). put_from count es old) (sym (map-append e now.passed (head_with h left ∷ [])));
   }
+
+-- ---- a head at a place of the bytes
+
+-- its length is sound where the item lies in the bytes
+pub sound_within : (o : Order) (left : List ℕ) (len : ℕ) → len ≡ len_of o 2 left → 4 ≤ len → len ≤ length left → broken_length o 4 2 left ≡ None
+sound_within o left len is low high = within_bounds (length left) (len_of o 2 left) (omega (arith, is, low, high)) (omega (arith, is, low)) (omega (arith, is, high)) where
+  within_bounds : (n m : ℕ) → 4 ≤ n → 4 ≤ m → m ≤ n → (if nat_lt n 4 then Some Cut else (if nat_lt m 4 || nat_lt n m then Some BadLength else None)) ≡ None
+  within_bounds n m a b c = rw (le-ltb n 4 a, le-ltb m 4 b, le-ltb n m c) refl
+
+-- the next one, where the item ends with its padding in the bytes
+pub next_at : (o : Order) (bytes : List ℕ) (at len : ℕ) → at % 4 ≡ 0 → len ≡ len_of o 2 (drop at bytes) → (at + len + 3) / 4 * 4 ≤ length bytes
+    → drop ((at + len + 3) / 4 * 4) bytes ≡ drop (span_of o 2 (drop at bytes)) (drop at bytes)
+next_at o bytes at len whole is fits = ap (λ (n : ℕ). drop n bytes) (omega (arith, whole, is, fits, length-drop at bytes)) ∙ sym (drop-drop (span_of o 2 (drop at bytes)) at bytes)
 
 -- ---- the step past them
 
@@ -120,3 +131,32 @@ module _ {S : Shape} (g : OpenRegion) (ctx : Ctx) (before : Counts) {old new : L
       let n = what_is_next (next.Fails w) e in
       let u = attr_unsound S ctx g.level (rest_of g r).place r.left.now w counts new n.1 in
       subst (λ (h : Head). LeadsTo S h counts counts new new h (lead.Fails w)) (attrs_head (rest_of g r) ctx kind) (n.0, refl, u.0, u.1)
+
+-- ---- what is left behind them
+
+-- a region of which so many bytes are left
+abbrev pub front_of : OpenRegion → Passed → OpenRegion
+front_of g r = record { left = r.left; place = g.place + length g.left.now - length r.left.now; level = g.level; parts = g.parts }
+
+module _ {S : Shape} (g : OpenRegion) (ctx : Ctx) (before : Counts) {old new : List Event} (r : Passed) (kind : g.parts ≡ Attrs ctx)
+    (is : IsPassing S (start_of ctx g.level (g.place + length g.left.now - length g.left.now) g.left.now) before.count old r.left.now r.count new) where
+  all : IsPassing S (start_of ctx g.level g.place g.left.now) before.count old r.left.now r.count new
+  all = subst (λ (p : ℕ). IsPassing S (start_of ctx g.level p g.left.now) before.count old r.left.now r.count new) (omega arith) is
+
+  pub less : length r.left.now ≤ length g.left.now
+  less = (within all).0
+
+  -- they are passed and added
+  pub skips : (later : Counts) → later ≡ record { count = r.count; visits = before.visits + (length g.left.now - length r.left.now) } → Skips S (head_of g) (head_of (front_of g r)) before later old new
+  skips later sums =
+      let s = passes_sum S (start_of ctx g.level g.place g.left.now) all.passed (head_with (start_of ctx g.level g.place g.left.now) r.left.now) all.passes in
+      let at : head_with (start_of ctx g.level g.place g.left.now) r.left.now ≡ head_of (front_of g r) = ap (λ (p : ℕ). start_of ctx g.level p r.left.now) (omega (arith, less)) ∙ attrs_head (front_of g r) ctx kind in
+      record {
+        passed = all.passed;
+        passes = subst (λ (h : Head). Passes S h all.passed (head_of (front_of g r))) (attrs_head g ctx kind) (subst (Passes S (start_of ctx g.level g.place g.left.now) all.passed) at all.passes);
+        adds = record {
+          count = ap (λ (t : Counts). t.count) sums ∙ all.counted;
+          visits = omega (arith, ap (λ (t : Counts). t.visits) sums, s.0);
+          events = all.events;
+        };
+      }

@@ -22,7 +22,7 @@ use Rattle.nl_attr.specs.Grammar.{and_on, first}
 use Rattle.nl_attr.specs.Heads.{Sort, attr_head, Head, HeadAt, IsSound, broken, follower, inner_of, start_of, heads}
 use Rattle.nl_attr.specs.HeadOrder.{Trail, counted, trail_of, event_of, put_from, visits_of, fault_of}
 use Rattle.nl_attr.specs.Region.{head_of}
-use Rattle.nl_attr.specs.Taped.{Adds, IsTaped, LeadsTo, Passes, Steps, found}
+use Rattle.nl_attr.specs.Taped.{Adds, IsTaped, LeadsTo, Passes, Skips, Steps, found}
 use Rattle.nl_attr.proofs.Lemmas.Grammars.{front, front_on, front_front, weigh-append, behind_then, inside_then, each, trail_ends, trail_stops, trail_goes}
 use Rattle.nl_attr.proofs.Lemmas.Scan.{IsLow, sound_of, inner_is, inner_fills, fills, laws}
 use Rattle.nl_attr.proofs.Lemmas.First.{walk_low}
@@ -264,6 +264,18 @@ module _ {S : Shape} {start : Head} {count : ℕ} {old : List Event} {fs : List 
         counted = sum.count ∙ ap (λ (x : Trail). count + length x.0) (sym all);
         events = sum.events ∙ ap (λ (x : Trail). put_from count (map (event_of S.order) x.0) old) (sym all);
       })
+
+-- heads at its front are passed before its loop begins
+pub skipped : {S : Shape} {start top : Head} {count : ℕ} {old new : List Event} {t : Counts} (fs : List Head) → fs ≡ [] → start.sort ≡ attr_head → start.level ≤ S.depth → length start.left ≤ LONGEST_REGION → start.place + length start.left ≤ FARTHEST_END
+    → Skips S start top (begun count) t old new → IsTaping S start count old fs top t new
+skipped {S = S} {start = start} {top = top} {count = count} {old = old} {new = new} {t = t} fs none kind level size place s =
+    passes (begins S start count old fs none kind level size place) s.passed top t new s.passes s.adds
+
+-- all of it is passed
+pub skipped_all : {S : Shape} {start top : Head} {count : ℕ} {old new : List Event} {t : Counts} (b : Option BrokenHead) → b ≡ None → start.sort ≡ attr_head → start.level ≤ S.depth → length start.left ≤ LONGEST_REGION → start.place + length start.left ≤ FARTHEST_END
+    → Skips S start top (begun count) t old new → top.left ≡ [] → IsTaped S start count old new (found b t)
+skipped_all {S = S} {start = start} {count = count} {old = old} {new = new} {t = t} b none kind level size place s end =
+    subst (λ (o : Option BrokenHead). IsTaped S start count old new (found o t)) (sym none) (tells_none (skipped [] refl kind level size place s) end refl)
 
 -- ---- a step of the loop
 

@@ -4,14 +4,14 @@
 ghost use Rattle.std.specs.Prelude.{◌^◌, ◌≤◌, ◌+◌, ◌-◌, length};
 ghost use Rattle.nl_attr.specs.Fixed as fixed;
 ghost use Rattle.nl_attr.specs.Heads.{start_of};
-ghost use Rattle.nl_attr.specs.Taped.{IsLike, PassesLeaves};
+ghost use Rattle.nl_attr.specs.Taped.{IsLike, IsPassing, PassesLeaves};
 
 use crate::events::Event;
 use crate::fault::Reason;
 use crate::limits::Shape;
 use crate::taping::fronts::attr_front;
 use crate::tree::{Content, Ctx, holds};
-use crate::walk::head_len;
+use crate::walk::{head_len, len_at};
 
 /// What stands behind attributes that hold bytes.
 #[derive(Clone, Copy)]
@@ -32,6 +32,100 @@ pub(super) struct Leaves<'a> {
     /// The place in the buffer behind the last event.
     pub(super) count: usize,
     pub(super) next: Next,
+}
+
+/// Attributes that hold bytes, gone past.
+#[derive(Clone, Copy)]
+pub(super) struct Passed<'a> {
+    /// What is left of their region.
+    pub(super) left: &'a [u8],
+    /// The place in the buffer behind the last event.
+    pub(super) count: usize,
+}
+
+/// Goes past attributes at the front that hold bytes, as long as each ends where a next head could
+/// stand. `end` is the place behind the region, and `key` a context in which attributes hold what
+/// they do in `ctx`: written as a constant it makes a loop that compares no other context's
+/// numbers.
+#[inline(always)]
+fn pass_like<'a>(
+    bytes: &'a [u8],
+    end: u32,
+    level: u8,
+    ctx: Ctx,
+    key: Ctx,
+    shape: Shape,
+    out: &mut [Event],
+    count: usize,
+) -> Passed<'a>
+    requires key { IsLike ctx key }
+    requires size { length bytes.now ≤ fixed.LONGEST_REGION }
+    requires within { length bytes.now ≤ end }
+    requires place { end ≤ fixed.FARTHEST_END }
+    requires count { count ≤ 2 ^ 32 + fixed.MOST_VISITS }
+    ensures { IsPassing shape (start_of ctx level (end - length bytes.now) bytes.now) count
+        out.old result.left.now result.count out.new }
+{
+    let order = shape.order();
+    let start = end - bytes.len() as u32;
+    // Heads stand at multiples of 4, so one that stands before the limit is whole.
+    let limit = bytes.len() / 4 * 4;
+    let mut at = 0;
+    let mut count = count;
+    'leaves: while at < limit {
+        let left = &bytes[at..];
+        let len = len_at(order, left);
+        let item_end = at + len;
+        if len < 4 || limit < item_end {
+            break;
+        }
+        let attr = attr_front(left, len, start + at as u32, level, ctx, order);
+        match holds(key, attr.event.number, attr.flags) {
+            Content::Bytes => {
+                // It isn't nested: as a constant this takes no bit of its type.
+                let nested = false;
+                Event {
+                    nested,
+                    ..attr.event
+                }
+                .put(out, count);
+                count += 1;
+                at = (item_end + 3) / 4 * 4;
+            }
+            Content::List(_) | Content::Hops => break,
+        }
+    }
+    Passed {
+        left: &bytes[at..],
+        count,
+    }
+}
+
+/// Goes past attributes at the front that hold bytes, by a loop for each context that knows
+/// containers by their numbers. `end` is the place behind the region. The last of them may be left
+/// where its padding is cut short.
+#[inline(always)]
+pub(super) fn pass_leaves<'a>(
+    bytes: &'a [u8],
+    end: u32,
+    level: u8,
+    ctx: Ctx,
+    shape: Shape,
+    out: &mut [Event],
+    count: usize,
+) -> Passed<'a>
+    requires size { length bytes.now ≤ fixed.LONGEST_REGION }
+    requires within { length bytes.now ≤ end }
+    requires place { end ≤ fixed.FARTHEST_END }
+    requires count { count ≤ 2 ^ 32 + fixed.MOST_VISITS }
+    ensures { IsPassing shape (start_of ctx level (end - length bytes.now) bytes.now) count
+        out.old result.left.now result.count out.new }
+{
+    match ctx {
+        Ctx::Route => pass_like(bytes, end, level, ctx, Ctx::Route, shape, out, count),
+        Ctx::Link => pass_like(bytes, end, level, ctx, Ctx::Link, shape, out, count),
+        _ => pass_like(bytes, end, level, ctx, Ctx::Plain, shape, out, count),
+    }
 }
 
 /// Goes past the attributes at the front that hold bytes. `end` is the place behind the region, and

@@ -4,8 +4,8 @@
 ghost use Rattle.std.specs.Prelude.{◌^◌, ◌≡◌, ◌≤◌, ◌<◌, ◌+◌, ◌-◌, ◌*◌, drop, length, slice_set};
 ghost use Rattle.nl_attr.specs.Broken.{facts_of};
 ghost use Rattle.nl_attr.specs.Fixed as fixed;
-ghost use Rattle.nl_attr.specs.Heads.{attr_head, start_of};
-ghost use Rattle.nl_attr.specs.Region.{head_of, sort_in};
+ghost use Rattle.nl_attr.specs.Heads.{start_of};
+ghost use Rattle.nl_attr.specs.Region.{head_of};
 ghost use Rattle.nl_attr.specs.Shape.{shape_of};
 ghost use Rattle.nl_attr.specs.Taped.{IsTaped, found};
 
@@ -19,7 +19,7 @@ use crate::fault::Reason;
 use crate::limits::{Depth, Shape};
 use crate::order::Order;
 use crate::region::{OpenRegion, Parts};
-use crate::taping::steps::{Lead, step};
+use crate::taping::steps::{Lead, pass_front, step};
 use crate::tree::Ctx;
 use arrayvec::ArrayVec;
 
@@ -114,13 +114,14 @@ fn keep_broken(broken: &mut Option<BrokenHead>, at: OpenRegion<'_>, reason: Reas
 fn tape_region<'a>(
     regions: &mut OpenRegions<'a>,
     start: OpenRegion<'a>,
+    ctx: Ctx,
     shape: Shape,
     out: &mut [Event],
     count: usize,
 ) -> Counts
     requires none { regions.old.broken ≡ None }
     requires limit { shape.depth ≤ fixed.MOST_LEVELS }
-    requires parts { sort_in start.parts ≡ attr_head }
+    requires parts { start.parts ≡ Parts.Attrs ctx }
     requires level { start.level ≤ shape.depth }
     requires size { length start.left.now ≤ fixed.LONGEST_REGION }
     requires place { start.place + length start.left.now ≤ fixed.FARTHEST_END }
@@ -128,9 +129,13 @@ fn tape_region<'a>(
     ensures { IsTaped shape (head_of start.entry) count out.old out.new
         (found regions.new.broken result) }
 {
-    regions.stack.clear();
-    let mut top = start;
     let mut counts = Counts { count, visits: 0 };
+    // Most regions hold no region: these are at their end here, and no stack is touched.
+    let mut top = pass_front(start, ctx, shape, out, &mut counts);
+    if top.left.is_empty() {
+        return counts;
+    }
+    regions.stack.clear();
     'heads: loop {
         let stepped = step(top, shape, out, &mut counts);
         match stepped.lead {
@@ -186,7 +191,7 @@ pub fn tape_attrs<'a>(
         level,
         parts: Parts::Attrs(ctx),
     };
-    tape_region(regions, start, shape, out, count)
+    tape_region(regions, start, ctx, shape, out, count)
 }
 
 /// Scans a region of attributes, as `read_list_ordered` reads it, and puts the event of each head

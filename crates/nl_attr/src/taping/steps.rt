@@ -3,7 +3,7 @@
 ghost use Rattle.std.specs.Prelude.{◌^◌, ◌≡◌, ◌≢◌, ◌≤◌, ◌<◌, ◌+◌, [], length, Ok};
 ghost use Rattle.nl_attr.specs.Fixed as fixed;
 ghost use Rattle.nl_attr.specs.Heads.{content_at, start_of};
-ghost use Rattle.nl_attr.specs.Taped.{Leads, Steps, hops_start};
+ghost use Rattle.nl_attr.specs.Taped.{Leads, Skips, Steps, hops_start};
 ghost use Rattle.nl_attr.specs.Region.{head_of};
 ghost use Rattle.nl_attr.specs.Walk.{HeadIs};
 
@@ -14,7 +14,7 @@ use crate::region::{OpenRegion, Parts};
 use crate::stack::container_fault;
 use crate::taping::Counts;
 use crate::taping::fronts::{attr_front, hop_front, inside, sort};
-use crate::taping::leaves::{Next, tape_leaves};
+use crate::taping::leaves::{Next, pass_leaves, tape_leaves};
 use crate::tree::{Content, Ctx, holds};
 use crate::walk::head_len;
 
@@ -75,6 +75,34 @@ fn step_container<'a>(
             lead: Lead::Opens(inside(attr.payload, place, 4, level, parts)),
             rest: attr.rest,
         },
+    }
+}
+
+/// Goes past attributes at the front of a region that hold bytes, and answers what is left of it.
+#[inline(always)]
+pub(super) fn pass_front<'a>(
+    region: OpenRegion<'a>,
+    ctx: Ctx,
+    shape: Shape,
+    out: &mut [Event],
+    counts: &mut Counts,
+) -> OpenRegion<'a>
+    requires size { length region.left.now ≤ fixed.LONGEST_REGION }
+    requires place { region.place + length region.left.now ≤ fixed.FARTHEST_END }
+    requires parts { region.parts ≡ Parts.Attrs ctx }
+    requires count { counts.old.count ≤ 2 ^ 32 + fixed.MOST_VISITS }
+    requires visits { counts.old.visits ≤ fixed.MOST_VISITS }
+    ensures { Skips shape (head_of region.entry) (head_of result) counts.old counts.new
+        out.old out.new }
+{
+    let (bytes, level, count) = (region.left, region.level, counts.count);
+    let end = region.place + bytes.len() as u32;
+    let passed = pass_leaves(bytes, end, level, ctx, shape, out, count);
+    counts.pass(passed.count, bytes.len() - passed.left.len());
+    OpenRegion {
+        left: passed.left,
+        place: end - passed.left.len() as u32,
+        ..region
     }
 }
 

@@ -2,7 +2,7 @@
 
 ghost use Rattle.std.specs.Prelude.{◌≡◌, ◌≤◌, length, min};
 ghost use Rattle.nl_attr.specs.Fixed as fixed;
-ghost use Rattle.nl_attr.specs.Numbers.{aligned, kind_of};
+ghost use Rattle.nl_attr.specs.Numbers.{aligned, kind_of, len_of};
 ghost use Rattle.nl_attr.specs.Walk.{HeadIs, flags_of};
 
 mod attrs;
@@ -26,6 +26,15 @@ pub fn align4(n: u32) -> u32
     (n + 3) / 4 * 4
 }
 
+/// The length that the head at the front says.
+#[inline(always)]
+pub(crate) fn len_at(order: Order, left: &[u8]) -> usize
+    requires { 2 ≤ length left.now }
+    ensures { result ≡ len_of order 2 left.now }
+{
+    order.read_u16(left) as usize
+}
+
 /// The length that the head at the front says, where it is at least `min` and within the bytes.
 pub(crate) fn head_len(order: Order, left: &[u8], min: usize) -> Result<usize, Reason>
     requires { 2 ≤ min }
@@ -34,7 +43,7 @@ pub(crate) fn head_len(order: Order, left: &[u8], min: usize) -> Result<usize, R
     if left.len() < min {
         return Err(Reason::Cut);
     }
-    let len = order.read_u16(left) as usize;
+    let len = len_at(order, left);
     if len < min || left.len() < len {
         return Err(Reason::BadLength);
     }

@@ -2,19 +2,25 @@ use Rattle.std.proofs.Common.{◌≡◌, ◌++◌, [], ◌∷◌, map, ap, subst
 use Rattle.std.specs.Option.{option_to_list}
 use Rattle.std.proofs.lemmas.List.{map_push}
 use Rattle.nl_attr.specs.Region.{head_of}
-use Rattle.nl_attr.proofs.Lemmas.Taping.{begins, small, step_ends, step_pops, step_size, step_fails, step_opens, step_less, none_left, work, work_push}
+use Rattle.nl_attr.proofs.Lemmas.Fronts.{attrs_sort}
+use Rattle.nl_attr.proofs.Lemmas.Taping.{empty, skipped, skipped_all, small, step_ends, step_pops, step_size, step_fails, step_opens, step_less, none_left, work, work_push}
 use Rattle.nl_attr.proofs.taping.tape_region.Goals as goal
 
 pub heads-init : goal.heads-init
 heads-init c =
     let q = c.requires in
-    (q.none, begins c.args.shape (head_of c.args.start) c.args.count c.args.out.now (map head_of c.clear.new.self.items) (ap (map head_of) c.clear.ensures) q.parts q.level q.size q.place)
+    (q.none, skipped (map head_of c.clear.new.self.items) (ap (map head_of) c.clear.ensures) (attrs_sort c.args.start c.args.ctx q.parts) q.level q.size q.place c.pass_front-top.ensures)
+
+pub returns-then-is_empty : goal.returns-then-is_empty
+returns-then-is_empty c =
+    let q = c.requires in
+    skipped_all _ q.none (attrs_sort c.args.start c.args.ctx q.parts) q.level q.size q.place c.pass_front-top.ensures (empty c.pass_front-top.result.left.now c.if-is_empty.ensures)
 
 pub step-stepped-requires-clause-count : goal.step-stepped-requires-clause-count
-step-stepped-requires-clause-count c = let q = c.requires in omega (arith, (small c.heads.invariant.1 q.parts q.level q.limit q.size).1, q.count)
+step-stepped-requires-clause-count c = let q = c.requires in omega (arith, (small c.heads.invariant.1 (attrs_sort c.args.start c.args.ctx q.parts) q.level q.limit q.size).1, q.count)
 
 pub step-stepped-requires-clause-visits : goal.step-stepped-requires-clause-visits
-step-stepped-requires-clause-visits c = let q = c.requires in (small c.heads.invariant.1 q.parts q.level q.limit q.size).0
+step-stepped-requires-clause-visits c = let q = c.requires in (small c.heads.invariant.1 (attrs_sort c.args.start c.args.ctx q.parts) q.level q.limit q.size).0
 
 pub returns-in-None : goal.returns-in-None
 returns-in-None c =

@@ -1,6 +1,6 @@
 use Rattle.std.proofs.Common.{◌-◌, length}
 use Rattle.nl_attr.specs.Heads.{start_of}
-use Rattle.nl_attr.proofs.Lemmas.Leaves.{IsPassing}
+use Rattle.nl_attr.specs.Taped.{IsPassing}
 use Rattle.nl_attr.proofs.taping.leaves.tape_like.Given as goal
 
 abbrev pub invariant-leaves : goal.invariant-leaves
