@@ -177,6 +177,7 @@ impl Head for RouteHead {
 
 impl Route {
     /// The destination, `RTA_DST`.
+    #[inline(always)]
     pub fn dst(&self) -> Option<&[u8]>
         ensures { option_copied result ≡ bytes_view fixed.RTA_DST (attrs_in self.now) }
     {
@@ -184,6 +185,7 @@ impl Route {
     }
 
     /// The source, `RTA_SRC`.
+    #[inline(always)]
     pub fn src(&self) -> Option<&[u8]>
         ensures { option_copied result ≡ bytes_view fixed.RTA_SRC (attrs_in self.now) }
     {
@@ -191,6 +193,7 @@ impl Route {
     }
 
     /// The gateway, `RTA_GATEWAY`.
+    #[inline(always)]
     pub fn gateway(&self) -> Option<&[u8]>
         ensures { option_copied result ≡ bytes_view fixed.RTA_GATEWAY (attrs_in self.now) }
     {
@@ -214,6 +217,7 @@ impl Route {
     }
 
     /// The index of the output interface, `RTA_OIF`, its bytes in this order.
+    #[inline(always)]
     pub fn oif_ordered(&self, order: Order) -> Option<u32>
         ensures { result ≡ number_view order 4 fixed.RTA_OIF (attrs_in self.now) }
     {
@@ -246,6 +250,7 @@ impl Route {
     }
 
     /// The priority of the route, `RTA_PRIORITY`, its bytes in this order.
+    #[inline(always)]
     pub fn priority_ordered(&self, order: Order) -> Option<u32>
         ensures { result ≡ number_view order 4 fixed.RTA_PRIORITY (attrs_in self.now) }
     {
@@ -265,6 +270,7 @@ impl Route {
 
     /// The routing table: `RTA_TABLE`, its bytes in this order, or the head's where there is no
     /// such number.
+    #[inline(always)]
     pub fn table_id_ordered(&self, order: Order) -> u32
         ensures { result ≡ unwrap_or
             (number_view order 4 fixed.RTA_TABLE (attrs_in self.now)) self.now.head.table }

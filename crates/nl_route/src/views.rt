@@ -23,6 +23,7 @@ pub(crate) fn u16_view(attrs: &[Attr], number: u16, order: Order) -> Option<u16>
 }
 
 /// The number in the first four bytes.
+#[inline(always)]
 pub(crate) fn u32_view(attrs: &[Attr], number: u16, order: Order) -> Option<u32>
     ensures { result ≡ number_view order 4 number (attrs_view attrs.now) }
 {
@@ -37,6 +38,7 @@ pub(crate) fn text_of(attrs: &[Attr], number: u16) -> Option<&[u8]>
 }
 
 /// All bytes.
+#[inline(always)]
 pub(crate) fn bytes_of(attrs: &[Attr], number: u16) -> Option<&[u8]>
     ensures { option_copied result ≡ bytes_view number (attrs_view attrs.now) }
 {

@@ -152,6 +152,8 @@ impl PartialEq for CompactKey {
 
     ghost laws = { partial_equiv_from_equiv nat_list_eq_equiv };
 
+    // A call, since most keys of a table are new, and then none are compared.
+    #[inline(never)]
     fn eq(&self, other: &CompactKey) -> bool {
         self.as_slice() == other.as_slice()
     }
