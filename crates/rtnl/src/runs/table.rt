@@ -1,7 +1,7 @@
 //! Reading a recording as the answers to a dump.
 
 ghost use Rattle.std.specs.Prelude.{◌≡◌, ◌≤◌, ◌+◌, ◌++◌, ◌↔◌, IsTrue};
-ghost use Rattle.std.specs.Prelude.{List, length, drop, Result, IfOk};
+ghost use Rattle.std.specs.Prelude.{List, length, drop, Result, IfOk, OnOk};
 ghost use Rattle.rtnl.specs.Runs as fixed;
 ghost use Rattle.nl_dump.specs.Steps.{Fed, IsWaiting};
 ghost use Rattle.nl_dump.specs.declared.dump.Progress.{Progress as AnyProgress};
@@ -73,6 +73,18 @@ fn feed_all<F: ReportFormat>(
     Ok(datagrams.len())
 }
 
+/// How many bytes of text there are at most for each byte of most datagrams.
+const TEXT_OF_A_BYTE: usize = 8;
+
+/// Makes room for the text of the entries that a session was fed, which is mostly enough, so that
+/// the text isn't moved while it grows.
+fn reserve_text(out: &mut Vec<u8>, session: &Session) -> Result<(), AllocError>
+    ensures { OnOk result (out.new.items ≡ out.old.items) }
+{
+    let received = session.received() as usize;
+    out.reserve(received.saturating_mul(TEXT_OF_A_BYTE))
+}
+
 fn verdict(complete: bool) -> Verdict
     ensures { result ≡ verdict_of complete }
 {
@@ -108,6 +120,7 @@ impl<F: ReportFormat> Tabulate<F> {
         let fed = feed_all::<F>(alloc, session, &mut out, datagrams)?;
         let unfed = datagrams.len() - fed;
         let order = self.limits.order();
+        reserve_text(&mut out, session)?;
         push_table::<F>(alloc, &mut out, order, session, self.dump.kind)?;
         let ending = ending_of(session, &self.dump, unfed);
         F::push_ending(alloc, &mut out, &self.dump, &ending)?;
