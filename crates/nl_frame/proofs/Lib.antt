@@ -11,12 +11,13 @@ pub mod Tapes
 pub mod Outcomes
 pub mod Within
 pub mod WrittenLayouts
-mod Opens
+pub mod Opens
+mod Tops
 mod Snocs
 pub mod Puts
 mod Begins
 mod Closes
-mod Ends
+pub mod Ends
 mod Wholes
 pub mod Running
 mod Rooms

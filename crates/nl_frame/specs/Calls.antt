@@ -95,3 +95,11 @@ calls_of_body m b = put_message m.kind m.flags m.seq m.port b ∷ []
 abbrev pub calls_of : List MessageVal → List Call
 calls_of [] = []
 calls_of (m ∷ ms) = calls_of_body m m.body ++ calls_of ms
+
+-- what is built once a message is put
+abbrev pub with_message : Built → MessageVal → Built
+with_message b m = run b (calls_of_body m m.body)
+
+-- what was put once it is
+abbrev pub and_message : Draft → MessageVal → Draft
+and_message d m = record d { ended = d.ended ++ m ∷ [] }

@@ -41,3 +41,4 @@ pub mod Draft
 pub mod Calls
 pub mod Parts
 pub mod Copies
+pub mod Tops

@@ -19,7 +19,9 @@ mod taping;
 mod writing;
 
 pub use body::{Body, Message};
-pub use building::{BuildError, Builder, BuilderParts, FamilyHead, NoBuilder, OpenHead};
+pub use building::{
+    BuildError, Builder, BuilderParts, BuilderTop, FamilyHead, NoBuilder, OpenHead, PutMessage,
+};
 pub use canonical::is_canonical;
 pub use form::Form;
 pub use front::{Frame, message_at};

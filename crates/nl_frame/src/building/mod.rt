@@ -22,17 +22,21 @@ ghost use Rattle.nl_frame.specs.Written.{written};
 mod copying;
 mod head;
 mod parts;
+mod putting;
 mod refusal;
 mod slices;
 mod standing;
+mod top;
 
 use crate::limits::Limits;
 pub use head::FamilyHead;
 use nl_attr::{AttrFlags, Content, Order};
 pub use parts::BuilderParts;
+pub use putting::PutMessage;
 pub use refusal::BuildError;
 pub use standing::NoBuilder;
 use std::marker::Model;
+pub use top::BuilderTop;
 
 /// A head whose length isn't set yet.
 #[derive(Clone, Copy, Drop)]

@@ -1,15 +1,15 @@
 //! What a builder of datagrams is but for its slice, which each call is handed.
 
 ghost use Rattle.std.specs.Prelude.{◌≡◌, ◌≤◌, ◌<◌, ◌+◌, ◌-◌, ◌∷◌, ◌++◌, length, [], Ok, Err};
-ghost use Rattle.std.specs.Prelude.{ℕ, List, Some, None, OnOk, IfSome, MatchOption};
+ghost use Rattle.std.specs.Prelude.{ℕ, List, Some, None, OnOk, IfSome, MatchOption, take};
 ghost use Rattle.nl_attr.specs.Fixed as fixed;
 ghost use Rattle.nl_attr.specs.Numbers.{aligned};
-ghost use Rattle.nl_attr.specs.Written.{attr_item, with_padding};
+ghost use Rattle.nl_attr.specs.Written.{with_padding};
 ghost use Rattle.nl_attr.specs.Shape.{Shape};
 ghost use Rattle.nl_route.specs.Families.{family_of, fields_of, head_size};
 ghost use Rattle.nl_route.specs.Fields as fields;
 ghost use Rattle.nl_frame.specs.AnyHeads.{any_head};
-ghost use Rattle.nl_frame.specs.Building.{answer, begin, begin_refusal, bytes_refusal, close};
+ghost use Rattle.nl_frame.specs.Building.{answer, begin, begin_refusal, close};
 ghost use Rattle.nl_frame.specs.Building.{close_refusal, end, end_refusal, finish_refusal};
 ghost use Rattle.nl_frame.specs.Building.{grown, head_ended, held, hop_refusal, lacks};
 ghost use Rattle.nl_frame.specs.Building.{length_from, levels_in, message_refusal};
@@ -27,14 +27,14 @@ ghost use Rattle.nl_frame.specs.Parts.{new_parts, over};
 use crate::building::head::FamilyHead;
 use crate::building::refusal::BuildError;
 use crate::building::slices::put_at;
+use crate::building::top::{BuilderTop, held_behind};
 use crate::building::{OpenHead, levels};
 use crate::form::Form;
 use crate::header::Header;
 use crate::limits::Limits;
 use arrayvec::ArrayVec;
 use nl_attr::{
-    AttrFlags, Content, Ctx, LONGEST_CONTAINER, LONGEST_ITEM, LONGEST_REGION, NUMBERS, align4,
-    attr_head, holds, hop_head,
+    AttrFlags, Content, Ctx, LONGEST_CONTAINER, LONGEST_REGION, align4, attr_head, hop_head,
 };
 use nl_route::{Family, match_object};
 use std::marker::Model;
@@ -74,6 +74,7 @@ impl Model for BuilderParts {
 
 impl BuilderParts {
     /// Of a builder of a datagram within these limits that has accepted nothing yet.
+    #[inline(always)]
     pub fn new(limits: &Limits) -> BuilderParts
         ensures { result ≡ new_parts limits.now }
     {
@@ -87,6 +88,7 @@ impl BuilderParts {
     }
 
     /// How many bytes are accepted.
+    #[inline(always)]
     fn len(&self) -> u32
         ensures value { result ≡ self.now.len }
         ensures limit { result ≤ self.now.bounds.datagram }
@@ -97,21 +99,17 @@ impl BuilderParts {
     }
 
     /// Why so many bytes have no room, if they haven't.
+    #[inline(always)]
     fn lacks(&self, out: &[u8], len: usize) -> Option<BuildError>
         requires fits { self.now.len ≤ length out.now }
         requires given { len ≤ fixed.LONGEST_REGION }
         ensures { result ≡ lacks (over self.now out.now) len }
     {
-        if out.len() - self.len < len {
-            return Some(BuildError::NoRoom);
-        }
-        if self.len + len > self.limits.datagram() as usize {
-            return Some(BuildError::TooLarge);
-        }
-        None
+        self.as_top().lacks(out, len)
     }
 
     /// The innermost head.
+    #[inline(always)]
     fn top(&self) -> Option<OpenHead>
         ensures value { result ≡ top self.now.heads }
         ensures inside { IfSome result (λ h. h.start + 4 ≤ self.now.len) }
@@ -121,20 +119,35 @@ impl BuilderParts {
         self.heads.as_slice().last().copied()
     }
 
-    /// What an attribute holds behind the innermost head, or why none stands there.
-    fn held(&self, number: u16, flags: AttrFlags) -> Result<Content, BuildError>
-        ensures { result ≡ held (top self.now.heads) number flags }
+    /// What its calls need of it but for the heads around the innermost.
+    #[inline(always)]
+    fn as_top(&self) -> BuilderTop
+        ensures value { result ≡ record {
+          limits = self.now.bounds;
+          len = self.now.len;
+          head = top self.now.heads;
+          refusal = self.now.refusal;
+        } }
+        ensures limit { self.now.len ≤ self.now.bounds.datagram }
     {
-        match self.top() {
-            None => Err(BuildError::NothingOpen),
-            Some(head) => match head.content {
-                Content::List(ctx) if number < NUMBERS => Ok(holds(ctx, number, flags)),
-                Content::List(_) | Content::Hops | Content::Bytes => Err(BuildError::Mismatch),
-            },
+        BuilderTop {
+            limits: self.limits,
+            len: self.len,
+            head: self.top(),
+            refusal: self.refusal,
         }
     }
 
+    /// What an attribute holds behind the innermost head, or why none stands there.
+    #[inline(always)]
+    fn held(&self, number: u16, flags: AttrFlags) -> Result<Content, BuildError>
+        ensures { result ≡ held (top self.now.heads) number flags }
+    {
+        held_behind(self.top(), number, flags)
+    }
+
     /// Accepts bytes for which there is room.
+    #[inline(always)]
     fn accept(&mut self, out: &mut [u8], bytes: &[u8])
         requires fits { self.old.len ≤ length out.old }
         requires lacks { lacks (over self.old out.old) (length bytes.now) ≡ None }
@@ -145,7 +158,23 @@ impl BuilderParts {
         self.len += bytes.len();
     }
 
+    /// Accepts as many zero bytes, three at most, for which there is room.
+    #[inline(always)]
+    fn pad(&mut self, out: &mut [u8], count: usize)
+        requires fits { self.old.len ≤ length out.old }
+        requires few { count ≤ 3 }
+        requires lacks { lacks (over self.old out.old) count ≡ None }
+        ensures built { (over self.new out.new)
+            ≡ grown (over self.old out.old) (take count (0 ∷ 0 ∷ 0 ∷ [])) }
+        ensures fits { self.new.len ≤ length out.new }
+    {
+        if count > 0 {
+            self.accept(out, &[0; 3][..count]);
+        }
+    }
+
     /// Keeps a refusal, and answers it.
+    #[inline(always)]
     pub(super) fn refuse(&mut self, refusal: BuildError) -> Result<(), BuildError>
         ensures kept { self.new ≡ record self.old { refusal = Some refusal } }
         ensures answer { result ≡ Err refusal }
@@ -155,6 +184,7 @@ impl BuilderParts {
     }
 
     /// Opens a head, for which there is room, behind which this stands.
+    #[inline(always)]
     fn open_head(&mut self, out: &mut [u8], content: Content, head: &[u8])
         requires fits { self.old.len ≤ length out.old }
         requires lacks { lacks (over self.old out.old) (length head.now) ≡ None }
@@ -169,6 +199,7 @@ impl BuilderParts {
     }
 
     /// Sets the length of the innermost head, in these bytes, and closes it.
+    #[inline(always)]
     fn end_head(&mut self, out: &mut [u8], field: &[u8])
         requires fits { self.old.len ≤ length out.old }
         requires given { length field.now ≤ 4 }
@@ -182,61 +213,8 @@ impl BuilderParts {
         }
     }
 
-    /// Why so many bytes are not put for this attribute, if they aren't.
-    fn bytes_refusal(
-        &self,
-        out: &[u8],
-        number: u16,
-        flags: AttrFlags,
-        len: usize,
-    ) -> Option<BuildError>
-        requires fits { self.now.len ≤ length out.now }
-        ensures { result ≡ or_next self.now.refusal
-            (bytes_refusal (over self.now out.now) (held (top self.now.heads) number flags) len) }
-    {
-        if self.refusal.is_some() {
-            return self.refusal;
-        }
-        match self.held(number, flags) {
-            Err(refusal) => Some(refusal),
-            Ok(Content::Bytes) => {
-                if len > LONGEST_ITEM - 4 {
-                    return Some(BuildError::TooLong);
-                }
-                self.lacks(out, align4(4 + len as u32) as usize)
-            }
-            Ok(_) => Some(BuildError::Mismatch),
-        }
-    }
-
-    /// Accepts an attribute of these bytes, in two parts, for which there is room.
-    fn accept_attr(
-        &mut self,
-        out: &mut [u8],
-        number: u16,
-        flags: AttrFlags,
-        bytes: &[u8],
-        tail: &[u8],
-    )
-        requires fits { self.old.len ≤ length out.old }
-        requires number { number < fixed.NUMBERS }
-        requires short { 4 + (length bytes.now + length tail.now) ≤ fixed.LONGEST_ITEM }
-        requires lacks { lacks (over self.old out.old)
-            (aligned (4 + (length bytes.now + length tail.now)))
-            ≡ None }
-        ensures built { (over self.new out.new) ≡ grown (over self.old out.old) (with_padding
-            (attr_item (order_of (over self.old out.old)) number flags (bytes.now ++ tail.now))) }
-        ensures fits { self.new.len ≤ length out.new }
-    {
-        let len = 4 + (bytes.len() + tail.len()) as u32;
-        let head = attr_head(len as u16, number, flags, self.limits.order());
-        self.accept(out, &head);
-        self.accept(out, bytes);
-        self.accept(out, tail);
-        self.accept(out, &[0; 3][..(align4(len) - len) as usize]);
-    }
-
     /// Puts an attribute of these bytes, in two parts.
+    #[inline(always)]
     pub(super) fn put_parts(
         &mut self,
         out: &mut [u8],
@@ -254,11 +232,14 @@ impl BuilderParts {
             → Holds L (over self.new out.new) (draft.put d number flags (bytes.now ++ tail.now))) }
         ensures fits { self.new.len ≤ length out.new }
     {
-        if let Some(refusal) = self.bytes_refusal(out, number, flags, bytes.len() + tail.len()) {
-            return self.refuse(refusal);
+        let mut top = self.as_top();
+        match top.put(out, number, flags, bytes, tail) {
+            Ok(()) => {
+                self.len = top.len;
+                Ok(())
+            }
+            Err(refusal) => self.refuse(refusal),
         }
-        self.accept_attr(out, number, flags, bytes, tail);
-        Ok(())
     }
 
     /// Puts an attribute that holds these bytes, with zeros behind it up to a multiple of four.
@@ -267,6 +248,7 @@ impl BuilderParts {
     /// open; `Mismatch` where next hops stand, for a number of 16,384 or more, and for an attribute
     /// that holds attributes or next hops by its context, number and flags; `TooLong` for more than
     /// 65,531 bytes; `NoRoom`; `TooLarge`.
+    #[inline(always)]
     pub fn put_bytes(
         &mut self,
         out: &mut [u8],
@@ -287,6 +269,7 @@ impl BuilderParts {
 
     /// Puts an attribute that holds this text and one zero byte behind it. It refuses as
     /// `put_bytes`.
+    #[inline(always)]
     pub fn put_text(
         &mut self,
         out: &mut [u8],
@@ -401,6 +384,7 @@ impl BuilderParts {
     }
 
     /// How many bytes there are from the innermost head on.
+    #[inline(always)]
     fn length_from(&self) -> usize
         ensures value { (out : List ℕ) → self.now.len ≤ length out
             → result ≡ length_from (over self.now out) self.now.heads }
@@ -450,6 +434,7 @@ impl BuilderParts {
     }
 
     /// Why no message of this type begins with a head of this family, if none does.
+    #[inline(always)]
     fn begin_refusal(&self, out: &[u8], kind: u16, family: Family) -> Option<BuildError>
         requires fits { self.now.len ≤ length out.now }
         ensures { result ≡ or_next self.now.refusal
@@ -471,6 +456,7 @@ impl BuilderParts {
     }
 
     /// Accepts a family's head, for which there is room.
+    #[inline(always)]
     fn accept_head(&mut self, out: &mut [u8], head: &FamilyHead)
         requires fits { self.old.len ≤ length out.old }
         requires given { lacks (over self.old out.old)
@@ -489,6 +475,7 @@ impl BuilderParts {
     ///
     /// It refuses, in this order, behind an earlier refusal: `StillOpen` where a message is open;
     /// `Mismatch` where the type isn't NEW, DEL or SET of the head's family; `NoRoom`; `TooLarge`.
+    #[inline(always)]
     pub fn begin(
         &mut self,
         out: &mut [u8],
@@ -525,6 +512,7 @@ impl BuilderParts {
     }
 
     /// Why the message doesn't end, if it doesn't.
+    #[inline(always)]
     fn end_refusal(&self) -> Option<BuildError>
         ensures { result ≡ or_next self.now.refusal (end_refusal self.now.heads) }
     {
@@ -542,6 +530,7 @@ impl BuilderParts {
     ///
     /// It refuses, in this order, behind an earlier refusal: `NothingOpen` where no message is
     /// open; `StillOpen` where an attribute or a next hop is.
+    #[inline(always)]
     pub fn end(&mut self, out: &mut [u8]) -> Result<(), BuildError>
         requires fits { self.old.len ≤ length out.old }
         ensures built { (over self.new out.new) ≡ end (over self.old out.old) }
@@ -594,7 +583,7 @@ impl BuilderParts {
         let front = header.bytes(self.limits.order());
         self.accept(out, &front);
         self.accept(out, body);
-        self.accept(out, &[0; 3][..(align4(header.len) - header.len) as usize]);
+        self.pad(out, (align4(header.len) - header.len) as usize);
     }
 
     /// Puts a whole message whose body is these bytes, with zeros behind it up to a multiple of
@@ -642,6 +631,7 @@ impl BuilderParts {
     }
 
     /// Why the datagram isn't handed out, if it isn't.
+    #[inline(always)]
     pub(super) fn finish_refusal(&self) -> Option<BuildError>
         ensures { result ≡ or_next self.now.refusal (finish_refusal self.now.heads) }
     {
@@ -656,6 +646,7 @@ impl BuilderParts {
 
     /// How many bytes the datagram has. Or the first refusal, and without one `StillOpen` where a
     /// message is open.
+    #[inline(always)]
     pub fn finish(&self) -> Result<usize, BuildError>
         ensures { MatchOption (or_next self.now.refusal (finish_refusal self.now.heads))
             (result ≡ Ok self.now.len) (λ e. result ≡ Err e) }

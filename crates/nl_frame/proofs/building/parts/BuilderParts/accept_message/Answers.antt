@@ -25,6 +25,6 @@ returns-clause-built c =
     let o : c.order.result ≡ order_of b = c.order.ensures ∙ ap (λ (p : Parts). p.bounds.shape.order) c.self.view_is in
     let is = c.bytes-front.ensures ∙ ap (λ (x : Order). fields.written x (header_fields c.args.header)) o in
     let two = c.accept-2.ensures.built ∙ ap (λ (x : Built). grown x body) c.accept.ensures.built ∙ grown_twice b front body in
-    c.accept-3.ensures.built ∙ ap (λ (x : Built). grown x pad) two ∙ grown_twice b it pad
+    c.pad.ensures.built ∙ ap (λ (x : Built). grown x pad) two ∙ grown_twice b it pad
     ∙ ap (λ (xs : List ℕ). grown b (it ++ xs)) zeros
     ∙ ap (λ (xs : List ℕ). grown b (with_padding (xs ++ body))) is

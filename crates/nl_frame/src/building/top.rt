@@ -1,0 +1,305 @@
+//! What a builder's calls need of it but for the heads around the innermost.
+
+ghost use Rattle.std.specs.Prelude.{◌≡◌, ◌≤◌, ◌<◌, ◌+◌, ◌∷◌, ◌++◌, List, None, [], drop, length, take};
+ghost use Rattle.std.specs.Prelude.{ℕ, Ok, Err, IfSome, MatchOption, OnErr, OnOk};
+ghost use Rattle.nl_attr.specs.Fixed as fixed;
+ghost use Rattle.nl_attr.specs.Numbers.{aligned};
+ghost use Rattle.nl_attr.specs.Written.{attr_item, with_padding};
+ghost use Rattle.nl_frame.specs.declared.building.OpenHead.{OpenHead};
+ghost use Rattle.nl_frame.specs.Building.{answer, bytes_refusal, grown, held, lacks, or_next};
+ghost use Rattle.nl_frame.specs.Building.{close, end, finish_refusal, head_ended, length_from};
+ghost use Rattle.nl_frame.specs.Building.{put, top};
+ghost use Rattle.nl_frame.specs.Parts.{over};
+ghost use Rattle.nl_frame.specs.Tops.{AreWithin, left_with, parts_with};
+
+use crate::building::OpenHead;
+use crate::building::refusal::BuildError;
+use crate::building::slices::put_at;
+use crate::limits::Limits;
+use nl_attr::{
+    AttrFlags, Content, LONGEST_CONTAINER, LONGEST_ITEM, NUMBERS, align4, attr_head, holds,
+};
+
+/// What a `BuilderParts` is but for the heads around the innermost, for who keeps those elsewhere:
+/// an attribute that is put stands behind the innermost, whatever is open around it.
+#[derive(Clone, Copy, Drop)]
+pub struct BuilderTop {
+    /// The builder's limits.
+    pub limits: Limits,
+    /// How many bytes are accepted.
+    pub len: usize,
+    /// The innermost head, where one is open.
+    pub head: Option<OpenHead>,
+    /// The first refusal.
+    pub refusal: Option<BuildError>,
+}
+
+/// What an attribute holds behind this head, or why none stands there.
+#[inline(always)]
+pub(super) fn held_behind(
+    head: Option<OpenHead>,
+    number: u16,
+    flags: AttrFlags,
+) -> Result<Content, BuildError>
+    ensures { result ≡ held head number flags }
+{
+    match head {
+        None => Err(BuildError::NothingOpen),
+        Some(head) => match head.content {
+            Content::List(ctx) if number < NUMBERS => Ok(holds(ctx, number, flags)),
+            Content::List(_) | Content::Hops | Content::Bytes => Err(BuildError::Mismatch),
+        },
+    }
+}
+
+impl BuilderTop {
+    /// Why so many bytes have no room, if they haven't.
+    #[inline(always)]
+    pub(super) fn lacks(&self, out: &[u8], len: usize) -> Option<BuildError>
+        requires fits { AreWithin self.now out.now }
+        requires given { len ≤ fixed.LONGEST_REGION }
+        ensures { result ≡ lacks (over (parts_with self.now []) out.now) len }
+    {
+        let limit = self.limits.datagram() as usize;
+        if out.len() - self.len < len {
+            return Some(BuildError::NoRoom);
+        }
+        if self.len + len > limit {
+            return Some(BuildError::TooLarge);
+        }
+        None
+    }
+
+    /// Accepts bytes for which there is room.
+    #[inline(always)]
+    fn accept(&mut self, out: &mut [u8], bytes: &[u8])
+        requires fits { AreWithin self.old out.old }
+        requires lacks { lacks (over (parts_with self.old []) out.old) (length bytes.now) ≡ None }
+        ensures built { (hs : List OpenHead) → (over (parts_with self.new hs) out.new)
+            ≡ grown (over (parts_with self.old hs) out.old) bytes.now }
+        ensures rest { self.new ≡ record self.old { len = self.new.len } }
+        ensures grows { self.old.len ≤ self.new.len }
+        ensures fits { AreWithin self.new out.new }
+    {
+        put_at(out, self.len, bytes);
+        self.len += bytes.len();
+    }
+
+    /// Accepts as many zero bytes, three at most, for which there is room.
+    #[inline(always)]
+    fn pad(&mut self, out: &mut [u8], count: usize)
+        requires fits { AreWithin self.old out.old }
+        requires few { count ≤ 3 }
+        requires lacks { lacks (over (parts_with self.old []) out.old) count ≡ None }
+        ensures built { (hs : List OpenHead) → (over (parts_with self.new hs) out.new)
+            ≡ grown (over (parts_with self.old hs) out.old) (take count (0 ∷ 0 ∷ 0 ∷ [])) }
+        ensures rest { self.new ≡ record self.old { len = self.new.len } }
+        ensures grows { self.old.len ≤ self.new.len }
+        ensures fits { AreWithin self.new out.new }
+    {
+        if count > 0 {
+            self.accept(out, &[0; 3][..count]);
+        }
+    }
+
+    /// Why so many bytes are not put for this attribute, if they aren't.
+    #[inline(always)]
+    fn bytes_refusal(
+        &self,
+        out: &[u8],
+        number: u16,
+        flags: AttrFlags,
+        len: usize,
+    ) -> Option<BuildError>
+        requires fits { AreWithin self.now out.now }
+        ensures { result ≡ or_next self.now.refusal
+            (bytes_refusal (over (parts_with self.now []) out.now)
+            (held self.now.head number flags) len) }
+    {
+        if self.refusal.is_some() {
+            return self.refusal;
+        }
+        match held_behind(self.head, number, flags) {
+            Err(refusal) => Some(refusal),
+            Ok(Content::Bytes) => {
+                if len > LONGEST_ITEM - 4 {
+                    return Some(BuildError::TooLong);
+                }
+                self.lacks(out, align4(4 + len as u32) as usize)
+            }
+            Ok(_) => Some(BuildError::Mismatch),
+        }
+    }
+
+    /// Accepts an attribute of these bytes, in two parts, for which there is room.
+    #[inline(always)]
+    fn accept_attr(
+        &mut self,
+        out: &mut [u8],
+        number: u16,
+        flags: AttrFlags,
+        bytes: &[u8],
+        tail: &[u8],
+    )
+        requires fits { AreWithin self.old out.old }
+        requires number { number < fixed.NUMBERS }
+        requires short { 4 + (length bytes.now + length tail.now) ≤ fixed.LONGEST_ITEM }
+        requires lacks { lacks (over (parts_with self.old []) out.old)
+            (aligned (4 + (length bytes.now + length tail.now)))
+            ≡ None }
+        ensures built { (hs : List OpenHead) → (over (parts_with self.new hs) out.new)
+            ≡ grown (over (parts_with self.old hs) out.old) (with_padding
+            (attr_item self.old.limits.shape.order number flags (bytes.now ++ tail.now))) }
+        ensures rest { self.new ≡ record self.old { len = self.new.len } }
+        ensures grows { self.old.len ≤ self.new.len }
+        ensures fits { AreWithin self.new out.new }
+    {
+        let len = 4 + (bytes.len() + tail.len()) as u32;
+        let head = attr_head(len as u16, number, flags, self.limits.order());
+        self.accept(out, &head);
+        self.accept(out, bytes);
+        self.accept(out, tail);
+        self.pad(out, (align4(len) - len) as usize);
+    }
+
+    /// Puts an attribute that holds these bytes, in two parts, behind the innermost head, as
+    /// `BuilderParts::put_bytes` puts it. What is accepted must be within the slice and within the
+    /// datagram limit.
+    ///
+    /// It refuses as `put_bytes`; the first refusal sticks.
+    #[inline(always)]
+    pub fn put(
+        &mut self,
+        out: &mut [u8],
+        number: u16,
+        flags: AttrFlags,
+        bytes: &[u8],
+        tail: &[u8],
+    ) -> Result<(), BuildError>
+        requires fits { AreWithin self.old out.old }
+        requires given { length tail.now ≤ 1 }
+        // Whatever heads are open, of which this is the innermost.
+        ensures built { (hs : List OpenHead) → top hs ≡ self.old.head
+            → (over (parts_with self.new hs) out.new)
+            ≡ put (over (parts_with self.old hs) out.old) number flags (bytes.now ++ tail.now) }
+        ensures rest { self.new ≡ record self.old { len = self.new.len; refusal = self.new.refusal } }
+        ensures answer { result ≡ answer self.new.refusal }
+        ensures grows { self.old.len ≤ self.new.len }
+        ensures accepted { OnOk result (self.new.refusal ≡ self.old.refusal) }
+        ensures refused { OnErr result (self.new.len ≡ self.old.len) }
+        ensures fits { AreWithin self.new out.new }
+    {
+        if let Some(refusal) = self.bytes_refusal(out, number, flags, bytes.len() + tail.len()) {
+            self.refusal = Some(refusal);
+            return Err(refusal);
+        }
+        self.accept_attr(out, number, flags, bytes, tail);
+        Ok(())
+    }
+
+    /// How many bytes there are from the innermost head on.
+    #[inline(always)]
+    fn length_from(&self) -> usize
+        requires inside { IfSome self.now.head (λ h. h.start + 4 ≤ self.now.len) }
+        requires limit { self.now.len ≤ fixed.LONGEST_REGION }
+        ensures value { (hs : List OpenHead) (out : List ℕ) → top hs ≡ self.now.head
+            → self.now.len ≤ length out
+            → result ≡ length_from (over (parts_with self.now hs) out) hs }
+        ensures limit { result ≤ fixed.LONGEST_REGION }
+    {
+        match self.head {
+            None => 0,
+            Some(head) => self.len - head.start as usize,
+        }
+    }
+
+    /// Sets the length of the innermost head, in these bytes.
+    #[inline(always)]
+    fn end_head(&self, out: &mut [u8], field: &[u8])
+        requires fits { self.now.len ≤ length out.old }
+        requires inside { IfSome self.now.head (λ h. h.start + 4 ≤ self.now.len) }
+        requires given { length field.now ≤ 4 }
+        ensures built { (hs : List OpenHead) → top hs ≡ self.now.head
+            → over (parts_with self.now (drop 1 hs)) out.new
+            ≡ head_ended (over (parts_with self.now hs) out.old) hs field.now }
+        ensures fits { self.now.len ≤ length out.new }
+    {
+        if let Some(head) = self.head {
+            put_at(out, head.start as usize, field);
+        }
+    }
+
+    /// Ends the message, where so many heads are open, as `BuilderParts::end` does; or answers why
+    /// it doesn't end. What is accepted must be within the slice and the datagram limit, and the
+    /// innermost head within what is accepted.
+    #[inline(always)]
+    pub fn end(&self, out: &mut [u8], count: usize) -> Option<BuildError>
+        requires fits { AreWithin self.now out.old }
+        requires inside { IfSome self.now.head (λ h. h.start + 4 ≤ self.now.len) }
+        // Whatever heads are open, which are so many, and of which this is the innermost.
+        ensures built { (hs : List OpenHead) → top hs ≡ self.now.head → length hs ≡ count
+            → over (left_with self.now result hs) out.new
+            ≡ end (over (parts_with self.now hs) out.old) }
+        ensures fits { self.now.len ≤ length out.new }
+    {
+        let _limit = self.limits.datagram();
+        if let Some(refusal) = self.refusal {
+            return Some(refusal);
+        }
+        if count == 0 {
+            return Some(BuildError::NothingOpen);
+        }
+        if count > 1 {
+            return Some(BuildError::StillOpen);
+        }
+        let field = self.limits.order().u32_bytes(self.length_from() as u32);
+        self.end_head(out, &field);
+        None
+    }
+
+    /// Closes the innermost attribute or next hop, where so many heads are open, as
+    /// `BuilderParts::close` does; or answers why it isn't closed. What is accepted must be within
+    /// the slice and the datagram limit, and the innermost head within what is accepted.
+    #[inline(always)]
+    pub fn close(&self, out: &mut [u8], count: usize) -> Option<BuildError>
+        requires fits { AreWithin self.now out.old }
+        requires inside { IfSome self.now.head (λ h. h.start + 4 ≤ self.now.len) }
+        // Whatever heads are open, which are so many, and of which this is the innermost.
+        ensures built { (hs : List OpenHead) → top hs ≡ self.now.head → length hs ≡ count
+            → over (left_with self.now result hs) out.new
+            ≡ close (over (parts_with self.now hs) out.old) }
+        ensures fits { self.now.len ≤ length out.new }
+    {
+        let _limit = self.limits.datagram();
+        if let Some(refusal) = self.refusal {
+            return Some(refusal);
+        }
+        if count < 2 {
+            return Some(BuildError::NothingOpen);
+        }
+        let len = self.length_from();
+        if len > LONGEST_CONTAINER {
+            return Some(BuildError::TooLong);
+        }
+        let field = self.limits.order().u16_bytes(len as u16);
+        self.end_head(out, &field);
+        None
+    }
+
+    /// How many bytes the datagram has, as `BuilderParts::finish` answers it; or the first refusal,
+    /// and without one `StillOpen` where a message is open.
+    #[inline(always)]
+    pub fn finish(&self) -> Result<usize, BuildError>
+        ensures { (hs : List OpenHead) → top hs ≡ self.now.head
+            → MatchOption (or_next self.now.refusal (finish_refusal hs))
+            (result ≡ Ok self.now.len) (λ e. result ≡ Err e) }
+    {
+        if let Some(refusal) = self.refusal {
+            return Err(refusal);
+        }
+        if self.head.is_some() {
+            return Err(BuildError::StillOpen);
+        }
+        Ok(self.len)
+    }
+}
