@@ -18,7 +18,6 @@ use Rattle.nl_frame.specs.Calls.{put, open_attr, close, called, run, calls_of_it
 use Rattle.nl_frame.proofs.Puts.{neither, is_held, has_bytes}
 use Rattle.nl_frame.proofs.Running.{before, not_refused}
 use Rattle.nl_route.specs.Link.{IFLA_INFO_KIND}
-use Rattle.nl_route.specs.Route.{RTA_GATEWAY}
 use Rattle.nl_request.specs.declared.prefix.Prefix.{Prefix}
 use Rattle.nl_request.specs.declared.link.LinkRequest.{LinkRequest}
 use Rattle.nl_request.specs.declared.link.LinkInfo.{LinkInfo}
@@ -32,6 +31,7 @@ use Rattle.nl_request.specs.declared.rule.RuleRequest.{RuleRequest}
 use Rattle.nl_request.specs.Parts.{Part, no_flags, bytes_part, text_part, number_part, items_of, calls_of_part}
 use Rattle.nl_request.specs.Prefixes.{prefix_part}
 use Rattle.nl_request.specs.Tables.{table_part}
+use Rattle.nl_request.specs.Gateways.{gateway_bytes, gateway_part}
 use Rattle.nl_request.specs.Link.{IFLA_INFO_DATA, info_part, link_parts}
 use Rattle.nl_request.specs.Addr.{own_part, lifetimes_part, addr_parts}
 use Rattle.nl_request.specs.Route.{metric_part, metrics_part, hops_of, hops_part, route_parts}
@@ -201,9 +201,13 @@ some_metrics o (m ∷ ms) a =
     let fit : AreParts ctx.Metrics ps = each_metric o (m ∷ ms) a in
     (lit< tt, matched ctx.Metrics ps fit, ranged ctx.Metrics ps fit)
 
+some_gateway : (bs : List ℕ) → IsPart ctx.Route (gateway_part bs)
+some_gateway [] = tt
+some_gateway (x ∷ xs) = leaf ctx.Route 5 (record { number = lit< tt; holds = refl }) (x ∷ xs)
+
 hops_matched : (hs : List NextHop) → IsMismatchedHops (hops_of hs) → ⊥
 hops_matched [] m = m
-hops_matched (h ∷ hs) (inl x) = matched ctx.Route (bytes_part RTA_GATEWAY h.gateway ∷ []) (some_bytes ctx.Route 5 (record { number = lit< tt; holds = refl }) h.gateway, tt) x
+hops_matched (h ∷ hs) (inl x) = matched ctx.Route (gateway_part (gateway_bytes h.gateway) ∷ []) (some_gateway (gateway_bytes h.gateway), tt) x
 hops_matched (h ∷ hs) (inr x) = hops_matched hs x
 
 some_hops : (hs : List NextHop) → IsRangedHops (hops_of hs) → IsPart ctx.Route (hops_part hs)

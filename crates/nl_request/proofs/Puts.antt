@@ -21,13 +21,13 @@ use Rattle.nl_frame.specs.Building.{Built, answer}
 use Rattle.nl_frame.specs.Building as building
 use Rattle.nl_frame.specs.Draft.{Draft, Holds, message}
 use Rattle.nl_frame.specs.Draft as draft
-use Rattle.nl_frame.specs.Calls.{Call, close, end, IsCall, put_by_all, run, calls_of_val, calls_of_items, calls_of_hops, calls_of_body}
+use Rattle.nl_frame.specs.Calls.{Call, close, end, IsCall, put_by_all, run, calls_of_val, calls_of_items, calls_of_hops, calls_of_body, with_message, and_message}
 use Rattle.nl_frame.proofs.Running.{before, runs_hold}
 use Rattle.nl_frame.proofs.Trees.{calls_put}
 use Rattle.nl_request.specs.declared.operation.Operation.{Operation}
 use Rattle.nl_request.specs.declared.operation.Operation.TheVariants.{Add, Replace, Change, Append, Prepend, Set, Delete}
 use Rattle.nl_request.specs.Operations.{flags_of, type_of}
-use Rattle.nl_request.specs.Parts.{Part, no_flags, items_of, request, with_message, and_message}
+use Rattle.nl_request.specs.Parts.{Part, no_flags, items_of, request}
 
 -- ---- the numbers of the calls are in the ranges of their types
 

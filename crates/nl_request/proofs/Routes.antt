@@ -1,17 +1,17 @@
 -- The lists of a route: its metrics and its next hops.
-use Rattle.std.proofs.Common.{◌≡◌, ℕ, ◌+◌, ◌<◌, ◌==◌, false, List, [], ◌∷◌, ◌++◌, length, get_or, drop, map, refl, sym, subst, ap, ◌∙◌, Option, Some, None, Bor, FitsSigned}
+use Rattle.std.proofs.Common.{◌≡◌, ℕ, ◌+◌, ◌<◌, ◌==◌, false, List, [], ◌∷◌, ◌++◌, length, get_or, drop, map, refl, sym, subst, ap, ◌∙◌, FitsSigned}
 use Rattle.std.specs.Int.{w32}
 use Rattle.nl_attr.specs.Proper.{IsRanged, IsRangedHops}
 use Rattle.std.proofs.lemmas.List.{drop_more}
 use Rattle.nl_attr.specs.Fixed.{RTA_METRICS, RTA_MULTIPATH}
 use Rattle.nl_attr.specs.declared.order.Order.{Order}
-use Rattle.nl_route.specs.Route.{RTA_GATEWAY}
 use Rattle.nl_frame.specs.Building.{Built}
 use Rattle.nl_frame.specs.Building as building
 use Rattle.nl_frame.specs.Calls.{open_attr, close, run, calls_of_items, calls_of_hops}
 use Rattle.nl_request.specs.declared.route.Metric.{Metric}
 use Rattle.nl_request.specs.declared.route.NextHop.{NextHop}
-use Rattle.nl_request.specs.Parts.{no_flags, bytes_part, items_of, calls_of_part}
+use Rattle.nl_request.specs.Parts.{no_flags, items_of, calls_of_part}
+use Rattle.nl_request.specs.Gateways.{gateway_bytes, gateway_part}
 use Rattle.nl_request.specs.Route.{metric_part, metrics_part, hops_of, hops_part}
 use Rattle.nl_request.proofs.Runs.{run_both, parts_run}
 
@@ -31,7 +31,7 @@ module _ (b closed : Built) where
 pub first_hop : (b : Built) (h : NextHop) (hs : List NextHop) → run b (calls_of_hops (hops_of (h ∷ hs))) ≡ run (run b (calls_of_hops (hops_of (h ∷ [])))) (calls_of_hops (hops_of hs))
 first_hop b h hs =
     let opened = building.open_hop b h.flags h.hops h.index in
-    let is = calls_of_items (items_of (bytes_part RTA_GATEWAY h.gateway ∷ [])) in
+    let is = calls_of_items (items_of (gateway_part (gateway_bytes h.gateway) ∷ [])) in
     run_both opened is (close ∷ calls_of_hops (hops_of hs)) ∙ ap (λ (x : Built). run x (calls_of_hops (hops_of hs))) (sym (run_both opened is (close ∷ [])))
 
 -- the next hops that are left, once one more is put
@@ -42,18 +42,18 @@ hop_step b next whole hs i d l e f =
     ap (λ (x : Built). run x (calls_of_hops (hops_of more))) f ∙ sym (first_hop b (get_or hs i d) more) ∙ ap (λ (ys : List NextHop). run b (calls_of_hops (hops_of ys))) (sym (drop_more hs i d l)) ∙ e
 
 -- one next hop: it opens, has its gateway, and is closed
-pub hop_run : (b opened filled closed : Built) (h : NextHop) → opened ≡ building.open_hop b h.flags h.hops h.index → filled ≡ run opened (calls_of_part (bytes_part RTA_GATEWAY h.gateway)) → closed ≡ building.close filled
+pub hop_run : (b opened filled closed : Built) (h : NextHop) → opened ≡ building.open_hop b h.flags h.hops h.index → filled ≡ run opened (calls_of_part (gateway_part (gateway_bytes h.gateway))) → closed ≡ building.close filled
     → closed ≡ run b (calls_of_hops (hops_of (h ∷ [])))
 hop_run b opened filled closed h e f g =
-    let is = calls_of_items (items_of (bytes_part RTA_GATEWAY h.gateway ∷ [])) in
-    g ∙ ap (λ (x : Built). building.close x) (parts_run opened (bytes_part RTA_GATEWAY h.gateway ∷ []) filled (filled, f, refl) ∙ ap (λ (x : Built). run x is) e)
+    let is = calls_of_items (items_of (gateway_part (gateway_bytes h.gateway) ∷ [])) in
+    g ∙ ap (λ (x : Built). building.close x) (parts_run opened (gateway_part (gateway_bytes h.gateway) ∷ []) filled (filled, f, refl) ∙ ap (λ (x : Built). run x is) e)
     ∙ sym (run_both (building.open_hop b h.flags h.hops h.index) is (close ∷ []))
 
 -- the indices of the next hops that are left are in range, and so is that of one before them
 pub hop_ranged : (hs : List NextHop) (i : ℕ) (d : NextHop) → i < length hs → FitsSigned w32 (get_or hs i d).index → IsRangedHops (hops_of (drop (i + 1) hs)) → IsRangedHops (hops_of (drop i hs))
 hop_ranged hs i d l f r =
     let h = get_or hs i d in
-    subst (λ (xs : List NextHop). IsRangedHops (hops_of xs)) (sym (drop_more hs i d l)) (f, gateway_ranged h.gateway, r) where
-      gateway_ranged : (g : Option (Bor (List ℕ))) → IsRanged (items_of (bytes_part RTA_GATEWAY g ∷ []))
-      gateway_ranged None = tt
-      gateway_ranged (Some b) = (tt, tt)
+    subst (λ (xs : List NextHop). IsRangedHops (hops_of xs)) (sym (drop_more hs i d l)) (f, gateway_ranged (gateway_bytes h.gateway), r) where
+      gateway_ranged : (bs : List ℕ) → IsRanged (items_of (gateway_part bs ∷ []))
+      gateway_ranged [] = tt
+      gateway_ranged (x ∷ xs) = (tt, tt)

@@ -3,10 +3,10 @@ use Rattle.std.proofs.Common.{◌≡◌, ℕ, List, [], ◌∷◌, ◌++◌, Som
 use Rattle.nl_route.specs.Families.{AnyHead, family_of}
 use Rattle.nl_frame.specs.Building.{Built}
 use Rattle.nl_frame.specs.Building as building
-use Rattle.nl_frame.specs.Calls.{Call, open_attr, close, end, called, run, calls_of_items, calls_of_val}
+use Rattle.nl_frame.specs.Calls.{Call, open_attr, close, end, called, run, calls_of_items, calls_of_val, with_message}
 use Rattle.nl_request.specs.declared.operation.Operation.{Operation}
 use Rattle.nl_request.specs.Operations.{flags_of, type_of}
-use Rattle.nl_request.specs.Parts.{Part, no_flags, items_of, calls_of_part, request, with_message}
+use Rattle.nl_request.specs.Parts.{Part, no_flags, items_of, calls_of_part, request}
 
 -- calls behind others
 pub run_both : (b : Built) (xs ys : List Call) → run b (xs ++ ys) ≡ run (run b xs) ys

@@ -2,6 +2,7 @@ pub mod Operations
 pub mod Parts
 pub mod Prefixes
 pub mod Tables
+pub mod Gateways
 pub mod Link
 pub mod Addr
 pub mod Route

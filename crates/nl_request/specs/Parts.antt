@@ -7,9 +7,7 @@ use Rattle.nl_attr.specs.Numbers.{num}
 use Rattle.nl_attr.specs.Tree.{Val, bytes, Items, no_items, item}
 use Rattle.nl_route.specs.Families.{AnyHead, family_of}
 use Rattle.nl_frame.specs.Message.{MessageVal, object}
-use Rattle.nl_frame.specs.Building.{Built}
-use Rattle.nl_frame.specs.Draft.{Draft}
-use Rattle.nl_frame.specs.Calls.{Call, calls_of_val, calls_of_body, run}
+use Rattle.nl_frame.specs.Calls.{Call, calls_of_val}
 use Rattle.nl_request.specs.declared.operation.Operation.{Operation}
 use Rattle.nl_request.specs.Operations.{flags_of, type_of}
 
@@ -50,17 +48,9 @@ items_of (Some p ∷ ps) = item p.0 no_flags p.1 (items_of ps)
 abbrev pub request : Operation → ℕ → AnyHead → List Part → MessageVal
 request op seq head ps = record { kind = type_of op (family_of head); flags = flags_of op; seq = seq; port = 0; body = object head (items_of ps) }
 
--- ---- the calls that put them into a builder
+-- ---- the calls that put one into a builder
 
--- those of one
+-- none where it isn't there
 abbrev pub calls_of_part : Part → List Call
 calls_of_part None = []
 calls_of_part (Some p) = calls_of_val p.0 no_flags p.1
-
--- what is built once a message is put
-abbrev pub with_message : Built → MessageVal → Built
-with_message b m = run b (calls_of_body m m.body)
-
--- what was put once it is
-abbrev pub and_message : Draft → MessageVal → Draft
-and_message d m = record d { ended = d.ended ++ m ∷ [] }

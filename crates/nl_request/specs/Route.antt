@@ -14,6 +14,7 @@ use Rattle.nl_request.specs.declared.route.RouteRequest.{RouteRequest}
 use Rattle.nl_request.specs.declared.route.Metric.{Metric}
 use Rattle.nl_request.specs.declared.route.NextHop.{NextHop}
 use Rattle.nl_request.specs.Parts.{Part, bytes_part, number_part, items_of, request}
+use Rattle.nl_request.specs.Gateways.{gateway_bytes, gateway_part}
 use Rattle.nl_request.specs.Prefixes.{prefix_part, prefix_length}
 use Rattle.nl_request.specs.Tables.{head_table, table_part}
 
@@ -43,7 +44,7 @@ metrics_part o (m ∷ ms) = Some (RTA_METRICS, list (items_of (map (metric_part 
 -- next hops, each with its gateway where it has one
 abbrev pub hops_of : List NextHop → HopItems
 hops_of [] = no_hops
-hops_of (h ∷ hs) = hop h.flags h.hops h.index (items_of (bytes_part RTA_GATEWAY h.gateway ∷ [])) (hops_of hs)
+hops_of (h ∷ hs) = hop h.flags h.hops h.index (items_of (gateway_part (gateway_bytes h.gateway) ∷ [])) (hops_of hs)
 
 -- the next hops, where there is one
 abbrev pub hops_part : List NextHop → Part

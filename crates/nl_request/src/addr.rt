@@ -1,19 +1,21 @@
 //! Requests of addresses: `ip address`.
 
-ghost use Rattle.std.specs.Prelude.{◌≡◌, ◌++◌, Some, OnOk};
+ghost use Rattle.std.specs.Prelude.{◌≡◌, ◌≤◌, ◌++◌, Some, OnOk, length};
 ghost use Rattle.nl_attr.specs.Numbers.{num};
 ghost use Rattle.nl_frame.specs.Building.{answer, order_of};
-ghost use Rattle.nl_frame.specs.Calls.{run};
+ghost use Rattle.nl_frame.specs.Calls.{and_message, run, with_message};
 ghost use Rattle.nl_frame.specs.Draft.{Draft, Holds};
 ghost use Rattle.nl_frame.specs.Limits.{Bounds};
+ghost use Rattle.nl_frame.specs.Parts.{over};
 ghost use Rattle.nl_request.specs.Addr.{addr_head, addr_message, flags_part};
 ghost use Rattle.nl_request.specs.Addr.{lifetimes_part, own_part};
-ghost use Rattle.nl_request.specs.Parts.{and_message, calls_of_part, with_message};
+ghost use Rattle.nl_request.specs.Parts.{calls_of_part};
 
+use crate::asked::Asked;
 use crate::operation::Operation;
 use crate::parts::{NO_FLAGS, put_bytes, put_text};
 use nl_attr::Order;
-use nl_frame::{BuildError, Builder, Family, FamilyHead};
+use nl_frame::{BuildError, Builder, BuilderParts, Family, FamilyHead, PutMessage};
 use nl_route::{AddrHead, IFA_ADDRESS, IFA_BROADCAST, IFA_FLAGS, IFA_LABEL, IFA_LOCAL};
 
 /// The lifetimes of an address.
@@ -70,29 +72,43 @@ impl Lifetimes {
 }
 
 /// Puts the flags of an address, where they don't fit the byte of its head.
-fn put_flags(builder: &mut Builder<'_>, flags: u32, order: Order)
-    ensures { builder.new ≡ run builder.old (calls_of_part (flags_part order flags)) }
+fn put_flags(parts: &mut BuilderParts, out: &mut [u8], flags: u32, order: Order)
+    requires fits { parts.old.len ≤ length out.old }
+    ensures built { over parts.new out.new
+        ≡ run (over parts.old out.old) (calls_of_part (flags_part order flags)) }
+    ensures fits { parts.new.len ≤ length out.new }
 {
     if flags >= 256 {
-        let _ = builder.put_u32(IFA_FLAGS, NO_FLAGS, flags, order);
+        let _ = parts.put_bytes(out, IFA_FLAGS, NO_FLAGS, &order.u32_bytes(flags));
     }
 }
 
 /// Puts the local address once more, where there is no other end.
-fn put_own(builder: &mut Builder<'_>, local: &[u8], peer: Option<&[u8]>)
-    ensures { builder.new ≡ run builder.old (calls_of_part (own_part local.now peer.entry)) }
+fn put_own(parts: &mut BuilderParts, out: &mut [u8], local: &[u8], peer: Option<&[u8]>)
+    requires fits { parts.old.len ≤ length out.old }
+    ensures built { over parts.new out.new
+        ≡ run (over parts.old out.old) (calls_of_part (own_part local.now peer.entry)) }
+    ensures fits { parts.new.len ≤ length out.new }
 {
     if peer.is_none() {
-        let _ = builder.put_bytes(IFA_ADDRESS, NO_FLAGS, local);
+        let _ = parts.put_bytes(out, IFA_ADDRESS, NO_FLAGS, local);
     }
 }
 
 /// Puts the lifetimes, where there are some.
-fn put_lifetimes(builder: &mut Builder<'_>, lifetimes: Option<Lifetimes>, order: Order)
-    ensures { builder.new ≡ run builder.old (calls_of_part (lifetimes_part order lifetimes)) }
+fn put_lifetimes(
+    parts: &mut BuilderParts,
+    out: &mut [u8],
+    lifetimes: Option<Lifetimes>,
+    order: Order,
+)
+    requires fits { parts.old.len ≤ length out.old }
+    ensures built { over parts.new out.new
+        ≡ run (over parts.old out.old) (calls_of_part (lifetimes_part order lifetimes)) }
+    ensures fits { parts.new.len ≤ length out.new }
 {
     if let Some(lifetimes) = lifetimes {
-        let _ = builder.put_bytes(IFA_CACHEINFO, NO_FLAGS, &lifetimes.bytes(order));
+        let _ = parts.put_bytes(out, IFA_CACHEINFO, NO_FLAGS, &lifetimes.bytes(order));
     }
 }
 
@@ -114,13 +130,46 @@ impl AddrRequest<'_> {
         }
     }
 
-    /// Puts the message of this request into the builder, with this sequence number and port id 0:
-    /// `IFA_LOCAL`, `IFA_BROADCAST`, `IFA_LABEL`, `IFA_FLAGS`, `IFA_ADDRESS` and `IFA_CACHEINFO`,
-    /// as far as they are there. `IFA_ADDRESS` is the local address again; that of the other end,
-    /// where there is one, stands behind `IFA_LOCAL`.
+    /// Puts the message of this request by a builder's parts into their slice, with this sequence
+    /// number and port id 0: `IFA_LOCAL`, `IFA_BROADCAST`, `IFA_LABEL`, `IFA_FLAGS`, `IFA_ADDRESS`
+    /// and `IFA_CACHEINFO`, as far as they are there. `IFA_ADDRESS` is the local address again;
+    /// that of the other end, where there is one, stands behind `IFA_LOCAL`.
     ///
     /// It refuses as the builder does, whose first refusal sticks: where a message is open, where
     /// an attribute is too long, and where the slice or the datagram limit has no room.
+    pub fn put_over(
+        &self,
+        operation: Operation,
+        seq: u32,
+        parts: &mut BuilderParts,
+        out: &mut [u8],
+    ) -> Result<(), BuildError>
+        requires fits { parts.old.len ≤ length out.old }
+        ensures built { over parts.new out.new ≡ with_message (over parts.old out.old)
+            (addr_message self.now operation seq (order_of (over parts.old out.old))) }
+        ensures answer { result ≡ answer parts.new.refusal }
+        // What was put is held, and this message behind it.
+        ensures puts { OnOk result ((d : Draft) (L : Bounds) → Holds L (over parts.old out.old) d
+            → Holds L (over parts.new out.new) (and_message d
+            (addr_message self.now operation seq (order_of (over parts.old out.old))))) }
+        ensures fits { parts.new.len ≤ length out.new }
+    {
+        let order = parts.limits().order();
+        let kind = operation.type_of(Family::Addr);
+        let head = FamilyHead::Addr(self.head());
+        let _ = parts.begin(out, kind, operation.flags(), seq, 0, &head);
+        let _ = parts.put_bytes(out, IFA_LOCAL, NO_FLAGS, self.local);
+        put_bytes(parts, out, IFA_ADDRESS, self.peer);
+        put_bytes(parts, out, IFA_BROADCAST, self.broadcast);
+        put_text(parts, out, IFA_LABEL, self.label);
+        put_flags(parts, out, self.flags, order);
+        put_own(parts, out, self.local, self.peer);
+        put_lifetimes(parts, out, self.lifetimes, order);
+        parts.end(out)
+    }
+
+    /// Puts the message of this request into the builder, with this sequence number and port id 0:
+    /// the same one, and it refuses the same, as `put_over`.
     pub fn put(
         &self,
         operation: Operation,
@@ -135,17 +184,18 @@ impl AddrRequest<'_> {
             → Holds L builder.new (and_message d
             (addr_message self.now operation seq (order_of builder.old)))) }
     {
-        let order = builder.order();
-        let kind = operation.type_of(Family::Addr);
-        let head = FamilyHead::Addr(self.head());
-        let _ = builder.begin(kind, operation.flags(), seq, 0, &head);
-        let _ = builder.put_bytes(IFA_LOCAL, NO_FLAGS, self.local);
-        put_bytes(builder, IFA_ADDRESS, self.peer);
-        put_bytes(builder, IFA_BROADCAST, self.broadcast);
-        put_text(builder, IFA_LABEL, self.label);
-        put_flags(builder, self.flags, order);
-        put_own(builder, self.local, self.peer);
-        put_lifetimes(builder, self.lifetimes, order);
-        builder.end()
+        builder.put(&Asked {
+            request: self,
+            operation,
+            seq,
+        })
+    }
+}
+
+impl PutMessage for Asked<'_, AddrRequest<'_>> {
+    ghost message = { λ a. addr_message a.request.now a.operation a.seq };
+
+    fn put_over(&self, parts: &mut BuilderParts, out: &mut [u8]) -> Result<(), BuildError> {
+        self.request.put_over(self.operation, self.seq, parts, out)
     }
 }

@@ -11,6 +11,8 @@
 #![tactic(auto)]
 
 mod addr;
+mod asked;
+mod gateway;
 mod link;
 mod neigh;
 mod operation;
@@ -23,6 +25,8 @@ mod table;
 mod tests;
 
 pub use addr::{AddrRequest, Lifetimes};
+pub use asked::Asked;
+pub use gateway::Gateway;
 pub use link::{LinkInfo, LinkRequest};
 pub use neigh::NeighRequest;
 pub use nl_frame::{BuildError, Builder};

@@ -1,17 +1,19 @@
 //! Requests of links: `ip link`.
 
-ghost use Rattle.std.specs.Prelude.{◌≡◌, OnOk};
+ghost use Rattle.std.specs.Prelude.{◌≡◌, ◌≤◌, OnOk, length};
 ghost use Rattle.nl_frame.specs.Building.{answer, order_of};
-ghost use Rattle.nl_frame.specs.Calls.{run};
+ghost use Rattle.nl_frame.specs.Calls.{and_message, run, with_message};
 ghost use Rattle.nl_frame.specs.Draft.{Draft, Holds};
 ghost use Rattle.nl_frame.specs.Limits.{Bounds};
+ghost use Rattle.nl_frame.specs.Parts.{over};
 ghost use Rattle.nl_request.specs.Link.{info_part, link_head, link_message};
-ghost use Rattle.nl_request.specs.Parts.{and_message, calls_of_part, with_message};
+ghost use Rattle.nl_request.specs.Parts.{calls_of_part};
 
+use crate::asked::Asked;
 use crate::operation::Operation;
 use crate::parts::{NO_FLAGS, put_bytes, put_text, put_u32};
 use nl_attr::IFLA_LINKINFO;
-use nl_frame::{BuildError, Builder, Family, FamilyHead};
+use nl_frame::{BuildError, Builder, BuilderParts, Family, FamilyHead, PutMessage};
 use nl_route::{IFLA_IFNAME, IFLA_INFO_KIND, IFLA_MASTER, IFLA_MTU, LinkHead};
 
 /// The link-layer address of an interface.
@@ -57,14 +59,17 @@ pub struct LinkInfo<'a> {
 }
 
 /// Puts the kind of a virtual interface, where there is one.
-fn put_info(builder: &mut Builder<'_>, info: Option<LinkInfo<'_>>)
-    ensures { builder.new ≡ run builder.old (calls_of_part (info_part info.entry)) }
+fn put_info(parts: &mut BuilderParts, out: &mut [u8], info: Option<LinkInfo<'_>>)
+    requires fits { parts.old.len ≤ length out.old }
+    ensures built { over parts.new out.new
+        ≡ run (over parts.old out.old) (calls_of_part (info_part info.entry)) }
+    ensures fits { parts.new.len ≤ length out.new }
 {
     if let Some(info) = info {
-        let _ = builder.open_attr(IFLA_LINKINFO, NO_FLAGS);
-        let _ = builder.put_bytes(IFLA_INFO_KIND, NO_FLAGS, info.kind);
-        put_bytes(builder, IFLA_INFO_DATA, info.data);
-        let _ = builder.close();
+        let _ = parts.open_attr(out, IFLA_LINKINFO, NO_FLAGS);
+        let _ = parts.put_bytes(out, IFLA_INFO_KIND, NO_FLAGS, info.kind);
+        put_bytes(parts, out, IFLA_INFO_DATA, info.data);
+        let _ = parts.close(out);
     }
 }
 
@@ -82,12 +87,44 @@ impl LinkRequest<'_> {
         }
     }
 
-    /// Puts the message of this request into the builder, with this sequence number and port id 0:
-    /// `IFLA_ADDRESS`, `IFLA_MTU`, `IFLA_MASTER`, `IFLA_LINK`, `IFLA_IFNAME` and `IFLA_LINKINFO`,
-    /// as far as they are there.
+    /// Puts the message of this request by a builder's parts into their slice, with this sequence
+    /// number and port id 0: `IFLA_ADDRESS`, `IFLA_MTU`, `IFLA_MASTER`, `IFLA_LINK`, `IFLA_IFNAME`
+    /// and `IFLA_LINKINFO`, as far as they are there.
     ///
     /// It refuses as the builder does, whose first refusal sticks: where a message is open, where
     /// an attribute is too long, and where the slice or the datagram limit has no room.
+    pub fn put_over(
+        &self,
+        operation: Operation,
+        seq: u32,
+        parts: &mut BuilderParts,
+        out: &mut [u8],
+    ) -> Result<(), BuildError>
+        requires fits { parts.old.len ≤ length out.old }
+        ensures built { over parts.new out.new ≡ with_message (over parts.old out.old)
+            (link_message self.now operation seq (order_of (over parts.old out.old))) }
+        ensures answer { result ≡ answer parts.new.refusal }
+        // What was put is held, and this message behind it.
+        ensures puts { OnOk result ((d : Draft) (L : Bounds) → Holds L (over parts.old out.old) d
+            → Holds L (over parts.new out.new) (and_message d
+            (link_message self.now operation seq (order_of (over parts.old out.old))))) }
+        ensures fits { parts.new.len ≤ length out.new }
+    {
+        let order = parts.limits().order();
+        let kind = operation.type_of(Family::Link);
+        let head = FamilyHead::Link(self.head());
+        let _ = parts.begin(out, kind, operation.flags(), seq, 0, &head);
+        put_bytes(parts, out, IFLA_ADDRESS, self.address);
+        put_u32(parts, out, IFLA_MTU, self.mtu, order);
+        put_u32(parts, out, IFLA_MASTER, self.master, order);
+        put_u32(parts, out, IFLA_LINK, self.link, order);
+        put_text(parts, out, IFLA_IFNAME, self.name);
+        put_info(parts, out, self.info);
+        parts.end(out)
+    }
+
+    /// Puts the message of this request into the builder, with this sequence number and port id 0:
+    /// the same one, and it refuses the same, as `put_over`.
     pub fn put(
         &self,
         operation: Operation,
@@ -102,16 +139,18 @@ impl LinkRequest<'_> {
             → Holds L builder.new (and_message d
             (link_message self.now operation seq (order_of builder.old)))) }
     {
-        let order = builder.order();
-        let kind = operation.type_of(Family::Link);
-        let head = FamilyHead::Link(self.head());
-        let _ = builder.begin(kind, operation.flags(), seq, 0, &head);
-        put_bytes(builder, IFLA_ADDRESS, self.address);
-        put_u32(builder, IFLA_MTU, self.mtu, order);
-        put_u32(builder, IFLA_MASTER, self.master, order);
-        put_u32(builder, IFLA_LINK, self.link, order);
-        put_text(builder, IFLA_IFNAME, self.name);
-        put_info(builder, self.info);
-        builder.end()
+        builder.put(&Asked {
+            request: self,
+            operation,
+            seq,
+        })
+    }
+}
+
+impl PutMessage for Asked<'_, LinkRequest<'_>> {
+    ghost message = { λ a. link_message a.request.now a.operation a.seq };
+
+    fn put_over(&self, parts: &mut BuilderParts, out: &mut [u8]) -> Result<(), BuildError> {
+        self.request.put_over(self.operation, self.seq, parts, out)
     }
 }

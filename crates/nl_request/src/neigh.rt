@@ -1,15 +1,17 @@
 //! Requests of neighbours: `ip neighbour`, and entries of a bridge: `bridge fdb`.
 
-ghost use Rattle.std.specs.Prelude.{◌≡◌, OnOk};
+ghost use Rattle.std.specs.Prelude.{◌≡◌, ◌≤◌, OnOk, length};
 ghost use Rattle.nl_frame.specs.Building.{answer, order_of};
+ghost use Rattle.nl_frame.specs.Calls.{and_message, with_message};
 ghost use Rattle.nl_frame.specs.Draft.{Draft, Holds};
 ghost use Rattle.nl_frame.specs.Limits.{Bounds};
+ghost use Rattle.nl_frame.specs.Parts.{over};
 ghost use Rattle.nl_request.specs.Neigh.{neigh_head, neigh_message};
-ghost use Rattle.nl_request.specs.Parts.{and_message, with_message};
 
+use crate::asked::Asked;
 use crate::operation::Operation;
 use crate::parts::{put_bytes, put_u16};
-use nl_frame::{BuildError, Builder, Family, FamilyHead};
+use nl_frame::{BuildError, Builder, BuilderParts, Family, FamilyHead, PutMessage};
 use nl_route::{NDA_DST, NDA_LLADDR, NDA_VLAN, NeighHead};
 
 /// A request of a neighbour: it is added, changed or deleted.
@@ -48,11 +50,40 @@ impl NeighRequest<'_> {
         }
     }
 
-    /// Puts the message of this request into the builder, with this sequence number and port id 0:
-    /// `NDA_DST`, `NDA_LLADDR` and `NDA_VLAN`, as far as they are there.
+    /// Puts the message of this request by a builder's parts into their slice, with this sequence
+    /// number and port id 0: `NDA_DST`, `NDA_LLADDR` and `NDA_VLAN`, as far as they are there.
     ///
     /// It refuses as the builder does, whose first refusal sticks: where a message is open, where
     /// an attribute is too long, and where the slice or the datagram limit has no room.
+    pub fn put_over(
+        &self,
+        operation: Operation,
+        seq: u32,
+        parts: &mut BuilderParts,
+        out: &mut [u8],
+    ) -> Result<(), BuildError>
+        requires fits { parts.old.len ≤ length out.old }
+        ensures built { over parts.new out.new ≡ with_message (over parts.old out.old)
+            (neigh_message self.now operation seq (order_of (over parts.old out.old))) }
+        ensures answer { result ≡ answer parts.new.refusal }
+        // What was put is held, and this message behind it.
+        ensures puts { OnOk result ((d : Draft) (L : Bounds) → Holds L (over parts.old out.old) d
+            → Holds L (over parts.new out.new) (and_message d
+            (neigh_message self.now operation seq (order_of (over parts.old out.old))))) }
+        ensures fits { parts.new.len ≤ length out.new }
+    {
+        let order = parts.limits().order();
+        let kind = operation.type_of(Family::Neigh);
+        let head = FamilyHead::Neigh(self.head());
+        let _ = parts.begin(out, kind, operation.flags(), seq, 0, &head);
+        put_bytes(parts, out, NDA_DST, self.destination);
+        put_bytes(parts, out, NDA_LLADDR, self.link_address);
+        put_u16(parts, out, NDA_VLAN, self.vlan, order);
+        parts.end(out)
+    }
+
+    /// Puts the message of this request into the builder, with this sequence number and port id 0:
+    /// the same one, and it refuses the same, as `put_over`.
     pub fn put(
         &self,
         operation: Operation,
@@ -67,13 +98,18 @@ impl NeighRequest<'_> {
             → Holds L builder.new (and_message d
             (neigh_message self.now operation seq (order_of builder.old)))) }
     {
-        let order = builder.order();
-        let kind = operation.type_of(Family::Neigh);
-        let head = FamilyHead::Neigh(self.head());
-        let _ = builder.begin(kind, operation.flags(), seq, 0, &head);
-        put_bytes(builder, NDA_DST, self.destination);
-        put_bytes(builder, NDA_LLADDR, self.link_address);
-        put_u16(builder, NDA_VLAN, self.vlan, order);
-        builder.end()
+        builder.put(&Asked {
+            request: self,
+            operation,
+            seq,
+        })
+    }
+}
+
+impl PutMessage for Asked<'_, NeighRequest<'_>> {
+    ghost message = { λ a. neigh_message a.request.now a.operation a.seq };
+
+    fn put_over(&self, parts: &mut BuilderParts, out: &mut [u8]) -> Result<(), BuildError> {
+        self.request.put_over(self.operation, self.seq, parts, out)
     }
 }

@@ -1,12 +1,13 @@
 //! Prefixes of requests.
 
-ghost use Rattle.std.specs.Prelude.{◌≡◌};
+ghost use Rattle.std.specs.Prelude.{◌≡◌, ◌≤◌, length};
 ghost use Rattle.nl_frame.specs.Calls.{run};
+ghost use Rattle.nl_frame.specs.Parts.{over};
 ghost use Rattle.nl_request.specs.Parts.{calls_of_part};
 ghost use Rattle.nl_request.specs.Prefixes.{prefix_length, prefix_part};
 
 use crate::parts::NO_FLAGS;
-use nl_frame::Builder;
+use nl_frame::BuilderParts;
 
 /// An address of which the first bits count.
 #[derive(Clone, Copy, Debug)]
@@ -18,6 +19,7 @@ pub struct Prefix<'a> {
 }
 
 /// How many bits count: none where there is no prefix.
+#[inline(always)]
 pub(crate) fn length_of(prefix: Option<Prefix<'_>>) -> u8
     ensures { result ≡ prefix_length prefix.entry }
 {
@@ -28,10 +30,19 @@ pub(crate) fn length_of(prefix: Option<Prefix<'_>>) -> u8
 }
 
 /// Puts an attribute of the prefix's address, where there is one.
-pub(crate) fn put_prefix(builder: &mut Builder<'_>, number: u16, prefix: Option<Prefix<'_>>)
-    ensures { builder.new ≡ run builder.old (calls_of_part (prefix_part number prefix.entry)) }
+#[inline(always)]
+pub(crate) fn put_prefix(
+    parts: &mut BuilderParts,
+    out: &mut [u8],
+    number: u16,
+    prefix: Option<Prefix<'_>>,
+)
+    requires fits { parts.old.len ≤ length out.old }
+    ensures built { over parts.new out.new
+        ≡ run (over parts.old out.old) (calls_of_part (prefix_part number prefix.entry)) }
+    ensures fits { parts.new.len ≤ length out.new }
 {
     if let Some(prefix) = prefix {
-        let _ = builder.put_bytes(number, NO_FLAGS, prefix.address);
+        let _ = parts.put_bytes(out, number, NO_FLAGS, prefix.address);
     }
 }

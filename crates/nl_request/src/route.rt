@@ -1,22 +1,26 @@
 //! Requests of routes: `ip route`.
 
-ghost use Rattle.std.specs.Prelude.{◌≡◌, ◌∷◌, [], map, FitsSigned, OnOk};
+ghost use Rattle.std.specs.Prelude.{◌≡◌, ◌≤◌, ◌∷◌, [], map, FitsSigned, OnOk, length};
 ghost use Rattle.std.specs.Int.{w32};
 ghost use Rattle.nl_attr.specs.Proper.{IsRangedHops};
 ghost use Rattle.nl_frame.specs.Building.{answer, order_of};
-ghost use Rattle.nl_frame.specs.Calls.{calls_of_hops, calls_of_items, run};
-ghost use Rattle.nl_request.specs.Parts.{and_message, calls_of_part, items_of, with_message};
+ghost use Rattle.nl_frame.specs.Calls.{and_message, calls_of_hops, calls_of_items};
+ghost use Rattle.nl_frame.specs.Calls.{run, with_message};
 ghost use Rattle.nl_frame.specs.Draft.{Draft, Holds};
 ghost use Rattle.nl_frame.specs.Limits.{Bounds};
+ghost use Rattle.nl_frame.specs.Parts.{over};
+ghost use Rattle.nl_request.specs.Parts.{calls_of_part, items_of};
 ghost use Rattle.nl_request.specs.Route.{hops_of, hops_part, metric_part, metrics_part};
 ghost use Rattle.nl_request.specs.Route.{route_head, route_message};
 
+use crate::asked::Asked;
+use crate::gateway::{Gateway, put_gateway};
 use crate::operation::Operation;
 use crate::parts::{NO_FLAGS, put_bytes, put_u32};
 use crate::prefix::{Prefix, length_of, put_prefix};
 use crate::table::{put_table, table_byte};
 use nl_attr::{Order, RTA_METRICS, RTA_MULTIPATH};
-use nl_frame::{BuildError, Builder, Family, FamilyHead};
+use nl_frame::{BuildError, Builder, BuilderParts, Family, FamilyHead, PutMessage};
 use nl_route::{
     RTA_DST, RTA_GATEWAY, RTA_OIF, RTA_PREFSRC, RTA_PRIORITY, RTA_SRC, RTA_TABLE, RouteHead,
 };
@@ -59,80 +63,97 @@ pub struct RouteRequest<'a> {
     /// The metrics: `RTA_METRICS`, where there is one.
     pub metrics: &'a [Metric],
     /// Several next hops in the place of one: `RTA_MULTIPATH`, where there is one.
-    pub hops: &'a [NextHop<'a>],
+    pub hops: &'a [NextHop],
 }
 
 /// A metric of a route: its `RTAX` number, as 2 for the MTU, 8 for the MSS, 10 for the hop limit,
-/// and its value.
+/// and its value. It is laid out as in C.
+#[repr(C)]
 #[derive(Clone, Copy, Debug, PartialEq, Eq, Hash)]
 pub struct Metric {
     pub number: u16,
     pub value: u32,
 }
 
-/// One of several next hops of a route, `rtnexthop`.
-#[derive(Clone, Copy, Debug)]
-pub struct NextHop<'a> {
+/// One of several next hops of a route, `rtnexthop`. It is laid out as in C.
+#[repr(C)]
+#[derive(Clone, Copy, Debug, Default)]
+pub struct NextHop {
+    /// `rtnh_ifindex`: the index of the interface; 0 for none.
+    pub index: i32,
     /// `rtnh_flags`: the `RTNH_F` bits.
     pub flags: u8,
     /// `rtnh_hops`: the weight less one.
     pub hops: u8,
-    /// `rtnh_ifindex`: the index of the interface; 0 for none.
-    pub index: i32,
-    /// The gateway, in network order.
-    pub gateway: Option<&'a [u8]>,
+    /// The gateway, if there is one.
+    pub gateway: Gateway,
 }
 
 /// Puts each metric, one behind another.
-fn put_each_metric(builder: &mut Builder<'_>, metrics: &[Metric], order: Order)
-    ensures { builder.new ≡ run builder.old
+fn put_each_metric(parts: &mut BuilderParts, out: &mut [u8], metrics: &[Metric], order: Order)
+    requires fits { parts.old.len ≤ length out.old }
+    ensures built { over parts.new out.new
+        ≡ run (over parts.old out.old)
         (calls_of_items (items_of (map (metric_part order) metrics.now))) }
+    ensures fits { parts.new.len ≤ length out.new }
 {
     for metric in metrics {
-        let _ = builder.put_u32(metric.number, NO_FLAGS, metric.value, order);
+        let _ = parts.put_bytes(out, metric.number, NO_FLAGS, &order.u32_bytes(metric.value));
     }
 }
 
 /// Puts the metrics, where there is one.
-fn put_metrics(builder: &mut Builder<'_>, metrics: &[Metric], order: Order)
-    ensures { builder.new ≡ run builder.old (calls_of_part (metrics_part order metrics.now)) }
+fn put_metrics(parts: &mut BuilderParts, out: &mut [u8], metrics: &[Metric], order: Order)
+    requires fits { parts.old.len ≤ length out.old }
+    ensures built { over parts.new out.new
+        ≡ run (over parts.old out.old) (calls_of_part (metrics_part order metrics.now)) }
+    ensures fits { parts.new.len ≤ length out.new }
 {
     if !metrics.is_empty() {
-        let _ = builder.open_attr(RTA_METRICS, NO_FLAGS);
-        put_each_metric(builder, metrics, order);
-        let _ = builder.close();
+        let _ = parts.open_attr(out, RTA_METRICS, NO_FLAGS);
+        put_each_metric(parts, out, metrics, order);
+        let _ = parts.close(out);
     }
 }
 
 /// Puts a next hop.
-fn put_hop(builder: &mut Builder<'_>, hop: &NextHop<'_>)
-    ensures built { builder.new ≡ run builder.old (calls_of_hops (hops_of (hop.now ∷ []))) }
+fn put_hop(parts: &mut BuilderParts, out: &mut [u8], hop: &NextHop)
+    requires fits { parts.old.len ≤ length out.old }
+    ensures built { over parts.new out.new
+        ≡ run (over parts.old out.old) (calls_of_hops (hops_of (hop.now ∷ []))) }
+    ensures fits { parts.new.len ≤ length out.new }
     ensures ranged { FitsSigned w32 hop.now.index }
 {
-    let _ = builder.open_hop(hop.flags, hop.hops, hop.index);
-    put_bytes(builder, RTA_GATEWAY, hop.gateway);
-    let _ = builder.close();
+    let _ = parts.open_hop(out, hop.flags, hop.hops, hop.index);
+    put_gateway(parts, out, &hop.gateway);
+    let _ = parts.close(out);
 }
 
 /// Puts each next hop, one behind another.
-fn put_each_hop(builder: &mut Builder<'_>, hops: &[NextHop<'_>])
-    ensures built { builder.new ≡ run builder.old (calls_of_hops (hops_of hops.now)) }
+fn put_each_hop(parts: &mut BuilderParts, out: &mut [u8], hops: &[NextHop])
+    requires fits { parts.old.len ≤ length out.old }
+    ensures built { over parts.new out.new
+        ≡ run (over parts.old out.old) (calls_of_hops (hops_of hops.now)) }
+    ensures fits { parts.new.len ≤ length out.new }
     ensures ranged { IsRangedHops (hops_of hops.now) }
 {
     for hop in hops {
-        put_hop(builder, hop);
+        put_hop(parts, out, hop);
     }
 }
 
 /// Puts the next hops, where there is one.
-fn put_hops(builder: &mut Builder<'_>, hops: &[NextHop<'_>])
-    ensures built { builder.new ≡ run builder.old (calls_of_part (hops_part hops.now)) }
+fn put_hops(parts: &mut BuilderParts, out: &mut [u8], hops: &[NextHop])
+    requires fits { parts.old.len ≤ length out.old }
+    ensures built { over parts.new out.new
+        ≡ run (over parts.old out.old) (calls_of_part (hops_part hops.now)) }
+    ensures fits { parts.new.len ≤ length out.new }
     ensures ranged { IsRangedHops (hops_of hops.now) }
 {
     if !hops.is_empty() {
-        let _ = builder.open_attr(RTA_MULTIPATH, NO_FLAGS);
-        put_each_hop(builder, hops);
-        let _ = builder.close();
+        let _ = parts.open_attr(out, RTA_MULTIPATH, NO_FLAGS);
+        put_each_hop(parts, out, hops);
+        let _ = parts.close(out);
     }
 }
 
@@ -154,13 +175,48 @@ impl RouteRequest<'_> {
         }
     }
 
-    /// Puts the message of this request into the builder, with this sequence number and port id 0:
-    /// `RTA_DST`, `RTA_SRC`, `RTA_GATEWAY`, `RTA_PREFSRC`, `RTA_PRIORITY`, `RTA_TABLE`, `RTA_OIF`,
-    /// `RTA_METRICS` and `RTA_MULTIPATH`, as far as they are there.
+    /// Puts the message of this request by a builder's parts into their slice, with this sequence
+    /// number and port id 0: `RTA_DST`, `RTA_SRC`, `RTA_GATEWAY`, `RTA_PREFSRC`, `RTA_PRIORITY`,
+    /// `RTA_TABLE`, `RTA_OIF`, `RTA_METRICS` and `RTA_MULTIPATH`, as far as they are there.
     ///
     /// It refuses as the builder does, whose first refusal sticks: where a message is open, for a
     /// metric's number of 16,384 or more, where an attribute is too long or opens a level above the
     /// depth limit, and where the slice or the datagram limit has no room.
+    pub fn put_over(
+        &self,
+        operation: Operation,
+        seq: u32,
+        parts: &mut BuilderParts,
+        out: &mut [u8],
+    ) -> Result<(), BuildError>
+        requires fits { parts.old.len ≤ length out.old }
+        ensures built { over parts.new out.new ≡ with_message (over parts.old out.old)
+            (route_message self.now operation seq (order_of (over parts.old out.old))) }
+        ensures answer { result ≡ answer parts.new.refusal }
+        // What was put is held, and this message behind it.
+        ensures puts { OnOk result ((d : Draft) (L : Bounds) → Holds L (over parts.old out.old) d
+            → Holds L (over parts.new out.new) (and_message d
+            (route_message self.now operation seq (order_of (over parts.old out.old))))) }
+        ensures fits { parts.new.len ≤ length out.new }
+    {
+        let order = parts.limits().order();
+        let kind = operation.type_of(Family::Route);
+        let head = FamilyHead::Route(self.head());
+        let _ = parts.begin(out, kind, operation.flags(), seq, 0, &head);
+        put_prefix(parts, out, RTA_DST, self.destination);
+        put_prefix(parts, out, RTA_SRC, self.source);
+        put_bytes(parts, out, RTA_GATEWAY, self.gateway);
+        put_bytes(parts, out, RTA_PREFSRC, self.preferred_source);
+        put_u32(parts, out, RTA_PRIORITY, self.priority, order);
+        put_table(parts, out, RTA_TABLE, self.table, order);
+        put_u32(parts, out, RTA_OIF, self.oif, order);
+        put_metrics(parts, out, self.metrics, order);
+        put_hops(parts, out, self.hops);
+        parts.end(out)
+    }
+
+    /// Puts the message of this request into the builder, with this sequence number and port id 0:
+    /// the same one, and it refuses the same, as `put_over`.
     pub fn put(
         &self,
         operation: Operation,
@@ -175,19 +231,18 @@ impl RouteRequest<'_> {
             → Holds L builder.new (and_message d
             (route_message self.now operation seq (order_of builder.old)))) }
     {
-        let order = builder.order();
-        let kind = operation.type_of(Family::Route);
-        let head = FamilyHead::Route(self.head());
-        let _ = builder.begin(kind, operation.flags(), seq, 0, &head);
-        put_prefix(builder, RTA_DST, self.destination);
-        put_prefix(builder, RTA_SRC, self.source);
-        put_bytes(builder, RTA_GATEWAY, self.gateway);
-        put_bytes(builder, RTA_PREFSRC, self.preferred_source);
-        put_u32(builder, RTA_PRIORITY, self.priority, order);
-        put_table(builder, RTA_TABLE, self.table, order);
-        put_u32(builder, RTA_OIF, self.oif, order);
-        put_metrics(builder, self.metrics, order);
-        put_hops(builder, self.hops);
-        builder.end()
+        builder.put(&Asked {
+            request: self,
+            operation,
+            seq,
+        })
+    }
+}
+
+impl PutMessage for Asked<'_, RouteRequest<'_>> {
+    ghost message = { λ a. route_message a.request.now a.operation a.seq };
+
+    fn put_over(&self, parts: &mut BuilderParts, out: &mut [u8]) -> Result<(), BuildError> {
+        self.request.put_over(self.operation, self.seq, parts, out)
     }
 }

@@ -1,17 +1,19 @@
 //! Requests of routing rules: `ip rule`.
 
-ghost use Rattle.std.specs.Prelude.{◌≡◌, OnOk};
+ghost use Rattle.std.specs.Prelude.{◌≡◌, ◌≤◌, OnOk, length};
 ghost use Rattle.nl_frame.specs.Building.{answer, order_of};
-ghost use Rattle.nl_request.specs.Parts.{and_message, with_message};
+ghost use Rattle.nl_frame.specs.Calls.{and_message, with_message};
 ghost use Rattle.nl_frame.specs.Draft.{Draft, Holds};
 ghost use Rattle.nl_frame.specs.Limits.{Bounds};
+ghost use Rattle.nl_frame.specs.Parts.{over};
 ghost use Rattle.nl_request.specs.Rule.{rule_head, rule_message};
 
+use crate::asked::Asked;
 use crate::operation::Operation;
 use crate::parts::{put_text, put_u32};
 use crate::prefix::{Prefix, length_of, put_prefix};
 use crate::table::{put_table, table_byte};
-use nl_frame::{BuildError, Builder, Family, FamilyHead};
+use nl_frame::{BuildError, Builder, BuilderParts, Family, FamilyHead, PutMessage};
 use nl_route::{
     FRA_DST, FRA_FWMARK, FRA_FWMASK, FRA_GOTO, FRA_IIFNAME, FRA_OIFNAME, FRA_PRIORITY, FRA_SRC,
     FRA_TABLE, RuleHead,
@@ -74,12 +76,55 @@ impl RuleRequest<'_> {
         }
     }
 
-    /// Puts the message of this request into the builder, with this sequence number and port id 0:
-    /// `FRA_SRC`, `FRA_DST`, `FRA_FWMARK`, `FRA_FWMASK`, `FRA_IIFNAME`, `FRA_OIFNAME`, `FRA_TABLE`,
-    /// `FRA_GOTO`, `FRA_SUPPRESS_PREFIXLEN` and `FRA_PRIORITY`, as far as they are there.
+    /// Puts the message of this request by a builder's parts into their slice, with this sequence
+    /// number and port id 0: `FRA_SRC`, `FRA_DST`, `FRA_FWMARK`, `FRA_FWMASK`, `FRA_IIFNAME`,
+    /// `FRA_OIFNAME`, `FRA_TABLE`, `FRA_GOTO`, `FRA_SUPPRESS_PREFIXLEN` and `FRA_PRIORITY`, as far
+    /// as they are there.
     ///
     /// It refuses as the builder does, whose first refusal sticks: where a message is open, where
     /// an attribute is too long, and where the slice or the datagram limit has no room.
+    pub fn put_over(
+        &self,
+        operation: Operation,
+        seq: u32,
+        parts: &mut BuilderParts,
+        out: &mut [u8],
+    ) -> Result<(), BuildError>
+        requires fits { parts.old.len ≤ length out.old }
+        ensures built { over parts.new out.new ≡ with_message (over parts.old out.old)
+            (rule_message self.now operation seq (order_of (over parts.old out.old))) }
+        ensures answer { result ≡ answer parts.new.refusal }
+        // What was put is held, and this message behind it.
+        ensures puts { OnOk result ((d : Draft) (L : Bounds) → Holds L (over parts.old out.old) d
+            → Holds L (over parts.new out.new) (and_message d
+            (rule_message self.now operation seq (order_of (over parts.old out.old))))) }
+        ensures fits { parts.new.len ≤ length out.new }
+    {
+        let order = parts.limits().order();
+        let kind = operation.type_of(Family::Rule);
+        let head = FamilyHead::Rule(self.head());
+        let _ = parts.begin(out, kind, operation.flags(), seq, 0, &head);
+        put_prefix(parts, out, FRA_SRC, self.source);
+        put_prefix(parts, out, FRA_DST, self.destination);
+        put_u32(parts, out, FRA_FWMARK, self.mark, order);
+        put_u32(parts, out, FRA_FWMASK, self.mask, order);
+        put_text(parts, out, FRA_IIFNAME, self.iif);
+        put_text(parts, out, FRA_OIFNAME, self.oif);
+        put_table(parts, out, FRA_TABLE, self.table, order);
+        put_u32(parts, out, FRA_GOTO, self.target, order);
+        put_u32(
+            parts,
+            out,
+            FRA_SUPPRESS_PREFIXLEN,
+            self.suppress_prefix_length,
+            order,
+        );
+        put_u32(parts, out, FRA_PRIORITY, self.priority, order);
+        parts.end(out)
+    }
+
+    /// Puts the message of this request into the builder, with this sequence number and port id 0:
+    /// the same one, and it refuses the same, as `put_over`.
     pub fn put(
         &self,
         operation: Operation,
@@ -94,25 +139,18 @@ impl RuleRequest<'_> {
             → Holds L builder.new (and_message d
             (rule_message self.now operation seq (order_of builder.old)))) }
     {
-        let order = builder.order();
-        let kind = operation.type_of(Family::Rule);
-        let head = FamilyHead::Rule(self.head());
-        let _ = builder.begin(kind, operation.flags(), seq, 0, &head);
-        put_prefix(builder, FRA_SRC, self.source);
-        put_prefix(builder, FRA_DST, self.destination);
-        put_u32(builder, FRA_FWMARK, self.mark, order);
-        put_u32(builder, FRA_FWMASK, self.mask, order);
-        put_text(builder, FRA_IIFNAME, self.iif);
-        put_text(builder, FRA_OIFNAME, self.oif);
-        put_table(builder, FRA_TABLE, self.table, order);
-        put_u32(builder, FRA_GOTO, self.target, order);
-        put_u32(
-            builder,
-            FRA_SUPPRESS_PREFIXLEN,
-            self.suppress_prefix_length,
-            order,
-        );
-        put_u32(builder, FRA_PRIORITY, self.priority, order);
-        builder.end()
+        builder.put(&Asked {
+            request: self,
+            operation,
+            seq,
+        })
+    }
+}
+
+impl PutMessage for Asked<'_, RuleRequest<'_>> {
+    ghost message = { λ a. rule_message a.request.now a.operation a.seq };
+
+    fn put_over(&self, parts: &mut BuilderParts, out: &mut [u8]) -> Result<(), BuildError> {
+        self.request.put_over(self.operation, self.seq, parts, out)
     }
 }

@@ -1,15 +1,17 @@
 //! The routing table of a request.
 
-ghost use Rattle.std.specs.Prelude.{◌≡◌};
+ghost use Rattle.std.specs.Prelude.{◌≡◌, ◌≤◌, length};
 ghost use Rattle.nl_frame.specs.Calls.{run};
+ghost use Rattle.nl_frame.specs.Parts.{over};
 ghost use Rattle.nl_request.specs.Parts.{calls_of_part};
 ghost use Rattle.nl_request.specs.Tables.{head_table, table_part};
 
 use crate::parts::NO_FLAGS;
 use nl_attr::Order;
-use nl_frame::Builder;
+use nl_frame::BuilderParts;
 
 /// The table's number in a head: 0 where it doesn't fit the byte.
+#[inline(always)]
 pub(crate) fn table_byte(table: u32) -> u8
     ensures { result ≡ head_table table }
 {
@@ -17,10 +19,20 @@ pub(crate) fn table_byte(table: u32) -> u8
 }
 
 /// Puts an attribute of the table's number, where it doesn't fit the byte of a head.
-pub(crate) fn put_table(builder: &mut Builder<'_>, number: u16, table: u32, order: Order)
-    ensures { builder.new ≡ run builder.old (calls_of_part (table_part number order table)) }
+#[inline(always)]
+pub(crate) fn put_table(
+    parts: &mut BuilderParts,
+    out: &mut [u8],
+    number: u16,
+    table: u32,
+    order: Order,
+)
+    requires fits { parts.old.len ≤ length out.old }
+    ensures built { over parts.new out.new
+        ≡ run (over parts.old out.old) (calls_of_part (table_part number order table)) }
+    ensures fits { parts.new.len ≤ length out.new }
 {
     if table >= 256 {
-        let _ = builder.put_u32(number, NO_FLAGS, table, order);
+        let _ = parts.put_bytes(out, number, NO_FLAGS, &order.u32_bytes(table));
     }
 }

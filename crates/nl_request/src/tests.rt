@@ -2,7 +2,7 @@
 //! index 10 and `other` 11. The sequence number and the port id are zero.
 
 use super::{
-    AddrRequest, Builder, Lifetimes, LinkInfo, LinkRequest, Metric, NeighRequest, NextHop,
+    AddrRequest, Builder, Gateway, Lifetimes, LinkInfo, LinkRequest, Metric, NeighRequest, NextHop,
     Operation, Prefix, RouteRequest, RuleRequest,
 };
 use nl_frame::Limits;
@@ -256,6 +256,7 @@ fn addresses(rt: HostRuntime) {
 
 #[test]
 fn routes(rt: HostRuntime) {
+    let gateway = Gateway::new(&[192, 0, 2, 254]).unwrap_or_default();
     let requests = [
         // ip route add 10.2.0.0/16 via 192.0.2.254 dev one
         (
@@ -387,16 +388,16 @@ fn routes(rt: HostRuntime) {
                 sort: 1,
                 hops: &[
                     NextHop {
+                        index: 10,
                         flags: 0,
                         hops: 1,
-                        index: 10,
-                        gateway: Some(&[192, 0, 2, 254]),
+                        gateway,
                     },
                     NextHop {
+                        index: 11,
                         flags: 0,
                         hops: 255,
-                        index: 11,
-                        gateway: None,
+                        gateway: Gateway::default(),
                     },
                 ],
                 ..RouteRequest::default()

@@ -3,7 +3,7 @@ use Rattle.nl_attr.specs.declared.order.Order.{Order}
 use Rattle.nl_frame.specs.Building.{Built, order_of}
 use Rattle.nl_frame.specs.Draft.{Holds, nothing_put}
 use Rattle.nl_request.specs.declared.operation.Operation.TheVariants.{Replace}
-use Rattle.nl_request.specs.Parts.{and_message}
+use Rattle.nl_frame.specs.Calls.{and_message}
 use Rattle.nl_request.specs.Route.{route_message}
 use Rattle.rtnl_uses.proofs.requests.replace_route.Goals as goal
 
