@@ -26,6 +26,16 @@ struct rtnlc_shown proved_show(size_t, const uint8_t *, size_t, const struct rtn
 struct rtnlc_shown proved_show_json(size_t, const uint8_t *, size_t, const struct rtnlc_options *,
                                     uint8_t *, size_t);
 struct rtnlc_put proved_request(uint16_t, uint8_t, uint32_t, bool, uint8_t *, size_t);
+struct rtnlc_put proved_request_link(const struct rtnlc_link_request *, uint8_t, uint32_t, bool,
+                                     uint8_t *, size_t);
+struct rtnlc_put proved_request_addr(const struct rtnlc_addr_request *, uint8_t, uint32_t, bool,
+                                     uint8_t *, size_t);
+struct rtnlc_put proved_request_route(const struct rtnlc_route_request *, uint8_t, uint32_t, bool,
+                                      uint8_t *, size_t);
+struct rtnlc_put proved_request_neigh(const struct rtnlc_neigh_request *, uint8_t, uint32_t, bool,
+                                      uint8_t *, size_t);
+struct rtnlc_put proved_request_rule(const struct rtnlc_rule_request *, uint8_t, uint32_t, bool,
+                                     uint8_t *, size_t);
 struct rtnlc_put proved_type_name(uint16_t, uint8_t *, size_t);
 struct rtnlc_put proved_attr_name(uint8_t, uint16_t, uint8_t *, size_t);
 
@@ -315,6 +325,101 @@ struct rtnlc_status rtnlc_stream_status(const struct rtnlc_stream *stream)
 	/* All bytes of zero are no stream, since a datagram limit is 16 at least. */
 	static const struct rtnlc_stream none;
 	return proved_stream_status(stream ? stream : &none);
+}
+
+/* Bytes of a request, which the proved calls take to be there. */
+static void settle(struct rtnlc_bytes *bytes)
+{
+	static const uint8_t nothing;
+	if (!bytes->at) {
+		bytes->at = &nothing;
+		bytes->len = 0;
+	}
+}
+
+static const struct rtnlc_put not_asked = { 0, RTNLC_MISMATCH };
+
+struct rtnlc_put rtnlc_request_link(const struct rtnlc_link_request *link, uint8_t operation,
+                                    uint32_t seq, bool big, uint8_t *out, size_t room)
+{
+	struct rtnlc_link_request it;
+	uint8_t nowhere;
+	if (!link)
+		return not_asked;
+	it = *link;
+	settle(&it.name);
+	settle(&it.address);
+	settle(&it.kind);
+	settle(&it.data);
+	return proved_request_link(&it, operation, seq, big, out ? out : &nowhere, room);
+}
+
+struct rtnlc_put rtnlc_request_addr(const struct rtnlc_addr_request *addr, uint8_t operation,
+                                    uint32_t seq, bool big, uint8_t *out, size_t room)
+{
+	struct rtnlc_addr_request it;
+	uint8_t nowhere;
+	if (!addr)
+		return not_asked;
+	it = *addr;
+	settle(&it.local);
+	settle(&it.peer);
+	settle(&it.broadcast);
+	settle(&it.label);
+	return proved_request_addr(&it, operation, seq, big, out ? out : &nowhere, room);
+}
+
+struct rtnlc_put rtnlc_request_route(const struct rtnlc_route_request *route, uint8_t operation,
+                                     uint32_t seq, bool big, uint8_t *out, size_t room)
+{
+	static const struct rtnlc_metric no_metric;
+	static const struct rtnlc_next_hop no_hop;
+	struct rtnlc_route_request it;
+	uint8_t nowhere;
+	if (!route)
+		return not_asked;
+	it = *route;
+	settle(&it.destination);
+	settle(&it.source);
+	settle(&it.gateway);
+	settle(&it.preferred_source);
+	if (!it.metrics) {
+		it.metrics = &no_metric;
+		it.metric_count = 0;
+	}
+	if (!it.hops) {
+		it.hops = &no_hop;
+		it.hop_count = 0;
+	}
+	return proved_request_route(&it, operation, seq, big, out ? out : &nowhere, room);
+}
+
+struct rtnlc_put rtnlc_request_neigh(const struct rtnlc_neigh_request *neigh, uint8_t operation,
+                                     uint32_t seq, bool big, uint8_t *out, size_t room)
+{
+	struct rtnlc_neigh_request it;
+	uint8_t nowhere;
+	if (!neigh)
+		return not_asked;
+	it = *neigh;
+	settle(&it.destination);
+	settle(&it.link_address);
+	return proved_request_neigh(&it, operation, seq, big, out ? out : &nowhere, room);
+}
+
+struct rtnlc_put rtnlc_request_rule(const struct rtnlc_rule_request *rule, uint8_t operation,
+                                    uint32_t seq, bool big, uint8_t *out, size_t room)
+{
+	struct rtnlc_rule_request it;
+	uint8_t nowhere;
+	if (!rule)
+		return not_asked;
+	it = *rule;
+	settle(&it.source);
+	settle(&it.destination);
+	settle(&it.iif);
+	settle(&it.oif);
+	return proved_request_rule(&it, operation, seq, big, out ? out : &nowhere, room);
 }
 
 /* The buffer of a builder; a null pointer is one of no bytes, which may lie anywhere. */

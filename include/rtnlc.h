@@ -277,11 +277,13 @@ struct rtnlc_shown rtnlc_show_json(size_t number, const uint8_t *bytes, size_t l
 /* ---- The request of a dump ---- */
 
 struct rtnlc_put {
-	size_t len;   /* bytes; on RTNLC_NO_ROOM how many there must be room for; else 0 */
-	uint8_t code; /* where it is not RTNLC_OK, `out` is as it was, and nothing else has happened */
+	size_t len;   /* bytes; on RTNLC_NO_ROOM how many there must be room for, where a call doesn't
+	               * say otherwise; else 0 */
+	uint8_t code; /* where it is not RTNLC_OK, `out` is as it was, and nothing else has happened,
+	               * but for the calls that say otherwise */
 };
 
-/* Room for any request: that of links has 32 bytes, the others fewer. */
+/* Room for any request of a dump: that of links has 32 bytes, the others fewer. */
 #define RTNLC_REQUEST 32
 
 /* Puts the request of a dump into `out`: a GET message of the family with the flags NLM_F_REQUEST,
@@ -575,6 +577,183 @@ uint8_t rtnlc_builder_message(struct rtnlc_builder *b, uint16_t kind, uint16_t f
  * RTNLC_STILL_OPEN where a message is open: then `len` is 0. It changes nothing, and more messages
  * may come behind. */
 struct rtnlc_put rtnlc_builder_finish(const struct rtnlc_builder *b);
+
+/* ---- Requests that change something ---- */
+
+/* What a request asks for, in the words of ip(8). Each has NLM_F_REQUEST and NLM_F_ACK, so the
+ * kernel answers it by an ERROR of its sequence number, whose code is 0 or a negative errno. */
+enum rtnlc_operation {
+	RTNLC_ADD = 0,     /* made, refused where it is there: NEW, NLM_F_CREATE and NLM_F_EXCL */
+	RTNLC_REPLACE = 1, /* made, or put in its place: NEW, NLM_F_CREATE and NLM_F_REPLACE */
+	RTNLC_CHANGE = 2,  /* put in the place of what is there: NEW, NLM_F_REPLACE; not of links */
+	RTNLC_APPEND = 3,  /* made, behind those that are there: NEW, NLM_F_CREATE and NLM_F_APPEND; of
+	                    * routes, and of a bridge's entries */
+	RTNLC_PREPEND = 4, /* made, before those that are there: NEW, NLM_F_CREATE; of routes */
+	RTNLC_SET = 5,     /* fields of what is there are set: NEW alone; of links */
+	RTNLC_DELETE = 6   /* taken away: DEL alone */
+};
+
+/* Each of the five calls below puts one message into `out`: its type and flags as the operation
+ * has them, `seq`, port id 0, the head of its family, and an attribute for each field that is
+ * there, in an order and with the bytes in which ip(8) sends them. `big` is as in struct
+ * rtnlc_options. Several requests in one datagram are put one behind another, each at the end of
+ * the one before. What the kernel would refuse is put as it is: an address of another length than
+ * its family's, an operation that the family doesn't know.
+ *
+ * A struct may begin as all zeros: then nothing is there. A number `x` beside a `has_x` is there
+ * where `has_x` is true; bytes are where they are not empty. What a request points to is only read,
+ * while the call runs, and doesn't overlap `out`. A null pointer in it stands for none, whatever
+ * the count beside it.
+ *
+ * The answer's `len` is that of the message, a multiple of four; or 0 beside the code of the first
+ * part that can't be put:
+ *  - RTNLC_MISMATCH for a request that is null, and for an operation that is none of these, with no
+ *    byte written; and for a metric's number of 16,384 or more;
+ *  - RTNLC_TOO_LONG for an attribute above 65,535 bytes, its head of four bytes and the zero byte
+ *    of a name among them;
+ *  - RTNLC_NO_ROOM, which doesn't tell how much it takes;
+ *  - RTNLC_TOO_LARGE for a message above RTNLC_STANDARD_DATAGRAM bytes.
+ * After a refusal the front of `out` holds the parts before that one, which are no message; the
+ * rest of `out` is as it was. */
+
+/* Bytes of the caller's: an address in network order, or a name without its zero byte. There are
+ * none where `len` is 0 or `at` is null. */
+struct rtnlc_bytes {
+	const void *at;
+	size_t len;
+};
+
+/* A link: the one with `index`; or, where that is 0, the one with `name`. With an index, `name` is
+ * the name that it gets. */
+struct rtnlc_link_request {
+	struct rtnlc_bytes name;    /* IFLA_IFNAME */
+	struct rtnlc_bytes address; /* IFLA_ADDRESS, of the link layer */
+	struct rtnlc_bytes kind;    /* IFLA_INFO_KIND of a virtual interface, as "vlan" */
+	struct rtnlc_bytes data;    /* IFLA_INFO_DATA: attributes of the kind's own, with their heads
+	                             * and padding; none where there is no kind */
+	int32_t index;              /* 0 where the name says which one, or the kernel chooses it */
+	uint32_t mtu;               /* IFLA_MTU, in bytes */
+	uint32_t master;            /* IFLA_MASTER, an index; 0 takes it out of its bridge or its like */
+	uint32_t link;              /* IFLA_LINK, the index of the interface that it lies on */
+	bool has_mtu, has_master, has_link;
+	bool has_up, up;            /* IFF_UP: brought up, or down */
+};
+
+/* Puts the request of a link. */
+RTNLC_WRITES(5, 6)
+struct rtnlc_put rtnlc_request_link(const struct rtnlc_link_request *link, uint8_t operation,
+                                    uint32_t seq, bool big, uint8_t *out, size_t room);
+
+/* An address of an interface. */
+struct rtnlc_addr_request {
+	struct rtnlc_bytes local;     /* IFA_LOCAL: 4 bytes for IPv4, 16 for IPv6; put if empty, too */
+	struct rtnlc_bytes peer;      /* IFA_ADDRESS, of the other end; without one the local address */
+	struct rtnlc_bytes broadcast; /* IFA_BROADCAST */
+	struct rtnlc_bytes label;     /* IFA_LABEL */
+	uint32_t index;               /* of the interface */
+	uint32_t flags;               /* IFA_F_* bits: in the head up to 255, in IFA_FLAGS above */
+	uint32_t preferred, valid;    /* IFA_CACHEINFO: lifetimes in seconds; 2^32 - 1 for ever */
+	bool has_lifetimes;           /* whether both are there */
+	uint8_t family;               /* AF_INET or AF_INET6 */
+	uint8_t prefix_length;        /* bits of the address that are the network's; of the other
+	                               * end's, where there is one */
+	uint8_t scope;                /* RT_SCOPE_* */
+};
+
+/* Puts the request of an address. */
+RTNLC_WRITES(5, 6)
+struct rtnlc_put rtnlc_request_addr(const struct rtnlc_addr_request *addr, uint8_t operation,
+                                    uint32_t seq, bool big, uint8_t *out, size_t room);
+
+/* A metric of a route: its number RTAX_*, and its value. */
+struct rtnlc_metric {
+	uint16_t number;
+	uint32_t value;
+};
+
+/* One of several next hops of a route, as struct rtnexthop. */
+struct rtnlc_next_hop {
+	int32_t index;       /* of the interface; 0 for none */
+	uint8_t flags;       /* RTNH_F_* bits */
+	uint8_t hops;        /* the weight less one */
+	uint8_t gateway_len; /* bytes of RTA_GATEWAY: 4 or 16, 0 for none; above 16 as 16 */
+	uint8_t gateway[16]; /* in network order */
+};
+
+/* A route. ip(8) adds one with RTPROT_BOOT, RT_TABLE_MAIN, RTN_UNICAST, and for IPv4 with
+ * RT_SCOPE_LINK where there is no gateway; it deletes one with protocol and sort 0, and for IPv4
+ * with RT_SCOPE_NOWHERE. */
+struct rtnlc_route_request {
+	struct rtnlc_bytes destination;      /* RTA_DST; none for the default route */
+	struct rtnlc_bytes source;           /* RTA_SRC, that packets must have */
+	struct rtnlc_bytes gateway;          /* RTA_GATEWAY */
+	struct rtnlc_bytes preferred_source; /* RTA_PREFSRC */
+	const struct rtnlc_metric *metrics;  /* RTA_METRICS, in this order */
+	size_t metric_count;
+	const struct rtnlc_next_hop *hops;   /* RTA_MULTIPATH, in this order; in place of a gateway
+	                                      * and oif */
+	size_t hop_count;
+	uint32_t table;                      /* in the head up to 255, in RTA_TABLE above */
+	uint32_t flags;                      /* RTNH_F_ONLINK for a gateway that is on the link */
+	uint32_t priority;                   /* RTA_PRIORITY, the metric of ip(8): the lowest is taken */
+	uint32_t oif;                        /* RTA_OIF, the index of the output interface */
+	bool has_priority, has_oif;
+	uint8_t family;                      /* AF_INET or AF_INET6 */
+	uint8_t destination_length;          /* how many bits of the destination count; 0 without one */
+	uint8_t source_length;               /* and of the source */
+	uint8_t tos;
+	uint8_t protocol;                    /* RTPROT_* */
+	uint8_t scope;                       /* RT_SCOPE_* */
+	uint8_t sort;                        /* RTN_*, rtm_type */
+};
+
+/* Puts the request of a route. */
+RTNLC_WRITES(5, 6)
+struct rtnlc_put rtnlc_request_route(const struct rtnlc_route_request *route, uint8_t operation,
+                                     uint32_t seq, bool big, uint8_t *out, size_t room);
+
+/* A neighbour. ip(8) takes NUD_PERMANENT where no state is said. */
+struct rtnlc_neigh_request {
+	struct rtnlc_bytes destination;  /* NDA_DST, the network address */
+	struct rtnlc_bytes link_address; /* NDA_LLADDR */
+	int32_t index;                   /* of the interface */
+	uint16_t state;                  /* NUD_* bits */
+	uint16_t vlan;                   /* NDA_VLAN, of a bridge's entry */
+	bool has_vlan;
+	uint8_t family;                  /* AF_INET, AF_INET6, or AF_BRIDGE */
+	uint8_t flags;                   /* NTF_* bits */
+};
+
+/* Puts the request of a neighbour. */
+RTNLC_WRITES(5, 6)
+struct rtnlc_put rtnlc_request_neigh(const struct rtnlc_neigh_request *neigh, uint8_t operation,
+                                     uint32_t seq, bool big, uint8_t *out, size_t room);
+
+/* A rule. One that is added has FR_ACT_TO_TBL and a table, or another action and table 0; ip(8)
+ * deletes one with action 0. */
+struct rtnlc_rule_request {
+	struct rtnlc_bytes source;       /* FRA_SRC */
+	struct rtnlc_bytes destination;  /* FRA_DST */
+	struct rtnlc_bytes iif;          /* FRA_IIFNAME, by which packets come */
+	struct rtnlc_bytes oif;          /* FRA_OIFNAME, by which they leave */
+	uint32_t table;                  /* in the head up to 255, in FRA_TABLE above */
+	uint32_t mark, mask;             /* FRA_FWMARK, FRA_FWMASK */
+	uint32_t target;                 /* FRA_GOTO, under FR_ACT_GOTO */
+	uint32_t suppress_prefix_length; /* FRA_SUPPRESS_PREFIXLEN */
+	uint32_t priority;               /* FRA_PRIORITY, its place among the others */
+	bool has_mark, has_mask, has_target, has_suppress_prefix_length, has_priority;
+	bool invert;                     /* FIB_RULE_INVERT: for the packets that don't match */
+	uint8_t family;                  /* AF_INET or AF_INET6 */
+	uint8_t source_length;           /* how many bits of the source count; 0 without one */
+	uint8_t destination_length;      /* and of the destination */
+	uint8_t tos;
+	uint8_t action;                  /* FR_ACT_* */
+};
+
+/* Puts the request of a rule. */
+RTNLC_WRITES(5, 6)
+struct rtnlc_put rtnlc_request_rule(const struct rtnlc_rule_request *rule, uint8_t operation,
+                                    uint32_t seq, bool big, uint8_t *out, size_t room);
 
 /* ---- Words ---- */
 

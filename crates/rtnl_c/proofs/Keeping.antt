@@ -1,6 +1,6 @@
 -- A builder that C keeps: its heads, and the way back.
-use Rattle.std.proofs.Common.{◌≡◌, ◌≢◌, ◌==◌, true, false, ℕ, ◌+◌, ◌<◌, ◌≤◌, ◌⊎◌, List, [], ◌∷◌, length, slice_index_or, slice_set, Option, Some, None, Result, Ok, Err, refl, sym, ap, subst, ◌∙◌, arith, inl, inr}
-use Rattle.std.specs.Prelude.{MatchOption}
+use Rattle.std.proofs.Common.{◌≡◌, ◌≢◌, ◌==◌, true, false, ℕ, ◌+◌, ◌-◌, ◌<◌, ◌≤◌, ◌⊎◌, List, [], ◌∷◌, length, slice_index_or, slice_set, drop, length-drop, Option, Some, None, Result, Ok, Err, refl, sym, ap, subst, ◌∙◌, arith, inl, inr}
+use Rattle.std.specs.Prelude.{IfSome, MatchOption}
 use Rattle.std.proofs.lemmas.List.{get_or-set_same, get_or-set_other}
 use Rattle.std.proofs.Math.Nat.{eq-or-lt_of_le}
 use Rattle.nl_attr.specs.declared.order.Order.{Order}
@@ -11,12 +11,15 @@ use Rattle.nl_attr.specs.declared.tree.Content.TheVariants as content
 use Rattle.nl_frame.specs.declared.building.OpenHead.{OpenHead}
 use Rattle.nl_frame.specs.declared.building.refusal.BuildError.{BuildError}
 use Rattle.nl_frame.specs.declared.building.refusal.BuildError.TheVariants.{Mismatch, TooDeep, TooLong, TooLarge, NoRoom, NothingOpen, StillOpen}
-use Rattle.nl_frame.specs.Building.{Built, AreOpen, order_of}
-use Rattle.nl_frame.specs.Limits.{bounds_of}
+use Rattle.nl_frame.specs.Building.{Built, AreOpen, levels_in, order_of, top}
+use Rattle.nl_frame.specs.declared.building.top.BuilderTop.{BuilderTop}
+use Rattle.nl_frame.specs.Limits.{Bounds, AreLimits, bounds_of}
+use Rattle.nl_frame.specs.Tops.{left_with, parts_with}
+use Rattle.nl_frame.proofs.Opens.{are_open_more}
 use Rattle.nl_frame.specs.Parts.{Parts, AreParts, over, resumed}
 use Rattle.rtnl_c.specs.declared.building.KeptBuilder.{KeptBuilder}
 use Rattle.rtnl_c.specs.Options.{order_in}
-use Rattle.rtnl_c.specs.Building.{AreKept, IsKept, IsNone, Reopens, Calls, on_none, calls, content_in, content_number, order_by, order_number, refusal_in, refusal_number}
+use Rattle.rtnl_c.specs.Building.{AreKept, HasNone, IsInnermost, IsKept, IsNone, IsTopOf, Reopens, Calls, on_none, calls, content_in, content_number, left_closed, order_by, order_number, refusal_in, refusal_number}
 
 -- ---- numbers
 
@@ -110,6 +113,19 @@ module _ (ss cs : List ℕ) where
     by_case (inl e) further = record { head = h; outer = hs; count = sym e; kept = a; open_heads = o }
     by_case (inr l) further = further l
 
+  -- one more of the heads that are kept, inside those up to it
+  pub one_more : (D n i s : ℕ) (c : Content) (head : Option OpenHead)
+      → ((hs : List OpenHead) × (i ≡ length hs) × AreKept ss cs hs × AreOpen D n hs × (top hs ≡ head))
+      → slice_index_or ss i 0 ≡ s → slice_index_or cs i 0 ≡ content_number c → s + 4 ≤ n → i + levels_in c ≤ D
+      → ((hs : List OpenHead) × (i + 1 ≡ length hs) × AreKept ss cs hs × AreOpen D n hs × (top hs ≡ Some (record { start = s; content = c })))
+  one_more D n i s c head (hs, e, a, o, t) at which inside level = (
+    record { start = s; content = c } ∷ hs,
+    omega (arith, e),
+    (ap (λ k. slice_index_or ss k 0) (sym e) ∙ at, ap (λ k. slice_index_or cs k 0) (sym e) ∙ which, a),
+    (inside, omega (arith, e, level), o),
+    refl,
+  )
+
 -- heads that are open are no more than the levels and one
 pub few_heads : (D n : ℕ) (hs : List OpenHead) → AreOpen D n hs → length hs ≤ D + 1
 few_heads D n [] o = omega arith
@@ -171,6 +187,101 @@ no_heads k room o r p q is none x has =
     let depth : p.bounds.shape.depth ≡ x.bounds.shape.depth = ap (λ (y : Parts). y.bounds.shape.depth) is ∙ has.depth in
     let len : p.len ≡ x.len = ap (λ (y : Parts). y.len) is ∙ has.len in
     none x.heads has.count has.heads (subst (λ D. AreOpen D p.len x.heads) (sym depth) (subst (λ n. AreOpen x.bounds.shape.depth n x.heads) (sym len) has.parts.2))
+
+-- what is kept is a builder's, of which a call needs this
+pub topped : (k : KeptBuilder) (room : ℕ) (o : Order) (r : Option BuildError) (head : Option OpenHead) → order_by k.big ≡ Some o → refusal_in k.refusal ≡ Some r
+    → AreLimits (bounds_of o k.depth k.datagram k.total k.entries) → k.len ≤ k.datagram → k.len ≤ room → IsInnermost k head
+    → IsTopOf k room (record { limits = bounds_of o k.depth k.datagram k.total k.entries; len = k.len; head = head; refusal = r })
+topped k room o r head big code limits size fits (hs, h, e) = (
+  hs,
+  record {
+    total = refl;
+    entries = refl;
+    datagram = refl;
+    depth = refl;
+    big = order_said k.big o big;
+    len = refl;
+    count = h.count;
+    heads = h.heads;
+    refusal = refusal_said k.refusal r code;
+    parts = (limits, size, h.open_heads);
+    fits = fits;
+  },
+  e,
+)
+
+-- no builder has heads that none has
+pub not_topped : (k : KeptBuilder) (room : ℕ) → HasNone k → IsNone k room
+not_topped k room none p has =
+    none p.heads (record {
+      count = has.count;
+      heads = has.heads;
+      open_heads = subst (λ D. AreOpen D k.len p.heads) (sym has.depth) (subst (λ n. AreOpen p.bounds.shape.depth n p.heads) (sym has.len) has.parts.2);
+    })
+
+-- a call that opens and closes no head leaves a builder's
+pub kept_more : (k new : KeptBuilder) (room size : ℕ) (t u : BuilderTop) (hs : List OpenHead) → IsKept k room (parts_with t hs) → u.limits ≡ t.limits → t.len ≤ u.len
+    → u.len ≤ size → u.len ≤ u.limits.datagram → new ≡ record k { len = u.len; refusal = refusal_number u.refusal } → IsKept new size (parts_with u hs)
+kept_more k new room size t u hs is bounds more fits limit e =
+    record {
+      total = ap (λ (x : KeptBuilder). x.total) e ∙ is.total ∙ sym (ap (λ (b : Bounds). b.total) bounds);
+      entries = ap (λ (x : KeptBuilder). x.entries) e ∙ is.entries ∙ sym (ap (λ (b : Bounds). b.entries) bounds);
+      datagram = ap (λ (x : KeptBuilder). x.datagram) e ∙ is.datagram ∙ sym (ap (λ (b : Bounds). b.datagram) bounds);
+      depth = ap (λ (x : KeptBuilder). x.depth) e ∙ is.depth ∙ sym (ap (λ (b : Bounds). b.shape.depth) bounds);
+      big = ap (λ (x : KeptBuilder). x.big) e ∙ is.big ∙ sym (ap (λ (b : Bounds). order_number b.shape.order) bounds);
+      len = ap (λ (x : KeptBuilder). x.len) e;
+      count = ap (λ (x : KeptBuilder). x.count) e ∙ is.count;
+      heads = subst (λ (x : KeptBuilder). AreKept x.starts x.contents hs) (sym e) is.heads;
+      refusal = ap (λ (x : KeptBuilder). x.refusal) e;
+      parts = (subst AreLimits (sym bounds) is.parts.0, limit, subst (λ (b : Bounds). AreOpen b.shape.depth u.len hs) (sym bounds) (are_open_more _ _ _ _ more is.parts.2));
+      fits = fits;
+    }
+
+-- the heads around the innermost are kept where they are
+pub fewer_kept : (ss cs : List ℕ) (hs : List OpenHead) → AreKept ss cs hs → AreKept ss cs (drop 1 hs)
+fewer_kept ss cs [] a = tt
+fewer_kept ss cs (h ∷ hs) a = a.2
+
+pub fewer_open : (D n : ℕ) (hs : List OpenHead) → AreOpen D n hs → AreOpen D n (drop 1 hs)
+fewer_open D n [] o = tt
+fewer_open D n (h ∷ hs) o = o.2
+
+-- a call that closes the innermost head, or is refused, leaves a builder's
+pub kept_fewer : (k new : KeptBuilder) (room size : ℕ) (t : BuilderTop) (r : Option BuildError) (hs : List OpenHead) → IsKept k room (parts_with t hs)
+    → t.len ≤ size → new ≡ record k { count = k.count - left_closed r; refusal = refusal_number r } → IsKept new size (left_with t r hs)
+kept_fewer k new room size t None hs is fits e =
+    record {
+      total = ap (λ (x : KeptBuilder). x.total) e ∙ is.total;
+      entries = ap (λ (x : KeptBuilder). x.entries) e ∙ is.entries;
+      datagram = ap (λ (x : KeptBuilder). x.datagram) e ∙ is.datagram;
+      depth = ap (λ (x : KeptBuilder). x.depth) e ∙ is.depth;
+      big = ap (λ (x : KeptBuilder). x.big) e ∙ is.big;
+      len = ap (λ (x : KeptBuilder). x.len) e ∙ is.len;
+      count = omega (arith, ap (λ (x : KeptBuilder). x.count) e, is.count, length-drop 1 hs);
+      heads = subst (λ (x : KeptBuilder). AreKept x.starts x.contents (drop 1 hs)) (sym e) (fewer_kept k.starts k.contents hs is.heads);
+      refusal = ap (λ (x : KeptBuilder). x.refusal) e;
+      parts = (is.parts.0, is.parts.1, fewer_open _ _ hs is.parts.2);
+      fits = fits;
+    }
+kept_fewer k new room size t (Some r) hs is fits e =
+    record {
+      total = ap (λ (x : KeptBuilder). x.total) e ∙ is.total;
+      entries = ap (λ (x : KeptBuilder). x.entries) e ∙ is.entries;
+      datagram = ap (λ (x : KeptBuilder). x.datagram) e ∙ is.datagram;
+      depth = ap (λ (x : KeptBuilder). x.depth) e ∙ is.depth;
+      big = ap (λ (x : KeptBuilder). x.big) e ∙ is.big;
+      len = ap (λ (x : KeptBuilder). x.len) e ∙ is.len;
+      count = omega (arith, ap (λ (x : KeptBuilder). x.count) e, is.count);
+      heads = subst (λ (x : KeptBuilder). AreKept x.starts x.contents hs) (sym e) is.heads;
+      refusal = ap (λ (x : KeptBuilder). x.refusal) e;
+      parts = is.parts;
+      fits = fits;
+    }
+
+-- the innermost head is within what is accepted
+pub top_inside : (D n : ℕ) (hs : List OpenHead) (h : Option OpenHead) → AreOpen D n hs → top hs ≡ h → IfSome h (λ x. x.start + 4 ≤ n)
+top_inside D n [] h o e = subst (λ (y : Option OpenHead). IfSome y (λ x. x.start + 4 ≤ n)) e tt
+top_inside D n (k ∷ hs) h o e = subst (λ (y : Option OpenHead). IfSome y (λ x. x.start + 4 ≤ n)) e o.0
 
 -- ---- the end
 

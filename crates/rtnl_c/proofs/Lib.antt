@@ -8,3 +8,4 @@ mod Seen
 mod Streams
 mod Finding
 mod Keeping
+mod Alone

@@ -10,7 +10,9 @@ use Rattle.nl_frame.specs.declared.building.OpenHead.{OpenHead}
 use Rattle.nl_frame.specs.declared.building.refusal.BuildError.{BuildError}
 use Rattle.nl_frame.specs.declared.building.refusal.BuildError.TheVariants.{Mismatch, TooDeep, TooLong, TooLarge, NoRoom, NothingOpen, StillOpen}
 use Rattle.nl_frame.specs.BuildCodes.{build_code}
-use Rattle.nl_frame.specs.Building.{Built, AreOpen, finish}
+use Rattle.nl_frame.specs.declared.building.top.BuilderTop.{BuilderTop}
+use Rattle.nl_frame.specs.Building.{Built, AreOpen, finish, top}
+use Rattle.nl_frame.specs.Tops.{parts_with}
 use Rattle.nl_frame.specs.Limits.{AreLimits}
 use Rattle.nl_frame.specs.Parts.{Parts, AreParts, new_parts, over}
 use Rattle.rtnl_c.specs.declared.building.KeptBuilder.{KeptBuilder}
@@ -90,6 +92,29 @@ IsNone k room = (p : Parts) → IsKept k room p → ⊥
 abbrev pub Reopens : KeptBuilder → Parts → Bool → Parts → Type 0
 Reopens k p true q = (q ≡ record p { heads = q.heads }) × (k.count ≡ length q.heads) × AreKept k.starts k.contents q.heads
 Reopens k p false q = (hs : List OpenHead) → k.count ≡ length hs → AreKept k.starts k.contents hs → AreOpen p.bounds.shape.depth p.len hs → ⊥
+
+-- these heads are kept, the innermost first, and can be open
+pub record HasHeads (k : KeptBuilder) (hs : List OpenHead) : Type 0 where
+  pub count : k.count ≡ length hs
+  pub heads : AreKept k.starts k.contents hs
+  pub open_heads : AreOpen k.depth k.len hs
+
+-- this is the innermost head of those that are kept, where one is open
+abbrev pub IsInnermost : KeptBuilder → Option OpenHead → Type 0
+IsInnermost k h = (hs : List OpenHead) × HasHeads k hs × (top hs ≡ h)
+
+-- or no builder has them
+abbrev pub HasNone : KeptBuilder → Type 0
+HasNone k = (hs : List OpenHead) → HasHeads k hs → ⊥
+
+-- what is kept is a builder's over so many bytes, of which a call needs this
+abbrev pub IsTopOf : KeptBuilder → ℕ → BuilderTop → Type 0
+IsTopOf k room t = (hs : List OpenHead) × IsKept k room (parts_with t hs) × (top hs ≡ t.head)
+
+-- how many heads a call closes that was refused so, or not
+abbrev pub left_closed : Option BuildError → ℕ
+left_closed None = 1
+left_closed (Some e) = 0
 
 -- ---- calls
 

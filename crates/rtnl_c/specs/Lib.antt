@@ -18,3 +18,4 @@ pub mod Sessions
 pub mod Entries
 pub mod Streams
 pub mod Building
+pub mod Asked

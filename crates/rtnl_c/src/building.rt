@@ -1,14 +1,16 @@
 //! A builder that C keeps, over a buffer of its own, which takes no memory.
 
-ghost use Rattle.std.specs.Prelude.{◌≡◌, ◌≤◌, ◌∷◌, ◌++◌, ℕ, [], length, reverse};
+ghost use Rattle.std.specs.Prelude.{◌≡◌, ◌≤◌, ◌-◌, ◌∷◌, ◌++◌, ℕ, [], MatchOption, length, reverse};
+ghost use Rattle.nl_attr.specs.Fixed as fixed;
 ghost use Rattle.std.specs.Bool.{MatchBool};
 ghost use Rattle.nl_attr.specs.declared.order.Order.TheVariants.{Big};
 ghost use Rattle.nl_attr.specs.Numbers.{num};
-ghost use Rattle.nl_frame.specs.Building.{close, end, open_attr, open_hop, order_of, put};
+ghost use Rattle.nl_frame.specs.Building.{close, end, levels_in, open_attr, open_hop, order_of, put};
 ghost use Rattle.nl_frame.specs.Building.{put_message};
 ghost use Rattle.nl_frame.specs.Limits.{AreLimits};
 ghost use Rattle.nl_frame.specs.Parts.{begin_bytes};
 ghost use Rattle.rtnl_c.specs.Building.{AreKept, Calls, Finishes, IsKept, IsNone, News, Reopens};
+ghost use Rattle.rtnl_c.specs.Building.{HasNone, IsInnermost, IsTopOf, left_closed};
 ghost use Rattle.rtnl_c.specs.Building.{content_in, content_number, flags_in, number_in};
 ghost use Rattle.rtnl_c.specs.Building.{order_by, order_number, refusal_in, refusal_number};
 
@@ -17,7 +19,7 @@ use crate::numbers::{context, number};
 use crate::options::{Options, limits, order};
 use crate::put::Put;
 use nl_attr::{AttrFlags, Content};
-use nl_frame::{BuildError, BuilderParts, Limits, OpenHead, Order};
+use nl_frame::{BuildError, BuilderParts, BuilderTop, Limits, OpenHead, Order};
 
 /// How many heads may be open.
 const MOST_OPEN: u8 = 33;
@@ -58,6 +60,7 @@ fn number_of_order(order: Order) -> u8
 }
 
 /// The order of a number.
+#[inline(always)]
 fn order_by_number(number: u8) -> Option<Order>
     ensures { result ≡ order_by number }
 {
@@ -80,6 +83,7 @@ fn number_of(content: Content) -> u8
 }
 
 /// What stands behind a head, by its number.
+#[inline(always)]
 fn content_by_number(number: u8) -> Option<Content>
     ensures { result ≡ content_in number }
 {
@@ -93,12 +97,26 @@ fn content_by_number(number: u8) -> Option<Content>
     }
 }
 
+/// How many levels are inside what stands behind a head.
+#[inline(always)]
+fn levels(content: Content) -> usize
+    ensures { result ≡ levels_in content }
+{
+    match content {
+        Content::Hops => 1,
+        Content::List(_) | Content::Bytes => 0,
+    }
+}
+
 /// The refusal of a number, or none of 0.
+#[inline(always)]
 fn refusal_by_number(code: u8) -> Option<Option<BuildError>>
     ensures { result ≡ refusal_in code }
 {
+    if code == 0 {
+        return Some(None);
+    }
     match code {
-        0 => Some(None),
         4 => Some(Some(BuildError::TooLong)),
         5 => Some(Some(BuildError::TooDeep)),
         6 => Some(Some(BuildError::TooLarge)),
@@ -111,6 +129,7 @@ fn refusal_by_number(code: u8) -> Option<Option<BuildError>>
 }
 
 /// The number of a refusal, or 0.
+#[inline(always)]
 fn code_of(refusal: Option<BuildError>) -> u8
     ensures { result ≡ refusal_number refusal }
 {
@@ -144,6 +163,7 @@ fn reopen(kept: &KeptBuilder, parts: &mut BuilderParts) -> bool
 }
 
 /// The parts of a builder of the standard limits, into which one that is kept is put.
+#[inline(always)]
 fn blank() -> BuilderParts {
     BuilderParts::new(&Limits::standard())
 }
@@ -213,7 +233,95 @@ fn keep(parts: &BuilderParts, kept: &mut KeptBuilder) -> u8
     kept.refusal
 }
 
+/// The innermost of the heads that are kept, where one is open; or none where no builder has them.
+#[inline(always)]
+fn innermost(kept: &KeptBuilder) -> Option<Option<OpenHead>>
+    requires { kept.now.depth ≤ 32 }
+    ensures { MatchOption result (HasNone kept.now) (IsInnermost kept.now) }
+{
+    if kept.count > MOST_OPEN {
+        return None;
+    }
+    let mut head = None;
+    let mut index = 0;
+    while index < kept.count as usize {
+        let Some(content) = content_by_number(kept.contents[index]) else {
+            return None;
+        };
+        let start = kept.starts[index];
+        if kept.len < 4 || start > kept.len - 4 || index + levels(content) > kept.depth as usize {
+            return None;
+        }
+        head = Some(OpenHead { start, content });
+        index += 1;
+    }
+    Some(head)
+}
+
+/// What a call needs of the builder that is kept over so many bytes, where one is.
+#[inline(always)]
+fn top_of(kept: &KeptBuilder, room: usize) -> Option<BuilderTop>
+    ensures { MatchOption result (IsNone kept.now room) (IsTopOf kept.now room) }
+{
+    let len = kept.len as usize;
+    if len > room || kept.len > kept.datagram {
+        return None;
+    }
+    let Some(order) = order_by_number(kept.big) else {
+        return None;
+    };
+    let Some(refusal) = refusal_by_number(kept.refusal) else {
+        return None;
+    };
+    let Ok(limits) = Limits::new(kept.depth, kept.datagram, kept.total, kept.entries) else {
+        return None;
+    };
+    let Some(head) = innermost(kept) else {
+        return None;
+    };
+    let limits = limits.with_order(order);
+    Some(BuilderTop {
+        limits,
+        len,
+        head,
+        refusal,
+    })
+}
+
+/// Keeps what a call changed that opened and closed no head, and answers why it was refused, or 0.
+#[inline(always)]
+fn keep_top(top: &BuilderTop, kept: &mut KeptBuilder) -> u8
+    requires { top.now.len ≤ fixed.LONGEST_REGION }
+    ensures kept { kept.new ≡ record kept.old {
+      len = top.now.len;
+      refusal = refusal_number top.now.refusal;
+    } }
+    ensures code { result ≡ refusal_number top.now.refusal }
+{
+    kept.len = top.len as u32;
+    kept.refusal = code_of(top.refusal);
+    kept.refusal
+}
+
+/// Keeps that the innermost head is closed, where that is not refused, and answers why it was
+/// refused, or 0.
+#[inline(always)]
+fn keep_fewer(refusal: Option<BuildError>, kept: &mut KeptBuilder) -> u8
+    ensures kept { kept.new ≡ record kept.old {
+      count = kept.old.count - left_closed refusal;
+      refusal = refusal_number refusal;
+    } }
+    ensures code { result ≡ refusal_number refusal }
+{
+    if refusal.is_none() {
+        kept.count = kept.count.saturating_sub(1);
+    }
+    kept.refusal = code_of(refusal);
+    kept.refusal
+}
+
 /// The flag bits of an attribute's type.
+#[inline(always)]
 fn flags_of(kind: u16) -> AttrFlags
     ensures { result ≡ flags_in kind }
 {
@@ -224,10 +332,24 @@ fn flags_of(kind: u16) -> AttrFlags
 }
 
 /// The number in an attribute's type.
+#[inline(always)]
 fn number_of_type(kind: u16) -> u16
     ensures { result ≡ number_in kind }
 {
     kind % 0x4000
+}
+
+/// Puts an attribute of these bytes.
+#[inline(always)]
+fn put_bytes(kept: &mut KeptBuilder, out: &mut [u8], kind: u16, bytes: &[u8]) -> u8
+    ensures { Calls (λ b. put b (number_in kind) (flags_in kind) bytes.now)
+        kept.old out.old kept.new out.new result }
+{
+    let Some(mut top) = top_of(kept, out.len()) else {
+        return NO_BUILDER;
+    };
+    let _ = top.put(out, number_of_type(kind), flags_of(kind), bytes, &[]);
+    keep_top(&top, kept)
 }
 
 /// Keeps a new builder of these limits; 12 where one of them is out of its range.
@@ -274,12 +396,7 @@ pub extern "C" fn rtnlc_builder_put(
     ensures { Calls (λ b. put b (number_in kind) (flags_in kind) bytes.now)
         kept.old out.old kept.new out.new result }
 {
-    let mut parts = blank();
-    if !restore(kept, out.len(), &mut parts) {
-        return NO_BUILDER;
-    }
-    let _ = parts.put_bytes(out, number_of_type(kind), flags_of(kind), bytes);
-    keep(&parts, kept)
+    put_bytes(kept, out, kind, bytes)
 }
 
 /// Puts an attribute of this text, with one zero byte behind it.
@@ -293,12 +410,11 @@ pub extern "C" fn rtnlc_builder_put_text(
     ensures { Calls (λ b. put b (number_in kind) (flags_in kind) (text.now ++ 0 ∷ []))
         kept.old out.old kept.new out.new result }
 {
-    let mut parts = blank();
-    if !restore(kept, out.len(), &mut parts) {
+    let Some(mut top) = top_of(kept, out.len()) else {
         return NO_BUILDER;
-    }
-    let _ = parts.put_text(out, number_of_type(kind), flags_of(kind), text);
-    keep(&parts, kept)
+    };
+    let _ = top.put(out, number_of_type(kind), flags_of(kind), text, &[0]);
+    keep_top(&top, kept)
 }
 
 /// Puts an attribute of this number in one byte.
@@ -312,7 +428,7 @@ pub extern "C" fn rtnlc_builder_put_u8(
     ensures { Calls (λ b. put b (number_in kind) (flags_in kind) (value ∷ []))
         kept.old out.old kept.new out.new result }
 {
-    rtnlc_builder_put(kept, out, kind, &[value])
+    put_bytes(kept, out, kind, &[value])
 }
 
 /// Puts an attribute of this number in 2 bytes of the builder's order.
@@ -327,7 +443,7 @@ pub extern "C" fn rtnlc_builder_put_u16(
         kept.old out.old kept.new out.new result }
 {
     let bytes = order(kept.big == 1).u16_bytes(value);
-    rtnlc_builder_put(kept, out, kind, &bytes)
+    put_bytes(kept, out, kind, &bytes)
 }
 
 /// Puts an attribute of this number in 2 bytes of network order.
@@ -342,7 +458,7 @@ pub extern "C" fn rtnlc_builder_put_be16(
         kept.old out.old kept.new out.new result }
 {
     let bytes = Order::Big.u16_bytes(value);
-    rtnlc_builder_put(kept, out, kind, &bytes)
+    put_bytes(kept, out, kind, &bytes)
 }
 
 /// Puts an attribute of this number in 4 bytes of the builder's order.
@@ -357,7 +473,7 @@ pub extern "C" fn rtnlc_builder_put_u32(
         kept.old out.old kept.new out.new result }
 {
     let bytes = order(kept.big == 1).u32_bytes(value);
-    rtnlc_builder_put(kept, out, kind, &bytes)
+    put_bytes(kept, out, kind, &bytes)
 }
 
 /// Puts an attribute of this number in 4 bytes of network order.
@@ -372,7 +488,7 @@ pub extern "C" fn rtnlc_builder_put_be32(
         kept.old out.old kept.new out.new result }
 {
     let bytes = Order::Big.u32_bytes(value);
-    rtnlc_builder_put(kept, out, kind, &bytes)
+    put_bytes(kept, out, kind, &bytes)
 }
 
 /// Puts an attribute of this number in 8 bytes of the builder's order.
@@ -387,7 +503,7 @@ pub extern "C" fn rtnlc_builder_put_u64(
         kept.old out.old kept.new out.new result }
 {
     let bytes = order(kept.big == 1).u64_bytes(value);
-    rtnlc_builder_put(kept, out, kind, &bytes)
+    put_bytes(kept, out, kind, &bytes)
 }
 
 /// Puts an attribute of this number in 8 bytes of network order.
@@ -402,7 +518,7 @@ pub extern "C" fn rtnlc_builder_put_be64(
         kept.old out.old kept.new out.new result }
 {
     let bytes = Order::Big.u64_bytes(value);
-    rtnlc_builder_put(kept, out, kind, &bytes)
+    put_bytes(kept, out, kind, &bytes)
 }
 
 /// Opens an attribute that holds attributes or next hops.
@@ -443,12 +559,11 @@ pub extern "C" fn rtnlc_builder_open_hop(
 pub extern "C" fn rtnlc_builder_close(kept: &mut KeptBuilder, out: &mut [u8]) -> u8
     ensures { Calls (λ b. close b) kept.old out.old kept.new out.new result }
 {
-    let mut parts = blank();
-    if !restore(kept, out.len(), &mut parts) {
+    let Some(top) = top_of(kept, out.len()) else {
         return NO_BUILDER;
-    }
-    let _ = parts.close(out);
-    keep(&parts, kept)
+    };
+    let refusal = top.close(out, kept.count as usize);
+    keep_fewer(refusal, kept)
 }
 
 /// Ends the message.
@@ -456,12 +571,11 @@ pub extern "C" fn rtnlc_builder_close(kept: &mut KeptBuilder, out: &mut [u8]) ->
 pub extern "C" fn rtnlc_builder_end(kept: &mut KeptBuilder, out: &mut [u8]) -> u8
     ensures { Calls (λ b. end b) kept.old out.old kept.new out.new result }
 {
-    let mut parts = blank();
-    if !restore(kept, out.len(), &mut parts) {
+    let Some(top) = top_of(kept, out.len()) else {
         return NO_BUILDER;
-    }
-    let _ = parts.end(out);
-    keep(&parts, kept)
+    };
+    let refusal = top.end(out, kept.count as usize);
+    keep_fewer(refusal, kept)
 }
 
 /// Puts a whole message of no family, whose body is these bytes.
@@ -491,11 +605,10 @@ pub extern "C" fn rtnlc_builder_message(
 pub extern "C" fn rtnlc_builder_finish(kept: &KeptBuilder, out: &[u8]) -> Put
     ensures { Finishes kept.now out.now result }
 {
-    let mut parts = blank();
-    if !restore(kept, out.len(), &mut parts) {
+    let Some(top) = top_of(kept, out.len()) else {
         return Put::none(NO_BUILDER);
-    }
-    match parts.finish() {
+    };
+    match top.finish() {
         Ok(len) => Put { len, code: 0 },
         Err(refusal) => Put::none(refusal.code()),
     }

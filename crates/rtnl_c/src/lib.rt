@@ -17,6 +17,7 @@ mod numbers;
 mod options;
 mod put;
 mod request;
+mod requests;
 mod scan;
 mod session;
 mod show;

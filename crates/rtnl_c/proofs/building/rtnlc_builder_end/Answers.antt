@@ -1,10 +1,21 @@
+use Rattle.std.proofs.Common.{sym}
+use Rattle.nl_frame.specs.Tops.{left_with, parts_with}
 use Rattle.rtnl_c.specs.Building.{calls, on_none}
+use Rattle.rtnl_c.proofs.Keeping.{kept_fewer, top_inside}
 use Rattle.rtnl_c.proofs.building.rtnlc_builder_end.Goals as goal
 
-pub returns-then-not-restore : goal.returns-then-not-restore
-returns-then-not-restore c = on_none c.if-not-restore.ensures
+pub returns-in_default : goal.returns-in_default
+returns-in_default c = on_none c.in_default.ensures
+
+pub end-refusal-requires : goal.end-refusal-requires
+end-refusal-requires c =
+    let k = c.in-Some.ensures in
+    record { fits = (k.1.fits, k.1.parts.1); inside = top_inside _ _ k.0 _ k.1.parts.2 k.2 }
 
 pub returns : goal.returns
 returns c =
-    let t = c.end in
-    rw (c.keep.ensures.code) (calls c.restore.new.parts t.new.self c.if-not-restore.ensures c.keep.new.kept t.new.out t.ensures.built (c.keep.ensures.kept _ t.ensures.fits))
+    let t = c.end-refusal in
+    let k = c.in-Some.ensures in
+    let top = c.in-Some.top in
+    rw (c.keep_fewer.ensures.code) (calls (parts_with top k.0) (left_with top t.result k.0) k.1 c.keep_fewer.new.kept t.new.out (t.ensures.built k.0 k.2 (sym k.1.count))
+    (kept_fewer c.args.kept.now c.keep_fewer.new.kept _ _ top t.result k.0 k.1 t.ensures.fits c.keep_fewer.ensures.kept))
