@@ -3,10 +3,11 @@
 # thousand random ones are read again by the library, by libmnl, by pyroute2 and by the second
 # reading, and hold what was put. A million changed sequences of calls, and every room for a
 # datagram, go beside a model that says what is refused and by which name; so do builders of which
-# C changed what it keeps. A hundred requests have the very bytes that ip sends for them, and 350 go
-# to the kernel, in a network namespace, of which ip then says what was asked. RTNLC names another
-# librtnlc.a to be tested. What can't run says so and isn't counted. The last line is 'N passed, M
-# failed'; the status is 1 where a case failed.
+# C changed what it keeps. A hundred requests have the very bytes that ip sends for them, by the
+# builder and by the call of each, and 350 go to the kernel, in a network namespace, of which ip
+# then says what was asked. The calls for requests go beside the builder in every room, and no two
+# fields of one can be exchanged. RTNLC names another librtnlc.a to be tested. What can't run says
+# so and isn't counted. The last line is 'N passed, M failed'; the status is 1 where a case failed.
 set -u
 cd "$(dirname "${BASH_SOURCE[0]}")/.." || exit 1
 . tests/helpers/cases.sh
@@ -69,6 +70,19 @@ notices() {
     >"$folder/changed.said" 2>&1 && grep -q '^failed: ' "$folder/changed.said"
 }
 
+# notices_exchanged: a library in which any two fields of a request are exchanged is not passed.
+notices_exchanged() {
+  local pair count=0
+  "$folder/requests" pairs >"$folder/pairs" || return 1
+  EXCHANGED='none 0 0' says "$folder/requests.exchanged" 1 20 >/dev/null || return 1
+  while read -r pair; do
+    ! EXCHANGED=$pair "$folder/requests.exchanged" 1 20 >"$folder/exchanged.said" 2>&1 &&
+      grep -q '^failed: the ' "$folder/exchanged.said" || ! echo "not noticed: $pair" || return 1
+    count=$((count + 1))
+  done <"$folder/pairs"
+  [ "$count" -ge 100 ] && echo "$count exchanged fields"
+}
+
 check 'mutated.c' built mutated mutated
 check 'changed sequences' says "$folder/mutated" 1 "$sequences"
 check 'rooms.c' built rooms rooms
@@ -81,9 +95,21 @@ check 'rooms.c with sanitizers' built rooms rooms.sanitized "${sanitizers[@]}"
 check 'every room with sanitizers' says "$folder/rooms.sanitized"
 check 'kept.c with sanitizers' built kept kept.sanitized "${sanitizers[@]}"
 check 'changed builders with sanitizers' says "$folder/kept.sanitized" 2 100000
+requests_wrapped=-Wl
+for call in link addr route neigh rule; do
+  requests_wrapped+=,--wrap=rtnlc_request_$call
+done
+check 'requests.c' built requests requests
+check 'requests beside the builder' says "$folder/requests" 1 2000
+check 'requests.c with sanitizers' built requests requests.sanitized "${sanitizers[@]}"
+check 'requests with sanitizers' says "$folder/requests.sanitized" 2 200
+check 'requests.c, exchanged' built requests requests.exchanged tests/building/exchanged.c \
+  "$requests_wrapped"
+check 'exchanged fields are noticed' notices_exchanged
 if has valgrind 'the builder under valgrind'; then
   check 'changed sequences under valgrind' \
     says valgrind -q --error-exitcode=9 "$folder/mutated" 3 10000
+  check 'requests under valgrind' says valgrind -q --error-exitcode=9 "$folder/requests" 3 3
 fi
 
 libmnl=(-lmnl)
@@ -113,6 +139,8 @@ fi
 
 check 'put.c' built put put
 adds tests/building/as_ip.py "$folder/put"
+check 'put_request.c' built put_request put_request
+adds tests/building/requests_as_ip.py "$folder/put_request"
 if has ip 'requests to the kernel'; then
   adds tests/building/sent.py "$folder/put"
   if has strace 'what ip sends'; then

@@ -42,16 +42,20 @@ static inline bool change_is_answered(const struct source *s)
 	return true;
 }
 
-/* Ends the request, sends it, and waits until the kernel has acknowledged it. */
-static inline void change_end(struct source *s, struct rtnlc_builder *b)
+/* Sends a request, and waits until the kernel has acknowledged it. */
+static inline void change_ask(struct source *s, struct rtnlc_put put, const uint8_t *request)
 {
-	struct rtnlc_put put;
-	rtnlc_builder_end(b);
-	put = rtnlc_builder_finish(b);
 	if (put.code != RTNLC_OK)
 		source_fail(s, FAILED, "%s", rtnlc_code_name(put.code));
-	if (send(s->socket, b->out, put.len, MSG_NOSIGNAL) < 0)
+	if (send(s->socket, request, put.len, MSG_NOSIGNAL) < 0)
 		source_fail(s, FAILED, "%s", strerror(errno));
 	while (source_next(s, false) && !change_is_answered(s))
 		continue;
+}
+
+/* Ends the request that was begun, and asks it. */
+static inline void change_end(struct source *s, struct rtnlc_builder *b)
+{
+	rtnlc_builder_end(b);
+	change_ask(s, rtnlc_builder_finish(b), b->out);
 }

@@ -9,46 +9,40 @@
 
 static const char usage[] = "route_add PREFIX via ADDRESS dev DEV [via ADDRESS dev DEV].. [SOCKET]";
 
-struct address {
-	uint8_t bytes[16];
-	uint8_t len, family;
-};
-
-/* An address of IPv6, whose text has a colon, or of IPv4. */
-static struct address address_of(const char *word)
+/* Puts an address of IPv6, whose text has a colon, or of IPv4 into 16 bytes, and answers how many
+ * it has. */
+static uint8_t address_of(const char *word, uint8_t *bytes)
 {
 	const bool is_ipv6 = strchr(word, ':') != NULL;
-	struct address it = { .len = is_ipv6 ? 16 : 4, .family = is_ipv6 ? AF_INET6 : AF_INET };
-	if (inet_pton(it.family, word, it.bytes) != 1)
+	if (inet_pton(is_ipv6 ? AF_INET6 : AF_INET, word, bytes) != 1)
 		change_misused(usage);
-	return it;
+	return is_ipv6 ? 16 : 4;
 }
 
-/* The address of a prefix, whose family and length go into the head. */
-static struct address prefix_of(char *word, struct rtmsg *head)
+/* Gives the route the prefix that it leads to, whose address goes into 16 bytes. */
+static void set_prefix(struct rtnlc_route_request *route, char *word, uint8_t *bytes)
 {
 	char *const slash = strchr(word, '/'), *end = NULL;
 	const unsigned long length = slash ? strtoul(slash + 1, &end, 10) : 0;
-	struct address it;
 	if (!slash || !isdigit((unsigned char)slash[1]) || *end != '\0')
 		change_misused(usage);
 	*slash = '\0';
-	it = address_of(word);
-	if (length > 8ul * it.len)
+	route->destination = (struct rtnlc_bytes){ bytes, address_of(word, bytes) };
+	if (length > 8 * route->destination.len)
 		change_misused(usage);
-	head->rtm_family = it.family;
-	head->rtm_dst_len = (uint8_t)length;
-	return it;
+	route->destination_length = (uint8_t)length;
+	route->family = route->destination.len == 4 ? AF_INET : AF_INET6;
 }
 
 /* The number of the word behind the ways, `via ADDRESS dev DEV` each: there may be one more. */
 static int end_of_ways(int count, char **words)
 {
+	uint8_t address[16];
 	int at;
 	for (at = 2; at + 4 <= count; at += 4) {
 		if (strcmp(words[at], "via") != 0 || strcmp(words[at + 2], "dev") != 0)
 			change_misused(usage);
-		address_of(words[at + 1]);
+		address_of(words[at + 1], address);
 	}
 	if (at == 2 || at + 1 < count)
 		change_misused(usage);
@@ -63,44 +57,44 @@ static uint32_t index_of(const struct source *s, const char *name)
 	return index;
 }
 
-static void put_gateway(struct rtnlc_builder *b, char **way)
+/* Where a way leads. */
+static struct rtnlc_next_hop hop_of(const struct source *s, char **way)
 {
-	const struct address gateway = address_of(way[1]);
-	rtnlc_builder_put(b, RTA_GATEWAY, gateway.bytes, gateway.len);
+	struct rtnlc_next_hop it = { .index = (int32_t)index_of(s, way[3]) };
+	it.gateway_len = address_of(way[1], it.gateway);
+	return it;
 }
 
-/* Puts all ways: several are next hops of equal weight. */
-static void put_ways(const struct source *s, struct rtnlc_builder *b, char **way, char **end)
+/* Gives the route all ways: several are next hops of equal weight. */
+static void set_ways(const struct source *s, struct rtnlc_route_request *route,
+                     struct rtnlc_next_hop *hops, char **way, size_t count)
 {
-	if (end - way == 4) {
-		put_gateway(b, way);
-		rtnlc_builder_put_u32(b, RTA_OIF, index_of(s, way[3]));
+	for (size_t at = 0; at < count; at++)
+		hops[at] = hop_of(s, way + 4 * at);
+	if (count == 1) {
+		route->gateway = (struct rtnlc_bytes){ hops->gateway, hops->gateway_len };
+		route->oif = (uint32_t)hops->index;
+		route->has_oif = true;
 		return;
 	}
-	rtnlc_builder_open(b, RTA_MULTIPATH);
-	for (; way < end; way += 4) {
-		rtnlc_builder_open_hop(b, 0, 0, (int32_t)index_of(s, way[3]));
-		put_gateway(b, way);
-		rtnlc_builder_close(b);
-	}
-	rtnlc_builder_close(b);
+	route->hops = hops;
+	route->hop_count = count;
 }
 
 int main(int count, char **words)
 {
 	static struct source source = { .program = "route_add" };
-	struct rtmsg head = { .rtm_table = RT_TABLE_MAIN,
-		                  .rtm_protocol = RTPROT_STATIC,
-		                  .rtm_type = RTN_UNICAST };
+	struct rtnlc_route_request route = { .table = RT_TABLE_MAIN,
+		                                 .protocol = RTPROT_STATIC,
+		                                 .sort = RTN_UNICAST };
 	const int end = end_of_ways(count, words);
-	const struct address to = prefix_of(words[1], &head);
-	struct rtnlc_builder b;
-	uint8_t out[4096];
+	struct rtnlc_next_hop hops[end / 4];
+	struct rtnlc_put put;
+	uint8_t to[16], out[4096];
+	set_prefix(&route, words[1], to);
 	source_open(&source, count - end + 1, words + end - 1, 0);
-	b = change_begin(&source, out, sizeof out, RTM_NEWROUTE, NLM_F_CREATE | NLM_F_EXCL, &head,
-	                 sizeof head);
-	rtnlc_builder_put(&b, RTA_DST, to.bytes, to.len);
-	put_ways(&source, &b, words + 2, words + end);
-	change_end(&source, &b);
+	set_ways(&source, &route, hops, words + 2, (size_t)end / 4);
+	put = rtnlc_request_route(&route, RTNLC_ADD, ++source.seq, SOURCE_BIG, out, sizeof out);
+	change_ask(&source, put, out);
 	return source_close(&source);
 }

@@ -72,6 +72,9 @@ if has gcc 'what gcc says of wrong uses' && [ "$(gcc -dumpversion | cut -d . -f 
     'struct rtnlc_builder b = { 0 }; uint8_t a[4] = { 0 }; return rtnlc_builder_put(&b, 1, a, 6);'
   check 'less than the room' warns -Wstringop-overflow \
     'uint8_t out[16]; return rtnlc_request(16, 0, 1, false, out, 32).code;'
+  check 'less than the room of a request' warns -Wstringop-overflow \
+    'struct rtnlc_link_request link = { .index = 1 }; uint8_t out[16];
+     return rtnlc_request_link(&link, RTNLC_SET, 1, false, out, 32).code;'
   check 'bytes for elements' warns -Wstringop-overflow \
     'struct rtnlc_event out[4]; return (int)rtnlc_tape(NULL, 0, NULL, out, sizeof out).count;'
   check 'bytes without a value' warns -Wuninitialized \

@@ -168,4 +168,104 @@ IS_AT(rtnlc_builder, out, 0);
 IS_AT(rtnlc_builder, room, 8);
 IS_AT(rtnlc_builder, built, 16);
 
+IS_SIZE(rtnlc_bytes, 16);
+IS_AT(rtnlc_bytes, at, 0);
+IS_AT(rtnlc_bytes, len, 8);
+
+IS_SIZE(rtnlc_link_request, 88);
+IS_AT(rtnlc_link_request, name, 0);
+IS_AT(rtnlc_link_request, address, 16);
+IS_AT(rtnlc_link_request, kind, 32);
+IS_AT(rtnlc_link_request, data, 48);
+IS_AT(rtnlc_link_request, index, 64);
+IS_AT(rtnlc_link_request, mtu, 68);
+IS_AT(rtnlc_link_request, master, 72);
+IS_AT(rtnlc_link_request, link, 76);
+IS_AT(rtnlc_link_request, has_mtu, 80);
+IS_AT(rtnlc_link_request, has_master, 81);
+IS_AT(rtnlc_link_request, has_link, 82);
+IS_AT(rtnlc_link_request, has_up, 83);
+IS_AT(rtnlc_link_request, up, 84);
+
+IS_SIZE(rtnlc_addr_request, 88);
+IS_AT(rtnlc_addr_request, local, 0);
+IS_AT(rtnlc_addr_request, peer, 16);
+IS_AT(rtnlc_addr_request, broadcast, 32);
+IS_AT(rtnlc_addr_request, label, 48);
+IS_AT(rtnlc_addr_request, index, 64);
+IS_AT(rtnlc_addr_request, flags, 68);
+IS_AT(rtnlc_addr_request, preferred, 72);
+IS_AT(rtnlc_addr_request, valid, 76);
+IS_AT(rtnlc_addr_request, has_lifetimes, 80);
+IS_AT(rtnlc_addr_request, family, 81);
+IS_AT(rtnlc_addr_request, prefix_length, 82);
+IS_AT(rtnlc_addr_request, scope, 83);
+
+IS_SIZE(rtnlc_metric, 8);
+IS_AT(rtnlc_metric, number, 0);
+IS_AT(rtnlc_metric, value, 4);
+
+IS_SIZE(rtnlc_next_hop, 24);
+IS_AT(rtnlc_next_hop, index, 0);
+IS_AT(rtnlc_next_hop, flags, 4);
+IS_AT(rtnlc_next_hop, hops, 5);
+IS_AT(rtnlc_next_hop, gateway_len, 6);
+IS_AT(rtnlc_next_hop, gateway, 7);
+
+IS_SIZE(rtnlc_route_request, 128);
+IS_AT(rtnlc_route_request, destination, 0);
+IS_AT(rtnlc_route_request, source, 16);
+IS_AT(rtnlc_route_request, gateway, 32);
+IS_AT(rtnlc_route_request, preferred_source, 48);
+IS_AT(rtnlc_route_request, metrics, 64);
+IS_AT(rtnlc_route_request, metric_count, 72);
+IS_AT(rtnlc_route_request, hops, 80);
+IS_AT(rtnlc_route_request, hop_count, 88);
+IS_AT(rtnlc_route_request, table, 96);
+IS_AT(rtnlc_route_request, flags, 100);
+IS_AT(rtnlc_route_request, priority, 104);
+IS_AT(rtnlc_route_request, oif, 108);
+IS_AT(rtnlc_route_request, has_priority, 112);
+IS_AT(rtnlc_route_request, has_oif, 113);
+IS_AT(rtnlc_route_request, family, 114);
+IS_AT(rtnlc_route_request, destination_length, 115);
+IS_AT(rtnlc_route_request, source_length, 116);
+IS_AT(rtnlc_route_request, tos, 117);
+IS_AT(rtnlc_route_request, protocol, 118);
+IS_AT(rtnlc_route_request, scope, 119);
+IS_AT(rtnlc_route_request, sort, 120);
+
+IS_SIZE(rtnlc_neigh_request, 48);
+IS_AT(rtnlc_neigh_request, destination, 0);
+IS_AT(rtnlc_neigh_request, link_address, 16);
+IS_AT(rtnlc_neigh_request, index, 32);
+IS_AT(rtnlc_neigh_request, state, 36);
+IS_AT(rtnlc_neigh_request, vlan, 38);
+IS_AT(rtnlc_neigh_request, has_vlan, 40);
+IS_AT(rtnlc_neigh_request, family, 41);
+IS_AT(rtnlc_neigh_request, flags, 42);
+
+IS_SIZE(rtnlc_rule_request, 104);
+IS_AT(rtnlc_rule_request, source, 0);
+IS_AT(rtnlc_rule_request, destination, 16);
+IS_AT(rtnlc_rule_request, iif, 32);
+IS_AT(rtnlc_rule_request, oif, 48);
+IS_AT(rtnlc_rule_request, table, 64);
+IS_AT(rtnlc_rule_request, mark, 68);
+IS_AT(rtnlc_rule_request, mask, 72);
+IS_AT(rtnlc_rule_request, target, 76);
+IS_AT(rtnlc_rule_request, suppress_prefix_length, 80);
+IS_AT(rtnlc_rule_request, priority, 84);
+IS_AT(rtnlc_rule_request, has_mark, 88);
+IS_AT(rtnlc_rule_request, has_mask, 89);
+IS_AT(rtnlc_rule_request, has_target, 90);
+IS_AT(rtnlc_rule_request, has_suppress_prefix_length, 91);
+IS_AT(rtnlc_rule_request, has_priority, 92);
+IS_AT(rtnlc_rule_request, invert, 93);
+IS_AT(rtnlc_rule_request, family, 94);
+IS_AT(rtnlc_rule_request, source_length, 95);
+IS_AT(rtnlc_rule_request, destination_length, 96);
+IS_AT(rtnlc_rule_request, tos, 97);
+IS_AT(rtnlc_rule_request, action, 98);
+
 #endif

@@ -61,6 +61,63 @@ static void call_show_json(void)
 
 static void call_request(void) { code = rtnlc_request(16, 0, 1, false, out, sizeof out).code; }
 
+static struct rtnlc_bytes text_of(const char *text)
+{
+	struct rtnlc_bytes it;
+	it.at = text;
+	it.len = strlen(text);
+	return it;
+}
+
+static void call_request_link(void)
+{
+	static struct rtnlc_link_request link;
+	link.name = text_of("one.5");
+	link.kind = text_of("vlan");
+	link.data = text_of("attributes");
+	code = rtnlc_request_link(&link, RTNLC_ADD, 1, false, out, ROOM).code;
+}
+
+static void call_request_addr(void)
+{
+	static struct rtnlc_addr_request addr;
+	addr.local = text_of("four");
+	addr.label = text_of("one");
+	addr.has_lifetimes = true;
+	code = rtnlc_request_addr(&addr, RTNLC_ADD, 1, false, out, ROOM).code;
+}
+
+static void call_request_route(void)
+{
+	static struct rtnlc_metric metric;
+	static struct rtnlc_next_hop hops[2];
+	static struct rtnlc_route_request route;
+	hops[1].gateway_len = 4;
+	route.metrics = &metric;
+	route.metric_count = 1;
+	route.hops = hops;
+	route.hop_count = 2;
+	route.table = 1000;
+	code = rtnlc_request_route(&route, RTNLC_ADD, 1, false, out, ROOM).code;
+}
+
+static void call_request_neigh(void)
+{
+	static struct rtnlc_neigh_request neigh;
+	neigh.destination = text_of("four");
+	neigh.has_vlan = true;
+	code = rtnlc_request_neigh(&neigh, RTNLC_ADD, 1, false, out, ROOM).code;
+}
+
+static void call_request_rule(void)
+{
+	static struct rtnlc_rule_request rule;
+	rule.source = text_of("four");
+	rule.iif = text_of("one");
+	rule.table = 1000;
+	code = rtnlc_request_rule(&rule, RTNLC_ADD, 1, false, out, ROOM).code;
+}
+
 static void call_session_new(void)
 {
 	rtnlc_session_free(&session);
@@ -134,6 +191,11 @@ static struct measured all[] = {
 	{ "show", call_show, 0 },
 	{ "show_json", call_show_json, 0 },
 	{ "request", call_request, 0 },
+	{ "request_link", call_request_link, 0 },
+	{ "request_addr", call_request_addr, 0 },
+	{ "request_route", call_request_route, 0 },
+	{ "request_neigh", call_request_neigh, 0 },
+	{ "request_rule", call_request_rule, 0 },
 	{ "session_new", call_session_new, 0 },
 	{ "session_begin", call_session_begin, 0 },
 	{ "session_feed", call_session_feed, 0 },

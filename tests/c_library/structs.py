@@ -30,10 +30,16 @@ NAMES = {
     "Status": "rtnlc_status",
     "TableSize": "rtnlc_table",
     "FoundEntry": "rtnlc_found",
-}
+    "Metric": "rtnlc_metric",
+    "NextHop": "rtnlc_next_hop",
+} | {f"{it.title()}Fields": f"rtnlc_{it}_request"
+     for it in ("link", "addr", "route", "neigh", "rule")}
 # What C keeps of a session has no field that is compared: c/rtnlc.c makes the one of the other. A
-# builder for C has the buffer beside what the code keeps.
-APART = ("rtnlc_session", "Handle", "rtnlc_builder")
+# builder for C has the buffer beside what the code keeps. Bytes of a request are a slice in the
+# code, and the gateway of a next hop is spread over its fields in C.
+APART = ("rtnlc_session", "Handle", "rtnlc_builder", "rtnlc_bytes", "Gateway")
+# Where code stands whose structs are laid out as in C, beside rtnl_c.
+REQUESTS = "crates/nl_request/src"
 # Calls that answer words: they are made in c/rtnlc.c alone.
 WORDS = {"code_name", "version"}
 TYPES = {f"u{bits}": f"uint{bits}_t" for bits in (8, 16, 32, 64)}
@@ -44,6 +50,8 @@ PARAMETERS = {"Global": []} | {name: [it] for name, it in TYPES.items()}
 for name in ("u8", "Event"):
     PARAMETERS[f"&[{name}]"] = [f"const {TYPES[name]} *", "size_t"]
     PARAMETERS[f"&mut [{name}]"] = [f"{TYPES[name]} *", "size_t"]
+for name in NAMES:
+    PARAMETERS[f"&{name}<'_>"] = [f"const {TYPES[name]} *"]
 PARAMETERS["&Options"] = ["const struct rtnlc_options *"]
 PARAMETERS["&Kept"] = ["const struct rtnlc_stream *"]
 PARAMETERS["&mut Kept"] = ["struct rtnlc_stream *"]
@@ -67,20 +75,36 @@ def structs_in_c(text):
     """Each struct by its name, with the name and the type of each field."""
     found = {}
     for name, body in re.findall(r"struct (\w+) \{([^{}]*)\}", text):
-        rows = [row.strip().split(" ", 1) for row in body.split(";") if row.strip()]
+        rows = [re.findall(r"((?:const )?(?:struct )?\w+ \*?)(.*)", row)[0]
+                for row in body.split(";") if row.strip()]
         named = [(kind, field) for kind, fields in rows for field in fields.split(",")]
-        found[name] = [(field.strip(), kind) for kind, field in named]
+        found[name] = [(field.strip(), kind.strip()) for kind, field in named]
     return found
+
+
+def field_in_c(field, kind, structs):
+    """The fields that stand in C for one of the code."""
+    slice_of = re.fullmatch(r"&'a \[(\w+)\]", kind)
+    if slice_of and slice_of[1] == "u8":
+        return [(field, "struct rtnlc_bytes")]
+    if slice_of:
+        return [(field, f"const {TYPES[slice_of[1]]} *"), (f"{field[:-1]}_count", "size_t")]
+    if kind in APART:
+        return [(f"{field}_{inner}".replace("_bytes", ""), it) for inner, it in structs[kind]]
+    return [(field, TYPES.get(kind, kind))]
 
 
 def structs_in_code(text):
     """The same of the code's structs laid out as in C, by the header's names and types."""
     found = {}
-    struct = r"#\[repr\(C\)\]\s*(?:#\[[^\n]*\s*)*pub struct (\w+) \{(.*?)\n\}"
+    numbers = dict(re.findall(r"^const (\w+): usize = (\d+);$", text, re.M))
+    struct = r"#\[repr\(C\)\]\s*(?:#\[[^\n]*\s*)*pub struct (\w+)(?:<'a>)? \{(.*?)\n\}"
     for name, body in re.findall(struct, text, re.S):
-        body = re.sub(r"(\w+): \[(\w+); (\d+)\]", r"\1[\3]: \2", body)
-        fields = re.findall(r"^\s*pub ([\w\[\]]+): (\w+),$", body, re.M)
-        found[NAMES.get(name, name)] = [(field, TYPES.get(kind, kind)) for field, kind in fields]
+        body = re.sub(r"(\w+): \[(\w+); (\w+)\]",
+                      lambda it: f"{it[1]}[{numbers.get(it[3], it[3])}]: {it[2]}", body)
+        fields = re.findall(r"^\s*(?:pub )?([\w\[\]]+): (.+),$", body, re.M)
+        found[NAMES.get(name, name)] = [
+            it for field, kind in fields for it in field_in_c(field, kind, found)]
     return found
 
 
@@ -130,15 +154,16 @@ def differences(what, one, other):
 
 def main():
     header = plain(text_of("include/rtnlc.h"))
-    files = sorted(glob.glob("crates/rtnl_c/src/*.rt", root_dir=ROOT))
+    files = sorted(glob.glob("crates/rtnl_c/src/**/*.rt", root_dir=ROOT, recursive=True))
     code = "\n".join(map(text_of, files))
-    events = structs_in_code(text_of("crates/nl_attr/src/events.rt"))
+    shared = "crates/nl_attr/src/events.rt", f"{REQUESTS}/gateway.rt", f"{REQUESTS}/route.rt"
+    others = structs_in_code("\n".join(map(text_of, shared)))
     calls = calls_in_code(code)
     # A text is of bytes in the code, and of characters in the header.
     declared = calls_in_c(re.sub(r" char \*(out|text)", r" uint8_t *\1", header), "rtnlc")
     glue = plain(text_of("c/rtnlc.c")).replace("struct handle *", "struct rtnlc_session *")
     between = calls_in_c(glue, "proved")
-    structs, known = structs_in_c(header), structs_in_code(code) | events
+    structs, known = structs_in_c(header), structs_in_code(code) | others
     for name in APART:
         structs.pop(name, None)
         known.pop(name, None)

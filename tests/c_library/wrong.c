@@ -52,6 +52,67 @@ static void pass_nothing(void)
 	expect("a head of nothing", rtnlc_builder_begin(&b, 24, 0, 1, 0, NULL, 0), RTNLC_MISMATCH);
 }
 
+/* All requests that change something, of no field; or null pointers for them, if `is_none`. */
+static void pass_requests(bool is_none, uint8_t operation, size_t room, uint8_t code)
+{
+	static struct rtnlc_link_request link;
+	static struct rtnlc_addr_request addr;
+	static struct rtnlc_route_request route;
+	static struct rtnlc_neigh_request neigh;
+	static struct rtnlc_rule_request rule;
+	const size_t len = code ? 0 : 28, longest = code ? 0 : 32;
+	uint8_t *to = room ? out : NULL;
+	expect_put("a link", rtnlc_request_link(is_none ? NULL : &link, operation, 1, false, to, room),
+	           code, longest);
+	expect_put("an address",
+	           rtnlc_request_addr(is_none ? NULL : &addr, operation, 1, false, to, room), code,
+	           longest);
+	expect_put("a route",
+	           rtnlc_request_route(is_none ? NULL : &route, operation, 1, false, to, room), code,
+	           len);
+	expect_put("a neighbour",
+	           rtnlc_request_neigh(is_none ? NULL : &neigh, operation, 1, false, to, room), code,
+	           len);
+	expect_put("a rule", rtnlc_request_rule(is_none ? NULL : &rule, operation, 1, false, to, room),
+	           code, len);
+}
+
+/* What is no request, or one that can't be put. */
+static void pass_wrong_requests(void)
+{
+	struct rtnlc_route_request route;
+	struct rtnlc_metric metric = { 16384, 1 };
+	memset(out, 0xaa, sizeof out);
+	pass_requests(true, RTNLC_ADD, sizeof out, RTNLC_MISMATCH);
+	pass_requests(false, RTNLC_DELETE + 1, sizeof out, RTNLC_MISMATCH);
+	expect("they aren't written", out[0], 0xaa);
+	pass_requests(false, RTNLC_ADD, 0, RTNLC_NO_ROOM);
+	pass_requests(false, RTNLC_ADD, 27, RTNLC_NO_ROOM);
+	pass_requests(false, RTNLC_ADD, sizeof out, RTNLC_OK);
+	memset(&route, 0, sizeof route);
+	route.gateway.len = 9;
+	route.metric_count = 9;
+	route.hop_count = 9;
+	expect_put("null pointers in a request",
+	           rtnlc_request_route(&route, RTNLC_ADD, 1, false, out, sizeof out), RTNLC_OK, 28);
+	route.metrics = &metric;
+	route.metric_count = 1;
+	expect_put("no metric", rtnlc_request_route(&route, RTNLC_ADD, 1, false, out, sizeof out),
+	           RTNLC_MISMATCH, 0);
+	metric.number = 16383;
+	route.gateway.at = zeros;
+	route.gateway.len = 65532;
+	expect_put("a long address", rtnlc_request_route(&route, RTNLC_ADD, 1, false, out, sizeof out),
+	           RTNLC_TOO_LONG, 0);
+	route.gateway.len = 60000;
+	expect_put("no room for one", rtnlc_request_route(&route, RTNLC_ADD, 1, false, out, 28),
+	           RTNLC_NO_ROOM, 0);
+	route.source = route.gateway;
+	expect_put("a long message", rtnlc_request_route(&route, RTNLC_ADD, 1, false, zeros, LARGEST),
+	           RTNLC_TOO_LARGE, 0);
+	memset(zeros, 0, sizeof zeros);
+}
+
 static void pass_limits(void)
 {
 	struct rtnlc_session s = { NULL };
@@ -303,6 +364,7 @@ int main(void)
 	pass_nothing();
 	pass_limits();
 	pass_places();
+	pass_wrong_requests();
 	expect("a null session", rtnlc_session_new(NULL, NULL), RTNLC_NO_SESSION);
 	pass_no_session(NULL);
 	pass_no_session(&s);
