@@ -1,9 +1,10 @@
 #!/usr/bin/env python3
 """Prints how many instructions it takes to build the request for a route, of many: by our builder,
-from Rattle and from C, and by libmnl, netlink-packet-route and pyroute2. Each begins a message in
-a buffer that stays, and puts a destination, a priority and one next hop, or a list of two. Those
-that print what they build come to the same bytes, but for the flag NLA_F_NESTED of a list, which
-libmnl sets.
+from Rattle and from C, by the one call of our library for C that puts it, and by libmnl,
+netlink-packet-route and pyroute2. Each puts a message into a buffer that stays: a destination, a
+priority and one next hop, or a list of two, in the order in which ip(8) sends them. Those that
+print what they build come to the same bytes, but for the flag NLA_F_NESTED of a list, which libmnl
+sets.
 
   measure/building.py
 """
@@ -43,6 +44,7 @@ def programs(folder: str) -> Dict[str, Optional[Command]]:
     return {
         "our builder, from Rattle": bench,
         "our builder, from C": found(over_ours(folder, "building_rtnlc")),
+        "our requests, from C": found(over_ours(folder, "requests_rtnlc")),
         PLAIN: found(compiled(folder, "building_libmnl", "libmnl")),
         "libmnl, mnl_attr_put_check": found(compiled(folder, "building_libmnl_checked", "libmnl")),
         "netlink-packet-route": over_rust_peer(folder, ["building"]).get("building"),

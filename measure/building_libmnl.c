@@ -42,16 +42,19 @@ static void next_hop(struct nlmsghdr *head, int at)
 	hop->rtnh_len = (uint16_t)((char *)mnl_nlmsg_get_payload_tail(head) - (char *)hop);
 }
 
-static void way_of(struct nlmsghdr *head, int hops)
+/* The attributes behind the destination, in the order in which ip(8) sends them. */
+static void way_of(struct nlmsghdr *head, int hops, uint32_t priority)
 {
 	struct nlattr *nest;
 
 	if (hops == 1) {
 		uint32_t address = gateway(254), index = 10;
 		PUT(head, RTA_GATEWAY, 4, &address);
+		PUT(head, RTA_PRIORITY, 4, &priority);
 		PUT(head, RTA_OIF, 4, &index);
 		return;
 	}
+	PUT(head, RTA_PRIORITY, 4, &priority);
 	nest = opened(head, RTA_MULTIPATH);
 	for (int at = 0; at < hops; at++)
 		next_hop(head, at);
@@ -66,15 +69,14 @@ int main(int argc, char **argv)
 
 	for (number = 0; number < all; number++) {
 		struct nlmsghdr *head = mnl_nlmsg_put_header(bytes);
-		uint32_t to = destination(number), priority = number % 1024;
+		uint32_t to = destination(number);
 
 		head->nlmsg_type = RTM_NEWROUTE;
 		head->nlmsg_flags = FLAGS;
 		head->nlmsg_seq = number;
 		*(struct rtmsg *)mnl_nlmsg_put_extra_header(head, sizeof(route)) = route;
 		PUT(head, RTA_DST, 4, &to);
-		PUT(head, RTA_PRIORITY, 4, &priority);
-		way_of(head, hops);
+		way_of(head, hops, number % 1024);
 		if (number == 0)
 			print_first((const uint8_t *)bytes, head->nlmsg_len);
 		count((const uint8_t *)bytes, head->nlmsg_len);

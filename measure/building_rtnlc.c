@@ -2,14 +2,17 @@
 #include "building.h"
 #include <rtnlc.h>
 
-static void way_of(struct rtnlc_builder *b, int hops)
+/* The attributes behind the destination, in the order in which ip(8) sends them. */
+static void way_of(struct rtnlc_builder *b, int hops, uint32_t priority)
 {
 	if (hops == 1) {
 		uint32_t address = gateway(254);
 		rtnlc_builder_put(b, RTA_GATEWAY, &address, 4);
+		rtnlc_builder_put_u32(b, RTA_PRIORITY, priority);
 		rtnlc_builder_put_u32(b, RTA_OIF, 10);
 		return;
 	}
+	rtnlc_builder_put_u32(b, RTA_PRIORITY, priority);
 	rtnlc_builder_open(b, RTA_MULTIPATH | NLA_F_NESTED);
 	for (int at = 0; at < hops; at++) {
 		uint32_t address = gateway(254 - at);
@@ -34,8 +37,7 @@ int main(int argc, char **argv)
 		rtnlc_builder_new(&b, NULL, bytes, sizeof bytes);
 		rtnlc_builder_begin(&b, RTM_NEWROUTE, FLAGS, number, 0, &route, sizeof route);
 		rtnlc_builder_put(&b, RTA_DST, &to, 4);
-		rtnlc_builder_put_u32(&b, RTA_PRIORITY, number % 1024);
-		way_of(&b, hops);
+		way_of(&b, hops, number % 1024);
 		rtnlc_builder_end(&b);
 		put = rtnlc_builder_finish(&b);
 		if (put.code)

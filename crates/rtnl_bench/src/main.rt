@@ -97,13 +97,15 @@ const NO_FLAGS: AttrFlags = AttrFlags {
     net: false,
 };
 
-/// Puts where a route leads: one next hop by itself, or so many in a list. The numbers of the
-/// attributes are those of linux/rtnetlink.h.
-fn put_way(builder: &mut Builder<'_>, hops: i32) -> Result<(), BuildError> {
+/// Puts where a route leads, one next hop by itself or so many in a list, and its priority, in the
+/// order in which ip(8) sends them. The numbers of the attributes are those of linux/rtnetlink.h.
+fn put_way(builder: &mut Builder<'_>, hops: i32, priority: u32) -> Result<(), BuildError> {
     if hops == 1 {
         builder.put_bytes(5, NO_FLAGS, &[192, 0, 2, 254])?;
+        builder.put_u32(6, NO_FLAGS, priority, Order::Little)?;
         return builder.put_u32(4, NO_FLAGS, 10, Order::Little);
     }
+    builder.put_u32(6, NO_FLAGS, priority, Order::Little)?;
     builder.open_attr(9, NO_FLAGS)?;
     for at in 0..hops {
         builder.open_hop(0, 9, at)?;
@@ -119,8 +121,7 @@ fn build(out: &mut [u8], number: u32, hops: i32, limits: &Limits) -> Result<u64,
     let mut builder = Builder::new(out, limits);
     builder.begin(24, 0x605, number, 0, &FamilyHead::Route(ROUTE))?;
     builder.put_bytes(1, NO_FLAGS, &Order::Big.u32_bytes(number))?;
-    builder.put_u32(6, NO_FLAGS, number % 1024, Order::Little)?;
-    put_way(&mut builder, hops)?;
+    put_way(&mut builder, hops, number % 1024)?;
     builder.end()?;
     let bytes = builder.finish()?;
     let byte = bytes.get(number as usize % 64).copied().unwrap_or(0);

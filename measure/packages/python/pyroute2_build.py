@@ -15,11 +15,12 @@ def hop(last, index):
 
 def request(number, two):
     to = f"{10 + (number >> 16)}.{number >> 8 & 255}.{number & 255}.0"
-    attrs = [("RTA_DST", to), ("RTA_PRIORITY", number % 1024)]
+    destination, priority = ("RTA_DST", to), ("RTA_PRIORITY", number % 1024)
+    # In the order in which ip(8) sends them.
     if two:
-        attrs.append(("RTA_MULTIPATH", [hop(254, 10), hop(253, 11)]))
+        attrs = [destination, priority, ("RTA_MULTIPATH", [hop(254, 10), hop(253, 11)])]
     else:
-        attrs += [("RTA_GATEWAY", "192.0.2.254"), ("RTA_OIF", 10)]
+        attrs = [destination, ("RTA_GATEWAY", "192.0.2.254"), priority, ("RTA_OIF", 10)]
     message = rtmsg()
     for name, value in [("family", 2), ("dst_len", 24), ("table", 254), ("proto", 3), ("type", 1)]:
         message[name] = value

@@ -28,11 +28,13 @@ fn request(number: u32, two: bool) -> NetlinkMessage<RtnlMessage> {
     route.header.kind = 1;
     let to = (0x0a00_0000 + number.wrapping_mul(256)).to_be_bytes();
     route.nlas.push(Nla::Destination(to.to_vec()));
-    route.nlas.push(Nla::Priority(number % 1024));
+    // In the order in which ip(8) sends them.
     if two {
+        route.nlas.push(Nla::Priority(number % 1024));
         route.nlas.push(Nla::MultiPath(vec![hop(254, 10), hop(253, 11)]));
     } else {
         route.nlas.push(Nla::Gateway(vec![192, 0, 2, 254]));
+        route.nlas.push(Nla::Priority(number % 1024));
         route.nlas.push(Nla::Oif(10));
     }
     let mut message = NetlinkMessage::from(RtnlMessage::NewRoute(route));
