@@ -1,7 +1,8 @@
 //! What the tests of this folder share: what the C compiler makes of headers, numbers that look
-//! random, and recordings. A probe is a program in C whose words are compared with what is
-//! declared in Rust. The compiler is `$CC`, or `cc`.
+//! random, recordings, and what ip(8) sends. A probe is a program in C whose words are compared
+//! with what is declared in Rust. The compiler is `$CC`, or `cc`.
 
+use std::collections::BTreeMap;
 use std::env;
 use std::fs;
 use std::io::Write;
@@ -113,14 +114,26 @@ pub fn datagrams(path: &Path) -> Vec<Vec<u8>> {
     lines.map(|it| (0..it.len()).step_by(2).map(|at| byte(&it[at..at + 2])).collect()).collect()
 }
 
-/// All datagrams of the recordings in `examples/` and `measure/` of the repository: that above
-/// this folder, or `$RTNL_ROOT`.
-pub fn recordings() -> Vec<Vec<u8>> {
+/// The folder of the repository: that above this one, or `$RTNL_ROOT`.
+fn root() -> PathBuf {
     let above = concat!(env!("CARGO_MANIFEST_DIR"), "/../../..");
-    let root = PathBuf::from(env::var_os("RTNL_ROOT").unwrap_or_else(|| above.into()));
+    env::var_os("RTNL_ROOT").unwrap_or_else(|| above.into()).into()
+}
+
+/// What ip(8) sends, in the repository's `tests/building/ip_sends.txt`: by the command, the
+/// request in hexadecimal, whose sequence number is 0.
+pub fn ip_sends() -> BTreeMap<String, String> {
+    let path = root().join("tests/building/ip_sends.txt");
+    let text = fs::read_to_string(&path).unwrap_or_else(|error| panic!("{path:?}: {error}"));
+    let rows = text.lines().filter_map(|it| it.split_once('\t'));
+    rows.map(|(command, request)| (command.into(), request.into())).collect()
+}
+
+/// All datagrams of the recordings in `examples/` and `measure/` of the repository.
+pub fn recordings() -> Vec<Vec<u8>> {
     let mut paths = Vec::new();
     for folder in ["examples", "measure"] {
-        let entries = fs::read_dir(root.join(folder)).expect("the repository has recordings");
+        let entries = fs::read_dir(root().join(folder)).expect("the repository has recordings");
         paths.extend(entries.map(|it| it.expect("a file is listed").path()));
     }
     paths.retain(|it| it.extension().map_or(false, |it| it == "hex"));

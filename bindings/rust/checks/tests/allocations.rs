@@ -3,7 +3,8 @@
 
 use checks::recordings;
 use rtnl::constants::{AF_UNSPEC, IFLA_IFNAME, RTM_NEWLINK};
-use rtnl::{Body, Builder, Family, Header, LinkHead, Options, Order, Stream, Tape};
+use rtnl::{Body, Builder, Family, Header, LinkHead, NextHopRequest, Operation, Options, Order};
+use rtnl::{RouteRequest, Stream, Tape};
 use std::alloc::{GlobalAlloc, Layout, System};
 use std::sync::atomic::{AtomicUsize, Ordering};
 
@@ -81,6 +82,13 @@ fn datagrams_take_no_memory() {
         let mut builder = Builder::new(&options, &mut buffer).unwrap();
         let put = builder.message(&header, &head, |it| it.put_text(IFLA_IFNAME, "eth0"));
         assert!(put.is_ok() && builder.finish().is_ok());
+    });
+    assert_eq!(own, 0);
+
+    let own = taken(|| {
+        let hops = [NextHopRequest::default(); 2];
+        let route = RouteRequest { next_hops: &hops, ..RouteRequest::default() };
+        assert!(route.put(Operation::Add, 1, Order::Little, &mut buffer).is_ok());
     });
     assert_eq!(own, 0);
 }

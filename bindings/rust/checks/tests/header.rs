@@ -8,7 +8,10 @@ use std::fmt::Write;
 use std::mem::{align_of, size_of, size_of_val, MaybeUninit};
 use std::ptr::addr_of;
 
-const SOURCE: &str = include_str!("../../rtnlc-sys/src/lib.rs");
+const SOURCE: &str = concat!(
+    include_str!("../../rtnlc-sys/src/structs.rs"),
+    include_str!("../../rtnlc-sys/src/lib.rs")
+);
 const HEADER: &str = "#include <rtnlc.h>\n";
 /// Macros that are gone at the end of the header, or say that it is there.
 const OF_THE_HEADER_ALONE: [&str; 3] = ["RTNLC_H", "RTNLC_READS", "RTNLC_WRITES"];
@@ -79,6 +82,30 @@ fn add_structs(lines: &mut Lines) {
             total, entries, datagram, len, starts, contents, count, depth, big, refusal
         }
         rtnlc_builder { out, room, built }
+        rtnlc_bytes { at, len }
+        rtnlc_link_request {
+            name, address, kind, data, index, mtu, master, link, has_mtu, has_master, has_link,
+            has_up, up
+        }
+        rtnlc_addr_request {
+            local, peer, broadcast, label, index, flags, preferred, valid, has_lifetimes, family,
+            prefix_length, scope
+        }
+        rtnlc_metric { number, value }
+        rtnlc_next_hop { index, flags, hops, gateway_len, gateway }
+        rtnlc_route_request {
+            destination, source, gateway, preferred_source, metrics, metric_count, hops, hop_count,
+            table, flags, priority, oif, has_priority, has_oif, family, destination_length,
+            source_length, tos, protocol, scope, sort
+        }
+        rtnlc_neigh_request {
+            destination, link_address, index, state, vlan, has_vlan, family, flags
+        }
+        rtnlc_rule_request {
+            source, destination, iif, oif, table, mark, mask, target, suppress_prefix_length,
+            priority, has_mark, has_mask, has_target, has_suppress_prefix_length, has_priority,
+            invert, family, source_length, destination_length, tos, action
+        }
     );
 }
 
@@ -92,7 +119,8 @@ fn add_numbers(lines: &mut Lines) {
         RTNLC_LINK RTNLC_LINK_INFO RTNLC_ADDR RTNLC_HOPS_BEHIND RTNLC_ROUTE RTNLC_METRICS
         RTNLC_NEIGH RTNLC_RULE RTNLC_PLAIN RTNLC_IDLE RTNLC_WAITING RTNLC_DONE RTNLC_FAILED
         RTNLC_OVERRUN RTNLC_ABANDONED RTNLC_STANDARD_TOTAL RTNLC_STANDARD_DATAGRAM
-        RTNLC_STANDARD_ENTRIES RTNLC_STANDARD_DEPTH
+        RTNLC_STANDARD_ENTRIES RTNLC_STANDARD_DEPTH RTNLC_ADD RTNLC_REPLACE RTNLC_CHANGE
+        RTNLC_APPEND RTNLC_PREPEND RTNLC_SET RTNLC_DELETE
     );
 }
 
@@ -169,7 +197,7 @@ fn the_header_has_nothing_else() {
     let own: BTreeSet<&str> = words(SOURCE).collect();
     let others = words(&source).filter(|it| it.starts_with("rtnlc_") || it.starts_with("RTNLC_"));
     // The names of C's enums, of which each value is declared there as a number.
-    let enums = ["rtnlc_code", "rtnlc_sort", "rtnlc_context", "rtnlc_state"];
+    let enums = ["rtnlc_code", "rtnlc_sort", "rtnlc_context", "rtnlc_state", "rtnlc_operation"];
     let missing: BTreeSet<&str> =
         others.filter(|it| !own.contains(it) && !enums.contains(it)).collect();
     assert_eq!(missing, OF_THE_HEADER_ALONE.into_iter().collect());

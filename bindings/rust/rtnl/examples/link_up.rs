@@ -4,8 +4,7 @@
 
 mod source;
 
-use rtnl::constants::{IFF_UP, IFLA_IFNAME, RTM_NEWLINK};
-use rtnl::{Builder, LinkHead, Options};
+use rtnl::{LinkRequest, Operation, Order};
 use source::{change::misused, Source};
 use std::env;
 
@@ -20,11 +19,8 @@ fn run() -> source::Result<()> {
         _ => misused("link_up DEV [SOCKET]"),
     };
     let mut source = Source::open(0, path)?;
-    let head = LinkHead { flags: IFF_UP, change: IFF_UP, ..LinkHead::default() };
+    let link = LinkRequest { name: Some(&name), up: Some(true), ..LinkRequest::default() };
     let mut buffer = [0; 256];
-    let mut builder = Builder::new(&Options::new(), &mut buffer)?;
-    builder.message(&source.header(RTM_NEWLINK, 0), &head, |link| {
-        link.put_text(IFLA_IFNAME, &name)
-    })?;
-    source.change(builder.finish()?)
+    let request = link.put(Operation::Set, source.next_sequence(), Order::NATIVE, &mut buffer)?;
+    source.change(request)
 }

@@ -5,14 +5,11 @@
 mod source;
 
 use rtnl::constants::*;
-use rtnl::{BuildError, Builder, NextHopHead, Options, Prefix, RouteHead};
+use rtnl::{NextHopHead, NextHopRequest, Operation, Order, Prefix, RouteRequest};
 use source::{change::index_of, change::misused, Source};
 use std::{env, net::IpAddr};
 
 const USAGE: &str = "route_add PREFIX via ADDRESS dev DEV [via ADDRESS dev DEV].. [SOCKET]";
-
-/// A gateway, and the index of the interface that leads to it.
-type Way = (IpAddr, u32);
 
 fn main() {
     run().unwrap_or_else(|error| source::fail("route_add", &*error))
@@ -28,33 +25,26 @@ fn run() -> source::Result<()> {
         [path] => Some(path.into()),
         _ => misused(USAGE),
     };
-    let ways = hops.map(way_of).collect::<source::Result<Vec<Way>>>()?;
-    if ways.is_empty() {
+    let hops = hops.map(hop_of).collect::<source::Result<Vec<NextHopRequest>>>()?;
+    if hops.is_empty() {
         misused(USAGE)
     }
     let mut source = Source::open(0, path)?;
-    let (table, protocol) = (RT_TABLE_MAIN as u8, RTPROT_STATIC);
-    let head = RouteHead { table, protocol, route_type: RTN_UNICAST, ..RouteHead::to(to) };
+    let (route, sequence) = (request_of(to, &hops), source.next_sequence());
     let mut buffer = [0; 4_096];
-    let mut builder = Builder::new(&Options::new(), &mut buffer)?;
-    builder.message(&source.header(RTM_NEWROUTE, NLM_F_CREATE | NLM_F_EXCL), &head, |route| {
-        route.put_address(RTA_DST, to.address)?;
-        put_ways(route, &ways)
-    })?;
-    source.change(builder.finish()?)
+    source.change(route.put(Operation::Add, sequence, Order::NATIVE, &mut buffer)?)
 }
 
-fn put_ways(route: &mut Builder<'_>, ways: &[Way]) -> Result<(), BuildError> {
-    if let [(gateway, index)] = ways {
-        route.put_address(RTA_GATEWAY, *gateway)?;
-        return route.put_u32(RTA_OIF, *index);
+fn request_of(to: Prefix, hops: &[NextHopRequest]) -> RouteRequest<'_> {
+    let (table, protocol) = (RT_TABLE_MAIN, RTPROT_STATIC);
+    let route = RouteRequest { table, protocol, route_type: RTN_UNICAST, ..RouteRequest::to(to) };
+    match hops {
+        [hop] => {
+            let (gateway, out_interface) = (hop.gateway(), Some(hop.head().index));
+            RouteRequest { gateway, out_interface, ..route }
+        }
+        next_hops => RouteRequest { next_hops, ..route },
     }
-    route.list(RTA_MULTIPATH, |hops| {
-        ways.iter().try_for_each(|(gateway, index)| {
-            let head = NextHopHead { index: *index, ..NextHopHead::default() };
-            hops.next_hop(&head, |hop| hop.put_address(RTA_GATEWAY, *gateway))
-        })
-    })
 }
 
 fn prefix_of(word: &str) -> Option<Prefix> {
@@ -64,10 +54,12 @@ fn prefix_of(word: &str) -> Option<Prefix> {
     (len <= most).then_some(Prefix { address, len })
 }
 
-fn way_of(words: &[String]) -> source::Result<Way> {
+fn hop_of(words: &[String]) -> source::Result<NextHopRequest> {
     match words {
         [via, gateway, dev, name] if via == "via" && dev == "dev" => {
-            Ok((gateway.parse().unwrap_or_else(|_| misused(USAGE)), index_of(name)?))
+            let gateway = gateway.parse().unwrap_or_else(|_| misused(USAGE));
+            let head = NextHopHead { index: index_of(name)?, ..NextHopHead::default() };
+            Ok(NextHopRequest::new(head, Some(gateway)))
         }
         _ => misused(USAGE),
     }

@@ -4,20 +4,23 @@ use crate::error::words_of;
 use rtnlc_sys::*;
 use std::fmt;
 
-/// Why a call of a [`Builder`](crate::Builder) was refused: no byte of the buffer was changed.
+/// Why a call of a [`Builder`](crate::Builder) was refused, and no byte of its buffer was changed;
+/// or why a request was, as [`Error::Build`](crate::Error::Build).
 #[derive(Clone, Copy, Debug, PartialEq, Eq, Hash)]
 #[non_exhaustive]
 pub enum BuildError {
     /// The head is not that of its message type, or the message type is none of `NEW`, `DEL` and
     /// `SET`; a whole message is of these, or shorter than its type says; bytes were put for an
     /// attribute that holds others, or one of bytes was opened; or next hops stand here, or don't.
+    /// Of a request: the number of a metric is 16,384 or more.
     Mismatch,
     /// The attribute has more than 65,531 bytes, or, where it holds others, than 65,532; or a
     /// whole message has more than 1,048,576.
     TooLong,
     /// The attribute opens a level above [`Options::depth`](crate::Options::depth).
     TooDeep,
-    /// The datagram would be above [`Options::datagram`](crate::Options::datagram).
+    /// The datagram would be above [`Options::datagram`](crate::Options::datagram); a request
+    /// above 65,536 bytes.
     TooLarge,
     /// The buffer has less room.
     NoRoom,

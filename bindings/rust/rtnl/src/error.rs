@@ -1,5 +1,6 @@
 //! Why something was not done.
 
+use crate::BuildError;
 use rtnlc_sys::*;
 use std::ffi::CStr;
 use std::fmt;
@@ -83,6 +84,8 @@ pub enum Error {
     /// The entry of a table can't be written as a message, which none of a dump has been seen to
     /// be.
     Unwritable,
+    /// A request, as a [`LinkRequest`](crate::LinkRequest), was not put into its buffer, and why.
+    Build(BuildError),
     /// The library that is linked is not of the version that this crate is made for.
     Version,
     /// Another code of `rtnlc.h`, which no call of this crate should give.
@@ -124,6 +127,7 @@ impl Error {
             Error::BadLimit => RTNLC_BAD_LIMIT,
             Error::NoMemory => RTNLC_NO_MEMORY,
             Error::Unwritable => RTNLC_MISMATCH,
+            Error::Build(error) => error.code(),
             Error::Version => return None,
             Error::Other(code) => *code,
         })
@@ -135,6 +139,13 @@ impl Error {
             Error::Broken(fault) => Some(*fault),
             _ => None,
         }
+    }
+}
+
+/// Of a request that was not put.
+impl From<BuildError> for Error {
+    fn from(error: BuildError) -> Error {
+        Error::Build(error)
     }
 }
 

@@ -159,7 +159,8 @@ pub struct RuleHead {
     pub flags: u32,
 }
 
-fn family_of(address: IpAddr) -> u8 {
+/// The address family of an address.
+pub(crate) fn family_of(address: IpAddr) -> u8 {
     if address.is_ipv4() {
         AF_INET
     } else {

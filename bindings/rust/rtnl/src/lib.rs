@@ -15,6 +15,8 @@
 //!   family says.
 //! - [`Builder`] builds messages in a buffer of yours, in lists and next hops that are closed, and
 //!   takes no memory. What it hands out is never malformed.
+//! - [`LinkRequest`], [`AddressRequest`], [`RouteRequest`], [`NeighbourRequest`] and
+//!   [`RuleRequest`] ask the kernel to change something, as ip(8) does, each by one call.
 //! - [`scan`], [`check`] and [`show`] say something of a whole datagram.
 //!
 //! ```
@@ -59,6 +61,7 @@ mod heads;
 mod list;
 mod names;
 mod options;
+mod requests;
 mod session;
 mod stream;
 mod tape;
@@ -79,6 +82,10 @@ pub use heads::{AddressHead, Head, LinkHead, NeighbourHead, RouteHead, RuleHead}
 pub use list::{MessageList, MessageListIter};
 pub use names::{attribute_name, type_name, Context, Name};
 pub use options::{Options, Order};
+pub use requests::{
+    AddressRequest, Lifetimes, LinkRequest, Metric, NeighbourRequest, NextHopRequest, Operation,
+    RouteRequest, RuleRequest,
+};
 pub use session::{Session, Table};
 pub use stream::{Items, Stream};
 pub use tape::{Event, Sort, Tape};

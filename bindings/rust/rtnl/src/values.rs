@@ -48,7 +48,15 @@ pub struct HardwareAddress<'a>(&'a [u8]);
 
 impl<'a> HardwareAddress<'a> {
     /// That of these bytes, where there is one at least.
-    pub(crate) fn new(bytes: &'a [u8]) -> Option<HardwareAddress<'a>> {
+    ///
+    /// ```
+    /// use rtnl::HardwareAddress;
+    ///
+    /// let address = HardwareAddress::new(&[2, 0, 0x5e, 0x10, 0, 1]).unwrap();
+    /// assert_eq!(address.to_string(), "02:00:5e:10:00:01");
+    /// assert!(HardwareAddress::new(&[]).is_none());
+    /// ```
+    pub fn new(bytes: &'a [u8]) -> Option<HardwareAddress<'a>> {
         (!bytes.is_empty()).then_some(HardwareAddress(bytes))
     }
 

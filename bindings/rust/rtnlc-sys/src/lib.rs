@@ -21,6 +21,10 @@
 #![allow(non_camel_case_types)]
 #![deny(missing_docs)]
 
+mod structs;
+
+pub use structs::*;
+
 use std::os::raw::{c_char, c_void};
 
 /// The version of the header that is declared here.
@@ -122,6 +126,21 @@ pub const RTNLC_OVERRUN: u8 = 4;
 /// By the caller.
 pub const RTNLC_ABANDONED: u8 = 5;
 
+/// Made, and refused where it is there.
+pub const RTNLC_ADD: u8 = 0;
+/// Made, or put in the place of what is there.
+pub const RTNLC_REPLACE: u8 = 1;
+/// Put in the place of what is there.
+pub const RTNLC_CHANGE: u8 = 2;
+/// Made behind those that are there: of routes.
+pub const RTNLC_APPEND: u8 = 3;
+/// Made before those that are there: of routes.
+pub const RTNLC_PREPEND: u8 = 4;
+/// Fields of what is there are set: of links.
+pub const RTNLC_SET: u8 = 5;
+/// Taken away.
+pub const RTNLC_DELETE: u8 = 6;
+
 /// Bytes of all datagrams of a session or a stream at most, where no options are handed in.
 pub const RTNLC_STANDARD_TOTAL: u64 = 1_073_741_824;
 /// Bytes of a datagram at most.
@@ -130,364 +149,6 @@ pub const RTNLC_STANDARD_DATAGRAM: u32 = 65_536;
 pub const RTNLC_STANDARD_ENTRIES: u32 = 4_096;
 /// Levels that containers may open at most.
 pub const RTNLC_STANDARD_DEPTH: u8 = 8;
-
-/// The limits of a call, of a session, a stream or a builder.
-#[repr(C)]
-#[derive(Clone, Copy, Debug, PartialEq, Eq, Hash)]
-pub struct rtnlc_options {
-    /// Bytes of all datagrams of a session or a stream at most: 0 to 2^40.
-    pub total: u64,
-    /// Bytes of a datagram at most: a multiple of 4 from 16 to 1,048,576.
-    pub datagram: u32,
-    /// Entries of each table of a session at most: 0 to 65,536.
-    pub entries: u32,
-    /// Levels that containers may open at most: 0 to 32.
-    pub depth: u8,
-    /// Numbers have their highest byte first.
-    pub big: bool,
-}
-
-/// What [`rtnlc_scan`] answers.
-#[repr(C)]
-#[derive(Clone, Copy, Debug, Default, PartialEq, Eq, Hash)]
-pub struct rtnlc_scanned {
-    /// How many attribute bytes were visited.
-    pub visits: u64,
-    /// Of the first fault; 0 where there is none.
-    pub place: u32,
-    /// [`RTNLC_OK`], [`RTNLC_CUT`] to [`RTNLC_TOO_LARGE`], or [`RTNLC_BAD_LIMIT`].
-    pub code: u8,
-}
-
-/// What [`rtnlc_broken`] answers.
-#[repr(C)]
-#[derive(Clone, Copy, Debug, Default, PartialEq, Eq, Hash)]
-pub struct rtnlc_broken_head {
-    /// Of the head, which is that of the first fault.
-    pub place: u32,
-    /// The length that it says, with its own bytes.
-    pub len: u32,
-    /// Bytes from there to the end of the list that it lies in; for a message, of the datagram.
-    pub left: u32,
-    /// As in [`rtnlc_event`].
-    pub number: u16,
-    /// As there.
-    pub level: u8,
-    /// [`RTNLC_MESSAGE`], [`RTNLC_NEXT_HOP`], or [`RTNLC_BYTES`] for any attribute.
-    pub sort: u8,
-    /// Its bytes are all there; else `len` and `number` are 0.
-    pub whole: bool,
-    /// As of [`rtnlc_scanned`]; where it is no rule, all else is 0.
-    pub code: u8,
-}
-
-/// A head of a datagram.
-#[repr(C)]
-#[derive(Clone, Copy, Debug, Default, PartialEq, Eq, Hash)]
-pub struct rtnlc_event {
-    /// Of the head.
-    pub place: u32,
-    /// Bytes behind the head, without padding.
-    pub len: u32,
-    /// A message's type; an attribute's without its two flag bits; 0 of a next hop.
-    pub number: u16,
-    /// 0 for messages and for the attributes of a body; one more in each container.
-    pub level: u8,
-    /// [`RTNLC_MESSAGE`] to [`RTNLC_NEXT_HOP`].
-    pub sort: u8,
-    /// `NLA_F_NESTED`.
-    pub nested: bool,
-    /// `NLA_F_NET_BYTEORDER`.
-    pub net: bool,
-}
-
-/// What [`rtnlc_tape`] answers.
-#[repr(C)]
-#[derive(Clone, Copy, Debug, Default, PartialEq, Eq, Hash)]
-pub struct rtnlc_taped {
-    /// How many heads there are, or up to the fault; also above the room.
-    pub count: usize,
-    /// How many attribute bytes were visited.
-    pub visits: u64,
-    /// Of the first fault; 0 where there is none.
-    pub place: u32,
-    /// As of [`rtnlc_scanned`].
-    pub code: u8,
-}
-
-/// What [`rtnlc_message_at`] answers.
-#[repr(C)]
-#[derive(Clone, Copy, Debug, Default, PartialEq, Eq, Hash)]
-pub struct rtnlc_message {
-    /// The one asked for.
-    pub place: u32,
-    /// Where the next message stands.
-    pub next: u32,
-    /// Bytes of the body, which begins at `place + 16`.
-    pub len: u32,
-    /// The sequence number.
-    pub seq: u32,
-    /// The port id.
-    pub port: u32,
-    /// The message type.
-    pub kind: u16,
-    /// `NLM_F_*`.
-    pub flags: u16,
-    /// [`RTNLC_OK`], [`RTNLC_CUT`] to [`RTNLC_SHORT_BODY`], [`RTNLC_TOO_LARGE`] or [`RTNLC_END`].
-    pub code: u8,
-}
-
-/// What [`rtnlc_attr_at`] and [`rtnlc_find`] answer.
-#[repr(C)]
-#[derive(Clone, Copy, Debug, Default, PartialEq, Eq, Hash)]
-pub struct rtnlc_attr {
-    /// Of the attribute.
-    pub place: u32,
-    /// Where the next one stands.
-    pub next: u32,
-    /// Bytes of the payload, which begins at `place + 4`.
-    pub len: u32,
-    /// Without the two flag bits.
-    pub number: u16,
-    /// `NLA_F_NESTED`.
-    pub nested: bool,
-    /// `NLA_F_NET_BYTEORDER`.
-    pub net: bool,
-    /// [`RTNLC_OK`], [`RTNLC_CUT`], [`RTNLC_BAD_LENGTH`], [`RTNLC_TOO_LARGE`] or [`RTNLC_END`].
-    pub code: u8,
-}
-
-/// What [`rtnlc_hop_at`] answers.
-#[repr(C)]
-#[derive(Clone, Copy, Debug, Default, PartialEq, Eq, Hash)]
-pub struct rtnlc_hop {
-    /// The one asked for.
-    pub place: u32,
-    /// Where the next one stands.
-    pub next: u32,
-    /// Bytes of its attributes, which begin at `place + 8`.
-    pub len: u32,
-    /// The index of its interface.
-    pub ifindex: i32,
-    /// `RTNH_F_*`.
-    pub flags: u8,
-    /// Its weight less one.
-    pub hops: u8,
-    /// As of [`rtnlc_attr`].
-    pub code: u8,
-}
-
-/// What [`rtnlc_family_of`] answers.
-#[repr(C)]
-#[derive(Clone, Copy, Debug, Default, PartialEq, Eq, Hash)]
-pub struct rtnlc_family {
-    /// Bytes of the family's head, behind which attributes stand; or 0.
-    pub head_size: u8,
-    /// [`RTNLC_NO_CONTEXT`] to [`RTNLC_PLAIN`].
-    pub context: u8,
-}
-
-/// What [`rtnlc_holds()`] answers.
-#[repr(C)]
-#[derive(Clone, Copy, Debug, Default, PartialEq, Eq, Hash)]
-pub struct rtnlc_holds {
-    /// [`RTNLC_BYTES`], [`RTNLC_LIST`] or [`RTNLC_HOPS`]; 0 where the context is none.
-    pub sort: u8,
-    /// Of the attributes in it, or in its next hops; else 0.
-    pub context: u8,
-}
-
-/// What [`rtnlc_check`] answers.
-#[repr(C)]
-#[derive(Clone, Copy, Debug, Default, PartialEq, Eq, Hash)]
-pub struct rtnlc_checked {
-    /// Of the first fault; 0 where there is none.
-    pub place: u32,
-    /// As of [`rtnlc_scanned`], or [`RTNLC_NO_MEMORY`].
-    pub code: u8,
-    /// Accepted, and written as its messages are.
-    pub canonical: bool,
-}
-
-/// What [`rtnlc_show`] answers.
-#[repr(C)]
-#[derive(Clone, Copy, Debug, Default, PartialEq, Eq, Hash)]
-pub struct rtnlc_shown {
-    /// Bytes of the text, also above the room.
-    pub len: usize,
-    /// [`RTNLC_OK`], [`RTNLC_BAD_LIMIT`] or [`RTNLC_NO_MEMORY`].
-    pub code: u8,
-}
-
-/// What the calls answer that put bytes.
-#[repr(C)]
-#[derive(Clone, Copy, Debug, Default, PartialEq, Eq, Hash)]
-pub struct rtnlc_put {
-    /// Bytes; on [`RTNLC_NO_ROOM`] how many there must be room for; else 0.
-    pub len: usize,
-    /// Where it is not [`RTNLC_OK`], nothing has happened.
-    pub code: u8,
-}
-
-/// Where a dump stands, of a session and of a stream.
-#[repr(C)]
-#[derive(Clone, Copy, Debug, Default, PartialEq, Eq, Hash)]
-pub struct rtnlc_status {
-    /// Bytes of all datagrams that were looked at, since it was made.
-    pub received: u64,
-    /// Attribute bytes visited in them.
-    pub visits: u64,
-    /// Messages of the last dump that were neither entries nor its end.
-    pub ignored: u64,
-    /// The sequence number of the last dump.
-    pub seq: u32,
-    /// Its port id.
-    pub port: u32,
-    /// Of DONE, 0 where it has none; or the code of ERROR, a negative errno.
-    pub status: i32,
-    /// The NEW type of the last dump's family.
-    pub kind: u16,
-    /// The address family that it asked for.
-    pub family: u8,
-    /// [`RTNLC_IDLE`] to [`RTNLC_ABANDONED`].
-    pub state: u8,
-    /// A datagram of the last dump was refused.
-    pub damaged: bool,
-    /// The kernel's table changed meanwhile.
-    pub interrupted: bool,
-    /// Ended by DONE with no failure, neither damaged nor interrupted, and nothing was missed.
-    pub complete: bool,
-    /// [`RTNLC_OK`], [`RTNLC_NO_SESSION`] or [`RTNLC_NO_STREAM`].
-    pub code: u8,
-}
-
-/// What a session or a stream answers to a datagram.
-#[repr(C)]
-#[derive(Clone, Copy, Debug, Default, PartialEq, Eq, Hash)]
-pub struct rtnlc_fed {
-    /// Of a stream: events at the front of `out`, or on [`RTNLC_NO_ROOM`] those that there must be
-    /// room for; else 0.
-    pub events: usize,
-    /// Messages that are entries of the dump.
-    pub items: u32,
-    /// Messages that are neither that nor its end.
-    pub ignored: u32,
-    /// Of the first fault; 0 where there is none.
-    pub place: u32,
-    /// One of them ended the dump.
-    pub ended: bool,
-    /// [`RTNLC_OK`], or why the datagram was not taken.
-    pub code: u8,
-}
-
-/// A session, which owns its tables. Null before [`rtnlc_session_new`]; copied only to move it.
-#[repr(C)]
-#[derive(Debug)]
-pub struct rtnlc_session {
-    /// The library's.
-    pub at: *mut c_void,
-}
-
-/// What [`rtnlc_session_table`] answers.
-#[repr(C)]
-#[derive(Clone, Copy, Debug, Default, PartialEq, Eq, Hash)]
-pub struct rtnlc_table {
-    /// How often a new entry found no room.
-    pub missed: u64,
-    /// Entries.
-    pub count: u32,
-    /// The most that there may be.
-    pub limit: u32,
-    /// [`RTNLC_OK`], [`RTNLC_NO_KIND`] or [`RTNLC_NO_SESSION`].
-    pub code: u8,
-}
-
-/// What [`rtnlc_session_find`] answers.
-#[repr(C)]
-#[derive(Clone, Copy, Debug, Default, PartialEq, Eq, Hash)]
-pub struct rtnlc_found {
-    /// The index of the entry.
-    pub index: u32,
-    /// [`RTNLC_OK`]; [`RTNLC_END`] where no entry has the key.
-    pub code: u8,
-}
-
-/// Where the dumps of one socket stand, with no table. Any bytes are taken for one.
-#[repr(C)]
-#[derive(Clone, Copy, Debug, Default, PartialEq, Eq, Hash)]
-pub struct rtnlc_stream {
-    /// As in [`rtnlc_options`].
-    pub total: u64,
-    /// Bytes of all datagrams so far.
-    pub received: u64,
-    /// Attribute bytes visited.
-    pub visits: u64,
-    /// Messages of the last dump that are neither its items nor its end.
-    pub ignored: u64,
-    /// As in [`rtnlc_options`].
-    pub datagram: u32,
-    /// As there; it says nothing of a stream.
-    pub entries: u32,
-    /// The sequence number of the last dump.
-    pub seq: u32,
-    /// Its port id.
-    pub port: u32,
-    /// Of its DONE, or the code of its ERROR; else 0.
-    pub status: i32,
-    /// The NEW type of its family.
-    pub kind: u16,
-    /// The address family of its request.
-    pub family: u8,
-    /// [`RTNLC_IDLE`] to [`RTNLC_ABANDONED`].
-    pub state: u8,
-    /// As in [`rtnlc_options`].
-    pub depth: u8,
-    /// 0 or 1.
-    pub big: u8,
-    /// 1 where a datagram of it was refused, else 0.
-    pub damaged: u8,
-    /// 1 where an item or its DONE has `NLM_F_DUMP_INTR`, else 0.
-    pub interrupted: u8,
-}
-
-/// What is built in a buffer, and how far. Any bytes are taken for it.
-#[repr(C)]
-#[derive(Clone, Copy, Debug, PartialEq, Eq, Hash)]
-pub struct rtnlc_built {
-    /// As in [`rtnlc_options`]; it says nothing of a builder.
-    pub total: u64,
-    /// The same.
-    pub entries: u32,
-    /// As in [`rtnlc_options`].
-    pub datagram: u32,
-    /// Bytes of the buffer that are accepted.
-    pub len: u32,
-    /// The offsets of the open heads, the outermost, a message's, first; what is behind the last
-    /// one says nothing.
-    pub starts: [u32; 33],
-    /// What stands behind each: [`RTNLC_LINK`] to [`RTNLC_HOPS_BEHIND`].
-    pub contents: [u8; 33],
-    /// How many heads are open: at most `depth` plus one.
-    pub count: u8,
-    /// As in [`rtnlc_options`].
-    pub depth: u8,
-    /// 0 or 1.
-    pub big: u8,
-    /// The code of the first refusal, or 0.
-    pub refusal: u8,
-}
-
-/// A builder over a buffer of the caller's.
-#[repr(C)]
-#[derive(Clone, Copy, Debug, PartialEq, Eq, Hash)]
-pub struct rtnlc_builder {
-    /// The buffer: `room` bytes that can be written.
-    pub out: *mut u8,
-    /// Its bytes.
-    pub room: usize,
-    /// What is built in it.
-    pub built: rtnlc_built,
-}
 
 extern "C" {
     /// Checks every head of a datagram, and keeps nothing.
@@ -739,6 +400,56 @@ extern "C" {
 
     /// How many bytes the datagram has.
     pub fn rtnlc_builder_finish(b: *const rtnlc_builder) -> rtnlc_put;
+
+    /// Puts a message into `out` that asks for a change of a link.
+    pub fn rtnlc_request_link(
+        link: *const rtnlc_link_request,
+        operation: u8,
+        seq: u32,
+        big: bool,
+        out: *mut u8,
+        room: usize,
+    ) -> rtnlc_put;
+
+    /// Puts a message into `out` that asks for a change of an address.
+    pub fn rtnlc_request_addr(
+        addr: *const rtnlc_addr_request,
+        operation: u8,
+        seq: u32,
+        big: bool,
+        out: *mut u8,
+        room: usize,
+    ) -> rtnlc_put;
+
+    /// Puts a message into `out` that asks for a change of a route.
+    pub fn rtnlc_request_route(
+        route: *const rtnlc_route_request,
+        operation: u8,
+        seq: u32,
+        big: bool,
+        out: *mut u8,
+        room: usize,
+    ) -> rtnlc_put;
+
+    /// Puts a message into `out` that asks for a change of a neighbour.
+    pub fn rtnlc_request_neigh(
+        neigh: *const rtnlc_neigh_request,
+        operation: u8,
+        seq: u32,
+        big: bool,
+        out: *mut u8,
+        room: usize,
+    ) -> rtnlc_put;
+
+    /// Puts a message into `out` that asks for a change of a rule.
+    pub fn rtnlc_request_rule(
+        rule: *const rtnlc_rule_request,
+        operation: u8,
+        seq: u32,
+        big: bool,
+        out: *mut u8,
+        room: usize,
+    ) -> rtnlc_put;
 
     /// Puts the name of a message type in the kernel's headers into `out`.
     pub fn rtnlc_type_name(kind: u16, out: *mut c_char, room: usize) -> rtnlc_put;

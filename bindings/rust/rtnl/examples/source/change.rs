@@ -1,8 +1,7 @@
 //! A request that changes something, and the kernel's answer.
 
 use super::{checked, send, Result, Source};
-use rtnl::constants::{NLM_F_ACK, NLM_F_REQUEST};
-use rtnl::{Body, Header, Incomplete, Tape};
+use rtnl::{Body, Incomplete, Tape};
 use std::ffi::CString;
 use std::os::raw::c_char;
 use std::process;
@@ -12,16 +11,10 @@ extern "C" {
 }
 
 impl Source {
-    /// The header of the next request, which asks for an acknowledgement.
-    pub fn header(&mut self, message_type: u16, flags: u16) -> Header {
+    /// The sequence number of the next request.
+    pub fn next_sequence(&mut self) -> u32 {
         self.sequence += 1;
-        let flags = flags | NLM_F_REQUEST | NLM_F_ACK;
-        Header {
-            message_type,
-            flags,
-            sequence: self.sequence,
-            port: u32::from_ne_bytes(self.port),
-        }
+        self.sequence
     }
 
     /// Sends the request that was built, and waits until the kernel says that it was done.
