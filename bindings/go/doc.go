@@ -40,15 +40,22 @@
 //
 // # Requests
 //
-// A Builder puts messages into a buffer of the caller's: a header and a head, attributes by their
-// numbers, lists and next hops. What it hands out is never malformed. The first refusal sticks,
-// and Finish answers it. Message.Errno is what the kernel answered: 0 where it acknowledges a
-// request.
+// A LinkRequest, an AddressRequest, a RouteRequest, a NeighbourRequest or a RuleRequest says what is
+// to be changed, and its AppendTo appends the message that asks for it, as ip(8) sends it:
+//
+//	request := rtnlc.LinkRequest{Name: "eth0", Up: rtnlc.PointerTo(true)}
+//	datagram, err := request.AppendTo(nil, rtnlc.Set, seq, false)
+//
+// A Builder puts any messages into a buffer of the caller's: a header and a head, attributes by
+// their numbers, lists and next hops. What it hands out is never malformed. The first refusal
+// sticks, and Finish answers it.
+//
+// Message.Errno is what the kernel answered: 0 where it acknowledges a request.
 //
 // # Errors
 //
 // What is refused is an *Error, which has a Code and the Place of the fault. Codes are errors too,
-// and what a Builder answers:
+// and what a Builder answers and, with some words more, a ChangeRequest:
 //
 //	errors.Is(err, rtnlc.ErrCut)
 //

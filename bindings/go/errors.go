@@ -29,7 +29,8 @@ const (
 	ErrNoKind     Code = C.RTNLC_NO_KIND     // the message type is of no family that is dumped
 	ErrNoSession  Code = C.RTNLC_NO_SESSION  // a Session that NewSession did not make, or is closed
 
-	// These are of a Builder, as are ErrTooLong, ErrTooDeep, ErrTooLarge, ErrMismatch and ErrNoRoom.
+	// These are of a Builder, as are ErrTooLong, ErrTooDeep, ErrTooLarge, ErrMismatch and ErrNoRoom. A
+	// ChangeRequest has ErrTooLong, ErrTooLarge and ErrMismatch.
 	ErrNothingOpen Code = C.RTNLC_NOTHING_OPEN // nothing is open that could be closed or put into
 	ErrStillOpen   Code = C.RTNLC_STILL_OPEN   // something is open in what should end
 	ErrNoBuilder   Code = C.RTNLC_NO_BUILDER   // a Builder that NewBuilder did not make

@@ -242,3 +242,33 @@ func ExampleBuilder() {
 	fmt.Println(len(datagram), err)
 	// Output: 72 <nil>
 }
+
+// Two requests in one datagram, each with its sequence number.
+func ExampleChangeRequest() {
+	// ip link set eth0 up
+	datagram, err := rtnlc.LinkRequest{Name: "eth0", Up: rtnlc.PointerTo(true)}.AppendTo(
+		nil, rtnlc.Set, 1, false)
+	if err == nil {
+		// ip route replace 10.1.0.0/16 via 192.0.2.254 metric 0
+		datagram, err = rtnlc.RouteRequest{
+			Dst:      netip.MustParsePrefix("10.1.0.0/16"),
+			Gateway:  netip.MustParseAddr("192.0.2.254"),
+			Priority: rtnlc.PointerTo(uint32(0)),
+			Table:    rtnlc.RT_TABLE_MAIN,
+			Protocol: rtnlc.RTPROT_BOOT,
+			Type:     rtnlc.RTN_UNICAST,
+		}.AppendTo(datagram, rtnlc.Replace, 2, false)
+	}
+	fmt.Println(len(datagram), err)
+	// Output: 96 <nil>
+}
+
+func ExampleRuleRequest() {
+	// ip rule add from 192.0.2.0/24 fwmark 0x10/0xff table 1000 priority 100
+	mark, mask, priority := uint32(0x10), uint32(0xff), uint32(100)
+	request := rtnlc.RuleRequest{From: netip.MustParsePrefix("192.0.2.0/24"), Mark: &mark,
+		Mask: &mask, Priority: &priority, Table: 1000, Action: rtnlc.FR_ACT_TO_TBL}
+	datagram, err := request.AppendTo(make([]byte, 0, 256), rtnlc.Add, 1, false)
+	fmt.Printf("% x %v\n", datagram[28:36], err)
+	// Output: 08 00 02 00 c0 00 02 00 <nil>
+}

@@ -22,10 +22,5 @@ func up(name string) error {
 	if err != nil {
 		return err
 	}
-	b := rtnlc.NewBuilder(make([]byte, 256), nil)
-	head := rtnlc.LinkHead{Flags: rtnlc.IFF_UP, Change: rtnlc.IFF_UP}
-	b.Begin(socket.Header(rtnlc.RTM_NEWLINK, 0), head)
-	b.PutText(rtnlc.IFLA_IFNAME, name)
-	b.End()
-	return socket.Change(b)
+	return socket.Change(rtnlc.Set, rtnlc.LinkRequest{Name: name, Up: rtnlc.PointerTo(true)})
 }

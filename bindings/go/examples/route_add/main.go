@@ -15,12 +15,6 @@ import (
 
 const usage = "route_add PREFIX via ADDRESS dev DEV [via ADDRESS dev DEV].. [SOCKET]"
 
-// A way is a gateway, and the interface that leads to it.
-type way struct {
-	gateway netip.Addr
-	index   int32
-}
-
 func main() { source.Exit("route_add", add(os.Args[1:])) }
 
 func add(words []string) error {
@@ -40,34 +34,18 @@ func add(words []string) error {
 	if err != nil {
 		return err
 	}
-	b := rtnlc.NewBuilder(make([]byte, 4096), nil)
-	head := rtnlc.RouteTo(to)
-	head.Table, head.Protocol = rtnlc.RT_TABLE_MAIN, rtnlc.RTPROT_STATIC
-	head.Type = rtnlc.RTN_UNICAST
-	b.Begin(socket.Header(rtnlc.RTM_NEWROUTE, rtnlc.NLM_F_CREATE|rtnlc.NLM_F_EXCL), head)
-	b.PutAddr(rtnlc.RTA_DST, to.Addr())
-	put(b, ways)
-	b.End()
-	return socket.Change(b)
-}
-
-func put(b *rtnlc.Builder, ways []way) {
+	request := rtnlc.RouteRequest{Dst: to, Table: rtnlc.RT_TABLE_MAIN,
+		Protocol: rtnlc.RTPROT_STATIC, Type: rtnlc.RTN_UNICAST}
 	if len(ways) == 1 {
-		b.PutAddr(rtnlc.RTA_GATEWAY, ways[0].gateway)
-		b.PutUint32(rtnlc.RTA_OIF, uint32(ways[0].index))
-		return
+		request.Gateway, request.OutIndex = ways[0].Gateway, &ways[0].Index
+	} else {
+		request.NextHops = ways
 	}
-	b.Open(rtnlc.RTA_MULTIPATH)
-	for _, it := range ways {
-		b.OpenNextHop(rtnlc.NextHopHead{Index: it.index})
-		b.PutAddr(rtnlc.RTA_GATEWAY, it.gateway)
-		b.Close()
-	}
-	b.Close()
+	return socket.Change(rtnlc.Add, request)
 }
 
 // waysOf are those of the words, four for each.
-func waysOf(words []string) (ways []way, err error) {
+func waysOf(words []string) (ways []rtnlc.NextHopRequest, err error) {
 	for ; len(words) > 0; words = words[4:] {
 		gateway, err := netip.ParseAddr(words[1])
 		if words[0] != "via" || err != nil || words[2] != "dev" {
@@ -77,7 +55,7 @@ func waysOf(words []string) (ways []way, err error) {
 		if err != nil {
 			return nil, fmt.Errorf("no interface %s", words[3])
 		}
-		ways = append(ways, way{gateway, int32(device.Index)})
+		ways = append(ways, rtnlc.NextHopRequest{Gateway: gateway, Index: int32(device.Index)})
 	}
 	return ways, nil
 }

@@ -24,16 +24,10 @@ func Misused(usage string) {
 	os.Exit(2)
 }
 
-// Header is that of the next request, which asks for an acknowledgement.
-func (s *Source) Header(messageType, flags uint16) rtnlc.Header {
+// Change sends a request, and waits until the kernel says that it was done.
+func (s *Source) Change(operation rtnlc.Operation, change rtnlc.ChangeRequest) error {
 	s.seq++
-	return rtnlc.Header{Type: messageType, Flags: flags | rtnlc.NLM_F_REQUEST | rtnlc.NLM_F_ACK,
-		Seq: s.seq, Port: s.port}
-}
-
-// Change sends the request that was built, and waits until the kernel says that it was done.
-func (s *Source) Change(b *rtnlc.Builder) error {
-	request, err := b.Finish()
+	request, err := change.AppendTo(nil, operation, s.seq, false)
 	if err == nil {
 		_, err = syscall.Write(s.fd, request)
 	}
