@@ -2,13 +2,11 @@
 import os
 import socket
 import sys
-from contextlib import contextmanager
-from typing import Iterator, NoReturn
+from typing import NoReturn
 
 import source
 
 import rtnl
-from rtnl.constants import NLM_F_ACK, NLM_F_REQUEST
 
 
 def misused(usage: str) -> NoReturn:
@@ -25,18 +23,10 @@ def index_of(name: str) -> int:
         raise source.Failed(f"no interface {name}") from None
 
 
-@contextmanager
-def change(
-    kernel: source.Source, kind: int, head: rtnl.Head, flags: int = 0
-) -> Iterator[rtnl.Builder]:
-    """Sends the message whose attributes are put in the block, and waits until the kernel says
-    that it was done."""
-    builder = rtnl.Builder()
+def change(kernel: source.Source, request: rtnl.Request, operation: rtnl.Operation) -> None:
+    """Sends a request, and waits until the kernel says that it was done."""
     kernel.seq += 1
-    flags |= NLM_F_REQUEST | NLM_F_ACK
-    with builder.message(kind, head, flags, seq=kernel.seq, port=kernel.port):
-        yield builder
-    kernel.socket.send(builder.finish())
+    kernel.socket.send(request.packed(operation, kernel.seq))
     error = None
     while error is None:
         datagram = kernel.receive()

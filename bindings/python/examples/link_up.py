@@ -7,13 +7,10 @@ import source
 from change import change, misused
 
 import rtnl
-from rtnl.constants import IFF_UP, IFLA_IFNAME, RTM_NEWLINK
 
 
 def link_up(kernel: source.Source) -> None:
-    head = rtnl.LinkHead(flags=IFF_UP, change=IFF_UP)
-    with change(kernel, RTM_NEWLINK, head) as link:
-        link.put_text(IFLA_IFNAME, sys.argv[1])
+    change(kernel, rtnl.LinkRequest(name=sys.argv[1], up=True), rtnl.Operation.SET)
 
 
 if __name__ == "__main__":

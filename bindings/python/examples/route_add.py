@@ -3,24 +3,14 @@
 route_add.py PREFIX via ADDRESS dev DEV [via ADDRESS dev DEV].. [SOCKET]"""
 import ipaddress
 import sys
+from dataclasses import replace
 from typing import List, Tuple
 
 import source
 from change import change, index_of, misused
 
 import rtnl
-from rtnl.constants import (
-    NLM_F_CREATE,
-    NLM_F_EXCL,
-    RT_TABLE_MAIN,
-    RTA_DST,
-    RTA_GATEWAY,
-    RTA_MULTIPATH,
-    RTA_OIF,
-    RTM_NEWROUTE,
-    RTN_UNICAST,
-    RTPROT_STATIC,
-)
+from rtnl.constants import RT_TABLE_MAIN, RTN_UNICAST, RTPROT_STATIC
 from rtnl.values import IPAddress
 
 USAGE = "route_add PREFIX via ADDRESS dev DEV [via ADDRESS dev DEV].. [SOCKET]"
@@ -45,23 +35,14 @@ def ways_of(words: List[str]) -> List[Way]:
     return [*zip(map(ipaddress.ip_address, words[1::4]), words[3::4])]
 
 
-def put_ways(route: rtnl.Builder, ways: List[Way]) -> None:
-    if len(ways) == 1:
-        ((gateway, name),) = ways
-        route.put_address(RTA_GATEWAY, gateway)
-        route.put_u32(RTA_OIF, index_of(name))
-        return
-    with route.list(RTA_MULTIPATH):
-        for gateway, name in ways:
-            with route.hop(index_of(name)):
-                route.put_address(RTA_GATEWAY, gateway)
-
-
 def add(kernel: source.Source, to: rtnl.Prefix, ways: List[Way]) -> None:
-    head = rtnl.RouteHead.to(to, table=RT_TABLE_MAIN, protocol=RTPROT_STATIC, type=RTN_UNICAST)
-    with change(kernel, RTM_NEWROUTE, head, NLM_F_CREATE | NLM_F_EXCL) as route:
-        route.put_address(RTA_DST, to.address)
-        put_ways(route, ways)
+    hops = [rtnl.NextHopRequest(gateway, index_of(name)) for gateway, name in ways]
+    route = rtnl.RouteRequest(
+        to, table=RT_TABLE_MAIN, protocol=RTPROT_STATIC, type=RTN_UNICAST, hops=hops
+    )
+    if len(hops) == 1:
+        route = replace(route, gateway=hops[0].gateway, index=hops[0].index, hops=())
+    change(kernel, route, rtnl.Operation.ADD)
 
 
 def main(words: List[str]) -> None:

@@ -1,10 +1,11 @@
 """The structs, calls and numbers of the package are those of rtnlc.h, by the C compiler."""
 import ctypes
+import re
 import unittest
 from typing import Any, Dict, Iterator, List, Tuple
 
 import shared
-from rtnl import Code, State, _families, _heads, _library, _structs, dump, names, table
+from rtnl import Code, Operation, State, _families, _heads, _library, _structs, dump, names, table
 from rtnl._library import BUILDER, EVENTS, OPTIONS, SESSION, STREAM
 
 HEADER = ["#include <stddef.h>", "#include <rtnlc.h>"]
@@ -30,6 +31,7 @@ SCALARS = {
     SESSION: "struct rtnlc_session *",
     STREAM: "struct rtnlc_stream *",
     BUILDER: "struct rtnlc_builder *",
+    _structs.Data: "const void *",
 }
 # These calls only read what they have for their first argument.
 READS = {"rtnlc_stream_status", "rtnlc_builder_finish"}
@@ -37,20 +39,28 @@ CONTEXTS = "NO_CONTEXT LINK LINK_INFO ADDR ROUTE METRICS NEIGH RULE PLAIN".split
 SORTS = "MESSAGE BYTES LIST HOPS NEXT_HOP".split()
 
 
+def name_of(kind: type) -> str:
+    """The name of a struct in C."""
+    return "rtnlc_" + re.sub("(?<=.)(?=[A-Z])", "_", kind.__name__).lower()
+
+
 def structs() -> Dict[str, Any]:
     """Each struct, by its name in C."""
     kinds = [it for it in vars(_structs).values() if isinstance(it, type)]
     found = [it for it in kinds if issubclass(it, ctypes.Structure) and it is not ctypes.Structure]
-    return {f"rtnlc_{it.__name__.lower()}": it for it in found}
+    return {name_of(it): it for it in found}
 
 
 def in_c(kind: Any) -> str:
-    """A type in C. `uint64_t` and `size_t` are one class of ctypes."""
-    if isinstance(kind, type) and issubclass(kind, ctypes.Structure):
-        return f"struct rtnlc_{kind.__name__.lower()}"
-    if isinstance(kind, type) and issubclass(kind, ctypes.Array):
+    """A type in C. `uint64_t` and `size_t` are one class of ctypes. What a pointer leads to that
+    isn't among the SCALARS is only read."""
+    if kind in SCALARS:
+        return SCALARS[kind]
+    if issubclass(kind, ctypes.Structure):
+        return f"struct {name_of(kind)}"
+    if issubclass(kind, ctypes.Array):
         return f"{in_c(kind._type_)}[{kind._length_}]"
-    return SCALARS[kind]
+    return f"const {in_c(kind._type_)} *"
 
 
 def of_fields() -> Iterator[str]:
@@ -79,6 +89,7 @@ def of_numbers() -> Iterator[str]:
     rows += [(name, getattr(_families, name)) for name in CONTEXTS]
     rows += [(name, getattr(_heads, name)) for name in SORTS]
     rows += [("REQUEST", dump.REQUEST), ("NAME", names.LONGEST)]
+    rows += [(it.name, it.value) for it in Operation]
     yield from (f"RTNLC_{name} == {number}" for name, number in rows)
 
 
@@ -105,10 +116,10 @@ class Declarations(unittest.TestCase):
     def test_numbers(self) -> None:
         self.assertEqual(shared.false_in_c(HEADER, list(of_numbers())), [])
 
-    def test_all_codes_and_states(self) -> None:
+    def test_all_numbers_of_each_list(self) -> None:
         with open(f"{shared.include()}/rtnlc.h", encoding="utf-8") as file:
             text = file.read()
-        for name, kind in (("code", Code), ("state", State)):
+        for name, kind in (("code", Code), ("state", State), ("operation", Operation)):
             body = text.partition(f"enum rtnlc_{name} {{\n")[2].partition("};")[0]
             self.assertEqual(body.count(" = "), len(kind), name)
 
@@ -135,8 +146,6 @@ def standard() -> Dict[str, int]:
 
 def fields_of(body: str) -> Iterator[str]:
     """The fields of a struct in C, one by one, without comments."""
-    import re
-
     plain = re.sub(r"/\*.*?\*/", "", body, flags=re.S)
     for line in filter(str.strip, plain.split(";")):
         yield from line.split(",")

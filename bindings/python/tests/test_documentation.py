@@ -53,14 +53,20 @@ class Documentation(unittest.TestCase):
         self.assertEqual(sorted(rtnl.__all__), sorted({*rtnl.__all__}))
 
     def test_the_readme(self) -> None:
-        """Its first program prints the loopback link, and its second builds a route."""
+        """Its first program prints the loopback link, and the others build requests."""
         with open(f"{PACKAGE}/README.md", encoding="utf-8") as file:
-            code, built = re.findall(r"^```python\n(.*?)^```$", file.read(), re.M | re.S)
+            code, built, asked = re.findall(r"^```python\n(.*?)^```$", file.read(), re.M | re.S)
         names: Dict[str, Any] = {"rtnl": rtnl}
         exec(built, names)
         (route,) = rtnl.Datagram(names["request"]).views(rtnl.Route)
         hops = [(f"{it.gateway}", it.weight) for it in route.hops or ()]
         self.assertEqual(hops, [("203.0.113.1", 1), ("203.0.113.2", 3)])
+        exec(asked, names)
+        datagram = rtnl.Datagram(names["requests"])
+        links = [(it.name, it.flags) for it in datagram.views(rtnl.Link)]
+        routes = [(f"{it.destination}", f"{it.gateway}") for it in datagram.views(rtnl.Route)]
+        wanted = [("eth0", 1)], [("192.0.2.0/24", "203.0.113.1")]
+        self.assertEqual((links, routes), wanted)
         try:
             socket.socket(socket.AF_NETLINK, socket.SOCK_RAW, socket.NETLINK_ROUTE).close()
         except OSError:

@@ -9,6 +9,8 @@ A datagram is bytes: what one receive on a netlink socket gave. Nothing here ope
 * Stream: reads dumps of any length in constant space. A MessageList keeps what it hands out.
 * Builder: puts messages, with a LinkHead, AddressHead, RouteHead, NeighbourHead or RuleHead, and
   hands out a datagram that is never malformed.
+* LinkRequest, AddressRequest, RouteRequest, NeighbourRequest and RuleRequest: one message each,
+  that asks the kernel for an Operation.
 * scan, tape, check and show: what the library says of a datagram.
 
 The kernel's numbers, as RTM_NEWLINK, are in rtnl.constants.
@@ -28,6 +30,17 @@ from .message import Message, Messages
 from .message_list import MessageList
 from .names import attribute_name, type_name
 from .neighbour import Neighbour
+from .requests import (
+    AddressRequest,
+    Lifetimes,
+    LinkRequest,
+    NeighbourRequest,
+    NextHopRequest,
+    Operation,
+    Request,
+    RouteRequest,
+    RuleRequest,
+)
 from .route import Route
 from .rule import Rule
 from .session import Fed, Session
@@ -39,6 +52,7 @@ from .values import HardwareAddress, Prefix
 __all__ = [
     "Address",
     "AddressHead",
+    "AddressRequest",
     "Attribute",
     "Attributes",
     "Builder",
@@ -53,21 +67,29 @@ __all__ = [
     "Head",
     "Items",
     "LibraryError",
+    "Lifetimes",
     "Limits",
     "Link",
     "LinkHead",
+    "LinkRequest",
     "Message",
     "MessageList",
     "Messages",
     "Neighbour",
     "NeighbourHead",
+    "NeighbourRequest",
     "NextHop",
+    "NextHopRequest",
     "NextHops",
+    "Operation",
     "Prefix",
+    "Request",
     "Route",
     "RouteHead",
+    "RouteRequest",
     "Rule",
     "RuleHead",
+    "RuleRequest",
     "Scanned",
     "Session",
     "State",

@@ -16,6 +16,7 @@ from typing import Any, Dict, Tuple
 
 from . import _loading
 from ._structs import (
+    AddrRequest,
     Builder,
     Checked,
     Event,
@@ -23,8 +24,12 @@ from ._structs import (
     Fed,
     Found,
     Holds,
+    LinkRequest,
+    NeighRequest,
     Options,
     Put,
+    RouteRequest,
+    RuleRequest,
     Scanned,
     Session,
     Shown,
@@ -59,6 +64,8 @@ SESSION, STREAM, OPTIONS = POINTER(Session), POINTER(Stream), POINTER(Options)
 EVENTS, BUILDER = POINTER(Event), POINTER(Builder)
 DATAGRAM = (Bytes, c_size_t)
 REQUEST = (c_uint16, c_uint8, c_uint32, c_uint32, Room, c_size_t)
+# What stands behind the struct of a request that changes something.
+CHANGE = (c_uint8, c_uint32, c_bool, Room, c_size_t)
 
 # What each call answers, and its arguments.
 CALLS: Dict[str, Tuple[Any, Tuple[Any, ...]]] = {
@@ -110,6 +117,11 @@ CALLS: Dict[str, Tuple[Any, Tuple[Any, ...]]] = {
     "rtnlc_builder_close": (c_uint8, (BUILDER,)),
     "rtnlc_builder_end": (c_uint8, (BUILDER,)),
     "rtnlc_builder_finish": (Put, (BUILDER,)),
+    "rtnlc_request_link": (Put, (POINTER(LinkRequest), *CHANGE)),
+    "rtnlc_request_addr": (Put, (POINTER(AddrRequest), *CHANGE)),
+    "rtnlc_request_route": (Put, (POINTER(RouteRequest), *CHANGE)),
+    "rtnlc_request_neigh": (Put, (POINTER(NeighRequest), *CHANGE)),
+    "rtnlc_request_rule": (Put, (POINTER(RuleRequest), *CHANGE)),
 }
 
 

@@ -4,6 +4,7 @@ from ctypes import (
     POINTER,
     Structure,
     c_bool,
+    c_char_p,
     c_int32,
     c_size_t,
     c_uint8,
@@ -185,3 +186,141 @@ class Builder(Structure):
     """A builder over a buffer."""
 
     _fields_ = [("out", POINTER(c_uint8)), ("room", c_size_t), ("built", Built)]
+
+
+class Data(c_char_p):
+    """const void *: bytes that the struct keeps."""
+
+
+class Bytes(Structure):
+    """Bytes of the caller's: an address in network order, or a name without its zero byte."""
+
+    _fields_ = [("at", Data), ("len", c_size_t)]
+
+
+class LinkRequest(Structure):
+    """A link."""
+
+    _fields_ = [
+        ("name", Bytes),
+        ("address", Bytes),
+        ("kind", Bytes),
+        ("data", Bytes),
+        ("index", c_int32),
+        ("mtu", c_uint32),
+        ("master", c_uint32),
+        ("link", c_uint32),
+        ("has_mtu", c_bool),
+        ("has_master", c_bool),
+        ("has_link", c_bool),
+        ("has_up", c_bool),
+        ("up", c_bool),
+    ]
+
+
+class AddrRequest(Structure):
+    """An address of a link."""
+
+    _fields_ = [
+        ("local", Bytes),
+        ("peer", Bytes),
+        ("broadcast", Bytes),
+        ("label", Bytes),
+        ("index", c_uint32),
+        ("flags", c_uint32),
+        ("preferred", c_uint32),
+        ("valid", c_uint32),
+        ("has_lifetimes", c_bool),
+        ("family", c_uint8),
+        ("prefix_length", c_uint8),
+        ("scope", c_uint8),
+    ]
+
+
+class Metric(Structure):
+    """A metric of a route."""
+
+    _fields_ = [("number", c_uint16), ("value", c_uint32)]
+
+
+class NextHop(Structure):
+    """One of several next hops of a route."""
+
+    _fields_ = [
+        ("index", c_int32),
+        ("flags", c_uint8),
+        ("hops", c_uint8),
+        ("gateway_len", c_uint8),
+        ("gateway", c_uint8 * 16),
+    ]
+
+
+class RouteRequest(Structure):
+    """A route."""
+
+    _fields_ = [
+        ("destination", Bytes),
+        ("source", Bytes),
+        ("gateway", Bytes),
+        ("preferred_source", Bytes),
+        ("metrics", POINTER(Metric)),
+        ("metric_count", c_size_t),
+        ("hops", POINTER(NextHop)),
+        ("hop_count", c_size_t),
+        ("table", c_uint32),
+        ("flags", c_uint32),
+        ("priority", c_uint32),
+        ("oif", c_uint32),
+        ("has_priority", c_bool),
+        ("has_oif", c_bool),
+        ("family", c_uint8),
+        ("destination_length", c_uint8),
+        ("source_length", c_uint8),
+        ("tos", c_uint8),
+        ("protocol", c_uint8),
+        ("scope", c_uint8),
+        ("sort", c_uint8),
+    ]
+
+
+class NeighRequest(Structure):
+    """A neighbour."""
+
+    _fields_ = [
+        ("destination", Bytes),
+        ("link_address", Bytes),
+        ("index", c_int32),
+        ("state", c_uint16),
+        ("vlan", c_uint16),
+        ("has_vlan", c_bool),
+        ("family", c_uint8),
+        ("flags", c_uint8),
+    ]
+
+
+class RuleRequest(Structure):
+    """A rule."""
+
+    _fields_ = [
+        ("source", Bytes),
+        ("destination", Bytes),
+        ("iif", Bytes),
+        ("oif", Bytes),
+        ("table", c_uint32),
+        ("mark", c_uint32),
+        ("mask", c_uint32),
+        ("target", c_uint32),
+        ("suppress_prefix_length", c_uint32),
+        ("priority", c_uint32),
+        ("has_mark", c_bool),
+        ("has_mask", c_bool),
+        ("has_target", c_bool),
+        ("has_suppress_prefix_length", c_bool),
+        ("has_priority", c_bool),
+        ("invert", c_bool),
+        ("family", c_uint8),
+        ("source_length", c_uint8),
+        ("destination_length", c_uint8),
+        ("tos", c_uint8),
+        ("action", c_uint8),
+    ]

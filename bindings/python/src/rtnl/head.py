@@ -2,11 +2,11 @@
 names that the views have."""
 import struct
 from dataclasses import astuple, dataclass
-from ipaddress import IPv4Interface, IPv6Interface
+from ipaddress import IPv4Interface, IPv4Network, IPv6Interface, IPv6Network
 from typing import ClassVar, Tuple, Union
 
 from ._buffers import Order
-from .values import FAMILIES, IPNetwork, Prefix
+from .values import FAMILIES, IPAddress, IPNetwork, Prefix
 
 PrefixLike = Union[Prefix, IPNetwork, IPv4Interface, IPv6Interface]
 """An address and how many of its bits count."""
@@ -148,10 +148,18 @@ class RuleHead(Head):
     """The bits FIB_RULE_*."""
 
 
+def address_and_length(prefix: PrefixLike) -> Tuple[IPAddress, int]:
+    """The address of a prefix, as it is said, and how many bits of it count."""
+    if isinstance(prefix, Prefix):
+        return prefix.address, prefix.length
+    if isinstance(prefix, (IPv4Interface, IPv6Interface)):
+        return prefix.ip, prefix.network.prefixlen
+    if isinstance(prefix, (IPv4Network, IPv6Network)):
+        return prefix.network_address, prefix.prefixlen
+    raise TypeError(f"{prefix!r} is no address with a length: take ip_network or ip_interface")
+
+
 def family_and_length(prefix: PrefixLike) -> Tuple[int, int]:
     """The address family of a prefix, and how many bits of it count."""
-    if isinstance(prefix, Prefix):
-        return int(FAMILIES[prefix.address.version]), prefix.length
-    if isinstance(prefix, (IPv4Interface, IPv6Interface)):
-        prefix = prefix.network
-    return int(FAMILIES[prefix.version]), prefix.prefixlen
+    address, length = address_and_length(prefix)
+    return int(FAMILIES[address.version]), length
