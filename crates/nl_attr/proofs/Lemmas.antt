@@ -2,6 +2,7 @@ pub mod Reading
 pub mod Loop
 pub mod Going
 pub mod Opens
+pub mod Turned
 pub mod Nested
 pub mod Reads
 pub mod Writes

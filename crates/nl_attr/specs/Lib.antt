@@ -12,6 +12,7 @@ pub mod Visits
 pub mod Reading
 pub mod View
 pub mod Views
+pub mod Steps
 pub mod Stored
 pub mod Codes
 pub mod Outcomes

@@ -1,6 +1,8 @@
 -- What a scan of a region puts and counts, head by head and at its end.
-use Rattle.std.specs.Prelude.{◌≡◌, ◌≢◌, ◌+◌, ◌-◌, ℕ, List, [], ◌∷◌, length, map, drop, Option, Some, None, Ok, IfSome}
+use Rattle.std.specs.Prelude.{◌≡◌, ◌≢◌, ◌<◌, ◌+◌, ◌-◌, ◌*◌, ℕ, List, [], ◌∷◌, length, map, drop, Option, Some, None, Ok, IfSome}
 use Rattle.nl_attr.specs.declared.events.Event.{Event}
+use Rattle.nl_attr.specs.declared.events.Room.{Room}
+use Rattle.nl_attr.specs.declared.events.Room.TheVariants.{Ample, Unknown}
 use Rattle.nl_attr.specs.Fixed.{SORT_BYTES}
 use Rattle.nl_attr.specs.declared.order.Order.{Order}
 use Rattle.nl_attr.specs.declared.broken.BrokenHead.{BrokenHead}
@@ -47,6 +49,13 @@ pub record IsHopFront (o : Order) (h : Head) (f : HopFront) : Type 0 where
   pub span : f.span ≡ span_of o 2 h.left
   pub attrs : head_of f.attrs ≡ start_of Route (h.level + 1) (h.place + 8) (payload_of o 8 2 h.left)
   pub rest : head_of f.rest ≡ hops_start h.level (h.place + span_of o 2 h.left) (drop (span_of o 2 h.left) h.left)
+
+-- ---- room
+
+-- of a buffer of so many places, where the next event is put at place `count` and so many bytes are left
+abbrev pub HasRoom : Room → ℕ → ℕ → ℕ → Type 0
+HasRoom Ample count left places = 4 * count + left < 4 * places + 4
+HasRoom Unknown count left places = Unit {0}
 
 -- ---- attributes that hold bytes
 

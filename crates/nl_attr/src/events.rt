@@ -1,6 +1,7 @@
 //! The event of a head: what a scan puts into a buffer.
 
-ghost use Rattle.std.specs.Prelude.{◌≡◌, slice_set};
+ghost use Rattle.std.specs.Prelude.{◌≡◌, length, slice_set};
+ghost use Rattle.nl_attr.specs.Taped.{HasRoom};
 
 /// The sort of a message.
 pub const SORT_MESSAGE: u8 = 0;
@@ -37,6 +38,15 @@ pub struct Event {
     pub net: bool,
 }
 
+/// What is known of a buffer's room for the events of bytes that are left.
+#[derive(Clone, Copy, Debug, PartialEq, Eq)]
+pub enum Room {
+    /// It has room for an event for each four bytes.
+    Ample,
+    /// It may end before an event.
+    Unknown,
+}
+
 impl Event {
     /// Puts the event into a buffer at this place; where the buffer ends before it, nothing is put.
     #[inline(always)]
@@ -45,6 +55,18 @@ impl Event {
     {
         if at < out.len() {
             out[at] = self;
+        }
+    }
+
+    /// Puts the event as `put` does, with no test where the buffer's room is known.
+    #[inline(always)]
+    pub fn put_in(self, out: &mut [Event], at: usize, room: Room)
+        requires { HasRoom room at 4 (length out.old) }
+        ensures { out.new ≡ slice_set out.old at self }
+    {
+        match room {
+            Room::Ample => out[at] = self,
+            Room::Unknown => self.put(out, at),
         }
     }
 }

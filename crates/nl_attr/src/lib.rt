@@ -26,7 +26,7 @@ mod writing;
 pub use appending::{append_bytes, append_list};
 pub use broken::{BrokenHead, HeadKind};
 pub use comparing::{begins_with, begins_with_bytes, begins_with_zeros};
-pub use events::{Event, SORT_BYTES, SORT_HOPS, SORT_LIST, SORT_MESSAGE, SORT_NEXT_HOP};
+pub use events::{Event, Room, SORT_BYTES, SORT_HOPS, SORT_LIST, SORT_MESSAGE, SORT_NEXT_HOP};
 pub use fault::{Fault, LimitFault, ListError, Reason, Tally, UnknownName, WriteError};
 pub use heads::{attr_head, hop_head};
 pub use limits::{
@@ -37,7 +37,7 @@ pub use order::Order;
 pub use payload::Payload;
 pub use reading::{read_list, read_list_ordered};
 pub use scanning::scan_list_ordered;
-pub use taping::{Counts, OpenRegions, Taped, tape_attrs, tape_list};
+pub use taping::{Counts, OpenRegions, Taped, tape_attrs, tape_attrs_in, tape_list};
 pub use tree::{
     Attr, AttrFlags, Content, Ctx, Hop, IFLA_LINKINFO, NLA_F_NESTED, NLA_F_NET_BYTEORDER, NUMBERS,
     RTA_METRICS, RTA_MULTIPATH, Value, holds,

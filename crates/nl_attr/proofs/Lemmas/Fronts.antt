@@ -1,5 +1,5 @@
 -- What stands at the front of a region, part by part, and the step past it.
-use Rattle.std.proofs.Common.{◌≡◌, ℕ, ◌+◌, ◌-◌, ◌%◌, Bool, true, false, cond, nat_eq, unwrap_or, List, [], ◌∷◌, take, drop, length, slice_set, Option, Some, None, refl, sym, ap, subst, ◌∙◌, arith, length-drop}
+use Rattle.std.proofs.Common.{◌≡◌, ℕ, ◌<◌, ◌+◌, ◌-◌, ◌/◌, ◌%◌, Bool, true, false, cond, nat_eq, unwrap_or, List, [], ◌∷◌, take, drop, length, slice_set, Option, Some, None, refl, sym, ap, subst, ◌∙◌, arith, length-drop}
 use Rattle.std.proofs.lemmas.List.{take_all}
 use Rattle.nl_attr.specs.declared.fault.Reason.{Reason}
 use Rattle.nl_attr.specs.declared.order.Order.{Order}
@@ -61,6 +61,22 @@ not_nested c n flags e = plain (named c n) flags.nested (named_container c n) e 
   plain (Some x) b never e = absurd (never (ap Some e))
   plain None true never e = absurd cc
   plain None false never e = refl
+
+-- a type field below both flag bits has none of them
+pub no_flags : (n : ℕ) → n < 16384 → flags_of n ≡ record { nested = false; net = false }
+no_flags n low = both (n / 32768) (n / 16384 % 2) (omega (arith, low)) (omega (arith, low)) where
+  both : (a b : ℕ) → a ≡ 0 → b ≡ 0 → ◌≡◌ {A = AttrFlags} (record { nested = nat_eq a 1; net = nat_eq b 1 }) (record { nested = false; net = false })
+  both a b p q = rw (p, q) refl
+
+-- the event of an attribute of such a type that holds bytes
+pub plain_event : (o : Order) (ctx : Ctx) (l place : ℕ) (left : List ℕ) (len number : ℕ) → number ≡ kind_of o left → number < 16384 → len ≡ length (payload_of o 4 2 left) → content_at o ctx left ≡ content.Bytes
+    → ◌≡◌ {A = Event} (record { place = place; len = len; number = number; level = l; sort = SORT_BYTES; nested = false; net = false }) (event_of o (start_of ctx l place left))
+plain_event o ctx l place left len number kind low is holds =
+    let whole : number % 16384 ≡ number = omega (arith, low) in
+    ap (λ (n : ℕ). (record { place = place; len = len; number = n; level = l; sort = SORT_BYTES; nested = false; net = false })) (sym whole)
+    ∙ ap (λ (f : AttrFlags). (record { place = place; len = len; number = number % 16384; level = l; sort = SORT_BYTES; nested = f.nested; net = f.net })) (sym (no_flags number low))
+    ∙ bytes_event_so o ctx l place left len number (flags_of number) is kind refl
+    ∙ bytes_event o ctx l place left holds
 
 -- what is left behind an item
 pub left_so : (left : List ℕ) (n m : ℕ) → n ≡ m → take (length left - n) (drop n left) ≡ drop m left

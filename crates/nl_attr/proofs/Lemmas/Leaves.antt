@@ -3,6 +3,8 @@ use Rattle.std.proofs.Common.{◌≡◌, ◌≢◌, ℕ, ◌+◌, ◌-◌, ◌*�
 use Rattle.std.proofs.lemmas.Bool.{le-ltb}
 use Rattle.std.proofs.lemmas.List.{drop-drop, length-map, map-append}
 use Rattle.nl_attr.specs.declared.events.Event.{Event}
+use Rattle.nl_attr.specs.declared.events.Room.{Room}
+use Rattle.nl_attr.specs.declared.events.Room.TheVariants.{Ample, Unknown}
 use Rattle.nl_attr.specs.declared.fault.Reason.{Reason}
 use Rattle.nl_attr.specs.declared.region.OpenRegion.{OpenRegion}
 use Rattle.nl_attr.specs.declared.region.Parts.TheVariants.{Attrs}
@@ -22,7 +24,7 @@ use Rattle.nl_attr.specs.declared.order.Order.{Order}
 use Rattle.nl_attr.specs.Heads.{Head, start_of, broken, inner_of, follower}
 use Rattle.nl_attr.specs.HeadOrder.{event_of, put_from}
 use Rattle.nl_attr.specs.Region.{head_of}
-use Rattle.nl_attr.specs.Taped.{IsNext, IsPassing, LeadsTo, Passes, PassesLeaves, Skips, Steps, head_with}
+use Rattle.nl_attr.specs.Taped.{HasRoom, IsNext, IsPassing, LeadsTo, Passes, PassesLeaves, Skips, Steps, head_with}
 use Rattle.nl_attr.proofs.Lemmas.Fronts.{attrs_head, attr_unsound}
 use Rattle.nl_attr.proofs.Lemmas.Scan.{span_within}
 use Rattle.nl_attr.proofs.Lemmas.Putting.{put_none, put_on}
@@ -44,6 +46,15 @@ module _ {S : Shape} {h : Head} {count : ℕ} {old : List Event} {left : List �
   -- there are no more of them than bytes
   pub within : (length left ≤ length h.left) × (n + length left ≤ count + length h.left)
   within = let s = passes_sum S h now.passed (head_with h left) now.passes in (omega (arith, s.0), omega (arith, s.0, s.1, now.counted))
+
+  -- and each has four bytes at least
+  quarter : 4 * n + length left ≤ 4 * count + length h.left
+  quarter = let s = passes_sum S h now.passed (head_with h left) now.passes in omega (arith, s.0, s.1, now.counted)
+
+  -- there is room for one more
+  pub room_now : (room : Room) (places : ℕ) → HasRoom room count (length h.left) places → 4 ≤ length left → HasRoom room n 4 places
+  room_now Ample places r low = omega (arith, quarter, r, low)
+  room_now Unknown places r low = tt
 
   -- where the region stands then
   behind : head_with h (drop (span_of S.order 2 left) left) ≡ follower S (head_with h left)

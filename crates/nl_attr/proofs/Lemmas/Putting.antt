@@ -1,7 +1,10 @@
 -- A buffer into which events are put, one behind the other.
-use Rattle.std.proofs.Common.{◌≡◌, ℕ, zero, suc, ◌+◌, ◌-◌, List, [], ◌∷◌, ◌++◌, length, take, drop, slice_set, refl, sym, ap, ◌∙◌, arith}
+use Rattle.std.proofs.Common.{◌≡◌, ◌≤◌, ℕ, zero, suc, ◌+◌, ◌-◌, ◌*◌, List, [], ◌∷◌, ◌++◌, length, take, drop, slice_set, refl, sym, ap, ◌∙◌, arith}
 use Rattle.std.proofs.lemmas.List.{take-append-drop}
 use Rattle.nl_attr.specs.declared.events.Event.{Event}
+use Rattle.nl_attr.specs.declared.events.Room.{Room}
+use Rattle.nl_attr.specs.declared.events.Room.TheVariants.{Ample, Unknown}
+use Rattle.nl_attr.specs.Taped.{HasRoom}
 use Rattle.nl_attr.specs.HeadOrder.{put_from}
 
 more : (a b : ℕ) → suc a + b ≡ suc (a + b)
@@ -9,6 +12,11 @@ more a b = omega arith
 
 one : (n : ℕ) → 0 + suc n ≡ suc (0 + n)
 one n = omega arith
+
+-- room that is there for some bytes is there for fewer, or with more events before them
+pub room_on : (r : Room) (c l d m places : ℕ) → 4 * d + m ≤ 4 * c + l → HasRoom r c l places → HasRoom r d m places
+room_on Ample c l d m places e h = omega (arith, e, h)
+room_on Unknown c l d m places e h = tt
 
 -- none
 pub put_none : (n : ℕ) (old : List Event) → put_from n [] old ≡ old
@@ -75,6 +83,13 @@ pub put_one : (n : ℕ) (e : Event) (old : List Event) → put_from n (e ∷ [])
 put_one n e [] = put_nowhere n (e ∷ [])
 put_one (suc n) e (x ∷ xs) = put_behind n (e ∷ []) x xs ∙ ap (λ (ys : List Event). x ∷ ys) (put_one n e xs)
 put_one zero e (x ∷ xs) = put_here e [] x xs ∙ ap (λ (ys : List Event). e ∷ ys) (put_none 0 xs)
+
+-- the buffer is as long as it was
+pub put_length : (n : ℕ) (es old : List Event) → length (put_from n es old) ≡ length old
+put_length n es [] = ap (length {A = Event}) (put_nowhere n es)
+put_length (suc n) es (x ∷ xs) = ap (length {A = Event}) (put_behind n es x xs) ∙ ap (λ (k : ℕ). suc k) (put_length n es xs)
+put_length zero [] (x ∷ xs) = ap (length {A = Event}) (put_none 0 (x ∷ xs))
+put_length zero (e ∷ es) (x ∷ xs) = ap (length {A = Event}) (put_here e es x xs) ∙ ap (λ (k : ℕ). suc k) (put_length 0 es xs)
 
 -- behind the last of them the buffer is as it was
 pub put_untouched : (n : ℕ) (es old : List Event) → drop (n + length es) (put_from n es old) ≡ drop (n + length es) old

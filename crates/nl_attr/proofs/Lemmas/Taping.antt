@@ -23,8 +23,8 @@ use Rattle.nl_attr.specs.Heads.{Sort, attr_head, Head, HeadAt, IsSound, broken, 
 use Rattle.nl_attr.specs.HeadOrder.{Trail, counted, trail_of, event_of, put_from, visits_of, fault_of}
 use Rattle.nl_attr.specs.Region.{head_of}
 use Rattle.nl_attr.specs.Taped.{Adds, IsTaped, LeadsTo, Passes, Skips, Steps, found}
-use Rattle.nl_attr.proofs.Lemmas.Grammars.{front, front_on, front_front, weigh-append, behind_then, inside_then, each, trail_ends, trail_stops, trail_goes}
-use Rattle.nl_attr.proofs.Lemmas.Scan.{IsLow, sound_of, inner_is, inner_fills, fills, laws}
+use Rattle.nl_attr.proofs.Lemmas.Grammars.{front, front_on, front_front, weigh-append, behind_then, inside_then, each, trail_ends, trail_stops, trail_goes, walk_bound, weigh}
+use Rattle.nl_attr.proofs.Lemmas.Scan.{IsLow, sound_of, inner_is, inner_fills, fills, few_cost, laws}
 use Rattle.nl_attr.proofs.Lemmas.First.{walk_low}
 use Rattle.nl_attr.proofs.Lemmas.Nested.{whole_fits}
 use Rattle.nl_attr.proofs.Lemmas.Putting.{put_none, put_on, put_untouched}
@@ -340,6 +340,18 @@ module _ {S : Shape} {start : Head} {count : ℕ} {old new : List Event} {t : Ta
       let es = map (event_of S.order) (trail_of S start).0 in
       let n : t.count ≡ count + length es = is.counted ∙ ap (λ (k : ℕ). count + k) (sym (length-map (trail_of S start).0 (event_of S.order))) in
       ap (λ (xs : List Event). drop t.count xs) is.events ∙ ap (λ (k : ℕ). drop k (put_from count es old)) n ∙ put_untouched count es old ∙ ap (λ (k : ℕ). drop k old) (sym n)
+
+-- each head has four bytes of its own at least
+fours : (S : Shape) (hs : List Head) → weigh (heads S) (λ h. 4) hs ≡ 4 * length hs
+fours S [] = omega arith
+fours S (h ∷ hs) = omega (arith, fours S hs)
+
+trail_quarter : (S : Shape) (start : Head) → 4 * length (trail_of S start).0 ≤ length start.left
+unfolding heads
+trail_quarter S start = omega (arith, walk_bound (heads S) (laws S) start (λ h. 4) (λ h. 1) (few_cost S), fours S (trail_of S start).0)
+
+pub taped_quarter : {S : Shape} {start : Head} {count : ℕ} {old new : List Event} {t : Taped} → IsTaped S start count old new t → 4 * t.count ≤ 4 * count + length start.left
+taped_quarter {S = S} {start = start} is = omega (arith, is.counted, trail_quarter S start)
 
 -- the visits have the bound of reading
 pub taped_bound : (S : Shape) (ctx : Ctx) (l place : ℕ) (left : List ℕ) (count : ℕ) (old new : List Event) (t : Taped) → IsTaped S (start_of ctx l place left) count old new t → t.visits ≤ (S.depth - l + 1) * length left

@@ -7,9 +7,9 @@ ghost use Rattle.nl_attr.specs.Open.{TurnsAt, list_rest, list_spot, region_at, G
 use crate::fault::{Fault, ListError};
 use crate::limits::Shape;
 use crate::region::Parts;
-use crate::stack::regions::{ListRegion, container_fault, keep_bytes, layout};
+use crate::stack::regions::{ListRegion, container_fault, keep_bytes, keep_others, layout};
 use crate::tree::{Attr, AttrFlags, Ctx, holds};
-use crate::walk::{CountedAttrs, Part};
+use crate::walk::{CountedAttrs, Part, Step};
 use std::alloc::{AllocError, Global};
 
 /// An attribute whose payload is a region, of which nothing is read.
@@ -77,17 +77,30 @@ pub(super) fn read_walk<'a>(
         (region_at walk.new list.new base level ctx) result }
 {
     'attrs: loop {
-        let part = match walk.step(visits) {
-            None => return Turn::Ends,
-            Some(Err(fault)) => return Turn::Fails(layout(base, fault)),
-            Some(Ok(part)) => part,
-        };
-        match Parts::of(holds(ctx, part.number, part.flags)) {
-            None => match keep_bytes(alloc, list, part.number, part.flags, part.payload) {
-                Ok(()) => continue 'attrs,
-                Err(AllocError) => return Turn::Fails(ListError::Memory),
+        match walk.step(visits) {
+            Step::Ends => return Turn::Ends,
+            Step::Fails(place, reason) => return Turn::Fails(layout(base, Fault { place, reason })),
+            Step::Word(part) => match Parts::of(holds(ctx, part.number, part.flags)) {
+                None => match keep_bytes(alloc, list, part.number, part.flags, part.payload) {
+                    Ok(()) => continue 'attrs,
+                    Err(AllocError) => return Turn::Fails(ListError::Memory),
+                },
+                Some(parts) => return turn_at(part, parts, base, level, shape),
             },
-            Some(parts) => return turn_at(part, parts, base, level, shape),
+            Step::Plain(part) => match Parts::of(holds(ctx, part.number, part.flags)) {
+                None => match keep_bytes(alloc, list, part.number, part.flags, part.payload) {
+                    Ok(()) => continue 'attrs,
+                    Err(AllocError) => return Turn::Fails(ListError::Memory),
+                },
+                Some(parts) => return turn_at(part, parts, base, level, shape),
+            },
+            Step::Flagged(part) => match Parts::of(holds(ctx, part.number, part.flags)) {
+                None => match keep_others(alloc, list, part.number, part.flags, part.payload) {
+                    Ok(()) => continue 'attrs,
+                    Err(AllocError) => return Turn::Fails(ListError::Memory),
+                },
+                Some(parts) => return turn_at(part, parts, base, level, shape),
+            },
         }
     }
 }

@@ -1,6 +1,7 @@
 //! Open regions, and what is collected in them.
 
 ghost use Rattle.std.specs.Prelude.{◌^◌, ◌≡◌, ◌≤◌, ◌<◌, ◌+◌, ◌*◌, [], ◌∷◌, ◌++◌, length, map, take, IfOk};
+ghost use Rattle.std.specs.Prelude.{vec_capacity, vec_len};
 ghost use Rattle.nl_attr.specs.Fixed as fixed;
 ghost use Rattle.nl_attr.specs.Heads.{broken_container, attr_head, hop_head};
 ghost use Rattle.nl_attr.specs.Reading.{items_of_region, hops_of_region};
@@ -157,29 +158,25 @@ pub(super) fn keep_attr(
     Ok(())
 }
 
-/// Adds an attribute of the first bytes of a buffer.
+/// Adds an attribute of the first bytes of a buffer, for which there is room.
 #[inline(always)]
-fn keep_front(
-    list: &mut Vec<Attr>,
-    number: u16,
-    flags: AttrFlags,
-    buffer: [u8; INLINE],
-    len: u8,
-) -> Result<(), AllocError>
-    requires { len ≤ INLINE }
-    ensures { IfOk result (λ _. map attr_view list.new.items
-        ≡ map attr_view list.old.items ++ item number flags (held (take len buffer)) ∷ []) }
+fn keep_front(list: &mut Vec<Attr>, number: u16, flags: AttrFlags, buffer: [u8; INLINE], len: u8)
+    requires len { len ≤ INLINE }
+    requires room { vec_len list.old < vec_capacity list.old }
+    ensures { map attr_view list.new.items
+        ≡ map attr_view list.old.items ++ item number flags (held (take len buffer)) ∷ [] }
 {
-    keep_attr(
-        list,
+    let value = Value::Bytes(Payload::front_of(buffer, len));
+    list.push_reserved(Attr {
         number,
         flags,
-        Value::Bytes(Payload::front_of(buffer, len)),
-    )
+        value,
+    });
 }
 
 /// Adds an attribute of these bytes. Most are addresses or numbers, of one of five lengths, whose
-/// bytes are written out: a copy of a length that is known at run time alone is a call.
+/// bytes are written out: a copy of a length that is known at run time alone is a call. Room is
+/// made once for all of them, so that each is stored where it stays, by no call.
 #[inline(always)]
 pub(super) fn keep_bytes(
     alloc: Global,
@@ -191,44 +188,46 @@ pub(super) fn keep_bytes(
     ensures { IfOk result (λ _. map attr_view list.new.items
         ≡ map attr_view list.old.items ++ item number flags (held payload.now) ∷ []) }
 {
+    list.reserve(1)?;
     match *payload {
         [a, b, c, d] => {
             let buffer = [
                 a, b, c, d, 0, 0, 0, 0, 0, 0, 0, 0, 0, 0, 0, 0, 0, 0, 0, 0, 0, 0, 0,
             ];
-            keep_front(list, number, flags, buffer, 4)
+            keep_front(list, number, flags, buffer, 4);
         }
         [a, b, c, d, e, f, g, h, i, j, k, l, m, n, o, p] => {
             let buffer = [
                 a, b, c, d, e, f, g, h, i, j, k, l, m, n, o, p, 0, 0, 0, 0, 0, 0, 0,
             ];
-            keep_front(list, number, flags, buffer, 16)
+            keep_front(list, number, flags, buffer, 16);
         }
         [a, b, c, d, e, f] => {
             let buffer = [
                 a, b, c, d, e, f, 0, 0, 0, 0, 0, 0, 0, 0, 0, 0, 0, 0, 0, 0, 0, 0, 0,
             ];
-            keep_front(list, number, flags, buffer, 6)
+            keep_front(list, number, flags, buffer, 6);
         }
         [a] => {
             let buffer = [
                 a, 0, 0, 0, 0, 0, 0, 0, 0, 0, 0, 0, 0, 0, 0, 0, 0, 0, 0, 0, 0, 0, 0,
             ];
-            keep_front(list, number, flags, buffer, 1)
+            keep_front(list, number, flags, buffer, 1);
         }
         [a, b, c, d, e, f, g, h] => {
             let buffer = [
                 a, b, c, d, e, f, g, h, 0, 0, 0, 0, 0, 0, 0, 0, 0, 0, 0, 0, 0, 0, 0,
             ];
-            keep_front(list, number, flags, buffer, 8)
+            keep_front(list, number, flags, buffer, 8);
         }
-        _ => keep_others(alloc, list, number, flags, payload),
+        _ => return keep_others(alloc, list, number, flags, payload),
     }
+    Ok(())
 }
 
 /// Adds an attribute of bytes of any number.
 #[inline(never)]
-fn keep_others(
+pub(super) fn keep_others(
     alloc: Global,
     list: &mut Vec<Attr>,
     number: u16,

@@ -4,14 +4,14 @@
 ghost use Rattle.std.specs.Prelude.{◌^◌, ◌≤◌, ◌+◌, ◌-◌, length};
 ghost use Rattle.nl_attr.specs.Fixed as fixed;
 ghost use Rattle.nl_attr.specs.Heads.{start_of};
-ghost use Rattle.nl_attr.specs.Taped.{IsLike, IsPassing, PassesLeaves};
+ghost use Rattle.nl_attr.specs.Taped.{HasRoom, IsLike, IsPassing, PassesLeaves};
 
-use crate::events::Event;
+use crate::events::{Event, Room, SORT_BYTES};
 use crate::fault::Reason;
 use crate::limits::Shape;
 use crate::taping::fronts::attr_front;
-use crate::tree::{Content, Ctx, holds};
-use crate::walk::{head_len, len_at};
+use crate::tree::{AttrFlags, Content, Ctx, NUMBERS, holds};
+use crate::walk::{head_len, kind_at, len_at};
 
 /// What stands behind attributes that hold bytes.
 #[derive(Clone, Copy)]
@@ -43,10 +43,10 @@ pub(super) struct Passed<'a> {
     pub(super) count: usize,
 }
 
-/// Goes past attributes at the front that hold bytes, as long as each ends where a next head could
-/// stand. `end` is the place behind the region, and `key` a context in which attributes hold what
-/// they do in `ctx`: written as a constant it makes a loop that compares no other context's
-/// numbers.
+/// Goes past attributes at the front that hold bytes and have no flag, as long as each ends where a
+/// next head could stand. `end` is the place behind the region, and `key` a context in which
+/// attributes hold what they do in `ctx`: written as a constant it makes a loop that compares no
+/// other context's numbers.
 #[inline(always)]
 fn pass_like<'a>(
     bytes: &'a [u8],
@@ -55,6 +55,7 @@ fn pass_like<'a>(
     ctx: Ctx,
     key: Ctx,
     shape: Shape,
+    room: Room,
     out: &mut [Event],
     count: usize,
 ) -> Passed<'a>
@@ -63,6 +64,7 @@ fn pass_like<'a>(
     requires within { length bytes.now ≤ end }
     requires place { end ≤ fixed.FARTHEST_END }
     requires count { count ≤ 2 ^ 32 + fixed.MOST_VISITS }
+    requires room { HasRoom room count (length bytes.now) (length out.old) }
     ensures { IsPassing shape (start_of ctx level (end - length bytes.now) bytes.now) count
         out.old result.left.now result.count out.new }
 {
@@ -72,25 +74,36 @@ fn pass_like<'a>(
     let limit = bytes.len() / 4 * 4;
     let mut at = 0;
     let mut count = count;
-    'leaves: while at < limit {
+    // How many bytes stand behind the head, up to the limit; at the limit it wraps.
+    let mut behind = limit.wrapping_sub(4);
+    'leaves: while behind <= isize::MAX as usize {
         let left = &bytes[at..];
-        let len = len_at(order, left);
-        let item_end = at + len;
-        if len < 4 || limit < item_end {
+        // A length below 4 wraps to one that no region has.
+        let len = len_at(order, left).wrapping_sub(4);
+        if behind < len {
             break;
         }
-        let attr = attr_front(left, len, start + at as u32, level, ctx, order);
-        match holds(key, attr.event.number, attr.flags) {
+        let number = kind_at(order, left);
+        if number >= NUMBERS {
+            break;
+        }
+        let (nested, net) = (false, false);
+        match holds(key, number, AttrFlags { nested, net }) {
             Content::Bytes => {
-                // It isn't nested: as a constant this takes no bit of its type.
-                let nested = false;
                 Event {
+                    place: start + at as u32,
+                    len: len as u32,
+                    number,
+                    level,
+                    sort: SORT_BYTES,
                     nested,
-                    ..attr.event
+                    net,
                 }
-                .put(out, count);
+                .put_in(out, count, room);
                 count += 1;
-                at = (item_end + 3) / 4 * 4;
+                let span = (len + 7) / 4 * 4;
+                at += span;
+                behind = behind.wrapping_sub(span);
             }
             Content::List(_) | Content::Hops => break,
         }
@@ -102,8 +115,8 @@ fn pass_like<'a>(
 }
 
 /// Goes past attributes at the front that hold bytes, by a loop for each context that knows
-/// containers by their numbers. `end` is the place behind the region. The last of them may be left
-/// where its padding is cut short.
+/// containers by their numbers. `end` is the place behind the region. Those may be left that have a
+/// flag, or the last where its padding is cut short.
 #[inline(always)]
 pub(super) fn pass_leaves<'a>(
     bytes: &'a [u8],
@@ -111,6 +124,7 @@ pub(super) fn pass_leaves<'a>(
     level: u8,
     ctx: Ctx,
     shape: Shape,
+    room: Room,
     out: &mut [Event],
     count: usize,
 ) -> Passed<'a>
@@ -118,13 +132,14 @@ pub(super) fn pass_leaves<'a>(
     requires within { length bytes.now ≤ end }
     requires place { end ≤ fixed.FARTHEST_END }
     requires count { count ≤ 2 ^ 32 + fixed.MOST_VISITS }
+    requires room { HasRoom room count (length bytes.now) (length out.old) }
     ensures { IsPassing shape (start_of ctx level (end - length bytes.now) bytes.now) count
         out.old result.left.now result.count out.new }
 {
     match ctx {
-        Ctx::Route => pass_like(bytes, end, level, ctx, Ctx::Route, shape, out, count),
-        Ctx::Link => pass_like(bytes, end, level, ctx, Ctx::Link, shape, out, count),
-        _ => pass_like(bytes, end, level, ctx, Ctx::Plain, shape, out, count),
+        Ctx::Route => pass_like(bytes, end, level, ctx, Ctx::Route, shape, room, out, count),
+        Ctx::Link => pass_like(bytes, end, level, ctx, Ctx::Link, shape, room, out, count),
+        _ => pass_like(bytes, end, level, ctx, Ctx::Plain, shape, room, out, count),
     }
 }
 

@@ -7,14 +7,14 @@ ghost use Rattle.nl_attr.specs.Fixed as fixed;
 ghost use Rattle.nl_attr.specs.Heads.{start_of};
 ghost use Rattle.nl_attr.specs.Region.{head_of};
 ghost use Rattle.nl_attr.specs.Shape.{shape_of};
-ghost use Rattle.nl_attr.specs.Taped.{IsTaped, found};
+ghost use Rattle.nl_attr.specs.Taped.{HasRoom, IsTaped, found};
 
 mod fronts;
 mod leaves;
 mod steps;
 
 use crate::broken::BrokenHead;
-use crate::events::Event;
+use crate::events::{Event, Room};
 use crate::fault::Reason;
 use crate::limits::{Depth, Shape};
 use crate::order::Order;
@@ -116,6 +116,7 @@ fn tape_region<'a>(
     start: OpenRegion<'a>,
     ctx: Ctx,
     shape: Shape,
+    room: Room,
     out: &mut [Event],
     count: usize,
 ) -> Counts
@@ -126,12 +127,13 @@ fn tape_region<'a>(
     requires size { length start.left.now ≤ fixed.LONGEST_REGION }
     requires place { start.place + length start.left.now ≤ fixed.FARTHEST_END }
     requires count { count ≤ 2 ^ 32 }
+    requires room { HasRoom room count (length start.left.now) (length out.old) }
     ensures { IsTaped shape (head_of start.entry) count out.old out.new
         (found regions.new.broken result) }
 {
     let mut counts = Counts { count, visits: 0 };
     // Most regions hold no region: these are at their end here, and no stack is touched.
-    let mut top = pass_front(start, ctx, shape, out, &mut counts);
+    let mut top = pass_front(start, ctx, shape, room, out, &mut counts);
     if top.left.is_empty() {
         return counts;
     }
@@ -153,6 +155,46 @@ fn tape_region<'a>(
             }
         }
     }
+}
+
+/// Scans a region of attributes, as `tape_attrs` does, into a buffer of whose room this is known.
+#[inline(always)]
+pub fn tape_attrs_in<'a>(
+    regions: &mut OpenRegions<'a>,
+    bytes: &'a [u8],
+    base: u32,
+    ctx: Ctx,
+    level: u8,
+    depth: Depth,
+    order: Order,
+    room: Room,
+    out: &mut [Event],
+    count: usize,
+) -> Counts
+    // No fault has been found.
+    requires none { regions.old.broken ≡ None }
+    requires level { level ≤ depth }
+    requires size { length bytes.now ≤ fixed.LONGEST_REGION }
+    requires place { base + length bytes.now ≤ fixed.FARTHEST_END }
+    requires count { count ≤ 2 ^ 32 }
+    requires room { HasRoom room count (length bytes.now) (length out.old) }
+    // As for `tape_attrs`.
+    ensures taped { IsTaped (shape_of order depth) (start_of ctx level base bytes.now)
+        count out.old out.new (found regions.new.broken result) }
+    ensures bound { result.visits ≤ (depth - level + 1) * length bytes.now }
+    ensures count { result.count ≤ count + result.visits }
+    // A head has at least four bytes that are no other head's.
+    ensures quarter { 4 * result.count ≤ 4 * count + length bytes.now }
+    ensures untouched { drop result.count out.new ≡ drop result.count out.old }
+{
+    let shape = Shape::of(depth, order);
+    let start = OpenRegion {
+        left: bytes,
+        place: base,
+        level,
+        parts: Parts::Attrs(ctx),
+    };
+    tape_region(regions, start, ctx, shape, room, out, count)
 }
 
 /// Scans a region of attributes, as `tape_list` does, and answers the counts alone: the head that
@@ -184,14 +226,10 @@ pub fn tape_attrs<'a>(
     // From the last event on the buffer is as it was.
     ensures untouched { drop result.count out.new ≡ drop result.count out.old }
 {
-    let shape = Shape::of(depth, order);
-    let start = OpenRegion {
-        left: bytes,
-        place: base,
-        level,
-        parts: Parts::Attrs(ctx),
-    };
-    tape_region(regions, start, ctx, shape, out, count)
+    let room = Room::Unknown;
+    tape_attrs_in(
+        regions, bytes, base, ctx, level, depth, order, room, out, count,
+    )
 }
 
 /// Scans a region of attributes, as `read_list_ordered` reads it, and puts the event of each head

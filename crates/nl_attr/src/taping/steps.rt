@@ -3,11 +3,11 @@
 ghost use Rattle.std.specs.Prelude.{◌^◌, ◌≡◌, ◌≢◌, ◌≤◌, ◌<◌, ◌+◌, [], length, Ok};
 ghost use Rattle.nl_attr.specs.Fixed as fixed;
 ghost use Rattle.nl_attr.specs.Heads.{content_at, start_of};
-ghost use Rattle.nl_attr.specs.Taped.{Leads, Skips, Steps, hops_start};
+ghost use Rattle.nl_attr.specs.Taped.{HasRoom, Leads, Skips, Steps, hops_start};
 ghost use Rattle.nl_attr.specs.Region.{head_of};
 ghost use Rattle.nl_attr.specs.Walk.{HeadIs};
 
-use crate::events::Event;
+use crate::events::{Event, Room};
 use crate::fault::Reason;
 use crate::limits::Shape;
 use crate::region::{OpenRegion, Parts};
@@ -84,6 +84,7 @@ pub(super) fn pass_front<'a>(
     region: OpenRegion<'a>,
     ctx: Ctx,
     shape: Shape,
+    room: Room,
     out: &mut [Event],
     counts: &mut Counts,
 ) -> OpenRegion<'a>
@@ -92,12 +93,13 @@ pub(super) fn pass_front<'a>(
     requires parts { region.parts ≡ Parts.Attrs ctx }
     requires count { counts.old.count ≤ 2 ^ 32 + fixed.MOST_VISITS }
     requires visits { counts.old.visits ≤ fixed.MOST_VISITS }
+    requires room { HasRoom room counts.old.count (length region.left.now) (length out.old) }
     ensures { Skips shape (head_of region.entry) (head_of result) counts.old counts.new
         out.old out.new }
 {
     let (bytes, level, count) = (region.left, region.level, counts.count);
     let end = region.place + bytes.len() as u32;
-    let passed = pass_leaves(bytes, end, level, ctx, shape, out, count);
+    let passed = pass_leaves(bytes, end, level, ctx, shape, room, out, count);
     counts.pass(passed.count, bytes.len() - passed.left.len());
     OpenRegion {
         left: passed.left,

@@ -1,27 +1,51 @@
 //! Walks whose steps are counted. Regions are read by these alone, so that no byte of them is
 //! visited without its count.
 
-ghost use Rattle.std.specs.Prelude.{◌≡◌, ◌+◌, ◌≤◌, length};
+ghost use Rattle.std.specs.Prelude.{◌≡◌, ◌+◌, ◌≤◌, length, Ok};
 ghost use Rattle.nl_attr.specs.Fixed as fixed;
-ghost use Rattle.nl_attr.specs.Walk.{GivesHop, GivesPart, span_given};
+ghost use Rattle.nl_attr.specs.Numbers.{kind_of};
+ghost use Rattle.nl_attr.specs.Walk.{GivesHop, GivesPart, HeadIs, IsPart, after, span_given};
+ghost use Rattle.nl_attr.specs.Steps.{given_by};
 
-use crate::fault::Fault;
+use crate::fault::{Fault, Reason};
 use crate::order::Order;
-use crate::walk::{Attrs, HopPart, HopParts, Part};
+use crate::tree::NUMBERS;
+use crate::walk::{HopPart, HopParts, Part, flags_in, head_len, kind_at, len_at, span_at};
 use std::marker::Model;
 
 /// A walk over attributes that hands out none without adding its span to a count.
 #[derive(Drop)]
 pub(crate) struct CountedAttrs<'a> {
-    walk: Attrs<'a>,
+    left: &'a [u8],
+    place: u32,
+    order: Order,
 }
 
 impl<'a> Model for CountedAttrs<'a> {
+    ghost use Rattle.std.specs.Prelude.{◌+◌, ◌≤◌, length};
     ghost use Rattle.nl_attr.specs.Walk.{Region};
+    ghost use Rattle.nl_attr.specs.Fixed.{LONGEST_REGION};
 
     ghost Value = { Region };
 
-    ghost view = { λ c. c.walk };
+    ghost view = { λ c. record { order = c.order; place = c.place; left = c.left.now } };
+
+    ghost invariant = { λ c. c.place + length c.left.now ≤ LONGEST_REGION };
+}
+
+/// A step of a walk over attributes. The kinds of attributes are told apart where reading begins,
+/// so that each is read by code of its own.
+#[derive(Clone, Copy)]
+pub(crate) enum Step<'a> {
+    /// Nothing is left.
+    Ends,
+    /// What is wrong at a place.
+    Fails(u32, Reason),
+    /// An attribute of eight bytes without a flag, as most are.
+    Word(Part<'a>),
+    /// Any other without a flag.
+    Plain(Part<'a>),
+    Flagged(Part<'a>),
 }
 
 impl<'a> CountedAttrs<'a> {
@@ -31,22 +55,64 @@ impl<'a> CountedAttrs<'a> {
         ensures { result ≡ record { order = order; place = 0; left = bytes.now } }
     {
         CountedAttrs {
-            walk: Attrs::of_ordered(bytes, order),
+            left: bytes,
+            place: 0,
+            order,
         }
     }
 
     /// The next attribute, whose span is added to the visits.
     #[inline(always)]
-    pub(crate) fn step(&mut self, visits: &mut u64) -> Option<Result<Part<'a>, Fault>>
+    pub(crate) fn step(&mut self, visits: &mut u64) -> Step<'a>
         requires { visits.old ≤ fixed.MOST_VISITS }
-        ensures steps { GivesPart self.old result self.new }
-        ensures counts { visits.new ≡ visits.old + span_given (λ p. p.span) result }
+        ensures steps { GivesPart self.old (given_by result) self.new }
+        ensures counts { visits.new ≡ visits.old + span_given (λ p. p.span) (given_by result) }
     {
-        let given = self.walk.next();
-        if let Some(Ok(part)) = &given {
-            *visits += part.span as u64;
+        let (left, order) = (self.left, self.order);
+        if left.len() >= 8 && len_at(order, left) == 8 && kind_at(order, left) < NUMBERS {
+            return Step::Word(self.take(8, kind_at(order, left), visits));
         }
-        given
+        if left.is_empty() {
+            return Step::Ends;
+        }
+        match head_len(order, left, 4) {
+            Err(reason) => {
+                self.left = &left[left.len()..];
+                Step::Fails(self.place, reason)
+            }
+            Ok(len) => {
+                let kind = kind_at(order, left);
+                if kind < NUMBERS {
+                    Step::Plain(self.take(len, kind, visits))
+                } else {
+                    Step::Flagged(self.take(len, kind, visits))
+                }
+            }
+        }
+    }
+
+    /// Takes the attribute at the front, of so many bytes and of this type field.
+    #[inline(always)]
+    fn take(&mut self, len: usize, kind: u16, visits: &mut u64) -> Part<'a>
+        requires head { HeadIs self.old.order 4 2 self.old.left (Ok len) }
+        requires kind { kind ≡ kind_of self.old.order self.old.left }
+        requires room { visits.old ≤ fixed.MOST_VISITS }
+        ensures part { IsPart result self.old }
+        ensures after { self.new ≡ after self.old }
+        ensures counts { visits.new ≡ visits.old + result.span }
+    {
+        let (left, place) = (self.left, self.place);
+        let span = span_at(left, len);
+        self.left = &left[span..];
+        self.place += span as u32;
+        *visits += span as u64;
+        Part {
+            number: kind % NUMBERS,
+            flags: flags_in(kind),
+            place,
+            span: span as u32,
+            payload: &left[4..len],
+        }
     }
 }
 

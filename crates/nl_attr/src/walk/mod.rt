@@ -14,7 +14,7 @@ use crate::fault::Reason;
 use crate::order::Order;
 use crate::tree::{AttrFlags, NLA_F_NESTED, NLA_F_NET_BYTEORDER};
 pub use attrs::{Attrs, Part};
-pub(crate) use counted::{CountedAttrs, CountedHopParts};
+pub(crate) use counted::{CountedAttrs, CountedHopParts, Step};
 pub use cursors::{attr_at, hop_at};
 pub use hops::{HopPart, HopParts};
 
