@@ -15,5 +15,9 @@ push (g ∷ fs) f = append_assoc (field_bytes g) (key_bytes fs) (field_bytes f) 
 pub none : {key : List ℕ} → key ≡ [] → IsKeyOf [] key
 none e = record { is = e }
 
+-- as room is made for more, they stay
+pub kept : {fs : List KeyField} {before after : List ℕ} → IsKeyOf fs before → after ≡ before → IsKeyOf fs after
+kept k e = record { is = e ∙ k.is }
+
 pub more : {fs : List KeyField} {before after : List ℕ} → IsKeyOf fs before → (f : KeyField) → after ≡ before ++ field_bytes f → IsKeyOf (fs ++ f ∷ []) after
 more {fs = fs} k f e = record { is = e ∙ ap (λ l. l ++ field_bytes f) k.is ∙ push fs f }

@@ -1,6 +1,6 @@
 //! The key of an entry, as a table keeps it.
 
-ghost use Rattle.std.specs.Prelude.{◌≡◌, ◌∷◌, [], OnOk, nat_eq};
+ghost use Rattle.std.specs.Prelude.{◌≡◌, ◌∷◌, [], length, OnOk, nat_eq};
 ghost use Rattle.std.specs.Cmp.Lexicographic.{pointwise, bytes_decides, nat_list_eq_equiv};
 ghost use Rattle.std.specs.Cmp.{on_equiv, on_per, partial_equiv_from_equiv};
 ghost use Rattle.std.proofs.Common.{ap};
@@ -77,6 +77,19 @@ impl CompactKey {
                 return Ok(());
             }
         }
+        self.fill_long(alloc, order, entry)
+    }
+
+    /// Makes the key of an entry, as `fill`, in a vector.
+    #[inline(never)]
+    fn fill_long<T: Entry>(
+        &mut self,
+        alloc: Global,
+        order: Order,
+        entry: &T,
+    ) -> Result<(), AllocError>
+        ensures key { OnOk result (self.new ≡ T.key_of order entry.now) }
+    {
         self.store = Store::Long(entry.key_ordered(alloc, order)?);
         Ok(())
     }
@@ -132,18 +145,33 @@ impl ShortKey {
 }
 
 impl KeyBuffer for ShortKey {
+    ghost use Rattle.std.specs.Prelude.{◌-◌};
+
     ghost held = { λ k. k };
+
+    ghost room = { λ k. 70 - length k };
 
     #[inline(always)]
     fn append(&mut self, bytes: &[u8]) -> Result<(), AllocError> {
-        let len = self.len as usize;
-        if bytes.len() > INLINE - len {
+        self.make_room(bytes.len())?;
+        self.append_within(bytes);
+        Ok(())
+    }
+
+    #[inline(always)]
+    fn make_room(&mut self, count: usize) -> Result<(), AllocError> {
+        if count > INLINE - self.len as usize {
             return Err(AllocError);
         }
+        Ok(())
+    }
+
+    #[inline(always)]
+    fn append_within(&mut self, bytes: &[u8]) {
+        let len = self.len as usize;
         let end = len + bytes.len();
         self.buffer[len..end].copy_from_slice(bytes);
         self.len = end as u8;
-        Ok(())
     }
 }
 

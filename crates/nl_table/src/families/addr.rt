@@ -1,7 +1,7 @@
 //! The key of an address. Its fields are those of linux/if_addr.h.
 
 use crate::entry::Entry;
-use crate::key::{KeyBuffer, KeyPart, append_parts};
+use crate::key::{KeyBuffer, append_bytes, append_numbers};
 use nl_attr::Order;
 use nl_route::Addr;
 use std::alloc::AllocError;
@@ -21,15 +21,14 @@ impl Entry for Addr {
     /// `IFA_ADDRESS` and `IFA_LOCAL`. The order is not looked at.
     #[inline(always)]
     fn append_key<B: KeyBuffer>(&self, key: &mut B, _order: Order) -> Result<(), AllocError> {
-        append_parts!(
+        append_numbers!(
             key,
-            [
-                KeyPart::Byte(self.head.family),
-                KeyPart::Four(self.head.index),
-                KeyPart::Byte(self.head.prefixlen),
-                KeyPart::Bytes(self.address()),
-                KeyPart::Bytes(self.local()),
-            ],
-        )
+            byte(self.head.family),
+            four(self.head.index),
+            byte(self.head.prefixlen),
+        );
+        append_bytes(key, self.address())?;
+        append_bytes(key, self.local())?;
+        Ok(())
     }
 }

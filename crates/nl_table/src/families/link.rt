@@ -1,7 +1,7 @@
 //! The key of a link. Its fields are those of linux/rtnetlink.h and linux/if_link.h.
 
 use crate::entry::Entry;
-use crate::key::{KeyBuffer, append_parts, interface};
+use crate::key::{KeyBuffer, append_numbers};
 use nl_attr::Order;
 use nl_route::Link;
 use std::alloc::AllocError;
@@ -20,6 +20,7 @@ impl Entry for Link {
     /// A link is kept under its index, `ifi_index`, in 4 bytes.
     #[inline(always)]
     fn append_key<B: KeyBuffer>(&self, key: &mut B, _order: Order) -> Result<(), AllocError> {
-        append_parts!(key, [interface(&self.head.index)])
+        append_numbers!(key, four(self.head.index.cast_unsigned()));
+        Ok(())
     }
 }

@@ -1,7 +1,7 @@
 //! The key of a neighbour. Its fields are those of linux/neighbour.h.
 
 use crate::entry::Entry;
-use crate::key::{KeyBuffer, KeyPart, append_parts, interface};
+use crate::key::{KeyBuffer, append_bytes, append_numbers};
 use nl_attr::Order;
 use nl_route::Neigh;
 use std::alloc::AllocError;
@@ -30,24 +30,22 @@ impl Entry for Neigh {
     /// `NDA_VLAN` in 2 bytes and `NDA_VNI` in 4, each number 0 where it is absent.
     #[inline(always)]
     fn append_key<B: KeyBuffer>(&self, key: &mut B, order: Order) -> Result<(), AllocError> {
-        let family = KeyPart::Byte(self.head.family);
-        let interface = interface(&self.head.ifindex);
-        let flags = KeyPart::Byte(self.head.flags & IDENTIFYING_FLAGS);
-        let address = KeyPart::Bytes(self.dst());
-        if self.head.family != AF_BRIDGE {
-            return append_parts!(key, [family, interface, flags, address]);
-        }
-        append_parts!(
+        append_numbers!(
             key,
-            [
-                family,
-                interface,
-                flags,
-                address,
-                KeyPart::Bytes(self.lladdr()),
-                KeyPart::Two(self.vlan_ordered(order).unwrap_or(0)),
-                KeyPart::Four(self.vni_ordered(order).unwrap_or(0)),
-            ],
-        )
+            byte(self.head.family),
+            four(self.head.ifindex.cast_unsigned()),
+            byte(self.head.flags & IDENTIFYING_FLAGS),
+        );
+        append_bytes(key, self.dst())?;
+        if self.head.family != AF_BRIDGE {
+            return Ok(());
+        }
+        append_bytes(key, self.lladdr())?;
+        append_numbers!(
+            key,
+            two(self.vlan_ordered(order).unwrap_or(0)),
+            four(self.vni_ordered(order).unwrap_or(0)),
+        );
+        Ok(())
     }
 }

@@ -5,7 +5,7 @@ ghost use Rattle.std.specs.Option.{option_copied};
 ghost use Rattle.nl_route.specs.Views.{attrs_in, bytes_view};
 
 use crate::entry::Entry;
-use crate::key::{KeyBuffer, KeyPart, append_parts};
+use crate::key::{KeyBuffer, append_bytes, append_numbers};
 use nl_attr::{Order, find};
 use nl_route::{FRA_IIFNAME, FRA_OIFNAME, Rule};
 use std::alloc::AllocError;
@@ -36,24 +36,22 @@ impl Entry for Rule {
     /// there as the attributes have them, with the zero byte at their end.
     #[inline(always)]
     fn append_key<B: KeyBuffer>(&self, key: &mut B, order: Order) -> Result<(), AllocError> {
-        append_parts!(
+        append_numbers!(key, byte(self.head.family), byte(self.head.dst_len));
+        append_bytes(key, self.dst())?;
+        append_numbers!(key, byte(self.head.src_len));
+        append_bytes(key, self.src())?;
+        append_numbers!(
             key,
-            [
-                KeyPart::Byte(self.head.family),
-                KeyPart::Byte(self.head.dst_len),
-                KeyPart::Bytes(self.dst()),
-                KeyPart::Byte(self.head.src_len),
-                KeyPart::Bytes(self.src()),
-                KeyPart::Byte(self.head.tos),
-                KeyPart::Four(self.table_id_ordered(order)),
-                KeyPart::Four(self.priority_ordered(order).unwrap_or(0)),
-                KeyPart::Byte(self.head.action),
-                KeyPart::Four(self.target_ordered(order).unwrap_or(0)),
-                KeyPart::Four(self.fwmark_ordered(order).unwrap_or(0)),
-                KeyPart::Four(self.fwmask_ordered(order).unwrap_or(0)),
-                KeyPart::Bytes(bytes_of(self, FRA_IIFNAME)),
-                KeyPart::Bytes(bytes_of(self, FRA_OIFNAME)),
-            ],
-        )
+            byte(self.head.tos),
+            four(self.table_id_ordered(order)),
+            four(self.priority_ordered(order).unwrap_or(0)),
+            byte(self.head.action),
+            four(self.target_ordered(order).unwrap_or(0)),
+            four(self.fwmark_ordered(order).unwrap_or(0)),
+            four(self.fwmask_ordered(order).unwrap_or(0)),
+        );
+        append_bytes(key, bytes_of(self, FRA_IIFNAME))?;
+        append_bytes(key, bytes_of(self, FRA_OIFNAME))?;
+        Ok(())
     }
 }
