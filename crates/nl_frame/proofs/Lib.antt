@@ -17,9 +17,11 @@ mod Snocs
 pub mod Puts
 mod Begins
 mod Closes
+mod Hops
 pub mod Ends
 mod Wholes
 pub mod Running
+mod Kept
 mod Rooms
 pub mod Trees
 mod Accepted

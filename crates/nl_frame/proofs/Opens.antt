@@ -1,9 +1,7 @@
 -- Heads that are open, and what changes in a slice.
-use Rattle.std.proofs.Common.{◌≡◌, ℕ, zero, suc, ◌+◌, ◌-◌, ◌≤◌, ◌<◌, List, [], ◌∷◌, ◌++◌, length, take, drop, reverse, replicate, refl, sym, ap, subst, ◌∙◌, arith, Bool, true, false, Option, Some, None, append_assoc, length-append, length-drop}
-use Rattle.std.specs.Prelude.{IsSome}
+use Rattle.std.proofs.Common.{◌≡◌, ℕ, zero, suc, ◌+◌, ◌-◌, ◌≤◌, List, [], ◌∷◌, ◌++◌, length, take, drop, replicate, refl, sym, ap, subst, ◌∙◌, arith, Bool, true, false, Option, Some, None, append_assoc, length-append, length-drop}
 use Rattle.std.specs.List.{splice}
-use Rattle.std.specs.Option.{option_to_list}
-use Rattle.std.proofs.lemmas.List.{reverse-append, length-take, take_at, drop_at, take-append-le, drop-append-le, take-append-drop, take-replicate}
+use Rattle.std.proofs.lemmas.List.{length-take, take_at, drop_at, take-append-le, drop-append-le, take-append-drop, take-replicate}
 use Rattle.std.proofs.Math.Seq.{drop-nil}
 use Rattle.nl_attr.specs.declared.order.Order.{Order}
 use Rattle.nl_attr.specs.declared.tree.AttrFlags.{AttrFlags}
@@ -21,7 +19,7 @@ use Rattle.nl_frame.specs.declared.building.refusal.BuildError.{BuildError}
 use Rattle.nl_frame.specs.declared.building.OpenHead.{OpenHead}
 use Rattle.nl_frame.specs.declared.building.head.FamilyHead.{FamilyHead}
 use Rattle.nl_frame.specs.AnyHeads.{any_head}
-use Rattle.nl_frame.specs.Building.{Built, AreOpen, lacks, grown, opened, top, or_next, begin, begin_refusal, first_refusal, message_begun, header_begun, order_of, settled, has_head}
+use Rattle.nl_frame.specs.Building.{Built, AreOpen, lacks, grown, opened, or_next, begin, begin_refusal, first_refusal, message_begun, header_begun, order_of, settled, has_head}
 
 -- heads among some bytes are among more
 pub are_open_more : (D n m : ℕ) (hs : List OpenHead) → n ≤ m → AreOpen D n hs → AreOpen D m hs
@@ -90,19 +88,6 @@ module _ (len s t : ℕ) (xs field : List ℕ) where
 
   pub back_over : s + length field ≡ t → t ≤ len → len ≤ length xs → drop len (splice xs s t field) ≡ drop len xs
   back_over e h k = ap (drop len) (written_over e h k) ∙ drop_at (splice (take len xs) s t field) (drop len xs) len (over_len e h k)
-
--- ---- the innermost head
-
--- what is closed is the innermost head, and the others stay open
-pub innermost : (hs ks : List OpenHead) (popped : Option OpenHead) (h : OpenHead)
-    → hs ≡ ks ++ option_to_list popped → (0 < length hs → IsSome popped) → Some h ≡ top (reverse hs) → reverse hs ≡ h ∷ reverse ks
-innermost hs ks (Some p) h e f g =
-    let r : reverse hs ≡ p ∷ reverse ks = ap reverse e ∙ reverse-append ks (p ∷ []) in
-    let same : Some h ≡ Some p = g ∙ ap top r in
-    let one : h ≡ p = cc in
-    r ∙ ap (λ y. y ∷ reverse ks) (sym one)
-innermost [] ks None h e f g = absurd (cc)
-innermost (x ∷ xs) ks None h e f g = absurd (let i = f (omega arith) in cc)
 
 -- ---- a message
 

@@ -241,6 +241,14 @@ put_message b kind flags seq port bs =
 abbrev pub end : Built → Built
 end b = settled b (or_next b.refusal (end_refusal b.heads)) (ended b 4)
 
+-- neither flag bit is set
+abbrev pub no_flags : AttrFlags
+no_flags = record { nested = false; net = false }
+
+-- a next hop opens, an attribute of bytes is put into it, and it is closed
+abbrev pub put_hop : Built → ℕ → ℕ → ℤ → ℕ → List ℕ → Built
+put_hop b f c i n bs = close (put (open_hop b f c i) n no_flags bs)
+
 -- why what is built isn't handed out, if it isn't
 abbrev pub finish : Built → Option BuildError
 finish b = or_next b.refusal (finish_refusal b.heads)

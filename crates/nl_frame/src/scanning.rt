@@ -9,7 +9,7 @@ ghost use Rattle.nl_frame.specs.Taped.{Ends, read_refusal};
 ghost use Rattle.nl_frame.specs.HeadOrder.{events_of};
 
 use crate::limits::Limits;
-use crate::taping::tape_messages;
+use crate::taping::{scan_messages, tape_messages};
 use nl_attr::{BrokenHead, Event, Tally};
 use thiserror::Error;
 
@@ -102,7 +102,15 @@ pub fn tape_datagram(bytes: &[u8], limits: &Limits, out: &mut [Event]) -> Counte
 pub fn scan_datagram(bytes: &[u8], limits: &Limits) -> Tally<(), ScanError>
     ensures { ScansDatagram limits.now bytes.now result }
 {
-    let out: &mut [Event] = &mut [];
-    let Counted { scan, count: _ } = tape_datagram(bytes, limits, out);
-    scan
+    if bytes.len() > limits.datagram() as usize {
+        return Tally {
+            result: Err(ScanError::TooLarge),
+            visits: 0,
+        };
+    }
+    let taped = scan_messages(bytes, limits.depth(), limits.order());
+    Tally {
+        result: answer(taped.broken),
+        visits: taped.visits,
+    }
 }

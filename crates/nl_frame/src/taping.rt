@@ -1,10 +1,10 @@
 //! Scanning the messages of a datagram in one pass, which takes no memory and no call stack: each
 //! head is checked, and its event is put into a buffer.
 
-ghost use Rattle.std.specs.Prelude.{◌≡◌, ◌≤◌, ◌+◌, ◌*◌, length, None, IfSome};
+ghost use Rattle.std.specs.Prelude.{◌≡◌, ◌≤◌, ◌+◌, ◌*◌, [], length, None, IfSome};
 ghost use Rattle.nl_attr.specs.Fixed as fixed;
 ghost use Rattle.nl_attr.specs.Shape.{shape_of};
-ghost use Rattle.nl_attr.specs.Taped.{found};
+ghost use Rattle.nl_attr.specs.Taped.{HasRoom, found};
 ghost use Rattle.nl_route.specs.Families.{head_size};
 ghost use Rattle.nl_frame.specs.Broken.{IsBrokenHead, IsBrokenIn};
 ghost use Rattle.nl_frame.specs.Form.{least_body};
@@ -15,7 +15,7 @@ ghost use Rattle.nl_frame.specs.HeadOrder.{header_event, region_trail, trail_of}
 use crate::broken::header_at_fault;
 use crate::form::Form;
 use crate::front::{Frame, front};
-use nl_attr::{Counts, Depth, Event, OpenRegions, Order, SORT_MESSAGE, Taped, tape_attrs};
+use nl_attr::{Counts, Depth, Event, OpenRegions, Order, Room, SORT_MESSAGE, Taped, tape_attrs_in};
 use nl_route::Family;
 
 /// The event of a message's header.
@@ -45,6 +45,7 @@ fn tape_object<'a>(
     place: u32,
     depth: Depth,
     order: Order,
+    room: Room,
     out: &mut [Event],
     count: usize,
 ) -> Counts
@@ -53,6 +54,7 @@ fn tape_object<'a>(
     requires size { length payload.now ≤ fixed.LONGEST_REGION }
     requires place { place + length payload.now ≤ fixed.FARTHEST_END }
     requires count { count ≤ 4294967296 }
+    requires room { HasRoom room count (length payload.now) (length out.old) }
     ensures taped { IsTaped (shape_of order depth) (region_trail (shape_of order depth)
         (region_in (Form.Object family) place payload.now)) count out.old out.new
         (found regions.new.broken result) }
@@ -60,11 +62,12 @@ fn tape_object<'a>(
         (region_in (Form.Object family) place payload.now)) }
     ensures bound { result.visits ≤ (depth + 1) * length payload.now }
     ensures count { result.count ≤ count + result.visits }
+    ensures quarter { 4 * result.count ≤ 4 * count + length payload.now }
 {
     let row = family.row();
     let bytes = &payload[row.head_size..];
     let base = place + row.head_size as u32;
-    tape_attrs(
+    tape_attrs_in(
         regions,
         bytes,
         base,
@@ -72,6 +75,7 @@ fn tape_object<'a>(
         0,
         depth,
         order,
+        room,
         out,
         count,
     )
@@ -86,6 +90,7 @@ fn tape_body<'a>(
     place: u32,
     depth: Depth,
     order: Order,
+    room: Room,
     out: &mut [Event],
     count: usize,
 ) -> Counts
@@ -94,6 +99,7 @@ fn tape_body<'a>(
     requires size { length payload.now ≤ fixed.LONGEST_REGION }
     requires place { place + length payload.now ≤ fixed.FARTHEST_END }
     requires count { count ≤ 4294967296 }
+    requires room { HasRoom room count (length payload.now) (length out.old) }
     ensures taped { IsTaped (shape_of order depth) (region_trail (shape_of order depth)
         (region_in form place payload.now)) count out.old out.new
         (found regions.new.broken result) }
@@ -101,10 +107,13 @@ fn tape_body<'a>(
         (region_in form place payload.now)) }
     ensures bound { result.visits ≤ (depth + 1) * length payload.now }
     ensures count { result.count ≤ count + result.visits }
+    ensures quarter { 4 * result.count ≤ 4 * count + length payload.now }
 {
     match form {
         Form::Object(family) => {
-            tape_object(regions, payload, family, place, depth, order, out, count)
+            tape_object(
+                regions, payload, family, place, depth, order, room, out, count,
+            )
         }
         Form::Noop | Form::Error | Form::Done | Form::Overrun | Form::Get | Form::Other => Counts {
             count,
@@ -121,6 +130,7 @@ fn tape_frame<'a>(
     place: u32,
     depth: Depth,
     order: Order,
+    room: Room,
     out: &mut [Event],
     count: usize,
 ) -> Counts
@@ -129,14 +139,16 @@ fn tape_frame<'a>(
     requires size { length frame.now.payload.now ≤ fixed.LONGEST_REGION }
     requires place { place + 16 + length frame.now.payload.now ≤ fixed.FARTHEST_END }
     requires count { count + 1 ≤ 4294967296 }
+    requires room { HasRoom room count (16 + length frame.now.payload.now) (length out.old) }
     ensures taped { IsFrameTaped (shape_of order depth) frame.now place count
         out.old out.new (found regions.new.broken result) }
     ensures head { IfSome regions.new.broken (IsBrokenIn (shape_of order depth)
         (region_in frame.now.form (place + 16) frame.now.payload.now)) }
     ensures bound { result.visits ≤ (depth + 1) * length frame.now.payload.now }
     ensures count { result.count ≤ count + 1 + result.visits }
+    ensures quarter { 4 * result.count ≤ 4 * count + 16 + length frame.now.payload.now }
 {
-    event_of(frame, place).put(out, count);
+    event_of(frame, place).put_in(out, count, room);
     tape_body(
         regions,
         frame.payload,
@@ -144,6 +156,7 @@ fn tape_frame<'a>(
         place + 16,
         depth,
         order,
+        room,
         out,
         count + 1,
     )
@@ -151,8 +164,9 @@ fn tape_frame<'a>(
 
 /// The messages of a datagram, in an order that the caller writes as a constant.
 #[inline(always)]
-fn tape_ordered(bytes: &[u8], depth: Depth, order: Order, out: &mut [Event]) -> Taped
-    requires { length bytes.now ≤ fixed.LONGEST_REGION }
+fn tape_ordered(bytes: &[u8], depth: Depth, order: Order, room: Room, out: &mut [Event]) -> Taped
+    requires size { length bytes.now ≤ fixed.LONGEST_REGION }
+    requires room { HasRoom room 0 (length bytes.now) (length out.old) }
     ensures taped { IsTaped (shape_of order depth) (trail_of (shape_of order depth)
         (whole bytes.now)) 0 out.old out.new result }
     ensures head { IfSome result.broken
@@ -177,7 +191,7 @@ fn tape_ordered(bytes: &[u8], depth: Depth, order: Order, out: &mut [Event]) -> 
                 };
             }
         };
-        let counts = tape_frame(&mut regions, &frame, place, depth, order, out, count);
+        let counts = tape_frame(&mut regions, &frame, place, depth, order, room, out, count);
         count = counts.count;
         visits += counts.visits;
         if let Some(head) = regions.broken {
@@ -208,10 +222,24 @@ fn tape_big(bytes: &[u8], depth: Depth, out: &mut [Event]) -> Taped
         (IsBrokenHead (shape_of Order.Big depth) (whole bytes.now)) }
     ensures bound { result.visits ≤ (depth + 1) * length bytes.now }
 {
-    tape_ordered(bytes, depth, Order::Big, out)
+    tape_ordered(bytes, depth, Order::Big, Room::Unknown, out)
 }
 
-/// The messages of a datagram, by a loop for each order.
+/// The messages of a datagram in the little order, into a buffer that may end before the last event.
+#[inline(never)]
+fn tape_little(bytes: &[u8], depth: Depth, out: &mut [Event]) -> Taped
+    requires { length bytes.now ≤ fixed.LONGEST_REGION }
+    ensures taped { IsTaped (shape_of Order.Little depth) (trail_of (shape_of Order.Little depth)
+        (whole bytes.now)) 0 out.old out.new result }
+    ensures head { IfSome result.broken
+        (IsBrokenHead (shape_of Order.Little depth) (whole bytes.now)) }
+    ensures bound { result.visits ≤ (depth + 1) * length bytes.now }
+{
+    tape_ordered(bytes, depth, Order::Little, Room::Unknown, out)
+}
+
+/// The messages of a datagram, by a loop for each order, and for the little one by another where
+/// the buffer has room for all events.
 #[inline(always)]
 pub(crate) fn tape_messages(bytes: &[u8], depth: Depth, order: Order, out: &mut [Event]) -> Taped
     requires { length bytes.now ≤ fixed.LONGEST_REGION }
@@ -222,7 +250,30 @@ pub(crate) fn tape_messages(bytes: &[u8], depth: Depth, order: Order, out: &mut 
     ensures bound { result.visits ≤ (depth + 1) * length bytes.now }
 {
     match order {
-        Order::Little => tape_ordered(bytes, depth, Order::Little, out),
+        Order::Little => {
+            if bytes.len() / 4 <= out.len() {
+                tape_ordered(bytes, depth, Order::Little, Room::Ample, out)
+            } else {
+                tape_little(bytes, depth, out)
+            }
+        }
+        Order::Big => tape_big(bytes, depth, out),
+    }
+}
+
+/// The messages of a datagram, of which no event is put: the buffer of no events is made here, so
+/// that the loops show no trace of it.
+pub(crate) fn scan_messages(bytes: &[u8], depth: Depth, order: Order) -> Taped
+    requires { length bytes.now ≤ fixed.LONGEST_REGION }
+    ensures taped { IsTaped (shape_of order depth) (trail_of (shape_of order depth)
+        (whole bytes.now)) 0 [] [] result }
+    ensures head { IfSome result.broken
+        (IsBrokenHead (shape_of order depth) (whole bytes.now)) }
+    ensures bound { result.visits ≤ (depth + 1) * length bytes.now }
+{
+    let out: &mut [Event] = &mut [];
+    match order {
+        Order::Little => tape_ordered(bytes, depth, Order::Little, Room::Unknown, out),
         Order::Big => tape_big(bytes, depth, out),
     }
 }

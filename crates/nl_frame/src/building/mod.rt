@@ -19,8 +19,11 @@ ghost use Rattle.nl_frame.specs.Message.{BodyVal};
 ghost use Rattle.nl_frame.specs.OneList.{IsTheBody, IsTheList};
 ghost use Rattle.nl_frame.specs.Written.{written};
 
+mod beginning;
 mod copying;
 mod head;
+mod hopping;
+mod opening;
 mod parts;
 mod putting;
 mod refusal;
@@ -119,6 +122,7 @@ impl<'a> Builder<'a> {
     }
 
     /// Puts an attribute of these bytes, in two parts.
+    #[inline]
     fn put_parts(
         &mut self,
         number: u16,
@@ -142,6 +146,7 @@ impl<'a> Builder<'a> {
     /// open; `Mismatch` where next hops stand, for a number of 16,384 or more, and for an attribute
     /// that holds attributes or next hops by its context, number and flags; `TooLong` for more than
     /// 65,531 bytes; `NoRoom`; `TooLarge`.
+    #[inline]
     pub fn put_bytes(
         &mut self,
         number: u16,
@@ -158,6 +163,7 @@ impl<'a> Builder<'a> {
 
     /// Puts an attribute that holds this text and one zero byte behind it. It refuses as
     /// `put_bytes`.
+    #[inline]
     pub fn put_text(&mut self, number: u16, flags: AttrFlags, text: &[u8]) -> Result<(), BuildError>
         ensures built { self.new ≡ put self.old number flags (text.now ++ 0 ∷ []) }
         ensures answer { result ≡ answer self.new.refusal }
@@ -168,6 +174,7 @@ impl<'a> Builder<'a> {
     }
 
     /// Puts an attribute that holds this number, in one byte. It refuses as `put_bytes`.
+    #[inline]
     pub fn put_u8(&mut self, number: u16, flags: AttrFlags, value: u8) -> Result<(), BuildError>
         ensures built { self.new ≡ put self.old number flags (value ∷ []) }
         ensures answer { result ≡ answer self.new.refusal }
@@ -179,6 +186,7 @@ impl<'a> Builder<'a> {
 
     /// Puts an attribute that holds this number, in two bytes of this order. It refuses as
     /// `put_bytes`.
+    #[inline]
     pub fn put_u16(
         &mut self,
         number: u16,
@@ -196,6 +204,7 @@ impl<'a> Builder<'a> {
 
     /// Puts an attribute that holds this number, in four bytes of this order. It refuses as
     /// `put_bytes`.
+    #[inline]
     pub fn put_u32(
         &mut self,
         number: u16,
@@ -213,6 +222,7 @@ impl<'a> Builder<'a> {
 
     /// Puts an attribute that holds this number, in eight bytes of this order. It refuses as
     /// `put_bytes`.
+    #[inline]
     pub fn put_u64(
         &mut self,
         number: u16,
@@ -348,10 +358,8 @@ impl<'a> Builder<'a> {
             (bytes.now ≡ written L.shape.order d.ended) × IsTheList L bytes.now d.ended) }
     {
         let Builder { out, parts } = self;
-        if let Some(refusal) = parts.finish_refusal() {
-            return Err(refusal);
-        }
-        Ok(&out[..parts.accepted()])
+        let len = parts.finish()?;
+        Ok(&out[..len])
     }
 }
 

@@ -9,5 +9,10 @@ pub(super) fn put_at(out: &mut [u8], at: usize, bytes: &[u8])
     requires { at + length bytes.now ≤ length out.old }
     ensures { out.new ≡ splice out.old at (at + length bytes.now) bytes.now }
 {
-    out[at..at + bytes.len()].copy_from_slice(bytes);
+    // Of these lengths, those of a word and of addresses, no call copies.
+    match bytes.len() {
+        4 => out[at..at + 4].copy_from_slice(&bytes[..4]),
+        16 => out[at..at + 16].copy_from_slice(&bytes[..16]),
+        len => out[at..at + len].copy_from_slice(bytes),
+    }
 }

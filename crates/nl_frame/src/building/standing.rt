@@ -1,18 +1,12 @@
 //! A builder's parts, which can be kept anywhere, and the way back.
 
-ghost use Rattle.std.specs.Prelude.{◌≡◌, ◌≤◌, Some, OnOk, OnErr, length, reverse};
-ghost use Rattle.std.specs.Option.{option_map};
-ghost use Rattle.nl_frame.specs.AnyHeads.{any_head};
-ghost use Rattle.nl_frame.specs.Building.{answer, or_next};
-ghost use Rattle.nl_frame.specs.Form.{form_of};
-ghost use Rattle.nl_frame.specs.Parts.{AreParts, MayReopen, begin_bytes, head_by};
-ghost use Rattle.nl_frame.specs.Parts.{no_head_refusal, over, reopened, resumed};
+ghost use Rattle.std.specs.Prelude.{◌≡◌, ◌≤◌, OnOk, OnErr, length, reverse};
+ghost use Rattle.nl_frame.specs.Building.{answer};
+ghost use Rattle.nl_frame.specs.Parts.{AreParts, MayReopen, begin_bytes, over, reopened, resumed};
 
-use crate::building::head::FamilyHead;
 use crate::building::parts::BuilderParts;
 use crate::building::refusal::BuildError;
 use crate::building::{OpenHead, levels};
-use crate::form::Form;
 use crate::limits::Limits;
 use thiserror::Error;
 
@@ -65,7 +59,8 @@ impl BuilderParts {
     pub fn limits(&self) -> Limits
         ensures { result ≡ self.now.bounds }
     {
-        self.limits
+        let BuilderParts { limits, .. } = self;
+        *limits
     }
 
     /// How many bytes of the slice are accepted.
@@ -88,7 +83,8 @@ impl BuilderParts {
     pub fn refusal(&self) -> Option<BuildError>
         ensures { result ≡ self.now.refusal }
     {
-        self.refusal
+        let BuilderParts { refusal, .. } = self;
+        *refusal
     }
 
     /// Begins a message whose body's head is in these bytes, as the kernel's struct is, numbers in
@@ -110,37 +106,8 @@ impl BuilderParts {
         ensures answer { result ≡ answer self.new.refusal }
         ensures fits { self.new.len ≤ length out.new }
     {
-        match self.head_in(kind, head) {
-            Some(head) => self.begin(out, kind, flags, seq, port, &head),
-            None => {
-                let refusal = self.no_head_refusal();
-                self.refuse(refusal)
-            }
-        }
-    }
-
-    /// The head of a message of this type that is in these bytes.
-    fn head_in(&self, kind: u16, bytes: &[u8]) -> Option<FamilyHead>
-        ensures { option_map any_head result
-            ≡ head_by (self.now.bounds.shape.order) (form_of kind) bytes.now }
-    {
-        let Form::Object(family) = Form::of(kind) else {
-            return None;
-        };
-        if bytes.len() != family.row().head_size {
-            return None;
-        }
-        Some(FamilyHead::read(family, bytes, self.limits.order()))
-    }
-
-    /// Why no message begins without a head.
-    fn no_head_refusal(&self) -> BuildError
-        ensures { Some result ≡ or_next self.now.refusal (Some (no_head_refusal self.now.heads)) }
-    {
-        match self.refusal {
-            Some(refusal) => refusal,
-            None if self.heads.is_empty() => BuildError::Mismatch,
-            None => BuildError::StillOpen,
-        }
+        let mut top = self.as_top();
+        let opened = top.begin_bytes(out, kind, flags, seq, port, head);
+        self.keep_opened(&top, opened)
     }
 }

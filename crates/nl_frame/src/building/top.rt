@@ -1,12 +1,13 @@
 //! What a builder's calls need of it but for the heads around the innermost.
 
-ghost use Rattle.std.specs.Prelude.{◌≡◌, ◌≤◌, ◌<◌, ◌+◌, ◌∷◌, ◌++◌, List, None, [], drop, length, take};
-ghost use Rattle.std.specs.Prelude.{ℕ, Ok, Err, IfSome, MatchOption, OnErr, OnOk};
+ghost use Rattle.std.specs.Prelude.{◌≡◌, ◌≤◌, ◌<◌, ◌+◌, ◌∷◌, ◌++◌, List, Some, None, [], drop, length};
+ghost use Rattle.std.specs.Prelude.{ℕ, Ok, Err, IfSome, IfNone, MatchOption, OnErr, OnOk, take};
+ghost use Rattle.std.specs.Bool.{MatchBool};
 ghost use Rattle.nl_attr.specs.Fixed as fixed;
 ghost use Rattle.nl_attr.specs.Numbers.{aligned};
 ghost use Rattle.nl_attr.specs.Written.{attr_item, with_padding};
 ghost use Rattle.nl_frame.specs.declared.building.OpenHead.{OpenHead};
-ghost use Rattle.nl_frame.specs.Building.{answer, bytes_refusal, grown, held, lacks, or_next};
+ghost use Rattle.nl_frame.specs.Building.{Built, answer, bytes_refusal, grown, held, lacks, or_next};
 ghost use Rattle.nl_frame.specs.Building.{close, end, finish_refusal, head_ended, length_from};
 ghost use Rattle.nl_frame.specs.Building.{put, top};
 ghost use Rattle.nl_frame.specs.Parts.{over};
@@ -52,6 +53,33 @@ pub(super) fn held_behind(
     }
 }
 
+/// Why so many bytes are not put for an attribute that holds this, where they aren't: the first
+/// refusal, or what it holds, or that it is too long, or what it has no room for.
+#[cold]
+#[inline(never)]
+fn why_not(
+    first: Option<BuildError>,
+    held: Result<Content, BuildError>,
+    len: usize,
+    room: Option<BuildError>,
+) -> BuildError
+    ensures { (b : Built) → (4 + len ≤ fixed.LONGEST_ITEM → room ≡ lacks b (aligned (4 + len)))
+        → (or_next first (bytes_refusal b held len) ≡ None → ⊥)
+        → or_next first (bytes_refusal b held len) ≡ Some result }
+{
+    if let Some(refusal) = first {
+        return refusal;
+    }
+    match held {
+        Err(refusal) => refusal,
+        Ok(Content::List(_) | Content::Hops) => BuildError::Mismatch,
+        Ok(Content::Bytes) => match room {
+            Some(refusal) if len <= LONGEST_ITEM - 4 => refusal,
+            Some(_) | None => BuildError::TooLong,
+        },
+    }
+}
+
 impl BuilderTop {
     /// Why so many bytes have no room, if they haven't.
     #[inline(always)]
@@ -72,13 +100,13 @@ impl BuilderTop {
 
     /// Accepts bytes for which there is room.
     #[inline(always)]
-    fn accept(&mut self, out: &mut [u8], bytes: &[u8])
+    pub(super) fn accept(&mut self, out: &mut [u8], bytes: &[u8])
         requires fits { AreWithin self.old out.old }
         requires lacks { lacks (over (parts_with self.old []) out.old) (length bytes.now) ≡ None }
         ensures built { (hs : List OpenHead) → (over (parts_with self.new hs) out.new)
             ≡ grown (over (parts_with self.old hs) out.old) bytes.now }
         ensures rest { self.new ≡ record self.old { len = self.new.len } }
-        ensures grows { self.old.len ≤ self.new.len }
+        ensures grows { self.new.len ≡ self.old.len + length bytes.now }
         ensures fits { AreWithin self.new out.new }
     {
         put_at(out, self.len, bytes);
@@ -87,7 +115,7 @@ impl BuilderTop {
 
     /// Accepts as many zero bytes, three at most, for which there is room.
     #[inline(always)]
-    fn pad(&mut self, out: &mut [u8], count: usize)
+    pub(super) fn pad(&mut self, out: &mut [u8], count: usize)
         requires fits { AreWithin self.old out.old }
         requires few { count ≤ 3 }
         requires lacks { lacks (over (parts_with self.old []) out.old) count ≡ None }
@@ -99,6 +127,26 @@ impl BuilderTop {
     {
         if count > 0 {
             self.accept(out, &[0; 3][..count]);
+        }
+    }
+
+    /// Whether so many bytes are put for this attribute.
+    #[inline(always)]
+    fn takes(&self, out: &[u8], number: u16, flags: AttrFlags, len: usize) -> bool
+        requires fits { AreWithin self.now out.now }
+        ensures { let why = or_next self.now.refusal
+            (bytes_refusal (over (parts_with self.now []) out.now)
+            (held self.now.head number flags) len)
+            in MatchBool result (why ≡ None) (why ≡ None → ⊥) }
+    {
+        let limit = self.limits.datagram() as usize;
+        if self.refusal.is_some() || len > LONGEST_ITEM - 4 {
+            return false;
+        }
+        let end = self.len + align4(4 + len as u32) as usize;
+        match held_behind(self.head, number, flags) {
+            Ok(Content::Bytes) => end <= out.len() && end <= limit,
+            Ok(_) | Err(_) => false,
         }
     }
 
@@ -116,24 +164,21 @@ impl BuilderTop {
             (bytes_refusal (over (parts_with self.now []) out.now)
             (held self.now.head number flags) len) }
     {
-        if self.refusal.is_some() {
-            return self.refusal;
+        if self.takes(out, number, flags, len) {
+            return None;
         }
-        match held_behind(self.head, number, flags) {
-            Err(refusal) => Some(refusal),
-            Ok(Content::Bytes) => {
-                if len > LONGEST_ITEM - 4 {
-                    return Some(BuildError::TooLong);
-                }
-                self.lacks(out, align4(4 + len as u32) as usize)
-            }
-            Ok(_) => Some(BuildError::Mismatch),
-        }
+        let room = if len > LONGEST_ITEM - 4 {
+            None
+        } else {
+            self.lacks(out, align4(4 + len as u32) as usize)
+        };
+        let held = held_behind(self.head, number, flags);
+        Some(why_not(self.refusal, held, len, room))
     }
 
     /// Accepts an attribute of these bytes, in two parts, for which there is room.
     #[inline(always)]
-    fn accept_attr(
+    pub(super) fn accept_attr(
         &mut self,
         out: &mut [u8],
         number: u16,
@@ -222,6 +267,8 @@ impl BuilderTop {
         ensures built { (hs : List OpenHead) → top hs ≡ self.now.head
             → over (parts_with self.now (drop 1 hs)) out.new
             ≡ head_ended (over (parts_with self.now hs) out.old) hs field.now }
+        ensures headless { IfNone self.now.head (out.new ≡ out.old) }
+        ensures behind { drop self.now.len out.new ≡ drop self.now.len out.old }
         ensures fits { self.now.len ≤ length out.new }
     {
         if let Some(head) = self.head {
@@ -240,6 +287,14 @@ impl BuilderTop {
         ensures built { (hs : List OpenHead) → top hs ≡ self.now.head → length hs ≡ count
             → over (left_with self.now result hs) out.new
             ≡ end (over (parts_with self.now hs) out.old) }
+        ensures few { count ≡ 0
+            → result ≡ or_next self.now.refusal (Some BuildError.NothingOpen) }
+        ensures one { count ≡ 1 → result ≡ self.now.refusal }
+        ensures many { 1 < count → result ≡ or_next self.now.refusal (Some BuildError.StillOpen) }
+        ensures accepted { IfNone result (self.now.refusal ≡ None) }
+        ensures refused { IfSome result (λ _. out.new ≡ out.old) }
+        ensures headless { IfNone self.now.head (out.new ≡ out.old) }
+        ensures behind { drop self.now.len out.new ≡ drop self.now.len out.old }
         ensures fits { self.now.len ≤ length out.new }
     {
         let _limit = self.limits.datagram();
@@ -268,6 +323,11 @@ impl BuilderTop {
         ensures built { (hs : List OpenHead) → top hs ≡ self.now.head → length hs ≡ count
             → over (left_with self.now result hs) out.new
             ≡ close (over (parts_with self.now hs) out.old) }
+        ensures few { count < 2 → result ≡ or_next self.now.refusal (Some BuildError.NothingOpen) }
+        ensures accepted { IfNone result (self.now.refusal ≡ None) }
+        ensures refused { IfSome result (λ _. out.new ≡ out.old) }
+        ensures headless { IfNone self.now.head (out.new ≡ out.old) }
+        ensures behind { drop self.now.len out.new ≡ drop self.now.len out.old }
         ensures fits { self.now.len ≤ length out.new }
     {
         let _limit = self.limits.datagram();

@@ -1,10 +1,10 @@
-use Rattle.std.proofs.Common.{◌≡◌, length, None}
+use Rattle.std.proofs.Common.{◌≡◌, ◌≤◌, ◌*◌, length, None}
 use Rattle.nl_attr.specs.Shape.{shape_of}
 use Rattle.nl_frame.proofs.Tapes.{IsTaping}
 use Rattle.nl_frame.proofs.taping.tape_ordered.Given as goal
 
 abbrev pub invariant-messages : goal.invariant-messages
-invariant-messages l = (l.regions.broken ≡ None) × IsTaping (shape_of l.order l.depth) l.fn.bytes l.fn.out l.count l.visits l.place l.left l.out
+invariant-messages l = (l.regions.broken ≡ None) × (4 * l.count ≤ l.place) × IsTaping (shape_of l.order l.depth) l.fn.bytes l.fn.out l.count l.visits l.place l.left l.out
 
 abbrev pub decreases-messages : goal.decreases-messages
 decreases-messages l = length l.left

@@ -1,18 +1,36 @@
-use Rattle.std.proofs.Common.{◌≡◌, ap, sym, ◌∙◌}
-use Rattle.nl_attr.specs.declared.order.Order.{Order}
-use Rattle.nl_attr.specs.declared.tree.Content.{Content}
-use Rattle.std.specs.Prelude.{Result}
-use Rattle.nl_frame.specs.declared.building.refusal.BuildError.{BuildError}
-use Rattle.nl_frame.specs.Building.{attr_begun, order_of, or_next, open_refusal}
-use Rattle.nl_frame.proofs.Begins.{open_holds}
-use Rattle.nl_frame.specs.Parts.{Parts, over}
+use Rattle.std.proofs.Common.{◌≡◌, ap, sym}
+use Rattle.nl_frame.specs.declared.building.top.BuilderTop.{BuilderTop}
+use Rattle.nl_frame.specs.Building.{Built, open_attr, top}
+use Rattle.nl_frame.specs.Calls as calls
+use Rattle.nl_frame.specs.Parts.{over}
+use Rattle.nl_frame.proofs.Kept.{opened_accepted, opened_inside, opened_limit, opened_over, opened_refused, puts_by, where_ok}
 use Rattle.nl_frame.proofs.building.parts.BuilderParts.open_attr.Goals as goal
+use Rattle.nl_frame.proofs.building.parts.BuilderParts.open_attr.Goals.{After-open_attr-opened, After-keep_opened}
 
-pub returns-in-Ok-clause-puts : goal.returns-in-Ok-clause-puts
-returns-in-Ok-clause-puts c =
-    let b = (over c.args.self.now c.args.out.now) in
-    let o : c.order.result ≡ order_of b = c.order.ensures ∙ ap (λ (p : Parts). p.bounds.shape.order) c.self.view_is in
-    let head = c.attr_head-head.ensures ∙ ap (λ (x : Order). attr_begun x c.args.number c.args.flags) o in
-    let held = c.held-held.ensures in
-    let none = ap (λ (r : Result Content BuildError). or_next b.refusal (open_refusal b r)) (sym held) ∙ sym c.open_refusal.ensures ∙ c.in_default.is in
-    λ d L h. open_holds b (over c.open_head.new.self c.open_head.new.out) d c.args.number c.args.flags c.in-Ok.content c.attr_head-head.result none (sym held ∙ c.in-Ok.is) head c.open_head.ensures.built h
+-- the innermost head is that of the parts
+same_top : (c : After-open_attr-opened) → top c.args.self.now.heads ≡ c.as_top-top.result.head
+same_top c = sym (ap (λ (x : BuilderTop). x.head) c.as_top-top.ensures.value)
+
+pub keep_opened-requires-clause-limit : goal.keep_opened-requires-clause-limit
+keep_opened-requires-clause-limit c = let o = c.open_attr-opened.ensures in opened_limit c.args.self.now _ _ c.as_top-top.ensures.value _ _ c.open_attr-opened.result o.opens o.fits
+
+pub keep_opened-requires-clause-inside : goal.keep_opened-requires-clause-inside
+keep_opened-requires-clause-inside c =
+    let p = (goal.at.keep_opened-requires-clause-inside c).After-open_attr-opened in
+    opened_inside c.args.self.now _ c.open_attr-opened.new.self c.as_top-top.ensures.value c.open_attr-opened.result (c.open_attr-opened.ensures.inside c.args.self.now.heads (same_top p) (sym c.count.ensures)) c.as_top-top.ensures.parts
+
+pub keep_opened-requires-clause-accepted : goal.keep_opened-requires-clause-accepted
+keep_opened-requires-clause-accepted c = opened_accepted c.args.self.now _ _ c.as_top-top.ensures.value _ _ c.open_attr-opened.result c.open_attr-opened.ensures.opens
+
+pub keep_opened-requires-clause-refused : goal.keep_opened-requires-clause-refused
+keep_opened-requires-clause-refused c = opened_refused c.args.self.now _ _ c.as_top-top.ensures.value _ _ c.open_attr-opened.result c.open_attr-opened.ensures.opens
+
+pub returns-clause-built : goal.returns-clause-built
+returns-clause-built c =
+    let p = (goal.at.returns-clause-built c).After-open_attr-opened in
+    let o = c.open_attr-opened.ensures in
+    opened_over c.args.self.now _ _ c.as_top-top.ensures.value _ _ _ c.open_attr-opened.result (λ (b : Built). open_attr b c.args.number c.args.flags) o.opens c.keep_opened.ensures.kept (o.built c.args.self.now.heads (same_top p) (sym c.count.ensures))
+
+pub returns-clause-puts : goal.returns-clause-puts
+returns-clause-puts c =
+    where_ok _ _ _ c.keep_opened.ensures.answer (λ none d L h. puts_by (over c.args.self.now c.args.out.now) _ d (calls.open_attr c.args.number c.args.flags) tt (returns-clause-built c) none h)

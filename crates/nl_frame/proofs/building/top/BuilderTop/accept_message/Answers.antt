@@ -5,14 +5,15 @@ use Rattle.nl_attr.specs.Written.{with_padding}
 use Rattle.nl_route.specs.Fields as fields
 use Rattle.nl_route.proofs.Fields.{length-written}
 use Rattle.nl_frame.specs.Header.{header_fields}
-use Rattle.nl_frame.specs.Building.{Built, grown, order_of}
+use Rattle.nl_frame.specs.Building.{Built, grown}
 use Rattle.nl_frame.proofs.Opens.{grown_twice, few_zeros}
-use Rattle.nl_frame.specs.Parts.{Parts, over}
-use Rattle.nl_frame.proofs.building.parts.BuilderParts.accept_message.Goals as goal
+use Rattle.nl_frame.specs.Parts.{over}
+use Rattle.nl_frame.specs.Tops.{parts_with}
+use Rattle.nl_frame.proofs.building.top.BuilderTop.accept_message.Goals as goal
 
 pub returns-clause-built : goal.returns-clause-built
-returns-clause-built c =
-    let b = (over c.args.self.now c.args.out.now) in
+returns-clause-built c = λ hs.
+    let b = over (parts_with c.args.self.now hs) c.args.out.now in
     let n = c.args.header.len in
     let front = c.bytes-front.result in
     let body = c.args.body.now in
@@ -22,9 +23,8 @@ returns-clause-built c =
     let pad = take (c.align4.result - n) (0 ∷ 0 ∷ 0 ∷ []) in
     let few : c.align4.result - n ≤ 3 = omega (arith, c.align4.ensures) in
     let zeros = few_zeros (c.align4.result - n) (0 ∷ 0 ∷ 0 ∷ []) few refl ∙ ap (λ k. replicate (k - n) 0) c.align4.ensures ∙ ap (λ k. replicate (aligned k - k) 0) len in
-    let o : c.order.result ≡ order_of b = c.order.ensures ∙ ap (λ (p : Parts). p.bounds.shape.order) c.self.view_is in
-    let is = c.bytes-front.ensures ∙ ap (λ (x : Order). fields.written x (header_fields c.args.header)) o in
-    let two = c.accept-2.ensures.built ∙ ap (λ (x : Built). grown x body) c.accept.ensures.built ∙ grown_twice b front body in
-    c.pad.ensures.built ∙ ap (λ (x : Built). grown x pad) two ∙ grown_twice b it pad
+    let is = c.bytes-front.ensures ∙ ap (λ (x : Order). fields.written x (header_fields c.args.header)) c.order.ensures in
+    let two = c.accept-2.ensures.built hs ∙ ap (λ (x : Built). grown x body) (c.accept.ensures.built hs) ∙ grown_twice b front body in
+    c.pad.ensures.built hs ∙ ap (λ (x : Built). grown x pad) two ∙ grown_twice b it pad
     ∙ ap (λ (xs : List ℕ). grown b (it ++ xs)) zeros
     ∙ ap (λ (xs : List ℕ). grown b (with_padding (xs ++ body))) is
