@@ -1,5 +1,5 @@
 -- The lists of a route: its metrics and its next hops.
-use Rattle.std.proofs.Common.{◌≡◌, ℕ, ◌+◌, ◌<◌, ◌==◌, false, List, [], ◌∷◌, ◌++◌, length, get_or, drop, map, refl, sym, subst, ap, ◌∙◌, FitsSigned}
+use Rattle.std.proofs.Common.{◌≡◌, ℕ, ◌+◌, ◌<◌, ◌==◌, false, List, [], ◌∷◌, ◌++◌, length, get_or, drop, map, sym, subst, ap, ◌∙◌, FitsSigned}
 use Rattle.std.specs.Int.{w32}
 use Rattle.nl_attr.specs.Proper.{IsRanged, IsRangedHops}
 use Rattle.std.proofs.lemmas.List.{drop_more}
@@ -13,7 +13,7 @@ use Rattle.nl_request.specs.declared.route.NextHop.{NextHop}
 use Rattle.nl_request.specs.Parts.{no_flags, items_of, calls_of_part}
 use Rattle.nl_request.specs.Gateways.{gateway_bytes, gateway_part}
 use Rattle.nl_request.specs.Route.{metric_part, metrics_part, hops_of, hops_part}
-use Rattle.nl_request.proofs.Runs.{run_both, parts_run}
+use Rattle.nl_request.proofs.Runs.{run_both}
 
 module _ (b closed : Built) where
   -- the list of metrics is there where one is
@@ -40,14 +40,6 @@ pub hop_step : (b next whole : Built) (hs : List NextHop) (i : ℕ) (d : NextHop
 hop_step b next whole hs i d l e f =
     let more = drop (i + 1) hs in
     ap (λ (x : Built). run x (calls_of_hops (hops_of more))) f ∙ sym (first_hop b (get_or hs i d) more) ∙ ap (λ (ys : List NextHop). run b (calls_of_hops (hops_of ys))) (sym (drop_more hs i d l)) ∙ e
-
--- one next hop: it opens, has its gateway, and is closed
-pub hop_run : (b opened filled closed : Built) (h : NextHop) → opened ≡ building.open_hop b h.flags h.hops h.index → filled ≡ run opened (calls_of_part (gateway_part (gateway_bytes h.gateway))) → closed ≡ building.close filled
-    → closed ≡ run b (calls_of_hops (hops_of (h ∷ [])))
-hop_run b opened filled closed h e f g =
-    let is = calls_of_items (items_of (gateway_part (gateway_bytes h.gateway) ∷ [])) in
-    g ∙ ap (λ (x : Built). building.close x) (parts_run opened (gateway_part (gateway_bytes h.gateway) ∷ []) filled (filled, f, refl) ∙ ap (λ (x : Built). run x is) e)
-    ∙ sym (run_both (building.open_hop b h.flags h.hops h.index) is (close ∷ []))
 
 -- the indices of the next hops that are left are in range, and so is that of one before them
 pub hop_ranged : (hs : List NextHop) (i : ℕ) (d : NextHop) → i < length hs → FitsSigned w32 (get_or hs i d).index → IsRangedHops (hops_of (drop (i + 1) hs)) → IsRangedHops (hops_of (drop i hs))

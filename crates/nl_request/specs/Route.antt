@@ -1,5 +1,5 @@
 -- The message of a route's request: rtmsg and attributes of linux/rtnetlink.h.
-use Rattle.std.specs.Prelude.{ℕ, List, [], ◌∷◌, map, Some, None}
+use Rattle.std.specs.Prelude.{ℕ, List, [], ◌∷◌, map, take, Some, None}
 use Rattle.nl_attr.specs.Fixed.{RTA_METRICS, RTA_MULTIPATH}
 use Rattle.nl_attr.specs.declared.order.Order.{Order}
 use Rattle.nl_attr.specs.Numbers.{num}
@@ -64,6 +64,10 @@ route_parts r o =
     ∷ metrics_part o r.metrics.now
     ∷ hops_part r.hops.now
     ∷ []
+
+-- those before the metrics and the next hops
+abbrev pub first_parts : RouteRequest → Order → List Part
+first_parts r o = take 7 (route_parts r o)
 
 -- the whole message
 abbrev pub route_message : RouteRequest → Operation → ℕ → Order → MessageVal

@@ -159,9 +159,9 @@ impl AddrRequest<'_> {
         let head = FamilyHead::Addr(self.head());
         let _ = parts.begin(out, kind, operation.flags(), seq, 0, &head);
         let _ = parts.put_bytes(out, IFA_LOCAL, NO_FLAGS, self.local);
-        put_bytes(parts, out, IFA_ADDRESS, self.peer);
-        put_bytes(parts, out, IFA_BROADCAST, self.broadcast);
-        put_text(parts, out, IFA_LABEL, self.label);
+        let _ = put_bytes(parts, out, IFA_ADDRESS, self.peer);
+        let _ = put_bytes(parts, out, IFA_BROADCAST, self.broadcast);
+        let _ = put_text(parts, out, IFA_LABEL, self.label);
         put_flags(parts, out, self.flags, order);
         put_own(parts, out, self.local, self.peer);
         put_lifetimes(parts, out, self.lifetimes, order);

@@ -1,14 +1,7 @@
 //! The gateway of a next hop.
 
-ghost use Rattle.std.specs.Prelude.{◌≡◌, ◌≤◌, ◌<◌, length, MatchOption, []};
-ghost use Rattle.nl_frame.specs.Calls.{run};
-ghost use Rattle.nl_frame.specs.Parts.{over};
-ghost use Rattle.nl_request.specs.Gateways.{gateway_bytes, gateway_part};
-ghost use Rattle.nl_request.specs.Parts.{calls_of_part};
-
-use crate::parts::NO_FLAGS;
-use nl_frame::BuilderParts;
-use nl_route::RTA_GATEWAY;
+ghost use Rattle.std.specs.Prelude.{◌≡◌, ◌<◌, length, MatchOption, []};
+ghost use Rattle.nl_request.specs.Gateways.{gateway_bytes};
 
 /// How many bytes an address of a gateway has at most.
 const LONGEST_ADDRESS: usize = 16;
@@ -60,18 +53,5 @@ impl Default for Gateway {
             len: 0,
             bytes: [0; LONGEST_ADDRESS],
         }
-    }
-}
-
-/// Puts an attribute of a gateway's address, where there is one.
-pub(crate) fn put_gateway(parts: &mut BuilderParts, out: &mut [u8], gateway: &Gateway)
-    requires fits { parts.old.len ≤ length out.old }
-    ensures built { over parts.new out.new
-        ≡ run (over parts.old out.old) (calls_of_part (gateway_part (gateway_bytes gateway.now))) }
-    ensures fits { parts.new.len ≤ length out.new }
-{
-    let address = gateway.address();
-    if !address.is_empty() {
-        let _ = parts.put_bytes(out, RTA_GATEWAY, NO_FLAGS, address);
     }
 }

@@ -68,7 +68,7 @@ fn put_info(parts: &mut BuilderParts, out: &mut [u8], info: Option<LinkInfo<'_>>
     if let Some(info) = info {
         let _ = parts.open_attr(out, IFLA_LINKINFO, NO_FLAGS);
         let _ = parts.put_bytes(out, IFLA_INFO_KIND, NO_FLAGS, info.kind);
-        put_bytes(parts, out, IFLA_INFO_DATA, info.data);
+        let _ = put_bytes(parts, out, IFLA_INFO_DATA, info.data);
         let _ = parts.close(out);
     }
 }
@@ -114,11 +114,11 @@ impl LinkRequest<'_> {
         let kind = operation.type_of(Family::Link);
         let head = FamilyHead::Link(self.head());
         let _ = parts.begin(out, kind, operation.flags(), seq, 0, &head);
-        put_bytes(parts, out, IFLA_ADDRESS, self.address);
-        put_u32(parts, out, IFLA_MTU, self.mtu, order);
-        put_u32(parts, out, IFLA_MASTER, self.master, order);
-        put_u32(parts, out, IFLA_LINK, self.link, order);
-        put_text(parts, out, IFLA_IFNAME, self.name);
+        let _ = put_bytes(parts, out, IFLA_ADDRESS, self.address);
+        let _ = put_u32(parts, out, IFLA_MTU, self.mtu, order);
+        let _ = put_u32(parts, out, IFLA_MASTER, self.master, order);
+        let _ = put_u32(parts, out, IFLA_LINK, self.link, order);
+        let _ = put_text(parts, out, IFLA_IFNAME, self.name);
         put_info(parts, out, self.info);
         parts.end(out)
     }

@@ -76,9 +76,9 @@ impl NeighRequest<'_> {
         let kind = operation.type_of(Family::Neigh);
         let head = FamilyHead::Neigh(self.head());
         let _ = parts.begin(out, kind, operation.flags(), seq, 0, &head);
-        put_bytes(parts, out, NDA_DST, self.destination);
-        put_bytes(parts, out, NDA_LLADDR, self.link_address);
-        put_u16(parts, out, NDA_VLAN, self.vlan, order);
+        let _ = put_bytes(parts, out, NDA_DST, self.destination);
+        let _ = put_bytes(parts, out, NDA_LLADDR, self.link_address);
+        let _ = put_u16(parts, out, NDA_VLAN, self.vlan, order);
         parts.end(out)
     }
 

@@ -1,15 +1,17 @@
 //! The attributes of a request, each of which is put where there is one.
 //!
-//! A refusal sticks to the builder, and each call behind it changes nothing; so the answer of a
-//! call is dropped here, and that of the message's end is the request's.
+//! A refusal sticks to the builder, and each call behind it changes nothing; so a caller that goes
+//! on behind one puts the same as one that stops there.
 
-ghost use Rattle.std.specs.Prelude.{◌≡◌, ◌≤◌, length};
+ghost use Rattle.std.specs.Prelude.{◌≡◌, ◌≤◌, Some, IfErr, length};
+ghost use Rattle.nl_frame.specs.Building.{answer, put};
 ghost use Rattle.nl_frame.specs.Calls.{run};
 ghost use Rattle.nl_frame.specs.Parts.{over};
-ghost use Rattle.nl_request.specs.Parts.{bytes_part, calls_of_part, number_part, text_part};
+ghost use Rattle.nl_request.specs.Parts.{bytes_part, calls_of_part, no_flags, number_part};
+ghost use Rattle.nl_request.specs.Parts.{text_part};
 
 use nl_attr::{AttrFlags, Order};
-use nl_frame::BuilderParts;
+use nl_frame::{BuildError, BuilderParts};
 
 /// Neither flag bit: ip(8) sends no attribute of a request with one.
 pub(crate) const NO_FLAGS: AttrFlags = AttrFlags {
@@ -17,29 +19,63 @@ pub(crate) const NO_FLAGS: AttrFlags = AttrFlags {
     net: false,
 };
 
+/// Puts an attribute of these bytes, quickest where they are four, an address of IPv4.
+#[inline(always)]
+pub(crate) fn put_address(
+    parts: &mut BuilderParts,
+    out: &mut [u8],
+    number: u16,
+    bytes: &[u8],
+) -> Result<(), BuildError>
+    requires fits { parts.old.len ≤ length out.old }
+    ensures built { over parts.new out.new
+        ≡ put (over parts.old out.old) number no_flags bytes.now }
+    ensures answer { result ≡ answer parts.new.refusal }
+    ensures fits { parts.new.len ≤ length out.new }
+{
+    if let Ok(word) = <[u8; 4]>::try_from(bytes) {
+        return parts.put_bytes(out, number, NO_FLAGS, &word);
+    }
+    parts.put_bytes(out, number, NO_FLAGS, bytes)
+}
+
 /// Puts an attribute of these bytes, where there are some.
 #[inline(always)]
-pub(crate) fn put_bytes(parts: &mut BuilderParts, out: &mut [u8], number: u16, bytes: Option<&[u8]>)
+pub(crate) fn put_bytes(
+    parts: &mut BuilderParts,
+    out: &mut [u8],
+    number: u16,
+    bytes: Option<&[u8]>,
+) -> Result<(), BuildError>
     requires fits { parts.old.len ≤ length out.old }
     ensures built { over parts.new out.new
         ≡ run (over parts.old out.old) (calls_of_part (bytes_part number bytes.entry)) }
+    ensures refused { IfErr result (λ e. parts.new.refusal ≡ Some e) }
     ensures fits { parts.new.len ≤ length out.new }
 {
-    if let Some(bytes) = bytes {
-        let _ = parts.put_bytes(out, number, NO_FLAGS, bytes);
+    match bytes {
+        Some(bytes) => put_address(parts, out, number, bytes),
+        None => Ok(()),
     }
 }
 
 /// Puts an attribute of this text and one zero byte behind it, where there is one.
 #[inline(always)]
-pub(crate) fn put_text(parts: &mut BuilderParts, out: &mut [u8], number: u16, text: Option<&[u8]>)
+pub(crate) fn put_text(
+    parts: &mut BuilderParts,
+    out: &mut [u8],
+    number: u16,
+    text: Option<&[u8]>,
+) -> Result<(), BuildError>
     requires fits { parts.old.len ≤ length out.old }
     ensures built { over parts.new out.new
         ≡ run (over parts.old out.old) (calls_of_part (text_part number text.entry)) }
+    ensures refused { IfErr result (λ e. parts.new.refusal ≡ Some e) }
     ensures fits { parts.new.len ≤ length out.new }
 {
-    if let Some(text) = text {
-        let _ = parts.put_text(out, number, NO_FLAGS, text);
+    match text {
+        Some(text) => parts.put_text(out, number, NO_FLAGS, text),
+        None => Ok(()),
     }
 }
 
@@ -51,14 +87,16 @@ pub(crate) fn put_u32(
     number: u16,
     value: Option<u32>,
     order: Order,
-)
+) -> Result<(), BuildError>
     requires fits { parts.old.len ≤ length out.old }
     ensures built { over parts.new out.new
         ≡ run (over parts.old out.old) (calls_of_part (number_part number 4 order value)) }
+    ensures refused { IfErr result (λ e. parts.new.refusal ≡ Some e) }
     ensures fits { parts.new.len ≤ length out.new }
 {
-    if let Some(value) = value {
-        let _ = parts.put_bytes(out, number, NO_FLAGS, &order.u32_bytes(value));
+    match value {
+        Some(value) => parts.put_bytes(out, number, NO_FLAGS, &order.u32_bytes(value)),
+        None => Ok(()),
     }
 }
 
@@ -70,13 +108,15 @@ pub(crate) fn put_u16(
     number: u16,
     value: Option<u16>,
     order: Order,
-)
+) -> Result<(), BuildError>
     requires fits { parts.old.len ≤ length out.old }
     ensures built { over parts.new out.new
         ≡ run (over parts.old out.old) (calls_of_part (number_part number 2 order value)) }
+    ensures refused { IfErr result (λ e. parts.new.refusal ≡ Some e) }
     ensures fits { parts.new.len ≤ length out.new }
 {
-    if let Some(value) = value {
-        let _ = parts.put_bytes(out, number, NO_FLAGS, &order.u16_bytes(value));
+    match value {
+        Some(value) => parts.put_bytes(out, number, NO_FLAGS, &order.u16_bytes(value)),
+        None => Ok(()),
     }
 }

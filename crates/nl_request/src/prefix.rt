@@ -1,13 +1,13 @@
 //! Prefixes of requests.
 
-ghost use Rattle.std.specs.Prelude.{◌≡◌, ◌≤◌, length};
+ghost use Rattle.std.specs.Prelude.{◌≡◌, ◌≤◌, Some, IfErr, length};
 ghost use Rattle.nl_frame.specs.Calls.{run};
 ghost use Rattle.nl_frame.specs.Parts.{over};
 ghost use Rattle.nl_request.specs.Parts.{calls_of_part};
 ghost use Rattle.nl_request.specs.Prefixes.{prefix_length, prefix_part};
 
-use crate::parts::NO_FLAGS;
-use nl_frame::BuilderParts;
+use crate::parts::put_address;
+use nl_frame::{BuildError, BuilderParts};
 
 /// An address of which the first bits count.
 #[derive(Clone, Copy, Debug)]
@@ -36,13 +36,15 @@ pub(crate) fn put_prefix(
     out: &mut [u8],
     number: u16,
     prefix: Option<Prefix<'_>>,
-)
+) -> Result<(), BuildError>
     requires fits { parts.old.len ≤ length out.old }
     ensures built { over parts.new out.new
         ≡ run (over parts.old out.old) (calls_of_part (prefix_part number prefix.entry)) }
+    ensures refused { IfErr result (λ e. parts.new.refusal ≡ Some e) }
     ensures fits { parts.new.len ≤ length out.new }
 {
-    if let Some(prefix) = prefix {
-        let _ = parts.put_bytes(out, number, NO_FLAGS, prefix.address);
+    match prefix {
+        Some(prefix) => put_address(parts, out, number, prefix.address),
+        None => Ok(()),
     }
 }

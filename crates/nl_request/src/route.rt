@@ -1,20 +1,21 @@
 //! Requests of routes: `ip route`.
 
-ghost use Rattle.std.specs.Prelude.{◌≡◌, ◌≤◌, ◌∷◌, [], map, FitsSigned, OnOk, length};
+ghost use Rattle.std.specs.Prelude.{◌≡◌, ◌≤◌, ◌∷◌, [], map, FitsSigned, IfErr, OnOk, Some, length};
 ghost use Rattle.std.specs.Int.{w32};
 ghost use Rattle.nl_attr.specs.Proper.{IsRangedHops};
-ghost use Rattle.nl_frame.specs.Building.{answer, order_of};
+ghost use Rattle.nl_frame.specs.Building.{answer, close, open_hop, order_of, put_hop};
 ghost use Rattle.nl_frame.specs.Calls.{and_message, calls_of_hops, calls_of_items};
 ghost use Rattle.nl_frame.specs.Calls.{run, with_message};
 ghost use Rattle.nl_frame.specs.Draft.{Draft, Holds};
 ghost use Rattle.nl_frame.specs.Limits.{Bounds};
 ghost use Rattle.nl_frame.specs.Parts.{over};
 ghost use Rattle.nl_request.specs.Parts.{calls_of_part, items_of};
-ghost use Rattle.nl_request.specs.Route.{hops_of, hops_part, metric_part, metrics_part};
-ghost use Rattle.nl_request.specs.Route.{route_head, route_message};
+ghost use Rattle.nl_request.specs.Route.{first_parts, hops_of, hops_part, metric_part};
+ghost use Rattle.nl_request.specs.Route.{metrics_part, route_head, route_message};
+ghost use Rattle.nl_route.specs.Route as fields;
 
 use crate::asked::Asked;
-use crate::gateway::{Gateway, put_gateway};
+use crate::gateway::Gateway;
 use crate::operation::Operation;
 use crate::parts::{NO_FLAGS, put_bytes, put_u32};
 use crate::prefix::{Prefix, length_of, put_prefix};
@@ -103,6 +104,7 @@ fn put_each_metric(parts: &mut BuilderParts, out: &mut [u8], metrics: &[Metric],
 }
 
 /// Puts the metrics, where there is one.
+#[inline(always)]
 fn put_metrics(parts: &mut BuilderParts, out: &mut [u8], metrics: &[Metric], order: Order)
     requires fits { parts.old.len ≤ length out.old }
     ensures built { over parts.new out.new
@@ -116,7 +118,29 @@ fn put_metrics(parts: &mut BuilderParts, out: &mut [u8], metrics: &[Metric], ord
     }
 }
 
-/// Puts a next hop.
+/// Puts a next hop that has no gateway.
+fn put_bare_hop(parts: &mut BuilderParts, out: &mut [u8], hop: &NextHop)
+    requires fits { parts.old.len ≤ length out.old }
+    ensures built { over parts.new out.new
+        ≡ close (open_hop (over parts.old out.old) hop.now.flags hop.now.hops hop.now.index) }
+    ensures fits { parts.new.len ≤ length out.new }
+{
+    let _ = parts.open_hop(out, hop.flags, hop.hops, hop.index);
+    let _ = parts.close(out);
+}
+
+/// Puts a next hop that has this gateway.
+#[inline(never)]
+fn put_long_hop(parts: &mut BuilderParts, out: &mut [u8], hop: &NextHop, address: &[u8])
+    requires fits { parts.old.len ≤ length out.old }
+    ensures built { over parts.new out.new ≡ put_hop (over parts.old out.old)
+        hop.now.flags hop.now.hops hop.now.index fields.RTA_GATEWAY address.now }
+    ensures fits { parts.new.len ≤ length out.new }
+{
+    let _ = parts.put_hop(out, hop.flags, hop.hops, hop.index, RTA_GATEWAY, address);
+}
+
+/// Puts a next hop, quickest where its gateway has four bytes, an address of IPv4.
 fn put_hop(parts: &mut BuilderParts, out: &mut [u8], hop: &NextHop)
     requires fits { parts.old.len ≤ length out.old }
     ensures built { over parts.new out.new
@@ -124,9 +148,15 @@ fn put_hop(parts: &mut BuilderParts, out: &mut [u8], hop: &NextHop)
     ensures fits { parts.new.len ≤ length out.new }
     ensures ranged { FitsSigned w32 hop.now.index }
 {
-    let _ = parts.open_hop(out, hop.flags, hop.hops, hop.index);
-    put_gateway(parts, out, &hop.gateway);
-    let _ = parts.close(out);
+    let (flags, hops, index) = (hop.flags, hop.hops, hop.index);
+    let address = hop.gateway.address();
+    if let Ok(word) = <[u8; 4]>::try_from(address) {
+        let _ = parts.put_hop(out, flags, hops, index, RTA_GATEWAY, &word);
+    } else if address.is_empty() {
+        put_bare_hop(parts, out, hop);
+    } else {
+        put_long_hop(parts, out, hop, address);
+    }
 }
 
 /// Puts each next hop, one behind another.
@@ -143,6 +173,7 @@ fn put_each_hop(parts: &mut BuilderParts, out: &mut [u8], hops: &[NextHop])
 }
 
 /// Puts the next hops, where there is one.
+#[inline(always)]
 fn put_hops(parts: &mut BuilderParts, out: &mut [u8], hops: &[NextHop])
     requires fits { parts.old.len ≤ length out.old }
     ensures built { over parts.new out.new
@@ -175,6 +206,32 @@ impl RouteRequest<'_> {
         }
     }
 
+    /// Puts its attributes but for the metrics and the next hops, up to the first refusal.
+    #[inline(always)]
+    fn put_first(
+        &self,
+        parts: &mut BuilderParts,
+        out: &mut [u8],
+        order: Order,
+    ) -> Result<(), BuildError>
+        requires fits { parts.old.len ≤ length out.old }
+        ensures built { over parts.new out.new ≡ run (over parts.old out.old)
+            (calls_of_items (items_of (first_parts self.now order))) }
+        ensures refused { IfErr result (λ e. parts.new.refusal ≡ Some e) }
+        ensures fits { parts.new.len ≤ length out.new }
+    {
+        if let Some(refusal) = parts.refusal() {
+            return Err(refusal);
+        }
+        put_prefix(parts, out, RTA_DST, self.destination)?;
+        put_prefix(parts, out, RTA_SRC, self.source)?;
+        put_bytes(parts, out, RTA_GATEWAY, self.gateway)?;
+        put_bytes(parts, out, RTA_PREFSRC, self.preferred_source)?;
+        put_u32(parts, out, RTA_PRIORITY, self.priority, order)?;
+        put_table(parts, out, RTA_TABLE, self.table, order)?;
+        put_u32(parts, out, RTA_OIF, self.oif, order)
+    }
+
     /// Puts the message of this request by a builder's parts into their slice, with this sequence
     /// number and port id 0: `RTA_DST`, `RTA_SRC`, `RTA_GATEWAY`, `RTA_PREFSRC`, `RTA_PRIORITY`,
     /// `RTA_TABLE`, `RTA_OIF`, `RTA_METRICS` and `RTA_MULTIPATH`, as far as they are there.
@@ -203,13 +260,7 @@ impl RouteRequest<'_> {
         let kind = operation.type_of(Family::Route);
         let head = FamilyHead::Route(self.head());
         let _ = parts.begin(out, kind, operation.flags(), seq, 0, &head);
-        put_prefix(parts, out, RTA_DST, self.destination);
-        put_prefix(parts, out, RTA_SRC, self.source);
-        put_bytes(parts, out, RTA_GATEWAY, self.gateway);
-        put_bytes(parts, out, RTA_PREFSRC, self.preferred_source);
-        put_u32(parts, out, RTA_PRIORITY, self.priority, order);
-        put_table(parts, out, RTA_TABLE, self.table, order);
-        put_u32(parts, out, RTA_OIF, self.oif, order);
+        let _ = self.put_first(parts, out, order);
         put_metrics(parts, out, self.metrics, order);
         put_hops(parts, out, self.hops);
         parts.end(out)

@@ -104,22 +104,22 @@ impl RuleRequest<'_> {
         let kind = operation.type_of(Family::Rule);
         let head = FamilyHead::Rule(self.head());
         let _ = parts.begin(out, kind, operation.flags(), seq, 0, &head);
-        put_prefix(parts, out, FRA_SRC, self.source);
-        put_prefix(parts, out, FRA_DST, self.destination);
-        put_u32(parts, out, FRA_FWMARK, self.mark, order);
-        put_u32(parts, out, FRA_FWMASK, self.mask, order);
-        put_text(parts, out, FRA_IIFNAME, self.iif);
-        put_text(parts, out, FRA_OIFNAME, self.oif);
-        put_table(parts, out, FRA_TABLE, self.table, order);
-        put_u32(parts, out, FRA_GOTO, self.target, order);
-        put_u32(
+        let _ = put_prefix(parts, out, FRA_SRC, self.source);
+        let _ = put_prefix(parts, out, FRA_DST, self.destination);
+        let _ = put_u32(parts, out, FRA_FWMARK, self.mark, order);
+        let _ = put_u32(parts, out, FRA_FWMASK, self.mask, order);
+        let _ = put_text(parts, out, FRA_IIFNAME, self.iif);
+        let _ = put_text(parts, out, FRA_OIFNAME, self.oif);
+        let _ = put_table(parts, out, FRA_TABLE, self.table, order);
+        let _ = put_u32(parts, out, FRA_GOTO, self.target, order);
+        let _ = put_u32(
             parts,
             out,
             FRA_SUPPRESS_PREFIXLEN,
             self.suppress_prefix_length,
             order,
         );
-        put_u32(parts, out, FRA_PRIORITY, self.priority, order);
+        let _ = put_u32(parts, out, FRA_PRIORITY, self.priority, order);
         parts.end(out)
     }
 

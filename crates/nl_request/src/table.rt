@@ -1,6 +1,6 @@
 //! The routing table of a request.
 
-ghost use Rattle.std.specs.Prelude.{◌≡◌, ◌≤◌, length};
+ghost use Rattle.std.specs.Prelude.{◌≡◌, ◌≤◌, Some, IfErr, length};
 ghost use Rattle.nl_frame.specs.Calls.{run};
 ghost use Rattle.nl_frame.specs.Parts.{over};
 ghost use Rattle.nl_request.specs.Parts.{calls_of_part};
@@ -8,7 +8,7 @@ ghost use Rattle.nl_request.specs.Tables.{head_table, table_part};
 
 use crate::parts::NO_FLAGS;
 use nl_attr::Order;
-use nl_frame::BuilderParts;
+use nl_frame::{BuildError, BuilderParts};
 
 /// The table's number in a head: 0 where it doesn't fit the byte.
 #[inline(always)]
@@ -26,13 +26,15 @@ pub(crate) fn put_table(
     number: u16,
     table: u32,
     order: Order,
-)
+) -> Result<(), BuildError>
     requires fits { parts.old.len ≤ length out.old }
     ensures built { over parts.new out.new
         ≡ run (over parts.old out.old) (calls_of_part (table_part number order table)) }
+    ensures refused { IfErr result (λ e. parts.new.refusal ≡ Some e) }
     ensures fits { parts.new.len ≤ length out.new }
 {
     if table >= 256 {
-        let _ = parts.put_bytes(out, number, NO_FLAGS, &order.u32_bytes(table));
+        return parts.put_bytes(out, number, NO_FLAGS, &order.u32_bytes(table));
     }
+    Ok(())
 }

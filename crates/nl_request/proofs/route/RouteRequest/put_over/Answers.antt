@@ -3,7 +3,7 @@ use Rattle.nl_attr.specs.declared.order.Order.{Order}
 use Rattle.nl_route.specs.declared.family.Family.TheVariants as family
 use Rattle.nl_route.specs.declared.rtmsg.RouteHead.{RouteHead}
 use Rattle.nl_route.specs.Families.{any}
-use Rattle.nl_request.specs.Route.{route_head, route_parts, route_message}
+use Rattle.nl_request.specs.Route.{first_parts, metrics_part, route_head, route_parts, route_message}
 use Rattle.nl_request.specs.Parts.{request}
 use Rattle.nl_frame.specs.Calls.{with_message}
 use Rattle.nl_frame.specs.Limits.{Bounds}
@@ -15,52 +15,24 @@ use Rattle.nl_frame.specs.Calls.{end}
 use Rattle.nl_frame.proofs.Running.{before}
 use Rattle.nl_request.specs.Route.{hops_part}
 use Rattle.nl_request.specs.Parts.{calls_of_part}
-use Rattle.nl_request.proofs.Runs.{Puts, request_run}
+use Rattle.nl_request.proofs.Runs.{parts_more, parts_run, request_made}
 use Rattle.nl_request.proofs.route.RouteRequest.put_over.Goals as goal
 
 pub returns-clause-built : goal.returns-clause-built
 returns-clause-built c =
     let b = over c.args.parts.now c.args.out.now in
+    let begun = over c.begin.new.self c.begin.new.out in
+    let first = over c.put_first.new.parts c.put_first.new.out in
+    let filled = over c.put_hops.new.parts c.put_hops.new.out in
     let r = c.args.self.now in
     let op = c.args.operation in
-    let ps = route_parts r c.order-order.result in
-    let filled = over c.put_hops.new.parts c.put_hops.new.out in
-    let puts : Puts (over c.begin.new.self c.begin.new.out) ps filled = (
-      over c.put_prefix.new.parts c.put_prefix.new.out,
-      c.put_prefix.ensures.built,
-      (
-        over c.put_prefix-2.new.parts c.put_prefix-2.new.out,
-        c.put_prefix-2.ensures.built,
-        (
-          over c.put_bytes.new.parts c.put_bytes.new.out,
-          c.put_bytes.ensures.built,
-          (
-            over c.put_bytes-2.new.parts c.put_bytes-2.new.out,
-            c.put_bytes-2.ensures.built,
-            (
-              over c.put_u32.new.parts c.put_u32.new.out,
-              c.put_u32.ensures.built,
-              (
-                over c.put_table.new.parts c.put_table.new.out,
-                c.put_table.ensures.built,
-                (
-                  over c.put_u32-2.new.parts c.put_u32-2.new.out,
-                  c.put_u32-2.ensures.built,
-                  (
-                    over c.put_metrics.new.parts c.put_metrics.new.out,
-                    c.put_metrics.ensures.built,
-                    (filled, c.put_hops.ensures.built, refl),
-                  ),
-                ),
-              ),
-            ),
-          ),
-        ),
-      ),
-    ) in
-    request_run b (over c.begin.new.self c.begin.new.out) filled (over c.end.new.self c.end.new.out) op _ _ c.args.seq (any family.Route c.head.result) ps c.begin.ensures.built puts c.end.ensures.built c.type_of-kind.ensures c.flags.ensures
-    ∙ ap (λ (h : RouteHead). with_message b (request op c.args.seq (any family.Route h) ps)) c.head.ensures
-    ∙ ap (λ (o : Order). with_message b (route_message r op c.args.seq o)) (c.order-order.ensures ∙ ap (λ (x : Bounds). x.shape.order) c.limits.ensures)
+    let o = c.order-order.result in
+    let lists = metrics_part o r.metrics.now ∷ hops_part r.hops.now ∷ [] in
+    let put = parts_run first lists filled (over c.put_metrics.new.parts c.put_metrics.new.out, c.put_metrics.ensures.built, (filled, c.put_hops.ensures.built, refl)) in
+    let all = parts_more begun first filled (first_parts r o) lists c.put_first.ensures.built put in
+    request_made b begun filled (over c.end.new.self c.end.new.out) op _ _ c.args.seq (any family.Route c.head.result) (route_parts r o) c.begin.ensures.built all c.end.ensures.built c.type_of-kind.ensures c.flags.ensures
+    ∙ ap (λ (h : RouteHead). with_message b (request op c.args.seq (any family.Route h) (route_parts r o))) c.head.ensures
+    ∙ ap (λ (x : Order). with_message b (route_message r op c.args.seq x)) (c.order-order.ensures ∙ ap (λ (x : Bounds). x.shape.order) c.limits.ensures)
 
 pub returns-clause-puts : goal.returns-clause-puts
 returns-clause-puts c =
@@ -69,5 +41,5 @@ returns-clause-puts c =
     on_ok c.end.result c.end.new.self.refusal c.end.ensures.answer (λ none.
     let before_end : c.put_hops.new.parts.refusal ≡ None = before (over c.put_hops.new.parts c.put_hops.new.out) (end ∷ []) (ap (λ (x : Built). x.refusal) (sym c.end.ensures.built) ∙ none) in
     let before_hops : c.put_metrics.new.parts.refusal ≡ None = before (over c.put_metrics.new.parts c.put_metrics.new.out) (calls_of_part (hops_part r.hops.now)) (ap (λ (x : Built). x.refusal) (sym c.put_hops.ensures.built) ∙ before_end) in
-    let small = metrics_small (over c.put_u32-2.new.parts c.put_u32-2.new.out) (over c.put_metrics.new.parts c.put_metrics.new.out) c.order-order.result r.metrics.now c.put_metrics.ensures.built before_hops in
+    let small = metrics_small (over c.put_first.new.parts c.put_first.new.out) (over c.put_metrics.new.parts c.put_metrics.new.out) c.order-order.result r.metrics.now c.put_metrics.ensures.built before_hops in
     request_holds c.args.operation c.args.seq (any family.Route (route_head r)) (route_parts r (order_of b)) (route_fits r (order_of b) small c.put_hops.ensures.ranged) b (over c.begin.new.self c.begin.new.out) (over c.end.new.self c.end.new.out) c.type_of-kind.ensures c.flags.ensures (ap (any family.Route) c.head.ensures) c.begin.result c.begin.ensures.built c.begin.ensures.answer c.begin.ensures.puts (returns-clause-built c) none)
