@@ -1,6 +1,6 @@
 -- A builder that C keeps: its heads, and the way back.
-use Rattle.std.proofs.Common.{◌≡◌, ◌≢◌, ◌==◌, true, false, ℕ, ◌+◌, ◌-◌, ◌<◌, ◌≤◌, ◌⊎◌, List, [], ◌∷◌, length, slice_index_or, slice_set, drop, length-drop, Option, Some, None, Result, Ok, Err, refl, sym, ap, subst, ◌∙◌, arith, inl, inr}
-use Rattle.std.specs.Prelude.{IfSome, MatchOption}
+use Rattle.std.proofs.Common.{◌≡◌, ◌≢◌, ◌==◌, ℕ, ◌+◌, ◌-◌, ◌<◌, ◌≤◌, ◌⊎◌, List, [], ◌∷◌, length, slice_index_or, slice_set, drop, length-drop, Option, Some, None, Result, Ok, Err, refl, sym, ap, subst, ◌∙◌, arith, inl, inr}
+use Rattle.std.specs.Prelude.{IfOk, IfSome, MatchOption}
 use Rattle.std.proofs.lemmas.List.{get_or-set_same, get_or-set_other}
 use Rattle.std.proofs.Math.Nat.{eq-or-lt_of_le}
 use Rattle.nl_attr.specs.declared.order.Order.{Order}
@@ -14,12 +14,12 @@ use Rattle.nl_frame.specs.declared.building.refusal.BuildError.TheVariants.{Mism
 use Rattle.nl_frame.specs.Building.{Built, AreOpen, levels_in, order_of, top}
 use Rattle.nl_frame.specs.declared.building.top.BuilderTop.{BuilderTop}
 use Rattle.nl_frame.specs.Limits.{Bounds, AreLimits, bounds_of}
-use Rattle.nl_frame.specs.Tops.{left_with, parts_with}
+use Rattle.nl_frame.specs.Tops.{Opens, heads_after, left_with, parts_with}
 use Rattle.nl_frame.proofs.Opens.{are_open_more}
-use Rattle.nl_frame.specs.Parts.{Parts, AreParts, over, resumed}
+use Rattle.nl_frame.specs.Parts.{over}
 use Rattle.rtnl_c.specs.declared.building.KeptBuilder.{KeptBuilder}
 use Rattle.rtnl_c.specs.Options.{order_in}
-use Rattle.rtnl_c.specs.Building.{AreKept, HasNone, IsInnermost, IsKept, IsNone, IsTopOf, Reopens, Calls, on_none, calls, content_in, content_number, left_closed, order_by, order_number, refusal_in, refusal_number}
+use Rattle.rtnl_c.specs.Building.{AreKept, HasNone, IsInnermost, IsKept, IsNone, IsTopOf, Calls, on_none, calls, content_in, content_number, left_closed, order_by, order_number, refusal_in, refusal_number, with_opened}
 
 -- ---- numbers
 
@@ -161,33 +161,6 @@ ordered call old new before after code (on_none n) = on_none n
 ordered call old new before after code (calls p q is kept bytes e k) =
     calls p q is kept bytes (e ∙ ap (λ o. call o (over p before)) (kept_order old.big p.bounds.shape.order is.big)) k
 
--- what is kept is a builder's again
-pub restored : (k : KeptBuilder) (room : ℕ) (o : Order) (r : Option BuildError) (p q : Parts) → order_by k.big ≡ Some o → refusal_in k.refusal ≡ Some r
-    → p ≡ resumed (bounds_of o k.depth k.datagram k.total k.entries) k.len r → k.len ≤ room → Reopens k p true q → AreParts q → IsKept k room q
-restored k room o r p q big code is fits (same, count, heads) parts =
-    let all : q ≡ record { bounds = bounds_of o k.depth k.datagram k.total k.entries; len = k.len; heads = q.heads; refusal = r } = same ∙ ap (λ (x : Parts). record x { heads = q.heads }) is in
-    record {
-      total = sym (ap (λ (x : Parts). x.bounds.total) all);
-      entries = sym (ap (λ (x : Parts). x.bounds.entries) all);
-      datagram = sym (ap (λ (x : Parts). x.bounds.datagram) all);
-      depth = sym (ap (λ (x : Parts). x.bounds.shape.depth) all);
-      big = order_said k.big o big ∙ sym (ap (λ (x : Parts). order_number x.bounds.shape.order) all);
-      len = sym (ap (λ (x : Parts). x.len) all);
-      count = count;
-      heads = heads;
-      refusal = refusal_said k.refusal r code ∙ sym (ap (λ (x : Parts). refusal_number x.refusal) all);
-      parts = parts;
-      fits = omega (arith, ap (λ (x : Parts). x.len) all, fits);
-    }
-
--- no builder has other heads than those that are kept
-pub no_heads : (k : KeptBuilder) (room : ℕ) (o : Order) (r : Option BuildError) (p q : Parts)
-    → p ≡ resumed (bounds_of o k.depth k.datagram k.total k.entries) k.len r → Reopens k p false q → IsNone k room
-no_heads k room o r p q is none x has =
-    let depth : p.bounds.shape.depth ≡ x.bounds.shape.depth = ap (λ (y : Parts). y.bounds.shape.depth) is ∙ has.depth in
-    let len : p.len ≡ x.len = ap (λ (y : Parts). y.len) is ∙ has.len in
-    none x.heads has.count has.heads (subst (λ D. AreOpen D p.len x.heads) (sym depth) (subst (λ n. AreOpen x.bounds.shape.depth n x.heads) (sym len) has.parts.2))
-
 -- what is kept is a builder's, of which a call needs this
 pub topped : (k : KeptBuilder) (room : ℕ) (o : Order) (r : Option BuildError) (head : Option OpenHead) → order_by k.big ≡ Some o → refusal_in k.refusal ≡ Some r
     → AreLimits (bounds_of o k.depth k.datagram k.total k.entries) → k.len ≤ k.datagram → k.len ≤ room → IsInnermost k head
@@ -234,6 +207,53 @@ kept_more k new room size t u hs is bounds more fits limit e =
       heads = subst (λ (x : KeptBuilder). AreKept x.starts x.contents hs) (sym e) is.heads;
       refusal = ap (λ (x : KeptBuilder). x.refusal) e;
       parts = (subst AreLimits (sym bounds) is.parts.0, limit, subst (λ (b : Bounds). AreOpen b.shape.depth u.len hs) (sym bounds) (are_open_more _ _ _ _ more is.parts.2));
+      fits = fits;
+    }
+
+-- a call that opens a head, or is refused, keeps the limits
+pub same_limits : (t u : BuilderTop) (out new : List ℕ) (r : Result OpenHead BuildError) → Opens t u out new r → u.limits ≡ t.limits
+same_limits t u out new (Ok h) o = ap (λ (x : BuilderTop). x.limits) o.rest
+same_limits t u out new (Err e) o = ap (λ (x : BuilderTop). x.limits) o.0
+
+-- there is a place for one more head
+pub few_after : (D n : ℕ) (hs : List OpenHead) (count : ℕ) (r : Result OpenHead BuildError) → count ≡ length hs → D ≤ 32 → AreOpen D n (heads_after r hs) → IfOk r (λ h. count ≤ 32)
+few_after D n hs count (Ok h) e l o = omega (arith, e, l, few_heads D n (h ∷ hs) o)
+few_after D n hs count (Err x) e l o = tt
+
+-- and it leaves a builder's
+pub kept_opened : (k new : KeptBuilder) (room size : ℕ) (t u : BuilderTop) (r : Result OpenHead BuildError) (hs : List OpenHead) → IsKept k room (parts_with t hs) → u.limits ≡ t.limits
+    → u.len ≤ size → u.len ≤ u.limits.datagram → AreOpen t.limits.shape.depth u.len (heads_after r hs) → IfOk r (λ h. (k.count < length k.starts) × (k.count < length k.contents))
+    → new ≡ record (with_opened k r) { len = u.len; refusal = refusal_number u.refusal } → IsKept new size (parts_with u (heads_after r hs))
+kept_opened k new room size t u (Ok h) hs is bounds fits limit inside a e =
+    let lt : length hs < length k.starts = omega (arith, is.count, a.0) in
+    let ct : length hs < length k.contents = omega (arith, is.count, a.1) in
+    let one = keeps_one k.starts k.contents h hs lt ct is.heads in
+    let at = subst (λ i. AreKept (slice_set k.starts i h.start) (slice_set k.contents i (content_number h.content)) (h ∷ hs)) (sym is.count) one in
+    record {
+      total = ap (λ (x : KeptBuilder). x.total) e ∙ is.total ∙ sym (ap (λ (b : Bounds). b.total) bounds);
+      entries = ap (λ (x : KeptBuilder). x.entries) e ∙ is.entries ∙ sym (ap (λ (b : Bounds). b.entries) bounds);
+      datagram = ap (λ (x : KeptBuilder). x.datagram) e ∙ is.datagram ∙ sym (ap (λ (b : Bounds). b.datagram) bounds);
+      depth = ap (λ (x : KeptBuilder). x.depth) e ∙ is.depth ∙ sym (ap (λ (b : Bounds). b.shape.depth) bounds);
+      big = ap (λ (x : KeptBuilder). x.big) e ∙ is.big ∙ sym (ap (λ (b : Bounds). order_number b.shape.order) bounds);
+      len = ap (λ (x : KeptBuilder). x.len) e;
+      count = omega (arith, ap (λ (x : KeptBuilder). x.count) e, is.count);
+      heads = subst (λ (x : KeptBuilder). AreKept x.starts x.contents (h ∷ hs)) (sym e) at;
+      refusal = ap (λ (x : KeptBuilder). x.refusal) e;
+      parts = (subst AreLimits (sym bounds) is.parts.0, limit, subst (λ (b : Bounds). AreOpen b.shape.depth u.len (h ∷ hs)) (sym bounds) inside);
+      fits = fits;
+    }
+kept_opened k new room size t u (Err x) hs is bounds fits limit inside a e =
+    record {
+      total = ap (λ (x : KeptBuilder). x.total) e ∙ is.total ∙ sym (ap (λ (b : Bounds). b.total) bounds);
+      entries = ap (λ (x : KeptBuilder). x.entries) e ∙ is.entries ∙ sym (ap (λ (b : Bounds). b.entries) bounds);
+      datagram = ap (λ (x : KeptBuilder). x.datagram) e ∙ is.datagram ∙ sym (ap (λ (b : Bounds). b.datagram) bounds);
+      depth = ap (λ (x : KeptBuilder). x.depth) e ∙ is.depth ∙ sym (ap (λ (b : Bounds). b.shape.depth) bounds);
+      big = ap (λ (x : KeptBuilder). x.big) e ∙ is.big ∙ sym (ap (λ (b : Bounds). order_number b.shape.order) bounds);
+      len = ap (λ (x : KeptBuilder). x.len) e;
+      count = ap (λ (x : KeptBuilder). x.count) e ∙ is.count;
+      heads = subst (λ (x : KeptBuilder). AreKept x.starts x.contents hs) (sym e) is.heads;
+      refusal = ap (λ (x : KeptBuilder). x.refusal) e;
+      parts = (subst AreLimits (sym bounds) is.parts.0, limit, subst (λ (b : Bounds). AreOpen b.shape.depth u.len hs) (sym bounds) inside);
       fits = fits;
     }
 

@@ -1,5 +1,5 @@
 -- A builder that C keeps over a buffer of its own, and the answers to C of its calls.
-use Rattle.std.specs.Prelude.{◌≡◌, ◌==◌, ◌≤◌, ◌%◌, nat_le, ℕ, Bool, true, false, if◌then◌else◌, List, [], ◌∷◌, length, slice_index_or, Option, Some, None}
+use Rattle.std.specs.Prelude.{◌≡◌, ◌==◌, ◌≤◌, ◌+◌, ◌%◌, nat_le, ℕ, if◌then◌else◌, List, [], ◌∷◌, length, slice_index_or, slice_set, Option, Some, None, Result, Ok, Err}
 use Rattle.nl_attr.specs.declared.order.Order.{Order}
 use Rattle.nl_attr.specs.declared.order.Order.TheVariants.{Little, Big}
 use Rattle.nl_attr.specs.declared.tree.AttrFlags.{AttrFlags}
@@ -88,11 +88,6 @@ pub record IsKept (k : KeptBuilder) (room : ℕ) (p : Parts) : Type 0 where
 abbrev pub IsNone : KeptBuilder → ℕ → Type 0
 IsNone k room = (p : Parts) → IsKept k room p → ⊥
 
--- the heads that are kept are open again, or no builder has them
-abbrev pub Reopens : KeptBuilder → Parts → Bool → Parts → Type 0
-Reopens k p true q = (q ≡ record p { heads = q.heads }) × (k.count ≡ length q.heads) × AreKept k.starts k.contents q.heads
-Reopens k p false q = (hs : List OpenHead) → k.count ≡ length hs → AreKept k.starts k.contents hs → AreOpen p.bounds.shape.depth p.len hs → ⊥
-
 -- these heads are kept, the innermost first, and can be open
 pub record HasHeads (k : KeptBuilder) (hs : List OpenHead) : Type 0 where
   pub count : k.count ≡ length hs
@@ -110,6 +105,11 @@ HasNone k = (hs : List OpenHead) → HasHeads k hs → ⊥
 -- what is kept is a builder's over so many bytes, of which a call needs this
 abbrev pub IsTopOf : KeptBuilder → ℕ → BuilderTop → Type 0
 IsTopOf k room t = (hs : List OpenHead) × IsKept k room (parts_with t hs) × (top hs ≡ t.head)
+
+-- one more head is kept, where a call opens one
+abbrev pub with_opened : KeptBuilder → Result OpenHead BuildError → KeptBuilder
+with_opened k (Ok h) = record k { starts = slice_set k.starts k.count h.start; contents = slice_set k.contents k.count (content_number h.content); count = k.count + 1 }
+with_opened k (Err e) = k
 
 -- how many heads a call closes that was refused so, or not
 abbrev pub left_closed : Option BuildError → ℕ

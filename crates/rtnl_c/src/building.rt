@@ -1,15 +1,13 @@
 //! A builder that C keeps, over a buffer of its own, which takes no memory.
 
-ghost use Rattle.std.specs.Prelude.{◌≡◌, ◌≤◌, ◌-◌, ◌∷◌, ◌++◌, ℕ, [], MatchOption, length, reverse};
+ghost use Rattle.std.specs.Prelude.{◌≡◌, ◌≤◌, ◌<◌, ◌-◌, ◌∷◌, ◌++◌, ℕ, [], IfOk, MatchOption, length};
 ghost use Rattle.nl_attr.specs.Fixed as fixed;
-ghost use Rattle.std.specs.Bool.{MatchBool};
 ghost use Rattle.nl_attr.specs.declared.order.Order.TheVariants.{Big};
 ghost use Rattle.nl_attr.specs.Numbers.{num};
 ghost use Rattle.nl_frame.specs.Building.{close, end, levels_in, open_attr, open_hop, order_of, put};
 ghost use Rattle.nl_frame.specs.Building.{put_message};
-ghost use Rattle.nl_frame.specs.Limits.{AreLimits};
-ghost use Rattle.nl_frame.specs.Parts.{begin_bytes};
-ghost use Rattle.rtnl_c.specs.Building.{AreKept, Calls, Finishes, IsKept, IsNone, News, Reopens};
+ghost use Rattle.nl_frame.specs.Parts.{begin_bytes, new_parts};
+ghost use Rattle.rtnl_c.specs.Building.{Calls, Finishes, IsKept, IsNone, News, with_opened};
 ghost use Rattle.rtnl_c.specs.Building.{HasNone, IsInnermost, IsTopOf, left_closed};
 ghost use Rattle.rtnl_c.specs.Building.{content_in, content_number, flags_in, number_in};
 ghost use Rattle.rtnl_c.specs.Building.{order_by, order_number, refusal_in, refusal_number};
@@ -19,7 +17,7 @@ use crate::numbers::{context, number};
 use crate::options::{Options, limits, order};
 use crate::put::Put;
 use nl_attr::{AttrFlags, Content};
-use nl_frame::{BuildError, BuilderParts, BuilderTop, Limits, OpenHead, Order};
+use nl_frame::{BuildError, BuilderTop, Limits, OpenHead, Order};
 
 /// How many heads may be open.
 const MOST_OPEN: u8 = 33;
@@ -139,98 +137,18 @@ fn code_of(refusal: Option<BuildError>) -> u8
     }
 }
 
-/// Opens the heads again that are kept; or says that no builder has them.
-fn reopen(kept: &KeptBuilder, parts: &mut BuilderParts) -> bool
-    requires heads { parts.old.heads ≡ [] }
-    requires limits { AreLimits parts.old.bounds }
-    ensures { Reopens kept.now parts.old result parts.new }
+/// Keeps a new builder of these limits.
+fn keep_new(limits: &Limits, kept: &mut KeptBuilder)
+    ensures { (room : ℕ) → IsKept kept.new room (new_parts limits.now) }
 {
-    if kept.count > MOST_OPEN {
-        return false;
-    }
-    let mut index = 0;
-    while index < kept.count as usize {
-        let Some(content) = content_by_number(kept.contents[index]) else {
-            return false;
-        };
-        let start = kept.starts[index];
-        match parts.reopen(OpenHead { start, content }) {
-            Ok(()) => index += 1,
-            Err(_) => return false,
-        }
-    }
-    true
-}
-
-/// The parts of a builder of the standard limits, into which one that is kept is put.
-#[inline(always)]
-fn blank() -> BuilderParts {
-    BuilderParts::new(&Limits::standard())
-}
-
-/// Makes these the parts of the builder that is kept over so many bytes, where one is.
-fn restore(kept: &KeptBuilder, room: usize, parts: &mut BuilderParts) -> bool
-    ensures { MatchBool result (IsKept kept.now room parts.new) (IsNone kept.now room) }
-{
-    let len = kept.len as usize;
-    if len > room {
-        return false;
-    }
-    let Some(order) = order_by_number(kept.big) else {
-        return false;
-    };
-    let Some(refusal) = refusal_by_number(kept.refusal) else {
-        return false;
-    };
-    let Ok(limits) = Limits::new(kept.depth, kept.datagram, kept.total, kept.entries) else {
-        return false;
-    };
-    let Ok(()) = parts.resume(&limits.with_order(order), len, refusal) else {
-        return false;
-    };
-    if !reopen(kept, parts) {
-        return false;
-    }
-    // It is a builder.
-    let _len = parts.accepted();
-    true
-}
-
-/// Keeps the open heads.
-fn keep_heads(heads: &[OpenHead], kept: &mut KeptBuilder)
-    requires { length heads.now ≤ 33 }
-    ensures heads { AreKept kept.new.starts kept.new.contents (reverse heads.now) }
-    ensures rest { kept.new ≡ record kept.old {
-      starts = kept.new.starts;
-      contents = kept.new.contents;
-    } }
-{
-    let mut index = 0;
-    while index < heads.len() {
-        let OpenHead { start, content } = heads[index];
-        kept.starts[index] = start;
-        kept.contents[index] = number_of(content);
-        index += 1;
-    }
-}
-
-/// Keeps a builder in place of the one before, and answers why a call was refused, or 0.
-fn keep(parts: &BuilderParts, kept: &mut KeptBuilder) -> u8
-    ensures kept { (room : ℕ) → parts.now.len ≤ room → IsKept kept.new room parts.now }
-    ensures code { result ≡ refusal_number parts.now.refusal }
-{
-    let limits = parts.limits();
     kept.total = limits.total();
     kept.entries = limits.entries();
     kept.datagram = limits.datagram();
     kept.depth = limits.depth().get();
     kept.big = number_of_order(limits.order());
-    kept.len = parts.accepted() as u32;
-    let heads = parts.heads();
-    keep_heads(heads, kept);
-    kept.count = heads.len() as u8;
-    kept.refusal = code_of(parts.refusal());
-    kept.refusal
+    kept.len = 0;
+    kept.count = 0;
+    kept.refusal = 0;
 }
 
 /// The innermost of the heads that are kept, where one is open; or none where no builder has them.
@@ -303,6 +221,28 @@ fn keep_top(top: &BuilderTop, kept: &mut KeptBuilder) -> u8
     kept.refusal
 }
 
+/// Keeps what a call changed that opened a head, or why it opened none, and answers why, or 0.
+#[inline(always)]
+fn keep_opened(top: &BuilderTop, opened: Result<OpenHead, BuildError>, kept: &mut KeptBuilder) -> u8
+    requires size { top.now.len ≤ fixed.LONGEST_REGION }
+    requires few { IfOk opened (λ h. kept.old.count ≤ 32) }
+    ensures places { IfOk opened (λ h. (kept.old.count < length kept.old.starts)
+        × (kept.old.count < length kept.old.contents)) }
+    ensures kept { kept.new ≡ record (with_opened kept.old opened) {
+      len = top.now.len;
+      refusal = refusal_number top.now.refusal;
+    } }
+    ensures code { result ≡ refusal_number top.now.refusal }
+{
+    if let Ok(OpenHead { start, content }) = opened {
+        let at = kept.count as usize;
+        kept.starts[at] = start;
+        kept.contents[at] = number_of(content);
+        kept.count += 1;
+    }
+    keep_top(top, kept)
+}
+
 /// Keeps that the innermost head is closed, where that is not refused, and answers why it was
 /// refused, or 0.
 #[inline(always)]
@@ -358,7 +298,10 @@ pub extern "C" fn rtnlc_builder_new(kept: &mut KeptBuilder, options: &Options) -
     ensures { News options.now kept.old result kept.new }
 {
     match limits(options) {
-        Ok(limits) => keep(&BuilderParts::new(&limits), kept),
+        Ok(limits) => {
+            keep_new(&limits, kept);
+            0
+        }
         Err(fault) => fault.code(),
     }
 }
@@ -377,12 +320,11 @@ pub extern "C" fn rtnlc_builder_begin(
     ensures { Calls (λ b. begin_bytes b kind flags seq port head.now)
         kept.old out.old kept.new out.new result }
 {
-    let mut parts = blank();
-    if !restore(kept, out.len(), &mut parts) {
+    let Some(mut top) = top_of(kept, out.len()) else {
         return NO_BUILDER;
-    }
-    let _ = parts.begin_bytes(out, kind, flags, seq, port, head);
-    keep(&parts, kept)
+    };
+    let opened = top.begin_bytes(out, kind, flags, seq, port, head);
+    keep_opened(&top, opened, kept)
 }
 
 /// Puts an attribute of these bytes.
@@ -527,12 +469,12 @@ pub extern "C" fn rtnlc_builder_open(kept: &mut KeptBuilder, out: &mut [u8], kin
     ensures { Calls (λ b. open_attr b (number_in kind) (flags_in kind))
         kept.old out.old kept.new out.new result }
 {
-    let mut parts = blank();
-    if !restore(kept, out.len(), &mut parts) {
+    let Some(mut top) = top_of(kept, out.len()) else {
         return NO_BUILDER;
-    }
-    let _ = parts.open_attr(out, number_of_type(kind), flags_of(kind));
-    keep(&parts, kept)
+    };
+    let count = kept.count as usize;
+    let opened = top.open_attr(out, number_of_type(kind), flags_of(kind), count);
+    keep_opened(&top, opened, kept)
 }
 
 /// Opens a next hop.
@@ -546,12 +488,11 @@ pub extern "C" fn rtnlc_builder_open_hop(
 ) -> u8
     ensures { Calls (λ b. open_hop b flags hops ifindex) kept.old out.old kept.new out.new result }
 {
-    let mut parts = blank();
-    if !restore(kept, out.len(), &mut parts) {
+    let Some(mut top) = top_of(kept, out.len()) else {
         return NO_BUILDER;
-    }
-    let _ = parts.open_hop(out, flags, hops, ifindex);
-    keep(&parts, kept)
+    };
+    let opened = top.open_hop(out, flags, hops, ifindex);
+    keep_opened(&top, opened, kept)
 }
 
 /// Closes the innermost attribute or next hop.
@@ -592,12 +533,11 @@ pub extern "C" fn rtnlc_builder_message(
     ensures { Calls (λ b. put_message b kind flags seq port body.now)
         kept.old out.old kept.new out.new result }
 {
-    let mut parts = blank();
-    if !restore(kept, out.len(), &mut parts) {
+    let Some(mut top) = top_of(kept, out.len()) else {
         return NO_BUILDER;
-    }
-    let _ = parts.message(out, kind, flags, seq, port, body);
-    keep(&parts, kept)
+    };
+    let _ = top.message(out, kind, flags, seq, port, body);
+    keep_top(&top, kept)
 }
 
 /// How many bytes the datagram has, at the front of the buffer; or why there is none.

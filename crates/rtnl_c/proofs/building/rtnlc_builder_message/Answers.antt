@@ -1,10 +1,28 @@
+use Rattle.std.proofs.Common.{arith, ap}
+use Rattle.nl_frame.specs.declared.building.top.BuilderTop.{BuilderTop}
+use Rattle.nl_frame.specs.Tops.{parts_with}
 use Rattle.rtnl_c.specs.Building.{calls, on_none}
+use Rattle.rtnl_c.proofs.Keeping.{kept_more}
 use Rattle.rtnl_c.proofs.building.rtnlc_builder_message.Goals as goal
 
-pub returns-then-not-restore : goal.returns-then-not-restore
-returns-then-not-restore c = on_none c.if-not-restore.ensures
+pub returns-in_default : goal.returns-in_default
+returns-in_default c = on_none c.in_default.ensures
+
+pub message-requires : goal.message-requires
+message-requires c =
+    let k = c.in-Some.ensures in
+    record { fits = (k.1.fits, k.1.parts.1) }
+
+pub keep_top-requires : goal.keep_top-requires
+keep_top-requires c =
+    let k = c.in-Some.ensures in
+    omega (arith, c.message.ensures.fits.1, ap (λ (x : BuilderTop). x.limits.datagram) c.message.ensures.rest, k.1.parts.0.3)
 
 pub returns : goal.returns
 returns c =
     let t = c.message in
-    rw (c.keep.ensures.code) (calls c.restore.new.parts t.new.self c.if-not-restore.ensures c.keep.new.kept t.new.out t.ensures.built (c.keep.ensures.kept _ t.ensures.fits))
+    let k = c.in-Some.ensures in
+    let p = parts_with c.in-Some.top k.0 in
+    let q = parts_with t.new.self k.0 in
+    let is = kept_more c.args.kept.now c.keep_top.new.kept _ _ c.in-Some.top t.new.self k.0 k.1 (ap (λ (x : BuilderTop). x.limits) t.ensures.rest) t.ensures.grows t.ensures.fits.0 t.ensures.fits.1 c.keep_top.ensures.kept in
+    rw (c.keep_top.ensures.code) (calls p q k.1 c.keep_top.new.kept t.new.out (t.ensures.built k.0 k.2) is)
