@@ -8,33 +8,36 @@ int main(int argc, char **argv)
 	int hops = argc > 1 && !strcmp(argv[1], "two") ? 2 : 1;
 	uint32_t number, all = argc > 2 ? (uint32_t)atoi(argv[2]) : 1;
 
+	/* What is the same in each request stands here once. */
+	uint32_t to, last = gateway(254);
+	struct rtnlc_next_hop two[2] = { { 10, 0, 9, 4, { 0 } }, { 11, 0, 9, 4, { 0 } } };
+	struct rtnlc_route_request request = {
+		.family = route.rtm_family,
+		.destination = { &to, 4 },
+		.destination_length = route.rtm_dst_len,
+		.table = route.rtm_table,
+		.protocol = route.rtm_protocol,
+		.sort = route.rtm_type,
+		.has_priority = true,
+	};
+
+	if (hops == 1) {
+		request.gateway = (struct rtnlc_bytes){ &last, 4 };
+		request.oif = 10;
+		request.has_oif = true;
+	} else {
+		for (int at = 0; at < hops; at++) {
+			uint32_t address = gateway(254 - at);
+			memcpy(two[at].gateway, &address, 4);
+		}
+		request.hops = two;
+		request.hop_count = 2;
+	}
 	for (number = 0; number < all; number++) {
-		uint32_t to = destination(number), last = gateway(254);
-		struct rtnlc_next_hop two[2] = { { 10, 0, 9, 4, { 0 } }, { 11, 0, 9, 4, { 0 } } };
-		struct rtnlc_route_request request = {
-			.family = route.rtm_family,
-			.destination = { &to, 4 },
-			.destination_length = route.rtm_dst_len,
-			.table = route.rtm_table,
-			.protocol = route.rtm_protocol,
-			.sort = route.rtm_type,
-			.priority = number % 1024,
-			.has_priority = true,
-		};
 		struct rtnlc_put put;
 
-		if (hops == 1) {
-			request.gateway = (struct rtnlc_bytes){ &last, 4 };
-			request.oif = 10;
-			request.has_oif = true;
-		} else {
-			for (int at = 0; at < hops; at++) {
-				uint32_t address = gateway(254 - at);
-				memcpy(two[at].gateway, &address, 4);
-			}
-			request.hops = two;
-			request.hop_count = 2;
-		}
+		to = destination(number);
+		request.priority = number % 1024;
 		put = rtnlc_request_route(&request, RTNLC_ADD, number, false, bytes, sizeof bytes);
 		if (put.code)
 			return 1;
