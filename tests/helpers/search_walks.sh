@@ -45,7 +45,7 @@ reading=crates/nl_attr/src/reading.rt
 
 same 'walkers are made in their own modules' "$(counts '\b(Attrs|HopParts)::of')" \
   'crates/nl_attr/src/walk/attrs.rt 1
-crates/nl_attr/src/walk/counted.rt 2
+crates/nl_attr/src/walk/counted.rt 1
 crates/nl_attr/src/walk/hops.rt 1'
 
 same 'counted walks are made where a region is opened, and for the blank of the stack' \
@@ -59,12 +59,13 @@ $folder/nested.rt 2
 $folder/next_hops.rt 1"
 
 same 'a counted walk is stepped with the count of its reading' "$(lines '\.step\(' | sed 's/^[^:]*: *//')" \
-  'let part = match walk.step(visits) {
+  'match walk.step(visits) {
 let part = match region.walk.step(visits) {'
 
+# That of attributes takes them by itself.
 same 'only a counted walk steps a walker' \
   "$(counts '\.next\(\)' $(sources | grep '^crates/nl_attr/'))" \
-  'crates/nl_attr/src/walk/counted.rt 2'
+  'crates/nl_attr/src/walk/counted.rt 1'
 
 same 'the count of a reading is handed on, never made' \
   "$(lines '\b(let|if|for|while)\b.*\bvisits\b' "${stack[@]}" "$reading" |
@@ -102,9 +103,10 @@ same 'heads are read by the walkers, by a scan at one place for each sort of hea
   "$(counts '\b(head_len|len_at|kind_at|span_at)\(')" \
   'crates/nl_attr/src/broken.rt 1
 crates/nl_attr/src/taping/fronts.rt 3
-crates/nl_attr/src/taping/leaves.rt 2
+crates/nl_attr/src/taping/leaves.rt 3
 crates/nl_attr/src/taping/steps.rt 1
 crates/nl_attr/src/walk/attrs.rt 3
+crates/nl_attr/src/walk/counted.rt 5
 crates/nl_attr/src/walk/hops.rt 2
 crates/nl_attr/src/walk/mod.rt 5'
 
@@ -124,26 +126,26 @@ crates/nl_frame/src/taping.rt 1'
 
 # The first goes past the heads at the front of a region, and the second on from where that ended.
 same 'a scan is two loops over heads that hold bytes, one over heads that hold others, and one over messages' \
-  "$(lines '\b(loop|while|for)\b([^<]|< )*\{$' "${scan[@]}" crates/nl_frame/src/scanning.rt "$taping" |
+  "$(lines '\b(loop|while|for)\b([^<]|<[ =])*\{$' "${scan[@]}" crates/nl_frame/src/scanning.rt "$taping" |
     sed 's/^[^:]*: *//')" \
-  "'leaves: while at < limit {
+  "'leaves: while behind <= isize::MAX as usize {
 'leaves: loop {
 'heads: loop {
 'messages: while !left.is_empty() {"
 
 same 'a region is scanned by the calls that are made for it and once by the scan of a message, and in no reading' \
-  "$(counts '\b(scan_list_ordered|tape_(list|attrs|region|leaves|like)|pass_(front|leaves|like)|step_(attrs|container|hop))\b.*\(')" \
+  "$(counts '\b(scan_list_ordered|tape_(list|attrs|attrs_in|region|leaves|like)|pass_(front|leaves|like)|step_(attrs|container|hop))\b.*\(')" \
   'crates/nl_attr/src/scanning.rt 2
 crates/nl_attr/src/taping/leaves.rt 10
-crates/nl_attr/src/taping/mod.rt 6
+crates/nl_attr/src/taping/mod.rt 8
 crates/nl_attr/src/taping/steps.rt 9
 crates/nl_frame/src/taping.rt 1'
 
 same 'a datagram is scanned by the calls that are made for it, and in no reading' \
-  "$(counts '\b(scan_datagram|tape_datagram|tape_(messages|ordered|big|frame|body|object))\(')" \
+  "$(counts '\b(scan_datagram|tape_datagram|scan_messages|tape_(messages|ordered|little|big|frame|body|object))\(')" \
   'crates/nl_dump/src/straining.rt 1
 crates/nl_frame/src/scanning.rt 4
-crates/nl_frame/src/taping.rt 9
+crates/nl_frame/src/taping.rt 15
 crates/rtnl/src/bytes/tape.rt 1
 crates/rtnl_c/src/broken.rt 1
 crates/rtnl_c/src/scan.rt 2'
