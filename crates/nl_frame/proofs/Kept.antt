@@ -1,20 +1,28 @@
 -- What a builder's parts keep of a call that is made over what they are but for the heads around the innermost.
-use Rattle.std.proofs.Common.{◌≡◌, ◌≤◌, ℕ, List, ◌∷◌, Option, Some, None, Result, Ok, Err, refl, sym, ap, subst, ◌∙◌, arith}
-use Rattle.std.specs.Prelude.{OnOk, OnErr}
+use Rattle.std.proofs.Common.{◌≡◌, ◌≤◌, ℕ, ℤ, List, [], ◌∷◌, Option, Some, None, Result, Ok, Err, refl, sym, ap, subst, ◌∙◌, arith}
+use Rattle.std.specs.Prelude.{FitsSigned, OnOk, OnErr}
+use Rattle.std.specs.Int.{w32}
 use Rattle.nl_frame.specs.declared.building.OpenHead.{OpenHead}
 use Rattle.nl_frame.specs.declared.building.top.BuilderTop.{BuilderTop}
 use Rattle.nl_frame.specs.declared.building.refusal.BuildError.{BuildError}
-use Rattle.nl_frame.specs.Building.{Built, AreOpen, answer}
-use Rattle.nl_frame.specs.Calls.{Call, IsCall, called, put_by}
+use Rattle.nl_frame.specs.Building.{Built, AreOpen, answer, no_flags, put_hop}
+use Rattle.nl_frame.specs.Calls.{Call, IsCall, called, close, open_hop, put, put_by}
 use Rattle.nl_frame.specs.Draft.{Draft, Holds}
+use Rattle.nl_frame.specs.Draft as draft
 use Rattle.nl_frame.specs.Limits.{Bounds}
 use Rattle.nl_frame.specs.Parts.{Parts, AreParts, over}
 use Rattle.nl_frame.specs.Tops.{AreWithin, Opens, heads_after, left, left_with, parts_with, refusal_of, top_of}
-use Rattle.nl_frame.proofs.Running.{called_holds}
+use Rattle.nl_frame.proofs.Running.{called_holds, runs_hold}
 
 -- a call that leaves no refusal puts what it puts
 pub puts_by : {L : Bounds} (b x : Built) (d : Draft) (c : Call) → IsCall c → x ≡ called b c → x.refusal ≡ None → Holds L b d → Holds L x (put_by d c)
 puts_by {L} b x d c is e none h = subst (λ (y : Built). Holds L y (put_by d c)) (sym e) (called_holds b d c is h (ap (λ (y : Built). y.refusal) (sym e) ∙ none))
+
+-- a next hop that is put whole is the calls that put its parts
+pub hop_puts : {L : Bounds} (b x : Built) (d : Draft) (f c : ℕ) (i : ℤ) (n : ℕ) (bs : List ℕ) → FitsSigned w32 i → x ≡ put_hop b f c i n bs → x.refusal ≡ None → Holds L b d → Holds L x (draft.put_hop d f c i n bs)
+hop_puts {L} b x d f c i n bs fits e none h =
+    let calls = open_hop f c i ∷ put n no_flags bs ∷ close ∷ [] in
+    subst (λ (y : Built). Holds L y (draft.put_hop d f c i n bs)) (sym e) (runs_hold b d L calls (fits, (tt, (tt, tt))) h (ap (λ (y : Built). y.refusal) (sym e) ∙ none))
 
 -- what holds where a call leaves no refusal holds where it answers none
 pub where_ok : (r : Result (Unit {0}) BuildError) (o : Option BuildError) (P : Type 0) → r ≡ answer o → (o ≡ None → P) → OnOk r P

@@ -36,14 +36,19 @@ top_is (k ∷ hs) h e = let one : k ≡ h = cc in ap (λ x. x ∷ hs) one
 pub goes_as : (b x next : Built) (r : Option BuildError) → r ≡ None → x ≡ next → x ≡ settled b r next
 goes_as b x next r e f = f ∙ sym (ap (λ (o : Option BuildError). settled b o next) e)
 
+-- an attribute opens that holds this
+pub attr_opened_as : (b x : Built) (n : ℕ) (f : AttrFlags) (r : Result Content BuildError) (c : Content) (bytes : List ℕ) → r ≡ Ok c
+    → bytes ≡ attr_begun (order_of b) n f → x ≡ opened b c bytes → x ≡ opened b (content_or_bytes r) (attr_begun (order_of b) n f)
+attr_opened_as b x n f r c bytes ok head e =
+    let same : content_or_bytes r ≡ c = ap content_or_bytes ok in
+    e ∙ ap (opened b c) head ∙ ap (λ (k : Content). opened b k (attr_begun (order_of b) n f)) (sym same)
+
 pub attr_opened : (b x : Built) (n : ℕ) (f : AttrFlags) (r : Result Content BuildError) (c : Content) (bytes : List ℕ) → r ≡ held (top b.heads) n f → r ≡ Ok c → or_next b.refusal (open_refusal b r) ≡ None
     → bytes ≡ attr_begun (order_of b) n f → x ≡ opened b c bytes → x ≡ open_attr b n f
 attr_opened b x n f r c bytes is ok none head e =
     let h = held (top b.heads) n f in
-    let same : content_or_bytes h ≡ c = ap content_or_bytes (sym is ∙ ok) in
     let goes = ap (λ (y : Result Content BuildError). or_next b.refusal (open_refusal b y)) (sym is) ∙ none in
-    goes_as b x (opened b (content_or_bytes h) (attr_begun (order_of b) n f)) _ goes
-    (e ∙ ap (opened b c) head ∙ ap (λ (k : Content). opened b k (attr_begun (order_of b) n f)) (sym same))
+    goes_as b x (opened b (content_or_bytes h) (attr_begun (order_of b) n f)) _ goes (attr_opened_as b x n f h c bytes (sym is ∙ ok) head e)
 
 -- one more is among the heads that are open
 pub one_more_open : (D m n : ℕ) (h : OpenHead) (hs : List OpenHead) → h.start + 4 ≤ n → length hs + levels_in h.content ≤ D → m ≤ n → AreOpen D m hs → AreOpen D n (h ∷ hs)

@@ -107,11 +107,15 @@ abbrev pub levels_in : Content → ℕ
 levels_in content.Hops = 1
 levels_in c = 0
 
--- an attribute opens that holds this
+-- an attribute opens that holds this, inside so many heads
+abbrev pub open_refusal_in : Built → ℕ → Result Content BuildError → Option BuildError
+open_refusal_in b n (Err e) = Some e
+open_refusal_in b n (Ok content.Bytes) = Some Mismatch
+open_refusal_in b n (Ok c) = if nat_lt b.bounds.shape.depth (n + levels_in c) then Some TooDeep else lacks b 4
+
+-- the same inside those that are open
 abbrev pub open_refusal : Built → Result Content BuildError → Option BuildError
-open_refusal b (Err e) = Some e
-open_refusal b (Ok content.Bytes) = Some Mismatch
-open_refusal b (Ok c) = if nat_lt b.bounds.shape.depth (length b.heads + levels_in c) then Some TooDeep else lacks b 4
+open_refusal b held = open_refusal_in b (length b.heads) held
 
 -- a next hop opens where this stands
 abbrev pub hop_refusal_in : Built → Content → Option BuildError

@@ -21,7 +21,7 @@ use Rattle.nl_frame.specs.Limits.{Bounds, AreLimits}
 use Rattle.nl_frame.specs.Message.{BodyVal, object, MessageVal}
 use Rattle.nl_frame.specs.Written.{written}
 use Rattle.nl_frame.specs.Proper.{IsMismatched, IsDeep, HasLong, IsRanged}
-use Rattle.nl_frame.specs.Building.{Built, order_of, levels_in, attr_begun, hop_begun, header_begun, message_begun}
+use Rattle.nl_frame.specs.Building.{Built, order_of, levels_in, attr_begun, hop_begun, header_begun, message_begun, no_flags}
 
 -- what is begun by a head that is still open: a message of this type, with these flags, sequence number, port id and head; an attribute of this number; or a next hop with these flags, hops and index
 pub data Begun : Type 0 where
@@ -124,6 +124,10 @@ layers_closed (x ∷ xs) = layers_and x.head x.inside xs
 -- an attribute or a next hop is closed
 abbrev pub close : Draft → Draft
 close d = record d { layers = layers_closed d.layers }
+
+-- a next hop that holds one attribute is put whole
+abbrev pub put_hop : Draft → ℕ → ℕ → ℤ → ℕ → List ℕ → Draft
+put_hop d f c i n bs = close (put (open_head d (next_hop f c i)) n no_flags bs)
 
 -- the message that a head began
 abbrev pub message_in : Begun → Val → List MessageVal

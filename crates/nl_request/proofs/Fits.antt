@@ -12,7 +12,7 @@ use Rattle.nl_attr.specs.Numbers.{num}
 use Rattle.nl_attr.specs.Tree.{bytes, holds_of}
 use Rattle.nl_attr.specs.Proper.{IsMismatchedVal, IsMismatchedHops, IsRangedHops}
 use Rattle.nl_frame.specs.declared.building.OpenHead.{OpenHead}
-use Rattle.nl_frame.specs.Building.{Built, held, top}
+use Rattle.nl_frame.specs.Building.{Built, held, no_flags, top}
 use Rattle.nl_frame.specs.Building as building
 use Rattle.nl_frame.specs.Calls.{put, open_attr, close, called, run, calls_of_items}
 use Rattle.nl_frame.proofs.Puts.{neither, is_held, has_bytes}
@@ -28,7 +28,7 @@ use Rattle.nl_request.specs.declared.route.Metric.{Metric}
 use Rattle.nl_request.specs.declared.route.NextHop.{NextHop}
 use Rattle.nl_request.specs.declared.neigh.NeighRequest.{NeighRequest}
 use Rattle.nl_request.specs.declared.rule.RuleRequest.{RuleRequest}
-use Rattle.nl_request.specs.Parts.{Part, no_flags, bytes_part, text_part, number_part, items_of, calls_of_part}
+use Rattle.nl_request.specs.Parts.{Part, bytes_part, text_part, number_part, items_of, calls_of_part}
 use Rattle.nl_request.specs.Prefixes.{prefix_part}
 use Rattle.nl_request.specs.Tables.{table_part}
 use Rattle.nl_request.specs.Gateways.{gateway_bytes, gateway_part}

@@ -17,7 +17,7 @@ use Rattle.nl_frame.specs.Form.{form_of, form_for}
 use Rattle.nl_frame.specs.Limits.{Bounds}
 use Rattle.nl_frame.specs.Message.{MessageVal}
 use Rattle.nl_frame.specs.Proper.{IsMismatched}
-use Rattle.nl_frame.specs.Building.{Built, answer}
+use Rattle.nl_frame.specs.Building.{Built, answer, no_flags}
 use Rattle.nl_frame.specs.Building as building
 use Rattle.nl_frame.specs.Draft.{Draft, Holds, message}
 use Rattle.nl_frame.specs.Draft as draft
@@ -27,7 +27,7 @@ use Rattle.nl_frame.proofs.Trees.{calls_put}
 use Rattle.nl_request.specs.declared.operation.Operation.{Operation}
 use Rattle.nl_request.specs.declared.operation.Operation.TheVariants.{Add, Replace, Change, Append, Prepend, Set, Delete}
 use Rattle.nl_request.specs.Operations.{flags_of, type_of}
-use Rattle.nl_request.specs.Parts.{Part, no_flags, items_of, request}
+use Rattle.nl_request.specs.Parts.{Part, items_of, request}
 
 -- ---- the numbers of the calls are in the ranges of their types
 

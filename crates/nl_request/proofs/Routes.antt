@@ -5,12 +5,12 @@ use Rattle.nl_attr.specs.Proper.{IsRanged, IsRangedHops}
 use Rattle.std.proofs.lemmas.List.{drop_more}
 use Rattle.nl_attr.specs.Fixed.{RTA_METRICS, RTA_MULTIPATH}
 use Rattle.nl_attr.specs.declared.order.Order.{Order}
-use Rattle.nl_frame.specs.Building.{Built}
+use Rattle.nl_frame.specs.Building.{Built, no_flags}
 use Rattle.nl_frame.specs.Building as building
 use Rattle.nl_frame.specs.Calls.{open_attr, close, run, calls_of_items, calls_of_hops}
 use Rattle.nl_request.specs.declared.route.Metric.{Metric}
 use Rattle.nl_request.specs.declared.route.NextHop.{NextHop}
-use Rattle.nl_request.specs.Parts.{no_flags, items_of, calls_of_part}
+use Rattle.nl_request.specs.Parts.{items_of, calls_of_part}
 use Rattle.nl_request.specs.Gateways.{gateway_bytes, gateway_part}
 use Rattle.nl_request.specs.Route.{metric_part, metrics_part, hops_of, hops_part}
 use Rattle.nl_request.proofs.Runs.{run_both}

@@ -1,12 +1,12 @@
 -- The attributes of a request, each of which is there or not, and the message that they make.
-use Rattle.std.specs.Prelude.{ℕ, false, List, [], ◌∷◌, ◌++◌, Option, Some, None}
+use Rattle.std.specs.Prelude.{ℕ, List, [], ◌∷◌, ◌++◌, Option, Some, None}
 use Rattle.std.specs.Borrow.{Bor}
 use Rattle.nl_attr.specs.declared.order.Order.{Order}
-use Rattle.nl_attr.specs.declared.tree.AttrFlags.{AttrFlags}
 use Rattle.nl_attr.specs.Numbers.{num}
 use Rattle.nl_attr.specs.Tree.{Val, bytes, Items, no_items, item}
 use Rattle.nl_route.specs.Families.{AnyHead, family_of}
 use Rattle.nl_frame.specs.Message.{MessageVal, object}
+use Rattle.nl_frame.specs.Building.{no_flags}
 use Rattle.nl_frame.specs.Calls.{Call, calls_of_val}
 use Rattle.nl_request.specs.declared.operation.Operation.{Operation}
 use Rattle.nl_request.specs.Operations.{flags_of, type_of}
@@ -34,11 +34,7 @@ number_part n w o (Some x) = Some (n, bytes (num x w o))
 
 -- ---- the attributes of a request
 
--- neither flag bit is set
-abbrev pub no_flags : AttrFlags
-no_flags = record { nested = false; net = false }
-
--- those that there are, in this order
+-- those that there are, in this order, with neither flag bit
 abbrev pub items_of : List Part → Items
 items_of [] = no_items
 items_of (None ∷ ps) = items_of ps

@@ -4,10 +4,10 @@
 //! on behind one puts the same as one that stops there.
 
 ghost use Rattle.std.specs.Prelude.{◌≡◌, ◌≤◌, Some, IfErr, length};
-ghost use Rattle.nl_frame.specs.Building.{answer, put};
+ghost use Rattle.nl_frame.specs.Building.{answer, no_flags, put};
 ghost use Rattle.nl_frame.specs.Calls.{run};
 ghost use Rattle.nl_frame.specs.Parts.{over};
-ghost use Rattle.nl_request.specs.Parts.{bytes_part, calls_of_part, no_flags, number_part};
+ghost use Rattle.nl_request.specs.Parts.{bytes_part, calls_of_part, number_part};
 ghost use Rattle.nl_request.specs.Parts.{text_part};
 
 use nl_attr::{AttrFlags, Order};

@@ -152,13 +152,6 @@ impl KeyBuffer for ShortKey {
     ghost room = { λ k. 70 - length k };
 
     #[inline(always)]
-    fn append(&mut self, bytes: &[u8]) -> Result<(), AllocError> {
-        self.make_room(bytes.len())?;
-        self.append_within(bytes);
-        Ok(())
-    }
-
-    #[inline(always)]
     fn make_room(&mut self, count: usize) -> Result<(), AllocError> {
         if count > INLINE - self.len as usize {
             return Err(AllocError);

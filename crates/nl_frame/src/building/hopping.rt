@@ -1,6 +1,7 @@
 //! Next hops that are put whole.
 
 ghost use Rattle.std.specs.Prelude.{◌≡◌, ◌≤◌, ◌+◌, List, None, Ok, Some, length, [], IfSome, IsTrue};
+ghost use Rattle.std.specs.Prelude.{OnOk};
 ghost use Rattle.std.specs.Bool.{MatchBool};
 ghost use Rattle.std.specs.Option.{option_map};
 ghost use Rattle.nl_attr.specs.Fixed as fixed;
@@ -9,6 +10,9 @@ ghost use Rattle.nl_attr.specs.declared.tree.Ctx.TheVariants.{Route};
 ghost use Rattle.nl_attr.specs.declared.tree.Content.TheVariants as content;
 ghost use Rattle.nl_frame.specs.declared.building.OpenHead.{OpenHead};
 ghost use Rattle.nl_frame.specs.Building.{answer, held_in, lacks, no_flags, put_hop, top};
+ghost use Rattle.nl_frame.specs.Draft.{Draft, Holds};
+ghost use Rattle.nl_frame.specs.Draft as draft;
+ghost use Rattle.nl_frame.specs.Limits.{Bounds};
 ghost use Rattle.nl_frame.specs.Parts.{over};
 ghost use Rattle.nl_frame.specs.Tops.{AreWithin, parts_with};
 
@@ -104,6 +108,9 @@ impl BuilderParts {
         ensures built { over self.new out.new
             ≡ put_hop (over self.old out.old) flags hops ifindex number bytes.now }
         ensures answer { result ≡ answer self.new.refusal }
+        ensures puts { OnOk result ((d : Draft) (L : Bounds) → Holds L (over self.old out.old) d
+            → Holds L (over self.new out.new)
+            (draft.put_hop d flags hops ifindex number bytes.now)) }
         ensures fits { self.new.len ≤ length out.new }
     {
         let mut top = self.as_top();
@@ -129,6 +136,9 @@ impl BuilderParts {
         ensures built { over self.new out.new
             ≡ put_hop (over self.old out.old) flags hops ifindex number bytes.now }
         ensures answer { result ≡ answer self.new.refusal }
+        ensures puts { OnOk result ((d : Draft) (L : Bounds) → Holds L (over self.old out.old) d
+            → Holds L (over self.new out.new)
+            (draft.put_hop d flags hops ifindex number bytes.now)) }
         ensures fits { self.new.len ≤ length out.new }
     {
         let _ = self.open_hop(out, flags, hops, ifindex);

@@ -3,10 +3,11 @@
 ghost use Rattle.std.specs.Prelude.{◌≡◌, ◌≤◌, ◌+◌, ◌∷◌, List, Some, None, Ok, [], length};
 ghost use Rattle.std.specs.Prelude.{IfErr, IfNone, IfOk, OnOk};
 ghost use Rattle.nl_frame.specs.declared.building.OpenHead.{OpenHead};
-ghost use Rattle.nl_frame.specs.Building.{AreOpen, held, hop_refusal, lacks, levels_in, open_attr};
-ghost use Rattle.nl_frame.specs.Building.{open_hop, open_refusal, opened, or_next, top};
+ghost use Rattle.nl_frame.specs.Building.{AreOpen, attr_begun, content_or_bytes, held, hop_refusal};
+ghost use Rattle.nl_frame.specs.Building.{lacks, levels_in, open_attr, open_hop, open_refusal_in};
+ghost use Rattle.nl_frame.specs.Building.{opened, or_next, top};
 ghost use Rattle.nl_frame.specs.Parts.{over};
-ghost use Rattle.nl_frame.specs.Tops.{AreWithin, Opens, heads_after, parts_with};
+ghost use Rattle.nl_frame.specs.Tops.{AreWithin, Opens, heads_after, parts_with, refusal_of};
 
 use crate::building::refusal::BuildError;
 use crate::building::top::{BuilderTop, held_behind};
@@ -50,12 +51,10 @@ impl BuilderTop {
             count + levels_in content ≤ self.now.limits.shape.depth) }
         ensures room { OnOk result (lacks (over (parts_with self.now []) out.now) 4 ≡ None) }
         ensures first { OnOk result (self.now.refusal ≡ None) }
-        ensures none { OnOk result ((hs : List OpenHead) → length hs ≡ count
-            → or_next self.now.refusal (open_refusal (over (parts_with self.now hs) out.now) held)
-            ≡ None) }
-        ensures refused { IfErr result (λ e. (hs : List OpenHead) → length hs ≡ count
-            → or_next self.now.refusal (open_refusal (over (parts_with self.now hs) out.now) held)
-            ≡ Some e) }
+        ensures none { OnOk result ((hs : List OpenHead) → or_next self.now.refusal
+            (open_refusal_in (over (parts_with self.now hs) out.now) count held) ≡ None) }
+        ensures refused { IfErr result (λ e. (hs : List OpenHead) → or_next self.now.refusal
+            (open_refusal_in (over (parts_with self.now hs) out.now) count held) ≡ Some e) }
     {
         if let Some(refusal) = self.refusal {
             return Err(refusal);
@@ -94,6 +93,14 @@ impl BuilderTop {
         ensures inside { (hs : List OpenHead) → top hs ≡ self.old.head → length hs ≡ count
             → AreOpen self.old.limits.shape.depth self.old.len hs
             → AreOpen self.old.limits.shape.depth self.new.len (heads_after result hs) }
+        // For any count, of heads that are open or not, this is why it is refused,
+        ensures answer { refusal_of result ≡ or_next self.old.refusal (open_refusal_in
+            (over (parts_with self.old []) out.old) count (held self.old.head number flags)) }
+        // and else this is what it opens.
+        ensures opened { IfOk result (λ h. over (parts_with self.new (h ∷ [])) out.new
+            ≡ opened (over (parts_with self.old []) out.old)
+            (content_or_bytes (held self.old.head number flags))
+            (attr_begun self.old.limits.shape.order number flags)) }
         ensures opens { Opens self.old self.new out.old out.new result }
         ensures fits { AreWithin self.new out.new }
     {

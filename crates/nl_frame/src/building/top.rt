@@ -250,6 +250,7 @@ impl BuilderTop {
         ensures value { (hs : List OpenHead) (out : List ℕ) → top hs ≡ self.now.head
             → self.now.len ≤ length out
             → result ≡ length_from (over (parts_with self.now hs) out) hs }
+        ensures headless { IfNone self.now.head (result ≡ 0) }
         ensures limit { result ≤ fixed.LONGEST_REGION }
     {
         match self.head {
@@ -324,6 +325,7 @@ impl BuilderTop {
             → over (left_with self.now result hs) out.new
             ≡ close (over (parts_with self.now hs) out.old) }
         ensures few { count < 2 → result ≡ or_next self.now.refusal (Some BuildError.NothingOpen) }
+        ensures many { 1 < count → IfNone self.now.head (result ≡ self.now.refusal) }
         ensures accepted { IfNone result (self.now.refusal ≡ None) }
         ensures refused { IfSome result (λ _. out.new ≡ out.old) }
         ensures headless { IfNone self.now.head (out.new ≡ out.old) }

@@ -1,13 +1,17 @@
-use Rattle.std.proofs.Common.{◌≡◌, ℤ, to_z, List, Option, None, take, drop, reverse, arith, ap, sym, ◌∙◌}
+use Rattle.std.proofs.Common.{◌≡◌, ℕ, ℤ, to_z, List, Option, None, take, drop, reverse, arith, ap, subst, sym, ◌∙◌}
 use Rattle.std.specs.Int.{w32, cast_unsigned}
 use Rattle.std.proofs.lemmas.Int.{to_z-of_z}
+use Rattle.std.proofs.lemmas.Result.{on_ok_weaker}
 use Rattle.nl_frame.specs.declared.building.OpenHead.{OpenHead}
 use Rattle.nl_frame.specs.declared.building.refusal.BuildError.{BuildError}
 use Rattle.nl_frame.specs.declared.building.top.BuilderTop.{BuilderTop}
 use Rattle.nl_frame.specs.Building.{Built, answer, put_hop}
+use Rattle.nl_frame.specs.Draft.{Draft, Holds}
+use Rattle.nl_frame.specs.Draft as draft
 use Rattle.nl_frame.specs.Limits.{Bounds}
 use Rattle.nl_frame.specs.Parts.{Parts, over}
 use Rattle.nl_frame.specs.Tops.{parts_with}
+use Rattle.nl_frame.proofs.Kept.{hop_puts, where_ok}
 use Rattle.nl_frame.proofs.Opens.{are_open_more}
 use Rattle.nl_frame.proofs.building.parts.BuilderParts.put_hop.Goals as goal
 
@@ -48,3 +52,16 @@ pub returns-then-put_hop-clause-answer : goal.returns-then-put_hop-clause-answer
 returns-then-put_hop-clause-answer c =
     let none : c.self.inside.refusal ≡ None = ap (λ (x : Parts). x.refusal) c.self.view_is ∙ sym (ap (λ (x : BuilderTop). x.refusal) c.as_top-top.ensures.value) ∙ c.put_hop.ensures.none c.if-put_hop.true in
     sym (ap answer none)
+
+pub returns-then-put_hop-clause-puts : goal.returns-then-put_hop-clause-puts
+returns-then-put_hop-clause-puts c =
+    where_ok _ _ _ (returns-then-put_hop-clause-answer c) (λ none d L h. hop_puts (over c.args.self.now c.args.out.now) _ d c.args.flags c.args.hops c.args.ifindex c.args.number c.args.bytes.now c.ranges.ifindex (returns-then-put_hop-clause-built c) none h)
+
+pub returns-clause-puts : goal.returns-clause-puts
+returns-clause-puts c =
+    let p = c.args.self.now in
+    let same = ap (λ (xs : List ℕ). over p xs) c.if-put_hop.ensures.built.1 in
+    let index = to_z-of_z w32 c.args.ifindex c.ranges.ifindex in
+    let put = λ (d : Draft) (j : ℤ). draft.put_hop d c.args.flags c.args.hops j c.args.number c.args.bytes.now in
+    let new = over c.put_hop_by_parts.new.self c.put_hop_by_parts.new.out in
+    on_ok_weaker c.put_hop_by_parts.result (λ given d L h. subst (λ (j : ℤ). Holds L new (put d j)) index (given d L (subst (λ (b : Built). Holds L b d) (sym same) h))) c.put_hop_by_parts.ensures.puts

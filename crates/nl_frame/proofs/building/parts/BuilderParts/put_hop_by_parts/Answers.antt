@@ -1,13 +1,18 @@
-use Rattle.std.proofs.Common.{ℤ, ap, ◌∙◌}
+use Rattle.std.proofs.Common.{◌∙◌, ap, ℤ}
 use Rattle.std.specs.Int.{w32}
 use Rattle.std.proofs.lemmas.Int.{to_z-of_z}
-use Rattle.nl_frame.specs.Building.{Built, close, no_flags, open_hop, put}
+use Rattle.nl_frame.specs.Building.{Built, close, no_flags, put, put_hop}
 use Rattle.nl_frame.specs.Parts.{over}
+use Rattle.nl_frame.proofs.Kept.{hop_puts, where_ok}
 use Rattle.nl_frame.proofs.building.parts.BuilderParts.put_hop_by_parts.Goals as goal
 
 pub returns-clause-built : goal.returns-clause-built
 returns-clause-built c =
-    let b = over c.args.self.now c.args.out.now in
-    let bs = c.args.bytes.now in
-    let opened = c.open_hop.ensures.built ∙ ap (λ (i : ℤ). open_hop b c.args.flags c.args.hops i) (to_z-of_z w32 c.args.ifindex c.ranges.ifindex) in
-    c.close.ensures.built ∙ ap (λ (x : Built). close x) (c.put_bytes.ensures.built ∙ ap (λ (x : Built). put x c.args.number no_flags bs) opened)
+    c.close.ensures.built
+    ∙ ap close c.put_bytes.ensures.built
+    ∙ ap (λ (b : Built). close (put b c.args.number no_flags c.args.bytes.now)) c.open_hop.ensures.built
+    ∙ ap (λ (j : ℤ). put_hop (over c.args.self.now c.args.out.now) c.args.flags c.args.hops j c.args.number c.args.bytes.now) (to_z-of_z w32 c.args.ifindex c.ranges.ifindex)
+
+pub returns-clause-puts : goal.returns-clause-puts
+returns-clause-puts c =
+    where_ok _ _ _ c.close.ensures.answer (λ none d L h. hop_puts (over c.args.self.now c.args.out.now) _ d c.args.flags c.args.hops c.args.ifindex c.args.number c.args.bytes.now c.ranges.ifindex (returns-clause-built c) none h)

@@ -1,10 +1,10 @@
-use Rattle.std.proofs.Common.{rules, ◌≡◌, [], length, Option, arith, ap, sym, ◌∙◌}
+use Rattle.std.proofs.Common.{rules, ◌≡◌, [], length, ℕ, Option, arith, ap, sym, ◌∙◌}
 use Rattle.nl_attr.specs.declared.order.Order.{Order}
 use Rattle.nl_frame.specs.declared.building.OpenHead.{OpenHead}
-use Rattle.nl_frame.specs.Building.{attr_begun, held, levels_in}
+use Rattle.nl_frame.specs.Building.{attr_begun, held, levels_in, open_refusal_in, or_next}
 use Rattle.nl_frame.specs.Parts.{over}
 use Rattle.nl_frame.specs.Tops.{parts_with}
-use Rattle.nl_frame.proofs.Tops.{attr_opened, has_opened, one_more_open}
+use Rattle.nl_frame.proofs.Tops.{attr_opened, attr_opened_as, has_opened, one_more_open}
 use Rattle.nl_frame.proofs.building.top.BuilderTop.open_attr.Goals as goal
 
 pub returns-in-Ok-clause-built : goal.returns-in-Ok-clause-built
@@ -12,7 +12,14 @@ returns-in-Ok-clause-built c = λ hs e n.
     let b = over (parts_with c.args.self.now hs) c.args.out.now in
     let is = c.held_behind-held.ensures ∙ ap (λ (x : Option OpenHead). held x c.args.number c.args.flags) (sym e) in
     let head = c.attr_head-head.ensures ∙ ap (λ (x : Order). attr_begun x c.args.number c.args.flags) c.order.ensures in
-    attr_opened b _ c.args.number c.args.flags c.held_behind-held.result c.in-Ok.content c.attr_head-head.result is c.in-Ok.ensures.held (c.in-Ok.ensures.none hs n) head (c.open_head.ensures.built hs)
+    let none = ap (λ (k : ℕ). or_next b.refusal (open_refusal_in b k c.held_behind-held.result)) n ∙ c.in-Ok.ensures.none hs in
+    attr_opened b _ c.args.number c.args.flags c.held_behind-held.result c.in-Ok.content c.attr_head-head.result is c.in-Ok.ensures.held none head (c.open_head.ensures.built hs)
+
+pub returns-in-Ok-clause-opened : goal.returns-in-Ok-clause-opened
+returns-in-Ok-clause-opened c =
+    let b = over (parts_with c.args.self.now []) c.args.out.now in
+    let head = c.attr_head-head.ensures ∙ ap (λ (x : Order). attr_begun x c.args.number c.args.flags) c.order.ensures in
+    attr_opened_as b _ c.args.number c.args.flags _ c.in-Ok.content c.attr_head-head.result (sym c.held_behind-held.ensures ∙ c.in-Ok.ensures.held) head (c.open_head.ensures.built [])
 
 pub returns-in-Ok-clause-inside : goal.returns-in-Ok-clause-inside
 returns-in-Ok-clause-inside c = λ hs e n o.
