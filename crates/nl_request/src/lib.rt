@@ -21,8 +21,6 @@ mod prefix;
 mod route;
 mod rule;
 mod table;
-#[cfg(test)]
-mod tests;
 
 pub use addr::{AddrRequest, Lifetimes};
 pub use asked::Asked;
