@@ -91,6 +91,8 @@ def current() -> Optional[str]:
 
 def prove(crates: Crates, name: str, made: str) -> str:
     """Proves and builds a crate and those below, lowest first; an interrupted one goes on."""
+    if shutil.which("rt") is None:
+        raise Failed("rt, which proves and builds it, is not on the PATH")
     names, begun = [*below(crates, name), name], time.time()
     note = "" if os.path.exists(made) else f"; {LENGTH}"
     with logged(f"{os.path.dirname(made)}/build.log") as log:
