@@ -92,7 +92,7 @@ rtnl: standard input: line 1: 3 digits, an odd number' show --explain <<<140
 expect 'explained digits, wrapped' 1 '' 'rtnl: line 1: bad line
 rtnl: standard input: line 1: 5 digits, an odd number; the line looks wrapped' show --explain < <(printf '14000\n00003\n')
 expect 'an explained file of bytes' 1 '' 'rtnl: line 1: bad line
-rtnl: standard input: line 1, column 1: byte 0x7f is no hexadecimal digit; the file is binary' \
+rtnl: standard input: line 1, column 1: byte 0x7f is no hexadecimal digit; the file is binary: rtnl-record reads captures' \
   check --explain < <(printf '\177ELF')
 expect 'an explained byte order mark' 1 '' 'rtnl: line 1: bad line
 rtnl: standard input: line 1, column 1: byte 0xef is no hexadecimal digit; the file begins with a byte order mark' \
@@ -104,10 +104,10 @@ expect 'an explained byte order mark of UTF-16, the highest byte first' 1 '' 'rt
 rtnl: standard input: line 1, column 1: byte 0xfe is no hexadecimal digit; the file begins with a byte order mark' \
   check --explain < <(printf '\xfe\xff\0001')
 expect 'an explained byte order mark on a later line' 1 '' 'rtnl: line 2: bad line
-rtnl: standard input: line 2, column 1: byte 0xef is no hexadecimal digit; the file is binary' \
+rtnl: standard input: line 2, column 1: byte 0xef is no hexadecimal digit; the file is binary: rtnl-record reads captures' \
   check --explain < <(printf '# note\n\xef\xbb\xbf00\n')
 expect 'explained bytes that are no byte order mark' 1 '' 'rtnl: line 1: bad line
-rtnl: standard input: line 1, column 1: byte 0xef is no hexadecimal digit; the file is binary' \
+rtnl: standard input: line 1, column 1: byte 0xef is no hexadecimal digit; the file is binary: rtnl-record reads captures' \
   check --explain < <(printf '\xef\xbb00\n')
 expect 'a missing file, explained' 3 '' "rtnl: $folder/missing: read fault
 rtnl: $folder/missing: No such file or directory (os error 2)" check --explain "$folder/missing"

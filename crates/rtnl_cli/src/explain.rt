@@ -57,7 +57,7 @@ fn hint_of_byte(input: &[u8], number: u32, column: usize, byte: u8) -> &'static 
     if number == 1 && column == 1 && begins_with_mark(input) {
         "; the file begins with a byte order mark"
     } else if is_binary(byte) {
-        "; the file is binary"
+        "; the file is binary: rtnl-record reads captures"
     } else {
         ""
     }
