@@ -34,6 +34,12 @@ pub struct AttrFlags {
     pub net: bool,
 }
 
+/// Neither flag bit, as of most attributes.
+pub const NO_FLAGS: AttrFlags = AttrFlags {
+    nested: false,
+    net: false,
+};
+
 /// Where an attribute stands, which says what its number means.
 #[derive(Clone, Copy, Debug, PartialEq, Eq, Hash)]
 pub enum Ctx {

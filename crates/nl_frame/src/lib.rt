@@ -21,6 +21,7 @@ mod writing;
 pub use body::{Body, Message};
 pub use building::{
     BuildError, Builder, BuilderParts, BuilderTop, FamilyHead, NoBuilder, OpenHead, PutMessage,
+    levels_inside,
 };
 pub use canonical::is_canonical;
 pub use form::Form;

@@ -13,8 +13,8 @@ ghost use Rattle.nl_request.specs.Parts.{calls_of_part};
 
 use crate::asked::Asked;
 use crate::operation::Operation;
-use crate::parts::{NO_FLAGS, put_bytes, put_text};
-use nl_attr::Order;
+use crate::parts::{put_bytes, put_text};
+use nl_attr::{NO_FLAGS, Order};
 use nl_frame::{BuildError, Builder, BuilderParts, Family, FamilyHead, PutMessage};
 use nl_route::{AddrHead, IFA_ADDRESS, IFA_BROADCAST, IFA_FLAGS, IFA_LABEL, IFA_LOCAL};
 

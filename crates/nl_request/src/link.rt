@@ -11,8 +11,8 @@ ghost use Rattle.nl_request.specs.Parts.{calls_of_part};
 
 use crate::asked::Asked;
 use crate::operation::Operation;
-use crate::parts::{NO_FLAGS, put_bytes, put_text, put_u32};
-use nl_attr::IFLA_LINKINFO;
+use crate::parts::{put_bytes, put_text, put_u32};
+use nl_attr::{IFLA_LINKINFO, NO_FLAGS};
 use nl_frame::{BuildError, Builder, BuilderParts, Family, FamilyHead, PutMessage};
 use nl_route::{IFLA_IFNAME, IFLA_INFO_KIND, IFLA_MASTER, IFLA_MTU, LinkHead};
 

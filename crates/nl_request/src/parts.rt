@@ -10,14 +10,8 @@ ghost use Rattle.nl_frame.specs.Parts.{over};
 ghost use Rattle.nl_request.specs.Parts.{bytes_part, calls_of_part, number_part};
 ghost use Rattle.nl_request.specs.Parts.{text_part};
 
-use nl_attr::{AttrFlags, Order};
+use nl_attr::{NO_FLAGS, Order};
 use nl_frame::{BuildError, BuilderParts};
-
-/// Neither flag bit: ip(8) sends no attribute of a request with one.
-pub(crate) const NO_FLAGS: AttrFlags = AttrFlags {
-    nested: false,
-    net: false,
-};
 
 /// Puts an attribute of these bytes, quickest where they are four, an address of IPv4.
 #[inline(always)]

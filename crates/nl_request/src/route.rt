@@ -17,10 +17,10 @@ ghost use Rattle.nl_route.specs.Route as fields;
 use crate::asked::Asked;
 use crate::gateway::Gateway;
 use crate::operation::Operation;
-use crate::parts::{NO_FLAGS, put_bytes, put_u32};
+use crate::parts::{put_bytes, put_u32};
 use crate::prefix::{Prefix, length_of, put_prefix};
 use crate::table::{put_table, table_byte};
-use nl_attr::{Order, RTA_METRICS, RTA_MULTIPATH};
+use nl_attr::{NO_FLAGS, Order, RTA_METRICS, RTA_MULTIPATH};
 use nl_frame::{BuildError, Builder, BuilderParts, Family, FamilyHead, PutMessage};
 use nl_route::{
     RTA_DST, RTA_GATEWAY, RTA_OIF, RTA_PREFSRC, RTA_PRIORITY, RTA_SRC, RTA_TABLE, RouteHead,

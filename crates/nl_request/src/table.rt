@@ -6,8 +6,7 @@ ghost use Rattle.nl_frame.specs.Parts.{over};
 ghost use Rattle.nl_request.specs.Parts.{calls_of_part};
 ghost use Rattle.nl_request.specs.Tables.{head_table, table_part};
 
-use crate::parts::NO_FLAGS;
-use nl_attr::Order;
+use nl_attr::{NO_FLAGS, Order};
 use nl_frame::{BuildError, BuilderParts};
 
 /// The table's number in a head: 0 where it doesn't fit the byte.

@@ -5,7 +5,7 @@
 #![tactic(auto)]
 
 use anyhow::{Result, bail};
-use nl_attr::{Attr, AttrFlags, Order, Tally};
+use nl_attr::{Attr, NO_FLAGS, Order, Tally};
 use nl_frame::{
     Body, BuildError, Builder, FamilyHead, Limits, Message, read_datagram, write_datagram,
 };
@@ -90,11 +90,6 @@ const ROUTE: RouteHead = RouteHead {
     scope: 0,
     sort: 1,
     flags: 0,
-};
-
-const NO_FLAGS: AttrFlags = AttrFlags {
-    nested: false,
-    net: false,
 };
 
 /// Puts where a route leads, one next hop by itself or so many in a list, and its priority, in the

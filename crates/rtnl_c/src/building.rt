@@ -17,7 +17,7 @@ use crate::numbers::{context, number};
 use crate::options::{Options, limits, order};
 use crate::put::Put;
 use nl_attr::{AttrFlags, Content};
-use nl_frame::{BuildError, BuilderTop, Limits, OpenHead, Order};
+use nl_frame::{BuildError, BuilderTop, Limits, OpenHead, Order, levels_inside};
 
 /// How many heads may be open.
 const MOST_OPEN: u8 = 33;
@@ -95,17 +95,6 @@ fn content_by_number(number: u8) -> Option<Content>
     }
 }
 
-/// How many levels are inside what stands behind a head.
-#[inline(always)]
-fn levels(content: Content) -> usize
-    ensures { result ≡ levels_in content }
-{
-    match content {
-        Content::Hops => 1,
-        Content::List(_) | Content::Bytes => 0,
-    }
-}
-
 /// The refusal of a number, or none of 0.
 #[inline(always)]
 fn refusal_by_number(code: u8) -> Option<Option<BuildError>>
@@ -167,7 +156,10 @@ fn innermost(kept: &KeptBuilder) -> Option<Option<OpenHead>>
             return None;
         };
         let start = kept.starts[index];
-        if kept.len < 4 || start > kept.len - 4 || index + levels(content) > kept.depth as usize {
+        if kept.len < 4
+            || start > kept.len - 4
+            || index + levels_inside(content) > kept.depth as usize
+        {
             return None;
         }
         head = Some(OpenHead { start, content });

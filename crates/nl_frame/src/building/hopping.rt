@@ -19,13 +19,7 @@ ghost use Rattle.nl_frame.specs.Tops.{AreWithin, parts_with};
 use crate::building::parts::BuilderParts;
 use crate::building::refusal::BuildError;
 use crate::building::top::BuilderTop;
-use nl_attr::{AttrFlags, Content, Ctx, LONGEST_CONTAINER, NUMBERS, align4, holds, hop_head};
-
-/// Neither flag bit.
-const NO_FLAGS: AttrFlags = AttrFlags {
-    nested: false,
-    net: false,
-};
+use nl_attr::{Content, Ctx, LONGEST_CONTAINER, NO_FLAGS, NUMBERS, align4, holds, hop_head};
 
 impl BuilderTop {
     /// How long a next hop is that holds one attribute of so many bytes, where it is put.

@@ -363,8 +363,10 @@ impl<'a> Builder<'a> {
     }
 }
 
-/// How many levels are inside what stands behind a head.
-fn levels(content: Content) -> usize
+/// How many levels are inside what stands behind a head: 1 where next hops do, since each of them
+/// holds attributes a level deeper, else 0.
+#[inline(always)]
+pub fn levels_inside(content: Content) -> usize
     ensures { result ≡ levels_in content }
 {
     match content {

@@ -11,7 +11,7 @@ ghost use Rattle.nl_frame.specs.Tops.{AreWithin, Opens, heads_after, parts_with,
 
 use crate::building::refusal::BuildError;
 use crate::building::top::{BuilderTop, held_behind};
-use crate::building::{OpenHead, levels};
+use crate::building::{OpenHead, levels_inside};
 use nl_attr::{AttrFlags, Content, Ctx, attr_head, hop_head};
 
 impl BuilderTop {
@@ -63,7 +63,7 @@ impl BuilderTop {
         if content == Content::Bytes {
             return Err(BuildError::Mismatch);
         }
-        if count.saturating_add(levels(content)) > self.limits.depth().get() as usize {
+        if count.saturating_add(levels_inside(content)) > self.limits.depth().get() as usize {
             return Err(BuildError::TooDeep);
         }
         match self.lacks(out, 4) {

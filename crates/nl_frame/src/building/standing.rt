@@ -6,7 +6,7 @@ ghost use Rattle.nl_frame.specs.Parts.{AreParts, MayReopen, begin_bytes, over, r
 
 use crate::building::parts::BuilderParts;
 use crate::building::refusal::BuildError;
-use crate::building::{OpenHead, levels};
+use crate::building::{OpenHead, levels_inside};
 use crate::limits::Limits;
 use thiserror::Error;
 
@@ -47,7 +47,7 @@ impl BuilderParts {
     {
         if self.len < 4
             || head.start as usize > self.len - 4
-            || self.heads.len() + levels(head.content) > self.limits.depth().get() as usize
+            || self.heads.len() + levels_inside(head.content) > self.limits.depth().get() as usize
         {
             return Err(NoBuilder);
         }

@@ -2,7 +2,7 @@ use Rattle.std.proofs.Common.{◌≡◌, None, Some, slice_index_or, arith, ap, 
 use Rattle.nl_frame.specs.Building.{levels_in}
 use Rattle.rtnl_c.specs.Building.{content_in}
 use Rattle.rtnl_c.proofs.Keeping.{at_place, content_back, content_said, few_heads, one_more}
-use Rattle.rtnl_c.proofs.building.innermost.Goals.{then-kept-lt4-via-then-kept-lt4, then-kept-lt4-via-else-kept-lt4+then-start-kept, then-kept-lt4-via-else-kept-lt4+else-start-kept+then-index-levels}
+use Rattle.rtnl_c.proofs.building.innermost.Goals.{then-kept-lt4-via-then-kept-lt4, then-kept-lt4-via-else-kept-lt4+then-start-kept, then-kept-lt4-via-else-kept-lt4+else-start-kept+then-index-levels_inside}
 use Rattle.rtnl_c.proofs.building.innermost.Goals as goal
 
 pub returns-then-kept-gt-MOST_OPEN : goal.returns-then-kept-gt-MOST_OPEN
@@ -30,7 +30,7 @@ returns-then-kept-lt4 c = λ hs h.
     elim c.then-kept-lt4.branch [
       | then-kept-lt4-via-then-kept-lt4 w ↦ omega (arith, w.if-kept-lt4.true, x.open_heads.0)
       | then-kept-lt4-via-else-kept-lt4+then-start-kept w ↦ omega (arith, w.if-kept-lt4.false, w.if-start-kept.true, start, x.open_heads.0)
-      | then-kept-lt4-via-else-kept-lt4+else-start-kept+then-index-levels w ↦ omega (arith, w.if-index-levels.true, w.levels.ensures, same, x.count, x.open_heads.1)
+      | then-kept-lt4-via-else-kept-lt4+else-start-kept+then-index-levels_inside w ↦ omega (arith, w.if-index-levels_inside.true, w.levels_inside.ensures, same, x.count, x.open_heads.1)
     ]
 
 pub loop-index-preserved : goal.loop-index-preserved
@@ -42,5 +42,5 @@ loop-index-preserved c =
       v.1,
       one_more k.starts k.contents k.depth k.len i (slice_index_or k.starts i 0) c.in-Some.content c.loop-index.head v.2 refl
           (content_said (slice_index_or k.contents i 0) c.in-Some.content (sym c.content_by_number.ensures ∙ c.in-Some.is))
-          (omega (arith, c.if-kept-lt4.false, c.if-start-kept.false)) (omega (arith, c.if-index-levels.false, c.levels.ensures)),
+          (omega (arith, c.if-kept-lt4.false, c.if-start-kept.false)) (omega (arith, c.if-index-levels_inside.false, c.levels_inside.ensures)),
     )
