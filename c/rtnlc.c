@@ -85,11 +85,30 @@ static const struct rtnlc_options standard = { RTNLC_STANDARD_TOTAL, RTNLC_STAND
 	                                           RTNLC_STANDARD_ENTRIES, RTNLC_STANDARD_DEPTH,
 	                                           false };
 
-static const uint8_t *read_at(const uint8_t *bytes)
+/* A null pointer stands for no bytes and no room, whatever the size beside it: the proved calls get
+ * the place of this one and a size of 0, so it is neither read nor written. It is aligned for each
+ * type of element. */
+static const struct rtnlc_event nothing;
+
+static const void *read_at(const void *from)
 {
-	static const uint8_t nothing;
-	return bytes ? bytes : &nothing;
+	return from ? from : &nothing;
 }
+
+static void *write_at(void *to)
+{
+	return to ? to : (void *)&nothing;
+}
+
+static size_t size_at(const void *pointer, size_t size)
+{
+	return pointer ? size : 0;
+}
+
+/* What the proved calls take for bytes, for a buffer, and for a builder with its buffer. */
+#define BYTES(from, len) read_at(from), size_at(from, len)
+#define ROOM(to, room)   write_at(to), size_at(to, room)
+#define PARTS(b)         &(b)->built, ROOM((b)->out, (b)->room)
 
 static const struct rtnlc_options *limits_at(const struct rtnlc_options *options)
 {
@@ -99,42 +118,41 @@ static const struct rtnlc_options *limits_at(const struct rtnlc_options *options
 struct rtnlc_scanned rtnlc_scan(const uint8_t *bytes, size_t len,
                                 const struct rtnlc_options *options)
 {
-	return proved_scan(read_at(bytes), len, limits_at(options));
+	return proved_scan(BYTES(bytes, len), limits_at(options));
 }
 
 struct rtnlc_broken_head rtnlc_broken(const uint8_t *bytes, size_t len,
                                       const struct rtnlc_options *options)
 {
-	return proved_broken(read_at(bytes), len, limits_at(options));
+	return proved_broken(BYTES(bytes, len), limits_at(options));
 }
 
 struct rtnlc_taped rtnlc_tape(const uint8_t *bytes, size_t len,
                               const struct rtnlc_options *options, struct rtnlc_event *out,
                               size_t room)
 {
-	struct rtnlc_event nowhere;
-	return proved_tape(read_at(bytes), len, limits_at(options), out ? out : &nowhere, room);
+	return proved_tape(BYTES(bytes, len), limits_at(options), ROOM(out, room));
 }
 
 struct rtnlc_message rtnlc_message_at(const uint8_t *bytes, size_t len, uint32_t place, bool big)
 {
-	return proved_message_at(read_at(bytes), len, place, big);
+	return proved_message_at(BYTES(bytes, len), place, big);
 }
 
 struct rtnlc_attr rtnlc_attr_at(const uint8_t *bytes, size_t len, uint32_t place, bool big)
 {
-	return proved_attr_at(read_at(bytes), len, place, big);
+	return proved_attr_at(BYTES(bytes, len), place, big);
 }
 
 struct rtnlc_hop rtnlc_hop_at(const uint8_t *bytes, size_t len, uint32_t place, bool big)
 {
-	return proved_hop_at(read_at(bytes), len, place, big);
+	return proved_hop_at(BYTES(bytes, len), place, big);
 }
 
 struct rtnlc_attr rtnlc_find(const uint8_t *bytes, size_t len, uint32_t place, uint16_t number,
                              bool big)
 {
-	return proved_find(read_at(bytes), len, place, number, big);
+	return proved_find(BYTES(bytes, len), place, number, big);
 }
 
 struct rtnlc_family rtnlc_family_of(uint16_t kind)
@@ -150,42 +168,35 @@ struct rtnlc_holds rtnlc_holds(uint8_t context, uint16_t number, bool nested)
 struct rtnlc_checked rtnlc_check(const uint8_t *bytes, size_t len,
                                  const struct rtnlc_options *options)
 {
-	return proved_check(read_at(bytes), len, limits_at(options));
+	return proved_check(BYTES(bytes, len), limits_at(options));
 }
 
 struct rtnlc_shown rtnlc_show(size_t number, const uint8_t *bytes, size_t len,
                               const struct rtnlc_options *options, char *out, size_t room)
 {
-	uint8_t nowhere;
-	uint8_t *to = out ? (uint8_t *)out : &nowhere;
-	return proved_show(number, read_at(bytes), len, limits_at(options), to, room);
+	return proved_show(number, BYTES(bytes, len), limits_at(options), ROOM(out, room));
 }
 
 struct rtnlc_shown rtnlc_show_json(size_t number, const uint8_t *bytes, size_t len,
                                    const struct rtnlc_options *options, char *out, size_t room)
 {
-	uint8_t nowhere;
-	uint8_t *to = out ? (uint8_t *)out : &nowhere;
-	return proved_show_json(number, read_at(bytes), len, limits_at(options), to, room);
+	return proved_show_json(number, BYTES(bytes, len), limits_at(options), ROOM(out, room));
 }
 
 struct rtnlc_put rtnlc_request(uint16_t kind, uint8_t family, uint32_t seq, bool big, uint8_t *out,
                                size_t room)
 {
-	uint8_t nowhere;
-	return proved_request(kind, family, seq, big, out ? out : &nowhere, room);
+	return proved_request(kind, family, seq, big, ROOM(out, room));
 }
 
 struct rtnlc_put rtnlc_type_name(uint16_t kind, char *out, size_t room)
 {
-	uint8_t nowhere;
-	return proved_type_name(kind, out ? (uint8_t *)out : &nowhere, room);
+	return proved_type_name(kind, ROOM(out, room));
 }
 
 struct rtnlc_put rtnlc_attr_name(uint8_t context, uint16_t number, char *out, size_t room)
 {
-	uint8_t nowhere;
-	return proved_attr_name(context, number, out ? (uint8_t *)out : &nowhere, room);
+	return proved_attr_name(context, number, ROOM(out, room));
 }
 
 /* A null pointer is a handle with no session. */
@@ -224,9 +235,7 @@ struct rtnlc_put rtnlc_session_begin(struct rtnlc_session *s, uint16_t kind, uin
                                      uint32_t seq, uint32_t port, uint8_t *out, size_t room)
 {
 	struct handle handle = handle_of(s);
-	uint8_t nowhere;
-	struct rtnlc_put put =
-	    proved_session_begin(&handle, kind, family, seq, port, out ? out : &nowhere, room);
+	struct rtnlc_put put = proved_session_begin(&handle, kind, family, seq, port, ROOM(out, room));
 	keep(s, &handle);
 	return put;
 }
@@ -234,7 +243,7 @@ struct rtnlc_put rtnlc_session_begin(struct rtnlc_session *s, uint16_t kind, uin
 struct rtnlc_fed rtnlc_session_feed(struct rtnlc_session *s, const uint8_t *bytes, size_t len)
 {
 	struct handle handle = handle_of(s);
-	struct rtnlc_fed fed = proved_session_feed(&handle, read_at(bytes), len);
+	struct rtnlc_fed fed = proved_session_feed(&handle, BYTES(bytes, len));
 	keep(s, &handle);
 	return fed;
 }
@@ -267,8 +276,7 @@ struct rtnlc_put rtnlc_session_entry(struct rtnlc_session *s, uint16_t kind, uin
                                      uint8_t *out, size_t room)
 {
 	struct handle handle = handle_of(s);
-	uint8_t nowhere;
-	struct rtnlc_put put = proved_session_entry(&handle, kind, index, out ? out : &nowhere, room);
+	struct rtnlc_put put = proved_session_entry(&handle, kind, index, ROOM(out, room));
 	keep(s, &handle);
 	return put;
 }
@@ -277,8 +285,7 @@ struct rtnlc_put rtnlc_session_key(struct rtnlc_session *s, uint16_t kind, uint3
                                    uint8_t *out, size_t room)
 {
 	struct handle handle = handle_of(s);
-	uint8_t nowhere;
-	struct rtnlc_put put = proved_session_key(&handle, kind, index, out ? out : &nowhere, room);
+	struct rtnlc_put put = proved_session_key(&handle, kind, index, ROOM(out, room));
 	keep(s, &handle);
 	return put;
 }
@@ -287,7 +294,7 @@ struct rtnlc_found rtnlc_session_find(struct rtnlc_session *s, uint16_t kind, co
                                       size_t len)
 {
 	struct handle handle = handle_of(s);
-	struct rtnlc_found found = proved_session_find(&handle, kind, read_at(key), len);
+	struct rtnlc_found found = proved_session_find(&handle, kind, BYTES(key, len));
 	keep(s, &handle);
 	return found;
 }
@@ -301,18 +308,14 @@ struct rtnlc_put rtnlc_stream_begin(struct rtnlc_stream *stream, uint16_t kind, 
                                     uint32_t seq, uint32_t port, uint8_t *out, size_t room)
 {
 	static const struct rtnlc_put none = { 0, RTNLC_NO_STREAM };
-	uint8_t nowhere;
-	uint8_t *to = out ? out : &nowhere;
-	return stream ? proved_stream_begin(stream, kind, family, seq, port, to, room) : none;
+	return stream ? proved_stream_begin(stream, kind, family, seq, port, ROOM(out, room)) : none;
 }
 
 struct rtnlc_fed rtnlc_stream_feed(struct rtnlc_stream *stream, const uint8_t *bytes, size_t len,
                                    struct rtnlc_event *out, size_t room)
 {
 	static const struct rtnlc_fed none = { 0, 0, 0, 0, false, RTNLC_NO_STREAM };
-	struct rtnlc_event nowhere;
-	struct rtnlc_event *to = out ? out : &nowhere;
-	return stream ? proved_stream_feed(stream, read_at(bytes), len, to, room) : none;
+	return stream ? proved_stream_feed(stream, BYTES(bytes, len), ROOM(out, room)) : none;
 }
 
 uint8_t rtnlc_stream_abandon(struct rtnlc_stream *stream)
@@ -327,10 +330,9 @@ struct rtnlc_status rtnlc_stream_status(const struct rtnlc_stream *stream)
 	return proved_stream_status(stream ? stream : &none);
 }
 
-/* Bytes of a request, which the proved calls take to be there. */
+/* Bytes of a request, of which a null pointer stands for none too. */
 static void settle(struct rtnlc_bytes *bytes)
 {
-	static const uint8_t nothing;
 	if (!bytes->at) {
 		bytes->at = &nothing;
 		bytes->len = 0;
@@ -343,7 +345,6 @@ struct rtnlc_put rtnlc_request_link(const struct rtnlc_link_request *link, uint8
                                     uint32_t seq, bool big, uint8_t *out, size_t room)
 {
 	struct rtnlc_link_request it;
-	uint8_t nowhere;
 	if (!link)
 		return not_asked;
 	it = *link;
@@ -351,14 +352,13 @@ struct rtnlc_put rtnlc_request_link(const struct rtnlc_link_request *link, uint8
 	settle(&it.address);
 	settle(&it.kind);
 	settle(&it.data);
-	return proved_request_link(&it, operation, seq, big, out ? out : &nowhere, room);
+	return proved_request_link(&it, operation, seq, big, ROOM(out, room));
 }
 
 struct rtnlc_put rtnlc_request_addr(const struct rtnlc_addr_request *addr, uint8_t operation,
                                     uint32_t seq, bool big, uint8_t *out, size_t room)
 {
 	struct rtnlc_addr_request it;
-	uint8_t nowhere;
 	if (!addr)
 		return not_asked;
 	it = *addr;
@@ -366,16 +366,13 @@ struct rtnlc_put rtnlc_request_addr(const struct rtnlc_addr_request *addr, uint8
 	settle(&it.peer);
 	settle(&it.broadcast);
 	settle(&it.label);
-	return proved_request_addr(&it, operation, seq, big, out ? out : &nowhere, room);
+	return proved_request_addr(&it, operation, seq, big, ROOM(out, room));
 }
 
 struct rtnlc_put rtnlc_request_route(const struct rtnlc_route_request *route, uint8_t operation,
                                      uint32_t seq, bool big, uint8_t *out, size_t room)
 {
-	static const struct rtnlc_metric no_metric;
-	static const struct rtnlc_next_hop no_hop;
 	struct rtnlc_route_request it;
-	uint8_t nowhere;
 	if (!route)
 		return not_asked;
 	it = *route;
@@ -384,34 +381,32 @@ struct rtnlc_put rtnlc_request_route(const struct rtnlc_route_request *route, ui
 	settle(&it.gateway);
 	settle(&it.preferred_source);
 	if (!it.metrics) {
-		it.metrics = &no_metric;
+		it.metrics = read_at(NULL);
 		it.metric_count = 0;
 	}
 	if (!it.hops) {
-		it.hops = &no_hop;
+		it.hops = read_at(NULL);
 		it.hop_count = 0;
 	}
-	return proved_request_route(&it, operation, seq, big, out ? out : &nowhere, room);
+	return proved_request_route(&it, operation, seq, big, ROOM(out, room));
 }
 
 struct rtnlc_put rtnlc_request_neigh(const struct rtnlc_neigh_request *neigh, uint8_t operation,
                                      uint32_t seq, bool big, uint8_t *out, size_t room)
 {
 	struct rtnlc_neigh_request it;
-	uint8_t nowhere;
 	if (!neigh)
 		return not_asked;
 	it = *neigh;
 	settle(&it.destination);
 	settle(&it.link_address);
-	return proved_request_neigh(&it, operation, seq, big, out ? out : &nowhere, room);
+	return proved_request_neigh(&it, operation, seq, big, ROOM(out, room));
 }
 
 struct rtnlc_put rtnlc_request_rule(const struct rtnlc_rule_request *rule, uint8_t operation,
                                     uint32_t seq, bool big, uint8_t *out, size_t room)
 {
 	struct rtnlc_rule_request it;
-	uint8_t nowhere;
 	if (!rule)
 		return not_asked;
 	it = *rule;
@@ -419,18 +414,7 @@ struct rtnlc_put rtnlc_request_rule(const struct rtnlc_rule_request *rule, uint8
 	settle(&it.destination);
 	settle(&it.iif);
 	settle(&it.oif);
-	return proved_request_rule(&it, operation, seq, big, out ? out : &nowhere, room);
-}
-
-/* The buffer of a builder; a null pointer is one of no bytes, which may lie anywhere. */
-static uint8_t *buffer_of(struct rtnlc_builder *b)
-{
-	return b->out ? b->out : (uint8_t *)b;
-}
-
-static size_t room_of(const struct rtnlc_builder *b)
-{
-	return b->out ? b->room : 0;
+	return proved_request_rule(&it, operation, seq, big, ROOM(out, room));
 }
 
 uint8_t rtnlc_builder_new(struct rtnlc_builder *b, const struct rtnlc_options *options,
@@ -447,100 +431,67 @@ uint8_t rtnlc_builder_new(struct rtnlc_builder *b, const struct rtnlc_options *o
 uint8_t rtnlc_builder_begin(struct rtnlc_builder *b, uint16_t kind, uint16_t flags, uint32_t seq,
                             uint32_t port, const void *head, size_t len)
 {
-	return b ? proved_builder_begin(&b->built, buffer_of(b), room_of(b), kind, flags, seq, port,
-	                                read_at(head), len)
+	return b ? proved_builder_begin(PARTS(b), kind, flags, seq, port, BYTES(head, len))
 	         : RTNLC_NO_BUILDER;
 }
 
 uint8_t rtnlc_builder_put(struct rtnlc_builder *b, uint16_t type, const void *bytes, size_t len)
 {
-	return b ? proved_builder_put(&b->built, buffer_of(b), room_of(b), type, read_at(bytes), len)
-	         : RTNLC_NO_BUILDER;
+	return b ? proved_builder_put(PARTS(b), type, BYTES(bytes, len)) : RTNLC_NO_BUILDER;
 }
 
 uint8_t rtnlc_builder_put_text(struct rtnlc_builder *b, uint16_t type, const char *text, size_t len)
 {
-	const uint8_t *bytes = read_at((const uint8_t *)text);
-	return b ? proved_builder_put_text(&b->built, buffer_of(b), room_of(b), type, bytes, len)
-	         : RTNLC_NO_BUILDER;
+	return b ? proved_builder_put_text(PARTS(b), type, BYTES(text, len)) : RTNLC_NO_BUILDER;
 }
 
-uint8_t rtnlc_builder_put_u8(struct rtnlc_builder *b, uint16_t type, uint8_t value)
-{
-	return b ? proved_builder_put_u8(&b->built, buffer_of(b), room_of(b), type, value)
-	         : RTNLC_NO_BUILDER;
-}
+/* The calls that put a number are alike. */
+#define PUTS_NUMBER(name, number)                                                          \
+	uint8_t rtnlc_builder_put_##name(struct rtnlc_builder *b, uint16_t type, number value) \
+	{                                                                                      \
+		return b ? proved_builder_put_##name(PARTS(b), type, value) : RTNLC_NO_BUILDER;    \
+	}
 
-uint8_t rtnlc_builder_put_u16(struct rtnlc_builder *b, uint16_t type, uint16_t value)
-{
-	return b ? proved_builder_put_u16(&b->built, buffer_of(b), room_of(b), type, value)
-	         : RTNLC_NO_BUILDER;
-}
-
-uint8_t rtnlc_builder_put_u32(struct rtnlc_builder *b, uint16_t type, uint32_t value)
-{
-	return b ? proved_builder_put_u32(&b->built, buffer_of(b), room_of(b), type, value)
-	         : RTNLC_NO_BUILDER;
-}
-
-uint8_t rtnlc_builder_put_u64(struct rtnlc_builder *b, uint16_t type, uint64_t value)
-{
-	return b ? proved_builder_put_u64(&b->built, buffer_of(b), room_of(b), type, value)
-	         : RTNLC_NO_BUILDER;
-}
-
-uint8_t rtnlc_builder_put_be16(struct rtnlc_builder *b, uint16_t type, uint16_t value)
-{
-	return b ? proved_builder_put_be16(&b->built, buffer_of(b), room_of(b), type, value)
-	         : RTNLC_NO_BUILDER;
-}
-
-uint8_t rtnlc_builder_put_be32(struct rtnlc_builder *b, uint16_t type, uint32_t value)
-{
-	return b ? proved_builder_put_be32(&b->built, buffer_of(b), room_of(b), type, value)
-	         : RTNLC_NO_BUILDER;
-}
-
-uint8_t rtnlc_builder_put_be64(struct rtnlc_builder *b, uint16_t type, uint64_t value)
-{
-	return b ? proved_builder_put_be64(&b->built, buffer_of(b), room_of(b), type, value)
-	         : RTNLC_NO_BUILDER;
-}
+PUTS_NUMBER(u8, uint8_t)
+PUTS_NUMBER(u16, uint16_t)
+PUTS_NUMBER(u32, uint32_t)
+PUTS_NUMBER(u64, uint64_t)
+PUTS_NUMBER(be16, uint16_t)
+PUTS_NUMBER(be32, uint32_t)
+PUTS_NUMBER(be64, uint64_t)
 
 uint8_t rtnlc_builder_open(struct rtnlc_builder *b, uint16_t type)
 {
-	return b ? proved_builder_open(&b->built, buffer_of(b), room_of(b), type) : RTNLC_NO_BUILDER;
+	return b ? proved_builder_open(PARTS(b), type) : RTNLC_NO_BUILDER;
 }
 
 uint8_t rtnlc_builder_open_hop(struct rtnlc_builder *b, uint8_t flags, uint8_t hops,
                                int32_t ifindex)
 {
-	return b ? proved_builder_open_hop(&b->built, buffer_of(b), room_of(b), flags, hops, ifindex)
-	         : RTNLC_NO_BUILDER;
+	return b ? proved_builder_open_hop(PARTS(b), flags, hops, ifindex) : RTNLC_NO_BUILDER;
 }
 
 uint8_t rtnlc_builder_close(struct rtnlc_builder *b)
 {
-	return b ? proved_builder_close(&b->built, buffer_of(b), room_of(b)) : RTNLC_NO_BUILDER;
+	return b ? proved_builder_close(PARTS(b)) : RTNLC_NO_BUILDER;
 }
 
 uint8_t rtnlc_builder_end(struct rtnlc_builder *b)
 {
-	return b ? proved_builder_end(&b->built, buffer_of(b), room_of(b)) : RTNLC_NO_BUILDER;
+	return b ? proved_builder_end(PARTS(b)) : RTNLC_NO_BUILDER;
 }
 
 uint8_t rtnlc_builder_message(struct rtnlc_builder *b, uint16_t kind, uint16_t flags,
                               uint32_t seq, uint32_t port, const void *body, size_t len)
 {
-	return b ? proved_builder_message(&b->built, buffer_of(b), room_of(b), kind, flags, seq, port,
-	                                  read_at(body), len)
+	return b ? proved_builder_message(PARTS(b), kind, flags, seq, port, BYTES(body, len))
 	         : RTNLC_NO_BUILDER;
 }
 
 struct rtnlc_put rtnlc_builder_finish(const struct rtnlc_builder *b)
 {
 	static const struct rtnlc_put none = { 0, RTNLC_NO_BUILDER };
-	return b ? proved_builder_finish(&b->built, read_at(b->out), room_of(b)) : none;
+	return b ? proved_builder_finish(PARTS(b)) : none;
 }
 
 /* Words, which no proof is about. */

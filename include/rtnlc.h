@@ -9,9 +9,9 @@
  * struct rtnlc_builder. docs/C.md has a table of all calls, three loops and a request.
  *
  * What the caller owes, and no more:
- *  - `bytes` points to `len` bytes that can be read. A null pointer is taken where `len` is 0.
+ *  - `bytes` points to `len` bytes that can be read. A null pointer is no bytes, whatever `len` is.
  *  - `out` points to `room` elements that can be written, and that overlap nothing else that the
- *    call is handed. A null pointer is taken where `room` is 0.
+ *    call is handed. A null pointer is no room, whatever `room` is.
  *  - `options` points to a struct rtnlc_options, or is null: then the standard limits hold.
  *  - A session, a stream or a builder is in one call at a time.
  * Any bytes are taken, and each call ends, whatever they hold. A datagram needn't be aligned.
