@@ -681,7 +681,7 @@ struct rtnlc_next_hop {
 };
 
 /* A route. ip(8) adds one with RTPROT_BOOT, RT_TABLE_MAIN, RTN_UNICAST, and for IPv4 with
- * RT_SCOPE_LINK where there is no gateway; it deletes one with protocol and sort 0, and for IPv4
+ * RT_SCOPE_LINK where there is no gateway; it deletes one with protocol and type 0, and for IPv4
  * with RT_SCOPE_NOWHERE. */
 struct rtnlc_route_request {
 	struct rtnlc_bytes destination;      /* RTA_DST; none for the default route */
@@ -704,7 +704,7 @@ struct rtnlc_route_request {
 	uint8_t tos;
 	uint8_t protocol;                    /* RTPROT_* */
 	uint8_t scope;                       /* RT_SCOPE_* */
-	uint8_t sort;                        /* RTN_*, rtm_type */
+	uint8_t route_type;                  /* RTN_*, rtm_type */
 };
 
 /* Puts the request of a route. */

@@ -326,7 +326,7 @@ func (r RouteRequest) AppendTo(bytes []byte, operation Operation, seq uint32, bi
 		tos:                C.uint8_t(r.TOS),
 		protocol:           C.uint8_t(r.Protocol),
 		scope:              C.uint8_t(r.Scope),
-		sort:               C.uint8_t(r.Type),
+		route_type:         C.uint8_t(r.Type),
 	}
 	it.priority, it.has_priority = number(r.Priority)
 	it.oif, it.has_oif = number(r.OutIndex)

@@ -86,7 +86,7 @@ int main(int count, char **words)
 	static struct source source = { .program = "route_add" };
 	struct rtnlc_route_request route = { .table = RT_TABLE_MAIN,
 		                                 .protocol = RTPROT_STATIC,
-		                                 .sort = RTN_UNICAST };
+		                                 .route_type = RTN_UNICAST };
 	const int end = end_of_ways(count, words);
 	struct rtnlc_next_hop hops[end / 4];
 	struct rtnlc_put put;

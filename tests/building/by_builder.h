@@ -158,7 +158,7 @@ static inline size_t route_head(uint8_t *head, const struct rtnlc_route_request 
 	head[4] = it->table > 255 ? 0 : (uint8_t)it->table;
 	head[5] = it->protocol;
 	head[6] = it->scope;
-	head[7] = it->sort;
+	head[7] = it->route_type;
 	head_number(head + 8, 4, it->flags, big);
 	return sizeof(struct rtmsg);
 }

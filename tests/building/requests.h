@@ -55,7 +55,7 @@ static const struct field route_fields[] = {
 	AT(route, IS_U8, family),         AT(route, IS_U8, destination_length),
 	AT(route, IS_U8, source_length),  AT(route, IS_U8, tos),
 	AT(route, IS_U8, protocol),       AT(route, IS_U8, scope),
-	AT(route, IS_U8, sort),
+	AT(route, IS_U8, route_type),
 };
 
 static const struct field neigh_fields[] = {

@@ -126,7 +126,7 @@ def route(prefix: str, via: str = "", operation: int = ADD, **fields: Value) -> 
     if operation == DELETE:
         own["scope"] = 0 if ":" in prefix else 255
     else:
-        own.update(protocol=3, sort=1)
+        own.update(protocol=3, route_type=1)
     if to:
         own.update(destination=ip(to), destination_length=int(length))
     if via:
@@ -163,12 +163,13 @@ ROUTES = {
         route("10.12.0.0/16", GATEWAY, protocol=4),
     "route add 10.13.0.0/16 dev one scope link": route("10.13.0.0/16", oif=ONE, scope=253),
     "route add 10.14.0.0/16 tos 0x10 via 192.0.2.254": route("10.14.0.0/16", GATEWAY, tos=16),
-    "route add blackhole 10.16.0.0/16": route("10.16.0.0/16", sort=6),
-    "route add unreachable 10.17.0.0/16 metric 200": route("10.17.0.0/16", sort=7, priority=200),
+    "route add blackhole 10.16.0.0/16": route("10.16.0.0/16", route_type=6),
+    "route add unreachable 10.17.0.0/16 metric 200":
+        route("10.17.0.0/16", route_type=7, priority=200),
     "route add prohibit 10.18.0.0/16 table 4294967294":
-        route("10.18.0.0/16", sort=8, table=4294967294),
+        route("10.18.0.0/16", route_type=8, table=4294967294),
     "route add local 10.19.0.0/16 dev lo":
-        route("10.19.0.0/16", sort=2, table=255, scope=254, oif=LO),
+        route("10.19.0.0/16", route_type=2, table=255, scope=254, oif=LO),
     "route add 10.20.0.1 via 192.0.2.254": route("10.20.0.1/32", GATEWAY),
     "route replace 10.1.0.0/16 via 192.0.2.253": route("10.1.0.0/16", "192.0.2.253", REPLACE),
     "route append 10.1.0.0/16 via 192.0.2.252": route("10.1.0.0/16", "192.0.2.252", APPEND),
@@ -188,7 +189,7 @@ ROUTES = {
         route("2001:db8:13::/48", oif=ONE, metrics="2:1400,10:20"),
     "route add 2001:db8:14::/48 from 2001:db8:15::/48 via 2001:db8::fe":
         route("2001:db8:14::/48", GATEWAY6, source=ip("2001:db8:15::"), source_length=48),
-    "route add unreachable 2001:db8:16::/48": route("2001:db8:16::/48", sort=7),
+    "route add unreachable 2001:db8:16::/48": route("2001:db8:16::/48", route_type=7),
     "route delete 2001:db8:10::/48": route("2001:db8:10::/48", "", DELETE),
 }
 

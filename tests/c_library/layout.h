@@ -233,7 +233,7 @@ IS_AT(rtnlc_route_request, source_length, 116);
 IS_AT(rtnlc_route_request, tos, 117);
 IS_AT(rtnlc_route_request, protocol, 118);
 IS_AT(rtnlc_route_request, scope, 119);
-IS_AT(rtnlc_route_request, sort, 120);
+IS_AT(rtnlc_route_request, route_type, 120);
 
 IS_SIZE(rtnlc_neigh_request, 48);
 IS_AT(rtnlc_neigh_request, destination, 0);

@@ -38,6 +38,8 @@ NAMES = {
 # builder for C has the buffer beside what the code keeps. Bytes of a request are a slice in the
 # code, and the gateway of a next hop is spread over its fields in C.
 APART = ("rtnlc_session", "Handle", "rtnlc_builder", "rtnlc_bytes", "Gateway")
+# Fields that have another name in C, where a field `sort` is enum rtnlc_sort.
+FIELDS = {("RouteFields", "sort"): "route_type"}
 # Where code stands whose structs are laid out as in C, beside rtnl_c.
 REQUESTS = "crates/nl_request/src"
 # Calls that answer words: they are made in c/rtnlc.c alone.
@@ -104,7 +106,8 @@ def structs_in_code(text):
                       lambda it: f"{it[1]}[{numbers.get(it[3], it[3])}]: {it[2]}", body)
         fields = re.findall(r"^\s*(?:pub )?([\w\[\]]+): (.+),$", body, re.M)
         found[NAMES.get(name, name)] = [
-            it for field, kind in fields for it in field_in_c(field, kind, found)]
+            it for field, kind in fields
+            for it in field_in_c(FIELDS.get((name, field), field), kind, found)]
     return found
 
 

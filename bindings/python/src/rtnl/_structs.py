@@ -279,7 +279,7 @@ class RouteRequest(Structure):
         ("tos", c_uint8),
         ("protocol", c_uint8),
         ("scope", c_uint8),
-        ("sort", c_uint8),
+        ("route_type", c_uint8),
     ]
 
 

@@ -262,7 +262,7 @@ class RouteRequest(Request):
         _put_given(made, 32, priority=self.priority)
         # Two that have other names in the library.
         within(8, type=self.type)
-        made.sort = self.type
+        made.route_type = self.type
         if self.index is not None:
             within(32, index=self.index)
             made.oif, made.has_oif = self.index, True

@@ -96,7 +96,7 @@ fn add_structs(lines: &mut Lines) {
         rtnlc_route_request {
             destination, source, gateway, preferred_source, metrics, metric_count, hops, hop_count,
             table, flags, priority, oif, has_priority, has_oif, family, destination_length,
-            source_length, tos, protocol, scope, sort
+            source_length, tos, protocol, scope, route_type
         }
         rtnlc_neigh_request {
             destination, link_address, index, state, vlan, has_vlan, family, flags

@@ -505,7 +505,7 @@ pub struct rtnlc_route_request {
     /// `RT_SCOPE_*`.
     pub scope: u8,
     /// `RTN_*`, which the kernel calls `rtm_type`.
-    pub sort: u8,
+    pub route_type: u8,
 }
 
 /// What is asked for of a neighbour.

@@ -164,7 +164,7 @@ impl RouteRequest<'_> {
             tos: self.type_of_service,
             protocol: self.protocol,
             scope: self.scope,
-            sort: self.route_type,
+            route_type: self.route_type,
         })
     }
 }
