@@ -289,7 +289,8 @@ struct rtnlc_put {
 /* Puts the request of a dump into `out`: a GET message of the family with the flags NLM_F_REQUEST,
  * NLM_F_ROOT and NLM_F_MATCH, port id 0, and the family's whole head. `kind` is any message type
  * of the family, as RTM_GETLINK or RTM_NEWLINK; `family` an address family, or 0 for all.
- * RTNLC_NO_KIND, or RTNLC_NO_ROOM. */
+ * Behind `seq` stands the byte order, as in struct rtnlc_options, and no port id as in the calls
+ * that begin a dump. RTNLC_NO_KIND, or RTNLC_NO_ROOM. */
 RTNLC_WRITES(5, 6)
 struct rtnlc_put rtnlc_request(uint16_t kind, uint8_t family, uint32_t seq, bool big, uint8_t *out,
                                size_t room);
@@ -401,7 +402,8 @@ struct rtnlc_put rtnlc_session_key(struct rtnlc_session *s, uint16_t kind, uint3
 
 struct rtnlc_found {
 	uint32_t index;
-	uint8_t code; /* RTNLC_OK; RTNLC_END where no entry has the key */
+	uint8_t code; /* RTNLC_OK; RTNLC_END where no entry has the key; RTNLC_NO_KIND or
+	               * RTNLC_NO_SESSION */
 };
 
 /* The index of the entry with these bytes for its key. */
