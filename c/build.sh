@@ -2,7 +2,8 @@
 # Makes librtnlc.a, librtnlc.so.0 and the link librtnlc.so in FOLDER: the proved calls of
 # crates/rtnl_c, the functions by which they take memory, and c/rtnlc.c, in one object whose only
 # public names are the functions of include/rtnlc.h. The static library of rtnl_c is built first
-# where it is missing or older than a source; c/archive.py says how.
+# where it is missing or older than a source; c/archive.py says how. CC, CPPFLAGS, CFLAGS and
+# LDFLAGS are taken of the environment.
 set -eu
 [ "$#" = 1 ] || { echo 'usage: c/build.sh FOLDER' >&2; exit 2; }
 mkdir -p -- "$1"
@@ -19,15 +20,20 @@ c/archive.py
 # The names that the header declares, and those of the proved calls, which give way to them.
 grep -oE '\brtnlc_[a-z0-9_]+\(' include/rtnlc.h | tr -d '(' | sort -u >"$folder/names"
 sed 's/rtnlc_\(.*\)/rtnlc_\1 proved_\1/' "$folder/names" >"$folder/renamed"
-# Of a shared library they carry the version that had them first in this form.
+# Of a shared library they carry the first two numbers of the version: a program that was linked
+# with other ones is not loaded, since it may have other structs.
+node=$(sed -nE 's/^#define RTNLC_VERSION "([0-9]+\.[0-9]+)\..*/RTNLC_\1/p' include/rtnlc.h)
 {
-  echo 'RTNLC_0.3 { global:'
+  echo "$node { global:"
   sed 's/$/;/' "$folder/names"
   echo 'local: *; };'
 } >"$folder/versions"
 
-${CC:-cc} -std=c99 -O2 -fPIC -ffunction-sections -Wall -Wextra -Werror -Iinclude \
-  -c c/rtnlc.c -o "$folder/calls.o"
+# What stands behind the flags of the environment is so whatever they say: ld joins the object with
+# the proved code.
+# shellcheck disable=SC2086
+${CC:-cc} -std=c99 -O2 -Wall -Wextra -Iinclude ${CPPFLAGS-} ${CFLAGS-} \
+  -fPIC -ffunction-sections -fno-lto -c c/rtnlc.c -o "$folder/calls.o"
 ld -r --whole-archive "$archive" -o "$folder/proved.o"
 objcopy --redefine-syms="$folder/renamed" "$folder/proved.o"
 ld -r "$folder/proved.o" "$folder/calls.o" "$memory" -o "$folder/rtnlc.o"
@@ -35,8 +41,9 @@ objcopy --keep-global-symbols="$folder/names" "$folder/rtnlc.o"
 
 # Each file takes its place at once.
 ar rcsD "$folder/librtnlc.a" "$folder/rtnlc.o"
+# shellcheck disable=SC2086
 ${CC:-cc} -shared -Wl,-soname,librtnlc.so.0 -Wl,--version-script="$folder/versions" \
-  -Wl,--gc-sections -Wl,-z,defs,-z,text,-z,relro,-z,now \
+  -Wl,--gc-sections -Wl,-z,defs,-z,text,-z,relro,-z,now ${LDFLAGS-} \
   -o "$folder/librtnlc.so.0" "$folder/rtnlc.o"
 ln -s librtnlc.so.0 "$folder/librtnlc.so"
 mv -f -- "$folder/librtnlc.a" "$folder/librtnlc.so.0" "$folder/librtnlc.so" "$to"

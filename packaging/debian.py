@@ -49,16 +49,21 @@ proved reader of recorded rtnetlink datagrams
 It prints what the Linux kernel says of links, addresses, routes, neighbours
 and rules, as text or as lines of JSON, byte by byte where that is asked for.
 A datagram has exactly one reading, or is refused with the place of its first
-fault. It opens no socket.""",
+fault. It opens no socket.
+It needs a processor with SSE4.2 (x86-64-v2).""",
     "librtnlc0": """\
-proved reader of rtnetlink datagrams, shared library
-Programs in C scan the datagrams that they received, or read dumps into bounded
-tables or in constant space. The library opens no socket.""",
+proved reader and builder of rtnetlink datagrams, shared library
+Programs in C scan the datagrams that they received, read dumps into bounded
+tables or in constant space, and build the requests that they send. The library
+opens no socket.
+It needs a processor with SSE4.2 (x86-64-v2).""",
     "librtnlc-dev": """\
-proved reader of rtnetlink datagrams, for development
+proved reader and builder of rtnetlink datagrams, for development
 The header, the static library, what pkg-config says of them, and the manual
-page rtnlc(3). Programs in C scan the datagrams that they received, or read
-dumps into bounded tables or in constant space.""",
+page rtnlc(3). Programs in C scan the datagrams that they received, read dumps
+into bounded tables or in constant space, and build the requests that they
+send.
+The library needs a processor with SSE4.2 (x86-64-v2).""",
 }
 FIELDS = {
     "rtnl": {"Section": "net", "Multi-Arch": "foreign", "Suggests": "jq"},
@@ -131,13 +136,20 @@ def control(package: Package, version: str, source: Source) -> str:
     return "\n".join([*lines, f"Description: {first}", indented(rest), ""])
 
 
+def linked_with(name: str, version: str) -> str:
+    """What a program depends on that is linked with this library: a later one whose second number
+    is the same, since another may have other structs."""
+    major, minor = version.split(".")[:2]
+    return f"{name} (>= {version}), {name} (<< {major}.{int(minor) + 1}~)"
+
+
 def meta(package: Package, version: str, source: Source, sums: Dict[str, str]) -> Dict[str, str]:
     """The files of DEBIAN/."""
     found = {"control": control(package, version, source)}
     found["md5sums"] = "".join(f"{it}  {place}\n" for place, it in sorted(sums.items()))
     if any(LIBRARY.fullmatch(place) for place in package.tree):
         found["triggers"] = "activate-noawait ldconfig\n"
-        found["shlibs"] = f"librtnlc 0 {package.name} (>= {version})\n"
+        found["shlibs"] = f"librtnlc 0 {linked_with(package.name, version)}\n"
     return found
 
 

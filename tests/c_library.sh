@@ -18,7 +18,7 @@ tests/helpers/install_packages.sh cc gcc c++ g++ objcopy binutils pkg-config pkg
   mandoc mandoc groff groff-base valgrind valgrind
 # What is installed is what is proved.
 export RTNL_PROVE=1
-c/build.sh "$folder/library" || exit 1
+CFLAGS="${CFLAGS-} -Werror" c/build.sh "$folder/library" || exit 1
 
 . tests/c_library/names.sh
 . tests/c_library/header.sh

@@ -6,9 +6,12 @@ shared=$folder/library/librtnlc.so.0
 # declared: the functions of the header.
 declared() { grep -oE '\brtnlc_[a-z0-9_]+\(' include/rtnlc.h | tr -d '(' | sort -u; }
 
+# The version of the interface.
+node=RTNLC_$(sed -n 's/^## \([0-9]*\.[0-9]*\)\..*/\1/p' CHANGELOG.md | head -n 1)
+
 # names_in FILE [OPTION..]: the names that nm prints of it, but for that of the version itself.
 names_in() {
-  nm -j "${@:2}" "$1" | grep -v ':$' | sed '/^$/d; s/@.*//; /^RTNLC_0\.3$/d' | sort -u
+  nm -j "${@:2}" "$1" | grep -v ':$' | sed "/^\$/d; s/@.*//; /^$node\$/d" | sort -u
 }
 
 # Each call of the header is one that the programs of this folder make.
@@ -27,7 +30,7 @@ defines_the_calls() { [ "$(declared | wc -l)" = 54 ] && diff <(declared) <(names
 
 # Each call of the shared library carries the version of its interface.
 carries_version() {
-  diff <(declared | sed 's/$/@@RTNLC_0.3/') \
+  diff <(declared | sed "s/\$/@@$node/") \
     <(nm -D --defined-only "$shared" | awk '$2 == "T" { print $3 }' | sort)
 }
 
@@ -55,6 +58,16 @@ keeps_nothing() {
   [ "$(awk '{ print $NF }' "$folder/kept")" = nothing ] || ! cat "$folder/kept"
 }
 
+# takes_flags: those of the environment reach the compiler and the linker; LTO among them does no
+# harm.
+takes_flags() {
+  CPPFLAGS=-DOF_A_PACKAGER CFLAGS='-g3 -flto' LDFLAGS='-flto -Wl,--build-id=0x0badcafe' \
+    c/build.sh "$folder/flagged" && grep -q OF_A_PACKAGER "$folder/flagged/librtnlc.a" &&
+    readelf -n "$folder/flagged/librtnlc.so.0" | grep -q 'Build ID: 0badcafe' &&
+    defines_the_calls "$folder/flagged/librtnlc.a" -g --defined-only &&
+    defines_the_calls "$folder/flagged/librtnlc.so.0" -D --defined-only
+}
+
 check 'the names that librtnlc.a defines' defines_the_calls "$archive" -g --defined-only
 check 'the names that librtnlc.so.0 defines' defines_the_calls "$shared" -D --defined-only
 check 'the version of each name' carries_version
@@ -65,4 +78,5 @@ check 'what librtnlc.so.0 takes' takes_memory_alone "$shared" -D --undefined-onl
 check 'librtnlc.so.0 is position independent' is_position_independent
 check 'the stack that librtnlc.so.0 asks for' has_plain_stack
 check 'the library keeps nothing' keeps_nothing
+check 'flags of the environment' takes_flags
 check 'the header, the code and what lies between them' tests/c_library/structs.py
