@@ -6,7 +6,8 @@
  *
  * A datagram is bytes in memory: what one recv(2) on a netlink socket gave, or what is to be sent.
  * No call opens a socket, and none keeps a pointer that it was handed, but that of the buffer in a
- * struct rtnlc_builder. docs/C.md has a table of all calls, three loops and a request.
+ * struct rtnlc_builder. The manual page rtnlc(3) is installed with this header; docs/C.md of the
+ * sources has a table of all calls, three loops and a request.
  *
  * What the caller owes, and no more:
  *  - `bytes` points to `len` bytes that can be read. A null pointer is no bytes, whatever `len` is.
