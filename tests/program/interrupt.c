@@ -1,5 +1,5 @@
-/* Loaded before the C library, it has a signal interrupt the program, as it seems: of each two calls
-   of read, and of each two of write, the first fails with EINTR. */
+/* Loaded before the C library, it has a signal interrupt the program, as it seems: of each two
+   calls of read, and of each two of write, the first fails with EINTR. */
 #define _GNU_SOURCE
 #include <dlfcn.h>
 #include <errno.h>

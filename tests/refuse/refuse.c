@@ -1,10 +1,10 @@
 /* Loaded before the C library, it refuses one growth of the program: the one whose number, counted
-   from 1, stands in the environment variable REFUSE. It then makes the file that REFUSED names, so that
-   whoever ran the program knows that the growth was reached.
+   from 1, stands in the environment variable REFUSE. It then makes the file that REFUSED names, so
+   that whoever ran the program knows that the growth was reached.
 
-   A growth is a call of malloc, calloc or realloc. Only those that are made while `main` runs count: the
-   dynamic linker and the C library may ask for memory while they start and end the program, and what
-   they do then is not the program's. */
+   A growth is a call of malloc, calloc or realloc. Only those that are made while `main` runs
+   count: the dynamic linker and the C library may ask for memory while they start and end the
+   program, and what they do then is not the program's. */
 #define _GNU_SOURCE
 #include <dlfcn.h>
 #include <errno.h>
