@@ -32,7 +32,8 @@ class Operation(enum.IntEnum):
     CHANGE = 2
     """Put in the place of what is there: NLM_F_REPLACE. Links take SET."""
     APPEND = 3
-    """Made behind those that are there: NLM_F_CREATE and NLM_F_APPEND. Of routes."""
+    """Made behind those that are there: NLM_F_CREATE and NLM_F_APPEND. Of routes, and of a
+    bridge's entries."""
     PREPEND = 4
     """Made before those that are there: NLM_F_CREATE. Of routes."""
     SET = 5

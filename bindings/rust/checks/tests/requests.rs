@@ -260,6 +260,43 @@ fn prefixes_of_no_bit_are_put() {
     assert_eq!((default.address_family, attributes(&default)), (AF_INET6, expected));
 }
 
+// ---- Address families ----
+
+/// The family in the head of what is put.
+fn family<P: Puts>(request: &P) -> u8 {
+    request.put_to(Operation::Add, 0, Order::Little, &mut [0xaa; 256]).unwrap()[16]
+}
+
+#[test]
+fn a_family_that_is_not_said_is_that_of_the_first_address() {
+    let (v4, v6) = (Some(ip("192.0.2.1")), Some(ip("2001:db8::1")));
+    let (net4, net6) = (Some(prefix("10.0.0.0", 8)), Some(prefix("2001:db8::", 32)));
+    let hops = [NextHopRequest::default(), NextHopRequest::new(NextHopHead::default(), v6)];
+    // In each of these an address more stands before those of the one above.
+    let none = RouteRequest::default();
+    let of_hop = RouteRequest { next_hops: &hops, ..none };
+    let of_preferred = RouteRequest { preferred_source: v4, ..of_hop };
+    let of_gateway = RouteRequest { gateway: v6, ..of_preferred };
+    let of_source = RouteRequest { source: net4, ..of_gateway };
+    let of_destination = RouteRequest { destination: net6, ..of_source };
+    let said = RouteRequest { address_family: 99, ..of_destination };
+    let routes = [none, of_hop, of_preferred, of_gateway, of_source, of_destination, said];
+    let wanted = [AF_UNSPEC, AF_INET6, AF_INET, AF_INET6, AF_INET, AF_INET6, 99];
+    assert_eq!(routes.map(|it| family(&it)), wanted);
+
+    let none = RuleRequest::default();
+    let of_to = RuleRequest { to: net4, ..none };
+    let of_from = RuleRequest { from: net6, ..of_to };
+    let said = RuleRequest { address_family: AF_INET, ..of_from };
+    let wanted = [AF_UNSPEC, AF_INET, AF_INET6, AF_INET];
+    assert_eq!([none, of_to, of_from, said].map(|it| family(&it)), wanted);
+
+    let none = NeighbourRequest::default();
+    let of_address = NeighbourRequest { address: v6, ..none };
+    let said = NeighbourRequest { address_family: AF_BRIDGE, ..of_address };
+    assert_eq!([none, of_address, said].map(|it| family(&it)), [AF_UNSPEC, AF_INET6, AF_BRIDGE]);
+}
+
 // ---- What is refused ----
 
 fn assert_rooms<P: Puts>(request: &P, whole: usize) {

@@ -12,6 +12,8 @@ pub use neighbour::NeighbourRequest;
 pub use route::{Metric, NextHopRequest, RouteRequest};
 pub use rule::RuleRequest;
 
+use crate::constants::AF_UNSPEC;
+use crate::heads::family_of;
 use crate::{version, BuildError, Error, Prefix};
 use rtnlc_sys::*;
 use std::ffi::OsStr;
@@ -36,7 +38,7 @@ pub enum Operation {
     /// [`Operation::Set`].
     Change = RTNLC_CHANGE,
     /// It is made behind those that are there: `NEW`, `NLM_F_CREATE` and `NLM_F_APPEND`. Of
-    /// routes.
+    /// routes, and of a bridge's entries.
     Append = RTNLC_APPEND,
     /// It is made before those that are there: `NEW` and `NLM_F_CREATE`. Of routes.
     Prepend = RTNLC_PREPEND,
@@ -104,6 +106,15 @@ fn put_by(
     Ok(buffer.get(..put.len).unwrap_or_default())
 }
 
+/// The address family that is said; where that is `AF_UNSPEC`, it is that of the first address that
+/// is there.
+fn family_or(said: u8, addresses: impl IntoIterator<Item = Option<IpAddr>>) -> u8 {
+    match said {
+        AF_UNSPEC => addresses.into_iter().flatten().next().map_or(AF_UNSPEC, family_of),
+        said => said,
+    }
+}
+
 /// The bytes of an address in network order, or none.
 struct Octets {
     bytes: [u8; 16],
@@ -128,13 +139,18 @@ impl Octets {
     }
 
     fn of_prefix(prefix: Option<Prefix>) -> Octets {
-        Octets::of(prefix.map(|it| it.address))
+        Octets::of(address_of(prefix))
     }
 
     /// What C is told, for as long as these are borrowed.
     fn raw(&self) -> rtnlc_bytes {
         rtnlc_bytes { at: self.bytes.as_ptr().cast(), len: self.len.into() }
     }
+}
+
+/// The address of a prefix.
+fn address_of(prefix: Option<Prefix>) -> Option<IpAddr> {
+    prefix.map(|it| it.address)
 }
 
 /// How many bits of a prefix count.

@@ -1,4 +1,4 @@
-use super::{raw_bytes, Octets};
+use super::{family_or, raw_bytes, Octets};
 use crate::heads::family_of;
 use crate::HardwareAddress;
 use rtnlc_sys::*;
@@ -27,7 +27,8 @@ use std::net::IpAddr;
 /// ```
 #[derive(Clone, Copy, Debug, Default, PartialEq, Eq, Hash)]
 pub struct NeighbourRequest<'a> {
-    /// As `AF_INET`, or `AF_BRIDGE` of an entry of a bridge.
+    /// As `AF_INET`, or `AF_BRIDGE` of an entry of a bridge; where it is `AF_UNSPEC`, that of the
+    /// address is put.
     pub address_family: u8,
     /// The index of its interface.
     pub index: u32,
@@ -62,7 +63,7 @@ impl NeighbourRequest<'_> {
             state: self.state,
             vlan: self.vlan.unwrap_or(0),
             has_vlan: self.vlan.is_some(),
-            family: self.address_family,
+            family: family_or(self.address_family, [self.address]),
             flags: self.flags,
         })
     }

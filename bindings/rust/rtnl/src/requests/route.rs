@@ -1,4 +1,4 @@
-use super::{len_of, Octets};
+use super::{address_of, family_or, len_of, Octets};
 use crate::heads::family_of;
 use crate::{NextHopHead, Prefix};
 use rtnlc_sys::*;
@@ -98,7 +98,7 @@ impl fmt::Debug for NextHopRequest {
 /// ```
 #[derive(Clone, Copy, Debug, Default, PartialEq, Eq, Hash)]
 pub struct RouteRequest<'a> {
-    /// As `AF_INET`.
+    /// As `AF_INET`; where it is `AF_UNSPEC`, that of the first address that is there is put.
     pub address_family: u8,
     /// Where it leads: `RTA_DST`, which a default route has not.
     pub destination: Option<Prefix>,
@@ -138,6 +138,13 @@ impl RouteRequest<'_> {
         RouteRequest { address_family, destination, ..RouteRequest::default() }
     }
 
+    /// Its addresses, of which the first says its family.
+    fn addresses(&self) -> impl Iterator<Item = Option<IpAddr>> + '_ {
+        let (to, from) = (address_of(self.destination), address_of(self.source));
+        let own = [to, from, self.gateway, self.preferred_source];
+        own.into_iter().chain(self.next_hops.iter().map(NextHopRequest::gateway))
+    }
+
     fn with_raw(&self, call: impl FnOnce(&rtnlc_route_request) -> rtnlc_put) -> rtnlc_put {
         let destination = Octets::of_prefix(self.destination);
         let source = Octets::of_prefix(self.source);
@@ -158,7 +165,7 @@ impl RouteRequest<'_> {
             oif: self.out_interface.unwrap_or(0),
             has_priority: self.priority.is_some(),
             has_oif: self.out_interface.is_some(),
-            family: self.address_family,
+            family: family_or(self.address_family, self.addresses()),
             destination_length: len_of(self.destination),
             source_length: len_of(self.source),
             tos: self.type_of_service,

@@ -1,4 +1,4 @@
-use super::{len_of, raw_text, Octets};
+use super::{address_of, family_or, len_of, raw_text, Octets};
 use crate::Prefix;
 use rtnlc_sys::*;
 use std::ffi::OsStr;
@@ -29,7 +29,7 @@ use std::ffi::OsStr;
 /// ```
 #[derive(Clone, Copy, Debug, Default, PartialEq, Eq, Hash)]
 pub struct RuleRequest<'a> {
-    /// As `AF_INET`.
+    /// As `AF_INET`; where it is `AF_UNSPEC`, that of `from` is put, or else that of `to`.
     pub address_family: u8,
     /// Where packets must come from: `FRA_SRC`.
     pub from: Option<Prefix>,
@@ -81,7 +81,7 @@ impl RuleRequest<'_> {
             has_suppress_prefix_length: self.suppress_prefix_len.is_some(),
             has_priority: self.priority.is_some(),
             invert: self.is_inverted,
-            family: self.address_family,
+            family: family_or(self.address_family, [self.from, self.to].map(address_of)),
             source_length: len_of(self.from),
             destination_length: len_of(self.to),
             tos: self.type_of_service,
