@@ -42,6 +42,11 @@ func TestMutations(t *testing.T) {
 		}
 	}
 	t.Log(seen)
+	seen.checkCounts(t)
+}
+
+// checkCounts says which codes, and which parts of a datagram, came too seldom.
+func (seen *tally) checkCounts(t *testing.T) {
 	for code, count := range map[rtnlc.Code]int{rtnlc.ErrCut: 1000, rtnlc.ErrBadLength: 10000,
 		rtnlc.ErrShortBody: 500, rtnlc.ErrTooDeep: 100, 0: 20000} {
 		if seen.codes[code] < count {

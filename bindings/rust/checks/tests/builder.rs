@@ -183,10 +183,14 @@ fn neighbours_and_rules_are_as_ip_sends_them() {
     assert_built(&header(RTM_NEWRULE, ADDS), &head, put, expected);
 }
 
+/// That a message of this type begins with these bytes behind its header.
+fn assert_head(message_type: u16, head: &impl Head, expected: &str) {
+    let found = built(&header(message_type, 0), head, |_| Ok(())).unwrap();
+    assert_eq!(found[32..], *expected);
+}
+
 #[test]
-fn every_field_of_a_head_has_its_place() {
-    let head = |bytes: Result<String, BuildError>| bytes.unwrap().split_off(32);
-    let nothing = |_: &mut Builder<'_>| Ok(());
+fn every_field_of_what_is_on_an_interface_has_its_place() {
     let link = LinkHead {
         address_family: 1,
         hardware_type: 0x302,
@@ -194,12 +198,22 @@ fn every_field_of_a_head_has_its_place() {
         flags: 0xb0a0908,
         change: 0xf0e0d0c,
     };
-    let expected = "010002030405060708090a0b0c0d0e0f";
-    assert_eq!(head(built(&header(RTM_SETLINK, 0), &link, nothing)), expected);
+    assert_head(RTM_SETLINK, &link, "010002030405060708090a0b0c0d0e0f");
     let address =
         AddressHead { address_family: 1, prefix_len: 2, flags: 3, scope: 4, index: 0x8070605 };
-    let expected = "0102030405060708";
-    assert_eq!(head(built(&header(RTM_DELADDR, 0), &address, nothing)), expected);
+    assert_head(RTM_DELADDR, &address, "0102030405060708");
+    let neighbour = NeighbourHead {
+        address_family: 1,
+        index: 0x5040302,
+        state: 0x706,
+        flags: 8,
+        route_type: 9,
+    };
+    assert_head(RTM_DELNEIGH, &neighbour, "010000000203040506070809");
+}
+
+#[test]
+fn every_field_of_routes_and_rules_has_its_place() {
     let route = RouteHead {
         address_family: 1,
         destination_len: 2,
@@ -211,17 +225,7 @@ fn every_field_of_a_head_has_its_place() {
         route_type: 8,
         flags: 0xc0b0a09,
     };
-    let expected = "0102030405060708090a0b0c";
-    assert_eq!(head(built(&header(RTM_DELROUTE, 0), &route, nothing)), expected);
-    let neighbour = NeighbourHead {
-        address_family: 1,
-        index: 0x5040302,
-        state: 0x706,
-        flags: 8,
-        route_type: 9,
-    };
-    let expected = "010000000203040506070809";
-    assert_eq!(head(built(&header(RTM_DELNEIGH, 0), &neighbour, nothing)), expected);
+    assert_head(RTM_DELROUTE, &route, "0102030405060708090a0b0c");
     let rule = RuleHead {
         address_family: 1,
         destination_len: 2,
@@ -231,8 +235,7 @@ fn every_field_of_a_head_has_its_place() {
         action: 6,
         flags: 0xa090807,
     };
-    let expected = "01020304050000060708090a";
-    assert_eq!(head(built(&header(RTM_DELRULE, 0), &rule, nothing)), expected);
+    assert_head(RTM_DELRULE, &rule, "01020304050000060708090a");
 }
 
 /// A link with a number of each size, whose attributes have no meaning.

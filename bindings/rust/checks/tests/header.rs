@@ -51,7 +51,7 @@ macro_rules! numbers {
     )*};
 }
 
-fn add_structs(lines: &mut Lines) {
+fn add_structs_of_readings(lines: &mut Lines) {
     structs!(lines:
         rtnlc_options { total, datagram, entries, depth, big }
         rtnlc_scanned { visits, place, code }
@@ -66,6 +66,11 @@ fn add_structs(lines: &mut Lines) {
         rtnlc_checked { place, code, canonical }
         rtnlc_shown { len, code }
         rtnlc_put { len, code }
+    );
+}
+
+fn add_structs_of_dumps(lines: &mut Lines) {
+    structs!(lines:
         rtnlc_status {
             received, visits, ignored, seq, port, status, kind, family, state, damaged,
             interrupted, complete, code
@@ -78,6 +83,11 @@ fn add_structs(lines: &mut Lines) {
             total, received, visits, ignored, datagram, entries, seq, port, status, kind, family,
             state, depth, big, damaged, interrupted
         }
+    );
+}
+
+fn add_structs_of_building(lines: &mut Lines) {
+    structs!(lines:
         rtnlc_built {
             total, entries, datagram, len, starts, contents, count, depth, big, refusal
         }
@@ -126,7 +136,9 @@ fn add_numbers(lines: &mut Lines) {
 
 fn all_lines() -> Vec<(String, String, usize)> {
     let mut lines = Lines(Vec::new());
-    add_structs(&mut lines);
+    add_structs_of_readings(&mut lines);
+    add_structs_of_dumps(&mut lines);
+    add_structs_of_building(&mut lines);
     add_numbers(&mut lines);
     lines.0
 }
