@@ -101,11 +101,16 @@ func (b *Builder) out() *C.uint8_t { return bytesAt(b.buffer) }
 func (b *Builder) room() C.size_t { return C.size_t(len(b.buffer)) }
 
 // Begin begins a message of a type NEW, DEL or SET, with its family's head; Len of the header is
-// not looked at. What is refused is ErrStillOpen where a message is open; ErrMismatch where the
-// head is not that of the type; ErrNoRoom; ErrTooLarge.
+// not looked at. What is refused is ErrMismatch where the kernel's field can't hold the index of
+// the head, or the head is not that of the type; ErrStillOpen where a message is open; ErrNoRoom;
+// ErrTooLarge.
 func (b *Builder) Begin(header Header, head Head) {
 	if b.code == ok {
-		bytes := head.appendTo(b.head[:0], order(b.options.isBigEndian()))
+		bytes, fits := head.appendTo(b.head[:0], order(b.options.isBigEndian()))
+		if !fits {
+			b.code = C.RTNLC_MISMATCH
+			return
+		}
 		b.code = C.built_begin(&b.made, b.out(), b.room(), C.uint16_t(header.Type),
 			C.uint16_t(header.Flags), C.uint32_t(header.Seq), C.uint32_t(header.Port),
 			bytesAt(bytes), C.size_t(len(bytes)))
@@ -212,8 +217,12 @@ func (b *Builder) Open(number uint16) {
 }
 
 // OpenNextHop opens a next hop in RTA_MULTIPATH, until Close; attributes of routes stand in it.
-// What is refused is ErrNothingOpen; ErrMismatch where no next hops stand; ErrNoRoom; ErrTooLarge.
+// What is refused is ErrMismatch where the kernel's field can't hold the index, or no next hops
+// stand; ErrNothingOpen; ErrNoRoom; ErrTooLarge.
 func (b *Builder) OpenNextHop(head NextHopHead) {
+	if b.code == ok && !isSigned(head.Index) {
+		b.code = C.RTNLC_MISMATCH
+	}
 	if b.code == ok {
 		b.code = C.built_open_hop(&b.made, b.out(), b.room(), C.uint8_t(head.Flags),
 			C.uint8_t(head.Hops), C.int32_t(head.Index))

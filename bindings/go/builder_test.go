@@ -335,6 +335,37 @@ func TestBuilderRefusals(t *testing.T) {
 		})
 }
 
+// An index that the kernel's field can't hold is refused; the last ones that it holds are put.
+func TestBuilderIndexes(t *testing.T) {
+	for _, it := range []struct {
+		messageType uint16
+		head        func(index int) rtnlc.Head
+		least, most int
+	}{
+		{rtnlc.RTM_NEWLINK, func(index int) rtnlc.Head { return rtnlc.LinkHead{Index: index} },
+			-1 << 31, 1<<31 - 1},
+		{rtnlc.RTM_NEWADDR, func(index int) rtnlc.Head { return rtnlc.AddressHead{Index: index} },
+			0, 1<<32 - 1},
+		{rtnlc.RTM_NEWNEIGH, func(index int) rtnlc.Head { return rtnlc.NeighbourHead{Index: index} },
+			-1 << 31, 1<<31 - 1},
+	} {
+		header := rtnlc.Header{Type: it.messageType}
+		for _, index := range []int{it.least, it.most} {
+			found := built(header, it.head(index), nothing)[40:48]
+			equal(t, "index", found, hex.EncodeToString(joined(uint32(index))))
+		}
+		for _, index := range []int{it.least - 1, it.most + 1} {
+			equal(t, "no index", built(header, it.head(index), nothing), "rtnlc: mismatch")
+		}
+	}
+	for _, index := range []int{-1<<31 - 1, 1 << 31} {
+		refuses(t, rtnlc.ErrMismatch, standard, func(b *rtnlc.Builder) {
+			b.Open(rtnlc.RTA_MULTIPATH)
+			b.OpenNextHop(rtnlc.NextHopHead{Index: index})
+		})
+	}
+}
+
 func TestBuilderMisuse(t *testing.T) {
 	wrong := "rtnlc: " + rtnlc.ErrMismatch.String()
 	header := rtnlc.Header{Type: rtnlc.RTM_NEWLINK}

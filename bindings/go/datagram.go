@@ -77,10 +77,10 @@ func Show(number uint, datagram []byte, options *Options) (string, error) {
 
 // Request is the request of a dump: a message with the flags NLM_F_REQUEST and NLM_F_DUMP. The
 // message type is any of the family, as RTM_GETLINK or RTM_NEWLINK, and the address family 0 for
-// all. The error is ErrNoKind, as an *Error.
-func Request(messageType uint16, family uint8, seq uint32, bigEndian bool) ([]byte, error) {
+// all. Of the options BigEndian alone counts. The error is ErrNoKind, as an *Error.
+func Request(messageType uint16, family uint8, seq uint32, options *Options) ([]byte, error) {
 	request := make([]byte, C.RTNLC_REQUEST)
 	put := C.rtnlc_request(C.uint16_t(messageType), C.uint8_t(family), C.uint32_t(seq),
-		C.bool(bigEndian), bytesAt(request), C.size_t(len(request)))
+		C.bool(options.isBigEndian()), bytesAt(request), C.size_t(len(request)))
 	return request[:put.len], refusal(put.code, 0)
 }

@@ -137,11 +137,11 @@ func TestShow(t *testing.T) {
 }
 
 func TestRequest(t *testing.T) {
-	request, err := rtnlc.Request(rtnlc.RTM_GETROUTE, rtnlc.AF_INET6, 5, false)
+	request, err := rtnlc.Request(rtnlc.RTM_GETROUTE, rtnlc.AF_INET6, 5, nil)
 	equal(t, "error", err, nil)
 	equal(t, "bytes", request, joined(uint32(28), uint16(26), uint16(0x301), uint32(5), uint32(0),
 		uint8(10), make([]byte, 11)))
-	request, err = rtnlc.Request(rtnlc.RTM_NEWNEIGH, 0, 5, true)
+	request, err = rtnlc.Request(rtnlc.RTM_NEWNEIGH, 0, 5, &rtnlc.Options{BigEndian: true})
 	equal(t, "error", err, nil)
 	equal(t, "front", request[:8], []byte("\x00\x00\x00\x1c\x00\x1e\x03\x01"))
 }

@@ -40,11 +40,11 @@
 //
 // # Requests
 //
-// A LinkRequest, an AddressRequest, a RouteRequest, a NeighbourRequest or a RuleRequest says what is
-// to be changed, and its AppendTo appends the message that asks for it, as ip(8) sends it:
+// A LinkRequest, an AddressRequest, a RouteRequest, a NeighbourRequest or a RuleRequest says what
+// is to be changed, and its AppendTo appends the message that asks for it, as ip(8) sends it:
 //
 //	request := rtnlc.LinkRequest{Name: "eth0", Up: rtnlc.PointerTo(true)}
-//	datagram, err := request.AppendTo(nil, rtnlc.Set, seq, false)
+//	datagram, err := request.AppendTo(nil, rtnlc.Set, seq, nil)
 //
 // A Builder puts any messages into a buffer of the caller's: a header and a head, attributes by
 // their numbers, lists and next hops. What it hands out is never malformed. The first refusal

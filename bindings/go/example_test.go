@@ -247,7 +247,7 @@ func ExampleBuilder() {
 func ExampleChangeRequest() {
 	// ip link set eth0 up
 	datagram, err := rtnlc.LinkRequest{Name: "eth0", Up: rtnlc.PointerTo(true)}.AppendTo(
-		nil, rtnlc.Set, 1, false)
+		nil, rtnlc.Set, 1, nil)
 	if err == nil {
 		// ip route replace 10.1.0.0/16 via 192.0.2.254 metric 0
 		datagram, err = rtnlc.RouteRequest{
@@ -257,7 +257,7 @@ func ExampleChangeRequest() {
 			Table:    rtnlc.RT_TABLE_MAIN,
 			Protocol: rtnlc.RTPROT_BOOT,
 			Type:     rtnlc.RTN_UNICAST,
-		}.AppendTo(datagram, rtnlc.Replace, 2, false)
+		}.AppendTo(datagram, rtnlc.Replace, 2, nil)
 	}
 	fmt.Println(len(datagram), err)
 	// Output: 96 <nil>
@@ -268,7 +268,7 @@ func ExampleRuleRequest() {
 	mark, mask, priority := uint32(0x10), uint32(0xff), uint32(100)
 	request := rtnlc.RuleRequest{From: netip.MustParsePrefix("192.0.2.0/24"), Mark: &mark,
 		Mask: &mask, Priority: &priority, Table: 1000, Action: rtnlc.FR_ACT_TO_TBL}
-	datagram, err := request.AppendTo(make([]byte, 0, 256), rtnlc.Add, 1, false)
+	datagram, err := request.AppendTo(make([]byte, 0, 256), rtnlc.Add, 1, nil)
 	fmt.Printf("% x %v\n", datagram[28:36], err)
 	// Output: 08 00 02 00 c0 00 02 00 <nil>
 }

@@ -8,15 +8,16 @@ import (
 // A Head is what a message that is built begins with: a LinkHead, an AddressHead, a RouteHead, a
 // NeighbourHead or a RuleHead.
 type Head interface {
-	// appendTo appends the struct of the kernel's headers.
-	appendTo(bytes []byte, order order) []byte
+	// appendTo appends the struct of the kernel's headers, and says whether its field holds the
+	// index.
+	appendTo(bytes []byte, order order) ([]byte, bool)
 }
 
 // A LinkHead is the head of a link, struct ifinfomsg.
 type LinkHead struct {
 	Family uint8  // AF_UNSPEC, or the address family whose settings are meant
 	Type   uint16 // ARPHRD_*, which the kernel doesn't look at
-	Index  int32  // of the interface; 0 where its name says which it is, or for a new one
+	Index  int    // of the interface; 0 where its name says which it is, or for a new one
 	Flags  uint32 // as IFF_UP
 	Change uint32 // which of the flags are to be taken over
 }
@@ -27,11 +28,11 @@ type AddressHead struct {
 	PrefixLen uint8 // how many bits of the address are those of its network
 	Flags     uint8 // as IFA_F_NODAD, as far as they fit
 	Scope     uint8 // as RT_SCOPE_UNIVERSE
-	Index     int32 // of its interface
+	Index     int   // of its interface
 }
 
 // AddressOn is the head of an address with the length of its network's prefix, on an interface.
-func AddressOn(prefix netip.Prefix, index int32) AddressHead {
+func AddressOn(prefix netip.Prefix, index int) AddressHead {
 	return AddressHead{Family: FamilyOf(prefix.Addr()), PrefixLen: bitsOf(prefix), Index: index}
 }
 
@@ -57,7 +58,7 @@ func RouteTo(dst netip.Prefix) RouteHead {
 // A NeighbourHead is the head of a neighbour, struct ndmsg.
 type NeighbourHead struct {
 	Family uint8  // as AF_INET, or AF_BRIDGE of an entry of a bridge
-	Index  int32  // of its interface
+	Index  int    // of its interface
 	State  uint16 // as NUD_PERMANENT
 	Flags  uint8  // as NTF_PROXY
 	Type   uint8  // as RTN_UNICAST
@@ -78,7 +79,7 @@ type RuleHead struct {
 type NextHopHead struct {
 	Flags uint8 // as RTNH_F_ONLINK
 	Hops  uint8 // its weight less one
-	Index int32 // of the interface, or 0
+	Index int   // of the interface, or 0
 }
 
 // FamilyOf is the address family of an address: AF_INET, AF_INET6, or AF_UNSPEC of the zero Addr.
@@ -114,27 +115,34 @@ func (o order) append32(to []byte, number uint32) []byte {
 	return binary.LittleEndian.AppendUint32(to, number)
 }
 
-func (h LinkHead) appendTo(to []byte, order order) []byte {
+// isSigned says whether a field of four bytes and a sign holds an index.
+func isSigned(index int) bool { return int64(index) == int64(int32(index)) }
+
+// isUnsigned is the same of one without a sign.
+func isUnsigned(index int) bool { return int64(index) == int64(uint32(index)) }
+
+func (h LinkHead) appendTo(to []byte, order order) ([]byte, bool) {
 	to = order.append16(append(to, h.Family, 0), h.Type)
 	to = order.append32(to, uint32(h.Index))
-	return order.append32(order.append32(to, h.Flags), h.Change)
+	return order.append32(order.append32(to, h.Flags), h.Change), isSigned(h.Index)
 }
 
-func (h AddressHead) appendTo(to []byte, order order) []byte {
-	return order.append32(append(to, h.Family, h.PrefixLen, h.Flags, h.Scope), uint32(h.Index))
+func (h AddressHead) appendTo(to []byte, order order) ([]byte, bool) {
+	to = append(to, h.Family, h.PrefixLen, h.Flags, h.Scope)
+	return order.append32(to, uint32(h.Index)), isUnsigned(h.Index)
 }
 
-func (h RouteHead) appendTo(to []byte, order order) []byte {
+func (h RouteHead) appendTo(to []byte, order order) ([]byte, bool) {
 	to = append(to, h.Family, h.DstLen, h.SrcLen, h.TOS, h.Table, h.Protocol, h.Scope, h.Type)
-	return order.append32(to, h.Flags)
+	return order.append32(to, h.Flags), true
 }
 
-func (h NeighbourHead) appendTo(to []byte, order order) []byte {
+func (h NeighbourHead) appendTo(to []byte, order order) ([]byte, bool) {
 	to = order.append32(append(to, h.Family, 0, 0, 0), uint32(h.Index))
-	return append(order.append16(to, h.State), h.Flags, h.Type)
+	return append(order.append16(to, h.State), h.Flags, h.Type), isSigned(h.Index)
 }
 
-func (h RuleHead) appendTo(to []byte, order order) []byte {
+func (h RuleHead) appendTo(to []byte, order order) ([]byte, bool) {
 	to = append(to, h.Family, h.DstLen, h.SrcLen, h.TOS, h.Table, 0, 0, h.Action)
-	return order.append32(to, h.Flags)
+	return order.append32(to, h.Flags), true
 }

@@ -78,16 +78,17 @@ type ChangeRequest interface {
 	// with port id 0: its type and flags, the head, and those attributes that are there, in the
 	// order and with the bytes that ip(8) sends. It is a multiple of four bytes, and what is in
 	// front of it is not looked at: several requests in one datagram are appended one behind
-	// another, each with a number of its own, and the kernel answers each. BigEndian is that of
-	// Options. It takes memory where the capacity is too small, and may write behind the bytes in
-	// it.
+	// another, each with a number of its own, and the kernel answers each. Of the options
+	// BigEndian alone counts. It takes memory where the capacity is too small, and may write behind
+	// the bytes in it.
 	//
 	// Where there is an error, the bytes are those that were given. The error is a Code, or wraps
 	// one and says more: ErrMismatch for an operation that is none of those above, for a prefix
-	// that has an address and is not valid, for an AddressRequest without Local, and for a Metric
-	// whose number is 16,384 or more; ErrTooLong for an attribute of more than 65,535 bytes, its
-	// head among them; ErrTooLarge for a message of more than 65,536 bytes.
-	AppendTo(bytes []byte, operation Operation, seq uint32, bigEndian bool) ([]byte, error)
+	// that has an address and is not valid, for an AddressRequest without Local, for an index that
+	// the kernel's field can't hold, and for a Metric whose number is 16,384 or more; ErrTooLong
+	// for an attribute of more than 65,535 bytes, its head among them; ErrTooLarge for a message
+	// of more than 65,536 bytes.
+	AppendTo(bytes []byte, operation Operation, seq uint32, options *Options) ([]byte, error)
 }
 
 // PointerTo points to a copy of a value, for those fields of a request that may be 0 or false.
@@ -96,21 +97,21 @@ func PointerTo[T any](value T) *T { return &value }
 // A LinkRequest is a request of a link: the one with Index or, where that is 0, the one with Name.
 // Of the operations Add, Replace, Set and Delete are for links.
 type LinkRequest struct {
-	Index        int32            // 0 where the name says which one, or the kernel chooses it
+	Index        int              // 0 where the name says which one, or the kernel chooses it
 	Name         string           // IFLA_IFNAME; its new name where there is an index
 	HardwareAddr net.HardwareAddr // IFLA_ADDRESS
 	Kind         string           // IFLA_INFO_KIND of a virtual interface, as "vlan"
 	Data         []byte           // IFLA_INFO_DATA: attributes of the kind's own; none without Kind
 	MTU          *uint32          // IFLA_MTU, in bytes
-	Master       *int32           // IFLA_MASTER, an index; 0 takes it out of its bridge or its like
-	Link         *int32           // IFLA_LINK, the index of the interface that it lies on
+	Master       *int             // IFLA_MASTER, an index; 0 takes it out of its bridge or its like
+	Link         *int             // IFLA_LINK, the index of the interface that it lies on
 	Up           *bool            // IFF_UP: brought up, or down
 }
 
 // An AddressRequest is a request of an address of an interface; its family is that of Local. Of the
 // operations Add, Replace, Change and Delete are for addresses.
 type AddressRequest struct {
-	Index     int32        // of the interface
+	Index     int          // of the interface
 	Local     netip.Prefix // IFA_LOCAL, with the length of its network's prefix; there must be one
 	Peer      netip.Prefix // IFA_ADDRESS, the other end's, whose length counts then; else as Local
 	Broadcast netip.Addr   // IFA_BROADCAST
@@ -136,7 +137,7 @@ type RouteRequest struct {
 	Gateway  netip.Addr       // RTA_GATEWAY
 	PrefSrc  netip.Addr       // RTA_PREFSRC, the source address that it is used with
 	Priority *uint32          // RTA_PRIORITY, its metric: the lowest is taken
-	OutIndex *int32           // RTA_OIF, the index of the output interface
+	OutIndex *int             // RTA_OIF, the index of the output interface
 	Table    uint32           // as RT_TABLE_MAIN; one above 255 stands in RTA_TABLE
 	TOS      uint8            // the type of service of packets
 	Protocol uint8            // who makes it, as RTPROT_STATIC
@@ -155,7 +156,7 @@ type Metric struct {
 
 // A NextHopRequest is one of several next hops of a route, struct rtnexthop.
 type NextHopRequest struct {
-	Index   int32      // of the interface, or 0
+	Index   int        // of the interface, or 0
 	Flags   uint8      // as RTNH_F_ONLINK
 	Hops    uint8      // its weight less one
 	Gateway netip.Addr // RTA_GATEWAY
@@ -165,7 +166,7 @@ type NextHopRequest struct {
 // neighbours, Append for entries of a bridge. ip(8) takes NUD_PERMANENT where no state is said.
 type NeighbourRequest struct {
 	Family       uint8            // AF_BRIDGE of an entry of a bridge; AF_UNSPEC for that of Addr
-	Index        int32            // of the interface
+	Index        int              // of the interface
 	Addr         netip.Addr       // NDA_DST
 	HardwareAddr net.HardwareAddr // NDA_LLADDR
 	State        uint16           // as NUD_PERMANENT
@@ -248,45 +249,69 @@ func familyOf(family uint8, addrs ...netip.Addr) C.uint8_t {
 }
 
 // number is a number that may not be there.
-func number[T int32 | uint32](value *T) (C.uint32_t, C.bool) {
+func number(value *uint32) (C.uint32_t, C.bool) {
 	if value == nil {
 		return 0, false
 	}
 	return C.uint32_t(*value), true
 }
 
+// signed is the index of an interface, where the kernel's field has a sign.
+func (n *named) signed(name string, index int) C.int32_t {
+	if !isSigned(index) {
+		n.refused = fmt.Errorf("%w: %s can't be %d", ErrMismatch, name, index)
+	}
+	return C.int32_t(index)
+}
+
+// unsigned is the same where the kernel's field has no sign.
+func (n *named) unsigned(name string, index int) C.uint32_t {
+	if !isUnsigned(index) {
+		n.refused = fmt.Errorf("%w: %s can't be %d", ErrMismatch, name, index)
+	}
+	return C.uint32_t(index)
+}
+
+// index is the same of one that may not be there.
+func (n *named) index(name string, index *int) (C.uint32_t, C.bool) {
+	if index == nil {
+		return 0, false
+	}
+	return n.unsigned(name, *index), true
+}
+
 // AppendTo appends the message of this request, as ChangeRequest says.
-func (r LinkRequest) AppendTo(bytes []byte, operation Operation, seq uint32, bigEndian bool) (
-	[]byte, error) {
+func (r LinkRequest) AppendTo(
+	bytes []byte, operation Operation, seq uint32, options *Options) ([]byte, error) {
 	var n named
 	it := C.struct_rtnlc_link_request{
 		name:    n.text(r.Name),
 		address: n.put(r.HardwareAddr),
 		kind:    n.text(r.Kind),
 		data:    n.put(r.Data),
-		index:   C.int32_t(r.Index),
+		index:   n.signed("Index", r.Index),
 		has_up:  r.Up != nil,
 		up:      C.bool(r.Up != nil && *r.Up),
 	}
 	it.mtu, it.has_mtu = number(r.MTU)
-	it.master, it.has_master = number(r.Master)
-	it.link, it.has_link = number(r.Link)
+	it.master, it.has_master = n.index("Master", r.Master)
+	it.link, it.has_link = n.index("Link", r.Link)
 	return n.append(bytes, func(out *C.uint8_t, room C.size_t) C.struct_rtnlc_put {
 		return C.asked_link(it, bytesAt(n.bytes), C.uint8_t(operation), C.uint32_t(seq),
-			C.bool(bigEndian), out, room)
+			C.bool(options.isBigEndian()), out, room)
 	})
 }
 
 // AppendTo appends the message of this request, as ChangeRequest says.
-func (r AddressRequest) AppendTo(bytes []byte, operation Operation, seq uint32, bigEndian bool) (
-	[]byte, error) {
+func (r AddressRequest) AppendTo(
+	bytes []byte, operation Operation, seq uint32, options *Options) ([]byte, error) {
 	var n named
 	it := C.struct_rtnlc_addr_request{
 		local:         n.prefix(r.Local),
 		peer:          n.prefix(r.Peer),
 		broadcast:     n.addr(r.Broadcast),
 		label:         n.text(r.Label),
-		index:         C.uint32_t(r.Index),
+		index:         n.unsigned("Index", r.Index),
 		flags:         C.uint32_t(r.Flags),
 		family:        familyOf(AF_UNSPEC, r.Local.Addr()),
 		prefix_length: C.uint8_t(bitsOf(r.Local)),
@@ -303,13 +328,13 @@ func (r AddressRequest) AppendTo(bytes []byte, operation Operation, seq uint32, 
 	}
 	return n.append(bytes, func(out *C.uint8_t, room C.size_t) C.struct_rtnlc_put {
 		return C.asked_addr(it, bytesAt(n.bytes), C.uint8_t(operation), C.uint32_t(seq),
-			C.bool(bigEndian), out, room)
+			C.bool(options.isBigEndian()), out, room)
 	})
 }
 
 // AppendTo appends the message of this request, as ChangeRequest says.
-func (r RouteRequest) AppendTo(bytes []byte, operation Operation, seq uint32, bigEndian bool) (
-	[]byte, error) {
+func (r RouteRequest) AppendTo(
+	bytes []byte, operation Operation, seq uint32, options *Options) ([]byte, error) {
 	var n named
 	it := C.struct_rtnlc_route_request{
 		destination:        n.prefix(r.Dst),
@@ -329,11 +354,11 @@ func (r RouteRequest) AppendTo(bytes []byte, operation Operation, seq uint32, bi
 		route_type:         C.uint8_t(r.Type),
 	}
 	it.priority, it.has_priority = number(r.Priority)
-	it.oif, it.has_oif = number(r.OutIndex)
-	metrics, hops := n.metrics(r.Metrics), hopsOf(r.NextHops)
+	it.oif, it.has_oif = n.index("OutIndex", r.OutIndex)
+	metrics, hops := n.metrics(r.Metrics), n.hops(r.NextHops)
 	return n.append(bytes, func(out *C.uint8_t, room C.size_t) C.struct_rtnlc_put {
 		return C.asked_route(it, bytesAt(n.bytes), metrics, hops, C.uint8_t(operation),
-			C.uint32_t(seq), C.bool(bigEndian), out, room)
+			C.uint32_t(seq), C.bool(options.isBigEndian()), out, room)
 	})
 }
 
@@ -361,15 +386,16 @@ func (n *named) metrics(metrics []Metric) *C.struct_rtnlc_metric {
 	return &made[0]
 }
 
-// hopsOf are the next hops of a route as the library takes them, or null where there is none.
-func hopsOf(hops []NextHopRequest) *C.struct_rtnlc_next_hop {
+// hops are the next hops of a route as the library takes them, or null where there is none.
+func (n *named) hops(hops []NextHopRequest) *C.struct_rtnlc_next_hop {
 	if len(hops) == 0 {
 		return nil
 	}
 	made := make([]C.struct_rtnlc_next_hop, len(hops))
 	for at, it := range hops {
 		to := &made[at]
-		to.index, to.flags, to.hops = C.int32_t(it.Index), C.uint8_t(it.Flags), C.uint8_t(it.Hops)
+		to.index = n.signed("Index of a next hop", it.Index)
+		to.flags, to.hops = C.uint8_t(it.Flags), C.uint8_t(it.Hops)
 		gateway := it.Gateway.AsSlice() // of 4 bytes, 16 or none
 		to.gateway_len = C.uint8_t(len(gateway))
 		for place, part := range gateway {
@@ -380,13 +406,13 @@ func hopsOf(hops []NextHopRequest) *C.struct_rtnlc_next_hop {
 }
 
 // AppendTo appends the message of this request, as ChangeRequest says.
-func (r NeighbourRequest) AppendTo(bytes []byte, operation Operation, seq uint32, bigEndian bool) (
-	[]byte, error) {
+func (r NeighbourRequest) AppendTo(
+	bytes []byte, operation Operation, seq uint32, options *Options) ([]byte, error) {
 	var n named
 	it := C.struct_rtnlc_neigh_request{
 		destination:  n.addr(r.Addr),
 		link_address: n.put(r.HardwareAddr),
-		index:        C.int32_t(r.Index),
+		index:        n.signed("Index", r.Index),
 		state:        C.uint16_t(r.State),
 		family:       familyOf(r.Family, r.Addr),
 		flags:        C.uint8_t(r.Flags),
@@ -396,13 +422,13 @@ func (r NeighbourRequest) AppendTo(bytes []byte, operation Operation, seq uint32
 	}
 	return n.append(bytes, func(out *C.uint8_t, room C.size_t) C.struct_rtnlc_put {
 		return C.asked_neigh(it, bytesAt(n.bytes), C.uint8_t(operation), C.uint32_t(seq),
-			C.bool(bigEndian), out, room)
+			C.bool(options.isBigEndian()), out, room)
 	})
 }
 
 // AppendTo appends the message of this request, as ChangeRequest says.
-func (r RuleRequest) AppendTo(bytes []byte, operation Operation, seq uint32, bigEndian bool) (
-	[]byte, error) {
+func (r RuleRequest) AppendTo(
+	bytes []byte, operation Operation, seq uint32, options *Options) ([]byte, error) {
 	var n named
 	it := C.struct_rtnlc_rule_request{
 		source:             n.prefix(r.From),
@@ -424,6 +450,6 @@ func (r RuleRequest) AppendTo(bytes []byte, operation Operation, seq uint32, big
 	it.priority, it.has_priority = number(r.Priority)
 	return n.append(bytes, func(out *C.uint8_t, room C.size_t) C.struct_rtnlc_put {
 		return C.asked_rule(it, bytesAt(n.bytes), C.uint8_t(operation), C.uint32_t(seq),
-			C.bool(bigEndian), out, room)
+			C.bool(options.isBigEndian()), out, room)
 	})
 }

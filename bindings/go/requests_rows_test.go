@@ -13,7 +13,7 @@ type asking struct {
 
 func some(value uint32) *uint32 { return &value }
 
-func index(value int32) *int32 { return &value }
+func index(value int) *int { return &value }
 
 // hardware is 02:00:00:00:00 with a last byte.
 func hardware(last byte) []byte { return []byte{2, 0, 0, 0, 0, last} }
@@ -116,12 +116,12 @@ func route(dst, gateway string, changes ...func(*rtnlc.RouteRequest)) rtnlc.Rout
 	return made
 }
 
-func by(index int32) func(*rtnlc.RouteRequest) {
+func by(index int) func(*rtnlc.RouteRequest) {
 	return func(r *rtnlc.RouteRequest) { r.OutIndex = &index }
 }
 
 // on is to a network at an interface.
-func on(index int32) func(*rtnlc.RouteRequest) {
+func on(index int) func(*rtnlc.RouteRequest) {
 	return func(r *rtnlc.RouteRequest) { r.OutIndex, r.Scope = &index, rtnlc.RT_SCOPE_LINK }
 }
 

@@ -42,7 +42,7 @@ func sentByIP(t *testing.T) map[string]string {
 
 // put is the message of a request in hexadecimal, or why there is none.
 func put(request rtnlc.ChangeRequest, operation rtnlc.Operation) string {
-	bytes, err := request.AppendTo(nil, operation, 0, false)
+	bytes, err := request.AppendTo(nil, operation, 0, nil)
 	if err != nil {
 		return err.Error()
 	}
@@ -209,8 +209,38 @@ func TestRequestsPutZeros(t *testing.T) {
 	}
 }
 
+// The first and the last index that the kernel's field holds, with a sign or without one.
+func TestRequestsIndexes(t *testing.T) {
+	const least, first, last, most = -1 << 31, uint32(1 << 31), uint32(1<<32 - 1), 1<<32 - 1
+	for _, it := range []struct {
+		name     string
+		request  rtnlc.ChangeRequest
+		expected []byte
+	}{
+		{"link, least", rtnlc.LinkRequest{Index: least}, joined(uint32(0), first, make([]byte, 8))},
+		{"link, most", rtnlc.LinkRequest{Index: 1<<31 - 1}, joined(uint32(0), first-1,
+			make([]byte, 8))},
+		{"master", rtnlc.LinkRequest{Master: index(most)},
+			joined(noLink, attr(rtnlc.IFLA_MASTER, last))},
+		{"link below", rtnlc.LinkRequest{Link: index(most)},
+			joined(noLink, attr(rtnlc.IFLA_LINK, last))},
+		{"address", rtnlc.AddressRequest{Index: most, Local: prefix("0.0.0.0/0")},
+			joined(uint32(rtnlc.AF_INET), last, attr(rtnlc.IFA_LOCAL, uint32(0)),
+				attr(rtnlc.IFA_ADDRESS, uint32(0)))},
+		{"route", rtnlc.RouteRequest{OutIndex: index(most)},
+			joined(noRoute, attr(rtnlc.RTA_OIF, last))},
+		{"next hop", rtnlc.RouteRequest{NextHops: []rtnlc.NextHopRequest{{Index: least}}},
+			joined(noRoute, attr(rtnlc.RTA_MULTIPATH, hop(0, 0, first)))},
+		{"neighbour", rtnlc.NeighbourRequest{Index: least},
+			joined(uint32(0), first, uint32(0))},
+	} {
+		equal(t, it.name, put(it.request, rtnlc.Set)[32:], hex.EncodeToString(it.expected))
+	}
+}
+
 // Each number with its highest byte first, after the kernel's headers.
 func TestRequestsInBigEndian(t *testing.T) {
+	big := rtnlc.Options{BigEndian: true}
 	for _, it := range []struct {
 		request  rtnlc.ChangeRequest
 		expected string
@@ -239,7 +269,7 @@ func TestRequestsInBigEndian(t *testing.T) {
 			00080010 00000002 0008000f 000003e8 00080004 00000003 0008000e 00000004
 			00080006 00000005`},
 	} {
-		found, err := it.request.AppendTo(nil, rtnlc.Add, 0x11121314, true)
+		found, err := it.request.AppendTo(nil, rtnlc.Add, 0x11121314, &big)
 		equal(t, "error", err, nil)
 		equal(t, "bytes", hex.EncodeToString(found), digits(it.expected))
 	}
@@ -280,7 +310,7 @@ func TestRequestsBehindOneAnother(t *testing.T) {
 	for seq, it := range []asking{askingLinks[14], askingAddresses[4], askingRoutes[10],
 		askingNeighbours[4], askingRules[1]} {
 		var err error
-		datagram, err = it.request.AppendTo(datagram, it.operation, uint32(seq), false)
+		datagram, err = it.request.AppendTo(datagram, it.operation, uint32(seq), nil)
 		equal(t, it.words, err, nil)
 	}
 	messages, err := rtnlc.Parse(datagram)
@@ -309,10 +339,10 @@ func TestRequestsRooms(t *testing.T) {
 		rtnlc.LinkRequest{Name: "one", Kind: "dummy"},
 		route("10.9.0.0/16", "", hops(make([]rtnlc.NextHopRequest, 60)...)),
 	} {
-		alone, _ := request.AppendTo(nil, rtnlc.Add, 1, false)
+		alone, _ := request.AppendTo(nil, rtnlc.Add, 1, nil)
 		for room := 0; room < len(alone)+9; room++ {
 			buffer := bytes.Repeat([]byte{0xaa}, 7+len(alone)+9)
-			found, err := request.AppendTo(buffer[:7:7+room], rtnlc.Add, 1, false)
+			found, err := request.AppendTo(buffer[:7:7+room], rtnlc.Add, 1, nil)
 			equal(t, "error", err, nil)
 			if !bytes.Equal(found[:7], buffer[:7]) || !bytes.Equal(found[7:], alone) {
 				t.Errorf("%d bytes of room: % x", room, found)
@@ -356,6 +386,22 @@ var refusals = []struct {
 	{rtnlc.Add, rtnlc.RuleRequest{To: bad}, rtnlc.ErrMismatch, noLength},
 	{rtnlc.Add, route("10.0.0.0/8", "", metrics(rtnlc.Metric{16384, 1})), rtnlc.ErrMismatch,
 		"rtnlc: mismatch: no metric has the number 16384"},
+	{rtnlc.Set, rtnlc.LinkRequest{Index: 1 << 31}, rtnlc.ErrMismatch,
+		"rtnlc: mismatch: Index can't be 2147483648"},
+	{rtnlc.Set, rtnlc.LinkRequest{Index: -1<<31 - 1}, rtnlc.ErrMismatch,
+		"rtnlc: mismatch: Index can't be -2147483649"},
+	{rtnlc.Set, rtnlc.LinkRequest{Master: index(-1)}, rtnlc.ErrMismatch,
+		"rtnlc: mismatch: Master can't be -1"},
+	{rtnlc.Set, rtnlc.LinkRequest{Link: index(1 << 32)}, rtnlc.ErrMismatch,
+		"rtnlc: mismatch: Link can't be 4294967296"},
+	{rtnlc.Add, rtnlc.AddressRequest{Index: -1, Local: prefix("10.0.0.1/8")}, rtnlc.ErrMismatch,
+		"rtnlc: mismatch: Index can't be -1"},
+	{rtnlc.Add, route("10.0.0.0/8", "", by(1<<32)), rtnlc.ErrMismatch,
+		"rtnlc: mismatch: OutIndex can't be 4294967296"},
+	{rtnlc.Add, route("10.0.0.0/8", "", hops(rtnlc.NextHopRequest{Index: 1 << 31})),
+		rtnlc.ErrMismatch, "rtnlc: mismatch: Index of a next hop can't be 2147483648"},
+	{rtnlc.Add, rtnlc.NeighbourRequest{Index: 1 << 31}, rtnlc.ErrMismatch,
+		"rtnlc: mismatch: Index can't be 2147483648"},
 	{rtnlc.Set, rtnlc.LinkRequest{Name: string(tooLong[:65531])}, rtnlc.ErrTooLong,
 		"rtnlc: too long"},
 	{rtnlc.Set, rtnlc.LinkRequest{HardwareAddr: tooLong}, rtnlc.ErrTooLong, "rtnlc: too long"},
@@ -372,7 +418,7 @@ var refusals = []struct {
 func TestRequestsRefused(t *testing.T) {
 	for _, it := range refusals {
 		buffer := []byte("front, and room behind it")
-		found, err := it.request.AppendTo(buffer[:5], it.operation, 1, false)
+		found, err := it.request.AppendTo(buffer[:5], it.operation, 1, nil)
 		if !errors.Is(err, it.code) || err.Error() != it.text {
 			t.Errorf("%s: %v", it.text, err)
 		}

@@ -55,7 +55,7 @@ func waysOf(words []string) (ways []rtnlc.NextHopRequest, err error) {
 		if err != nil {
 			return nil, fmt.Errorf("no interface %s", words[3])
 		}
-		ways = append(ways, rtnlc.NextHopRequest{Gateway: gateway, Index: int32(device.Index)})
+		ways = append(ways, rtnlc.NextHopRequest{Gateway: gateway, Index: device.Index})
 	}
 	return ways, nil
 }

@@ -27,7 +27,7 @@ func Misused(usage string) {
 // Change sends a request, and waits until the kernel says that it was done.
 func (s *Source) Change(operation rtnlc.Operation, change rtnlc.ChangeRequest) error {
 	s.seq++
-	request, err := change.AppendTo(nil, operation, s.seq, false)
+	request, err := change.AppendTo(nil, operation, s.seq, nil)
 	if err == nil {
 		_, err = syscall.Write(s.fd, request)
 	}
