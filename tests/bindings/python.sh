@@ -51,19 +51,39 @@ build() {
 wheel_of() { echo "$folder/$1"/rtnl-*-py3-none-"$platform".whl; }
 is_same_again() { build again && cmp "$(wheel_of once)" "$(wheel_of again)"; }
 
-# in_wheel: what a wheel holds: each source, the library, and four texts.
-in_wheel() { "$python" -m zipfile -l "$(wheel_of once)" | awk 'NR > 1 { print $1 }' | sort; }
+# in_wheel FILE: what a wheel holds: each source, the library, and six texts.
+in_wheel() { "$python" -m zipfile -l "$1" | awk 'NR > 1 { print $1 }' | sort; }
 wanted_in_wheel() {
   local info=rtnl-$version.dist-info
   (cd "$copy/src" && find rtnl -type f)
   printf '%s\n' rtnl/librtnlc.so.0 "$info"/{METADATA,RECORD,WHEEL} \
     "$info"/licenses/{LICENSE-APACHE,LICENSE-MIT,NOTICE}
 }
-holds_all() { diff <(in_wheel) <(wanted_in_wheel | sort); }
+holds_all() { diff <(in_wheel "$(wheel_of once)") <(wanted_in_wheel | sort); }
 holds_library() {
   "$python" -c 'import sys, zipfile
 sys.stdout.buffer.write(zipfile.ZipFile(sys.argv[1]).read("rtnl/librtnlc.so.0"))' \
     "$(wheel_of once)" | cmp - "$RTNLC_PREFIX/lib/librtnlc.so.0"
+}
+
+# build_without: a wheel without the library, by pip's setting, where there is none.
+build_without() {
+  mkdir "$folder/without" && quiet env RTNLC_LIB_DIR="$folder/none" "$python" -m pip wheel \
+    --no-index --no-build-isolation --no-deps --config-settings library=system \
+    --wheel-dir "$folder/without" "$copy"
+}
+wheel_without() { echo "$folder/without/rtnl-$version-py3-none-any.whl"; }
+holds_all_but_library() {
+  diff <(in_wheel "$(wheel_without)") <(wanted_in_wheel | grep -v '\.so\.0$' | sort)
+}
+
+# loads_system: that wheel, installed, loads the library that the loader finds.
+loads_system() {
+  quiet "$python" -m pip install --no-index --no-deps --force-reinstall "$(wheel_without)" &&
+    [ "$(LD_LIBRARY_PATH=$RTNLC_PREFIX/lib "$python" -c 'import pathlib, rtnl
+words = pathlib.Path("/proc/self/maps").read_text().split()
+print(*{it for it in words if it.endswith("/librtnlc.so.0")})')" = \
+      "$(readlink -f "$RTNLC_PREFIX/lib/librtnlc.so.0")" ]
 }
 
 # from_archive: a wheel of the archive of the sources, which is the same.
@@ -149,6 +169,9 @@ check 'the name of the wheel' test -e "$(wheel_of once)"
 check 'the same wheel again' is_same_again
 check 'all that the wheel holds' holds_all
 check 'the library in the wheel' holds_library
+check 'a wheel without the library' build_without
+check 'all that it holds' holds_all_but_library
+check 'it loads the library of the system' loads_system
 check 'the archive of the sources' from_archive
 check 'the wheel by pkg-config' install PKG_CONFIG_PATH="$RTNLC_PREFIX/lib/pkgconfig"
 check 'the wheel of a library beside the sources' install_of_beside

@@ -5,6 +5,9 @@
 * beside the sources, in src/rtnl/, where it lies there; else
 * in the folder that `pkg-config --variable=libdir rtnlc` says.
 
+With the setting `library=system` the wheel has none, and none is looked for: it is for any
+platform, and loads the library of the system. `library=wheel` is what holds without that setting.
+
 The same files give the same bytes. SOURCE_DATE_EPOCH is the time of files in archives; else it is
 the first that a wheel can have.
 """
@@ -35,6 +38,14 @@ Settings = Optional[Dict[str, Any]]
 
 class NoLibrary(SystemExit):
     """There is no library to put into the wheel, and the text says what to do."""
+
+
+def wants_library(settings: Settings) -> bool:
+    """Whether the library goes into the wheel, by the setting of this name."""
+    place: str = (settings or {}).get("library", "wheel")
+    if place not in ("wheel", "system"):
+        raise SystemExit(f"rtnl: the setting library is wheel or system, not {place}")
+    return place == "wheel"
 
 
 def loading() -> ModuleType:
@@ -93,13 +104,15 @@ def metadata(module: ModuleType) -> bytes:
     return fields + read(f"{HERE}/README.md")
 
 
-def tag() -> str:
+def tag(with_library: bool) -> str:
+    """The tag of a wheel with the library, or without it."""
     platform = sysconfig.get_platform().replace("-", "_").replace(".", "_")
-    return f"py3-none-{platform}"
+    return f"py3-none-{platform if with_library else 'any'}"
 
 
-def wheel_text() -> bytes:
-    lines = "Wheel-Version: 1.0", "Generator: rtnl", "Root-Is-Purelib: false", f"Tag: {tag()}"
+def wheel_text(with_library: bool) -> bytes:
+    pure = f"Root-Is-Purelib: {'false' if with_library else 'true'}"
+    lines = "Wheel-Version: 1.0", "Generator: rtnl", pure, f"Tag: {tag(with_library)}"
     return "".join(f"{line}\n" for line in lines).encode()
 
 
@@ -107,13 +120,16 @@ def is_source(name: str) -> bool:
     return name.endswith((".py", ".typed")) or name == "METADATA"
 
 
-def in_wheel(module: ModuleType, info: str) -> Iterator[Tuple[str, bytes]]:
+def in_wheel(
+    module: ModuleType, info: str, with_library: bool
+) -> Iterator[Tuple[str, bytes]]:
     """The files of the wheel, but for RECORD."""
     for name in sorted(filter(is_source, os.listdir(f"{HERE}/{SOURCES}"))):
         yield f"rtnl/{name}", read(f"{HERE}/{SOURCES}/{name}")
-    yield f"rtnl/{module.FILE}", read(library(module))
+    if with_library:
+        yield f"rtnl/{module.FILE}", read(library(module))
     yield f"{info}/METADATA", metadata(module)
-    yield f"{info}/WHEEL", wheel_text()
+    yield f"{info}/WHEEL", wheel_text(with_library)
     for name in LICENSES:
         yield f"{info}/licenses/{name}", read(f"{HERE}/{name}")
 
@@ -130,12 +146,12 @@ def build_wheel(
     metadata_directory: Optional[str] = None,
 ) -> str:
     """Makes the wheel in a folder, and answers its name."""
-    module = loading()
+    module, with_library = loading(), wants_library(config_settings)
     info = f"rtnl-{module.VERSION}.dist-info"
-    files = list(in_wheel(module, info))
+    files = list(in_wheel(module, info, with_library))
     record = "".join(row(*it) for it in files) + f"{info}/RECORD,,\n"
     stamp = time.gmtime(max(FIRST_TIME, int(os.environ.get("SOURCE_DATE_EPOCH", 0))))[:6]
-    name = f"rtnl-{module.VERSION}-{tag()}.whl"
+    name = f"rtnl-{module.VERSION}-{tag(with_library)}.whl"
     with zipfile.ZipFile(os.path.join(wheel_directory, name), "w", zipfile.ZIP_DEFLATED) as wheel:
         for path, data in [*files, (f"{info}/RECORD", record.encode())]:
             entry = zipfile.ZipInfo(path, stamp)

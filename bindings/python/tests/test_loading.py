@@ -5,6 +5,7 @@ import subprocess
 import sys
 import tempfile
 import unittest
+import zipfile
 from typing import Dict, Optional
 
 import rtnl
@@ -13,7 +14,16 @@ from shared import PACKAGE
 
 HELP = "./install --library PREFIX"
 IMPORT = "import rtnl; print(rtnl.scan(b'').code.name)"
+# The file of the library that a program has loaded.
+MAPPED = """
+import pathlib, rtnl
+words = pathlib.Path("/proc/self/maps").read_text().split()
+print(*{it for it in words if it.endswith("/librtnlc.so.0")})
+"""
 BUILD = "import rtnl_wheel, sys; print(rtnl_wheel.build_wheel(sys.argv[1]))"
+# The same with a setting, as pip hands it on: without the library, and one that there is not.
+BUILD_WITHOUT = BUILD.replace("argv[1]", "argv[1], {'library': 'system'}")
+BUILD_WRONGLY = BUILD.replace("argv[1]", "argv[1], {'library': 'none'}")
 
 
 def without(**more: str) -> Dict[str, str]:
@@ -122,6 +132,32 @@ class Loading(unittest.TestCase):
         self.assertEqual(self.ran(IMPORT).stdout, "OK\n")
         self.builds()
         self.fails(IMPORT, "can't be loaded", RTNLC_LIB_DIR=self.folder)
+
+    def test_wheel_without_it(self) -> None:
+        """It is made without a library, has none, and loads the one that the loader finds."""
+        found = self.ran(BUILD_WITHOUT, self.folder, RTNLC_LIB_DIR=f"{self.folder}/none")
+        name = "rtnl-0.3.0-py3-none-any.whl"
+        self.assertEqual((found.stdout, found.stderr), (f"{name}\n", ""))
+        with zipfile.ZipFile(f"{self.folder}/{name}") as wheel:
+            text = wheel.read("rtnl-0.3.0.dist-info/WHEEL").decode().splitlines()
+            self.assertEqual(text[2:], ["Root-Is-Purelib: true", "Tag: py3-none-any"])
+            self.assertNotIn(f"rtnl/{_loading.FILE}", wheel.namelist())
+            wheel.extractall(f"{self.folder}/unpacked/src")
+        self.package = f"{self.folder}/unpacked"
+        own = f"{self.folder}/own"
+        os.makedirs(own)
+        shutil.copy(self.path, f"{own}/{_loading.FILE}")
+        found = self.ran(MAPPED, LD_LIBRARY_PATH=own)
+        self.assertEqual((found.stdout, found.stderr), (f"{own}/{_loading.FILE}\n", ""))
+
+    def test_wheel_without_it_beside_the_sources(self) -> None:
+        shutil.copy(self.path, f"{self.package}/src/rtnl/{_loading.FILE}")
+        self.assertEqual(self.ran(BUILD_WITHOUT, self.folder).returncode, 0)
+        with zipfile.ZipFile(f"{self.folder}/rtnl-0.3.0-py3-none-any.whl") as wheel:
+            self.assertNotIn(f"rtnl/{_loading.FILE}", wheel.namelist())
+
+    def test_wrong_setting(self) -> None:
+        self.fails(BUILD_WRONGLY, "the setting library is wheel or system, not none")
 
     def test_by_pkg_config(self) -> None:
         if not shutil.which("pkg-config"):
