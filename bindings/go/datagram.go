@@ -6,7 +6,8 @@ import "C"
 import "unsafe"
 
 // Options are the limits of a reading. Where a pointer to them is nil, those of StandardOptions
-// hold. One that is out of its range is ErrBadLimit.
+// hold. Others begin with these, since a limit that is left out is 0. One that is out of its range
+// is ErrBadLimit.
 type Options struct {
 	Total     uint64 // bytes of all datagrams of a session or a stream at most: 0 to 2^40
 	Datagram  uint32 // bytes of a datagram at most: a multiple of 4 from 16 to 1,048,576

@@ -46,6 +46,8 @@
 //	request := rtnlc.LinkRequest{Name: "eth0", Up: rtnlc.PointerTo(true)}
 //	datagram, err := request.AppendTo(nil, rtnlc.Set, seq, nil)
 //
+// Where options are nil, as behind the sequence number here, the standard ones hold.
+//
 // A Builder puts any messages into a buffer of the caller's: a header and a head, attributes by
 // their numbers, lists and next hops. What it hands out is never malformed. The first refusal
 // sticks, and Finish answers it.

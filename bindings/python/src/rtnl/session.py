@@ -37,6 +37,8 @@ class Session(Dump):
             socket.send(session.begin(RTM_GETLINK, seq=1, port=port))
             while session.waiting:
                 session.feed(socket.recv(65536))
+            if not session.status().complete:
+                raise RuntimeError(f"no whole dump: {session.status()}")
             for link in session.links:
                 print(link.name, link.mtu)
 
