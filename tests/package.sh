@@ -16,7 +16,7 @@ program=$(tests/helpers/proved.py) || exit 1
 . tests/helpers/cases.sh
 
 tests/helpers/install_packages.sh cc gcc objcopy binutils pkg-config pkg-config dpkg-deb dpkg \
-  lintian lintian git git wasm-opt binaryen
+  dpkg-shlibdeps dpkg-dev lintian lintian git git wasm-opt binaryen
 
 # What is made here, and how ./package is told of it.
 how=()
