@@ -103,8 +103,8 @@ same 'heads are read by the walkers, by a scan at one place for each sort of hea
   "$(counts '\b(head_len|len_at|kind_at|span_at)\(')" \
   'crates/nl_attr/src/broken.rt 1
 crates/nl_attr/src/taping/fronts.rt 3
-crates/nl_attr/src/taping/leaves.rt 3
-crates/nl_attr/src/taping/steps.rt 1
+crates/nl_attr/src/taping/leaves.rt 2
+crates/nl_attr/src/taping/steps.rt 2
 crates/nl_attr/src/walk/attrs.rt 3
 crates/nl_attr/src/walk/counted.rt 5
 crates/nl_attr/src/walk/hops.rt 2
@@ -124,21 +124,21 @@ same 'a message is taken from the front once by a reading, a scan and a cursor' 
 crates/nl_frame/src/reading.rt 1
 crates/nl_frame/src/taping.rt 1'
 
-# The first goes past the heads at the front of a region, and the second on from where that ended.
-same 'a scan is two loops over heads that hold bytes, one over heads that hold others, and one over messages' \
+# The first goes past heads at the front of a region, and the second past the one at which that ended.
+same 'a scan is one loop over heads that hold bytes, one over the others, and one over messages' \
   "$(lines '\b(loop|while|for)\b([^<]|<[ =])*\{$' "${scan[@]}" crates/nl_frame/src/scanning.rt "$taping" |
     sed 's/^[^:]*: *//')" \
   "'leaves: while behind <= isize::MAX as usize {
-'leaves: loop {
 'heads: loop {
 'messages: while !left.is_empty() {"
 
 same 'a region is scanned by the calls that are made for it and once by the scan of a message, and in no reading' \
-  "$(counts '\b(scan_list_ordered|tape_(list|attrs|attrs_in|region|leaves|like)|pass_(front|leaves|like)|step_(attrs|container|hop))\b.*\(')" \
+  "$(counts '\b(scan_list_ordered|tape_(list|attrs|attrs_in|region|regions|open)|open_(ample|little|big|none)|pass_(top|front|leaves|like)|step_(attr|hop))\b.*\(')" \
   'crates/nl_attr/src/scanning.rt 2
-crates/nl_attr/src/taping/leaves.rt 10
-crates/nl_attr/src/taping/mod.rt 8
-crates/nl_attr/src/taping/steps.rt 9
+crates/nl_attr/src/taping/leaves.rt 5
+crates/nl_attr/src/taping/mod.rt 9
+crates/nl_attr/src/taping/regions.rt 15
+crates/nl_attr/src/taping/steps.rt 8
 crates/nl_frame/src/taping.rt 1'
 
 same 'a datagram is scanned by the calls that are made for it, and in no reading' \

@@ -1,9 +1,9 @@
 -- What a scan of a region puts and counts, head by head and at its end.
-use Rattle.std.specs.Prelude.{◌≡◌, ◌≢◌, ◌<◌, ◌+◌, ◌-◌, ◌*◌, ℕ, List, [], ◌∷◌, length, map, drop, Option, Some, None, Ok, IfSome}
+use Rattle.std.specs.Prelude.{◌≡◌, ◌≢◌, ◌≤◌, ◌<◌, ◌+◌, ◌-◌, ◌*◌, ◌%◌, ℕ, List, [], ◌∷◌, length, map, drop, Option, Some, None, IfSome}
 use Rattle.nl_attr.specs.declared.events.Event.{Event}
 use Rattle.nl_attr.specs.declared.events.Room.{Room}
 use Rattle.nl_attr.specs.declared.events.Room.TheVariants.{Ample, Unknown}
-use Rattle.nl_attr.specs.Fixed.{SORT_BYTES}
+use Rattle.nl_attr.specs.Fixed.{NUMBERS, SORT_BYTES}
 use Rattle.nl_attr.specs.declared.order.Order.{Order}
 use Rattle.nl_attr.specs.declared.broken.BrokenHead.{BrokenHead}
 use Rattle.nl_attr.specs.declared.taping.Counts.{Counts}
@@ -13,9 +13,6 @@ use Rattle.nl_attr.specs.declared.tree.Content.TheVariants as content
 use Rattle.nl_attr.specs.declared.tree.Ctx.{Ctx}
 use Rattle.nl_attr.specs.declared.taping.fronts.AttrFront.{AttrFront}
 use Rattle.nl_attr.specs.declared.taping.fronts.HopFront.{HopFront}
-use Rattle.nl_attr.specs.declared.taping.leaves.Leaves.{Leaves}
-use Rattle.nl_attr.specs.declared.taping.leaves.Next.{Next}
-use Rattle.nl_attr.specs.declared.taping.leaves.Next.TheVariants as next
 use Rattle.nl_attr.specs.declared.taping.steps.Lead.{Lead}
 use Rattle.nl_attr.specs.declared.taping.steps.Lead.TheVariants as lead
 use Rattle.nl_attr.specs.declared.taping.steps.Advance.{Advance}
@@ -23,9 +20,9 @@ use Rattle.nl_attr.specs.declared.tree.Ctx.TheVariants.{Route}
 use Rattle.nl_attr.specs.Shape.{Shape}
 use Rattle.nl_attr.specs.Numbers.{kind_of, span_of}
 use Rattle.nl_attr.specs.Tree.{holds_of}
-use Rattle.nl_attr.specs.Walk.{HeadIs, broken_length, flags_of, payload_of}
+use Rattle.nl_attr.specs.Walk.{flags_of, payload_of}
 use Rattle.nl_attr.specs.Broken.{IsBrokenHead, fault_in}
-use Rattle.nl_attr.specs.Heads.{hop_head, Head, start_of, content_at, broken, follower, inner_of}
+use Rattle.nl_attr.specs.Heads.{hop_head, Head, start_of, broken, follower, inner_of}
 use Rattle.nl_attr.specs.Region.{head_of}
 use Rattle.nl_attr.specs.HeadOrder.{trail_of, event_of, put_from, counted, visits_of, fault_of}
 
@@ -63,10 +60,14 @@ HasRoom Unknown count left places = Unit {0}
 abbrev pub IsLike : Ctx → Ctx → Type 0
 IsLike c k = (n : ℕ) (f : AttrFlags) → holds_of c n f ≡ holds_of k n f
 
+-- the item of this head has no head in it
+abbrev pub HoldsNone : Shape → Head → Type 0
+HoldsNone S h = IfSome (inner_of S h) (λ k. k.left ≡ [])
+
 -- these heads stand one behind the other, each sound and with no head in it, from the first head up to the last, which is not one of them
 abbrev pub Passes : Shape → Head → List Head → Head → Type 0
 Passes S h [] g = h ≡ g
-Passes S h (k ∷ ks) g = (k ≡ h) × (h.left ≢ []) × (broken S h ≡ None) × (inner_of S h ≡ None) × Passes S (follower S h) ks g
+Passes S h (k ∷ ks) g = (k ≡ h) × (h.left ≢ []) × (broken S h ≡ None) × HoldsNone S h × Passes S (follower S h) ks g
 
 -- the head where so many bytes are left of its region
 abbrev pub head_with : Head → List ℕ → Head
@@ -79,19 +80,9 @@ pub record IsPassing (S : Shape) (h : Head) (count : ℕ) (old : List Event) (le
   pub counted : n ≡ count + length passed
   pub events : new ≡ put_from count (map (event_of S.order) passed) old
 
--- what is at the front
-abbrev pub IsNext : Shape → Head → Next → Type 0
-IsNext S h next.Ends = h.left ≡ []
-IsNext S h (next.Fails r) = (h.left ≢ []) × (broken_length S.order 4 2 h.left ≡ Some r)
-IsNext S h (next.Opens len) = (h.left ≢ []) × HeadIs S.order 4 2 h.left (Ok len) × (content_at S.order h.ctx h.left ≢ content.Bytes)
-
--- attributes that hold bytes are passed, and their events put from place `count` on; behind them stands what is next
-pub record PassesLeaves (S : Shape) (h : Head) (count : ℕ) (old new : List Event) (r : Leaves) : Type 0 where
-  pub passed : List Head
-  pub passes : Passes S h passed (head_with h r.left.now)
-  pub counted : r.count ≡ count + length passed
-  pub events : new ≡ put_from count (map (event_of S.order) passed) old
-  pub next : IsNext S (head_with h r.left.now) r.next
+-- an attribute of this type, with so many bytes behind its head, is a list without a byte, and may stand at this level
+abbrev pub IsEmptyList : Ctx → ℕ → ℕ → ℕ → ℕ → Type 0
+IsEmptyList c kind len l depth = (len ≡ 0) × (l + 1 ≤ depth) × ((k : Ctx) × (holds_of c (kind % NUMBERS) (flags_of kind) ≡ content.List k))
 
 -- ---- one step
 
@@ -111,6 +102,7 @@ pub record Skips (S : Shape) (h g : Head) (before after : Counts) (old new : Lis
 abbrev pub LeadsTo : Shape → Head → Counts → Counts → List Event → List Event → Head → Lead → Type 0
 LeadsTo S h before after old new rest lead.Ends = (h.left ≡ []) × (after ≡ before) × (new ≡ old)
 LeadsTo S h before after old new rest (lead.Fails r) = (h.left ≢ []) × (rest ≡ h) × (broken S h ≡ Some r) × Adds S (counted S h) before after old new
+LeadsTo S h before after old new rest lead.Goes = (h.left ≢ []) × (broken S h ≡ None) × HoldsNone S h × (rest ≡ follower S h) × Adds S (h ∷ []) before after old new
 LeadsTo S h before after old new rest (lead.Opens inner) =
     (h.left ≢ []) × (broken S h ≡ None) × (inner_of S h ≡ Some (head_of inner)) × (rest ≡ follower S h)
     × Adds S (h ∷ []) before after old new
@@ -118,16 +110,6 @@ LeadsTo S h before after old new rest (lead.Opens inner) =
 -- the same of a step
 abbrev pub Leads : Shape → Head → Counts → Counts → List Event → List Event → Advance → Type 0
 Leads S h before after old new s = LeadsTo S h before after old new (head_of s.rest) s.lead
-
--- heads that hold none are passed and added, and the head behind them leads on
-pub record Steps (S : Shape) (h : Head) (before after : Counts) (old new : List Event) (s : Advance) : Type 0 where
-  pub passed : List Head
-  pub at : Head
-  pub between : Counts
-  pub events : List Event
-  pub passes : Passes S h passed at
-  pub adds : Adds S passed before between old events
-  pub leads : Leads S at between after events new s
 
 -- ---- a whole scan
 

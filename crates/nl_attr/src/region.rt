@@ -49,14 +49,15 @@ pub(crate) struct OpenRegion<'a> {
     pub(crate) parts: Parts,
 }
 
-/// The blank that an empty place of a stack holds.
+/// The blank that an empty place of a stack holds: zeros behind the slice's address, so that many
+/// are made at once.
 impl Default for OpenRegion<'_> {
     fn default() -> Self {
         OpenRegion {
             left: &[],
             place: 0,
             level: 0,
-            parts: Parts::Hops,
+            parts: Parts::Attrs(Ctx::Link),
         }
     }
 }

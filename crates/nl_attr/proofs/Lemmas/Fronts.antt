@@ -1,5 +1,6 @@
 -- What stands at the front of a region, part by part, and the step past it.
-use Rattle.std.proofs.Common.{◌≡◌, ℕ, ◌<◌, ◌+◌, ◌-◌, ◌/◌, ◌%◌, Bool, true, false, cond, nat_eq, unwrap_or, List, [], ◌∷◌, take, drop, length, slice_set, Option, Some, None, refl, sym, ap, subst, ◌∙◌, arith, length-drop}
+use Rattle.std.proofs.Common.{◌≡◌, ℕ, ◌≤◌, ◌<◌, ◌+◌, ◌-◌, ◌/◌, ◌%◌, Bool, true, false, cond, nat_eq, unwrap_or, List, [], ◌∷◌, take, drop, length, slice_set, Option, Some, None, refl, sym, ap, subst, ◌∙◌, arith, length-drop}
+use Rattle.std.proofs.lemmas.Bool.{le-ltb}
 use Rattle.std.proofs.lemmas.List.{take_all}
 use Rattle.nl_attr.specs.declared.fault.Reason.{Reason}
 use Rattle.nl_attr.specs.declared.order.Order.{Order}
@@ -13,7 +14,7 @@ use Rattle.nl_attr.specs.declared.region.OpenRegion.{OpenRegion}
 use Rattle.nl_attr.specs.declared.region.Parts.{Parts}
 use Rattle.nl_attr.specs.declared.region.Parts.TheVariants.{Attrs, Hops}
 use Rattle.nl_attr.specs.declared.events.Event.{Event}
-use Rattle.nl_attr.specs.Fixed.{SORT_BYTES, SORT_NEXT_HOP}
+use Rattle.nl_attr.specs.Fixed.{LONGEST_CONTAINER, SORT_BYTES, SORT_LIST, SORT_NEXT_HOP}
 use Rattle.nl_attr.specs.Shape.{Shape}
 use Rattle.nl_attr.specs.Numbers.{kind_of, len_of}
 use Rattle.nl_attr.specs.Tree.{holds_of, named}
@@ -78,6 +79,12 @@ plain_event o ctx l place left len number kind low is holds =
     ∙ bytes_event_so o ctx l place left len number (flags_of number) is kind refl
     ∙ bytes_event o ctx l place left holds
 
+-- that of a list without a byte
+pub list_event : (o : Order) (ctx k : Ctx) (l place : ℕ) (left : List ℕ) (kind : ℕ) → kind ≡ kind_of o left → 0 ≡ length (payload_of o 4 2 left) → content.List k ≡ content_at o ctx left
+    → ◌≡◌ {A = Event} (record { place = place; len = 0; number = kind % 16384; level = l; sort = SORT_LIST; nested = (flags_of kind).nested; net = (flags_of kind).net }) (event_of o (start_of ctx l place left))
+list_event o ctx k l place left kind is none holds =
+    event_so o ctx l place left (record { place = place; len = 0; number = kind % 16384; level = l; sort = SORT_BYTES; nested = (flags_of kind).nested; net = (flags_of kind).net }) (content.List k) SORT_LIST (bytes_event_so o ctx l place left 0 kind (flags_of kind) none is refl) holds refl
+
 -- what is left behind an item
 pub left_so : (left : List ℕ) (n m : ℕ) → n ≡ m → take (length left - n) (drop n left) ≡ drop m left
 left_so left n m e = take_all (length left - n) (drop n left) (omega (arith, length-drop n left)) ∙ ap (λ (k : ℕ). drop k left) e
@@ -109,6 +116,10 @@ attrs_sort r c e = ap sort_in e
 
 pub hops_head : (r : OpenRegion) → r.parts ≡ Hops → hops_start r.level r.place r.left.now ≡ head_of r
 hops_head r e = ap (λ (p : Parts). record { place = r.place; sort = sort_in p; ctx = ctx_in p; level = r.level; left = r.left.now }) (sym e)
+
+-- a list breaks no rule of containers where it is not too long, and a level is left
+pub list_fits : (S : Shape) (l len : ℕ) (k : Ctx) → len ≤ LONGEST_CONTAINER → l + 1 ≤ S.depth → broken_container S l (content.List k) len ≡ None
+list_fits S l len k a b = rw (le-ltb LONGEST_CONTAINER len a, le-ltb S.depth (l + 1) b) refl
 
 -- ---- steps
 

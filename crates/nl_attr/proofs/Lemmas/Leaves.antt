@@ -5,27 +5,21 @@ use Rattle.std.proofs.lemmas.List.{drop-drop, length-map, map-append}
 use Rattle.nl_attr.specs.declared.events.Event.{Event}
 use Rattle.nl_attr.specs.declared.events.Room.{Room}
 use Rattle.nl_attr.specs.declared.events.Room.TheVariants.{Ample, Unknown}
-use Rattle.nl_attr.specs.declared.fault.Reason.{Reason}
 use Rattle.nl_attr.specs.declared.region.OpenRegion.{OpenRegion}
 use Rattle.nl_attr.specs.declared.region.Parts.TheVariants.{Attrs}
 use Rattle.nl_attr.specs.declared.taping.Counts.{Counts}
-use Rattle.nl_attr.specs.declared.taping.leaves.Leaves.{Leaves}
 use Rattle.nl_attr.specs.declared.taping.leaves.Passed.{Passed}
-use Rattle.nl_attr.specs.declared.taping.leaves.Next.{Next}
-use Rattle.nl_attr.specs.declared.taping.leaves.Next.TheVariants as next
-use Rattle.nl_attr.specs.declared.taping.steps.Advance.{Advance}
-use Rattle.nl_attr.specs.declared.taping.steps.Lead.TheVariants as lead
 use Rattle.nl_attr.specs.declared.tree.Ctx.{Ctx}
 use Rattle.nl_attr.specs.Shape.{Shape}
 use Rattle.nl_attr.specs.Numbers.{len_of, span_of}
 use Rattle.nl_attr.specs.Walk.{broken_length}
 use Rattle.nl_attr.specs.declared.fault.Reason.TheVariants.{Cut, BadLength}
 use Rattle.nl_attr.specs.declared.order.Order.{Order}
-use Rattle.nl_attr.specs.Heads.{Head, start_of, broken, inner_of, follower}
+use Rattle.nl_attr.specs.Heads.{Head, start_of, broken, follower}
 use Rattle.nl_attr.specs.HeadOrder.{event_of, put_from}
 use Rattle.nl_attr.specs.Region.{head_of}
-use Rattle.nl_attr.specs.Taped.{HasRoom, IsNext, IsPassing, LeadsTo, Passes, PassesLeaves, Skips, Steps, head_with}
-use Rattle.nl_attr.proofs.Lemmas.Fronts.{attrs_head, attr_unsound}
+use Rattle.nl_attr.specs.Taped.{HasRoom, HoldsNone, IsPassing, Passes, Skips, head_with}
+use Rattle.nl_attr.proofs.Lemmas.Fronts.{adds_none, attrs_head}
 use Rattle.nl_attr.proofs.Lemmas.Scan.{span_within}
 use Rattle.nl_attr.proofs.Lemmas.Putting.{put_none, put_on}
 use Rattle.nl_attr.proofs.Lemmas.Taping.{passes_push, passes_sum}
@@ -63,7 +57,7 @@ module _ {S : Shape} {h : Head} {count : ℕ} {old : List Event} {left : List �
       ap (λ (p : ℕ). record h { place = p; left = drop span left }) (omega (arith, within.0, length-drop span left, span_within S.order 2 left))
 
   -- one more
-  pub goes : (rest : List ℕ) (new : List Event) → rest ≡ drop (span_of S.order 2 left) left → left ≢ [] → broken S (head_with h left) ≡ None → inner_of S (head_with h left) ≡ None → new ≡ put_from n (event_of S.order (head_with h left) ∷ []) out → IsPassing S h count old rest (n + 1) new
+  pub goes : (rest : List ℕ) (new : List Event) → rest ≡ drop (span_of S.order 2 left) left → left ≢ [] → broken S (head_with h left) ≡ None → HoldsNone S (head_with h left) → new ≡ put_from n (event_of S.order (head_with h left) ∷ []) out → IsPassing S h count old rest (n + 1) new
   goes rest new is some b i put = record {
     passed = now.passed ++ head_with h left ∷ [];
     passes = subst (Passes S h (now.passed ++ head_with h left ∷ [])) (sym behind ∙ ap (head_with h) (sym is)) (passes_push S h now.passed (head_with h left) now.passes some b i);
@@ -90,59 +84,6 @@ pub next_at : (o : Order) (bytes : List ℕ) (at len : ℕ) → at % 4 ≡ 0 →
     → drop ((at + len + 3) / 4 * 4) bytes ≡ drop (span_of o 2 (drop at bytes)) (drop at bytes)
 next_at o bytes at len whole is fits = ap (λ (n : ℕ). drop n bytes) (omega (arith, whole, is, fits, length-drop at bytes)) ∙ sym (drop-drop (span_of o 2 (drop at bytes)) at bytes)
 
--- ---- the step past them
-
--- what is left of a region of which so many bytes are left
-abbrev pub rest_of : OpenRegion → Leaves → OpenRegion
-rest_of g r = record { left = r.left; place = g.place + length g.left.now - length r.left.now; level = g.level; parts = g.parts }
-
-module _ {S : Shape} (g : OpenRegion) (ctx : Ctx) (before : Counts) {old new : List Event} {r : Leaves} (kind : g.parts ≡ Attrs ctx)
-    (is : PassesLeaves S (start_of ctx g.level (g.place + length g.left.now - length g.left.now) g.left.now) before.count old new r) where
-  abbrev start : Head
-  start = start_of ctx g.level g.place g.left.now
-
-  whole : PassesLeaves S start before.count old new r
-  whole = subst (λ (p : ℕ). PassesLeaves S (start_of ctx g.level p g.left.now) before.count old new r) (omega arith) is
-
-  pub fewer : (length r.left.now ≤ length g.left.now) × (r.count ≤ before.count + length g.left.now)
-  fewer = let s = passes_sum S start whole.passed (head_with start r.left.now) whole.passes in (omega (arith, s.0), omega (arith, s.0, s.1, whole.counted))
-
-  rest_at : head_with start r.left.now ≡ head_of (rest_of g r)
-  rest_at = ap (λ (p : ℕ). start_of ctx g.level p r.left.now) (omega (arith, fewer.0)) ∙ attrs_head (rest_of g r) ctx kind
-
-  -- they are passed and added, and what stands behind them leads on
-  pub steps : (between later : Counts) (last : List Event) (a : Advance) → between ≡ record { count = r.count; visits = before.visits + (length g.left.now - length r.left.now) } → LeadsTo S (head_of (rest_of g r)) between later new last (head_of a.rest) a.lead
-      → Steps S (head_of g) before later old last a
-  steps between later last a sums leads =
-      let s = passes_sum S start whole.passed (head_with start r.left.now) whole.passes in
-      record {
-        passed = whole.passed;
-        at = head_of (rest_of g r);
-        between = between;
-        events = new;
-        passes = subst (λ (h : Head). Passes S h whole.passed (head_of (rest_of g r))) (attrs_head g ctx kind) (subst (Passes S start whole.passed) rest_at whole.passes);
-        adds = record {
-          count = ap (λ (t : Counts). t.count) sums ∙ whole.counted;
-          visits = omega (arith, ap (λ (t : Counts). t.visits) sums, s.0);
-          events = whole.events;
-        };
-        leads = leads;
-      }
-
-  what_is_next : (n : Next) → r.next ≡ n → IsNext S (head_of (rest_of g r)) n
-  what_is_next n e = subst (λ (h : Head). IsNext S h n) rest_at (subst (IsNext S (head_with start r.left.now)) e whole.next)
-
-  -- nothing does
-  pub ends : (counts : Counts) → r.next ≡ next.Ends → LeadsTo S (head_of (rest_of g r)) counts counts new new (head_of (rest_of g r)) lead.Ends
-  ends counts e = (what_is_next next.Ends e, refl, refl)
-
-  -- a head whose length breaks a rule
-  pub fails : (counts : Counts) (w : Reason) → r.next ≡ next.Fails w → LeadsTo S (head_of (rest_of g r)) counts counts new new (head_of (rest_of g r)) (lead.Fails w)
-  fails counts w e =
-      let n = what_is_next (next.Fails w) e in
-      let u = attr_unsound S ctx g.level (rest_of g r).place r.left.now w counts new n.1 in
-      subst (λ (h : Head). LeadsTo S h counts counts new new h (lead.Fails w)) (attrs_head (rest_of g r) ctx kind) (n.0, refl, u.0, u.1)
-
 -- ---- what is left behind them
 
 -- a region of which so many bytes are left
@@ -154,14 +95,14 @@ module _ {S : Shape} (g : OpenRegion) (ctx : Ctx) (before : Counts) {old new : L
   all : IsPassing S (start_of ctx g.level g.place g.left.now) before.count old r.left.now r.count new
   all = subst (λ (p : ℕ). IsPassing S (start_of ctx g.level p g.left.now) before.count old r.left.now r.count new) (omega arith) is
 
-  pub less : length r.left.now ≤ length g.left.now
-  less = (within all).0
+  pub less : (length r.left.now ≤ length g.left.now) × (r.count + length r.left.now ≤ before.count + length g.left.now)
+  less = within all
 
   -- they are passed and added
   pub skips : (later : Counts) → later ≡ record { count = r.count; visits = before.visits + (length g.left.now - length r.left.now) } → Skips S (head_of g) (head_of (front_of g r)) before later old new
   skips later sums =
       let s = passes_sum S (start_of ctx g.level g.place g.left.now) all.passed (head_with (start_of ctx g.level g.place g.left.now) r.left.now) all.passes in
-      let at : head_with (start_of ctx g.level g.place g.left.now) r.left.now ≡ head_of (front_of g r) = ap (λ (p : ℕ). start_of ctx g.level p r.left.now) (omega (arith, less)) ∙ attrs_head (front_of g r) ctx kind in
+      let at : head_with (start_of ctx g.level g.place g.left.now) r.left.now ≡ head_of (front_of g r) = ap (λ (p : ℕ). start_of ctx g.level p r.left.now) (omega (arith, less.0)) ∙ attrs_head (front_of g r) ctx kind in
       record {
         passed = all.passed;
         passes = subst (λ (h : Head). Passes S h all.passed (head_of (front_of g r))) (attrs_head g ctx kind) (subst (Passes S (start_of ctx g.level g.place g.left.now) all.passed) at all.passes);
@@ -171,3 +112,7 @@ module _ {S : Shape} (g : OpenRegion) (ctx : Ctx) (before : Counts) {old new : L
           events = all.events;
         };
       }
+
+-- none is
+pub skips_none : (S : Shape) (h : Head) (counts : Counts) (out : List Event) → Skips S h h counts counts out out
+skips_none S h counts out = record { passed = []; passes = refl; adds = adds_none S counts out }

@@ -2,11 +2,14 @@
 use Rattle.std.proofs.Common.{◌≡◌, ◌≢◌, ℕ, suc, ◌+◌, ◌-◌, ◌*◌, ◌≤◌, ◌<◌, true, false, List, [], ◌∷◌, ◌++◌, length, drop, map, Option, Some, None, refl, sym, ap, subst, ◌∙◌, arith, length-append, eqb}
 use Rattle.std.proofs.lemmas.Bool.{eqb-true}
 use Rattle.std.specs.List.{All}
+use Rattle.std.specs.Option.{IfSome}
 use Rattle.std.proofs.lemmas.List.Elements.{All-head, All-tail}
 use Rattle.std.proofs.lemmas.List.{append-nil, length-map, map-append, nil_from_length}
+use Rattle.std.proofs.lemmas.Option.{IfSome_then}
 use Rattle.nl_attr.specs.Fixed.{FARTHEST_END, LONGEST_REGION, MOST_VISITS}
 use Rattle.nl_attr.specs.declared.fault.Reason.{Reason}
 use Rattle.nl_attr.specs.declared.events.Event.{Event}
+use Rattle.nl_attr.specs.declared.events.Room.{Room}
 use Rattle.nl_attr.specs.declared.broken.BrokenHead.{BrokenHead}
 use Rattle.nl_attr.specs.declared.taping.Counts.{Counts}
 use Rattle.nl_attr.specs.declared.taping.Taped.{Taped}
@@ -18,16 +21,16 @@ use Rattle.nl_attr.specs.declared.tree.Ctx.{Ctx}
 use Rattle.nl_attr.specs.Shape.{Shape}
 use Rattle.nl_attr.specs.Numbers.{span_of}
 use Rattle.nl_attr.specs.Broken.{facts_of}
-use Rattle.nl_attr.specs.Grammar.{and_on, first}
-use Rattle.nl_attr.specs.Heads.{Sort, attr_head, Head, HeadAt, IsSound, broken, follower, inner_of, start_of, heads}
+use Rattle.nl_attr.specs.Grammar.{and_on, first, inner_trail}
+use Rattle.nl_attr.specs.Heads.{Sort, attr_head, hop_head, Head, HeadAt, IsSound, broken, follower, inner_of, start_of, heads}
 use Rattle.nl_attr.specs.HeadOrder.{Trail, counted, trail_of, event_of, put_from, visits_of, fault_of}
 use Rattle.nl_attr.specs.Region.{head_of}
-use Rattle.nl_attr.specs.Taped.{Adds, IsTaped, LeadsTo, Passes, Skips, Steps, found}
+use Rattle.nl_attr.specs.Taped.{Adds, HasRoom, HoldsNone, IsTaped, Leads, LeadsTo, Passes, Skips, found}
 use Rattle.nl_attr.proofs.Lemmas.Grammars.{front, front_on, front_front, weigh-append, behind_then, inside_then, each, trail_ends, trail_stops, trail_goes, walk_bound, weigh}
 use Rattle.nl_attr.proofs.Lemmas.Scan.{IsLow, sound_of, inner_is, inner_fills, fills, few_cost, laws}
 use Rattle.nl_attr.proofs.Lemmas.First.{walk_low}
 use Rattle.nl_attr.proofs.Lemmas.Nested.{whole_fits}
-use Rattle.nl_attr.proofs.Lemmas.Putting.{put_none, put_on, put_untouched}
+use Rattle.nl_attr.proofs.Lemmas.Putting.{put_length, put_none, put_nowhere, put_on, put_untouched, room_on}
 
 module _ (S : Shape) where
   -- the heads of the regions that wait, the last of the list first
@@ -49,15 +52,29 @@ module _ (S : Shape) where
 
   -- ---- heads that are passed
 
+  -- a head that has none in its item
+  goes_on : (h : Head) → h.left ≢ [] → broken S h ≡ None → HoldsNone S h → trail_of S h ≡ front (h ∷ []) (trail_of S (follower S h))
+  unfolding heads
+  goes_on h some b none = trail_goes (heads S) (laws S) h (inner_of S h) some b refl ∙ ap (λ (x : Trail). front (h ∷ []) (and_on x (trail_of S (follower S h)))) (nothing (inner_of S h) none) where
+    nothing : (o : Option Head) → IfSome o (λ k. k.left ≡ []) → inner_trail o (trail_of S) ≡ ([], None)
+    nothing None e = refl
+    nothing (Some k) e = trail_ends (heads S) (laws S) k e
+
+  pub holds_none : (h : Head) → inner_of S h ≡ None → HoldsNone S h
+  holds_none h e = subst (λ (o : Option Head). IfSome o (λ k. k.left ≡ [])) (sym e) tt
+
+  pub holds_empty : (h k : Head) → inner_of S h ≡ Some k → k.left ≡ [] → HoldsNone S h
+  holds_empty h k e none = subst (λ (o : Option Head). IfSome o (λ j. j.left ≡ [])) (sym e) none
+
   passes_trail : (h : Head) (hs : List Head) (g : Head) → Passes S h hs g → trail_of S h ≡ front hs (trail_of S g)
   unfolding heads
   passes_trail h [] g p = ap (trail_of S) p
   passes_trail h (k ∷ ks) g p =
-      trail_goes (heads S) (laws S) h None p.1 p.2 p.3 ∙ ap (front (h ∷ [])) (passes_trail (follower S h) ks g p.4) ∙ front_front (h ∷ []) ks (trail_of S g)
+      goes_on h p.1 p.2 p.3 ∙ ap (front (h ∷ [])) (passes_trail (follower S h) ks g p.4) ∙ front_front (h ∷ []) ks (trail_of S g)
       ∙ ap (λ (x : Head). front (x ∷ ks) (trail_of S g)) (sym p.0)
 
   -- one more
-  pub passes_push : (h : Head) (hs : List Head) (g : Head) → Passes S h hs g → g.left ≢ [] → broken S g ≡ None → inner_of S g ≡ None → Passes S h (hs ++ g ∷ []) (follower S g)
+  pub passes_push : (h : Head) (hs : List Head) (g : Head) → Passes S h hs g → g.left ≢ [] → broken S g ≡ None → HoldsNone S g → Passes S h (hs ++ g ∷ []) (follower S g)
   passes_push h [] g p some b i = subst (λ (x : Head). Passes S x (g ∷ []) (follower S g)) (sym p) (refl, some, b, i, refl)
   passes_push h (k ∷ ks) g p some b i = (p.0, p.1, p.2, p.3, passes_push (follower S h) ks g p.4 some b i)
 
@@ -70,6 +87,12 @@ module _ (S : Shape) where
       let r = passes_sum (follower S h) ks g p.4 in
       let same = ap (λ (x : Head). span_of S.order 2 x.left) p.0 in
       (omega (arith, same, f.rest, r.0), omega (arith, same, f.some, f.low, f.high, r.1))
+
+  -- what stands from the last on stands from the first on
+  passes_reach : (h : Head) (hs : List Head) (g : Head) → Passes S h hs g → (k : Head) → HeadAt S g k → HeadAt S h k
+  unfolding heads
+  passes_reach h [] g p k at = subst (λ (x : Head). HeadAt S x k) (sym p) at
+  passes_reach h (j ∷ js) g p k at = behind_then (heads S) (laws S) h k p.1 (sound_of S h p.2) (passes_reach (follower S h) js g p.4 k at)
 
   -- ---- where regions stand
 
@@ -146,6 +169,15 @@ pub work_push : (fs : List Head) (f : Head) → work (fs ++ f ∷ []) ≡ work f
 work_push [] f = omega arith
 work_push (g ∷ fs) f = omega (arith, work_push fs f)
 
+-- the bytes alone
+abbrev pub left_in : List Head → ℕ
+left_in [] = 0
+left_in (h ∷ hs) = length h.left + left_in hs
+
+left_push : (fs : List Head) (f : Head) → left_in (fs ++ f ∷ []) ≡ left_in fs + length f.left
+left_push [] f = omega arith
+left_push (g ∷ fs) f = omega (arith, left_push fs f)
+
 -- each head occupies a byte and more
 few : (S : Shape) (start : Head) (hs : List Head) → All (λ h. HeadAt S start h × IsSound S h) hs → length hs ≤ visits_of S hs
 unfolding heads
@@ -169,6 +201,7 @@ pub record IsTaping (S : Shape) (start : Head) (count : ℕ) (old : List Event) 
   pub adds : Adds S hs (begun count) t old out
   pub below : AllAtLevels S start start.level fs
   pub stands : IsAtLevel S start (start.level + length fs) top
+  pub quarter : 4 * t.count + (left_in fs + length top.left) ≤ 4 * count + length start.left
 
 -- the whole region is left, and none waits
 pub begins : (S : Shape) (start : Head) (count : ℕ) (old : List Event) (fs : List Head) → fs ≡ [] → start.sort ≡ attr_head → start.level ≤ S.depth → length start.left ≤ LONGEST_REGION → start.place + length start.left ≤ FARTHEST_END → IsTaping S start count old fs start (begun count) old
@@ -178,6 +211,7 @@ begins S start count old fs none kind level size place = subst (λ (xs : List He
   adds = record { count = omega arith; visits = omega arith; events = sym (put_none count old) };
   below = tt;
   stands = record { reach = λ k p. p; level = omega arith; low = subst (λ (s : Sort). IsLow S s start.level) (sym kind) level; size = size; place = place };
+  quarter = omega arith;
 })
 
 module _ {S : Shape} {start : Head} {count : ℕ} {old : List Event} {fs : List Head} {top : Head} {t : Counts} {out : List Event} (now : IsTaping S start count old fs top t out) where
@@ -192,6 +226,7 @@ module _ {S : Shape} {start : Head} {count : ℕ} {old : List Event} {fs : List 
         adds = now.adds;
         below = all.0;
         stands = all.1;
+        quarter = omega (arith, now.quarter, ap left_in is, left_push gs b, ap (length {A = ℕ}) e);
       }
 
   -- a head comes, and these heads are left
@@ -206,6 +241,7 @@ module _ {S : Shape} {start : Head} {count : ℕ} {old : List Event} {fs : List 
     adds = adds_then S now.hs gs (begun count) t u old out new now.adds a;
     below = now.below;
     stands = passes_level S start (start.level + length fs) top gs g p now.stands;
+    quarter = let s = passes_sum S top gs g p in omega (arith, now.quarter, s.0, s.1, a.count);
   }
 
   -- it holds one
@@ -221,7 +257,21 @@ module _ {S : Shape} {start : Head} {count : ℕ} {old : List Event} {fs : List 
         adds = adds_then S now.hs (top ∷ []) (begun count) t u old out new now.adds a;
         below = levels_push S start start.level fs (follower S top) now.below (follower_level S start (start.level + length fs) top some b now.stands);
         stands = subst (λ (m : ℕ). IsAtLevel S start m k) (omega (arith, length-append fs (follower S top ∷ []))) i.0;
+        quarter = omega (arith, now.quarter, left_push fs (follower S top), inner_less S top k b inner, a.count);
       })
+
+  -- its level is among those that a limit allows
+  pub level_here : S.depth ≤ 32 → top.level ≤ 32
+  level_here d = low top.sort now.stands.low where
+    low : (s : Sort) → IsLow S s top.level → top.level ≤ 32
+    low attr_head p = omega (arith, p, d)
+    low hop_head p = omega (arith, p, d)
+
+  -- there is room for what is left of the region at hand
+  pub room_here : (room : Room) → HasRoom room count (length start.left) (length old) → HasRoom room t.count (length top.left) (length out)
+  room_here room q =
+      let same : length out ≡ length old = ap (length {A = Event}) now.adds.events ∙ put_length count (map (event_of S.order) now.hs) old in
+      subst (λ (n : ℕ). HasRoom room t.count (length top.left) n) (sym same) (room_on room count (length start.left) t.count (length top.left) (length old) (omega (arith, now.quarter)) q)
 
   -- the sums are small
   pub small : start.sort ≡ attr_head → start.level ≤ S.depth → S.depth ≤ 32 → length start.left ≤ LONGEST_REGION → (t.visits ≤ MOST_VISITS) × (t.count ≤ count + MOST_VISITS)
@@ -277,44 +327,80 @@ pub skipped_all : {S : Shape} {start top : Head} {count : ℕ} {old new : List E
 skipped_all {S = S} {start = start} {count = count} {old = old} {new = new} {t = t} b none kind level size place s end =
     subst (λ (o : Option BrokenHead). IsTaped S start count old new (found o t)) (sym none) (tells_none (skipped [] refl kind level size place s) end refl)
 
+-- heads at its front are passed, and it is scanned from there on
+pub skipped_then : {S : Shape} {start top : Head} {count : ℕ} {old mid new : List Event} {t more : Counts} {b : Option BrokenHead} → Skips S start top (begun count) t old mid → IsTaped S top t.count mid new (found b more)
+    → IsTaped S start count old new (found b (record { count = more.count; visits = t.visits + more.visits }))
+unfolding heads
+skipped_then {S = S} {start = start} {top = top} {count = count} {old = old} {mid = mid} {new = new} {t = t} {more = more} {b = b} s is =
+    let rest = trail_of S top in
+    let all : trail_of S start ≡ front s.passed rest = passes_trail S start s.passed top s.passes in
+    let then : Counts = record { count = t.count + length rest.0; visits = t.visits + visits_of S rest.0 } in
+    let both = adds_then S s.passed rest.0 (begun count) t then old mid new s.adds (record { count = refl; visits = refl; events = is.events }) in
+    record {
+      fault = is.fault ∙ ap (λ (x : Trail). fault_of x.1) (sym all);
+      head = IfSome_then b is.head (λ x p. (p.0, passes_reach S start s.passed top s.passes p.0 p.1, p.2, p.3));
+      visits = omega (arith, is.visits, both.visits, ap (λ (x : Trail). visits_of S x.0) all);
+      counted = omega (arith, is.counted, both.count, ap (λ (x : Trail). length x.0) all);
+      events = both.events ∙ ap (λ (x : Trail). put_from count (map (event_of S.order) x.0) old) (sym all);
+    }
+
+-- there is room for what is left then
+pub skipped_room : {S : Shape} {h g : Head} {before between : Counts} {old new : List Event} → Skips S h g before between old new → (room : Room) → HasRoom room before.count (length h.left) (length old) → HasRoom room between.count (length g.left) (length new)
+skipped_room {S = S} {h = h} {g = g} {before = before} {between = between} {old = old} {new = new} s room q =
+    let sum = passes_sum S h s.passed g s.passes in
+    let same : length new ≡ length old = ap (length {A = Event}) s.adds.events ∙ put_length before.count (map (event_of S.order) s.passed) old in
+    subst (λ (n : ℕ). HasRoom room between.count (length g.left) n) (sym same) (room_on room before.count (length h.left) between.count (length g.left) (length old) (omega (arith, sum.0, sum.1, s.adds.count)) q)
+
 -- ---- a step of the loop
 
-module _ {S : Shape} {start : Head} {count : ℕ} {old : List Event} {fs : List Head} {top : Head} {t : Counts} {out : List Event} (now : IsTaping S start count old fs top t out)
-    {u : Counts} {new : List Event} {a : Advance} (step : Steps S top t u out new a) where
-  -- behind the heads that are passed
-  moved : IsTaping S start count old fs step.at step.between step.events
-  moved = passes now step.passed step.at step.between step.events step.passes step.adds
+module _ {S : Shape} {start : Head} {count : ℕ} {old : List Event} {fs : List Head} {top : Head} {t : Counts} {out : List Event} (now : IsTaping S start count old fs top t out) where
+  -- heads at the front of the region at hand are passed
+  pub skips : {g : Head} {u : Counts} {new : List Event} → Skips S top g t u out new → IsTaping S start count old fs g u new
+  skips {g = g} {u = u} {new = new} s = passes now s.passed g u new s.passes s.adds
 
-  leads : (l : Lead) → a.lead ≡ l → LeadsTo S step.at step.between u step.events new (head_of a.rest) l
-  leads l e = subst (LeadsTo S step.at step.between u step.events new (head_of a.rest)) e step.leads
+  module _ (u : Counts) (new : List Event) (a : Advance) (step : Leads S top t u out new a) where
+    leads : (l : Lead) → a.lead ≡ l → LeadsTo S top t u out new (head_of a.rest) l
+    leads l e = subst (LeadsTo S top t u out new (head_of a.rest)) e step
 
-  ended : a.lead ≡ lead.Ends → IsTaping S start count old fs step.at u new × (step.at.left ≡ [])
-  ended e =
-      let l = leads lead.Ends e in
-      (subst (λ (x : Counts). IsTaping S start count old fs step.at x new) (sym l.1) (subst (IsTaping S start count old fs step.at step.between) (sym l.2) moved), l.0)
+    ended : a.lead ≡ lead.Ends → IsTaping S start count old fs top u new × (top.left ≡ [])
+    ended e =
+        let l = leads lead.Ends e in
+        (subst (λ (x : Counts). IsTaping S start count old fs top x new) (sym l.1) (subst (IsTaping S start count old fs top t) (sym l.2) now), l.0)
 
-  pub step_ends : (b : Option BrokenHead) → a.lead ≡ lead.Ends → fs ≡ [] → b ≡ None → IsTaped S start count old new (found b u)
-  step_ends b e is none = let x = ended e in subst (λ (o : Option BrokenHead). IsTaped S start count old new (found o u)) (sym none) (tells_none x.0 x.1 is)
+    pub step_ends : (b : Option BrokenHead) → a.lead ≡ lead.Ends → fs ≡ [] → b ≡ None → IsTaped S start count old new (found b u)
+    step_ends b e is none = let x = ended e in subst (λ (o : Option BrokenHead). IsTaped S start count old new (found o u)) (sym none) (tells_none x.0 x.1 is)
 
-  pub step_pops : (gs : List Head) (g : Head) → a.lead ≡ lead.Ends → fs ≡ gs ++ g ∷ [] → IsTaping S start count old gs g u new
-  step_pops gs g e is = let x = ended e in pops x.0 gs g x.1 is
+    pub step_pops : (gs : List Head) (g : Head) → a.lead ≡ lead.Ends → fs ≡ gs ++ g ∷ [] → IsTaping S start count old gs g u new
+    step_pops gs g e is = let x = ended e in pops x.0 gs g x.1 is
 
-  pub step_size : (r : Reason) → a.lead ≡ lead.Fails r → length a.rest.left.now ≤ LONGEST_REGION
-  step_size r e = omega (arith, ap (λ (h : Head). length h.left) (leads (lead.Fails r) e).1, moved.stands.size)
+    pub step_size : (r : Reason) → a.lead ≡ lead.Fails r → length a.rest.left.now ≤ LONGEST_REGION
+    step_size r e = omega (arith, ap (λ (h : Head). length h.left) (leads (lead.Fails r) e).1, now.stands.size)
 
-  pub step_fails : (r : Reason) (b : Option BrokenHead) → a.lead ≡ lead.Fails r → b ≡ Some (facts_of S.order r (head_of a.rest)) → IsTaped S start count old new (found b u)
-  step_fails r b e is =
-      let l = leads (lead.Fails r) e in
-      subst (λ (o : Option BrokenHead). IsTaped S start count old new (found o u)) (sym is) (tells_fault moved r (facts_of S.order r (head_of a.rest)) u new l.0 l.2 (ap (facts_of S.order r) l.1) l.3)
+    pub step_fails : (r : Reason) (b : Option BrokenHead) → a.lead ≡ lead.Fails r → b ≡ Some (facts_of S.order r (head_of a.rest)) → IsTaped S start count old new (found b u)
+    step_fails r b e is =
+        let l = leads (lead.Fails r) e in
+        subst (λ (o : Option BrokenHead). IsTaped S start count old new (found o u)) (sym is) (tells_fault now r (facts_of S.order r (head_of a.rest)) u new l.0 l.2 (ap (facts_of S.order r) l.1) l.3)
 
-  pub step_opens : (k : OpenRegion) (gs : List Head) → a.lead ≡ lead.Opens k → gs ≡ fs ++ head_of a.rest ∷ [] → IsTaping S start count old gs (head_of k) u new
-  step_opens k gs e is = let l = leads (lead.Opens k) e in opens moved (head_of a.rest) (head_of k) gs u new l.0 l.1 l.2 l.3 is l.4
+    pub step_opens : (k : OpenRegion) (gs : List Head) → a.lead ≡ lead.Opens k → gs ≡ fs ++ head_of a.rest ∷ [] → IsTaping S start count old gs (head_of k) u new
+    step_opens k gs e is = let l = leads (lead.Opens k) e in opens now (head_of a.rest) (head_of k) gs u new l.0 l.1 l.2 l.3 is l.4
 
-  -- less is left in both
-  pub step_less : (k : OpenRegion) → a.lead ≡ lead.Opens k → length a.rest.left.now + (length k.left.now + 4) ≤ length top.left
-  step_less k e =
-      let l = leads (lead.Opens k) e in
-      omega (arith, ap (λ (h : Head). length h.left) l.3, inner_less S step.at (head_of k) l.1 l.2, (passes_sum S top step.passed step.at step.passes).0)
+    pub step_goes : a.lead ≡ lead.Goes → IsTaping S start count old fs (head_of a.rest) u new
+    step_goes e =
+        let l = leads lead.Goes e in
+        subst (λ (h : Head). IsTaping S start count old fs h u new) (sym l.3) (passes now (top ∷ []) (follower S top) u new (refl, l.0, l.1, l.2, refl) l.4)
+
+    -- less is left then
+    pub step_goes_less : a.lead ≡ lead.Goes → length a.rest.left.now < length top.left
+    step_goes_less e =
+        let l = leads lead.Goes e in
+        let f = fills S top (sound_of S top l.1) in
+        omega (arith, ap (λ (h : Head). length h.left) l.3, f.rest, f.low, f.high, f.some)
+
+    -- less is left in both
+    pub step_less : (k : OpenRegion) → a.lead ≡ lead.Opens k → length a.rest.left.now + (length k.left.now + 4) ≤ length top.left
+    step_less k e =
+        let l = leads (lead.Opens k) e in
+        omega (arith, ap (λ (h : Head). length h.left) l.3, inner_less S top (head_of k) l.1 l.2)
 
 pub not_empty : (left : List ℕ) → false ≡ eqb (length left) 0 → left ≢ []
 not_empty [] e = absurd cc
@@ -356,3 +442,10 @@ taped_quarter {S = S} {start = start} is = omega (arith, is.counted, trail_quart
 -- the visits have the bound of reading
 pub taped_bound : (S : Shape) (ctx : Ctx) (l place : ℕ) (left : List ℕ) (count : ℕ) (old new : List Event) (t : Taped) → IsTaped S (start_of ctx l place left) count old new t → t.visits ≤ (S.depth - l + 1) * length left
 taped_bound S ctx l place left count old new t is = omega (arith, is.visits, walk_low S ctx l place left)
+
+pub taped_small : (S : Shape) (ctx : Ctx) (l place : ℕ) (left : List ℕ) (count : ℕ) (old new : List Event) (t : Taped) → S.depth ≤ 32 → length left ≤ LONGEST_REGION → IsTaped S (start_of ctx l place left) count old new t → t.visits ≤ MOST_VISITS
+taped_small S ctx l place left count old new t d size is = whole_fits (S.depth - l + 1) (length left) t.visits (omega (arith, d)) size (taped_bound S ctx l place left count old new t is)
+
+-- a buffer of no events is as it was
+pub taped_nowhere : {S : Shape} {start : Head} {count : ℕ} {new : List Event} {t : Taped} → IsTaped S start count [] new t → IsTaped S start count [] [] t
+taped_nowhere {S = S} {start = start} {count = count} is = record { fault = is.fault; head = is.head; visits = is.visits; counted = is.counted; events = sym (put_nowhere count (map (event_of S.order) (trail_of S start).0)) }

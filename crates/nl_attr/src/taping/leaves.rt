@@ -1,38 +1,17 @@
 //! The attributes at the front of a region that hold bytes, gone past by a loop of their own: most
-//! attributes do, and a loop that keeps nothing of a container is short.
+//! attributes do, and a loop that keeps nothing of a container is short. Behind the first container
+//! of a message it also goes past lists without a byte, of which a link has some.
 
-ghost use Rattle.std.specs.Prelude.{◌^◌, ◌≤◌, ◌+◌, ◌-◌, length};
+ghost use Rattle.std.specs.Prelude.{◌^◌, ◌≡◌, ◌≤◌, ◌+◌, ◌-◌, ◌%◌, true, length};
 ghost use Rattle.nl_attr.specs.Fixed as fixed;
 ghost use Rattle.nl_attr.specs.Heads.{start_of};
-ghost use Rattle.nl_attr.specs.Taped.{HasRoom, IsLike, IsPassing, PassesLeaves};
+ghost use Rattle.nl_attr.specs.Taped.{HasRoom, IsEmptyList, IsLike, IsPassing};
+ghost use Rattle.nl_attr.specs.Walk.{flags_of};
 
-use crate::events::{Event, Room, SORT_BYTES};
-use crate::fault::Reason;
+use crate::events::{Event, Room, SORT_BYTES, SORT_LIST};
 use crate::limits::Shape;
-use crate::taping::fronts::attr_front;
 use crate::tree::{AttrFlags, Content, Ctx, NUMBERS, holds};
-use crate::walk::{head_len, kind_at, len_at};
-
-/// What stands behind attributes that hold bytes.
-#[derive(Clone, Copy)]
-pub(super) enum Next {
-    /// The end of their region.
-    Ends,
-    /// A head whose length breaks this rule.
-    Fails(Reason),
-    /// An attribute of so many bytes, which holds a region.
-    Opens(usize),
-}
-
-/// Where attributes that hold bytes end.
-#[derive(Clone, Copy)]
-pub(super) struct Leaves<'a> {
-    /// What is left of their region.
-    pub(super) left: &'a [u8],
-    /// The place in the buffer behind the last event.
-    pub(super) count: usize,
-    pub(super) next: Next,
-}
+use crate::walk::{flags_in, kind_at, len_at};
 
 /// Attributes that hold bytes, gone past.
 #[derive(Clone, Copy)]
@@ -43,10 +22,51 @@ pub(super) struct Passed<'a> {
     pub(super) count: usize,
 }
 
-/// Goes past attributes at the front that hold bytes and have no flag, as long as each ends where a
-/// next head could stand. `end` is the place behind the region, and `key` a context in which
-/// attributes hold what they do in `ctx`: written as a constant it makes a loop that compares no
-/// other context's numbers.
+/// Whether an attribute of this type, with so many bytes behind its head, is a list without a byte
+/// that may stand here, where such lists are gone past.
+#[inline(always)]
+fn is_empty_list(key: Ctx, kind: u16, len: usize, level: u8, shape: Shape, lists: bool) -> bool
+    requires { level ≤ fixed.MOST_LEVELS }
+    ensures { result ≡ true → IsEmptyList key kind len level shape.depth }
+{
+    if !lists || len != 0 || level >= shape.depth() {
+        return false;
+    }
+    match holds(key, kind % NUMBERS, flags_in(kind)) {
+        Content::List(_) => true,
+        Content::Bytes | Content::Hops => false,
+    }
+}
+
+/// The event of a list without a byte, of this type.
+#[inline(always)]
+fn list_event(place: u32, kind: u16, level: u8) -> Event
+    ensures { result ≡ record {
+      place = place;
+      len = 0;
+      number = kind % fixed.NUMBERS;
+      level = level;
+      sort = fixed.SORT_LIST;
+      nested = (flags_of kind).nested;
+      net = (flags_of kind).net;
+    } }
+{
+    let flags = flags_in(kind);
+    Event {
+        place,
+        len: 0,
+        number: kind % NUMBERS,
+        level,
+        sort: SORT_LIST,
+        nested: flags.nested,
+        net: flags.net,
+    }
+}
+
+/// Goes past attributes at the front that hold bytes and have no flag, as long as each ends where
+/// a next head could stand; where `lists` says so, past lists without a byte too. `end` is the
+/// place behind the region, and `key` a context in which attributes hold what they do in `ctx`:
+/// written as a constant it makes a loop that compares no other context's numbers.
 #[inline(always)]
 fn pass_like<'a>(
     bytes: &'a [u8],
@@ -56,14 +76,16 @@ fn pass_like<'a>(
     key: Ctx,
     shape: Shape,
     room: Room,
+    lists: bool,
     out: &mut [Event],
     count: usize,
 ) -> Passed<'a>
     requires key { IsLike ctx key }
     requires size { length bytes.now ≤ fixed.LONGEST_REGION }
     requires within { length bytes.now ≤ end }
+    requires level { level ≤ fixed.MOST_LEVELS }
     requires place { end ≤ fixed.FARTHEST_END }
-    requires count { count ≤ 2 ^ 32 + fixed.MOST_VISITS }
+    requires count { count ≤ 2 ^ 33 + fixed.MOST_VISITS }
     requires room { HasRoom room count (length bytes.now) (length out.old) }
     ensures { IsPassing shape (start_of ctx level (end - length bytes.now) bytes.now) count
         out.old result.left.now result.count out.new }
@@ -85,7 +107,14 @@ fn pass_like<'a>(
         }
         let number = kind_at(order, left);
         if number >= NUMBERS {
-            break;
+            if !is_empty_list(key, number, len, level, shape, lists) {
+                break;
+            }
+            list_event(start + at as u32, number, level).put_in(out, count, room);
+            count += 1;
+            at += 4;
+            behind = behind.wrapping_sub(4);
+            continue 'leaves;
         }
         let (nested, net) = (false, false);
         match holds(key, number, AttrFlags { nested, net }) {
@@ -115,8 +144,9 @@ fn pass_like<'a>(
 }
 
 /// Goes past attributes at the front that hold bytes, by a loop for each context that knows
-/// containers by their numbers. `end` is the place behind the region. Those may be left that have a
-/// flag, or the last where its padding is cut short.
+/// containers by their numbers. `end` is the place behind the region. Those may be left that have
+/// a flag, or the last where its padding is cut short. Where `lists` says so, lists without a byte
+/// are gone past too.
 #[inline(always)]
 pub(super) fn pass_leaves<'a>(
     bytes: &'a [u8],
@@ -125,104 +155,55 @@ pub(super) fn pass_leaves<'a>(
     ctx: Ctx,
     shape: Shape,
     room: Room,
+    lists: bool,
     out: &mut [Event],
     count: usize,
 ) -> Passed<'a>
     requires size { length bytes.now ≤ fixed.LONGEST_REGION }
     requires within { length bytes.now ≤ end }
+    requires level { level ≤ fixed.MOST_LEVELS }
     requires place { end ≤ fixed.FARTHEST_END }
-    requires count { count ≤ 2 ^ 32 + fixed.MOST_VISITS }
+    requires count { count ≤ 2 ^ 33 + fixed.MOST_VISITS }
     requires room { HasRoom room count (length bytes.now) (length out.old) }
     ensures { IsPassing shape (start_of ctx level (end - length bytes.now) bytes.now) count
         out.old result.left.now result.count out.new }
 {
     match ctx {
-        Ctx::Route => pass_like(bytes, end, level, ctx, Ctx::Route, shape, room, out, count),
-        Ctx::Link => pass_like(bytes, end, level, ctx, Ctx::Link, shape, room, out, count),
-        _ => pass_like(bytes, end, level, ctx, Ctx::Plain, shape, room, out, count),
-    }
-}
-
-/// Goes past the attributes at the front that hold bytes. `end` is the place behind the region, and
-/// `key` a context in which attributes hold what they do in `ctx`: written as a constant it makes a
-/// loop that compares no other context's numbers.
-#[inline(always)]
-fn tape_like<'a>(
-    bytes: &'a [u8],
-    end: u32,
-    level: u8,
-    ctx: Ctx,
-    key: Ctx,
-    shape: Shape,
-    out: &mut [Event],
-    count: usize,
-) -> Leaves<'a>
-    requires key { IsLike ctx key }
-    requires size { length bytes.now ≤ fixed.LONGEST_REGION }
-    requires within { length bytes.now ≤ end }
-    requires place { end ≤ fixed.FARTHEST_END }
-    requires count { count ≤ 2 ^ 32 + fixed.MOST_VISITS }
-    ensures { PassesLeaves shape (start_of ctx level (end - length bytes.now) bytes.now) count
-        out.old out.new result }
-{
-    let order = shape.order();
-    let mut left = bytes;
-    let mut count = count;
-    'leaves: loop {
-        let len = match head_len(order, left, 4) {
-            Ok(len) => len,
-            Err(reason) => {
-                let next = if left.is_empty() {
-                    Next::Ends
-                } else {
-                    Next::Fails(reason)
-                };
-                return Leaves { left, count, next };
-            }
-        };
-        let attr = attr_front(left, len, end - left.len() as u32, level, ctx, order);
-        match holds(key, attr.event.number, attr.flags) {
-            Content::Bytes => {
-                // It isn't nested: as a constant this takes no bit of its type.
-                let nested = false;
-                Event {
-                    nested,
-                    ..attr.event
-                }
-                .put(out, count);
-                count += 1;
-                left = attr.rest.left;
-            }
-            Content::List(_) | Content::Hops => {
-                let next = Next::Opens(len);
-                return Leaves { left, count, next };
-            }
-        }
-    }
-}
-
-/// Goes past the attributes at the front that hold bytes, by a loop for each context that knows
-/// containers by their numbers. `end` is the place behind the region.
-#[inline(always)]
-pub(super) fn tape_leaves<'a>(
-    bytes: &'a [u8],
-    end: u32,
-    level: u8,
-    ctx: Ctx,
-    shape: Shape,
-    out: &mut [Event],
-    count: usize,
-) -> Leaves<'a>
-    requires size { length bytes.now ≤ fixed.LONGEST_REGION }
-    requires within { length bytes.now ≤ end }
-    requires place { end ≤ fixed.FARTHEST_END }
-    requires count { count ≤ 2 ^ 32 + fixed.MOST_VISITS }
-    ensures { PassesLeaves shape (start_of ctx level (end - length bytes.now) bytes.now) count
-        out.old out.new result }
-{
-    match ctx {
-        Ctx::Route => tape_like(bytes, end, level, ctx, Ctx::Route, shape, out, count),
-        Ctx::Link => tape_like(bytes, end, level, ctx, Ctx::Link, shape, out, count),
-        _ => tape_like(bytes, end, level, ctx, Ctx::Plain, shape, out, count),
+        Ctx::Route => pass_like(
+            bytes,
+            end,
+            level,
+            ctx,
+            Ctx::Route,
+            shape,
+            room,
+            lists,
+            out,
+            count,
+        ),
+        Ctx::Link => pass_like(
+            bytes,
+            end,
+            level,
+            ctx,
+            Ctx::Link,
+            shape,
+            room,
+            lists,
+            out,
+            count,
+        ),
+        _ => pass_like(
+            bytes,
+            end,
+            level,
+            ctx,
+            Ctx::Plain,
+            shape,
+            room,
+            lists,
+            out,
+            count,
+        ),
     }
 }

@@ -2,7 +2,6 @@
 //! stack: each head is checked, and its event is put into a buffer.
 
 ghost use Rattle.std.specs.Prelude.{◌^◌, ◌≡◌, ◌≤◌, ◌<◌, ◌+◌, ◌-◌, ◌*◌, drop, length, slice_set};
-ghost use Rattle.nl_attr.specs.Broken.{facts_of};
 ghost use Rattle.nl_attr.specs.Fixed as fixed;
 ghost use Rattle.nl_attr.specs.Heads.{start_of};
 ghost use Rattle.nl_attr.specs.Region.{head_of};
@@ -11,15 +10,16 @@ ghost use Rattle.nl_attr.specs.Taped.{HasRoom, IsTaped, found};
 
 mod fronts;
 mod leaves;
+mod regions;
 mod steps;
 
 use crate::broken::BrokenHead;
 use crate::events::{Event, Room};
-use crate::fault::Reason;
 use crate::limits::{Depth, Shape};
 use crate::order::Order;
 use crate::region::{OpenRegion, Parts};
-use crate::taping::steps::{Lead, pass_front, step};
+use crate::taping::regions::tape_regions;
+use crate::taping::steps::pass_front;
 use crate::tree::Ctx;
 use arrayvec::ArrayVec;
 
@@ -99,61 +99,41 @@ impl OpenRegions<'_> {
     }
 }
 
-/// Keeps the head at the front, which breaks this rule. A scan comes here once: a function of its
-/// own keeps the registers of its loop free.
-#[inline(never)]
-fn keep_broken(broken: &mut Option<BrokenHead>, at: OpenRegion<'_>, reason: Reason, shape: Shape)
-    requires { length at.left.now ≤ fixed.LONGEST_REGION }
-    ensures { broken.new ≡ Some (facts_of shape.order reason (head_of at.entry)) }
-{
-    *broken = Some(at.broken(reason, shape));
-}
-
 /// Scans a region of attributes from its front to its end or its first fault.
 #[inline(always)]
 fn tape_region<'a>(
     regions: &mut OpenRegions<'a>,
     start: OpenRegion<'a>,
     ctx: Ctx,
-    shape: Shape,
+    depth: Depth,
+    order: Order,
     room: Room,
     out: &mut [Event],
     count: usize,
 ) -> Counts
     requires none { regions.old.broken ≡ None }
-    requires limit { shape.depth ≤ fixed.MOST_LEVELS }
     requires parts { start.parts ≡ Parts.Attrs ctx }
-    requires level { start.level ≤ shape.depth }
+    requires level { start.level ≤ depth }
     requires size { length start.left.now ≤ fixed.LONGEST_REGION }
     requires place { start.place + length start.left.now ≤ fixed.FARTHEST_END }
     requires count { count ≤ 2 ^ 32 }
     requires room { HasRoom room count (length start.left.now) (length out.old) }
-    ensures { IsTaped shape (head_of start.entry) count out.old out.new
+    ensures { IsTaped (shape_of order depth) (head_of start.entry) count out.old out.new
         (found regions.new.broken result) }
 {
+    // The depth is at most 32, and so are the levels.
+    let _limit = depth.get();
     let mut counts = Counts { count, visits: 0 };
+    let shape = Shape::of(depth, order);
+    let top = pass_front(start, ctx, shape, room, false, out, &mut counts);
     // Most regions hold no region: these are at their end here, and no stack is touched.
-    let mut top = pass_front(start, ctx, shape, room, out, &mut counts);
     if top.left.is_empty() {
         return counts;
     }
-    regions.stack.clear();
-    'heads: loop {
-        let stepped = step(top, shape, out, &mut counts);
-        match stepped.lead {
-            Lead::Ends => match regions.stack.pop() {
-                None => return counts,
-                Some(below) => top = below,
-            },
-            Lead::Fails(reason) => {
-                keep_broken(&mut regions.broken, stepped.rest, reason, shape);
-                return counts;
-            }
-            Lead::Opens(inner) => {
-                regions.stack.push(stepped.rest);
-                top = inner;
-            }
-        }
+    let more = tape_regions(regions, top, depth, order, room, out, counts.count);
+    Counts {
+        count: more.count,
+        visits: counts.visits + more.visits,
     }
 }
 
@@ -187,14 +167,13 @@ pub fn tape_attrs_in<'a>(
     ensures quarter { 4 * result.count ≤ 4 * count + length bytes.now }
     ensures untouched { drop result.count out.new ≡ drop result.count out.old }
 {
-    let shape = Shape::of(depth, order);
     let start = OpenRegion {
         left: bytes,
         place: base,
         level,
         parts: Parts::Attrs(ctx),
     };
-    tape_region(regions, start, ctx, shape, room, out, count)
+    tape_region(regions, start, ctx, depth, order, room, out, count)
 }
 
 /// Scans a region of attributes, as `tape_list` does, and answers the counts alone: the head that

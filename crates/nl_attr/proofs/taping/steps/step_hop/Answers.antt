@@ -4,7 +4,6 @@ use Rattle.nl_attr.specs.Heads.{Head}
 use Rattle.nl_attr.specs.Region.{head_of}
 use Rattle.nl_attr.specs.Taped.{LeadsTo, hops_start}
 use Rattle.nl_attr.proofs.Lemmas.Fronts.{added, hops_head}
-use Rattle.nl_attr.proofs.Lemmas.Taping.{not_empty}
 use Rattle.nl_attr.proofs.taping.steps.step_hop.Goals as goal
 
 pub returns-in-Ok : goal.returns-in-Ok
@@ -15,7 +14,7 @@ returns-in-Ok c =
     let f = rw c.order-order.ensures at c.hop_front-hop.ensures in
     let hop = c.hop_front-hop.result in
     subst (λ (h : Head). LeadsTo a.shape h a.counts.now c.add.new.self a.out.now c.add.new.out (head_of hop.rest) (lead.Opens hop.attrs)) (hops_head r c.requires.parts) (
-      not_empty r.left.now c.if-is_empty.ensures,
+      c.requires.some,
       s.0,
       ap Some (sym f.attrs),
       f.rest,

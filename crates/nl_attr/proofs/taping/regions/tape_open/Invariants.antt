@@ -1,7 +1,7 @@
 use Rattle.std.proofs.Common.{◌≡◌, ◌+◌, length, map, None}
 use Rattle.nl_attr.specs.Region.{head_of}
 use Rattle.nl_attr.proofs.Lemmas.Taping.{IsTaping, work}
-use Rattle.nl_attr.proofs.taping.tape_region.Given as goal
+use Rattle.nl_attr.proofs.taping.regions.tape_open.Given as goal
 
 abbrev pub invariant-heads : goal.invariant-heads
 invariant-heads l = (l.regions.broken ≡ None) × IsTaping l.shape (head_of l.start) l.count l.fn.out (map head_of l.regions.stack.items) (head_of l.top) l.counts l.out
