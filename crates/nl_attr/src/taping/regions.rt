@@ -73,12 +73,24 @@ fn tape_open<'a>(
     }
 }
 
-/// In the little order, into a buffer with room for all events.
+// The loops over open regions, one for each call of `open_regions`.
+const BIG: u8 = 0;
+
+const LITTLE: u8 = 1;
+
+const AMPLE: u8 = 2;
+
+const NONE: u8 = 3;
+
+/// Scans a region of attributes from its front, and each that opens in it, by this loop. Each loop
+/// is called at one place, and so a function of its own, with that call's order and room in it.
 #[inline(never)]
-fn open_ample<'a>(
+fn open_regions<'a, const LOOP: u8>(
     regions: &mut OpenRegions<'a>,
     start: OpenRegion<'a>,
     depth: Depth,
+    order: Order,
+    room: Room,
     out: &mut [Event],
     count: usize,
 ) -> Counts
@@ -88,90 +100,18 @@ fn open_ample<'a>(
     requires size { length start.left.now ≤ fixed.LONGEST_REGION }
     requires place { start.place + length start.left.now ≤ fixed.FARTHEST_END }
     requires count { count ≤ 2 ^ 32 + fixed.LONGEST_REGION }
-    requires room { HasRoom Room.Ample count (length start.left.now) (length out.old) }
-    ensures { IsTaped (shape_of Order.Little depth) (head_of start.entry) count out.old out.new
+    requires room { HasRoom room count (length start.left.now) (length out.old) }
+    ensures { IsTaped (shape_of order depth) (head_of start.entry) count out.old out.new
         (found regions.new.broken result) }
 {
     // The depth is at most 32, and so are the regions that wait.
     let _limit = depth.get();
-    let shape = Shape::of(depth, Order::Little);
-    tape_open(regions, start, shape, Room::Ample, out, count)
+    let shape = Shape::of(depth, order);
+    tape_open(regions, start, shape, room, out, count)
 }
 
-/// In the little order, into a buffer that may end before the last event.
-#[inline(never)]
-fn open_little<'a>(
-    regions: &mut OpenRegions<'a>,
-    start: OpenRegion<'a>,
-    depth: Depth,
-    out: &mut [Event],
-    count: usize,
-) -> Counts
-    requires none { regions.old.broken ≡ None }
-    requires kind { sort_in start.parts ≡ attr_head }
-    requires level { start.level ≤ depth }
-    requires size { length start.left.now ≤ fixed.LONGEST_REGION }
-    requires place { start.place + length start.left.now ≤ fixed.FARTHEST_END }
-    requires count { count ≤ 2 ^ 32 + fixed.LONGEST_REGION }
-    ensures { IsTaped (shape_of Order.Little depth) (head_of start.entry) count out.old out.new
-        (found regions.new.broken result) }
-{
-    // The depth is at most 32, and so are the regions that wait.
-    let _limit = depth.get();
-    let shape = Shape::of(depth, Order::Little);
-    tape_open(regions, start, shape, Room::Unknown, out, count)
-}
-
-/// In the big order.
-#[inline(never)]
-fn open_big<'a>(
-    regions: &mut OpenRegions<'a>,
-    start: OpenRegion<'a>,
-    depth: Depth,
-    out: &mut [Event],
-    count: usize,
-) -> Counts
-    requires none { regions.old.broken ≡ None }
-    requires kind { sort_in start.parts ≡ attr_head }
-    requires level { start.level ≤ depth }
-    requires size { length start.left.now ≤ fixed.LONGEST_REGION }
-    requires place { start.place + length start.left.now ≤ fixed.FARTHEST_END }
-    requires count { count ≤ 2 ^ 32 + fixed.LONGEST_REGION }
-    ensures { IsTaped (shape_of Order.Big depth) (head_of start.entry) count out.old out.new
-        (found regions.new.broken result) }
-{
-    // The depth is at most 32, and so are the regions that wait.
-    let _limit = depth.get();
-    let shape = Shape::of(depth, Order::Big);
-    tape_open(regions, start, shape, Room::Unknown, out, count)
-}
-
-/// In the little order, with no event put: the buffer of no events is made here, so that the loop
-/// shows no trace of it.
-#[inline(never)]
-fn open_none<'a>(
-    regions: &mut OpenRegions<'a>,
-    start: OpenRegion<'a>,
-    depth: Depth,
-    count: usize,
-) -> Counts
-    requires none { regions.old.broken ≡ None }
-    requires kind { sort_in start.parts ≡ attr_head }
-    requires level { start.level ≤ depth }
-    requires size { length start.left.now ≤ fixed.LONGEST_REGION }
-    requires place { start.place + length start.left.now ≤ fixed.FARTHEST_END }
-    requires count { count ≤ 2 ^ 32 + fixed.LONGEST_REGION }
-    ensures { IsTaped (shape_of Order.Little depth) (head_of start.entry) count [] []
-        (found regions.new.broken result) }
-{
-    let out: &mut [Event] = &mut [];
-    let _limit = depth.get();
-    let shape = Shape::of(depth, Order::Little);
-    tape_open(regions, start, shape, Room::Unknown, out, count)
-}
-
-/// Scans a region of attributes from its front, by a function for each order, and for the little
-/// one by others where the buffer has room for all events or for none.
+/// Scans a region of attributes from its front, by a loop for each order, and for the little one by
+/// others where the buffer has room for all events or for none.
 #[inline(always)]
 pub(super) fn tape_regions<'a>(
     regions: &mut OpenRegions<'a>,
@@ -192,17 +132,23 @@ pub(super) fn tape_regions<'a>(
     ensures { IsTaped (shape_of order depth) (head_of start.entry) count out.old out.new
         (found regions.new.broken result) }
 {
-    match order {
-        Order::Little => match room {
-            Room::Ample => open_ample(regions, start, depth, out, count),
-            Room::Unknown => {
-                if out.is_empty() {
-                    open_none(regions, start, depth, count)
-                } else {
-                    open_little(regions, start, depth, out, count)
-                }
-            }
-        },
-        Order::Big => open_big(regions, start, depth, out, count),
+    match (order, room) {
+        (Order::Big, _) => {
+            let (order, room) = (Order::Big, Room::Unknown);
+            open_regions::<BIG>(regions, start, depth, order, room, out, count)
+        }
+        (Order::Little, Room::Ample) => {
+            let (order, room) = (Order::Little, Room::Ample);
+            open_regions::<AMPLE>(regions, start, depth, order, room, out, count)
+        }
+        // The buffer of no events is made here, so that the loop shows no trace of it.
+        (Order::Little, Room::Unknown) if out.is_empty() => {
+            let (order, room) = (Order::Little, Room::Unknown);
+            open_regions::<NONE>(regions, start, depth, order, room, &mut [], count)
+        }
+        (Order::Little, Room::Unknown) => {
+            let (order, room) = (Order::Little, Room::Unknown);
+            open_regions::<LITTLE>(regions, start, depth, order, room, out, count)
+        }
     }
 }
