@@ -81,13 +81,14 @@ same 'those who read regions look at none of their bytes' \
   "$(lines '\b(bytes|payload|rest|left|region)(\[|\.(iter|get|first|last|split|chunks|windows|copied|to_))' \
     "${stack[@]}" "$reading")" ''
 
-same 'lengths and types of attributes and next hops are read by the walkers alone, but for the length of the head at which a scan ends, and what is printed beside bytes; a stream reads the flags of a message' \
+same 'lengths and types of attributes and next hops are read by the walkers alone, but for the length of the head at which a scan ends, and what is printed beside bytes; the front of a message reads its type, and a stream its flags' \
   "$(counts 'read_u16\(')" \
   'crates/nl_attr/src/broken.rt 1
 crates/nl_attr/src/order.rt 3
 crates/nl_attr/src/views.rt 1
 crates/nl_attr/src/walk/mod.rt 2
 crates/nl_dump/src/sifting.rt 1
+crates/nl_frame/src/front.rt 1
 crates/nl_frame/src/header.rt 2
 crates/nl_route/src/ifinfomsg.rt 1
 crates/nl_route/src/ndmsg.rt 1
@@ -111,18 +112,19 @@ crates/nl_attr/src/walk/hops.rt 2
 crates/nl_attr/src/walk/mod.rt 5'
 
 # The room for a datagram's messages is made by the length of the first.
-same 'headers are read at the front of a message, where an error quotes one, at the end of a scan, and for room' \
+same 'headers are read at the front of a message, where an error quotes one, at the end of a scan, and for room; a scan asks for the length first' \
   "$(counts '\b(frame_len|Header::read)\(')" \
   'crates/nl_frame/src/body.rt 1
 crates/nl_frame/src/broken.rt 1
 crates/nl_frame/src/front.rt 3
-crates/nl_frame/src/reading.rt 1'
-
-same 'a message is taken from the front once by a reading, a scan and a cursor' \
-  "$(counts '\bfront\(' $(sources | grep '^crates/nl_frame/'))" \
-  'crates/nl_frame/src/front.rt 2
 crates/nl_frame/src/reading.rt 1
 crates/nl_frame/src/taping.rt 1'
+
+same 'a message is taken from the front once by a reading, a scan and a cursor' \
+  "$(counts '\bfront(_of|_form)?\(' $(sources | grep '^crates/nl_frame/'))" \
+  'crates/nl_frame/src/front.rt 5
+crates/nl_frame/src/reading.rt 1
+crates/nl_frame/src/taping.rt 2'
 
 # The first goes past heads at the front of a region, and the second past the one at which that ended.
 same 'a scan is one loop over heads that hold bytes, one over the others, and one over messages' \
@@ -133,26 +135,26 @@ same 'a scan is one loop over heads that hold bytes, one over the others, and on
 'messages: while !left.is_empty() {"
 
 same 'a region is scanned by the calls that are made for it and once by the scan of a message, and in no reading' \
-  "$(counts '\b(scan_list_ordered|tape_(list|attrs|attrs_in|region|regions|open)|open_(ample|little|big|none)|pass_(top|front|leaves|like)|step_(attr|hop))\b.*\(')" \
+  "$(counts '\b(scan_list_ordered|tape_(list|attrs|attrs_in|region|regions|open)|open_regions|pass_(top|front|leaves|like)|step_(attr|hop))\b.*\(')" \
   'crates/nl_attr/src/scanning.rt 2
 crates/nl_attr/src/taping/leaves.rt 5
 crates/nl_attr/src/taping/mod.rt 9
-crates/nl_attr/src/taping/regions.rt 15
+crates/nl_attr/src/taping/regions.rt 9
 crates/nl_attr/src/taping/steps.rt 8
 crates/nl_frame/src/taping.rt 1'
 
 same 'a datagram is scanned by the calls that are made for it, and in no reading' \
-  "$(counts '\b(scan_datagram|tape_datagram|scan_messages|tape_(messages|ordered|little|big|frame|body|object))\(')" \
+  "$(counts '\b(scan_datagram|tape_datagram|scan_messages|tape_(messages?|ordered|little|big|ample|front|frame|body|object))(::)?(<[^(]*>)?\(')" \
   'crates/nl_dump/src/straining.rt 1
 crates/nl_frame/src/scanning.rt 4
-crates/nl_frame/src/taping.rt 15
+crates/nl_frame/src/taping.rt 24
 crates/rtnl/src/bytes/tape.rt 1
 crates/rtnl_c/src/broken.rt 1
 crates/rtnl_c/src/scan.rt 2'
 
 same 'a scan of a datagram adds the visits of each message, and nothing else' \
   "$(lines '\bvisits [-+*]?=' "$taping" | sed 's/^[^:]*: *//')" 'let mut visits = 0u64;
-visits += counts.visits;'
+visits += taped.counts.visits;'
 
 same 'the item at a place is sought by those who ask for one, and in no walk' \
   "$(counts '\b(attr_at|hop_at|message_at)\(')" \

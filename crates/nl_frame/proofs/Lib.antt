@@ -1,3 +1,4 @@
+mod Forms
 pub mod Beginnings
 pub mod Extents
 pub mod Firsts

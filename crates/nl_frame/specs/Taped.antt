@@ -1,5 +1,5 @@
 -- What a scan of a datagram puts and counts, head by head and at its end.
-use Rattle.std.specs.Prelude.{◌≡◌, ◌+◌, ℕ, List, length, map, slice_set, Option, Some, None, Result, Ok, Err}
+use Rattle.std.specs.Prelude.{◌≡◌, ◌≤◌, ◌+◌, ◌*◌, IfSome, ℕ, List, length, map, slice_set, Option, Some, None, Result, Ok, Err}
 use Rattle.nl_attr.specs.declared.events.Event.{Event}
 use Rattle.nl_attr.specs.declared.broken.BrokenHead.{BrokenHead}
 use Rattle.nl_attr.specs.declared.taping.Taped.{Taped}
@@ -8,7 +8,12 @@ use Rattle.nl_attr.specs.Shape.{Shape}
 use Rattle.nl_attr.specs.Reading.{Outcome}
 use Rattle.nl_attr.specs.Scanned.{without}
 use Rattle.nl_attr.specs.HeadOrder.{put_from, fault_of}
+use Rattle.nl_attr.specs.declared.fault.Reason.{Reason}
+use Rattle.nl_attr.specs.Taped.{found}
 use Rattle.nl_frame.specs.declared.front.Frame.{Frame}
+use Rattle.nl_frame.specs.declared.taping.TapedFrame.{TapedFrame}
+use Rattle.nl_frame.specs.Broken.{IsBrokenIn}
+use Rattle.nl_frame.specs.Front.{IsFrame, broken_message}
 use Rattle.nl_frame.specs.declared.reading.ReadError.{ReadError}
 use Rattle.nl_frame.specs.declared.reading.ReadError.TheVariants as unread
 use Rattle.nl_frame.specs.declared.scanning.ScanError.{ScanError}
@@ -28,6 +33,15 @@ abbrev pub IsFrameTaped : Shape → Frame → ℕ → ℕ → List Event → Lis
 IsFrameTaped S f place count old new t =
     IsTaped S (region_trail S (region_in f.form (place + 16) f.payload.now)) (count + 1)
     (slice_set old count (header_event place f.header.kind (length f.payload.now))) new t
+
+-- the message at the front and the heads in its body, up to their first fault, or the rule that its head breaks
+abbrev pub TapesFront : Shape → List ℕ → ℕ → ℕ → List Event → List Event → Option BrokenHead → Result TapedFrame Reason → Type 0
+TapesFront S left place count old new broken (Ok t) =
+    IsFrame S.order left t.frame × IsFrameTaped S t.frame place count old new (found broken t.counts)
+    × IfSome broken (IsBrokenIn S (region_in t.frame.form (place + 16) t.frame.payload.now))
+    × (t.counts.visits ≤ (S.depth + 1) * length t.frame.payload.now) × (t.counts.count ≤ count + 1 + t.counts.visits)
+    × (4 * t.counts.count ≤ 4 * count + 16 + length t.frame.payload.now)
+TapesFront S left place count old new broken (Err r) = (broken_message S.order left ≡ Some r) × (new ≡ old)
 
 -- it is refused for the fault of this head, or accepted where there is none
 abbrev pub Ends : Option BrokenHead → Result (Unit {0}) ScanError → Type 0

@@ -3,7 +3,7 @@
 ghost use Rattle.std.specs.Prelude.{◌≡◌};
 ghost use Rattle.nl_frame.specs.Form.{form_of, least_body};
 
-use nl_route::{Family, RouteType, Verb};
+use nl_route::Family;
 
 /// What a message's body is made of.
 #[derive(Clone, Copy, Debug, PartialEq, Eq, Hash)]
@@ -21,22 +21,36 @@ pub enum Form {
 }
 
 impl Form {
-    /// The form of this type, which alone chooses it, whatever the message's family.
+    /// The form of this type, which alone chooses it, whatever the message's family. The types of
+    /// families are those of linux/rtnetlink.h, RTM_NEWLINK and on: an arm for each, so that one
+    /// jump leads to it.
+    #[tactic(auto, using(crate::proofs::Forms::agree))]
+    #[inline(always)]
     pub fn of(kind: u16) -> Form
         ensures { result ≡ form_of kind }
     {
-        match RouteType::of(kind) {
-            Some(kind) => match kind.verb {
-                Verb::Get => Form::Get,
-                Verb::New | Verb::Del | Verb::Set => Form::Object(kind.family),
-            },
-            None => match kind {
-                1 => Form::Noop,
-                2 => Form::Error,
-                3 => Form::Done,
-                4 => Form::Overrun,
-                _ => Form::Other,
-            },
+        match kind {
+            1 => Form::Noop,
+            2 => Form::Error,
+            3 => Form::Done,
+            4 => Form::Overrun,
+            16 => Form::Object(Family::Link),
+            17 => Form::Object(Family::Link),
+            18 => Form::Get,
+            19 => Form::Object(Family::Link),
+            20 => Form::Object(Family::Addr),
+            21 => Form::Object(Family::Addr),
+            22 => Form::Get,
+            24 => Form::Object(Family::Route),
+            25 => Form::Object(Family::Route),
+            26 => Form::Get,
+            28 => Form::Object(Family::Neigh),
+            29 => Form::Object(Family::Neigh),
+            30 => Form::Get,
+            32 => Form::Object(Family::Rule),
+            33 => Form::Object(Family::Rule),
+            34 => Form::Get,
+            _ => Form::Other,
         }
     }
 

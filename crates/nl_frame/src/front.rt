@@ -1,10 +1,10 @@
 //! The message at the front of bytes, and the one at a place of a datagram.
 
-ghost use Rattle.std.specs.Prelude.{◌≡◌, ◌≤◌, length, min};
+ghost use Rattle.std.specs.Prelude.{◌≡◌, ◌≤◌, length, min, Ok};
 ghost use Rattle.nl_attr.specs.Fixed as fixed;
 ghost use Rattle.nl_attr.specs.Numbers.{aligned};
 ghost use Rattle.nl_attr.specs.Walk.{HeadIs};
-ghost use Rattle.nl_frame.specs.Front.{GivesFrame, StandsAt};
+ghost use Rattle.nl_frame.specs.Front.{GivesFrame, StandsAt, form_at};
 
 use crate::form::Form;
 use crate::header::Header;
@@ -48,15 +48,29 @@ pub(crate) fn frame_span(left: &[u8], len: usize) -> u32
     align4(len as u32).min(left.len() as u32)
 }
 
-/// The message at the front, or the first rule that its head breaks.
+/// The form of the body of the message at the front, by its type.
 #[inline(always)]
-pub(crate) fn front(left: &[u8], order: Order) -> Result<Frame<'_>, Reason>
-    requires { length left.now ≤ fixed.LONGEST_REGION }
+pub(crate) fn front_form(left: &[u8], order: Order) -> Form
+    requires { 16 ≤ length left.now }
+    ensures { result ≡ form_at order left.now }
+{
+    Form::of(order.read_u16(&left[4..]))
+}
+
+/// The message of `len` bytes at the front, with a body of this form; or that its body is short.
+#[inline(always)]
+pub(crate) fn front_of(
+    left: &[u8],
+    len: usize,
+    form: Form,
+    order: Order,
+) -> Result<Frame<'_>, Reason>
+    requires size { length left.now ≤ fixed.LONGEST_REGION }
+    requires len { HeadIs order 16 4 left.now (Ok len) }
+    requires form { form ≡ form_at order left.now }
     ensures { GivesFrame order left.now result }
 {
-    let len = frame_len(left, order)?;
     let header = Header::read(left, order);
-    let form = Form::of(header.kind);
     let payload = &left[16..len];
     if payload.len() < form.least() {
         return Err(Reason::ShortBody);
@@ -69,6 +83,16 @@ pub(crate) fn front(left: &[u8], order: Order) -> Result<Frame<'_>, Reason>
         payload,
         rest: &left[span as usize..],
     })
+}
+
+/// The message at the front, or the first rule that its head breaks.
+#[inline(always)]
+pub(crate) fn front(left: &[u8], order: Order) -> Result<Frame<'_>, Reason>
+    requires { length left.now ≤ fixed.LONGEST_REGION }
+    ensures { GivesFrame order left.now result }
+{
+    let len = frame_len(left, order)?;
+    front_of(left, len, front_form(left, order), order)
 }
 
 /// The message whose header stands at a place of a datagram; none where the place is at the

@@ -1,22 +1,34 @@
 //! Scanning the messages of a datagram in one pass, which takes no memory and no call stack: each
 //! head is checked, and its event is put into a buffer.
 
-ghost use Rattle.std.specs.Prelude.{◌≡◌, ◌≤◌, ◌+◌, ◌*◌, [], length, None, IfSome};
+ghost use Rattle.std.specs.Prelude.{◌≡◌, ◌≤◌, ◌+◌, ◌*◌, [], length, None, Ok, IfSome};
 ghost use Rattle.nl_attr.specs.Fixed as fixed;
 ghost use Rattle.nl_attr.specs.Shape.{shape_of};
 ghost use Rattle.nl_attr.specs.Taped.{HasRoom, found};
+ghost use Rattle.nl_attr.specs.Walk.{HeadIs};
 ghost use Rattle.nl_route.specs.Families.{head_size};
 ghost use Rattle.nl_frame.specs.Broken.{IsBrokenHead, IsBrokenIn};
 ghost use Rattle.nl_frame.specs.Form.{least_body};
+ghost use Rattle.nl_frame.specs.Front.{form_at};
 ghost use Rattle.nl_frame.specs.Heads.{region_in, whole};
-ghost use Rattle.nl_frame.specs.Taped.{IsFrameTaped, IsTaped};
+ghost use Rattle.nl_frame.specs.Taped.{IsFrameTaped, IsTaped, TapesFront};
 ghost use Rattle.nl_frame.specs.HeadOrder.{header_event, region_trail, trail_of};
 
 use crate::broken::header_at_fault;
 use crate::form::Form;
-use crate::front::{Frame, front};
-use nl_attr::{Counts, Depth, Event, OpenRegions, Order, Room, SORT_MESSAGE, Taped, tape_attrs_in};
+use crate::front::{Frame, frame_len, front_form, front_of};
+use nl_attr::{
+    Counts, Depth, Event, OpenRegions, Order, Reason, Room, SORT_MESSAGE, Taped, tape_attrs_in,
+};
 use nl_route::Family;
+
+/// A message that was gone past.
+#[derive(Clone, Copy)]
+struct TapedFrame<'a> {
+    frame: Frame<'a>,
+    /// What was counted in it.
+    counts: Counts,
+}
 
 /// The event of a message's header.
 #[inline(always)]
@@ -162,9 +174,112 @@ fn tape_frame<'a>(
     )
 }
 
-/// The messages of a datagram, in an order that the caller writes as a constant.
+/// The message of `len` bytes at the front, whose body has this form, and the heads in it.
 #[inline(always)]
-fn tape_ordered(bytes: &[u8], depth: Depth, order: Order, room: Room, out: &mut [Event]) -> Taped
+fn tape_front<'a>(
+    regions: &mut OpenRegions<'a>,
+    left: &'a [u8],
+    len: usize,
+    form: Form,
+    place: u32,
+    depth: Depth,
+    order: Order,
+    room: Room,
+    out: &mut [Event],
+    count: usize,
+) -> Result<TapedFrame<'a>, Reason>
+    requires none { regions.old.broken ≡ None }
+    requires size { length left.now ≤ fixed.LONGEST_REGION }
+    requires len { HeadIs order 16 4 left.now (Ok len) }
+    requires form { form ≡ form_at order left.now }
+    requires place { place + length left.now ≤ fixed.FARTHEST_END }
+    requires count { count + 1 ≤ 4294967296 }
+    requires room { HasRoom room count (length left.now) (length out.old) }
+    ensures { TapesFront (shape_of order depth) left.now place count out.old out.new
+        regions.new.broken result }
+{
+    let frame = front_of(left, len, form, order)?;
+    let counts = tape_frame(regions, &frame, place, depth, order, room, out, count);
+    Ok(TapedFrame { frame, counts })
+}
+
+/// A match over a form, with an arm for each family, in which the form is a constant.
+macro_rules! match_form {
+    ($value:expr, $form:ident => $then:expr) => {
+        match $value {
+            Form::Object(Family::Link) => {
+                let $form = Form::Object(Family::Link);
+                $then
+            }
+            Form::Object(Family::Addr) => {
+                let $form = Form::Object(Family::Addr);
+                $then
+            }
+            Form::Object(Family::Route) => {
+                let $form = Form::Object(Family::Route);
+                $then
+            }
+            Form::Object(Family::Neigh) => {
+                let $form = Form::Object(Family::Neigh);
+                $then
+            }
+            Form::Object(Family::Rule) => {
+                let $form = Form::Object(Family::Rule);
+                $then
+            }
+            $form => $then,
+        }
+    };
+}
+
+/// The message at the front, and the heads in it. Its form is asked for once: in the arm of a
+/// family the size of its head and the context of its attributes are constants.
+///
+/// `inline(always)` would be dropped from so long a function. By `LOOP` each loop has one of its
+/// own, which is inlined in it since it's called from nowhere else.
+fn tape_message<'a, const LOOP: u8>(
+    regions: &mut OpenRegions<'a>,
+    left: &'a [u8],
+    place: u32,
+    depth: Depth,
+    order: Order,
+    room: Room,
+    out: &mut [Event],
+    count: usize,
+) -> Result<TapedFrame<'a>, Reason>
+    requires none { regions.old.broken ≡ None }
+    requires size { length left.now ≤ fixed.LONGEST_REGION }
+    requires place { place + length left.now ≤ fixed.FARTHEST_END }
+    requires count { count + 1 ≤ 4294967296 }
+    requires room { HasRoom room count (length left.now) (length out.old) }
+    ensures { TapesFront (shape_of order depth) left.now place count out.old out.new
+        regions.new.broken result }
+{
+    let len = frame_len(left, order)?;
+    match_form!(front_form(left, order), form => {
+        tape_front(regions, left, len, form, place, depth, order, room, out, count)
+    })
+}
+
+/// The loops over messages: one for each caller of `tape_ordered`.
+const BIG: u8 = 0;
+
+const LITTLE: u8 = 1;
+
+const AMPLE: u8 = 2;
+
+const SCAN: u8 = 3;
+
+/// The messages of a datagram, in an order that the caller writes as a constant. Each caller names
+/// a loop of its own, for `tape_message`.
+#[inline(always)]
+fn tape_ordered<const LOOP: u8>(
+    bytes: &[u8],
+    depth: Depth,
+    order: Order,
+    room: Room,
+    out: &mut [Event],
+) -> Taped
     requires size { length bytes.now ≤ fixed.LONGEST_REGION }
     requires room { HasRoom room 0 (length bytes.now) (length out.old) }
     ensures taped { IsTaped (shape_of order depth) (trail_of (shape_of order depth)
@@ -181,8 +296,18 @@ fn tape_ordered(bytes: &[u8], depth: Depth, order: Order, room: Room, out: &mut 
     let mut place = 0u32;
     let mut left = bytes;
     'messages: while !left.is_empty() {
-        let frame = match front(left, order) {
-            Ok(frame) => frame,
+        let message = tape_message::<LOOP>(
+            &mut regions,
+            left,
+            place,
+            depth,
+            order,
+            room,
+            out,
+            count,
+        );
+        let taped = match message {
+            Ok(taped) => taped,
             Err(reason) => {
                 return Taped {
                     broken: Some(header_at_fault(left, place, reason, order)),
@@ -191,9 +316,8 @@ fn tape_ordered(bytes: &[u8], depth: Depth, order: Order, room: Room, out: &mut 
                 };
             }
         };
-        let counts = tape_frame(&mut regions, &frame, place, depth, order, room, out, count);
-        count = counts.count;
-        visits += counts.visits;
+        count = taped.counts.count;
+        visits += taped.counts.visits;
         if let Some(head) = regions.broken {
             return Taped {
                 broken: Some(head),
@@ -201,8 +325,8 @@ fn tape_ordered(bytes: &[u8], depth: Depth, order: Order, room: Room, out: &mut 
                 visits,
             };
         }
-        place += frame.span;
-        left = frame.rest;
+        place += taped.frame.span;
+        left = taped.frame.rest;
     }
     Taped {
         broken: None,
@@ -222,7 +346,7 @@ fn tape_big(bytes: &[u8], depth: Depth, out: &mut [Event]) -> Taped
         (IsBrokenHead (shape_of Order.Big depth) (whole bytes.now)) }
     ensures bound { result.visits ≤ (depth + 1) * length bytes.now }
 {
-    tape_ordered(bytes, depth, Order::Big, Room::Unknown, out)
+    tape_ordered::<BIG>(bytes, depth, Order::Big, Room::Unknown, out)
 }
 
 /// The messages of a datagram in the little order, into a buffer that may end before the last event.
@@ -235,7 +359,22 @@ fn tape_little(bytes: &[u8], depth: Depth, out: &mut [Event]) -> Taped
         (IsBrokenHead (shape_of Order.Little depth) (whole bytes.now)) }
     ensures bound { result.visits ≤ (depth + 1) * length bytes.now }
 {
-    tape_ordered(bytes, depth, Order::Little, Room::Unknown, out)
+    tape_ordered::<LITTLE>(bytes, depth, Order::Little, Room::Unknown, out)
+}
+
+/// The messages of a datagram in the little order, into a buffer with room for all events: in a
+/// function of its own the loop has all registers.
+#[inline(never)]
+fn tape_ample(bytes: &[u8], depth: Depth, out: &mut [Event]) -> Taped
+    requires size { length bytes.now ≤ fixed.LONGEST_REGION }
+    requires room { HasRoom Room.Ample 0 (length bytes.now) (length out.old) }
+    ensures taped { IsTaped (shape_of Order.Little depth) (trail_of (shape_of Order.Little depth)
+        (whole bytes.now)) 0 out.old out.new result }
+    ensures head { IfSome result.broken
+        (IsBrokenHead (shape_of Order.Little depth) (whole bytes.now)) }
+    ensures bound { result.visits ≤ (depth + 1) * length bytes.now }
+{
+    tape_ordered::<AMPLE>(bytes, depth, Order::Little, Room::Ample, out)
 }
 
 /// The messages of a datagram, by a loop for each order, and for the little one by another where
@@ -252,7 +391,7 @@ pub(crate) fn tape_messages(bytes: &[u8], depth: Depth, order: Order, out: &mut 
     match order {
         Order::Little => {
             if bytes.len() / 4 <= out.len() {
-                tape_ordered(bytes, depth, Order::Little, Room::Ample, out)
+                tape_ample(bytes, depth, out)
             } else {
                 tape_little(bytes, depth, out)
             }
@@ -273,7 +412,7 @@ pub(crate) fn scan_messages(bytes: &[u8], depth: Depth, order: Order) -> Taped
 {
     let out: &mut [Event] = &mut [];
     match order {
-        Order::Little => tape_ordered(bytes, depth, Order::Little, Room::Unknown, out),
+        Order::Little => tape_ordered::<SCAN>(bytes, depth, Order::Little, Room::Unknown, out),
         Order::Big => tape_big(bytes, depth, out),
     }
 }
