@@ -180,8 +180,8 @@ const nextHopSize = 8
 // Flags are its flags, as RTNH_F_ONLINK.
 func (h NextHop) Flags() uint8 { return h.head(nextHopSize)[2] }
 
-// Hops is its weight less one.
-func (h NextHop) Hops() uint8 { return h.head(nextHopSize)[3] }
+// Weight is its share of the packets, from 1 to 256: the kernel's field, rtnh_hops, has one less.
+func (h NextHop) Weight() int { return int(h.head(nextHopSize)[3]) + 1 }
 
 // Index is the number of its interface, 0 where it has none.
 func (h NextHop) Index() int { return int(int32(h.order().uint32(h.head(nextHopSize)[4:]))) }

@@ -217,15 +217,16 @@ func (b *Builder) Open(number uint16) {
 }
 
 // OpenNextHop opens a next hop in RTA_MULTIPATH, until Close; attributes of routes stand in it.
-// What is refused is ErrMismatch where the kernel's field can't hold the index, or no next hops
-// stand; ErrNothingOpen; ErrNoRoom; ErrTooLarge.
+// What is refused is ErrMismatch where the weight is above 256 or below 0, the kernel's field
+// can't hold the index, or no next hops stand; ErrNothingOpen; ErrNoRoom; ErrTooLarge.
 func (b *Builder) OpenNextHop(head NextHopHead) {
-	if b.code == ok && !isSigned(head.Index) {
+	hops, fits := hopsOf(head.Weight)
+	if b.code == ok && !(fits && isSigned(head.Index)) {
 		b.code = C.RTNLC_MISMATCH
 	}
 	if b.code == ok {
 		b.code = C.built_open_hop(&b.made, b.out(), b.room(), C.uint8_t(head.Flags),
-			C.uint8_t(head.Hops), C.int32_t(head.Index))
+			C.uint8_t(hops), C.int32_t(head.Index))
 	}
 }
 

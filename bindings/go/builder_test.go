@@ -47,10 +47,10 @@ func nothing(*rtnlc.Builder) {}
 func putTwoWays(b *rtnlc.Builder) {
 	b.PutAddr(rtnlc.RTA_DST, addr("10.10.0.0"))
 	b.Open(rtnlc.RTA_MULTIPATH)
-	b.OpenNextHop(rtnlc.NextHopHead{Hops: 1, Index: 10})
+	b.OpenNextHop(rtnlc.NextHopHead{Weight: 2, Index: 10})
 	b.PutAddr(rtnlc.RTA_GATEWAY, addr("192.0.2.254"))
 	b.Close()
-	b.OpenNextHop(rtnlc.NextHopHead{Hops: 255, Index: 11})
+	b.OpenNextHop(rtnlc.NextHopHead{Weight: 256, Index: 11})
 	b.Close()
 	b.Close()
 }
@@ -237,10 +237,10 @@ func TestBuilderMessages(t *testing.T) {
 	route, _ := messages[0].Route()
 	equal(t, "destination", told(route.Dst()), "10.10.0.0/16")
 	hops := route.NextHops()
-	for _, wanted := range []string{"1 10 192.0.2.254", "255 11 none"} {
+	for _, wanted := range []string{"2 10 192.0.2.254", "256 11 none"} {
 		equal(t, "a next hop", hops.Next(), true)
 		hop := hops.NextHop()
-		equal(t, "it", fmt.Sprint(hop.Hops(), hop.Index(), " ", told(hop.Gateway())), wanted)
+		equal(t, "it", fmt.Sprint(hop.Weight(), hop.Index(), " ", told(hop.Gateway())), wanted)
 	}
 	link, _ := messages[1].Link()
 	equal(t, "name", []any{link.Index(), told(link.Name())}, "[7 eth0]")
@@ -362,6 +362,26 @@ func TestBuilderIndexes(t *testing.T) {
 		refuses(t, rtnlc.ErrMismatch, standard, func(b *rtnlc.Builder) {
 			b.Open(rtnlc.RTA_MULTIPATH)
 			b.OpenNextHop(rtnlc.NextHopHead{Index: index})
+		})
+	}
+}
+
+// A weight is that of ip(8), and rtnh_hops has one less; 0 is none that is said, which is 1.
+func TestBuilderWeights(t *testing.T) {
+	header := rtnlc.Header{Type: rtnlc.RTM_NEWROUTE}
+	for weight, hops := range map[int]uint8{0: 0, 1: 0, 2: 1, 255: 254, 256: 255} {
+		found := built(header, rtnlc.RouteHead{}, func(b *rtnlc.Builder) {
+			b.Open(rtnlc.RTA_MULTIPATH)
+			b.OpenNextHop(rtnlc.NextHopHead{Weight: weight})
+			b.Close()
+			b.Close()
+		})
+		equal(t, "a next hop", found[64:], hex.EncodeToString(hop(0, hops, 0)))
+	}
+	for _, weight := range []int{-1, 257, 65536, -1 << 31, 1<<31 - 1} {
+		refuses(t, rtnlc.ErrMismatch, standard, func(b *rtnlc.Builder) {
+			b.Open(rtnlc.RTA_MULTIPATH)
+			b.OpenNextHop(rtnlc.NextHopHead{Weight: weight})
 		})
 	}
 }

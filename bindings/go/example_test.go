@@ -230,9 +230,9 @@ func ExampleBuilder() {
 	b.Open(rtnlc.RTA_MULTIPATH)
 	for _, it := range []struct {
 		gateway string
-		weight  uint8
+		weight  int
 	}{{"192.0.2.254", 1}, {"198.51.100.254", 10}} {
-		b.OpenNextHop(rtnlc.NextHopHead{Hops: it.weight - 1})
+		b.OpenNextHop(rtnlc.NextHopHead{Weight: it.weight})
 		b.PutAddr(rtnlc.RTA_GATEWAY, netip.MustParseAddr(it.gateway))
 		b.Close()
 	}

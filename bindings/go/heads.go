@@ -75,11 +75,20 @@ type RuleHead struct {
 	Flags  uint32 // FIB_RULE_*
 }
 
-// A NextHopHead is what a next hop begins with, struct rtnexthop.
+// A NextHopHead is what a next hop begins with, struct rtnexthop. Its Weight is that of ip(8),
+// from 1 to 256, and 0 is 1: the kernel's field, rtnh_hops, has one less.
 type NextHopHead struct {
-	Flags uint8 // as RTNH_F_ONLINK
-	Hops  uint8 // its weight less one
-	Index int   // of the interface, or 0
+	Flags  uint8 // as RTNH_F_ONLINK
+	Weight int   // its share of the packets beside the others: from 1 to 256; 0 is 1
+	Index  int   // of the interface, or 0
+}
+
+// hopsOf is the kernel's field of a weight, and whether there is one.
+func hopsOf(weight int) (uint8, bool) {
+	if weight == 0 {
+		weight = 1
+	}
+	return uint8(weight - 1), weight >= 1 && weight <= 256
 }
 
 // FamilyOf is the address family of an address: AF_INET, AF_INET6, or AF_UNSPEC of the zero Addr.

@@ -207,7 +207,7 @@ func (seen *tally) takeHops(hops rtnlc.NextHops) int {
 	for hops.Next() {
 		h := hops.NextHop()
 		addr, found := h.Gateway()
-		seen.add(addr.BitLen()+h.Index()+int(h.Flags())+int(h.Hops()), found)
+		seen.add(addr.BitLen()+h.Index()+int(h.Flags())+h.Weight(), found)
 		seen.hops++
 		count += 1 + seen.takeAttrs(h.Attrs())
 	}

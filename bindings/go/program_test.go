@@ -211,7 +211,7 @@ func wantedRoute(t testing.TB, it jsonObject) []any {
 	var hops []jsonHop
 	items(t, first(it.Attrs, rtnlc.RTA_MULTIPATH), &hops)
 	for _, hop := range hops {
-		values = append(values, hop.Flags, hop.Hops, hop.Index, gatewayOf(hop.Attrs))
+		values = append(values, hop.Flags, int(hop.Hops)+1, hop.Index, gatewayOf(hop.Attrs))
 	}
 	return values
 }

@@ -85,9 +85,9 @@ type ChangeRequest interface {
 	// Where there is an error, the bytes are those that were given. The error is a Code, or wraps
 	// one and says more: ErrMismatch for an operation that is none of those above, for a prefix
 	// that has an address and is not valid, for an AddressRequest without Local, for an index that
-	// the kernel's field can't hold, and for a Metric whose number is 16,384 or more; ErrTooLong
-	// for an attribute of more than 65,535 bytes, its head among them; ErrTooLarge for a message
-	// of more than 65,536 bytes.
+	// the kernel's field can't hold, for a Weight above 256 or below 0, and for a Metric whose
+	// number is 16,384 or more; ErrTooLong for an attribute of more than 65,535 bytes, its head
+	// among them; ErrTooLarge for a message of more than 65,536 bytes.
 	AppendTo(bytes []byte, operation Operation, seq uint32, options *Options) ([]byte, error)
 }
 
@@ -122,7 +122,7 @@ type AddressRequest struct {
 }
 
 // Lifetimes say how long an address is preferred, and how long it is valid: in seconds, 1<<32 - 1
-// for ever.
+// for ever. Both are put as they are: one that is left out is 0, and not for ever as by ip(8).
 type Lifetimes struct{ Preferred, Valid uint32 }
 
 // A RouteRequest is a request of a route. Of the operations all but Set are for routes.
@@ -130,8 +130,11 @@ type Lifetimes struct{ Preferred, Valid uint32 }
 // ip(8) makes one with RT_TABLE_MAIN, RTPROT_BOOT, RTN_UNICAST, and for IPv4 with RT_SCOPE_LINK
 // where there is no gateway; it deletes one with protocol and type 0, and for IPv4 with
 // RT_SCOPE_NOWHERE. A gateway of another family than the route's is RTA_VIA, by a Builder.
+//
+// A Family that is not said is that of the first address that is there, of Dst, Src, Gateway,
+// PrefSrc and the gateways of NextHops, and AF_INET where there is none, as by ip(8).
 type RouteRequest struct {
-	Family   uint8            // as AF_INET; AF_UNSPEC for that of the first address that is there
+	Family   uint8            // as AF_INET6; AF_UNSPEC for that of its first address, or AF_INET
 	Dst      netip.Prefix     // RTA_DST; none for the default route
 	Src      netip.Prefix     // RTA_SRC, that packets must have
 	Gateway  netip.Addr       // RTA_GATEWAY
@@ -154,18 +157,22 @@ type Metric struct {
 	Value  uint32
 }
 
-// A NextHopRequest is one of several next hops of a route, struct rtnexthop.
+// A NextHopRequest is one of several next hops of a route, struct rtnexthop. Its Weight is as of a
+// NextHopHead.
 type NextHopRequest struct {
 	Index   int        // of the interface, or 0
 	Flags   uint8      // as RTNH_F_ONLINK
-	Hops    uint8      // its weight less one
+	Weight  int        // its share of the packets beside the others: from 1 to 256; 0 is 1
 	Gateway netip.Addr // RTA_GATEWAY
 }
 
 // A NeighbourRequest is a request of a neighbour. Of the operations all but Prepend and Set are for
 // neighbours, Append for entries of a bridge. ip(8) takes NUD_PERMANENT where no state is said.
+//
+// A Family that is not said is that of Addr, and AF_BRIDGE where there is none: without an address
+// it is an entry of a bridge, as by bridge(8).
 type NeighbourRequest struct {
-	Family       uint8            // AF_BRIDGE of an entry of a bridge; AF_UNSPEC for that of Addr
+	Family       uint8            // as AF_BRIDGE; AF_UNSPEC for that of Addr, or AF_BRIDGE
 	Index        int              // of the interface
 	Addr         netip.Addr       // NDA_DST
 	HardwareAddr net.HardwareAddr // NDA_LLADDR
@@ -177,8 +184,11 @@ type NeighbourRequest struct {
 // A RuleRequest is a request of a rule. Of the operations Add and Delete are for rules. One that is
 // added has FR_ACT_TO_TBL and a table, or another action and table 0; ip(8) deletes one with action
 // 0.
+//
+// A Family that is not said is that of From, or else that of To, and AF_INET where there is
+// neither, as by ip(8).
 type RuleRequest struct {
-	Family            uint8        // as AF_INET; AF_UNSPEC for that of From, or of To
+	Family            uint8        // as AF_INET6; AF_UNSPEC for that of From or To, or AF_INET
 	From              netip.Prefix // FRA_SRC, the sources that it is for; none for all
 	To                netip.Prefix // FRA_DST, the destinations that it is for; none for all
 	InName            string       // FRA_IIFNAME, by which packets come
@@ -240,10 +250,14 @@ func (n *named) append(to []byte, call func(*C.uint8_t, C.size_t) C.struct_rtnlc
 	}
 }
 
-// familyOf is an address family, or that of the first of the addresses that is one.
-func familyOf(family uint8, addrs ...netip.Addr) C.uint8_t {
+// familyOf is an address family, or that of the first of the addresses that is one, or else
+// another one: the kernel refuses a request of AF_UNSPEC.
+func familyOf(family, other uint8, addrs ...netip.Addr) C.uint8_t {
 	for at := 0; family == AF_UNSPEC && at < len(addrs); at++ {
 		family = FamilyOf(addrs[at])
+	}
+	if family == AF_UNSPEC {
+		family = other
 	}
 	return C.uint8_t(family)
 }
@@ -270,6 +284,16 @@ func (n *named) unsigned(name string, index int) C.uint32_t {
 		n.refused = fmt.Errorf("%w: %s can't be %d", ErrMismatch, name, index)
 	}
 	return C.uint32_t(index)
+}
+
+// weight is the kernel's field of the weight of a next hop.
+func (n *named) weight(weight int) C.uint8_t {
+	hops, fits := hopsOf(weight)
+	if !fits {
+		n.refused = fmt.Errorf("%w: Weight of a next hop must be from 1 to 256, not %d",
+			ErrMismatch, weight)
+	}
+	return C.uint8_t(hops)
 }
 
 // index is the same of one that may not be there.
@@ -313,7 +337,7 @@ func (r AddressRequest) AppendTo(
 		label:         n.text(r.Label),
 		index:         n.unsigned("Index", r.Index),
 		flags:         C.uint32_t(r.Flags),
-		family:        familyOf(AF_UNSPEC, r.Local.Addr()),
+		family:        C.uint8_t(FamilyOf(r.Local.Addr())),
 		prefix_length: C.uint8_t(bitsOf(r.Local)),
 		scope:         C.uint8_t(r.Scope),
 	}
@@ -345,7 +369,7 @@ func (r RouteRequest) AppendTo(
 		hop_count:          C.size_t(len(r.NextHops)),
 		table:              C.uint32_t(r.Table),
 		flags:              C.uint32_t(r.Flags),
-		family:             familyOf(r.Family, r.addrs()...),
+		family:             familyOf(r.Family, AF_INET, r.addrs()...),
 		destination_length: C.uint8_t(bitsOf(r.Dst)),
 		source_length:      C.uint8_t(bitsOf(r.Src)),
 		tos:                C.uint8_t(r.TOS),
@@ -395,7 +419,7 @@ func (n *named) hops(hops []NextHopRequest) *C.struct_rtnlc_next_hop {
 	for at, it := range hops {
 		to := &made[at]
 		to.index = n.signed("Index of a next hop", it.Index)
-		to.flags, to.hops = C.uint8_t(it.Flags), C.uint8_t(it.Hops)
+		to.flags, to.hops = C.uint8_t(it.Flags), n.weight(it.Weight)
 		gateway := it.Gateway.AsSlice() // of 4 bytes, 16 or none
 		to.gateway_len = C.uint8_t(len(gateway))
 		for place, part := range gateway {
@@ -414,7 +438,7 @@ func (r NeighbourRequest) AppendTo(
 		link_address: n.put(r.HardwareAddr),
 		index:        n.signed("Index", r.Index),
 		state:        C.uint16_t(r.State),
-		family:       familyOf(r.Family, r.Addr),
+		family:       familyOf(r.Family, AF_BRIDGE, r.Addr),
 		flags:        C.uint8_t(r.Flags),
 	}
 	if it.has_vlan = r.VLAN != nil; it.has_vlan {
@@ -437,7 +461,7 @@ func (r RuleRequest) AppendTo(
 		oif:                n.text(r.OutName),
 		table:              C.uint32_t(r.Table),
 		invert:             C.bool(r.Invert),
-		family:             familyOf(r.Family, r.From.Addr(), r.To.Addr()),
+		family:             familyOf(r.Family, AF_INET, r.From.Addr(), r.To.Addr()),
 		source_length:      C.uint8_t(bitsOf(r.From)),
 		destination_length: C.uint8_t(bitsOf(r.To)),
 		tos:                C.uint8_t(r.TOS),

@@ -157,8 +157,7 @@ var askingRoutes = []asking{
 		route("10.2.0.0/16", "192.0.2.254", by(10))},
 	{"route add 10.3.0.0/16 dev one", rtnlc.Add, route("10.3.0.0/16", "", on(10))},
 	{"route add default via 192.0.2.254", rtnlc.Add, route("default", "192.0.2.254")},
-	{"route add default dev one metric 50", rtnlc.Add, route("default", "", on(10), metric(50),
-		func(r *rtnlc.RouteRequest) { r.Family = rtnlc.AF_INET })},
+	{"route add default dev one metric 50", rtnlc.Add, route("default", "", on(10), metric(50))},
 	{"route add 10.4.0.0/16 via 192.0.2.254 src 192.0.2.1 metric 100", rtnlc.Add,
 		route("10.4.0.0/16", "192.0.2.254", metric(100),
 			func(r *rtnlc.RouteRequest) { r.PrefSrc = addr("192.0.2.1") })},
@@ -174,12 +173,12 @@ var askingRoutes = []asking{
 			rtnlc.Metric{rtnlc.RTAX_LOCK, 1 << rtnlc.RTAX_MTU}))},
 	{"route add 10.9.0.0/16 nexthop via 192.0.2.254 weight 1 nexthop via 198.51.100.254 weight 10",
 		rtnlc.Add, route("10.9.0.0/16", "",
-			hops(rtnlc.NextHopRequest{Gateway: addr("192.0.2.254")},
-				rtnlc.NextHopRequest{Gateway: addr("198.51.100.254"), Hops: 9}))},
+			hops(rtnlc.NextHopRequest{Gateway: addr("192.0.2.254"), Weight: 1},
+				rtnlc.NextHopRequest{Gateway: addr("198.51.100.254"), Weight: 10}))},
 	{"route add 10.10.0.0/16 nexthop via 192.0.2.254 dev one weight 2 nexthop dev other weight 256",
 		rtnlc.Add, route("10.10.0.0/16", "",
-			hops(rtnlc.NextHopRequest{Gateway: addr("192.0.2.254"), Index: 10, Hops: 1},
-				rtnlc.NextHopRequest{Index: 11, Hops: 255}))},
+			hops(rtnlc.NextHopRequest{Gateway: addr("192.0.2.254"), Index: 10, Weight: 2},
+				rtnlc.NextHopRequest{Index: 11, Weight: 256}))},
 	{"route add 10.11.0.0/16 via 192.0.2.254 dev one onlink", rtnlc.Add,
 		route("10.11.0.0/16", "192.0.2.254", by(10),
 			func(r *rtnlc.RouteRequest) { r.Flags = rtnlc.RTNH_F_ONLINK })},
@@ -218,7 +217,7 @@ var askingRoutes = []asking{
 	{"route add 2001:db8:12::/48 nexthop via 2001:db8::fe weight 1" +
 		" nexthop via 2001:db8:1::fe weight 5", rtnlc.Add, route("2001:db8:12::/48", "",
 		hops(rtnlc.NextHopRequest{Gateway: addr("2001:db8::fe")},
-			rtnlc.NextHopRequest{Gateway: addr("2001:db8:1::fe"), Hops: 4}))},
+			rtnlc.NextHopRequest{Gateway: addr("2001:db8:1::fe"), Weight: 5}))},
 	{"route add 2001:db8:13::/48 dev one mtu 1400 hoplimit 20", rtnlc.Add,
 		route("2001:db8:13::/48", "", by(10),
 			metrics(rtnlc.Metric{rtnlc.RTAX_MTU, 1400}, rtnlc.Metric{rtnlc.RTAX_HOPLIMIT, 20}))},
@@ -263,7 +262,7 @@ var askingNeighbours = []asking{
 		neighbour("192.0.2.23", 0, rtnlc.NUD_PERMANENT, rtnlc.NTF_PROXY)},
 }
 
-// rule is one that leads to a table, of IPv4 where no address says another family.
+// rule is one that leads to a table.
 func rule(from, to string, table uint32, changes ...func(*rtnlc.RuleRequest)) rtnlc.RuleRequest {
 	made := rtnlc.RuleRequest{Table: table, Action: rtnlc.FR_ACT_TO_TBL}
 	if from != "" {
@@ -271,9 +270,6 @@ func rule(from, to string, table uint32, changes ...func(*rtnlc.RuleRequest)) rt
 	}
 	if to != "" {
 		made.To = prefix(to)
-	}
-	if from == "" && to == "" {
-		made.Family = rtnlc.AF_INET
 	}
 	for _, change := range changes {
 		change(&made)

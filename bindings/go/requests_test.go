@@ -73,8 +73,8 @@ func TestRequestsSendWhatIPSends(t *testing.T) {
 
 // entry is one of a bridge.
 func entry(vlan *uint16, state uint16, flags uint8) rtnlc.NeighbourRequest {
-	return rtnlc.NeighbourRequest{Family: rtnlc.AF_BRIDGE, Index: 10, HardwareAddr: hardware(0x30),
-		State: state, Flags: flags, VLAN: vlan}
+	return rtnlc.NeighbourRequest{Index: 10, HardwareAddr: hardware(0x30), State: state,
+		Flags: flags, VLAN: vlan}
 }
 
 // What ip(8) and bridge(8) of iproute2-6.1.0 send besides: numbers that are 0, or at their limits.
@@ -110,7 +110,7 @@ var sendsBesides = []struct {
 	{asking{"route add 10.31.0.0/16 nexthop via 192.0.2.254 dev one onlink nexthop" +
 		" via 198.51.100.254 dev other weight 3", rtnlc.Add, route("10.31.0.0/16", "", hops(
 		rtnlc.NextHopRequest{Index: 10, Flags: rtnlc.RTNH_F_ONLINK, Gateway: addr("192.0.2.254")},
-		rtnlc.NextHopRequest{Index: 11, Hops: 2, Gateway: addr("198.51.100.254")}))},
+		rtnlc.NextHopRequest{Index: 11, Weight: 3, Gateway: addr("198.51.100.254")}))},
 		`4800000018000506000000000000000002100000fe03000100000000 080001000a1f0000
 		24000900 100004000a000000 08000500c00002fe 100000020b000000 08000500c63364fe`},
 	{asking{"bridge fdb add 02:00:00:00:00:30 dev one", rtnlc.Add,
@@ -162,8 +162,13 @@ func TestRequestsSendWhatElseIPSends(t *testing.T) {
 	}
 }
 
-// The heads of requests in which nothing is said: of a link, and of a route, a neighbour or a rule.
-var noLink, noRoute = make([]byte, 16), make([]byte, 12)
+// The heads of requests in which nothing is said: of a link; of a route or a rule, which then are
+// of IPv4; and of a neighbour, which is an entry of a bridge.
+var (
+	noLink      = make([]byte, 16)
+	noRoute     = append([]byte{rtnlc.AF_INET}, make([]byte, 11)...)
+	noNeighbour = append([]byte{rtnlc.AF_BRIDGE}, make([]byte, 11)...)
+)
 
 // What is there and 0, or false, is put, unlike what is not there: in the head, or in an attribute
 // behind it.
@@ -189,9 +194,9 @@ var zeros = []struct {
 		joined(noRoute, attr(rtnlc.RTA_OIF, uint32(0)))},
 	{"no metric, no next hop", rtnlc.RouteRequest{Metrics: []rtnlc.Metric{},
 		NextHops: []rtnlc.NextHopRequest{}}, noRoute},
-	{"no field of a neighbour", rtnlc.NeighbourRequest{}, noRoute},
+	{"no field of a neighbour", rtnlc.NeighbourRequest{}, noNeighbour},
 	{"VLAN", rtnlc.NeighbourRequest{VLAN: new(uint16)},
-		joined(noRoute, attr(rtnlc.NDA_VLAN, uint16(0)))},
+		joined(noNeighbour, attr(rtnlc.NDA_VLAN, uint16(0)))},
 	{"no field of a rule", rtnlc.RuleRequest{}, noRoute},
 	{"mark", rtnlc.RuleRequest{Mark: some(0)}, joined(noRoute, attr(rtnlc.FRA_FWMARK, uint32(0)))},
 	{"mask", rtnlc.RuleRequest{Mask: some(0)}, joined(noRoute, attr(rtnlc.FRA_FWMASK, uint32(0)))},
@@ -232,7 +237,7 @@ func TestRequestsIndexes(t *testing.T) {
 		{"next hop", rtnlc.RouteRequest{NextHops: []rtnlc.NextHopRequest{{Index: least}}},
 			joined(noRoute, attr(rtnlc.RTA_MULTIPATH, hop(0, 0, first)))},
 		{"neighbour", rtnlc.NeighbourRequest{Index: least},
-			joined(uint32(0), first, uint32(0))},
+			joined(uint32(rtnlc.AF_BRIDGE), first, uint32(0))},
 	} {
 		equal(t, it.name, put(it.request, rtnlc.Set)[32:], hex.EncodeToString(it.expected))
 	}
@@ -262,9 +267,8 @@ func TestRequestsInBigEndian(t *testing.T) {
 		{entry(rtnlc.PointerTo(uint16(5)), rtnlc.NUD_PERMANENT, rtnlc.NTF_SELF),
 			`00000030 001c 0605 11121314 00000000 07000000 0000000a 00800200
 			000a0002 020000000030 0000 00060005 00050000`},
-		{rtnlc.RuleRequest{Family: rtnlc.AF_INET, Table: 1000, Action: 1, Invert: true,
-			Mark: some(1), Mask: some(2), Target: some(3), SuppressPrefixLen: some(4),
-			Priority: some(5)},
+		{rtnlc.RuleRequest{Table: 1000, Action: 1, Invert: true, Mark: some(1), Mask: some(2),
+			Target: some(3), SuppressPrefixLen: some(4), Priority: some(5)},
 			`0000004c 0020 0605 11121314 00000000 02000000 00000001 00000002 0008000a 00000001
 			00080010 00000002 0008000f 000003e8 00080004 00000003 0008000e 00000004
 			00080006 00000005`},
@@ -275,7 +279,8 @@ func TestRequestsInBigEndian(t *testing.T) {
 	}
 }
 
-// An address family that is not said is that of the first address; an address has no zone.
+// An address family that is not said is that of the first address, or AF_INET, and AF_BRIDGE of a
+// neighbour; an address has no zone.
 func TestRequestsFamilies(t *testing.T) {
 	local, other := addr("fe80::1%one"), addr("192.0.2.1")
 	for _, it := range []struct {
@@ -293,10 +298,21 @@ func TestRequestsFamilies(t *testing.T) {
 		{"next hop", rtnlc.RouteRequest{NextHops: []rtnlc.NextHopRequest{{}, {Gateway: other}}},
 			joined(uint32(rtnlc.AF_INET), make([]byte, 8), attr(rtnlc.RTA_MULTIPATH, hop(0, 0, 0),
 				hop(0, 0, 0, attr(rtnlc.RTA_GATEWAY, other.AsSlice()))))},
+		{"no address", rtnlc.RouteRequest{NextHops: []rtnlc.NextHopRequest{{}}},
+			joined(noRoute, attr(rtnlc.RTA_MULTIPATH, hop(0, 0, 0)))},
+		{"said", rtnlc.RouteRequest{Family: rtnlc.AF_INET6}, joined(uint32(rtnlc.AF_INET6),
+			make([]byte, 8))},
 		{"another", rtnlc.RouteRequest{Family: 99, Dst: prefix("0.0.0.0/0")},
 			joined(uint32(99), make([]byte, 8), attr(rtnlc.RTA_DST, uint32(0)))},
 		{"neighbour", rtnlc.NeighbourRequest{Addr: local},
 			joined(uint32(rtnlc.AF_INET6), make([]byte, 8), attr(rtnlc.NDA_DST, local.AsSlice()))},
+		{"no neighbour", rtnlc.NeighbourRequest{Family: rtnlc.AF_UNSPEC}, noNeighbour},
+		{"entry with an address", rtnlc.NeighbourRequest{Family: rtnlc.AF_BRIDGE, Addr: local},
+			joined(uint32(rtnlc.AF_BRIDGE), make([]byte, 8),
+				attr(rtnlc.NDA_DST, local.AsSlice()))},
+		{"no rule", rtnlc.RuleRequest{Family: rtnlc.AF_UNSPEC}, noRoute},
+		{"rule of IPv6", rtnlc.RuleRequest{Family: rtnlc.AF_INET6},
+			joined(uint32(rtnlc.AF_INET6), make([]byte, 8))},
 		{"rule", rtnlc.RuleRequest{To: netip.PrefixFrom(local, 10)},
 			joined(uint16(10<<8|rtnlc.AF_INET6), make([]byte, 10),
 				attr(rtnlc.FRA_DST, local.AsSlice()))},
@@ -400,6 +416,10 @@ var refusals = []struct {
 		"rtnlc: mismatch: OutIndex can't be 4294967296"},
 	{rtnlc.Add, route("10.0.0.0/8", "", hops(rtnlc.NextHopRequest{Index: 1 << 31})),
 		rtnlc.ErrMismatch, "rtnlc: mismatch: Index of a next hop can't be 2147483648"},
+	{rtnlc.Add, route("10.0.0.0/8", "", hops(rtnlc.NextHopRequest{Weight: 257})),
+		rtnlc.ErrMismatch, "rtnlc: mismatch: Weight of a next hop must be from 1 to 256, not 257"},
+	{rtnlc.Add, route("10.0.0.0/8", "", hops(rtnlc.NextHopRequest{Weight: -1})),
+		rtnlc.ErrMismatch, "rtnlc: mismatch: Weight of a next hop must be from 1 to 256, not -1"},
 	{rtnlc.Add, rtnlc.NeighbourRequest{Index: 1 << 31}, rtnlc.ErrMismatch,
 		"rtnlc: mismatch: Index can't be 2147483648"},
 	{rtnlc.Set, rtnlc.LinkRequest{Name: string(tooLong[:65531])}, rtnlc.ErrTooLong,

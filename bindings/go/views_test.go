@@ -40,7 +40,7 @@ func routeTexts(m rtnlc.Message) []string {
 	}
 	for hops := r.NextHops(); hops.Next(); {
 		h := hops.NextHop()
-		texts = append(texts, told(h.Flags(), true), told(h.Hops(), true), told(h.Index(), true),
+		texts = append(texts, told(h.Flags(), true), told(h.Weight(), true), told(h.Index(), true),
 			told(h.Gateway()))
 	}
 	return texts
@@ -140,7 +140,7 @@ var rows = []struct {
 		hop(4, 0, 0xffffffff, attr(22|nested, attr(5, "\x0a\x00\x00\x02")), attr(18, uint16(2),
 			"\x0a\x00\x00\x03")), hop(1, 0, 5))),
 		"2 4 254 3 0 1 4 false none none none none none none" +
-			" 0 1 3 10.0.0.1 4 0 -1 10.0.0.3 1 0 5 none"},
+			" 0 2 3 10.0.0.1 4 1 -1 10.0.0.3 1 1 5 none"},
 
 	{"neighbour", "all that it can have", message(28, neighbourHead, attr(1, "\x0a\x00\x00\x01"),
 		attr(2, ether)), "2 7 128 2 1 10.0.0.1 02:fc:00:00:00:0a"},
@@ -230,7 +230,7 @@ func TestZeroValues(t *testing.T) {
 	attrs, hops := m.Attrs(), a.NextHops()
 	equal(t, "next", attrs.Next() || hops.Next(), false)
 	var h rtnlc.NextHop
-	equal(t, "next hop", h.Index()+int(h.Flags())+int(h.Hops()), 0)
+	equal(t, "next hop", h.Index()+int(h.Flags())+h.Weight(), 1)
 	_, found := h.Gateway()
 	equal(t, "gateway", found, false)
 }

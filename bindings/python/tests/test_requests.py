@@ -33,7 +33,7 @@ from rtnl.constants import *
 from shared import attr, message
 
 LITTLE, BIG = Limits(big=False), Limits(big=True)
-INET, BRIDGE, INET6 = 2, 7, 10
+UNSPEC, INET, BRIDGE, INET6 = 0, 2, 7, 10
 ADD, REPLACE, CHANGE = Operation.ADD, Operation.REPLACE, Operation.CHANGE
 APPEND, PREPEND = Operation.APPEND, Operation.PREPEND
 SET, DELETE = Operation.SET, Operation.DELETE
@@ -97,7 +97,7 @@ ADDRESSES: Rows = {
         ADD,
     ),
     "address add 192.0.2.13 peer 203.0.113.1/32 dev one": (
-        at("192.0.2.13", peer=ip_address("203.0.113.1")),
+        at("192.0.2.13/24", peer=ip_interface("203.0.113.1/32")),
         ADD,
     ),
     "address add 192.0.2.14/24 dev one label one:14": (at("192.0.2.14/24", label="one:14"), ADD),
@@ -117,7 +117,7 @@ ADDRESSES: Rows = {
     "address add 2001:db8::10/64 dev one": (at("2001:db8::10/64"), ADD),
     "address add 2001:db8::11/64 dev one nodad": (at("2001:db8::11/64", flags=2), ADD),
     "address add 2001:db8::12 peer 2001:db8:2::1/128 dev one": (
-        at("2001:db8::12", peer=ip_address("2001:db8:2::1")),
+        at("2001:db8::12/64", peer=Prefix(ip_address("2001:db8:2::1"), 128)),
         ADD,
     ),
     "address replace 192.0.2.10/24 dev one": (at("192.0.2.10/24"), REPLACE),
@@ -326,6 +326,16 @@ class Built(unittest.TestCase):
             for words, (request, operation) in rows.items():
                 self.assertEqual(request.packed(operation, 0, LITTLE).hex(), sent[words], words)
 
+    def test_what_bridge_sends(self) -> None:
+        """bridge fdb add 02:00:00:00:00:30 dev one master static vlan 5"""
+        state = NUD_NOARP | NUD_REACHABLE
+        entry = NeighbourRequest(None, ONE, mac(0x30), state, NTF_MASTER, vlan=5)
+        wanted = (
+            "300000001c0005060000000000000000 070000000a00000042000400"
+            "0a0002000200000000300000 0600050005000000"
+        )
+        self.assertEqual(entry.packed(ADD, 0, LITTLE), bytes.fromhex(wanted))
+
     def test_each_field_is_in_a_row(self) -> None:
         """Each field is another than it is by default in a row of ip(8), but for those below."""
         rest = {
@@ -441,6 +451,7 @@ BY_HAND: List[Tuple[Request, bytes]] = [
     (RouteRequest(), route(INET)),
     (RouteRequest(priority=0), route(INET, number(RTA_PRIORITY))),
     (RouteRequest(index=0), route(INET, number(RTA_OIF))),
+    (RouteRequest(family=UNSPEC), route(INET)),
     (RouteRequest(family=INET6), route(INET6)),
     (RouteRequest(ip_network("::/0")), route(INET6, attr(RTA_DST, bytes(16)))),
     (
@@ -467,6 +478,11 @@ BY_HAND: List[Tuple[Request, bytes]] = [
     ),
     (RouteRequest(metrics={RTAX_MTU: 0}), route(INET, attr(RTA_METRICS, number(RTAX_MTU)))),
     (NeighbourRequest(), neighbour(BRIDGE)),
+    (NeighbourRequest(family=UNSPEC), neighbour(BRIDGE)),
+    (
+        NeighbourRequest(IPv6Address(0), family=UNSPEC),
+        neighbour(INET6, attr(NDA_DST, bytes(16))),
+    ),
     (NeighbourRequest(vlan=0), neighbour(BRIDGE, attr(NDA_VLAN, bytes(2)))),
     (NeighbourRequest(vlan=0x123), neighbour(BRIDGE, attr(NDA_VLAN, b"\x23\1"))),
     (
@@ -474,6 +490,7 @@ BY_HAND: List[Tuple[Request, bytes]] = [
         neighbour(BRIDGE, attr(NDA_DST, bytes(4))),
     ),
     (RuleRequest(), rule(INET)),
+    (RuleRequest(family=UNSPEC), rule(INET)),
     (RuleRequest(family=INET6), rule(INET6)),
     (RuleRequest(mark=0), rule(INET, number(FRA_FWMARK))),
     (RuleRequest(mask=0), rule(INET, number(FRA_FWMASK))),
@@ -564,7 +581,7 @@ class Refused(unittest.TestCase):
             ("gateway", RouteRequest(hops=[NextHopRequest(long)])),
             ("preferred_source", RouteRequest(preferred_source=long)),
             ("destination", RouteRequest(Prefix(long, 8))),
-            ("peer", at("192.0.2.1/24", peer=long)),
+            ("peer", at("192.0.2.1/24", peer=Prefix(long, 8))),
             ("broadcast", at("192.0.2.1/24", broadcast=long)),
             ("address", NeighbourRequest(long)),
             ("source", RuleRequest(Prefix(long, 8))),
@@ -573,7 +590,8 @@ class Refused(unittest.TestCase):
             with self.assertRaisesRegex(TypeError, f"^{name} must be an IPv4Address or an IPv6"):
                 request.packed(ADD)
         plain: Any = VIA
-        for request in (RouteRequest(plain), RuleRequest(plain), AddressRequest(plain, ONE)):
+        whole = [RouteRequest(plain), RuleRequest(plain), AddressRequest(plain, ONE)]
+        for request in (*whole, at("192.0.2.1/24", peer=plain)):
             with self.assertRaisesRegex(TypeError, "no address with a length"):
                 request.packed(ADD)
 
@@ -586,6 +604,7 @@ class Refused(unittest.TestCase):
             ("link", LinkRequest(link=1 << 32)),
             ("index", AddressRequest(ip_interface("::1"), 1 << 32)),
             ("prefix_length", AddressRequest(Prefix(VIA, 256), 1)),
+            ("prefix_length", at("192.0.2.1/24", peer=Prefix(VIA, 256))),
             ("scope", at("::1", scope=256)),
             ("flags", at("::1", flags=1 << 32)),
             ("valid", at("::1", lifetimes=Lifetimes(valid=1 << 32))),

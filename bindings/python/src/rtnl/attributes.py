@@ -252,7 +252,8 @@ class NextHop:
 
     @property
     def weight(self) -> int:
-        """Its share of the packets: one more than `rtnh_hops`."""
+        """Its share of the packets, from 1 to 256. The kernel's field, `rtnh_hops`, has one
+        less."""
         found: int = self._fields[2]
         return found + 1
 

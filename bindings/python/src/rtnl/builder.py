@@ -16,6 +16,13 @@ from .values import FAMILIES, IPAddress
 MOST_WEIGHT = 256
 
 
+def hops_of(weight: int) -> int:
+    """What the kernel's field has of the weight of a next hop."""
+    if not 1 <= weight <= MOST_WEIGHT:
+        raise ValueError(f"weight must be from 1 to {MOST_WEIGHT}, not {weight}")
+    return weight - 1
+
+
 def require(code: int) -> None:
     """Raises an Error where the code isn't OK. What is built has no place in a datagram."""
     if code:
@@ -91,14 +98,13 @@ class Builder:
         require(LIBRARY.rtnlc_builder_open(self._pointer, number))
 
     def open_hop(self, index: int = 0, weight: int = 1, flags: int = 0) -> None:
-        """Opens a next hop in RTA_MULTIPATH, whose weight is from 1 to 256; attributes of routes
-        stand in it. `hop` also closes it. An Error has the code NOTHING_OPEN; MISMATCH where no
-        next hops stand; NO_ROOM; or TOO_LARGE."""
+        """Opens a next hop in RTA_MULTIPATH; attributes of routes stand in it. Its weight is that
+        of ip(8), from 1 to 256: the kernel's field, `rtnh_hops`, has one less. `hop` also closes
+        it. An Error has the code NOTHING_OPEN; MISMATCH where no next hops stand; NO_ROOM; or
+        TOO_LARGE."""
         within(31, index=index)
         within(8, flags=flags)
-        if not 1 <= weight <= MOST_WEIGHT:
-            raise ValueError(f"weight must be from 1 to {MOST_WEIGHT}, not {weight}")
-        require(LIBRARY.rtnlc_builder_open_hop(self._pointer, flags, weight - 1, index))
+        require(LIBRARY.rtnlc_builder_open_hop(self._pointer, flags, hops_of(weight), index))
 
     def close(self) -> None:
         """Closes the attribute or the next hop that was opened last. It needs no room. An Error

@@ -10,7 +10,7 @@ from typing import Any, ClassVar, Mapping, NamedTuple, Optional, Sequence, Tuple
 from . import _structs
 from ._buffers import Readable, within
 from ._library import LIBRARY
-from .builder import MOST_WEIGHT, require
+from .builder import hops_of, require
 from .errors import Code
 from .head import PrefixLike, address_and_length
 from .limits import STANDARD, Limits
@@ -52,7 +52,7 @@ class Request:
     '2c000000 1000050001000000 0000000000000000 0000000001000000 0100000009000300 6574683000000000'
 
     What is None is not put, and neither is a text, nor bytes, of length 0. Numbers are put as they
-    are: 0 is a number, as that of a `master`.
+    are: 0 is a number, as that of a `master`. A `family` that is 0 is none that is said.
     """
 
     _call: ClassVar[Any]
@@ -141,11 +141,12 @@ class AddressRequest(Request):
 
     local: PrefixLike
     """IFA_LOCAL: the link's own address, as of an ip_interface(), and the length of its network's
-    prefix; where there is a peer the length is that of the peer's."""
+    prefix."""
     index: int
     """The index of its link."""
-    peer: Optional[IPAddress] = None
-    """IFA_ADDRESS: that of the other end of a point-to-point link; None puts the own one."""
+    peer: Optional[PrefixLike] = None
+    """IFA_ADDRESS: that of the other end of a point-to-point link, whose length counts then, and
+    not that of `local`; None puts the own one."""
     broadcast: Optional[IPAddress] = None
     """IFA_BROADCAST."""
     label: Optional[str] = None
@@ -159,9 +160,12 @@ class AddressRequest(Request):
 
     def _made(self) -> ctypes.Structure:
         address, length = address_and_length(self.local)
+        peer = None
+        if self.peer is not None:
+            peer, length = address_and_length(self.peer)
         made = _structs.AddrRequest(
             local=_address("local", address),
-            peer=_address("peer", self.peer),
+            peer=_address("peer", peer),
             broadcast=_address("broadcast", self.broadcast),
             label=_text(self.label),
             has_lifetimes=self.lifetimes is not None,
@@ -184,15 +188,14 @@ class NextHopRequest:
     index: int = 0
     """The index of the link that packets leave by; 0 for none."""
     weight: int = 1
-    """How often it is taken, beside the others: from 1 to 256."""
+    """Its share of the packets beside the others, as `weight` of ip(8): from 1 to 256. The
+    kernel's field, `rtnh_hops`, has one less."""
     flags: int = 0
     """The bits RTNH_F_*."""
 
     def _made(self) -> _structs.NextHop:
-        if not 1 <= self.weight <= MOST_WEIGHT:
-            raise ValueError(f"weight must be from 1 to {MOST_WEIGHT}, not {self.weight}")
         packed = _packed("gateway", self.gateway) or b""
-        made = _structs.NextHop(hops=self.weight - 1, gateway_len=len(packed))
+        made = _structs.NextHop(hops=hops_of(self.weight), gateway_len=len(packed))
         made.gateway[: len(packed)] = packed
         _put(made, 31, index=self.index)
         _put(made, 8, flags=self.flags)
@@ -239,7 +242,9 @@ class RouteRequest(Request):
     hops: Sequence[NextHopRequest] = ()
     """RTA_MULTIPATH: several next hops in the place of one; not put where it is empty."""
     family: Optional[int] = None
-    """AF_INET or AF_INET6; None is that of its first address, and AF_INET where it has none."""
+    """As AF_INET6. None, as AF_UNSPEC, is that of its first address: of the destination, the
+    source, the gateway, the preferred source and the gateways of the hops; and AF_INET where it
+    has none, as by ip(8)."""
 
     def _made(self) -> ctypes.Structure:
         destination, destination_length = _prefix(self.destination)
@@ -290,8 +295,8 @@ class NeighbourRequest(Request):
     vlan: Optional[int] = None
     """NDA_VLAN, of an entry of a bridge."""
     family: Optional[int] = None
-    """AF_INET, AF_INET6 or AF_BRIDGE; None is that of its address, and AF_BRIDGE where it has
-    none."""
+    """As AF_BRIDGE of an entry of a bridge. None, as AF_UNSPEC, is that of its address, and
+    AF_BRIDGE where it has none."""
 
     def _made(self) -> ctypes.Structure:
         made = _structs.NeighRequest(
@@ -343,7 +348,8 @@ class RuleRequest(Request):
     tos: int = 0
     """The type of service that it is for."""
     family: Optional[int] = None
-    """AF_INET or AF_INET6; None is that of its first address, and AF_INET where it has none."""
+    """As AF_INET6. None, as AF_UNSPEC, is that of the source, or else that of the destination, and
+    AF_INET where it has neither, as by ip(8)."""
 
     def _made(self) -> ctypes.Structure:
         source, source_length = _prefix(self.source)
@@ -395,8 +401,9 @@ def _prefix(prefix: Optional[PrefixLike]) -> Tuple[Optional[IPAddress], int]:
 
 
 def _family(family: Optional[int], other: int, *addresses: Optional[IPAddress]) -> int:
-    """The family that is said, or else that of the first address, or another one."""
-    if family is not None:
+    """The family that is said, or else that of the first address, or another one: the kernel
+    refuses a request of AF_UNSPEC."""
+    if family is not None and family != socket.AF_UNSPEC:
         return family
     return next((FAMILIES[it.version] for it in addresses if it is not None), other)
 

@@ -79,16 +79,13 @@ fn link(operation: Operation, mut words: Words<'_>) -> Option<Vec<u8>> {
 fn address(operation: Operation, mut words: Words<'_>) -> Option<Vec<u8>> {
     let mut it = AddressRequest::of(prefix(words.next())?, 0);
     let (mut valid, mut preferred) = (None, None);
-    if it.local == IpAddr::from([127, 0, 0, 2]) {
+    if it.local.address == IpAddr::from([127, 0, 0, 2]) {
         it.scope = RT_SCOPE_HOST;
     }
     while let Some(word) = words.next() {
         match word {
             "dev" => it.index = index(words.next())?,
-            "peer" => {
-                let peer = prefix(words.next())?;
-                (it.peer, it.prefix_len) = (Some(peer.address), peer.len);
-            }
+            "peer" => it.peer = Some(prefix(words.next())?),
             // One that ip computes, of `+`, stands in another place.
             "broadcast" => it.broadcast = Some(read(words.next())?),
             "label" => it.label = words.next().map(str::as_ref),
@@ -104,7 +101,11 @@ fn address(operation: Operation, mut words: Words<'_>) -> Option<Vec<u8>> {
     Some(it.put(operation, 0, Order::Little, &mut [0xaa; 256]).unwrap().to_vec())
 }
 
-/// The front of a route: its type and its destination.
+fn is_ipv6(route: &RouteRequest<'_>) -> bool {
+    route.destination.map_or(false, |it| it.address.is_ipv6())
+}
+
+/// The front of a route: its type and its destination. No family is said.
 fn route_to(operation: Operation, words: &mut Words<'_>) -> RouteRequest<'static> {
     let mut it = RouteRequest { table: RT_TABLE_MAIN, ..RouteRequest::default() };
     let mut word = words.next();
@@ -115,10 +116,8 @@ fn route_to(operation: Operation, words: &mut Words<'_>) -> RouteRequest<'static
         word = words.next();
     }
     it.destination = prefix(word);
-    let is_ipv6 = it.destination.map_or(false, |it| it.address.is_ipv6());
-    it.address_family = if is_ipv6 { AF_INET6 } else { AF_INET };
     if operation == Operation::Delete {
-        it.scope = if is_ipv6 { RT_SCOPE_UNIVERSE } else { RT_SCOPE_NOWHERE };
+        it.scope = if is_ipv6(&it) { RT_SCOPE_UNIVERSE } else { RT_SCOPE_NOWHERE };
         return it;
     }
     (it.protocol, it.route_type) = (RTPROT_BOOT, numbers[named.unwrap_or(0)]);
@@ -136,11 +135,11 @@ fn hop(words: &str) -> Option<NextHopRequest> {
         match word {
             "via" => gateway = Some(read(words.next())?),
             "dev" => head.index = index(words.next())?,
-            "weight" => head.hops = (read::<u16>(words.next())? - 1) as u8,
+            "weight" => head.weight = read(words.next())?,
             _ => return None,
         }
     }
-    Some(NextHopRequest::new(head, gateway))
+    NextHopRequest::new(head, gateway).ok()
 }
 
 /// A metric; with `lock` in front of it also the bit of its number.
@@ -186,7 +185,7 @@ fn route(operation: Operation, command: &str) -> Option<Vec<u8>> {
             _ => return None,
         }
     }
-    let is_near = it.address_family == AF_INET && it.route_type == RTN_UNICAST;
+    let is_near = !is_ipv6(&it) && it.route_type == RTN_UNICAST;
     if is_near && it.gateway.is_none() && hops.is_empty() {
         it.scope = RT_SCOPE_LINK;
     }
@@ -254,7 +253,7 @@ fn rule(operation: Operation, address_family: u8, mut words: Words<'_>) -> Optio
 /// The request for a command; none where it has a word that the requests have no field for.
 fn request(command: &str) -> Option<Vec<u8>> {
     let (family, command) =
-        command.strip_prefix("-6 ").map_or((AF_INET, command), |it| (AF_INET6, it));
+        command.strip_prefix("-6 ").map_or((AF_UNSPEC, command), |it| (AF_INET6, it));
     let mut parts = command.splitn(3, ' ');
     let (object, verb, rest) = (parts.next()?, parts.next()?, parts.next()?);
     let operation = match verb {

@@ -131,10 +131,10 @@ fn routes_are_as_ip_sends_them() {
 fn put_two_ways(it: &mut Builder<'_>) -> Built {
     it.put_address(RTA_DST, Ipv4Addr::new(10, 10, 0, 0))?;
     it.list(RTA_MULTIPATH, |hops| {
-        hops.next_hop(&NextHopHead { flags: 0, hops: 1, index: 10 }, |hop| {
+        hops.next_hop(&NextHopHead { flags: 0, weight: 2, index: 10 }, |hop| {
             hop.put_address(RTA_GATEWAY, GATEWAY)
         })?;
-        hops.next_hop(&NextHopHead { flags: 0, hops: 255, index: 11 }, |_| Ok(()))
+        hops.next_hop(&NextHopHead { flags: 0, weight: 256, index: 11 }, |_| Ok(()))
     })
 }
 
@@ -391,6 +391,19 @@ fn refusals_have_names_and_stick() {
     assert_refused(&LITTLE, BuildError::Mismatch, |it| it.put_u8(99 | NLA_F_NESTED, 1));
     assert_refused(&LITTLE, BuildError::Mismatch, |it| it.open(RTA_DST));
     assert_refused(&LITTLE, BuildError::Mismatch, |it| it.open_next_hop(&hop));
+    for weight in [0, 257, u16::MAX] {
+        assert_refused(&LITTLE, BuildError::Mismatch, |it| {
+            it.open(RTA_MULTIPATH)?;
+            let refused = it.open_next_hop(&NextHopHead { weight, ..hop });
+            assert_eq!(refused, Err(BuildError::Mismatch));
+            it.open_next_hop(&hop) // Which alone would be taken.
+        });
+    }
+    // The refusal before it sticks.
+    assert_refused(&LITTLE, BuildError::StillOpen, |it| {
+        assert_eq!(it.begin(&header(RTM_NEWROUTE, 0), &RouteHead::default()).ok(), None);
+        it.open_next_hop(&NextHopHead { weight: 0, ..hop })
+    });
     assert_refused(&LITTLE, BuildError::Mismatch, |it| {
         it.list(RTA_MULTIPATH, |hops| hops.put_u32(RTA_OIF, 1))
     });

@@ -86,19 +86,19 @@ fn whole_link() -> LinkRequest<'static> {
 
 fn whole_address() -> AddressRequest<'static> {
     AddressRequest {
-        peer: Some(ip("192.0.2.2")),
+        peer: Some(prefix("192.0.2.2", 24)),
         broadcast: Some(ip("192.0.2.255")),
         label: text("a:1"),
         flags: 0x204,
         scope: RT_SCOPE_LINK,
         lifetimes: Some(Lifetimes { preferred: 30, valid: 60 }),
-        ..AddressRequest::of(prefix("192.0.2.1", 24), 0xa0b_0c0d)
+        ..AddressRequest::of(prefix("192.0.2.1", 32), 0xa0b_0c0d)
     }
 }
 
 /// With one metric, and with one next hop to a gateway of the other family.
 fn with_whole_route<T>(run: impl FnOnce(&RouteRequest<'_>) -> T) -> T {
-    let head = NextHopHead { flags: 4, hops: 9, index: 0x8000_0002 };
+    let head = NextHopHead { flags: 4, weight: 10, index: 0x8000_0002 };
     run(&RouteRequest {
         source: Some(prefix("10.2.0.0", 15)),
         type_of_service: 0x10,
@@ -112,7 +112,7 @@ fn with_whole_route<T>(run: impl FnOnce(&RouteRequest<'_>) -> T) -> T {
         priority: Some(100),
         out_interface: Some(0x8000_0001),
         metrics: &[Metric { number: RTAX_MTU, value: 1_400 }],
-        next_hops: &[NextHopRequest::new(head, Some(ip("2001:db8::1")))],
+        next_hops: &[NextHopRequest::new(head, Some(ip("2001:db8::1"))).unwrap()],
         ..RouteRequest::to(prefix("10.1.0.0", 16))
     })
 }
@@ -179,11 +179,28 @@ fn every_field_has_its_place_and_its_order() {
 
 #[test]
 fn next_hops_are_what_they_were_made_of() {
-    let head = NextHopHead { flags: 1, hops: 2, index: u32::MAX };
+    let head = NextHopHead { flags: 1, weight: 3, index: u32::MAX };
     for gateway in [None, Some(ip("192.0.2.254")), Some(ip("2001:db8::fe"))] {
-        let hop = NextHopRequest::new(head, gateway);
+        let hop = NextHopRequest::new(head, gateway).unwrap();
         assert_eq!((hop.head(), hop.gateway()), (head, gateway));
         assert!(format!("{hop:?}").contains("index: 4294967295"));
+    }
+    assert_eq!(NextHopRequest::new(NextHopHead::default(), None), Ok(NextHopRequest::default()));
+}
+
+#[test]
+fn weights_are_from_1_to_256() {
+    let of = |weight| NextHopRequest::new(NextHopHead { weight, ..NextHopHead::default() }, None);
+    // The fourth byte of struct rtnexthop is rtnh_hops: `weight` of ip(8) less one.
+    for (weight, hops) in [(1, "00"), (2, "01"), (10, "09"), (255, "fe"), (256, "ff")] {
+        let hop = of(weight).unwrap();
+        assert_eq!(hop.head().weight, weight);
+        let route = RouteRequest { next_hops: &[hop], ..RouteRequest::default() };
+        assert_eq!(attributes(&route), format!("0c000900080000{hops}00000000"));
+    }
+    assert_eq!(NextHopHead::default().weight, 1);
+    for weight in [0, 257, 512, u16::MAX] {
+        assert_eq!(of(weight), Err(BuildError::Mismatch));
     }
 }
 
@@ -271,7 +288,8 @@ fn family<P: Puts>(request: &P) -> u8 {
 fn a_family_that_is_not_said_is_that_of_the_first_address() {
     let (v4, v6) = (Some(ip("192.0.2.1")), Some(ip("2001:db8::1")));
     let (net4, net6) = (Some(prefix("10.0.0.0", 8)), Some(prefix("2001:db8::", 32)));
-    let hops = [NextHopRequest::default(), NextHopRequest::new(NextHopHead::default(), v6)];
+    let of_v6 = NextHopRequest::new(NextHopHead::default(), v6).unwrap();
+    let hops = [NextHopRequest::default(), of_v6];
     // In each of these an address more stands before those of the one above.
     let none = RouteRequest::default();
     let of_hop = RouteRequest { next_hops: &hops, ..none };
@@ -281,20 +299,37 @@ fn a_family_that_is_not_said_is_that_of_the_first_address() {
     let of_destination = RouteRequest { destination: net6, ..of_source };
     let said = RouteRequest { address_family: 99, ..of_destination };
     let routes = [none, of_hop, of_preferred, of_gateway, of_source, of_destination, said];
-    let wanted = [AF_UNSPEC, AF_INET6, AF_INET, AF_INET6, AF_INET, AF_INET6, 99];
+    let wanted = [AF_INET, AF_INET6, AF_INET, AF_INET6, AF_INET, AF_INET6, 99];
     assert_eq!(routes.map(|it| family(&it)), wanted);
 
     let none = RuleRequest::default();
     let of_to = RuleRequest { to: net4, ..none };
     let of_from = RuleRequest { from: net6, ..of_to };
     let said = RuleRequest { address_family: AF_INET, ..of_from };
-    let wanted = [AF_UNSPEC, AF_INET, AF_INET6, AF_INET];
+    let wanted = [AF_INET, AF_INET, AF_INET6, AF_INET];
     assert_eq!([none, of_to, of_from, said].map(|it| family(&it)), wanted);
 
     let none = NeighbourRequest::default();
     let of_address = NeighbourRequest { address: v6, ..none };
     let said = NeighbourRequest { address_family: AF_BRIDGE, ..of_address };
-    assert_eq!([none, of_address, said].map(|it| family(&it)), [AF_UNSPEC, AF_INET6, AF_BRIDGE]);
+    assert_eq!([none, of_address, said].map(|it| family(&it)), [AF_BRIDGE, AF_INET6, AF_BRIDGE]);
+}
+
+#[test]
+fn an_entry_without_an_address_is_a_bridges() {
+    // bridge fdb add 02:00:00:00:00:30 dev one master static vlan 5
+    let entry = NeighbourRequest {
+        index: 10,
+        state: NUD_NOARP | NUD_REACHABLE,
+        flags: NTF_MASTER,
+        link_layer_address: HardwareAddress::new(&[2, 0, 0, 0, 0, 0x30]),
+        vlan: Some(5),
+        ..NeighbourRequest::default()
+    };
+    let expected = "300000001c0005060000000000000000070000000a00000042000400\
+                    0a00020002000000003000000600050005000000";
+    let put = hex(entry.put(Operation::Add, 0, Order::Little, &mut [0xaa; 64]).unwrap());
+    assert_eq!(put, expected);
 }
 
 // ---- What is refused ----

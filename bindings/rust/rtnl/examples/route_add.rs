@@ -59,7 +59,7 @@ fn hop_of(words: &[String]) -> source::Result<NextHopRequest> {
         [via, gateway, dev, name] if via == "via" && dev == "dev" => {
             let gateway = gateway.parse().unwrap_or_else(|_| misused(USAGE));
             let head = NextHopHead { index: index_of(name)?, ..NextHopHead::default() };
-            Ok(NextHopRequest::new(head, Some(gateway)))
+            Ok(NextHopRequest::new(head, Some(gateway))?)
         }
         _ => misused(USAGE),
     }

@@ -360,7 +360,7 @@ impl<'a> NextHop<'a> {
         self.head[2]
     }
 
-    /// Its weight: one more than `rtnh_hops`.
+    /// Its share of the packets, from 1 to 256: the kernel's field, `rtnh_hops`, has one less.
     pub fn weight(&self) -> u16 {
         u16::from(self.head[3]) + 1
     }

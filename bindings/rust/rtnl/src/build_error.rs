@@ -11,8 +11,9 @@ use std::fmt;
 pub enum BuildError {
     /// The head is not that of its message type, or the message type is none of `NEW`, `DEL` and
     /// `SET`; a whole message is of these, or shorter than its type says; bytes were put for an
-    /// attribute that holds others, or one of bytes was opened; or next hops stand here, or don't.
-    /// Of a request: the number of a metric is 16,384 or more.
+    /// attribute that holds others, or one of bytes was opened; next hops stand here, or don't; or
+    /// the weight of a next hop is not from 1 to 256. Of a request: the number of a metric is
+    /// 16,384 or more.
     Mismatch,
     /// The attribute has more than 65,531 bytes, or, where it holds others, than 65,532; or a
     /// whole message has more than 1,048,576.

@@ -24,14 +24,30 @@ pub struct Header {
 }
 
 /// What a next hop begins with, `struct rtnexthop`, but for its length.
-#[derive(Clone, Copy, Debug, Default, PartialEq, Eq, Hash)]
+#[derive(Clone, Copy, Debug, PartialEq, Eq, Hash)]
 pub struct NextHopHead {
     /// `RTNH_F_*`.
     pub flags: u8,
-    /// Its weight less one.
-    pub hops: u8,
+    /// Its share of the packets beside the others, as `weight` of ip(8): from 1, the default, to
+    /// 256. The kernel's field, `rtnh_hops`, has one less.
+    pub weight: u16,
     /// The index of the interface, or 0.
     pub index: u32,
+}
+
+impl NextHopHead {
+    /// `rtnh_hops`; a weight that is out of its range is refused.
+    pub(crate) fn hops(&self) -> Result<u8, BuildError> {
+        let hops = self.weight.checked_sub(1).and_then(|it| it.try_into().ok());
+        hops.ok_or(BuildError::Mismatch)
+    }
+}
+
+/// With the weight 1, no flag and no interface.
+impl Default for NextHopHead {
+    fn default() -> NextHopHead {
+        NextHopHead { flags: 0, weight: 1, index: 0 }
+    }
 }
 
 /// Builds messages in a buffer, without any other memory.
@@ -64,7 +80,7 @@ pub struct NextHopHead {
 ///         hops.next_hop(&NextHopHead::default(), |hop| {
 ///             hop.put_address(RTA_GATEWAY, Ipv4Addr::new(192, 0, 2, 254))
 ///         })?;
-///         hops.next_hop(&NextHopHead { hops: 9, ..NextHopHead::default() }, |hop| {
+///         hops.next_hop(&NextHopHead { weight: 10, ..NextHopHead::default() }, |hop| {
 ///             hop.put_address(RTA_GATEWAY, Ipv4Addr::new(198, 51, 100, 254))
 ///         })
 ///     })
@@ -250,15 +266,19 @@ impl<'a> Builder<'a> {
     ///
     /// # Errors
     ///
-    /// [`BuildError::NothingOpen`]; [`BuildError::Mismatch`] where no next hops stand;
-    /// [`BuildError::NoRoom`]; [`BuildError::TooLarge`].
+    /// [`BuildError::Mismatch`] where the weight is not from 1 to 256, or no next hops stand;
+    /// [`BuildError::NothingOpen`]; [`BuildError::NoRoom`]; [`BuildError::TooLarge`].
     pub fn open_next_hop(&mut self, head: &NextHopHead) -> Result<(), BuildError> {
+        BuildError::of(self.raw.built.refusal)?;
+        let hops = head.hops().map_err(|refusal| {
+            // It sticks as those of the library do.
+            self.raw.built.refusal = refusal.code();
+            refusal
+        })?;
         // In C the index has a sign; its bits are the same.
         let index = head.index as i32;
         // SAFETY: the builder's buffer is borrowed.
-        BuildError::of(unsafe {
-            rtnlc_builder_open_hop(&mut self.raw, head.flags, head.hops, index)
-        })
+        BuildError::of(unsafe { rtnlc_builder_open_hop(&mut self.raw, head.flags, hops, index) })
     }
 
     /// A next hop, with what the function puts into it. Where that fails it is still open.

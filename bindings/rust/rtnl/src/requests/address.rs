@@ -37,13 +37,11 @@ pub struct Lifetimes {
 /// ```
 #[derive(Clone, Copy, Debug, PartialEq, Eq, Hash)]
 pub struct AddressRequest<'a> {
-    /// This end's address: `IFA_LOCAL`.
-    pub local: IpAddr,
-    /// The other end's, where the interface leads to one peer alone: `IFA_ADDRESS`, which else is
-    /// `local`, too.
-    pub peer: Option<IpAddr>,
-    /// How many bits of the address are those of its network; where there is a peer, of that.
-    pub prefix_len: u8,
+    /// This end's address, `IFA_LOCAL`, with the length of its network's prefix.
+    pub local: Prefix,
+    /// The other end's, where the interface leads to one peer alone, whose length counts then, and
+    /// not that of `local`: `IFA_ADDRESS`, which else is `local`, too.
+    pub peer: Option<Prefix>,
     /// The address to which all on the network listen: `IFA_BROADCAST`.
     pub broadcast: Option<IpAddr>,
     /// Its label, of 15 bytes at most, which begins with the name of its interface: `IFA_LABEL`.
@@ -63,9 +61,8 @@ impl AddressRequest<'_> {
     /// and with nothing else.
     pub fn of(prefix: Prefix, index: u32) -> Self {
         AddressRequest {
-            local: prefix.address,
+            local: prefix,
             peer: None,
-            prefix_len: prefix.len,
             broadcast: None,
             label: None,
             index,
@@ -76,7 +73,7 @@ impl AddressRequest<'_> {
     }
 
     fn with_raw(&self, call: impl FnOnce(&rtnlc_addr_request) -> rtnlc_put) -> rtnlc_put {
-        let (local, peer) = (Octets::of(Some(self.local)), Octets::of(self.peer));
+        let (local, peer) = (Octets::of_prefix(Some(self.local)), Octets::of_prefix(self.peer));
         let broadcast = Octets::of(self.broadcast);
         call(&rtnlc_addr_request {
             local: local.raw(),
@@ -88,8 +85,8 @@ impl AddressRequest<'_> {
             preferred: self.lifetimes.map_or(0, |it| it.preferred),
             valid: self.lifetimes.map_or(0, |it| it.valid),
             has_lifetimes: self.lifetimes.is_some(),
-            family: family_of(self.local),
-            prefix_length: self.prefix_len,
+            family: family_of(self.local.address),
+            prefix_length: self.peer.unwrap_or(self.local).len,
             scope: self.scope,
         })
     }

@@ -107,10 +107,10 @@ fn put_by(
 }
 
 /// The address family that is said; where that is `AF_UNSPEC`, it is that of the first address that
-/// is there.
-fn family_or(said: u8, addresses: impl IntoIterator<Item = Option<IpAddr>>) -> u8 {
+/// is there, or else another one, since the kernel refuses a request of `AF_UNSPEC`.
+fn family_or(said: u8, addresses: impl IntoIterator<Item = Option<IpAddr>>, other: u8) -> u8 {
     match said {
-        AF_UNSPEC => addresses.into_iter().flatten().next().map_or(AF_UNSPEC, family_of),
+        AF_UNSPEC => addresses.into_iter().flatten().next().map_or(other, family_of),
         said => said,
     }
 }

@@ -1,4 +1,5 @@
 use super::{family_or, raw_bytes, Octets};
+use crate::constants::AF_BRIDGE;
 use crate::heads::family_of;
 use crate::HardwareAddress;
 use rtnlc_sys::*;
@@ -28,7 +29,7 @@ use std::net::IpAddr;
 #[derive(Clone, Copy, Debug, Default, PartialEq, Eq, Hash)]
 pub struct NeighbourRequest<'a> {
     /// As `AF_INET`, or `AF_BRIDGE` of an entry of a bridge; where it is `AF_UNSPEC`, that of the
-    /// address is put.
+    /// address is put, and `AF_BRIDGE` where there is none.
     pub address_family: u8,
     /// The index of its interface.
     pub index: u32,
@@ -63,7 +64,7 @@ impl NeighbourRequest<'_> {
             state: self.state,
             vlan: self.vlan.unwrap_or(0),
             has_vlan: self.vlan.is_some(),
-            family: family_or(self.address_family, [self.address]),
+            family: family_or(self.address_family, [self.address], AF_BRIDGE),
             flags: self.flags,
         })
     }

@@ -1,6 +1,7 @@
 use super::{address_of, family_or, len_of, Octets};
+use crate::constants::AF_INET;
 use crate::heads::family_of;
-use crate::{NextHopHead, Prefix};
+use crate::{BuildError, NextHopHead, Prefix};
 use rtnlc_sys::*;
 use std::fmt;
 use std::mem::{align_of, size_of};
@@ -19,28 +20,34 @@ pub struct Metric {
 const _: () = assert!(size_of::<Metric>() == size_of::<rtnlc_metric>());
 const _: () = assert!(align_of::<Metric>() == align_of::<rtnlc_metric>());
 
-/// One of several next hops that a route is to have, in `RTA_MULTIPATH`.
+/// One of several next hops that a route is to have, in `RTA_MULTIPATH`. By default it has the
+/// weight 1, and nothing else.
 #[derive(Clone, Copy, Default, PartialEq, Eq, Hash)]
 #[repr(transparent)]
 pub struct NextHopRequest(rtnlc_next_hop);
 
 impl NextHopRequest {
     /// One with this head, and with a gateway, `RTA_GATEWAY`, where there is one.
-    pub fn new(head: NextHopHead, gateway: Option<IpAddr>) -> NextHopRequest {
+    ///
+    /// # Errors
+    ///
+    /// [`BuildError::Mismatch`] where the weight is not from 1 to 256.
+    pub fn new(head: NextHopHead, gateway: Option<IpAddr>) -> Result<NextHopRequest, BuildError> {
         let gateway = Octets::of(gateway);
-        NextHopRequest(rtnlc_next_hop {
+        Ok(NextHopRequest(rtnlc_next_hop {
             // In C the index has a sign; its bits are the same.
             index: head.index as i32,
             flags: head.flags,
-            hops: head.hops,
+            hops: head.hops()?,
             gateway_len: gateway.len,
             gateway: gateway.bytes,
-        })
+        }))
     }
 
     /// What it begins with.
     pub fn head(&self) -> NextHopHead {
-        NextHopHead { flags: self.0.flags, hops: self.0.hops, index: self.0.index as u32 }
+        let weight = u16::from(self.0.hops) + 1;
+        NextHopHead { flags: self.0.flags, weight, index: self.0.index as u32 }
     }
 
     /// Its gateway, where it has one.
@@ -73,10 +80,10 @@ impl fmt::Debug for NextHopRequest {
 ///
 /// // ip route add 10.9.0.0/16 nexthop via 192.0.2.254 nexthop via 198.51.100.254 weight 10
 /// let (first, second) = (Ipv4Addr::new(192, 0, 2, 254), Ipv4Addr::new(198, 51, 100, 254));
-/// let heavy = NextHopHead { hops: 9, ..NextHopHead::default() };
+/// let heavy = NextHopHead { weight: 10, ..NextHopHead::default() };
 /// let hops = [
-///     NextHopRequest::new(NextHopHead::default(), Some(first.into())),
-///     NextHopRequest::new(heavy, Some(second.into())),
+///     NextHopRequest::new(NextHopHead::default(), Some(first.into()))?,
+///     NextHopRequest::new(heavy, Some(second.into()))?,
 /// ];
 /// let to = Prefix { address: Ipv4Addr::new(10, 9, 0, 0).into(), len: 16 };
 /// let route = RouteRequest {
@@ -98,7 +105,9 @@ impl fmt::Debug for NextHopRequest {
 /// ```
 #[derive(Clone, Copy, Debug, Default, PartialEq, Eq, Hash)]
 pub struct RouteRequest<'a> {
-    /// As `AF_INET`; where it is `AF_UNSPEC`, that of the first address that is there is put.
+    /// As `AF_INET6`; where it is `AF_UNSPEC`, that of the first address that is there is put, of
+    /// the destination, the source, the gateway, the preferred source and the next hops' gateways,
+    /// and `AF_INET` where there is none, as by ip(8).
     pub address_family: u8,
     /// Where it leads: `RTA_DST`, which a default route has not.
     pub destination: Option<Prefix>,
@@ -165,7 +174,7 @@ impl RouteRequest<'_> {
             oif: self.out_interface.unwrap_or(0),
             has_priority: self.priority.is_some(),
             has_oif: self.out_interface.is_some(),
-            family: family_or(self.address_family, self.addresses()),
+            family: family_or(self.address_family, self.addresses(), AF_INET),
             destination_length: len_of(self.destination),
             source_length: len_of(self.source),
             tos: self.type_of_service,

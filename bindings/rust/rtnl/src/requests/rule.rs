@@ -1,4 +1,5 @@
 use super::{address_of, family_or, len_of, raw_text, Octets};
+use crate::constants::AF_INET;
 use crate::Prefix;
 use rtnlc_sys::*;
 use std::ffi::OsStr;
@@ -9,12 +10,11 @@ use std::ffi::OsStr;
 /// takes one away with the action 0. A field that is [`None`], or a text of no byte, isn't put.
 ///
 /// ```
-/// use rtnl::constants::{AF_INET, FR_ACT_TO_TBL};
+/// use rtnl::constants::FR_ACT_TO_TBL;
 /// use rtnl::{Operation, Order, RuleRequest};
 ///
 /// // ip rule add fwmark 0x10/0xff table 1000 priority 103
 /// let rule = RuleRequest {
-///     address_family: AF_INET,
 ///     action: FR_ACT_TO_TBL,
 ///     table: 1_000,
 ///     mark: Some(0x10),
@@ -29,7 +29,8 @@ use std::ffi::OsStr;
 /// ```
 #[derive(Clone, Copy, Debug, Default, PartialEq, Eq, Hash)]
 pub struct RuleRequest<'a> {
-    /// As `AF_INET`; where it is `AF_UNSPEC`, that of `from` is put, or else that of `to`.
+    /// As `AF_INET6`; where it is `AF_UNSPEC`, that of `from` is put, or else that of `to`, and
+    /// `AF_INET` where there is neither, as by ip(8).
     pub address_family: u8,
     /// Where packets must come from: `FRA_SRC`.
     pub from: Option<Prefix>,
@@ -64,6 +65,7 @@ pub struct RuleRequest<'a> {
 impl RuleRequest<'_> {
     fn with_raw(&self, call: impl FnOnce(&rtnlc_rule_request) -> rtnlc_put) -> rtnlc_put {
         let (source, destination) = (Octets::of_prefix(self.from), Octets::of_prefix(self.to));
+        let addresses = [self.from, self.to].map(address_of);
         call(&rtnlc_rule_request {
             source: source.raw(),
             destination: destination.raw(),
@@ -81,7 +83,7 @@ impl RuleRequest<'_> {
             has_suppress_prefix_length: self.suppress_prefix_len.is_some(),
             has_priority: self.priority.is_some(),
             invert: self.is_inverted,
-            family: family_or(self.address_family, [self.from, self.to].map(address_of)),
+            family: family_or(self.address_family, addresses, AF_INET),
             source_length: len_of(self.from),
             destination_length: len_of(self.to),
             tos: self.type_of_service,
