@@ -14,6 +14,7 @@ import rtmon
 import strace
 from output import LONGEST, Damaged, Item, Note, Stop, Usage, put, report, shown, write
 
+VERSION = "0.3.0"
 INPUT = "-"
 DESCRIPTION = """Makes recordings for rtnl: a line of hexadecimal for each rtnetlink datagram, and
 comments behind #."""
@@ -34,6 +35,14 @@ class Command(NamedTuple):
     example: str
     add: Callable[["Parser"], None]
     items: Callable[[argparse.Namespace], Iterator[Item]]
+
+
+class PrintVersion(argparse.Action):
+    """Prints the version and ends, or fails, as print_help does."""
+
+    def __call__(self, *_: object) -> NoReturn:
+        put(f"rtnl-record {VERSION}\n")
+        raise SystemExit
 
 
 class Parser(argparse.ArgumentParser):
@@ -173,6 +182,8 @@ def parser() -> Parser:
     whole = Parser(prog="rtnl-record", description=DESCRIPTION, usage="%(prog)s COMMAND ...",
                    epilog=f"Commands:\n{rows}\n\nrtnl-record COMMAND --help has more.\n\n"
                           f"{STATUSES}")
+    whole.options.add_argument("-V", "--version", action=PrintVersion, nargs=0,
+                               default=argparse.SUPPRESS, help="print version")
     commands = whole.add_subparsers(dest="command", metavar="COMMAND", required=True,
                                     prog=whole.prog, help=argparse.SUPPRESS)
     for it in COMMANDS:
@@ -190,7 +201,7 @@ def run(words: List[str]) -> int:
         asked = parser().parse_args(words)
         return write(asked.items(asked))
     except SystemExit:
-        # What the help does when it is printed.
+        # What the help and the version do when they are printed.
         return 0
 
 

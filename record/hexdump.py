@@ -1,6 +1,7 @@
 """Dumps in hexadecimal, with the offset in front of each row, and with the text beside it or
 without: of xxd, hexdump -C, Wireshark's "copy as hex dump", tshark -x and Go's hex.Dump. Offset 0
-begins a new datagram."""
+begins a new datagram. The numbers of two bytes that hexdump prints without -C are taken with their
+lowest byte first."""
 import io
 import re
 from typing import BinaryIO, Iterator, NamedTuple, Optional, Tuple
@@ -11,6 +12,8 @@ from source import Source, lines
 
 # The offset of a row, and the rest.
 ROW = re.compile(r"\s*([0-9A-Fa-f]{4,16}):?(?:\s+|$)(.*)", re.S)
+# hexdump alone has an offset of seven digits, and numbers of two bytes.
+NUMBERS = re.compile(r"\s*([0-9A-Fa-f]{7})((?: [0-9A-Fa-f]{4})*) *")
 GAP = re.compile(r"  +")
 # The width of eight bytes.
 HALF = 23
@@ -24,6 +27,7 @@ MOST_SAME = 1 << 24
 class Row(NamedTuple):
     place: int
     data: bytes
+    are_numbers: bool = False
 
 
 def is_text_of(text: str, data: bytes) -> bool:
@@ -53,6 +57,11 @@ def readings(rest: str) -> Iterator[Tuple[str, str]]:
 
 def row_of(line: str) -> Optional[Row]:
     """The row of a line, where it is one."""
+    found = NUMBERS.fullmatch(line)
+    if found:
+        data = bytes.fromhex(found[2])
+        pairs = zip(data[1::2], data[::2])
+        return Row(int(found[1], 16), bytes(it for pair in pairs for it in pair), True)
     found = ROW.fullmatch(line)
     if not found:
         return None
@@ -86,12 +95,19 @@ class Dump:
             yield from self.end(number)
             self.begin, self.data = number, bytearray()
             self.take(row.data, number)
+        elif self.is_odd_end(row):
+            self.data.pop()
         else:
             self.repeat(row.place, number)
             if not self.begin or row.place != len(self.data):
                 raise Damaged(f"line {number}: offset {row.place:x} does not follow on "
                               f"{len(self.data)} bytes")
             self.take(row.data, number)
+
+    def is_odd_end(self, row: Row) -> bool:
+        """Whether it ends the datagram within its last number, of which one byte is there."""
+        is_end = row.are_numbers and not row.data and row.place == len(self.data) - 1
+        return is_end and not self.repeats and self.data[-1] == 0
 
     def repeat(self, place: int, number: int) -> None:
         """Puts the rows that are left out in front of the place."""

@@ -3,7 +3,7 @@
 
 const ROW = /^\s*([0-9A-Fa-f]{4,16}):?(?:\s+|$)(.*)$/s;
 // hexdump alone has an offset of seven digits, and numbers of two bytes.
-const WORDS = /^([0-9A-Fa-f]{7})((?: [0-9A-Fa-f]{4})*) *$/;
+const WORDS = /^\s*([0-9A-Fa-f]{7})((?: [0-9A-Fa-f]{4})*) *$/;
 const HALF = 23, MOST_SAME = 1 << 24; // the width of eight bytes; bytes that are left out in all
 
 // Whether the text beside a row is that of its bytes: any sign for what isn't printable.
@@ -91,11 +91,17 @@ class Rows {
     }
   }
 
+  // Whether a row ends the datagram within its last number, of which one byte is there.
+  isOddEnd({ bytes, areNumbers }, missing) {
+    const isEnd = areNumbers && !bytes.length && missing === -1;
+    return isEnd && !this.isSame && this.pieces.at(-1).at(-1) === 0;
+  }
+
   // Takes a row behind others. An odd end cuts off half a number.
   goOn(row, line) {
-    const { offset, bytes, areNumbers } = row, place = placeOf(row), { last } = this;
+    const { offset, bytes } = row, place = placeOf(row), { last } = this;
     const missing = place - this.size, named = offset.replace(/^0+/, "").toLowerCase();
-    if (areNumbers && !bytes.length && missing === -1) {
+    if (this.isOddEnd(row, missing)) {
       this.pieces.push(this.pieces.pop().subarray(0, -1));
       return void (this.size -= 1);
     }

@@ -16,7 +16,7 @@ _rtnl_record() {
   [ "$word" = '=' ] && word=
   COMPREPLY=()
   case $COMP_CWORD,$command,$before,$word in
-    1,*,*,-*) words=--help ;;
+    1,*,*,-*) words='--help --version' ;;
     1,*) words=$commands ;;
     *,*,--netns,*) words=$(ip netns list 2>/dev/null | cut -d ' ' -f 1) ;;
     *,*,--family,* | *,*,--buffer,*) ;;

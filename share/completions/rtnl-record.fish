@@ -22,6 +22,7 @@ complete -c rtnl-record -n $first -a rtmon -d 'Read what rtmon wrote'
 complete -c rtnl-record -n $first -a strace -d 'Read what strace wrote of another program'
 complete -c rtnl-record -n $first -a xxd -d 'Read a dump in hexadecimal'
 complete -c rtnl-record -s h -l help -d 'Print help'
+complete -c rtnl-record -n $first -s V -l version -d 'Print version'
 
 complete -c rtnl-record -n $read -F
 complete -c rtnl-record -n $dump -a 'link addr route neigh rule'

@@ -19,6 +19,7 @@ mapfile -t files_of_recorder < <(
   printf '%s\n' "${things[@]}" | grep rtnl-record | sed 's|\(share/rtnl-record\)/.*|\1|' | sort -u
 )
 as_recorder compares_page
+check 'the version of the recorder' ends 0 "rtnl-record $version" '' "$user/rtnl-record" --version
 as_recorder is_formed "${files_of_recorder[@]}"
 run_page 'the page of rtnl-record' < <(page_as_text "$prefix/share/man/man1/rtnl-record.1")
 check 'commands of the page of rtnl-record' runs_all "$prefix/share/man/man1/rtnl-record.1"
@@ -30,6 +31,7 @@ options_of() { as_recorder helped "$1" | grep -e '^--' | tr '\n' ' ' | sed 's/ $
 completed_recorder() {
   local shell=$1 command
   check "$shell: all commands of the recorder" completes "$shell" 'dump monitor pcap rtmon strace xxd' rtnl-record ''
+  check "$shell: an option of the recorder" completes "$shell" --version rtnl-record --v
   check "$shell: kinds of a dump" completes "$shell" 'addr link neigh route rule' rtnl-record dump ''
   check "$shell: groups" completes "$shell" "$(groups_in_help | xargs)" rtnl-record monitor ''
   check "$shell: another group" completes "$shell" 'neigh' rtnl-record monitor link nei

@@ -4,6 +4,7 @@ import glob
 import io
 import os
 import random
+import re
 import subprocess
 import sys
 from typing import Iterator, List, Tuple
@@ -89,6 +90,7 @@ def dumped(browser: Browser) -> Iterator[Case]:
         "xxd -p -c0": lambda data: output("xxd", "-p", "-c0", data=data),
         "hexdump -C": lambda data: output("hexdump", "-C", data=data),
         "hexdump": lambda data: output("hexdump", data=data),
+        "hexdump, indented": lambda data: re.sub("(?m)^", "    ", output("hexdump", data=data)),
         "Wireshark": wireshark,
         "Wireshark, of nlmon": cooked,
     }

@@ -24,12 +24,15 @@ for arguments in '' '--unknown' 'other' 'dum link' 'dump' 'dump links' 'dump lin
   'dump link --fam 2' 'dump link --buffer 0' 'dump link --buffer 1048577' 'dump link --buffer 1e3' \
   'dump link --netns' 'dump link --time' 'monitor links' 'monitor LINK' 'monitor none' 'monitor link --family 2' \
   'monitor --timeout 1' 'pcap' 'pcap one two' 'rtmon' 'rtmon one two' 'strace one two' 'strace --unknown' \
-  'xxd one two' 'xxd --cook'; do
+  'xxd one two' 'xxd --cook' 'xxd --version' '--version=1' '--vers'; do
   # shellcheck disable=SC2086
   usage $arguments
 done
 usage dump $'a kind\nin two lines'
 check 'help' helps_all
+version=$("$program" --version)
+check 'the version, that of the program' ends 0 "rtnl-record ${version#rtnl }" '' record --version
+check 'the version in short' ends 0 "rtnl-record ${version#rtnl }" '' record -V
 for command in "${commands[@]}"; do check "help of $command" helps "$command"; done
 
 read_errors='No such file or directory'
@@ -46,6 +49,7 @@ check 'a name that is damaged, with its capture' ends 1 '' \
 full='rtnl-record: standard output: No space left on device'
 check 'a full device' ends 3 '' "$full" into_full_device record pcap examples/links.pcap
 check 'help, a full device' ends 3 '' "$full" into_full_device record --help
+check 'version, a full device' ends 3 '' "$full" into_full_device record --version
 
 # A reader that goes away ends it at once, without a word, by the signal that is for this.
 leaves_quietly() {

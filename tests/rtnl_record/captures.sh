@@ -92,4 +92,6 @@ fi
 if has hexdump 'dumps of hexdump'; then
   check 'hexdump -C' shows_same examples/routes.hex dumped_by hexdump -C
   check 'hexdump -C -v' shows_same examples/routes.hex dumped_by hexdump -C -v
+  check 'hexdump' shows_same examples/routes.hex dumped_by hexdump
+  check 'hexdump -v' shows_same examples/routes.hex dumped_by hexdump -v
 fi

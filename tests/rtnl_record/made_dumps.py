@@ -48,6 +48,18 @@ FORMS = {
 00000010  61 62 20 63 64 20 20 66  65 20 31 32 20 20 7c 7c
 00000020  20 31 32 33 20 20 20 7c
 """,
+    "hexdump": """\
+0000000 0028 0000 0010 0000 0002 0000 0000 0000
+0000010 6261 6320 2064 6620 2065 3231 2020 7c7c
+0000020 3120 3332 2020 7c20
+0000028
+""",
+    "hexdump, indented": """\
+    0000000 0028 0000 0010 0000 0002 0000 0000 0000
+    0000010 6261 6320 2064 6620 2065 3231 2020 7c7c
+    0000020 3120 3332 2020 7c20
+    0000028
+""",
     "signs of other alphabets, and blanks that were stripped": """\
 0000   28 00 00 00 10 00 00 00 02 00 00 00 00 00 00 00   (···············
 0010   61 62 20 63 64 20 20 66 65 20 31 32 20 20 7c 7c   ab cd  fe 12  ||
@@ -57,6 +69,7 @@ FORMS = {
 FIRST = "00000000: 1000 0000 0100 0000 0200 0000 0000 0000  ................\n"
 ZEROS = "00000000  30 00 00 00 00 00 00 00  00 00 00 00 00 00 00 00  |0...............|\n"
 ROW = "00000010  00 00 00 00 00 00 00 00  00 00 00 00 00 00 00 00  |................|\n"
+NUMBERS = "0000000 0030 0000 0000 0000 0000 0000 0000 0000\n"
 NO_ROW = "no row of a hexadecimal dump"
 
 
@@ -76,6 +89,11 @@ def whole() -> Iterator[Case]:
     yield dump("rows left out in the middle",
                f"{ZEROS}{ROW}*\n00000040  01                 |.|\n00000041\n", 0,
                f"30{'00' * 63}01\n")
+    yield dump("hexdump, rows left out", f"{NUMBERS}{NUMBERS.replace('0000 0030', '0010 0000')}*\n"
+               "0000030\n", 0, f"30{'00' * 47}\n")
+    odd = f"0000010 0201 0003{' ' * 30}\n0000013\n"
+    yield dump("hexdump of an odd number of bytes", NUMBERS + odd + NUMBERS + odd, 0,
+               f"30{'00' * 15}010203\n" * 2)
     yield dump("the longest datagram", f"{ROW.replace('10', '00', 1)}*\n00100000\n", 0,
                "00" * (1 << 20) + "\n")
     packet = "0000   00 04 03 38 00 00 00 00 00 00 00 00 00 00 00 {:02x}   ...8............\n"
@@ -122,6 +140,13 @@ def damaged() -> Iterator[Case]:
                said("line 4: offset 10 does not follow on 32 bytes"))
     yield dump("an offset too many", f"{FIRST}{ZEROS}00000020\n", 1, line,
                said("line 3: offset 20 does not follow on 16 bytes"))
+    for end, number in (("0000013", "line 4: offset 13"), ("0000012", "line 4: offset 12"),
+                        ("0000015", "line 4: offset 15")):
+        yield dump(f"hexdump, whole numbers up to {end}",
+                   f"{FIRST}{NUMBERS}0000010 0201 0403\n{end}\n", 1, line,
+                   said(f"{number} does not follow on 20 bytes"))
+    yield dump("an odd end of bytes", f"{FIRST}{FIRST}0000000f\n", 1, line,
+               said("line 3: offset f does not follow on 16 bytes"))
     yield dump("no front", ROW, 1, "", said("line 1: offset 10 does not follow on 0 bytes"))
     yield dump("a datagram above 1 MiB", f"{FIRST}0000: {'00' * ((1 << 20) + 1)}\n", 1, line,
                said("line 2: a datagram above 1048576 bytes"))

@@ -52,8 +52,11 @@ class Dumps(unittest.TestCase):
                     self.assertEqual(
                         str(caught.exception), f"{name} must be from 0 to {most}, not {value}"
                     )
-                for other in ("1", 1.5, None):
-                    self.assertRaises(TypeError, dump.begin, **{**numbers, name: other})
+                others: List[Any] = ["1", 1.5, None]
+                for other in others:
+                    said = f"^{name} must be a whole number, not {other!r}$"
+                    with self.assertRaisesRegex(TypeError, said):
+                        dump.begin(**{**numbers, name: other})
             self.assertFalse(dump.waiting)
             dump.begin(18, family=255, seq=2**32 - 1, port=2**32 - 1)
             status = dump.status()

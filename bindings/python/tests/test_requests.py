@@ -595,6 +595,18 @@ class Refused(unittest.TestCase):
             with self.assertRaisesRegex(TypeError, "no address with a length"):
                 request.packed(ADD)
 
+    def test_what_is_no_number(self) -> None:
+        word: Any = "eth0"
+        requests: List[Tuple[str, Request]] = [
+            ("index", AddressRequest(ip_interface("::1"), word)),
+            ("index", RouteRequest(index=word)),
+            ("index", RouteRequest(hops=[NextHopRequest(VIA, index=word)])),
+            ("master", LinkRequest(master=word)),
+        ]
+        for name, request in requests:
+            with self.assertRaisesRegex(TypeError, f"^{name} must be a whole number, not 'eth0'$"):
+                request.packed(ADD)
+
     def test_numbers_that_do_not_fit(self) -> None:
         requests: List[Tuple[str, Request]] = [
             ("index", LinkRequest(index=1 << 31)),

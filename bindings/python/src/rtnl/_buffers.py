@@ -23,7 +23,12 @@ def readable(data: Readable) -> Tuple[Indexed, Any]:
 
 
 def within(bits: int, **numbers: int) -> None:
-    """Raises a ValueError where one of these numbers doesn't fit so many bits."""
+    """Raises a ValueError where one of these numbers doesn't fit so many bits, and a TypeError
+    where it is none."""
     for name, value in numbers.items():
-        if not 0 <= operator.index(value) < 1 << bits:
+        try:
+            fits = 0 <= operator.index(value) < 1 << bits
+        except TypeError:
+            raise TypeError(f"{name} must be a whole number, not {value!r}") from None
+        if not fits:
             raise ValueError(f"{name} must be from 0 to {(1 << bits) - 1}, not {value}")
