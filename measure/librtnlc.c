@@ -9,7 +9,7 @@
 #include <string.h>
 
 /* As long as a payload may be that takes no memory of its own. */
-#define INLINE 31
+#define INLINE 23
 
 static unsigned long count;
 static struct rtnlc_event events[1 << 16];

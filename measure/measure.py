@@ -33,7 +33,7 @@ from counting import (
     passes, passes_of_each, peak, resident, shown, table, whole)
 from datagrams import (
     DATAGRAM, KINDS, Datagrams, as_lines, attribute, datagrams_of, dump_of, dumped, link,
-    link_like, long_route, names_in, of_one_dump, repeated, short_route, sized)
+    link_like, long_route, names_in, notifications, of_one_dump, repeated, short_route, sized)
 from programs import BENCH, PROGRAM, TOP, compiled, install, over_ours, over_rust_peer
 
 # The bytes of datagrams of a larger recording, and the hexadecimal digits of one for memory.
@@ -122,6 +122,12 @@ def library(folder: str, recordings: Recordings,
         each = (shown(it, size, "{:.2f}") for it in found)
         rows.append((name, f"{size:,}", *each, *ratios))
     table(*rows)
+
+
+def one_by_one(recordings: Recordings) -> Recordings:
+    """The messages that the kernel could send as notifications, one a datagram."""
+    told = ((name, [*notifications(datagrams)]) for name, datagrams in recordings)
+    return [(name, it) for name, it in told if it]
 
 
 def large(folder: str, recordings: Recordings) -> None:
@@ -293,6 +299,8 @@ def all_tables(recordings: Recordings) -> None:
         print("Instructions a byte of datagrams:\n")
         small(made, recordings)
         library(made, recordings, passes_of_each)
+        print("The same, of one message a datagram, as notifications come:\n")
+        library(made, one_by_one(recordings), passes_of_each)
         large(made, recordings)
         forms(made, recordings)
         hostile(made)

@@ -22,7 +22,7 @@ and writes its output once, 16 bytes by an instruction; it takes 8 instructions 
 loads a length, compares it with the head's and with the bytes left, goes by the type, and goes on;
 and it takes 126 for each growth, a malloc and a free of glibc 2.36 by callgrind. Growths are those
 that the contract of a tree needs, which has one vector for each datagram, message, list and next
-hops, and one for each payload of more than 31 bytes; text and decoded datagrams grow once. What is
+hops, and one for each payload of more than 23 bytes; text and decoded datagrams grow once. What is
 written is the text, the decoded datagrams, or 16 bytes a head, as a tape has it, and the payloads.
 """
 import argparse
