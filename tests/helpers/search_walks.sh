@@ -127,19 +127,21 @@ crates/nl_frame/src/reading.rt 1
 crates/nl_frame/src/taping.rt 2'
 
 # The first goes past heads at the front of a region, and the second past the one at which that ended.
-same 'a scan is one loop over heads that hold bytes, one over the others, and one over messages' \
+same 'a scan is one loop over heads that hold bytes, one over the others, one over next hops, one over what opens more levels, and one over messages' \
   "$(lines '\b(loop|while|for)\b([^<]|<[ =])*\{$' "${scan[@]}" crates/nl_frame/src/scanning.rt "$taping" |
     sed 's/^[^:]*: *//')" \
   "'leaves: while behind <= isize::MAX as usize {
 'heads: loop {
+'hops: loop {
+'heads: loop {
 'messages: while !left.is_empty() {"
 
 same 'a region is scanned by the calls that are made for it and once by the scan of a message, and in no reading' \
-  "$(counts '\b(scan_list_ordered|tape_(list|attrs|attrs_in|region|regions|open)|open_regions|pass_(top|front|leaves|like)|step_(attr|hop))\b.*\(')" \
+  "$(counts '\b(scan_list_ordered|tape_(list|attrs|attrs_in|region|regions|open|deep|inside|inner|hops)|open_regions|pass_(top|front|leaves|like)|step_(attr|hop))\b.*\(')" \
   'crates/nl_attr/src/scanning.rt 2
 crates/nl_attr/src/taping/leaves.rt 5
 crates/nl_attr/src/taping/mod.rt 9
-crates/nl_attr/src/taping/regions.rt 9
+crates/nl_attr/src/taping/regions.rt 20
 crates/nl_attr/src/taping/steps.rt 8
 crates/nl_frame/src/taping.rt 1'
 

@@ -1,5 +1,5 @@
 -- The heads of attributes and of next hops: which stand where, and what each breaks.
-use Rattle.std.specs.Prelude.{◌≡◌, ◌+◌, ◌%◌, ℕ, nat_lt, if◌then◌else◌, List, drop, Option, Some, None}
+use Rattle.std.specs.Prelude.{◌≡◌, ◌≤◌, ◌+◌, ◌%◌, ℕ, nat_lt, if◌then◌else◌, List, drop, Option, Some, None}
 use Rattle.nl_attr.specs.Fixed.{LONGEST_CONTAINER, NUMBERS}
 use Rattle.nl_attr.specs.declared.fault.Reason.{Reason}
 use Rattle.nl_attr.specs.declared.fault.Reason.TheVariants.{TooLong, TooDeep}
@@ -38,6 +38,11 @@ abbrev pub opens : Content → ℕ
 opens content.Bytes = 0
 opens (content.List c) = 1
 opens content.Hops = 2
+
+-- within a depth a region of such heads may stand at this level: each next hop opens one more
+abbrev pub MayStand : ℕ → Sort → ℕ → Type 0
+MayStand depth attr_head l = l ≤ depth
+MayStand depth hop_head l = l + 1 ≤ depth
 
 -- what the attribute at the front holds, by its context, its number and its flags
 abbrev pub content_at : Order → Ctx → List ℕ → Content

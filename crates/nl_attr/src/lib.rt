@@ -37,7 +37,7 @@ pub use order::Order;
 pub use payload::Payload;
 pub use reading::{read_list, read_list_ordered};
 pub use scanning::scan_list_ordered;
-pub use taping::{Counts, OpenRegions, Taped, tape_attrs, tape_attrs_in, tape_list};
+pub use taping::{Counts, Taped, tape_attrs, tape_attrs_in, tape_list};
 pub use tree::{
     Attr, AttrFlags, Content, Ctx, Hop, IFLA_LINKINFO, NLA_F_NESTED, NLA_F_NET_BYTEORDER, NO_FLAGS,
     NUMBERS, RTA_METRICS, RTA_MULTIPATH, Value, holds,

@@ -15,7 +15,7 @@ use crate::events::Event;
 use crate::fault::{Fault, Tally};
 use crate::limits::Depth;
 use crate::order::Order;
-use crate::taping::{OpenRegions, tape_list};
+use crate::taping::tape_list;
 use crate::tree::Ctx;
 
 /// The answer of a scan that ended at this head, or at none.
@@ -61,9 +61,8 @@ pub fn scan_list_ordered(
         (base + length bytes.now) result.result result.visits }
     ensures bound { result.visits ≤ (depth - level + 1) * length bytes.now }
 {
-    let mut regions = OpenRegions::new();
     let out: &mut [Event] = &mut [];
-    let taped = tape_list(&mut regions, bytes, base, ctx, level, depth, order, out, 0);
+    let taped = tape_list(bytes, base, ctx, level, depth, order, out, 0);
     Tally {
         result: answer(taped.broken),
         visits: taped.visits,

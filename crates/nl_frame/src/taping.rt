@@ -18,7 +18,7 @@ use crate::broken::header_at_fault;
 use crate::form::Form;
 use crate::front::{Frame, frame_len, front_form, front_of};
 use nl_attr::{
-    Counts, Depth, Event, OpenRegions, Order, Reason, Room, SORT_MESSAGE, Taped, tape_attrs_in,
+    BrokenHead, Counts, Depth, Event, Order, Reason, Room, SORT_MESSAGE, Taped, tape_attrs_in,
 };
 use nl_route::Family;
 
@@ -50,9 +50,9 @@ fn event_of(frame: &Frame, place: u32) -> Event
 
 /// The attributes of a family's body.
 #[inline(always)]
-fn tape_object<'a>(
-    regions: &mut OpenRegions<'a>,
-    payload: &'a [u8],
+fn tape_object(
+    broken: &mut Option<BrokenHead>,
+    payload: &[u8],
     family: Family,
     place: u32,
     depth: Depth,
@@ -61,7 +61,7 @@ fn tape_object<'a>(
     out: &mut [Event],
     count: usize,
 ) -> Counts
-    requires none { regions.old.broken ≡ None }
+    requires none { broken.old ≡ None }
     requires least { head_size family ≤ length payload.now }
     requires size { length payload.now ≤ fixed.LONGEST_REGION }
     requires place { place + length payload.now ≤ fixed.FARTHEST_END }
@@ -69,8 +69,8 @@ fn tape_object<'a>(
     requires room { HasRoom room count (length payload.now) (length out.old) }
     ensures taped { IsTaped (shape_of order depth) (region_trail (shape_of order depth)
         (region_in (Form.Object family) place payload.now)) count out.old out.new
-        (found regions.new.broken result) }
-    ensures head { IfSome regions.new.broken (IsBrokenIn (shape_of order depth)
+        (found broken.new result) }
+    ensures head { IfSome broken.new (IsBrokenIn (shape_of order depth)
         (region_in (Form.Object family) place payload.now)) }
     ensures bound { result.visits ≤ (depth + 1) * length payload.now }
     ensures count { result.count ≤ count + result.visits }
@@ -80,7 +80,7 @@ fn tape_object<'a>(
     let bytes = &payload[row.head_size..];
     let base = place + row.head_size as u32;
     tape_attrs_in(
-        regions,
+        broken,
         bytes,
         base,
         row.context,
@@ -95,9 +95,9 @@ fn tape_object<'a>(
 
 /// The heads in a body of this form.
 #[inline(always)]
-fn tape_body<'a>(
-    regions: &mut OpenRegions<'a>,
-    payload: &'a [u8],
+fn tape_body(
+    broken: &mut Option<BrokenHead>,
+    payload: &[u8],
     form: Form,
     place: u32,
     depth: Depth,
@@ -106,7 +106,7 @@ fn tape_body<'a>(
     out: &mut [Event],
     count: usize,
 ) -> Counts
-    requires none { regions.old.broken ≡ None }
+    requires none { broken.old ≡ None }
     requires least { least_body form ≤ length payload.now }
     requires size { length payload.now ≤ fixed.LONGEST_REGION }
     requires place { place + length payload.now ≤ fixed.FARTHEST_END }
@@ -114,8 +114,8 @@ fn tape_body<'a>(
     requires room { HasRoom room count (length payload.now) (length out.old) }
     ensures taped { IsTaped (shape_of order depth) (region_trail (shape_of order depth)
         (region_in form place payload.now)) count out.old out.new
-        (found regions.new.broken result) }
-    ensures head { IfSome regions.new.broken (IsBrokenIn (shape_of order depth)
+        (found broken.new result) }
+    ensures head { IfSome broken.new (IsBrokenIn (shape_of order depth)
         (region_in form place payload.now)) }
     ensures bound { result.visits ≤ (depth + 1) * length payload.now }
     ensures count { result.count ≤ count + result.visits }
@@ -124,7 +124,7 @@ fn tape_body<'a>(
     match form {
         Form::Object(family) => {
             tape_object(
-                regions, payload, family, place, depth, order, room, out, count,
+                broken, payload, family, place, depth, order, room, out, count,
             )
         }
         Form::Noop | Form::Error | Form::Done | Form::Overrun | Form::Get | Form::Other => Counts {
@@ -136,9 +136,9 @@ fn tape_body<'a>(
 
 /// A message, and the heads in it.
 #[inline(always)]
-fn tape_frame<'a>(
-    regions: &mut OpenRegions<'a>,
-    frame: &Frame<'a>,
+fn tape_frame(
+    broken: &mut Option<BrokenHead>,
+    frame: &Frame<'_>,
     place: u32,
     depth: Depth,
     order: Order,
@@ -146,15 +146,15 @@ fn tape_frame<'a>(
     out: &mut [Event],
     count: usize,
 ) -> Counts
-    requires none { regions.old.broken ≡ None }
+    requires none { broken.old ≡ None }
     requires least { least_body frame.now.form ≤ length frame.now.payload.now }
     requires size { length frame.now.payload.now ≤ fixed.LONGEST_REGION }
     requires place { place + 16 + length frame.now.payload.now ≤ fixed.FARTHEST_END }
     requires count { count + 1 ≤ 4294967296 }
     requires room { HasRoom room count (16 + length frame.now.payload.now) (length out.old) }
     ensures taped { IsFrameTaped (shape_of order depth) frame.now place count
-        out.old out.new (found regions.new.broken result) }
-    ensures head { IfSome regions.new.broken (IsBrokenIn (shape_of order depth)
+        out.old out.new (found broken.new result) }
+    ensures head { IfSome broken.new (IsBrokenIn (shape_of order depth)
         (region_in frame.now.form (place + 16) frame.now.payload.now)) }
     ensures bound { result.visits ≤ (depth + 1) * length frame.now.payload.now }
     ensures count { result.count ≤ count + 1 + result.visits }
@@ -162,7 +162,7 @@ fn tape_frame<'a>(
 {
     event_of(frame, place).put_in(out, count, room);
     tape_body(
-        regions,
+        broken,
         frame.payload,
         frame.form,
         place + 16,
@@ -177,7 +177,7 @@ fn tape_frame<'a>(
 /// The message of `len` bytes at the front, whose body has this form, and the heads in it.
 #[inline(always)]
 fn tape_front<'a>(
-    regions: &mut OpenRegions<'a>,
+    broken: &mut Option<BrokenHead>,
     left: &'a [u8],
     len: usize,
     form: Form,
@@ -188,7 +188,7 @@ fn tape_front<'a>(
     out: &mut [Event],
     count: usize,
 ) -> Result<TapedFrame<'a>, Reason>
-    requires none { regions.old.broken ≡ None }
+    requires none { broken.old ≡ None }
     requires size { length left.now ≤ fixed.LONGEST_REGION }
     requires len { HeadIs order 16 4 left.now (Ok len) }
     requires form { form ≡ form_at order left.now }
@@ -196,10 +196,10 @@ fn tape_front<'a>(
     requires count { count + 1 ≤ 4294967296 }
     requires room { HasRoom room count (length left.now) (length out.old) }
     ensures { TapesFront (shape_of order depth) left.now place count out.old out.new
-        regions.new.broken result }
+        broken.new result }
 {
     let frame = front_of(left, len, form, order)?;
-    let counts = tape_frame(regions, &frame, place, depth, order, room, out, count);
+    let counts = tape_frame(broken, &frame, place, depth, order, room, out, count);
     Ok(TapedFrame { frame, counts })
 }
 
@@ -238,7 +238,7 @@ macro_rules! match_form {
 /// `inline(always)` would be dropped from so long a function. By `LOOP` each loop has one of its
 /// own, which is inlined in it since it's called from nowhere else.
 fn tape_message<'a, const LOOP: u8>(
-    regions: &mut OpenRegions<'a>,
+    broken: &mut Option<BrokenHead>,
     left: &'a [u8],
     place: u32,
     depth: Depth,
@@ -247,17 +247,17 @@ fn tape_message<'a, const LOOP: u8>(
     out: &mut [Event],
     count: usize,
 ) -> Result<TapedFrame<'a>, Reason>
-    requires none { regions.old.broken ≡ None }
+    requires none { broken.old ≡ None }
     requires size { length left.now ≤ fixed.LONGEST_REGION }
     requires place { place + length left.now ≤ fixed.FARTHEST_END }
     requires count { count + 1 ≤ 4294967296 }
     requires room { HasRoom room count (length left.now) (length out.old) }
     ensures { TapesFront (shape_of order depth) left.now place count out.old out.new
-        regions.new.broken result }
+        broken.new result }
 {
     let len = frame_len(left, order)?;
     match_form!(front_form(left, order), form => {
-        tape_front(regions, left, len, form, place, depth, order, room, out, count)
+        tape_front(broken, left, len, form, place, depth, order, room, out, count)
     })
 }
 
@@ -290,14 +290,14 @@ fn tape_ordered<const LOOP: u8>(
 {
     // The depth is at most 32, so the visits fit their number.
     let _limit = depth.get();
-    let mut regions = OpenRegions::new();
+    let mut broken = None;
     let mut count = 0;
     let mut visits = 0u64;
     let mut place = 0u32;
     let mut left = bytes;
     'messages: while !left.is_empty() {
         let message = tape_message::<LOOP>(
-            &mut regions,
+            &mut broken,
             left,
             place,
             depth,
@@ -318,7 +318,7 @@ fn tape_ordered<const LOOP: u8>(
         };
         count = taped.counts.count;
         visits += taped.counts.visits;
-        if let Some(head) = regions.broken {
+        if let Some(head) = broken {
             return Taped {
                 broken: Some(head),
                 count,
@@ -349,7 +349,8 @@ fn tape_big(bytes: &[u8], depth: Depth, out: &mut [Event]) -> Taped
     tape_ordered::<BIG>(bytes, depth, Order::Big, Room::Unknown, out)
 }
 
-/// The messages of a datagram in the little order, into a buffer that may end before the last event.
+/// The messages of a datagram in the little order, into a buffer that may end before the last
+/// event.
 #[inline(never)]
 fn tape_little(bytes: &[u8], depth: Depth, out: &mut [Event]) -> Taped
     requires { length bytes.now ≤ fixed.LONGEST_REGION }

@@ -5,7 +5,7 @@ use crate::said::{Maybe, say};
 use crate::shown::Shown;
 use crate::stop::{Stop, Wrong};
 use nl_attr::{
-    BrokenHead, FARTHEST_END, HeadKind, LONGEST_REGION, OpenRegions, Order, read_list_ordered,
+    BrokenHead, FARTHEST_END, HeadKind, LONGEST_REGION, Order, read_list_ordered,
     scan_list_ordered, tape_list,
 };
 use nl_frame::{Counted, ScanError, read_datagram, scan_datagram, tape_datagram};
@@ -99,17 +99,6 @@ fn look_into_list(rt: &HostRuntime, row: &mut Row<'_>) -> Result<(), Stop> {
     say_refusal(rt, "read", read.err())?;
     let scanned = scan_list_ordered(bytes, base, ctx, level, depth, order).into_result();
     say_refusal(rt, "scan", scanned.err())?;
-    let mut regions = OpenRegions::new();
-    let taped = tape_list(
-        &mut regions,
-        bytes,
-        base,
-        ctx,
-        level,
-        depth,
-        order,
-        &mut [],
-        0,
-    );
+    let taped = tape_list(bytes, base, ctx, level, depth, order, &mut [], 0);
     say_refusal(rt, "tape", taped.broken.as_ref().map(Shown))
 }

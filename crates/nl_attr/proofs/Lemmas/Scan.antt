@@ -11,7 +11,7 @@ use Rattle.nl_attr.specs.declared.order.Order.{Order}
 use Rattle.nl_attr.specs.Shape.{Shape}
 use Rattle.nl_attr.specs.Numbers.{len_of, span_of}
 use Rattle.nl_attr.specs.Walk.{broken_length, payload_of}
-use Rattle.nl_attr.specs.Heads.{Sort, attr_head, hop_head, Head, least, content_at, broken, broken_in, broken_container, IsSound, span_at, follower, inner_in, inner_at, inner_of, heads}
+use Rattle.nl_attr.specs.Heads.{Sort, attr_head, hop_head, Head, MayStand, least, content_at, broken, broken_in, broken_container, IsSound, span_at, follower, inner_in, inner_at, inner_of, heads}
 use Rattle.nl_attr.proofs.Lemmas.Grammars.{IsLawful, Costs}
 use Rattle.nl_attr.proofs.Lemmas.Reading.{or_else_none, sound_within, span_at_least, payload_length}
 
@@ -35,17 +35,13 @@ room d attr_head l = d - l + 1
 room d hop_head l = d - (l + 1) + 2
 
 module _ (S : Shape) where
-  abbrev pub IsLow : Sort → ℕ → Type 0
-  IsLow attr_head l = l ≤ S.depth
-  IsLow hop_head l = l + 1 ≤ S.depth
-
   -- the first head inside the item of a head of this sort at a place
   pub record IsInner (s : Sort) (place l : ℕ) (left : List ℕ) (k : Head) : Type 0 where
     pub place_is : k.place ≡ place + least s
     pub left_is : k.left ≡ payload_of S.order (least s) 2 left
     pub level : k.level ≡ l + 1
     pub room_in : room S.depth k.sort k.level + 1 ≤ room S.depth s l
-    pub low : IsLow s l → IsLow k.sort k.level × (l + 1 ≤ S.depth)
+    pub low : MayStand S.depth s l → MayStand S.depth k.sort k.level × (l + 1 ≤ S.depth)
 
   some_head : (j k : Head) → ◌≡◌ {A = Option Head} (Some j) (Some k) → j ≡ k
   some_head j k e = cc

@@ -1,12 +1,12 @@
 -- The loop over a stack of open regions.
-use Rattle.std.proofs.Common.{◌≡◌, ◌≢◌, ℕ, suc, ◌+◌, ◌-◌, ◌*◌, ◌≤◌, ◌<◌, true, false, List, [], ◌∷◌, ◌++◌, length, drop, map, Option, Some, None, refl, sym, ap, subst, ◌∙◌, arith, length-append, eqb}
+use Rattle.std.proofs.Common.{◌≡◌, ◌≢◌, ℕ, suc, ◌+◌, ◌-◌, ◌*◌, ◌≤◌, ◌<◌, true, false, List, [], ◌∷◌, ◌++◌, length, drop, map, Option, Some, None, is_some, refl, sym, ap, subst, ◌∙◌, arith, length-append, eqb}
 use Rattle.std.proofs.lemmas.Bool.{eqb-true}
 use Rattle.std.specs.List.{All}
 use Rattle.std.specs.Option.{IfSome}
 use Rattle.std.proofs.lemmas.List.Elements.{All-head, All-tail}
 use Rattle.std.proofs.lemmas.List.{append-nil, length-map, map-append, nil_from_length}
 use Rattle.std.proofs.lemmas.Option.{IfSome_then}
-use Rattle.nl_attr.specs.Fixed.{FARTHEST_END, LONGEST_REGION, MOST_VISITS}
+use Rattle.nl_attr.specs.Fixed.{FARTHEST_END, LONGEST_REGION, MOST_LEVELS, MOST_VISITS}
 use Rattle.nl_attr.specs.declared.fault.Reason.{Reason}
 use Rattle.nl_attr.specs.declared.events.Event.{Event}
 use Rattle.nl_attr.specs.declared.events.Room.{Room}
@@ -18,16 +18,17 @@ use Rattle.nl_attr.specs.declared.taping.steps.Advance.{Advance}
 use Rattle.nl_attr.specs.declared.taping.steps.Lead.{Lead}
 use Rattle.nl_attr.specs.declared.taping.steps.Lead.TheVariants as lead
 use Rattle.nl_attr.specs.declared.tree.Ctx.{Ctx}
-use Rattle.nl_attr.specs.Shape.{Shape}
+use Rattle.nl_attr.specs.declared.order.Order.{Order}
+use Rattle.nl_attr.specs.Shape.{Shape, shape_of}
 use Rattle.nl_attr.specs.Numbers.{span_of}
-use Rattle.nl_attr.specs.Broken.{facts_of}
+use Rattle.nl_attr.specs.Broken.{facts_of, fault_in}
 use Rattle.nl_attr.specs.Grammar.{and_on, first, inner_trail}
-use Rattle.nl_attr.specs.Heads.{Sort, attr_head, hop_head, Head, HeadAt, IsSound, broken, follower, inner_of, start_of, heads}
+use Rattle.nl_attr.specs.Heads.{Sort, attr_head, hop_head, Head, MayStand, HeadAt, IsSound, broken, follower, inner_of, start_of, heads}
 use Rattle.nl_attr.specs.HeadOrder.{Trail, counted, trail_of, event_of, put_from, visits_of, fault_of}
 use Rattle.nl_attr.specs.Region.{head_of}
 use Rattle.nl_attr.specs.Taped.{Adds, HasRoom, HoldsNone, IsTaped, Leads, LeadsTo, Passes, Skips, found}
 use Rattle.nl_attr.proofs.Lemmas.Grammars.{front, front_on, front_front, weigh-append, behind_then, inside_then, each, trail_ends, trail_stops, trail_goes, walk_bound, weigh}
-use Rattle.nl_attr.proofs.Lemmas.Scan.{IsLow, sound_of, inner_is, inner_fills, fills, few_cost, laws}
+use Rattle.nl_attr.proofs.Lemmas.Scan.{room, sound_of, inner_is, inner_fills, fills, visits_cost, few_cost, laws}
 use Rattle.nl_attr.proofs.Lemmas.First.{walk_low}
 use Rattle.nl_attr.proofs.Lemmas.Nested.{whole_fits}
 use Rattle.nl_attr.proofs.Lemmas.Putting.{put_length, put_none, put_nowhere, put_on, put_untouched, room_on}
@@ -100,7 +101,7 @@ module _ (S : Shape) where
   pub record IsAtLevel (start : Head) (l : ℕ) (h : Head) : Type 0 where
     pub reach : (k : Head) → HeadAt S h k → HeadAt S start k
     pub level : h.level ≡ l
-    pub low : IsLow S h.sort h.level
+    pub low : MayStand S.depth h.sort h.level
     pub size : length h.left ≤ LONGEST_REGION
     pub place : h.place + length h.left ≤ FARTHEST_END
 
@@ -188,6 +189,40 @@ trail_few : (S : Shape) (start : Head) → length (trail_of S start).0 ≤ visit
 unfolding heads
 trail_few S start = few S start (trail_of S start).0 (each (heads S) (laws S) start)
 
+-- each head has four bytes of its own at least
+fours : (S : Shape) (hs : List Head) → weigh (heads S) (λ h. 4) hs ≡ 4 * length hs
+fours S [] = omega arith
+fours S (h ∷ hs) = omega (arith, fours S hs)
+
+trail_quarter : (S : Shape) (start : Head) → 4 * length (trail_of S start).0 ≤ length start.left
+unfolding heads
+trail_quarter S start = omega (arith, walk_bound (heads S) (laws S) start (λ h. 4) (λ h. 1) (few_cost S), fours S (trail_of S start).0)
+
+-- the visits of a region are few
+trail_fits : (S : Shape) (start : Head) → S.depth ≤ 32 → length start.left ≤ LONGEST_REGION → visits_of S (trail_of S start).0 ≤ MOST_VISITS
+unfolding heads
+trail_fits S start d size = whole_fits (room S.depth start.sort start.level) (length start.left) (visits_of S (trail_of S start).0) (levels start.sort start.level) size (walk_bound (heads S) (laws S) start (heads S).visited (λ h. room S.depth h.sort h.level) (visits_cost S)) where
+  levels : (s : Sort) (l : ℕ) → room S.depth s l ≤ 33
+  levels attr_head l = omega (arith, d)
+  levels hop_head l = omega (arith, d)
+
+-- what is behind an answer of no fault, and of one
+no_fault : (o : Option (ℕ × Reason)) → fault_of o ≡ None → o ≡ None
+no_fault None e = refl
+no_fault (Some f) e = absurd cc
+
+pub none_in : {A : Type 0} (o : Option A) → false ≡ is_some o → o ≡ None
+none_in None e = refl
+none_in (Some x) e = absurd cc
+
+some_in : {A : Type 0} (o : Option A) → true ≡ is_some o → (x : A) × (o ≡ Some x)
+some_in None e = absurd cc
+some_in (Some x) e = (x, refl)
+
+some_fault : (o : Option (ℕ × Reason)) (x : BrokenHead) → fault_of o ≡ fault_in (Some x) → (f : ℕ × Reason) × (o ≡ Some f)
+some_fault None x e = absurd cc
+some_fault (Some f) x e = (f, refl)
+
 -- ---- the state of the loop
 
 -- nothing is found yet
@@ -204,15 +239,19 @@ pub record IsTaping (S : Shape) (start : Head) (count : ℕ) (old : List Event) 
   pub quarter : 4 * t.count + (left_in fs + length top.left) ≤ 4 * count + length start.left
 
 -- the whole region is left, and none waits
-pub begins : (S : Shape) (start : Head) (count : ℕ) (old : List Event) (fs : List Head) → fs ≡ [] → start.sort ≡ attr_head → start.level ≤ S.depth → length start.left ≤ LONGEST_REGION → start.place + length start.left ≤ FARTHEST_END → IsTaping S start count old fs start (begun count) old
-begins S start count old fs none kind level size place = subst (λ (xs : List Head). IsTaping S start count old xs start (begun count) old) (sym none) (record {
+pub begins : (S : Shape) (start : Head) (count : ℕ) (old : List Event) (fs : List Head) → fs ≡ [] → MayStand S.depth start.sort start.level → length start.left ≤ LONGEST_REGION → start.place + length start.left ≤ FARTHEST_END → IsTaping S start count old fs start (begun count) old
+begins S start count old fs none low size place = subst (λ (xs : List Head). IsTaping S start count old xs start (begun count) old) (sym none) (record {
   hs = [];
   same = refl;
   adds = record { count = omega arith; visits = omega arith; events = sym (put_none count old) };
   below = tt;
-  stands = record { reach = λ k p. p; level = omega arith; low = subst (λ (s : Sort). IsLow S s start.level) (sym kind) level; size = size; place = place };
+  stands = record { reach = λ k p. p; level = omega arith; low = low; size = size; place = place };
   quarter = omega arith;
 })
+
+-- those of attributes may stand down to the depth
+pub attrs_stand : (d l : ℕ) (s : Sort) → s ≡ attr_head → l ≤ d → MayStand d s l
+attrs_stand d l s kind level = subst (λ (x : Sort). MayStand d x l) (sym kind) level
 
 module _ {S : Shape} {start : Head} {count : ℕ} {old : List Event} {fs : List Head} {top : Head} {t : Counts} {out : List Event} (now : IsTaping S start count old fs top t out) where
   -- the region at hand is at its end, and the last that waits goes on
@@ -263,7 +302,7 @@ module _ {S : Shape} {start : Head} {count : ℕ} {old : List Event} {fs : List 
   -- its level is among those that a limit allows
   pub level_here : S.depth ≤ 32 → top.level ≤ 32
   level_here d = low top.sort now.stands.low where
-    low : (s : Sort) → IsLow S s top.level → top.level ≤ 32
+    low : (s : Sort) → MayStand S.depth s top.level → top.level ≤ 32
     low attr_head p = omega (arith, p, d)
     low hop_head p = omega (arith, p, d)
 
@@ -274,17 +313,68 @@ module _ {S : Shape} {start : Head} {count : ℕ} {old : List Event} {fs : List 
       subst (λ (n : ℕ). HasRoom room t.count (length top.left) n) (sym same) (room_on room count (length start.left) t.count (length top.left) (length old) (omega (arith, now.quarter)) q)
 
   -- the sums are small
-  pub small : start.sort ≡ attr_head → start.level ≤ S.depth → S.depth ≤ 32 → length start.left ≤ LONGEST_REGION → (t.visits ≤ MOST_VISITS) × (t.count ≤ count + MOST_VISITS)
-  small kind l d size =
-      let same : start_of start.ctx start.level start.place start.left ≡ start = at start.sort kind in
-      let bound = subst (λ (h : Head). visits_of S (trail_of S h).0 ≤ (S.depth - start.level + 1) * length start.left) same (walk_low S start.ctx start.level start.place start.left) in
-      let fits = whole_fits (S.depth - start.level + 1) (length start.left) (visits_of S (trail_of S start).0) (omega (arith, d)) size bound in
+  pub small : S.depth ≤ 32 → length start.left ≤ LONGEST_REGION → (t.visits ≤ MOST_VISITS) × (t.count ≤ count + MOST_VISITS)
+  small d size =
+      let fits = trail_fits S start d size in
       let rest = (resume S fs (trail_of S top)).0 in
       let total : visits_of S (trail_of S start).0 ≡ visits_of S now.hs + visits_of S rest = ap (λ (x : Trail). visits_of S x.0) now.same ∙ weigh-append (heads S) (heads S).visited now.hs rest in
       let heads : length (trail_of S start).0 ≡ length now.hs + length rest = ap (λ (x : Trail). length x.0) now.same ∙ length-append now.hs rest in
-      (omega (arith, fits, total, now.adds.visits), omega (arith, fits, heads, trail_few S start, now.adds.count)) where
-        at : (s : Sort) → s ≡ attr_head → ◌≡◌ {A = Head} (record { place = start.place; sort = attr_head; ctx = start.ctx; level = start.level; left = start.left }) (record { place = start.place; sort = s; ctx = start.ctx; level = start.level; left = start.left })
-        at s e = ap (λ (x : Sort). record { place = start.place; sort = x; ctx = start.ctx; level = start.level; left = start.left }) (sym e)
+      (omega (arith, fits, total, now.adds.visits), omega (arith, fits, heads, trail_few S start, now.adds.count))
+
+  -- there are no more events than bytes that are gone past
+  pub few_here : t.count + length top.left ≤ count + length start.left
+  few_here = omega (arith, now.quarter, now.adds.count)
+
+  -- ---- a region that is scanned by itself
+
+  module _ {mid : List Event} {more : Counts} {b : Option BrokenHead} (is : IsTaped S top t.count out mid (found b more)) where
+    abbrev pub sum : Counts
+    sum = record { count = more.count; visits = t.visits + more.visits }
+
+    -- what it adds
+    alone : Adds S (trail_of S top).0 t sum out mid
+    alone = record { count = is.counted; visits = ap (λ (n : ℕ). t.visits + n) is.visits; events = is.events }
+
+    -- it is accepted, and the last that waits goes on
+    pub scanned : (gs : List Head) (g : Head) → b ≡ None → fs ≡ gs ++ g ∷ [] → IsTaping S start count old gs g sum mid
+    unfolding heads
+    scanned gs g none last =
+        let hs = (trail_of S top).0 in
+        let all = levels_pop S start start.level gs g (subst (AllAtLevels S start start.level) last now.below) in
+        let ends : (trail_of S top).1 ≡ None = no_fault (trail_of S top).1 (sym is.fault ∙ ap fault_in none) in
+        let same : trail_of S top ≡ front hs ([], None) = ap (λ (o : Option (ℕ × Reason)). (hs, o)) ends ∙ ap (λ (l : List Head). (l, None)) (sym (append-nil hs)) in
+        record {
+          hs = now.hs ++ hs;
+          same = now.same ∙ ap (λ (x : Trail). front now.hs (resume S fs x)) same
+              ∙ ap (front now.hs) (resume_front S fs hs ([], None))
+              ∙ front_front now.hs hs (resume S fs ([], None))
+              ∙ ap (λ (xs : List Head). front (now.hs ++ hs) (resume S xs ([], None))) last
+              ∙ ap (front (now.hs ++ hs)) (resume_push S gs g ([], None));
+          adds = adds_then S now.hs hs (begun count) t sum old out mid now.adds alone;
+          below = all.0;
+          stands = all.1;
+          quarter = omega (arith, now.quarter, ap left_in last, left_push gs g, is.counted, trail_quarter S top);
+        }
+
+    -- a head in it breaks a rule
+    pub scanned_fails : (x : BrokenHead) → b ≡ Some x → IsTaped S start count old mid (found b sum)
+    unfolding heads
+    scanned_fails x some =
+        let hs = (trail_of S top).0 in
+        let f = some_fault (trail_of S top).1 x (sym is.fault ∙ ap fault_in some) in
+        let same : trail_of S start ≡ (now.hs ++ hs, Some f.0) = now.same ∙ ap (λ (o : Option (ℕ × Reason)). front now.hs (resume S fs (hs, o))) f.1 ∙ ap (front now.hs) (resume_fault S fs hs f.0) in
+        let adds = adds_then S now.hs hs (begun count) t sum old out mid now.adds alone in
+        record {
+          fault = is.fault ∙ ap fault_of f.1 ∙ ap (λ (x : Trail). fault_of x.1) (sym same);
+          head = IfSome_then b is.head (λ y p. (p.0, now.stands.reach p.0 p.1, p.2, p.3));
+          visits = adds.visits ∙ omega arith ∙ ap (λ (x : Trail). visits_of S x.0) (sym same);
+          counted = adds.count ∙ ap (λ (x : Trail). count + length x.0) (sym same);
+          events = adds.events ∙ ap (λ (x : Trail). put_from count (map (event_of S.order) x.0) old) (sym same);
+        }
+
+    -- its counts are small
+    pub scanned_small : S.depth ≤ 32 → length start.left ≤ LONGEST_REGION → t.visits + more.visits ≤ 2 * MOST_VISITS
+    scanned_small d size = omega (arith, (small d size).0, is.visits, trail_fits S top d now.stands.size)
 
   -- ---- the events
 
@@ -316,16 +406,16 @@ module _ {S : Shape} {start : Head} {count : ℕ} {old : List Event} {fs : List 
       })
 
 -- heads at its front are passed before its loop begins
-pub skipped : {S : Shape} {start top : Head} {count : ℕ} {old new : List Event} {t : Counts} (fs : List Head) → fs ≡ [] → start.sort ≡ attr_head → start.level ≤ S.depth → length start.left ≤ LONGEST_REGION → start.place + length start.left ≤ FARTHEST_END
-    → Skips S start top (begun count) t old new → IsTaping S start count old fs top t new
-skipped {S = S} {start = start} {top = top} {count = count} {old = old} {new = new} {t = t} fs none kind level size place s =
-    passes (begins S start count old fs none kind level size place) s.passed top t new s.passes s.adds
+pub skipped : {S : Shape} {start top : Head} {count : ℕ} {old new : List Event} {t : Counts} → MayStand S.depth start.sort start.level → length start.left ≤ LONGEST_REGION → start.place + length start.left ≤ FARTHEST_END
+    → Skips S start top (begun count) t old new → IsTaping S start count old [] top t new
+skipped {S = S} {start = start} {top = top} {count = count} {old = old} {new = new} {t = t} low size place s =
+    passes (begins S start count old [] refl low size place) s.passed top t new s.passes s.adds
 
 -- all of it is passed
-pub skipped_all : {S : Shape} {start top : Head} {count : ℕ} {old new : List Event} {t : Counts} (b : Option BrokenHead) → b ≡ None → start.sort ≡ attr_head → start.level ≤ S.depth → length start.left ≤ LONGEST_REGION → start.place + length start.left ≤ FARTHEST_END
+pub skipped_all : {S : Shape} {start top : Head} {count : ℕ} {old new : List Event} {t : Counts} (b : Option BrokenHead) → b ≡ None → MayStand S.depth start.sort start.level → length start.left ≤ LONGEST_REGION → start.place + length start.left ≤ FARTHEST_END
     → Skips S start top (begun count) t old new → top.left ≡ [] → IsTaped S start count old new (found b t)
-skipped_all {S = S} {start = start} {count = count} {old = old} {new = new} {t = t} b none kind level size place s end =
-    subst (λ (o : Option BrokenHead). IsTaped S start count old new (found o t)) (sym none) (tells_none (skipped [] refl kind level size place s) end refl)
+skipped_all {S = S} {start = start} {count = count} {old = old} {new = new} {t = t} b none low size place s end =
+    subst (λ (o : Option BrokenHead). IsTaped S start count old new (found o t)) (sym none) (tells_none (skipped low size place s) end refl)
 
 -- heads at its front are passed, and it is scanned from there on
 pub skipped_then : {S : Shape} {start top : Head} {count : ℕ} {old mid new : List Event} {t more : Counts} {b : Option BrokenHead} → Skips S start top (begun count) t old mid → IsTaped S top t.count mid new (found b more)
@@ -350,6 +440,10 @@ skipped_room {S = S} {h = h} {g = g} {before = before} {between = between} {old 
     let sum = passes_sum S h s.passed g s.passes in
     let same : length new ≡ length old = ap (length {A = Event}) s.adds.events ∙ put_length before.count (map (event_of S.order) s.passed) old in
     subst (λ (n : ℕ). HasRoom room between.count (length g.left) n) (sym same) (room_on room before.count (length h.left) between.count (length g.left) (length old) (omega (arith, sum.0, sum.1, s.adds.count)) q)
+
+-- a shape that is made of a limit
+pub depth_low : {S : Shape} {o : Order} {d n : ℕ} → S ≡ shape_of o d → n ≡ d → n ≤ MOST_LEVELS → S.depth ≤ MOST_LEVELS
+depth_low is same low = omega (arith, ap (λ (x : Shape). x.depth) is, same, low)
 
 -- ---- a step of the loop
 
@@ -383,6 +477,18 @@ module _ {S : Shape} {start : Head} {count : ℕ} {old : List Event} {fs : List 
 
     pub step_opens : (k : OpenRegion) (gs : List Head) → a.lead ≡ lead.Opens k → gs ≡ fs ++ head_of a.rest ∷ [] → IsTaping S start count old gs (head_of k) u new
     step_opens k gs e is = let l = leads (lead.Opens k) e in opens now (head_of a.rest) (head_of k) gs u new l.0 l.1 l.2 l.3 is l.4
+
+    -- the region in the item is scanned by itself
+    module _ (k : OpenRegion) (e : a.lead ≡ lead.Opens k) where
+      pub step_inside : IsTaping S start count old (fs ++ head_of a.rest ∷ []) (head_of k) u new
+      step_inside = step_opens k (fs ++ head_of a.rest ∷ []) e refl
+
+      module _ {b : Option BrokenHead} {mid : List Event} {more : Counts} (is : IsTaped S (head_of k) u.count new mid (found b more)) where
+        pub step_scanned : b ≡ None → IsTaping S start count old fs (head_of a.rest) (record { count = more.count; visits = u.visits + more.visits }) mid
+        step_scanned none = scanned step_inside is fs (head_of a.rest) none refl
+
+        pub step_scan_fails : true ≡ is_some b → IsTaped S start count old mid (found b (record { count = more.count; visits = u.visits + more.visits }))
+        step_scan_fails some = let x = some_in b some in scanned_fails step_inside is x.0 x.1
 
     pub step_goes : a.lead ≡ lead.Goes → IsTaping S start count old fs (head_of a.rest) u new
     step_goes e =
@@ -426,15 +532,6 @@ module _ {S : Shape} {start : Head} {count : ℕ} {old new : List Event} {t : Ta
       let es = map (event_of S.order) (trail_of S start).0 in
       let n : t.count ≡ count + length es = is.counted ∙ ap (λ (k : ℕ). count + k) (sym (length-map (trail_of S start).0 (event_of S.order))) in
       ap (λ (xs : List Event). drop t.count xs) is.events ∙ ap (λ (k : ℕ). drop k (put_from count es old)) n ∙ put_untouched count es old ∙ ap (λ (k : ℕ). drop k old) (sym n)
-
--- each head has four bytes of its own at least
-fours : (S : Shape) (hs : List Head) → weigh (heads S) (λ h. 4) hs ≡ 4 * length hs
-fours S [] = omega arith
-fours S (h ∷ hs) = omega (arith, fours S hs)
-
-trail_quarter : (S : Shape) (start : Head) → 4 * length (trail_of S start).0 ≤ length start.left
-unfolding heads
-trail_quarter S start = omega (arith, walk_bound (heads S) (laws S) start (λ h. 4) (λ h. 1) (few_cost S), fours S (trail_of S start).0)
 
 pub taped_quarter : {S : Shape} {start : Head} {count : ℕ} {old new : List Event} {t : Taped} → IsTaped S start count old new t → 4 * t.count ≤ 4 * count + length start.left
 taped_quarter {S = S} {start = start} is = omega (arith, is.counted, trail_quarter S start)

@@ -23,16 +23,18 @@ pub(super) struct Passed<'a> {
 }
 
 /// Whether an attribute of this type, with so many bytes behind its head, is a list without a byte
-/// that may stand here, where such lists are gone past.
+/// that may stand here, where such lists are gone past; those without the flag of a list are left.
 #[inline(always)]
 fn is_empty_list(key: Ctx, kind: u16, len: usize, level: u8, shape: Shape, lists: bool) -> bool
     requires { level ≤ fixed.MOST_LEVELS }
     ensures { result ≡ true → IsEmptyList key kind len level shape.depth }
 {
-    if !lists || len != 0 || level >= shape.depth() {
+    let flags = flags_in(kind);
+    // With the flag nearly all are lists, so that no number is compared.
+    if !lists || len != 0 || level >= shape.depth() || !flags.nested {
         return false;
     }
-    match holds(key, kind % NUMBERS, flags_in(kind)) {
+    match holds(key, kind % NUMBERS, flags) {
         Content::List(_) => true,
         Content::Bytes | Content::Hops => false,
     }

@@ -1,5 +1,5 @@
-//! Scanning a region by one loop over a stack of open regions, which takes no memory and no call
-//! stack: each head is checked, and its event is put into a buffer.
+//! Scanning a region, which takes no memory, and no more call stack where regions stand in regions:
+//! each head is checked, and its event is put into a buffer.
 
 ghost use Rattle.std.specs.Prelude.{◌^◌, ◌≡◌, ◌≤◌, ◌<◌, ◌+◌, ◌-◌, ◌*◌, drop, length, slice_set};
 ghost use Rattle.nl_attr.specs.Fixed as fixed;
@@ -21,7 +21,6 @@ use crate::region::{OpenRegion, Parts};
 use crate::taping::regions::tape_regions;
 use crate::taping::steps::pass_front;
 use crate::tree::Ctx;
-use arrayvec::ArrayVec;
 
 /// What a scan found.
 #[derive(Clone, Copy, Debug, PartialEq, Eq, Hash)]
@@ -72,38 +71,26 @@ impl Counts {
         self.count = count;
         self.visits += spans as u64;
     }
-}
 
-/// How many regions may be open below the one that is scanned.
-const MOST_OPEN: usize = 33;
-
-/// Room for the regions that are open below the one that is scanned, and for the head at which a
-/// scan ends. It is made once for all scans of a datagram.
-#[derive(Drop)]
-pub struct OpenRegions<'a> {
-    stack: ArrayVec<OpenRegion<'a>, MOST_OPEN>,
-    /// The head that breaks a rule at the first fault of the last scan, or none. It stays here, so
-    /// that a scan that finds none hands out nothing but its counts.
-    pub broken: Option<BrokenHead>,
-}
-
-impl OpenRegions<'_> {
-    /// Room in which no region is open, and no fault was found.
-    pub fn new() -> Self
-        ensures { result.broken ≡ None }
+    /// Adds what a scan counted that went on from here.
+    #[inline(always)]
+    fn join(&mut self, more: Counts)
+        requires { self.old.visits + more.visits < 2 ^ 64 }
+        ensures { self.new ≡ record {
+          count = more.count;
+          visits = self.old.visits + more.visits;
+        } }
     {
-        OpenRegions {
-            stack: ArrayVec::new(),
-            broken: None,
-        }
+        self.count = more.count;
+        self.visits += more.visits;
     }
 }
 
 /// Scans a region of attributes from its front to its end or its first fault.
 #[inline(always)]
-fn tape_region<'a>(
-    regions: &mut OpenRegions<'a>,
-    start: OpenRegion<'a>,
+fn tape_region(
+    broken: &mut Option<BrokenHead>,
+    start: OpenRegion<'_>,
     ctx: Ctx,
     depth: Depth,
     order: Order,
@@ -111,7 +98,7 @@ fn tape_region<'a>(
     out: &mut [Event],
     count: usize,
 ) -> Counts
-    requires none { regions.old.broken ≡ None }
+    requires none { broken.old ≡ None }
     requires parts { start.parts ≡ Parts.Attrs ctx }
     requires level { start.level ≤ depth }
     requires size { length start.left.now ≤ fixed.LONGEST_REGION }
@@ -119,7 +106,7 @@ fn tape_region<'a>(
     requires count { count ≤ 2 ^ 32 }
     requires room { HasRoom room count (length start.left.now) (length out.old) }
     ensures { IsTaped (shape_of order depth) (head_of start.entry) count out.old out.new
-        (found regions.new.broken result) }
+        (found broken.new result) }
 {
     // The depth is at most 32, and so are the levels.
     let _limit = depth.get();
@@ -130,18 +117,16 @@ fn tape_region<'a>(
     if top.left.is_empty() {
         return counts;
     }
-    let more = tape_regions(regions, top, depth, order, room, out, counts.count);
-    Counts {
-        count: more.count,
-        visits: counts.visits + more.visits,
-    }
+    let count = counts.count;
+    counts.join(tape_regions(broken, top, ctx, depth, order, room, out, count));
+    counts
 }
 
 /// Scans a region of attributes, as `tape_attrs` does, into a buffer of whose room this is known.
 #[inline(always)]
-pub fn tape_attrs_in<'a>(
-    regions: &mut OpenRegions<'a>,
-    bytes: &'a [u8],
+pub fn tape_attrs_in(
+    broken: &mut Option<BrokenHead>,
+    bytes: &[u8],
     base: u32,
     ctx: Ctx,
     level: u8,
@@ -152,7 +137,7 @@ pub fn tape_attrs_in<'a>(
     count: usize,
 ) -> Counts
     // No fault has been found.
-    requires none { regions.old.broken ≡ None }
+    requires none { broken.old ≡ None }
     requires level { level ≤ depth }
     requires size { length bytes.now ≤ fixed.LONGEST_REGION }
     requires place { base + length bytes.now ≤ fixed.FARTHEST_END }
@@ -160,7 +145,7 @@ pub fn tape_attrs_in<'a>(
     requires room { HasRoom room count (length bytes.now) (length out.old) }
     // As for `tape_attrs`.
     ensures taped { IsTaped (shape_of order depth) (start_of ctx level base bytes.now)
-        count out.old out.new (found regions.new.broken result) }
+        count out.old out.new (found broken.new result) }
     ensures bound { result.visits ≤ (depth - level + 1) * length bytes.now }
     ensures count { result.count ≤ count + result.visits }
     // A head has at least four bytes that are no other head's.
@@ -173,15 +158,15 @@ pub fn tape_attrs_in<'a>(
         level,
         parts: Parts::Attrs(ctx),
     };
-    tape_region(regions, start, ctx, depth, order, room, out, count)
+    tape_region(broken, start, ctx, depth, order, room, out, count)
 }
 
 /// Scans a region of attributes, as `tape_list` does, and answers the counts alone: the head that
-/// breaks a rule at the first fault is left in `regions`.
+/// breaks a rule at the first fault is left in `broken`.
 #[inline(always)]
-pub fn tape_attrs<'a>(
-    regions: &mut OpenRegions<'a>,
-    bytes: &'a [u8],
+pub fn tape_attrs(
+    broken: &mut Option<BrokenHead>,
+    bytes: &[u8],
     base: u32,
     ctx: Ctx,
     level: u8,
@@ -191,15 +176,15 @@ pub fn tape_attrs<'a>(
     count: usize,
 ) -> Counts
     // No fault has been found.
-    requires none { regions.old.broken ≡ None }
+    requires none { broken.old ≡ None }
     requires level { level ≤ depth }
     requires size { length bytes.now ≤ fixed.LONGEST_REGION }
     requires place { base + length bytes.now ≤ fixed.FARTHEST_END }
     requires count { count ≤ 2 ^ 32 }
-    // The heads are those of the region up to its first fault, and so are the visits; where there is
-    // a fault, the head that breaks its rule stands in the region at its place.
+    // The heads are those of the region up to its first fault, and so are the visits; where there
+    // is a fault, the head that breaks its rule stands in the region at its place.
     ensures taped { IsTaped (shape_of order depth) (start_of ctx level base bytes.now)
-        count out.old out.new (found regions.new.broken result) }
+        count out.old out.new (found broken.new result) }
     ensures bound { result.visits ≤ (depth - level + 1) * length bytes.now }
     ensures count { result.count ≤ count + result.visits }
     // From the last event on the buffer is as it was.
@@ -207,7 +192,7 @@ pub fn tape_attrs<'a>(
 {
     let room = Room::Unknown;
     tape_attrs_in(
-        regions, bytes, base, ctx, level, depth, order, room, out, count,
+        broken, bytes, base, ctx, level, depth, order, room, out, count,
     )
 }
 
@@ -220,9 +205,8 @@ pub fn tape_attrs<'a>(
 /// that one have been put. The answer's `count` is the place behind the last event, at which a next
 /// scan goes on. Where it is above the length of `out`, the last events had no room.
 #[inline(always)]
-pub fn tape_list<'a>(
-    regions: &mut OpenRegions<'a>,
-    bytes: &'a [u8],
+pub fn tape_list(
+    bytes: &[u8],
     base: u32,
     ctx: Ctx,
     level: u8,
@@ -235,8 +219,8 @@ pub fn tape_list<'a>(
     requires size { length bytes.now ≤ fixed.LONGEST_REGION }
     requires place { base + length bytes.now ≤ fixed.FARTHEST_END }
     requires count { count ≤ 2 ^ 32 }
-    // The heads are those of the region up to its first fault, and so are the visits; where there is
-    // a fault, the head that breaks its rule stands in the region at its place.
+    // The heads are those of the region up to its first fault, and so are the visits; where there
+    // is a fault, the head that breaks its rule stands in the region at its place.
     ensures taped { IsTaped (shape_of order depth) (start_of ctx level base bytes.now)
         count out.old out.new result }
     ensures bound { result.visits ≤ (depth - level + 1) * length bytes.now }
@@ -244,10 +228,20 @@ pub fn tape_list<'a>(
     // From the last event on the buffer is as it was.
     ensures untouched { drop result.count out.new ≡ drop result.count out.old }
 {
-    regions.broken = None;
-    let counts = tape_attrs(regions, bytes, base, ctx, level, depth, order, out, count);
+    let mut broken = None;
+    let counts = tape_attrs(
+        &mut broken,
+        bytes,
+        base,
+        ctx,
+        level,
+        depth,
+        order,
+        out,
+        count,
+    );
     Taped {
-        broken: regions.broken,
+        broken,
         count: counts.count,
         visits: counts.visits,
     }

@@ -15,14 +15,14 @@ returns-clause-head c =
     let a = c.args in
     let S = shape_of a.order a.depth in
     let start = rest_so (context_of a.family) 0 a.place a.payload.now c.row-row.result.head_size (head_size a.family) c.row-row.ensures.size in
-    (subst (λ (h : Head). IsTaped S h a.count a.out.now c.tape_attrs_in.new.out (found c.tape_attrs_in.new.regions.broken c.tape_attrs_in.result)) start (rw (c.row-row.ensures.context) at c.tape_attrs_in.ensures.taped)).head
+    (subst (λ (h : Head). IsTaped S h a.count a.out.now c.tape_attrs_in.new.out (found c.tape_attrs_in.new.broken c.tape_attrs_in.result)) start (rw (c.row-row.ensures.context) at c.tape_attrs_in.ensures.taped)).head
 
 pub returns-clause-taped : goal.returns-clause-taped
 returns-clause-taped c =
     let a = c.args in
     let S = shape_of a.order a.depth in
     let start = rest_so (context_of a.family) 0 a.place a.payload.now c.row-row.result.head_size (head_size a.family) c.row-row.ensures.size in
-    region_taped S _ a.count a.out.now _ (found c.tape_attrs_in.new.regions.broken c.tape_attrs_in.result) (subst (λ (h : Head). IsTaped S h a.count a.out.now c.tape_attrs_in.new.out (found c.tape_attrs_in.new.regions.broken c.tape_attrs_in.result)) start (rw (c.row-row.ensures.context) at c.tape_attrs_in.ensures.taped))
+    region_taped S _ a.count a.out.now _ (found c.tape_attrs_in.new.broken c.tape_attrs_in.result) (subst (λ (h : Head). IsTaped S h a.count a.out.now c.tape_attrs_in.new.out (found c.tape_attrs_in.new.broken c.tape_attrs_in.result)) start (rw (c.row-row.ensures.context) at c.tape_attrs_in.ensures.taped))
 
 -- a level more for each, above none
 from_the_lowest : (v d n : ℕ) → v ≤ (d - 0 + 1) * n → v ≤ (d + 1) * n

@@ -1,4 +1,4 @@
-use Rattle.std.proofs.Common.{◌≡◌, ℕ, List, Some, length, sym, ap, subst, ◌∙◌, arith}
+use Rattle.std.proofs.Common.{◌≡◌, ℕ, List, Some, length, refl, sym, ap, subst, ◌∙◌, arith}
 use Rattle.nl_attr.specs.declared.events.Event.{Event}
 use Rattle.nl_attr.specs.Shape.{shape_of}
 use Rattle.nl_attr.specs.Taped.{HasRoom, found}
@@ -12,7 +12,7 @@ use Rattle.nl_frame.proofs.Tapes.{begins, tells_none, tells_broken, tells_fault,
 use Rattle.nl_frame.proofs.taping.tape_ordered.Goals as goal
 
 pub messages-init : goal.messages-init
-messages-init g c = (c.new-regions.ensures, omega arith, begins (shape_of c.args.order c.args.depth) c.args.bytes.now c.args.out.now)
+messages-init g c = (refl, omega arith, begins (shape_of c.args.order c.args.depth) c.args.bytes.now c.args.out.now)
 
 pub tape_message-message-requires-clause-room : goal.tape_message-message-requires-clause-room
 tape_message-message-requires-clause-room g c =
@@ -39,10 +39,10 @@ pub overflow_add-visits : goal.overflow_add-visits
 overflow_add-visits g c = omega (arith, sum_small c.messages.invariant.2.at c.in-Ok.taped.frame c.in-Ok.ensures.0 c.in-Ok.taped.counts.visits c.in-Ok.ensures.3 (omega (arith, c.get-limit.ensures.limit, c.get-limit.ensures.value)) c.requires.size)
 
 pub returns-in-Some-clause-taped : goal.returns-in-Some-clause-taped
-returns-in-Some-clause-taped g c = tells_fault c.messages.invariant.2 c.in-Ok.taped.frame (not_empty c.messages.left.now c.messages-test.ensures) c.in-Ok.ensures.0 _ (found c.tape_message-message.new.regions.broken c.in-Ok.taped.counts) c.in-Ok.ensures.1 c.in-Some.head c.in-Some.is
+returns-in-Some-clause-taped g c = tells_fault c.messages.invariant.2 c.in-Ok.taped.frame (not_empty c.messages.left.now c.messages-test.ensures) c.in-Ok.ensures.0 _ (found c.tape_message-message.new.broken c.in-Ok.taped.counts) c.in-Ok.ensures.1 c.in-Some.head c.in-Some.is
 
 pub returns-in-Some-clause-head : goal.returns-in-Some-clause-head
-returns-in-Some-clause-head g c = inner_breaks c.messages.invariant.2 c.in-Ok.taped.frame (not_empty c.messages.left.now c.messages-test.ensures) c.in-Ok.ensures.0 c.tape_message-message.new.regions.broken c.in-Some.head c.in-Some.is c.in-Ok.ensures.2
+returns-in-Some-clause-head g c = inner_breaks c.messages.invariant.2 c.in-Ok.taped.frame (not_empty c.messages.left.now c.messages-test.ensures) c.in-Ok.ensures.0 c.tape_message-message.new.broken c.in-Some.head c.in-Some.is c.in-Ok.ensures.2
 
 pub returns-in-Some-clause-bound : goal.returns-in-Some-clause-bound
 returns-in-Some-clause-bound g c = sum_whole c.messages.invariant.2.at c.in-Ok.taped.frame c.in-Ok.ensures.0 c.in-Ok.taped.counts.visits c.in-Ok.ensures.3
@@ -50,7 +50,7 @@ returns-in-Some-clause-bound g c = sum_whole c.messages.invariant.2.at c.in-Ok.t
 pub messages-preserved : goal.messages-preserved
 messages-preserved g c =
     let is = c.in-Ok.ensures in
-    (c.in_default.is, omega (arith, c.messages.invariant.1, is.5, is.0.inside), goes_on c.messages.invariant.2 c.in-Ok.taped.frame (not_empty c.messages.left.now c.messages-test.ensures) is.0 _ (found c.tape_message-message.new.regions.broken c.in-Ok.taped.counts) is.1 c.in_default.is is.3 is.4)
+    (c.in_default.is, omega (arith, c.messages.invariant.1, is.5, is.0.inside), goes_on c.messages.invariant.2 c.in-Ok.taped.frame (not_empty c.messages.left.now c.messages-test.ensures) is.0 _ (found c.tape_message-message.new.broken c.in-Ok.taped.counts) is.1 c.in_default.is is.3 is.4)
 
 pub returns-clause-taped : goal.returns-clause-taped
 returns-clause-taped g c = tells_none c.messages.invariant.2 (empty c.messages.left.now c.messages-test.ensures)
