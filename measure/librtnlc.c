@@ -74,12 +74,23 @@ static void by_tape(const uint8_t *bytes, uint32_t size, const struct rtnlc_opti
 		count_heads(events, events + found);
 }
 
+enum way { SCAN, TAPE, HEADS, CURSORS };
+
+static enum way way_of(const char *word)
+{
+	if (!strcmp(word, "tape"))
+		return TAPE;
+	if (!strcmp(word, "heads"))
+		return HEADS;
+	return strcmp(word, "cursors") ? SCAN : CURSORS;
+}
+
 int main(int argc, char **argv)
 {
 	static uint8_t bytes[1 << 24];
 	static const struct rtnlc_options options = { .datagram = 1 << 20, .depth = RTNLC_STANDARD_DEPTH };
 	size_t size = fread(bytes, 1, sizeof(bytes), stdin);
-	const char *way = argc > 1 ? argv[1] : "scan";
+	enum way way = way_of(argc > 1 ? argv[1] : "scan");
 	int passes = argc > 2 ? atoi(argv[2]) : 1;
 
 	while (passes-- > 0) {
@@ -87,16 +98,16 @@ int main(int argc, char **argv)
 			uint32_t len;
 
 			memcpy(&len, bytes + at, 4);
-			if (!strcmp(way, "scan"))
+			if (way == SCAN)
 				count += rtnlc_scan(bytes + at + 4, len, &options).visits;
-			else if (!strcmp(way, "tape") || !strcmp(way, "heads"))
-				by_tape(bytes + at + 4, len, &options, !strcmp(way, "heads"));
+			else if (way != CURSORS)
+				by_tape(bytes + at + 4, len, &options, way == HEADS);
 			else
 				by_cursors(bytes + at + 4, len);
 			at += 4 + ((len + 3) & ~3u);
 		}
 	}
-	if (!strcmp(way, "heads"))
+	if (way == HEADS)
 		printf("%lu %lu %lu %lu\n", heads, messages, regions, payloads);
 	else
 		printf("%lu\n", count);
