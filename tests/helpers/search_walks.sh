@@ -126,7 +126,7 @@ same 'a message is taken from the front once by a reading, a scan and a cursor' 
 crates/nl_frame/src/reading.rt 1
 crates/nl_frame/src/taping.rt 2'
 
-# The first goes past heads at the front of a region, and the second past the one at which that ended.
+# The first goes past heads at the front of a region, and the others past those at which it ended.
 same 'a scan is one loop over heads that hold bytes, one over the others, one over next hops, one over what opens more levels, and one over messages' \
   "$(lines '\b(loop|while|for)\b([^<]|<[ =])*\{$' "${scan[@]}" crates/nl_frame/src/scanning.rt "$taping" |
     sed 's/^[^:]*: *//')" \
