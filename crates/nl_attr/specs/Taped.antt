@@ -1,9 +1,9 @@
 -- What a scan of a region puts and counts, head by head and at its end.
-use Rattle.std.specs.Prelude.{◌≡◌, ◌≢◌, ◌≤◌, ◌<◌, ◌+◌, ◌-◌, ◌*◌, ◌%◌, ℕ, List, [], ◌∷◌, length, map, drop, Option, Some, None, IfSome}
+use Rattle.std.specs.Prelude.{◌≡◌, ◌≢◌, ◌≤◌, ◌<◌, ◌+◌, ◌-◌, ◌*◌, ◌%◌, ◌^◌, ℕ, List, [], ◌∷◌, length, map, drop, Option, Some, None, IfSome}
 use Rattle.nl_attr.specs.declared.events.Event.{Event}
 use Rattle.nl_attr.specs.declared.events.Room.{Room}
 use Rattle.nl_attr.specs.declared.events.Room.TheVariants.{Ample, Unknown}
-use Rattle.nl_attr.specs.Fixed.{NUMBERS, SORT_BYTES}
+use Rattle.nl_attr.specs.Fixed.{FARTHEST_END, LONGEST_REGION, NUMBERS, SORT_BYTES}
 use Rattle.nl_attr.specs.declared.order.Order.{Order}
 use Rattle.nl_attr.specs.declared.broken.BrokenHead.{BrokenHead}
 use Rattle.nl_attr.specs.declared.taping.Counts.{Counts}
@@ -22,7 +22,7 @@ use Rattle.nl_attr.specs.Numbers.{kind_of, span_of}
 use Rattle.nl_attr.specs.Tree.{holds_of}
 use Rattle.nl_attr.specs.Walk.{flags_of, payload_of}
 use Rattle.nl_attr.specs.Broken.{IsBrokenHead, fault_in}
-use Rattle.nl_attr.specs.Heads.{hop_head, Head, start_of, broken, follower, inner_of}
+use Rattle.nl_attr.specs.Heads.{hop_head, Head, MayStand, start_of, broken, follower, inner_of}
 use Rattle.nl_attr.specs.Region.{head_of}
 use Rattle.nl_attr.specs.HeadOrder.{trail_of, event_of, put_from, counted, visits_of, fault_of}
 
@@ -53,6 +53,14 @@ pub record IsHopFront (o : Order) (h : Head) (f : HopFront) : Type 0 where
 abbrev pub HasRoom : Room → ℕ → ℕ → ℕ → Type 0
 HasRoom Ample count left places = 4 * count + left < 4 * places + 4
 HasRoom Unknown count left places = Unit {0}
+
+-- the region that this head begins may be scanned: it may stand at its level, it ends within bounds, and so do its events, the next of which is put at this place of a buffer of so many
+pub record MayScan (depth : ℕ) (kind : Room) (next places : ℕ) (start : Head) : Type 0 where
+  pub level : MayStand depth start.sort start.level
+  pub size : length start.left ≤ LONGEST_REGION
+  pub place : start.place + length start.left ≤ FARTHEST_END
+  pub count : next + length start.left ≤ 2 ^ 33
+  pub room : HasRoom kind next (length start.left) places
 
 -- ---- attributes that hold bytes
 

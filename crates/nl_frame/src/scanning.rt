@@ -99,6 +99,7 @@ pub fn tape_datagram(bytes: &[u8], limits: &Limits, out: &mut [Event]) -> Counte
 /// Nothing of it is kept, and no memory is taken.
 ///
 /// It refuses a datagram above the datagram limit, then at the first fault over all heads.
+#[inline(always)]
 pub fn scan_datagram(bytes: &[u8], limits: &Limits) -> Tally<(), ScanError>
     ensures { ScansDatagram limits.now bytes.now result }
 {

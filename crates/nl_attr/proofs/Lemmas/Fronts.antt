@@ -20,7 +20,7 @@ use Rattle.nl_attr.specs.Numbers.{kind_of, len_of}
 use Rattle.nl_attr.specs.Tree.{holds_of, named}
 use Rattle.nl_attr.specs.Walk.{broken_length, flags_of, payload_of}
 use Rattle.nl_attr.specs.Grammar.{unless}
-use Rattle.nl_attr.specs.Heads.{attr_head, Head, content_at, broken, broken_container, inner_in, inner_of, or_else, span_at, start_of, heads}
+use Rattle.nl_attr.specs.Heads.{Head, content_at, broken, broken_container, inner_in, inner_of, or_else, span_at, start_of, heads}
 use Rattle.nl_attr.specs.Region.{content_in, ctx_in, head_of, sort_in}
 use Rattle.nl_attr.specs.Taped.{Adds, hops_start}
 use Rattle.nl_attr.specs.HeadOrder.{event_of, sort_of, counted}
@@ -110,9 +110,6 @@ hop_rest_so l place left n m e = ap (λ (xs : List ℕ). hops_start l (place + n
 
 pub attrs_head : (r : OpenRegion) (c : Ctx) → r.parts ≡ Attrs c → start_of c r.level r.place r.left.now ≡ head_of r
 attrs_head r c e = ap (λ (p : Parts). record { place = r.place; sort = sort_in p; ctx = ctx_in p; level = r.level; left = r.left.now }) (sym e)
-
-pub attrs_sort : (r : OpenRegion) (c : Ctx) → r.parts ≡ Attrs c → (head_of r).sort ≡ attr_head
-attrs_sort r c e = ap sort_in e
 
 pub hops_head : (r : OpenRegion) → r.parts ≡ Hops → hops_start r.level r.place r.left.now ≡ head_of r
 hops_head r e = ap (λ (p : Parts). record { place = r.place; sort = sort_in p; ctx = ctx_in p; level = r.level; left = r.left.now }) (sym e)

@@ -6,7 +6,7 @@ use Rattle.std.specs.Option.{IfSome}
 use Rattle.std.proofs.lemmas.List.Elements.{All-head, All-tail}
 use Rattle.std.proofs.lemmas.List.{append-nil, length-map, map-append, nil_from_length}
 use Rattle.std.proofs.lemmas.Option.{IfSome_then}
-use Rattle.nl_attr.specs.Fixed.{FARTHEST_END, LONGEST_REGION, MOST_LEVELS, MOST_VISITS}
+use Rattle.nl_attr.specs.Fixed.{FARTHEST_END, LONGEST_REGION, MOST_VISITS}
 use Rattle.nl_attr.specs.declared.fault.Reason.{Reason}
 use Rattle.nl_attr.specs.declared.events.Event.{Event}
 use Rattle.nl_attr.specs.declared.events.Room.{Room}
@@ -18,15 +18,14 @@ use Rattle.nl_attr.specs.declared.taping.steps.Advance.{Advance}
 use Rattle.nl_attr.specs.declared.taping.steps.Lead.{Lead}
 use Rattle.nl_attr.specs.declared.taping.steps.Lead.TheVariants as lead
 use Rattle.nl_attr.specs.declared.tree.Ctx.{Ctx}
-use Rattle.nl_attr.specs.declared.order.Order.{Order}
-use Rattle.nl_attr.specs.Shape.{Shape, shape_of}
+use Rattle.nl_attr.specs.Shape.{Shape}
 use Rattle.nl_attr.specs.Numbers.{span_of}
 use Rattle.nl_attr.specs.Broken.{facts_of, fault_in}
 use Rattle.nl_attr.specs.Grammar.{and_on, first, inner_trail}
 use Rattle.nl_attr.specs.Heads.{Sort, attr_head, hop_head, Head, MayStand, HeadAt, IsSound, broken, follower, inner_of, start_of, heads}
 use Rattle.nl_attr.specs.HeadOrder.{Trail, counted, trail_of, event_of, put_from, visits_of, fault_of}
 use Rattle.nl_attr.specs.Region.{head_of}
-use Rattle.nl_attr.specs.Taped.{Adds, HasRoom, HoldsNone, IsTaped, Leads, LeadsTo, Passes, Skips, found}
+use Rattle.nl_attr.specs.Taped.{Adds, HasRoom, HoldsNone, IsTaped, Leads, LeadsTo, MayScan, Passes, Skips, found}
 use Rattle.nl_attr.proofs.Lemmas.Grammars.{front, front_on, front_front, weigh-append, behind_then, inside_then, each, trail_ends, trail_stops, trail_goes, walk_bound, weigh}
 use Rattle.nl_attr.proofs.Lemmas.Scan.{room, sound_of, inner_is, inner_fills, fills, visits_cost, few_cost, laws}
 use Rattle.nl_attr.proofs.Lemmas.First.{walk_low}
@@ -239,19 +238,15 @@ pub record IsTaping (S : Shape) (start : Head) (count : ℕ) (old : List Event) 
   pub quarter : 4 * t.count + (left_in fs + length top.left) ≤ 4 * count + length start.left
 
 -- the whole region is left, and none waits
-pub begins : (S : Shape) (start : Head) (count : ℕ) (old : List Event) (fs : List Head) → fs ≡ [] → MayStand S.depth start.sort start.level → length start.left ≤ LONGEST_REGION → start.place + length start.left ≤ FARTHEST_END → IsTaping S start count old fs start (begun count) old
-begins S start count old fs none low size place = subst (λ (xs : List Head). IsTaping S start count old xs start (begun count) old) (sym none) (record {
+pub begins : {room : Room} (S : Shape) (start : Head) (count : ℕ) (old : List Event) (fs : List Head) → fs ≡ [] → MayScan S.depth room count (length old) start → IsTaping S start count old fs start (begun count) old
+begins S start count old fs none fits = subst (λ (xs : List Head). IsTaping S start count old xs start (begun count) old) (sym none) (record {
   hs = [];
   same = refl;
   adds = record { count = omega arith; visits = omega arith; events = sym (put_none count old) };
   below = tt;
-  stands = record { reach = λ k p. p; level = omega arith; low = low; size = size; place = place };
+  stands = record { reach = λ k p. p; level = omega arith; low = fits.level; size = fits.size; place = fits.place };
   quarter = omega arith;
 })
-
--- those of attributes may stand down to the depth
-pub attrs_stand : (d l : ℕ) (s : Sort) → s ≡ attr_head → l ≤ d → MayStand d s l
-attrs_stand d l s kind level = subst (λ (x : Sort). MayStand d x l) (sym kind) level
 
 module _ {S : Shape} {start : Head} {count : ℕ} {old : List Event} {fs : List Head} {top : Head} {t : Counts} {out : List Event} (now : IsTaping S start count old fs top t out) where
   -- the region at hand is at its end, and the last that waits goes on
@@ -324,6 +319,16 @@ module _ {S : Shape} {start : Head} {count : ℕ} {old : List Event} {fs : List 
   -- there are no more events than bytes that are gone past
   pub few_here : t.count + length top.left ≤ count + length start.left
   few_here = omega (arith, now.quarter, now.adds.count)
+
+  -- what is left of the region at hand may be scanned by itself
+  pub may_scan : {room : Room} → MayScan S.depth room count (length old) start → MayScan S.depth room t.count (length out) top
+  may_scan {room = room} fits = record {
+    level = now.stands.low;
+    size = now.stands.size;
+    place = now.stands.place;
+    count = omega (arith, few_here, fits.count);
+    room = room_here room fits.room;
+  }
 
   -- ---- a region that is scanned by itself
 
@@ -406,16 +411,16 @@ module _ {S : Shape} {start : Head} {count : ℕ} {old : List Event} {fs : List 
       })
 
 -- heads at its front are passed before its loop begins
-pub skipped : {S : Shape} {start top : Head} {count : ℕ} {old new : List Event} {t : Counts} → MayStand S.depth start.sort start.level → length start.left ≤ LONGEST_REGION → start.place + length start.left ≤ FARTHEST_END
+pub skipped : {S : Shape} {start top : Head} {count : ℕ} {old new : List Event} {t : Counts} {room : Room} → MayScan S.depth room count (length old) start
     → Skips S start top (begun count) t old new → IsTaping S start count old [] top t new
-skipped {S = S} {start = start} {top = top} {count = count} {old = old} {new = new} {t = t} low size place s =
-    passes (begins S start count old [] refl low size place) s.passed top t new s.passes s.adds
+skipped {S = S} {start = start} {top = top} {count = count} {old = old} {new = new} {t = t} fits s =
+    passes (begins S start count old [] refl fits) s.passed top t new s.passes s.adds
 
 -- all of it is passed
-pub skipped_all : {S : Shape} {start top : Head} {count : ℕ} {old new : List Event} {t : Counts} (b : Option BrokenHead) → b ≡ None → MayStand S.depth start.sort start.level → length start.left ≤ LONGEST_REGION → start.place + length start.left ≤ FARTHEST_END
+pub skipped_all : {S : Shape} {start top : Head} {count : ℕ} {old new : List Event} {t : Counts} {room : Room} (b : Option BrokenHead) → b ≡ None → MayScan S.depth room count (length old) start
     → Skips S start top (begun count) t old new → top.left ≡ [] → IsTaped S start count old new (found b t)
-skipped_all {S = S} {start = start} {count = count} {old = old} {new = new} {t = t} b none low size place s end =
-    subst (λ (o : Option BrokenHead). IsTaped S start count old new (found o t)) (sym none) (tells_none (skipped low size place s) end refl)
+skipped_all {S = S} {start = start} {count = count} {old = old} {new = new} {t = t} b none fits s end =
+    subst (λ (o : Option BrokenHead). IsTaped S start count old new (found o t)) (sym none) (tells_none (skipped fits s) end refl)
 
 -- heads at its front are passed, and it is scanned from there on
 pub skipped_then : {S : Shape} {start top : Head} {count : ℕ} {old mid new : List Event} {t more : Counts} {b : Option BrokenHead} → Skips S start top (begun count) t old mid → IsTaped S top t.count mid new (found b more)
@@ -440,10 +445,6 @@ skipped_room {S = S} {h = h} {g = g} {before = before} {between = between} {old 
     let sum = passes_sum S h s.passed g s.passes in
     let same : length new ≡ length old = ap (length {A = Event}) s.adds.events ∙ put_length before.count (map (event_of S.order) s.passed) old in
     subst (λ (n : ℕ). HasRoom room between.count (length g.left) n) (sym same) (room_on room before.count (length h.left) between.count (length g.left) (length old) (omega (arith, sum.0, sum.1, s.adds.count)) q)
-
--- a shape that is made of a limit
-pub depth_low : {S : Shape} {o : Order} {d n : ℕ} → S ≡ shape_of o d → n ≡ d → n ≤ MOST_LEVELS → S.depth ≤ MOST_LEVELS
-depth_low is same low = omega (arith, ap (λ (x : Shape). x.depth) is, same, low)
 
 -- ---- a step of the loop
 
@@ -539,9 +540,6 @@ taped_quarter {S = S} {start = start} is = omega (arith, is.counted, trail_quart
 -- the visits have the bound of reading
 pub taped_bound : (S : Shape) (ctx : Ctx) (l place : ℕ) (left : List ℕ) (count : ℕ) (old new : List Event) (t : Taped) → IsTaped S (start_of ctx l place left) count old new t → t.visits ≤ (S.depth - l + 1) * length left
 taped_bound S ctx l place left count old new t is = omega (arith, is.visits, walk_low S ctx l place left)
-
-pub taped_small : (S : Shape) (ctx : Ctx) (l place : ℕ) (left : List ℕ) (count : ℕ) (old new : List Event) (t : Taped) → S.depth ≤ 32 → length left ≤ LONGEST_REGION → IsTaped S (start_of ctx l place left) count old new t → t.visits ≤ MOST_VISITS
-taped_small S ctx l place left count old new t d size is = whole_fits (S.depth - l + 1) (length left) t.visits (omega (arith, d)) size (taped_bound S ctx l place left count old new t is)
 
 -- a buffer of no events is as it was
 pub taped_nowhere : {S : Shape} {start : Head} {count : ℕ} {new : List Event} {t : Taped} → IsTaped S start count [] new t → IsTaped S start count [] [] t

@@ -6,7 +6,7 @@ ghost use Rattle.nl_attr.specs.Fixed as fixed;
 ghost use Rattle.nl_attr.specs.Heads.{start_of};
 ghost use Rattle.nl_attr.specs.Region.{head_of};
 ghost use Rattle.nl_attr.specs.Shape.{shape_of};
-ghost use Rattle.nl_attr.specs.Taped.{HasRoom, IsTaped, found};
+ghost use Rattle.nl_attr.specs.Taped.{HasRoom, IsTaped, MayScan, found};
 
 mod fronts;
 mod leaves;
@@ -100,11 +100,7 @@ fn tape_region(
 ) -> Counts
     requires none { broken.old ≡ None }
     requires parts { start.parts ≡ Parts.Attrs ctx }
-    requires level { start.level ≤ depth }
-    requires size { length start.left.now ≤ fixed.LONGEST_REGION }
-    requires place { start.place + length start.left.now ≤ fixed.FARTHEST_END }
-    requires count { count ≤ 2 ^ 32 }
-    requires room { HasRoom room count (length start.left.now) (length out.old) }
+    requires fits { MayScan depth room count (length out.old) (head_of start) }
     ensures { IsTaped (shape_of order depth) (head_of start.entry) count out.old out.new
         (found broken.new result) }
 {

@@ -1,14 +1,14 @@
 //! The loops over regions in which others open, in functions of their own: the loop over messages,
 //! most of which hold none, then keeps its registers free. What opens in a body's attributes is
-//! scanned by a call, so that no region waits; only what opens in that is scanned over a stack.
+//! scanned by a call, so that no region waits, and mostly to its end by a loop over attributes that
+//! hold bytes. What that loop leaves is scanned over a stack.
 
-ghost use Rattle.std.specs.Prelude.{◌^◌, ◌≡◌, ◌≤◌, ◌+◌, [], length, None, Some};
+ghost use Rattle.std.specs.Prelude.{◌≡◌, ◌≤◌, length, None, Some};
 ghost use Rattle.nl_attr.specs.Broken.{facts_of};
 ghost use Rattle.nl_attr.specs.Fixed as fixed;
-ghost use Rattle.nl_attr.specs.Heads.{MayStand};
-ghost use Rattle.nl_attr.specs.Region.{head_of, sort_in};
+ghost use Rattle.nl_attr.specs.Region.{head_of};
 ghost use Rattle.nl_attr.specs.Shape.{shape_of};
-ghost use Rattle.nl_attr.specs.Taped.{HasRoom, IsTaped, found};
+ghost use Rattle.nl_attr.specs.Taped.{IsTaped, MayScan, found};
 
 use crate::broken::BrokenHead;
 use crate::events::{Event, Room};
@@ -46,11 +46,7 @@ fn tape_open<'a>(
 ) -> Counts
     requires none { broken.old ≡ None }
     requires limit { shape.depth ≤ fixed.MOST_LEVELS }
-    requires level { MayStand shape.depth (sort_in start.parts) start.level }
-    requires size { length start.left.now ≤ fixed.LONGEST_REGION }
-    requires place { start.place + length start.left.now ≤ fixed.FARTHEST_END }
-    requires count { count + length start.left.now ≤ 2 ^ 33 }
-    requires room { HasRoom room count (length start.left.now) (length out.old) }
+    requires fits { MayScan shape.depth room count (length out.old) (head_of start) }
     ensures { IsTaped shape (head_of start.entry) count out.old out.new
         (found broken.new result) }
 {
@@ -78,7 +74,7 @@ fn tape_open<'a>(
     }
 }
 
-/// The same, in a function of its own for each loop, since to make the stack is dear.
+/// The same, in a function of its own for each loop, since a stack costs much to make.
 #[inline(never)]
 fn tape_deep<const LOOP: u8>(
     broken: &mut Option<BrokenHead>,
@@ -90,11 +86,7 @@ fn tape_deep<const LOOP: u8>(
     count: usize,
 ) -> Counts
     requires none { broken.old ≡ None }
-    requires level { MayStand depth (sort_in start.parts) start.level }
-    requires size { length start.left.now ≤ fixed.LONGEST_REGION }
-    requires place { start.place + length start.left.now ≤ fixed.FARTHEST_END }
-    requires count { count + length start.left.now ≤ 2 ^ 33 }
-    requires room { HasRoom room count (length start.left.now) (length out.old) }
+    requires fits { MayScan depth room count (length out.old) (head_of start) }
     ensures { IsTaped (shape_of order depth) (head_of start.entry) count out.old out.new
         (found broken.new result) }
 {
@@ -117,11 +109,7 @@ fn tape_inside<const LOOP: u8>(
     count: usize,
 ) -> Counts
     requires none { broken.old ≡ None }
-    requires level { MayStand depth (sort_in start.parts) start.level }
-    requires size { length start.left.now ≤ fixed.LONGEST_REGION }
-    requires place { start.place + length start.left.now ≤ fixed.FARTHEST_END }
-    requires count { count + length start.left.now ≤ 2 ^ 33 }
-    requires room { HasRoom room count (length start.left.now) (length out.old) }
+    requires fits { MayScan depth room count (length out.old) (head_of start) }
     ensures { IsTaped (shape_of order depth) (head_of start.entry) count out.old out.new
         (found broken.new result) }
 {
@@ -150,11 +138,7 @@ fn tape_hops<const LOOP: u8>(
     count: usize,
 ) -> Counts
     requires none { broken.old ≡ None }
-    requires level { MayStand depth (sort_in start.parts) start.level }
-    requires size { length start.left.now ≤ fixed.LONGEST_REGION }
-    requires place { start.place + length start.left.now ≤ fixed.FARTHEST_END }
-    requires count { count + length start.left.now ≤ 2 ^ 33 }
-    requires room { HasRoom room count (length start.left.now) (length out.old) }
+    requires fits { MayScan depth room count (length out.old) (head_of start) }
     ensures { IsTaped (shape_of order depth) (head_of start.entry) count out.old out.new
         (found broken.new result) }
 {
@@ -197,11 +181,7 @@ fn tape_inner<const LOOP: u8>(
     count: usize,
 ) -> Counts
     requires none { broken.old ≡ None }
-    requires level { MayStand depth (sort_in start.parts) start.level }
-    requires size { length start.left.now ≤ fixed.LONGEST_REGION }
-    requires place { start.place + length start.left.now ≤ fixed.FARTHEST_END }
-    requires count { count + length start.left.now ≤ 2 ^ 33 }
-    requires room { HasRoom room count (length start.left.now) (length out.old) }
+    requires fits { MayScan depth room count (length out.old) (head_of start) }
     ensures { IsTaped (shape_of order depth) (head_of start.entry) count out.old out.new
         (found broken.new result) }
 {
@@ -235,11 +215,7 @@ fn open_regions<const LOOP: u8>(
 ) -> Counts
     requires none { broken.old ≡ None }
     requires parts { start.parts ≡ Parts.Attrs ctx }
-    requires level { MayStand depth (sort_in start.parts) start.level }
-    requires size { length start.left.now ≤ fixed.LONGEST_REGION }
-    requires place { start.place + length start.left.now ≤ fixed.FARTHEST_END }
-    requires count { count + length start.left.now ≤ 2 ^ 33 }
-    requires room { HasRoom room count (length start.left.now) (length out.old) }
+    requires fits { MayScan depth room count (length out.old) (head_of start) }
     ensures { IsTaped (shape_of order depth) (head_of start.entry) count out.old out.new
         (found broken.new result) }
 {
@@ -289,11 +265,7 @@ pub(super) fn tape_regions(
 ) -> Counts
     requires none { broken.old ≡ None }
     requires parts { start.parts ≡ Parts.Attrs ctx }
-    requires level { MayStand depth (sort_in start.parts) start.level }
-    requires size { length start.left.now ≤ fixed.LONGEST_REGION }
-    requires place { start.place + length start.left.now ≤ fixed.FARTHEST_END }
-    requires count { count + length start.left.now ≤ 2 ^ 33 }
-    requires room { HasRoom room count (length start.left.now) (length out.old) }
+    requires fits { MayScan depth room count (length out.old) (head_of start) }
     ensures { IsTaped (shape_of order depth) (head_of start.entry) count out.old out.new
         (found broken.new result) }
 {

@@ -1,7 +1,7 @@
 use Rattle.std.proofs.Common.{◌≡◌, ◌<◌, [], length, None, refl, arith}
 use Rattle.nl_attr.specs.Region.{head_of}
 use Rattle.nl_attr.specs.Shape.{shape_of}
-use Rattle.nl_attr.proofs.Lemmas.Taping.{IsTaping, begins, few_here, level_here, none_in, room_here, scanned_small, small, step_ends, step_fails, step_goes, step_goes_less, step_inside, step_less, step_scan_fails, step_scanned, step_size}
+use Rattle.nl_attr.proofs.Lemmas.Taping.{IsTaping, begins, level_here, may_scan, none_in, scanned_small, small, step_ends, step_fails, step_goes, step_goes_less, step_inside, step_less, step_scan_fails, step_scanned, step_size}
 use Rattle.nl_attr.proofs.taping.regions.tape_hops.Given.{Over}
 use Rattle.nl_attr.proofs.taping.regions.tape_hops.Goals as goal
 use Rattle.nl_attr.proofs.taping.regions.tape_hops.Goals.{in-Goes, in-Opens+else-is_some}
@@ -26,7 +26,7 @@ led g c =
     ]
 
 pub hops-init : goal.hops-init
-hops-init g c = let q = c.requires in (q.none, begins _ (head_of c.args.start) c.args.count c.args.out.now [] refl q.level q.size q.place)
+hops-init g c = let q = c.requires in (q.none, begins _ (head_of c.args.start) c.args.count c.args.out.now [] refl q.fits)
 
 pub step-stepped-requires-clause-size : goal.step-stepped-requires-clause-size
 step-stepped-requires-clause-size g c = c.hops.invariant.1.stands.size
@@ -38,10 +38,10 @@ pub step-stepped-requires-clause-level : goal.step-stepped-requires-clause-level
 step-stepped-requires-clause-level g c = level_here c.hops.invariant.1 (omega (arith, c.get-limit.ensures.limit, c.get-limit.ensures.value))
 
 pub step-stepped-requires-clause-count : goal.step-stepped-requires-clause-count
-step-stepped-requires-clause-count g c = omega (arith, (small c.hops.invariant.1 (omega (arith, c.get-limit.ensures.limit, c.get-limit.ensures.value)) c.requires.size).1, c.requires.count)
+step-stepped-requires-clause-count g c = omega (arith, (small c.hops.invariant.1 (omega (arith, c.get-limit.ensures.limit, c.get-limit.ensures.value)) c.requires.fits.size).1, c.requires.fits.count)
 
 pub step-stepped-requires-clause-visits : goal.step-stepped-requires-clause-visits
-step-stepped-requires-clause-visits g c = omega (arith, (small c.hops.invariant.1 (omega (arith, c.get-limit.ensures.limit, c.get-limit.ensures.value)) c.requires.size).0)
+step-stepped-requires-clause-visits g c = omega (arith, (small c.hops.invariant.1 (omega (arith, c.get-limit.ensures.limit, c.get-limit.ensures.value)) c.requires.fits.size).0)
 
 pub returns-in-Ends : goal.returns-in-Ends
 returns-in-Ends g c = step_ends c.hops.invariant.1 c.step-stepped.new.counts c.step-stepped.new.out c.step-stepped.result (rw c.of-shape.ensures at c.step-stepped.ensures) c.hops.broken c.in-Ends.is refl c.hops.invariant.0
@@ -52,23 +52,11 @@ keep_broken-requires g c = step_size c.hops.invariant.1 c.step-stepped.new.count
 pub returns-in-Fails : goal.returns-in-Fails
 returns-in-Fails g c = step_fails c.hops.invariant.1 c.step-stepped.new.counts c.step-stepped.new.out c.step-stepped.result (rw c.of-shape.ensures at c.step-stepped.ensures) c.in-Fails.reason c.keep_broken.new.broken c.in-Fails.is (rw c.of-shape.ensures at c.keep_broken.ensures)
 
-pub tape_inside-more-requires-clause-level : goal.tape_inside-more-requires-clause-level
-tape_inside-more-requires-clause-level g c = (step_inside c.hops.invariant.1 c.step-stepped.new.counts c.step-stepped.new.out c.step-stepped.result (rw c.of-shape.ensures at c.step-stepped.ensures) c.in-Opens.inner c.in-Opens.is).stands.low
-
-pub tape_inside-more-requires-clause-size : goal.tape_inside-more-requires-clause-size
-tape_inside-more-requires-clause-size g c = (step_inside c.hops.invariant.1 c.step-stepped.new.counts c.step-stepped.new.out c.step-stepped.result (rw c.of-shape.ensures at c.step-stepped.ensures) c.in-Opens.inner c.in-Opens.is).stands.size
-
-pub tape_inside-more-requires-clause-place : goal.tape_inside-more-requires-clause-place
-tape_inside-more-requires-clause-place g c = (step_inside c.hops.invariant.1 c.step-stepped.new.counts c.step-stepped.new.out c.step-stepped.result (rw c.of-shape.ensures at c.step-stepped.ensures) c.in-Opens.inner c.in-Opens.is).stands.place
-
-pub tape_inside-more-requires-clause-count : goal.tape_inside-more-requires-clause-count
-tape_inside-more-requires-clause-count g c = omega (arith, few_here (step_inside c.hops.invariant.1 c.step-stepped.new.counts c.step-stepped.new.out c.step-stepped.result (rw c.of-shape.ensures at c.step-stepped.ensures) c.in-Opens.inner c.in-Opens.is), c.requires.count)
-
-pub tape_inside-more-requires-clause-room : goal.tape_inside-more-requires-clause-room
-tape_inside-more-requires-clause-room g c = room_here (step_inside c.hops.invariant.1 c.step-stepped.new.counts c.step-stepped.new.out c.step-stepped.result (rw c.of-shape.ensures at c.step-stepped.ensures) c.in-Opens.inner c.in-Opens.is) c.args.room c.requires.room
+pub tape_inside-more-requires-clause-fits : goal.tape_inside-more-requires-clause-fits
+tape_inside-more-requires-clause-fits g c = may_scan (step_inside c.hops.invariant.1 c.step-stepped.new.counts c.step-stepped.new.out c.step-stepped.result (rw c.of-shape.ensures at c.step-stepped.ensures) c.in-Opens.inner c.in-Opens.is) c.requires.fits
 
 pub join-requires : goal.join-requires
-join-requires g c = omega (arith, scanned_small (step_inside c.hops.invariant.1 c.step-stepped.new.counts c.step-stepped.new.out c.step-stepped.result (rw c.of-shape.ensures at c.step-stepped.ensures) c.in-Opens.inner c.in-Opens.is) c.tape_inside-more.ensures (omega (arith, c.get-limit.ensures.limit, c.get-limit.ensures.value)) c.requires.size)
+join-requires g c = omega (arith, scanned_small (step_inside c.hops.invariant.1 c.step-stepped.new.counts c.step-stepped.new.out c.step-stepped.result (rw c.of-shape.ensures at c.step-stepped.ensures) c.in-Opens.inner c.in-Opens.is) c.tape_inside-more.ensures (omega (arith, c.get-limit.ensures.limit, c.get-limit.ensures.value)) c.requires.fits.size)
 
 pub returns-then-is_some : goal.returns-then-is_some
 returns-then-is_some g c = rw c.join.ensures (step_scan_fails c.hops.invariant.1 c.step-stepped.new.counts c.step-stepped.new.out c.step-stepped.result (rw c.of-shape.ensures at c.step-stepped.ensures) c.in-Opens.inner c.in-Opens.is c.tape_inside-more.ensures (c.if-is_some.ensures))

@@ -32,13 +32,13 @@ led c =
 pub heads-init : goal.heads-init
 heads-init c =
     let q = c.requires in
-    (q.none, begins c.args.shape (head_of c.args.start) c.args.count c.args.out.now (map head_of c.new-stack.result.items) (ap (map head_of) c.new-stack.ensures) q.level q.size q.place)
+    (q.none, begins c.args.shape (head_of c.args.start) c.args.count c.args.out.now (map head_of c.new-stack.result.items) (ap (map head_of) c.new-stack.ensures) q.fits)
 
 pub step-stepped-requires-clause-count : goal.step-stepped-requires-clause-count
-step-stepped-requires-clause-count c = let q = c.requires in omega (arith, (small c.heads.invariant.1 q.limit q.size).1, q.count)
+step-stepped-requires-clause-count c = let q = c.requires in omega (arith, (small c.heads.invariant.1 q.limit q.fits.size).1, q.fits.count)
 
 pub step-stepped-requires-clause-visits : goal.step-stepped-requires-clause-visits
-step-stepped-requires-clause-visits c = let q = c.requires in omega (arith, (small c.heads.invariant.1 q.limit q.size).0)
+step-stepped-requires-clause-visits c = let q = c.requires in omega (arith, (small c.heads.invariant.1 q.limit q.fits.size).0)
 
 pub returns-in-None : goal.returns-in-None
 returns-in-None c =
@@ -61,13 +61,13 @@ pub pass_top-top-requires-clause-level : goal.pass_top-top-requires-clause-level
 pass_top-top-requires-clause-level c = level_here (led c).0 c.requires.limit
 
 pub pass_top-top-requires-clause-count : goal.pass_top-top-requires-clause-count
-pass_top-top-requires-clause-count c = let q = c.requires in omega (arith, (small (led c).0 q.limit q.size).1, q.count)
+pass_top-top-requires-clause-count c = let q = c.requires in omega (arith, (small (led c).0 q.limit q.fits.size).1, q.fits.count)
 
 pub pass_top-top-requires-clause-visits : goal.pass_top-top-requires-clause-visits
-pass_top-top-requires-clause-visits c = let q = c.requires in (small (led c).0 q.limit q.size).0
+pass_top-top-requires-clause-visits c = let q = c.requires in (small (led c).0 q.limit q.fits.size).0
 
 pub pass_top-top-requires-clause-room : goal.pass_top-top-requires-clause-room
-pass_top-top-requires-clause-room c = room_here (led c).0 c.args.room c.requires.room
+pass_top-top-requires-clause-room c = room_here (led c).0 c.args.room c.requires.fits.room
 
 pub heads-preserved : goal.heads-preserved
 heads-preserved c = (c.heads.invariant.0, skips (led c.before.before).0 c.pass_top-top.ensures.skips)
