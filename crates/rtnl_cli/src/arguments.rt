@@ -7,6 +7,7 @@ use crate::heading::{Numbers, is_digits, numbers_in};
 use crate::name::{Escaped, Name, is_escaped};
 use clap::error::ErrorKind;
 use clap::{ArgMatches, Error};
+use itoa::Buffer;
 use nl_attr::Order;
 use rtnl::dump::{Dump, Kind};
 use rtnl::frame::Limits;
@@ -182,44 +183,26 @@ pub(crate) enum Parsed {
     Message(Error),
 }
 
-fn names<T>(alloc: Global, table: &[(&'static str, T)]) -> Result<Vec<&'static str>, AllocError> {
-    table.iter().map(|row| row.0).collect(alloc)
-}
-
-/// What the values of options are made of.
-#[derive(Drop)]
-struct Lists {
-    kinds: Vec<&'static str>,
-    formats: Vec<&'static str>,
-    orders: Vec<&'static str>,
-    colors: Vec<&'static str>,
-    depth: String,
-    entries: String,
-}
-
-impl Lists {
-    fn new(alloc: Global) -> Result<Lists, AllocError> {
-        let standard = Limits::standard();
-        Ok(Lists {
-            kinds: Kind::ALL.iter().map(|kind| kind.row().name).collect(alloc)?,
-            formats: names(alloc, FORMATS.as_slice())?,
-            orders: Order::ALL.iter().map(|order| order.name()).collect(alloc)?,
-            colors: names(alloc, COLORS.as_slice())?,
-            depth: standard.depth().get().to_string(alloc)?,
-            entries: standard.entries().to_string(alloc)?,
-        })
-    }
-
-    fn values(&self) -> Values<'_> {
-        Values {
-            kinds: self.kinds.as_slice(),
-            formats: self.formats.as_slice(),
-            orders: self.orders.as_slice(),
-            colors: self.colors.as_slice(),
-            depth: self.depth.as_str(),
-            entries: self.entries.as_str(),
-        }
-    }
+/// Asks with the values that options list, and those that they have by default. They stand on the
+/// call stack, so that a start takes no memory for them.
+fn with_values<R, F: FnOnce(Values<'_>) -> R>(ask: F) -> R
+    requires { F.IsAlwaysCallable ask }
+{
+    let kinds = Kind::ALL.map(|kind| kind.row().name);
+    let formats = FORMATS.map(|row| row.0);
+    let orders = Order::ALL.map(|order| order.name());
+    let colors = COLORS.map(|row| row.0);
+    let standard = Limits::standard();
+    let mut depth = Buffer::new();
+    let mut entries = Buffer::new();
+    ask(Values {
+        kinds: kinds.as_slice(),
+        formats: formats.as_slice(),
+        orders: orders.as_slice(),
+        colors: colors.as_slice(),
+        depth: depth.format(standard.depth().get()),
+        entries: entries.format(standard.entries()),
+    })
 }
 
 /// The value of this name in a table.
@@ -389,8 +372,8 @@ fn escaped(alloc: Global, arguments: &[String]) -> Result<Option<Vec<String>>, A
 }
 
 /// What the arguments give, where clap's text shows them as they are.
-fn given_by(alloc: Global, arguments: &[String], values: Values<'_>) -> Result<Parsed, AllocError> {
-    match parse_with(alloc, arguments, values) {
+fn given_by(alloc: Global, arguments: &[String]) -> Result<Parsed, AllocError> {
+    match with_values(|values| parse_with(alloc, arguments, values)) {
         Ok(task) => Ok(Parsed::Task(task)),
         Err(error) => match error.kind() {
             ErrorKind::OutOfMemory => Err(AllocError),
@@ -401,14 +384,13 @@ fn given_by(alloc: Global, arguments: &[String], values: Values<'_>) -> Result<P
 
 /// What the arguments, the program's name first, ask for. It fails only for memory.
 pub(crate) fn parse(alloc: Global, arguments: &[String]) -> Result<Parsed, AllocError> {
-    let lists = Lists::new(alloc)?;
-    let message = match given_by(alloc, arguments, lists.values())? {
+    let message = match given_by(alloc, arguments)? {
         Parsed::Message(message) => message,
         task => return Ok(task),
     };
     // A text of clap has the arguments in it, so it is made of what is shown of them.
     if let Some(shown) = escaped(alloc, arguments)?
-        && let Parsed::Message(message) = given_by(alloc, shown.as_slice(), lists.values())?
+        && let Parsed::Message(message) = given_by(alloc, shown.as_slice())?
     {
         return Ok(Parsed::Message(message));
     }
@@ -433,8 +415,7 @@ pub(crate) fn unnamed(
         None => format!(in alloc; "{ways}; {name} has none")?,
         Some(error) => format!(in alloc; "{ways}; {name} cannot be opened: {error}")?,
     };
-    let lists = Lists::new(alloc)?;
-    usage_error(alloc, lists.values(), "table", message.as_str())
+    with_values(|values| usage_error(alloc, values, "table", message.as_str()))
 }
 
 /// What stands where a command should and names none, with the `--` before it; it may be meant as a
