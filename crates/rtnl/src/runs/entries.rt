@@ -26,11 +26,10 @@ fn push_entries<F: ReportFormat, T: Entry + ItemLines + ItemField>(
     ensures { OnOk result (out.new.items ≡ out.old.items
         ++ entries_text F.report order 1 (seen T.item table.now).entries) }
 {
-    for index in 0..table.len() {
-        let Some(entry) = table.get(index) else {
-            unreachable!()
-        };
-        F::push_entry(alloc, out, order, u64::from(index) + 1, entry)?;
+    let mut number = 1;
+    for (_, entry) in table {
+        F::push_entry(alloc, out, order, number, entry)?;
+        number += 1;
     }
     Ok(())
 }

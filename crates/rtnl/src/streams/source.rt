@@ -196,6 +196,10 @@ impl<R: Read, W: Sink> LiveSource<W> for ReadSource<R> {
 /// The longest input that is read, in bytes.
 pub const LONGEST_INPUT: usize = 16_777_216;
 
+/// For how many bytes of an input there is room at first. As many aren't copied by most allocators
+/// when they grow.
+const FIRST_ROOM: usize = 262_144;
+
 /// All that a source gives up to its end, of which at most `LONGEST_INPUT` bytes and one more are
 /// taken. It stops at the first call that fails.
 #[tactic(auto, using(crate::proofs::Sets::given))]
@@ -216,7 +220,7 @@ pub(crate) fn read_input<S: Source>(alloc: Global, source: &mut S) -> Result<Vec
     ensures bounded { ConsumesAtMost (fixed.LONGEST_INPUT + 1)
         (S.remaining source.old) (S.remaining source.new) }
 {
-    let mut input = Vec::new(alloc);
+    let mut input = Vec::with_capacity(alloc, FIRST_ROOM)?;
     let mut buffer = [0u8; 8192];
     while input.len() <= LONGEST_INPUT {
         let room = buffer.len().min(LONGEST_INPUT + 1 - input.len());

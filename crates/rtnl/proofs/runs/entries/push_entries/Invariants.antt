@@ -1,10 +1,14 @@
-use Rattle.std.proofs.Common.{◌≡◌, ◌+◌, ◌++◌, drop}
+use Rattle.std.proofs.Common.{◌≡◌, ◌++◌, ◌+◌, ◌≤◌, ◌^◌, length, map}
 use Rattle.nl_dump.specs.Items.{seen}
 use Rattle.rtnl.specs.Tabled.{entries_text}
+use Rattle.rtnl.proofs.Entries.{pair}
 use Rattle.rtnl.proofs.runs.entries.push_entries.Given as goal
 
 -- what is written and what is left give the whole
-abbrev pub invariant-loop-index : goal.invariant-loop-index
-invariant-loop-index g l =
-    l.out.items ++ entries_text g.F.ReportFormat.report l.order (l.index + 1) (drop l.index (seen g.T.TableItem.item l.table).entries)
-    ≡ l.initial.out.items ++ entries_text g.F.ReportFormat.report l.order 1 (seen g.T.TableItem.item l.table).entries
+abbrev pub invariant-loop-entry : goal.invariant-loop-entry
+invariant-loop-entry g l =
+    record {
+      text : l.out.items ++ entries_text g.F.ReportFormat.report l.order l.number (map (pair g.T.TableItem.item) l.entry-iterator)
+          ≡ l.initial.out.items ++ entries_text g.F.ReportFormat.report l.order 1 (seen g.T.TableItem.item l.table).entries;
+      within : l.number + length l.entry-iterator ≤ 2 ^ 32;
+    }
