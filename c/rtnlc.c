@@ -4,6 +4,11 @@
  */
 #include "rtnlc.h"
 
+#ifndef __wasm__
+#include <errno.h>
+#include <sys/random.h>
+#endif
+
 /* A session as the proved calls take it: `made` says whether `at` points to one. */
 struct handle {
 	void *at;
@@ -83,7 +88,7 @@ struct rtnlc_put proved_builder_finish(const struct rtnlc_built *, const uint8_t
 
 static const struct rtnlc_options standard = { RTNLC_STANDARD_TOTAL, RTNLC_STANDARD_DATAGRAM,
 	                                           RTNLC_STANDARD_ENTRIES, RTNLC_STANDARD_DEPTH,
-	                                           false };
+	                                           false, { 0 } };
 
 /* A null pointer stands for no bytes and no room, whatever the size beside it: the proved calls get
  * the place of this one and a size of 0, so it is neither read nor written. It is aligned for each
@@ -213,13 +218,40 @@ static void keep(struct rtnlc_session *s, const struct handle *handle)
 		s->at = handle->made ? handle->at : NULL;
 }
 
+/* A seed that is all 0 is none. */
+static bool has_seed(const struct rtnlc_options *options)
+{
+	uint8_t any = 0;
+	for (size_t i = 0; i < sizeof options->seed; i++)
+		any |= options->seed[i];
+	return any != 0;
+}
+
+/* Takes a seed from the kernel, at once: early at boot it is as random as can be had then. */
+static bool take_seed(struct rtnlc_options *options)
+{
+#ifdef __wasm__
+	(void)options;
+	return false;
+#else
+	const unsigned insecure = 4, nonblocking = 1; /* GRND_INSECURE since Linux 5.6, GRND_NONBLOCK */
+	ssize_t got = getrandom(options->seed, sizeof options->seed, insecure);
+	if (got < 0 && errno == EINVAL)
+		got = getrandom(options->seed, sizeof options->seed, nonblocking);
+	return got == sizeof options->seed;
+#endif
+}
+
 uint8_t rtnlc_session_new(struct rtnlc_session *s, const struct rtnlc_options *options)
 {
 	struct handle handle = handle_of(s);
+	struct rtnlc_options seeded = *limits_at(options);
 	uint8_t code;
 	if (!s)
 		return RTNLC_NO_SESSION;
-	code = proved_session_new(&handle, limits_at(options));
+	if (!handle.made && !has_seed(&seeded) && !take_seed(&seeded))
+		return RTNLC_NO_SEED;
+	code = proved_session_new(&handle, &seeded);
 	keep(s, &handle);
 	return code;
 }
@@ -519,6 +551,7 @@ const char *rtnlc_code_name(uint8_t code)
 	case RTNLC_NOTHING_OPEN: return "nothing open";
 	case RTNLC_STILL_OPEN: return "still open";
 	case RTNLC_NO_BUILDER: return "no builder";
+	case RTNLC_NO_SEED: return "no seed";
 	case RTNLC_END: return "end";
 	default: return "unknown code";
 	}

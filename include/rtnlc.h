@@ -75,6 +75,7 @@ enum rtnlc_code {
 	RTNLC_NOTHING_OPEN = 21, /* nothing is open that could be closed, or into which could be put */
 	RTNLC_STILL_OPEN = 22,  /* something is still open in what should end, or before the next */
 	RTNLC_NO_BUILDER = 23,  /* null, or what no call leaves in a struct rtnlc_builder */
+	RTNLC_NO_SEED = 24,     /* getrandom(2) gave no seed; one can be handed in */
 	RTNLC_END = 255         /* nothing more stands there */
 };
 
@@ -108,6 +109,8 @@ struct rtnlc_options {
 	uint32_t entries;  /* entries of each table of a session at most: 0 to 65,536 */
 	uint8_t depth;     /* levels that containers may open at most: 0 to 32 */
 	bool big;          /* numbers have their highest byte first, as on s390x */
+	uint8_t seed[16];  /* by which a session's tables hash, so that nobody else can choose keys
+	                    * that collide; all 0: rtnlc_session_new takes one from getrandom(2) */
 };
 
 /* The limits that hold where no options are handed in, with the lowest byte first. */
@@ -346,8 +349,9 @@ struct rtnlc_session {
 	void *at;
 };
 
-/* Makes a session. RTNLC_BAD_LIMIT, RTNLC_NO_MEMORY, or RTNLC_NO_SESSION for a null pointer: then
- * none is made. RTNLC_BUSY where it is made already, and stays. */
+/* Makes a session. RTNLC_BAD_LIMIT, RTNLC_NO_MEMORY, RTNLC_NO_SEED, or RTNLC_NO_SESSION for a null
+ * pointer: then none is made. RTNLC_BUSY where it is made already, and stays. It never waits for
+ * random bytes: early at boot a seed is as random as the kernel can make it then. */
 uint8_t rtnlc_session_new(struct rtnlc_session *s, const struct rtnlc_options *options);
 
 /* Frees a session and all that it holds. One that was never made or is freed is left alone. */

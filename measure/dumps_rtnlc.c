@@ -10,8 +10,10 @@
 /* The type that asks for the entries of a NEW. */
 #define GET(kind) ((kind) + (RTM_GETLINK - RTM_NEWLINK))
 
-static const struct rtnlc_options options = { 1099511627776, LONGEST, 65536,
-	                                          RTNLC_STANDARD_DEPTH, false };
+static const struct rtnlc_options options = {
+	.total = 1099511627776, .datagram = LONGEST, .entries = 65536,
+	.depth = RTNLC_STANDARD_DEPTH,
+};
 static uint8_t request[RTNLC_REQUEST];
 
 /* What of a route is kept until the next: its first attribute of each number. */

@@ -17,8 +17,10 @@
 
 /* The order of this machine's numbers, and room for the largest tables. */
 #define SOURCE_BIG (__BYTE_ORDER__ == __ORDER_BIG_ENDIAN__)
-static const struct rtnlc_options source_options = { RTNLC_STANDARD_TOTAL, RTNLC_STANDARD_DATAGRAM,
-	                                                 65536, RTNLC_STANDARD_DEPTH, SOURCE_BIG };
+static const struct rtnlc_options source_options = {
+	.total = RTNLC_STANDARD_TOTAL, .datagram = RTNLC_STANDARD_DATAGRAM, .entries = 65536,
+	.depth = RTNLC_STANDARD_DEPTH, .big = SOURCE_BIG,
+};
 
 enum source_status { BROKEN = 1, FAILED = 2, REFUSED = 3, CUT = 4, LOST = 5 };
 

@@ -11,12 +11,13 @@
 #define IS_AT(type, field, place)                                                                \
 	typedef char place_in_##type##_##field[offsetof(struct type, field) == (place) ? 1 : -1]
 
-IS_SIZE(rtnlc_options, 24);
+IS_SIZE(rtnlc_options, 40);
 IS_AT(rtnlc_options, total, 0);
 IS_AT(rtnlc_options, datagram, 8);
 IS_AT(rtnlc_options, entries, 12);
 IS_AT(rtnlc_options, depth, 16);
 IS_AT(rtnlc_options, big, 17);
+IS_AT(rtnlc_options, seed, 18);
 
 IS_SIZE(rtnlc_scanned, 16);
 IS_AT(rtnlc_scanned, visits, 0);

@@ -82,7 +82,9 @@ static void is_bad(struct rtnlc_options options, const char *what)
 
 static void bad_limits(void)
 {
-	static const struct rtnlc_options good = { RTNLC_STANDARD_TOTAL, 4096, 16, 8, false };
+	static const struct rtnlc_options good = {
+		.total = RTNLC_STANDARD_TOTAL, .datagram = 4096, .entries = 16, .depth = 8,
+	};
 	static const uint64_t totals[] = { ((uint64_t)1 << 40) + 1, UINT64_MAX };
 	static const uint32_t datagrams[] = { 0,  4,  12,          15,          17,
 		                                  18, 19, LARGEST + 1, LARGEST + 4, 1u << 31 };

@@ -32,7 +32,7 @@ pub use runs::show::{
     push_datagram, push_datagram_json, run_show, run_show_coloured, run_show_json,
 };
 pub use runs::show_bytes::run_show_bytes;
-pub use runs::table::{run_table, run_table_json};
+pub use runs::table::{run_table, run_table_json, run_table_with_seed};
 pub use runs::telling::{Followed, OnBadLine};
 pub use streams::calls::Broken;
 pub use streams::sink::{Sink, VecSink, WriteSink};

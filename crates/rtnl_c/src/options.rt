@@ -21,6 +21,8 @@ pub struct Options {
     pub depth: u8,
     /// Whether numbers have their highest byte first.
     pub big: bool,
+    /// By which the tables of a session hash.
+    pub seed: [u8; 16],
 }
 
 /// The order of numbers.

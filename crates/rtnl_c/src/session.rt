@@ -15,17 +15,17 @@ use crate::kinds::family_of;
 use crate::options::{Options, limits};
 use crate::put::Put;
 use crate::status::Status;
-use nl_dump::{Dump, NotWaiting, Session};
+use nl_dump::{Dump, NotWaiting, Seed, Session};
 use nl_frame::Limits;
 use nl_route::Family;
 use std::alloc::Global;
 
-/// Makes a session of these limits in a handle that has none.
-fn make(alloc: Global, handle: &mut Handle, limits: Limits) -> u8
+/// Makes a session of these limits and this seed in a handle that has none.
+fn make(alloc: Global, handle: &mut Handle, limits: Limits, seed: Seed) -> u8
     requires { handle.old.session ≡ None }
     ensures { Makes limits result handle.new.session }
 {
-    let Ok(session) = Session::new(alloc, limits) else {
+    let Ok(session) = Session::with_seed(alloc, limits, seed) else {
         return NO_MEMORY;
     };
     match Box::new(alloc, session) {
@@ -48,7 +48,7 @@ pub extern "C" fn rtnlc_session_new(alloc: Global, handle: &mut Handle, options:
         return BUSY;
     }
     match limits(options) {
-        Ok(limits) => make(alloc, handle, limits),
+        Ok(limits) => make(alloc, handle, limits, Seed::from_bytes(options.seed)),
         Err(fault) => fault.code(),
     }
 }

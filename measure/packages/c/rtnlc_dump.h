@@ -9,8 +9,10 @@
 #define SOURCE_BIG false
 #include "../../../examples/c/parts.h"
 
-static const struct rtnlc_options options = { RTNLC_STANDARD_TOTAL, LONGEST, 65536,
-	                                          RTNLC_STANDARD_DEPTH, SOURCE_BIG };
+static const struct rtnlc_options options = {
+	.total = RTNLC_STANDARD_TOTAL, .datagram = LONGEST, .entries = 65536,
+	.depth = RTNLC_STANDARD_DEPTH, .big = SOURCE_BIG,
+};
 static struct rtnlc_event events[LONGEST / 4];
 static FILE *file;
 

@@ -11,22 +11,23 @@ use crate::error::{RunError, Verdict};
 use crate::pieces::{push, push_hex};
 use crate::streams::sink::{Sink, give_all};
 use nl_attr::Order;
-use nl_dump::{BeginError, Dump, Session};
+use nl_dump::{BeginError, Dump, Seed, Session};
 use nl_frame::Limits;
 use nl_route::Family;
 use std::alloc::{AllocError, Global};
 
-/// A new session of these limits that begins a dump, and the request. A new session has no dump
+/// A new session of these limits and this seed that begins a dump, and the request. A new session has no dump
 /// that waits and no last sequence number, so only memory can be refused.
 pub(crate) fn begun(
     alloc: Global,
     dump: &Dump,
     limits: &Limits,
+    seed: Seed,
 ) -> Result<(Session, Vec<u8>), AllocError>
     ensures { IfOk result
         (λ p. (new : View) × IsNew limits.now new × Began new dump.now (Ok p.1) p.0) }
 {
-    let mut session = Session::new(alloc, *limits)?;
+    let mut session = Session::with_seed(alloc, *limits, seed)?;
     match session.begin(dump.kind, dump.family, dump.seq, dump.port) {
         Ok(request) => Ok((session, request)),
         Err(error) => {
@@ -49,7 +50,7 @@ fn text_of(alloc: Global, dump: &Dump, order: Order) -> Result<Vec<u8>, AllocErr
     ensures { IfOk result (λ text. text.items ≡ requested order dump.now) }
 {
     let limits = Limits::standard().with_order(order);
-    let (_session, request) = begun(alloc, dump, &limits)?;
+    let (_session, request) = begun(alloc, dump, &limits, Seed::KNOWN)?;
     let mut text = Vec::new(alloc);
     push_bytes_alone(&mut text, request.as_slice())?;
     Ok(text)

@@ -20,7 +20,7 @@ use crate::runs::request::begun;
 use crate::runs::run::{Command, run};
 use crate::streams::sink::Sink;
 use crate::streams::source::Source;
-use nl_dump::{Dump, Session, State};
+use nl_dump::{Dump, Seed, Session, State};
 use nl_frame::Limits;
 use std::alloc::{AllocError, Global};
 use std::marker::PhantomData;
@@ -100,6 +100,7 @@ fn verdict(complete: bool) -> Verdict
 struct Tabulate<F> {
     dump: Dump,
     limits: Limits,
+    seed: Seed,
     report: PhantomData<F>,
 }
 
@@ -138,7 +139,7 @@ impl<F: ReportFormat> Command for Tabulate<F> {
         alloc: Global,
         datagrams: &Datagrams,
     ) -> Result<(Vec<u8>, Verdict), AllocError> {
-        let (mut session, _request) = begun(alloc, &self.dump, &self.limits)?;
+        let (mut session, _request) = begun(alloc, &self.dump, &self.limits, self.seed)?;
         self.report_of(alloc, &mut session, datagrams)
     }
 }
@@ -150,6 +151,9 @@ impl<F: ReportFormat> Command for Tabulate<F> {
 /// The input is read to its end and all lines are checked, then the text is made, then it is
 /// written. After a bad line, a read fault or the end of memory nothing was written; after a write
 /// fault a prefix of the text was. The verdict is Blemished exactly where the dump is not complete.
+///
+/// The session's tables hash under a seed that everybody knows: `run_table_with_seed` is for
+/// recordings whose content others choose.
 pub fn run_table<S: Source, W: Sink>(
     alloc: Global,
     source: &mut S,
@@ -168,16 +172,42 @@ pub fn run_table<S: Source, W: Sink>(
     ensures bounded { ConsumesAtMost (fixed.LONGEST_INPUT + 1)
         (S.remaining source.old) (S.remaining source.new) }
 {
+    run_table_with_seed(alloc, source, sink, dump, limits, Seed::KNOWN)
+}
+
+/// Reads the datagrams as `run_table` does, into tables that hash under this seed.
+///
+/// It reads, writes and ends as `run_table` does.
+pub fn run_table_with_seed<S: Source, W: Sink>(
+    alloc: Global,
+    source: &mut S,
+    sink: &mut W,
+    dump: Dump,
+    limits: &Limits,
+    seed: Seed,
+) -> Result<Verdict, RunError>
+    // What was written is the text of the session that the datagrams of what was read end in, and
+    // the verdict is its.
+    ensures tabled { IfOk result
+        (TablesInput limits.now dump (S.remaining source.old) (S.remaining source.new)
+        (W.contents sink.old) (W.contents sink.new)) }
+    ensures runs { Runs S.remaining S.is_ended S.failure_count
+        W.contents W.is_stalled W.stall_count W.failure_count
+        (Tables limits.now dump) source.old source.new sink.old sink.new result }
+    ensures bounded { ConsumesAtMost (fixed.LONGEST_INPUT + 1)
+        (S.remaining source.old) (S.remaining source.new) }
+{
     let tabulate = Tabulate::<InText> {
         dump,
         limits: *limits,
+        seed,
         report: PhantomData,
     };
     run(alloc, source, sink, &tabulate)
 }
 
-/// Reads the datagrams as `run_table` does, and writes the dump as lines of JSON (RFC 8259) in
-/// place of text: an object of each datagram that was refused, of each entry, and of how the dump
+/// Reads the datagrams as `run_table_with_seed` does, and writes the dump as lines of JSON (RFC
+/// 8259) in place of text: an object of each datagram that was refused, of each entry, and of how the dump
 /// ended.
 ///
 /// It reads, writes and ends as `run_table` does.
@@ -187,6 +217,7 @@ pub fn run_table_json<S: Source, W: Sink>(
     sink: &mut W,
     dump: Dump,
     limits: &Limits,
+    seed: Seed,
 ) -> Result<Verdict, RunError>
     // What was written is the objects of the session that the datagrams of what was read end in,
     // and the verdict is its.
@@ -202,6 +233,7 @@ pub fn run_table_json<S: Source, W: Sink>(
     let tabulate = Tabulate::<InJson> {
         dump,
         limits: *limits,
+        seed,
         report: PhantomData,
     };
     run(alloc, source, sink, &tabulate)

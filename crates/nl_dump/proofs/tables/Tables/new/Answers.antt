@@ -12,8 +12,8 @@ seen_empty {T} f c o p l m order limit e =
     ap (seen f) e ∙ (λ i. empty (order i) (limit i) (none i))
 
 pub returns : goal.returns
-returns c Link = seen_empty _ c.in_ok-new_ordered.field-0 _ _ _ _ c.order-order.ensures c.entries-entries.ensures.value c.in_ok-new_ordered.ensures
-returns c Addr = seen_empty _ c.in_ok-new_ordered-2.field-0 _ _ _ _ c.order-order.ensures c.entries-entries.ensures.value c.in_ok-new_ordered-2.ensures
-returns c Route = seen_empty _ c.in_ok-new_ordered-3.field-0 _ _ _ _ c.order-order.ensures c.entries-entries.ensures.value c.in_ok-new_ordered-3.ensures
-returns c Neigh = seen_empty _ c.in_ok-new_ordered-4.field-0 _ _ _ _ c.order-order.ensures c.entries-entries.ensures.value c.in_ok-new_ordered-4.ensures
-returns c Rule = seen_empty _ c.in_ok-new_ordered-5.field-0 _ _ _ _ c.order-order.ensures c.entries-entries.ensures.value c.in_ok-new_ordered-5.ensures
+returns c Link = seen_empty _ c.in_ok-with_seed.field-0 _ _ _ _ c.order-order.ensures c.entries-entries.ensures.value c.in_ok-with_seed.ensures
+returns c Addr = seen_empty _ c.in_ok-with_seed-2.field-0 _ _ _ _ c.order-order.ensures c.entries-entries.ensures.value c.in_ok-with_seed-2.ensures
+returns c Route = seen_empty _ c.in_ok-with_seed-3.field-0 _ _ _ _ c.order-order.ensures c.entries-entries.ensures.value c.in_ok-with_seed-3.ensures
+returns c Neigh = seen_empty _ c.in_ok-with_seed-4.field-0 _ _ _ _ c.order-order.ensures c.entries-entries.ensures.value c.in_ok-with_seed-4.ensures
+returns c Rule = seen_empty _ c.in_ok-with_seed-5.field-0 _ _ _ _ c.order-order.ensures c.entries-entries.ensures.value c.in_ok-with_seed-5.ensures
