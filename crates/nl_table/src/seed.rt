@@ -24,8 +24,8 @@ impl Seed {
 
     /// The seed of these bytes, the lowest byte of each key first.
     pub fn from_bytes(bytes: [u8; 16]) -> Seed
-        ensures key0 { result.key0 ≡ from_le_bytes w64 (take 8 bytes) }
-        ensures key1 { result.key1 ≡ from_le_bytes w64 (drop 8 bytes) }
+        ensures first { result.key0 ≡ from_le_bytes w64 (take 8 bytes) }
+        ensures second { result.key1 ≡ from_le_bytes w64 (drop 8 bytes) }
     {
         let [a, b, c, d, e, f, g, h, i, j, k, l, m, n, o, p] = bytes;
         Seed {

@@ -5,7 +5,7 @@ use crate::rows::{END, ETHERNET, LOOPBACK};
 use crate::said::{Hex, Label, ORDERS, Text, say};
 use crate::stop::Stop;
 use nl_attr::Order;
-use nl_dump::Dump;
+use nl_dump::{Dump, Seed};
 use nl_route::Family;
 use rtnl::{
     Broken, RowFormat, RunError, Sink, SliceSource, VecSink, Verdict, datagrams, run_check,
@@ -141,7 +141,8 @@ fn table_json(rt: &HostRuntime, order: Order) -> Result<(), Stop> {
     let mut sink = sink_with_room(rt.alloc())?;
     let label = Label::of("run_table_json", order, "two links");
     let limits = limits_in(order);
-    let answer = run_table_json(rt.alloc(), &mut source, &mut sink, LINKS, &limits);
+    let seed = Seed::KNOWN;
+    let answer = run_table_json(rt.alloc(), &mut source, &mut sink, LINKS, &limits, seed);
     say_run(rt, label, answer, &sink)
 }
 

@@ -5,7 +5,7 @@ use crate::rows::Row;
 use crate::said::{Outcome, Visible, say};
 use crate::stop::{Stop, Wrong};
 use crate::words::Words;
-use rtnl::dump::{Dump, Kind};
+use rtnl::dump::{Dump, Kind, Seed};
 use rtnl::frame::Limits;
 use rtnl::{
     LONGEST_INPUT, ReadSource, RowFormat, RunError, Sink, SliceSource, Source, VecSink, Verdict,
@@ -137,7 +137,8 @@ impl Run {
                 run_table(alloc, source, sink, Dump { kind, ..LINKS }, limits)
             }
             Engine::TableJson(kind) => {
-                run_table_json(alloc, source, sink, Dump { kind, ..LINKS }, limits)
+                let seed = Seed::from_bytes([7; 16]);
+                run_table_json(alloc, source, sink, Dump { kind, ..LINKS }, limits, seed)
             }
             Engine::Request(kind) => run_request(alloc, sink, kind, 2, 7),
             Engine::RequestOrdered(kind) => {

@@ -16,7 +16,7 @@ use nl_frame::Limits;
 use nl_route::Family;
 use std::alloc::{AllocError, Global};
 
-/// A new session of these limits and this seed that begins a dump, and the request. A new session has no dump
+/// A new session of these limits and this seed that begins a dump, and the request. It has no dump
 /// that waits and no last sequence number, so only memory can be refused.
 pub(crate) fn begun(
     alloc: Global,

@@ -207,8 +207,8 @@ pub fn run_table_with_seed<S: Source, W: Sink>(
 }
 
 /// Reads the datagrams as `run_table_with_seed` does, and writes the dump as lines of JSON (RFC
-/// 8259) in place of text: an object of each datagram that was refused, of each entry, and of how the dump
-/// ended.
+/// 8259) in place of text: an object of each datagram that was refused, of each entry, and of how
+/// the dump ended.
 ///
 /// It reads, writes and ends as `run_table` does.
 pub fn run_table_json<S: Source, W: Sink>(
