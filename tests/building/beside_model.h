@@ -39,10 +39,8 @@ static inline void one_call(struct rtnlc_builder *b, struct model *m, const stru
 static inline void beside_model(const struct call *calls, size_t count, size_t room,
                                 size_t largest, uint8_t depth, bool big)
 {
-	struct rtnlc_options options = {
-		.total = RTNLC_STANDARD_TOTAL, .datagram = (uint32_t)largest,
-		.entries = RTNLC_STANDARD_ENTRIES, .depth = depth, .big = big,
-	};
+	struct rtnlc_options options = { RTNLC_STANDARD_TOTAL, (uint32_t)largest,
+		                         RTNLC_STANDARD_ENTRIES, depth, big, { 0 } };
 	struct model m = { expected, 0, room, largest, 0, depth, big, 0, { { 0, BYTES, IN_LINK } } };
 	struct rtnlc_builder b;
 	struct rtnlc_put put;

@@ -248,10 +248,9 @@ static inline struct rtnlc_builder by_builder(enum asked family, const union fie
                                               uint8_t operation, uint32_t seq, bool big,
                                               uint8_t *out, size_t room)
 {
-	const struct rtnlc_options options = {
-		.total = RTNLC_STANDARD_TOTAL, .datagram = RTNLC_STANDARD_DATAGRAM,
-		.entries = RTNLC_STANDARD_ENTRIES, .depth = RTNLC_STANDARD_DEPTH, .big = big,
-	};
+	const struct rtnlc_options options = { RTNLC_STANDARD_TOTAL, RTNLC_STANDARD_DATAGRAM,
+		                                   RTNLC_STANDARD_ENTRIES, RTNLC_STANDARD_DEPTH, big,
+		                                   { 0 } };
 	const uint16_t type = (operation == RTNLC_DELETE ? delete_types : new_types)[family];
 	uint8_t head[20] = { 0 };
 	struct rtnlc_builder b;

@@ -128,9 +128,7 @@ static void change(struct rtnlc_built *it)
 /* A builder in the midst of a random datagram. */
 static struct rtnlc_builder begun_builder(size_t room)
 {
-	struct rtnlc_options options = {
-		.total = RTNLC_STANDARD_TOTAL, .datagram = LARGEST, .entries = 4096,
-	};
+	struct rtnlc_options options = { RTNLC_STANDARD_TOTAL, LARGEST, 4096, 0, false, { 0 } };
 	struct rtnlc_builder b;
 	size_t at, count;
 	made.depth = chosen(8);

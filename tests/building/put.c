@@ -106,9 +106,8 @@ static void print_built(const struct rtnlc_builder *b)
 int main(int argc, char **argv)
 {
 	static char line[4 * ROOM];
-	struct rtnlc_options options = {
-		.total = RTNLC_STANDARD_TOTAL, .datagram = ROOM, .depth = RTNLC_STANDARD_DEPTH,
-	};
+	struct rtnlc_options options = { RTNLC_STANDARD_TOTAL, ROOM, 0, RTNLC_STANDARD_DEPTH,
+		                             false, { 0 } };
 	struct rtnlc_builder b;
 	struct call it;
 	options.big = argc > 1 && !strcmp(argv[1], "big");

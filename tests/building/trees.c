@@ -220,9 +220,8 @@ static void print_datagram(size_t len, bool big)
 
 int main(int argc, char **argv)
 {
-	struct rtnlc_options options = {
-		.total = RTNLC_STANDARD_TOTAL, .datagram = ROOM, .entries = RTNLC_STANDARD_ENTRIES,
-	};
+	struct rtnlc_options options = { RTNLC_STANDARD_TOTAL, ROOM, RTNLC_STANDARD_ENTRIES, 0,
+		                             0, { 0 } };
 	unsigned long count, wanted = argc > 4 ? strtoul(argv[4], NULL, 10) : 0, at, printed = 0;
 	if (argc < 4)
 		return 2;

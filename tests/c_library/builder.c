@@ -103,7 +103,7 @@ static void pass_room(uint8_t (*build)(struct rtnlc_builder *), const uint8_t *w
 
 static void pass_rooms(void)
 {
-	struct rtnlc_options big = { .datagram = 1024, .depth = 8, .big = true };
+	struct rtnlc_options big = { 0, 1024, 0, 8, true, { 0 } };
 	size_t room;
 	for (room = 0; room <= sizeof a_link; room++) {
 		pass_room(build_link, a_link, sizeof a_link, room, NULL);
@@ -134,7 +134,8 @@ static struct rtnlc_builder begun(uint8_t *out, size_t room, const struct rtnlc_
 static void pass_refusals(void)
 {
 	static uint8_t out[1 << 18], many[65536];
-	struct rtnlc_options flat = { .datagram = 65536 }, small = { .datagram = 32, .depth = 8 };
+	struct rtnlc_options flat = { 0, 65536, 0, 0, false, { 0 } },
+	                     small = { 0, 32, 0, 8, false, { 0 } };
 	struct rtnlc_builder b;
 	REFUSES(RTNLC_STILL_OPEN, NULL, rtnlc_builder_begin(&b, 24, 0, 0, 0, route_head, 12));
 	REFUSES(RTNLC_STILL_OPEN, NULL, rtnlc_builder_message(&b, 3, 0, 0, 0, "abcd", 4));
@@ -195,7 +196,7 @@ static void pass_random(void)
 
 int main(void)
 {
-	static const struct rtnlc_options none = { .depth = 0 };
+	static const struct rtnlc_options none = { 0, 0, 0, 0, false, { 0 } };
 	struct rtnlc_builder b, before;
 	memset(&b, PAINT, sizeof b);
 	before = b;

@@ -90,6 +90,8 @@ awk '{ sum += $1 } END { print "allocations of sessions refused: " sum }' \
 
 check 'million.c' built million million cc -std=c99
 check 'a million routes in constant space' quietly "$folder/million"
+check 'colliding.c' built colliding colliding cc -std=c99
+check 'keys that were chosen to collide' "$folder/colliding"
 
 if has valgrind 'sessions and streams under valgrind'; then
   see=(valgrind -q --leak-check=full --error-exitcode=9)

@@ -141,7 +141,7 @@ static void compare_under(struct datagram at_end, struct rtnlc_options limits,
 /* Where the limits are out of their range, each call says so and touches nothing. */
 static void compare_bad(struct datagram at_end, uint32_t datagram, uint8_t depth)
 {
-	struct rtnlc_options bad = { .datagram = datagram, .depth = depth };
+	struct rtnlc_options bad = { 0, datagram, 0, depth, false, { 0 } };
 	struct rtnlc_event *out = (struct rtnlc_event *)events_end - MARGIN;
 	char *text = (char *)text_end - MARGIN;
 	struct rtnlc_scanned scanned = rtnlc_scan(at_end.bytes, at_end.len, &bad);
@@ -171,10 +171,8 @@ static void compare_bad(struct datagram at_end, uint32_t datagram, uint8_t depth
 static void compare(const struct datagram *one, bool big)
 {
 	static const uint8_t depths[] = { 0, 1, 2, 32 };
-	struct rtnlc_options limits = {
-		.total = RTNLC_STANDARD_TOTAL, .datagram = RTNLC_STANDARD_DATAGRAM,
-		.entries = RTNLC_STANDARD_ENTRIES, .depth = RTNLC_STANDARD_DEPTH,
-	};
+	struct rtnlc_options limits = { RTNLC_STANDARD_TOTAL, RTNLC_STANDARD_DATAGRAM,
+		                            RTNLC_STANDARD_ENTRIES, RTNLC_STANDARD_DEPTH, false, { 0 } };
 	struct datagram at_end = *one;
 	size_t at;
 	at_end.bytes = bytes_end - one->len;
@@ -199,10 +197,8 @@ static void compare(const struct datagram *one, bool big)
 int main(int count, char **words)
 {
 	bool big = count > 2 && strcmp(words[2], "big") == 0;
-	struct rtnlc_options limits = {
-		.total = RTNLC_STANDARD_TOTAL, .datagram = RTNLC_STANDARD_DATAGRAM,
-		.entries = RTNLC_STANDARD_ENTRIES, .depth = RTNLC_STANDARD_DEPTH, .big = big,
-	};
+	struct rtnlc_options limits = { RTNLC_STANDARD_TOTAL, RTNLC_STANDARD_DATAGRAM,
+		                            RTNLC_STANDARD_ENTRIES, RTNLC_STANDARD_DEPTH, big, { 0 } };
 	struct datagram one = { NULL, 0, 0 };
 	if (count < 2)
 		return 2;

@@ -77,9 +77,7 @@ static void hold_region(const uint8_t *region, size_t size, bool big)
 int main(int words, char **word)
 {
 	bool big = words > 1 && !strcmp(word[1], "big");
-	struct rtnlc_options limits = {
-		.total = RTNLC_STANDARD_TOTAL, .datagram = 1 << 20, .depth = 32, .big = big,
-	};
+	struct rtnlc_options limits = { RTNLC_STANDARD_TOTAL, 1 << 20, 0, 32, big, { 0 } };
 	struct datagram one = { NULL, 0, 0 };
 	bytes_end = guarded_end(LARGEST);
 	hold(NULL, 0, 0, 1, big);

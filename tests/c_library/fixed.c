@@ -8,7 +8,7 @@
 
 #define LARGEST (1 << 20)
 
-static const struct rtnlc_options widest = { .datagram = LARGEST, .depth = 32 };
+static const struct rtnlc_options widest = { 0, LARGEST, 0, 32, false, { 0 } };
 
 /* What a scan and a check of a block find, which is freed then. */
 static void expect_scan(const char *what, uint8_t *bytes, size_t len,
@@ -88,7 +88,7 @@ static void expect_faults(void)
 
 static void expect_limits(void)
 {
-	struct rtnlc_options limits = { .datagram = 16 };
+	struct rtnlc_options limits = { 0, 16, 0, 0, false, { 0 } };
 	size_t len;
 	uint8_t *bytes = chain_of(RTNLC_STANDARD_DEPTH, &len);
 	expect_scan("the standard depth", bytes, len, NULL, RTNLC_OK, 0);

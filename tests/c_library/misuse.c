@@ -82,9 +82,7 @@ static void is_bad(struct rtnlc_options options, const char *what)
 
 static void bad_limits(void)
 {
-	static const struct rtnlc_options good = {
-		.total = RTNLC_STANDARD_TOTAL, .datagram = 4096, .entries = 16, .depth = 8,
-	};
+	static const struct rtnlc_options good = { RTNLC_STANDARD_TOTAL, 4096, 16, 8, false, { 0 } };
 	static const uint64_t totals[] = { ((uint64_t)1 << 40) + 1, UINT64_MAX };
 	static const uint32_t datagrams[] = { 0,  4,  12,          15,          17,
 		                                  18, 19, LARGEST + 1, LARGEST + 4, 1u << 31 };
@@ -120,8 +118,9 @@ static bool is_new(const struct rtnlc_builder *b, const struct rtnlc_options *op
 /* The greatest and the least of each limit are within its range. */
 static void good_limits(void)
 {
-	static const struct rtnlc_options all[] = { { (uint64_t)1 << 40, LARGEST, 65536, 32, true },
-		                                        { 0, 16, 0, 0, false } };
+	static const struct rtnlc_options all[] = {
+		{ (uint64_t)1 << 40, LARGEST, 65536, 32, true, { 0 } }, { 0, 16, 0, 0, false, { 0 } }
+	};
 	size_t at;
 	for (at = 0; at < 2; at++) {
 		struct rtnlc_session s = { 0 };

@@ -34,10 +34,11 @@ carries_version() {
     <(nm -D --defined-only "$shared" | awk '$2 == "T" { print $3 }' | sort)
 }
 
-# Only functions on memory, and those that the linker itself names.
-takes_memory_alone() {
+# Only functions on memory, what gives a seed, and what the linker itself names.
+takes_memory_and_a_seed() {
   local memory='malloc|realloc|free|mem(cpy|move|set|cmp)' linker='_(ITM|_cxa|_gmon).*'
-  names_in "$@" | grep -vxE "$memory|$linker|_GLOBAL_OFFSET_TABLE_" >"$folder/names"
+  local seed='getrandom|__errno_location'
+  names_in "$@" | grep -vxE "$memory|$seed|$linker|_GLOBAL_OFFSET_TABLE_" >"$folder/names"
   [ ! -s "$folder/names" ] || ! cat "$folder/names"
 }
 
@@ -73,8 +74,8 @@ check 'the names that librtnlc.so.0 defines' defines_the_calls "$shared" -D --de
 check 'the version of each name' carries_version
 check 'each call is made here' calls_all
 check 'each code is asked for its name' names_all_codes
-check 'what librtnlc.a takes' takes_memory_alone "$archive" --undefined-only
-check 'what librtnlc.so.0 takes' takes_memory_alone "$shared" -D --undefined-only
+check 'what librtnlc.a takes' takes_memory_and_a_seed "$archive" --undefined-only
+check 'what librtnlc.so.0 takes' takes_memory_and_a_seed "$shared" -D --undefined-only
 check 'librtnlc.so.0 is position independent' is_position_independent
 check 'the stack that librtnlc.so.0 asks for' has_plain_stack
 check 'the library keeps nothing' keeps_nothing

@@ -107,10 +107,8 @@ static void call_others(const struct datagram *one, const struct rtnlc_options *
 
 int main(int count, char **words)
 {
-	struct rtnlc_options limits = {
-		.total = RTNLC_STANDARD_TOTAL, .datagram = RTNLC_STANDARD_DATAGRAM,
-		.entries = RTNLC_STANDARD_ENTRIES, .depth = RTNLC_STANDARD_DEPTH,
-	};
+	struct rtnlc_options limits = { RTNLC_STANDARD_TOTAL, RTNLC_STANDARD_DATAGRAM,
+		                            RTNLC_STANDARD_ENTRIES, RTNLC_STANDARD_DEPTH, false, { 0 } };
 	struct datagram one = { NULL, 0, 0 };
 	limits.big = count > 1 && strcmp(words[1], "big") == 0;
 	memset(out, PAINT, ROOM);

@@ -9,10 +9,9 @@
 
 static uint8_t message[ROOM], again[ROOM], key[ROOM];
 static char text[1 << 20];
-static struct rtnlc_options limits = {
-	.total = RTNLC_STANDARD_TOTAL, .datagram = RTNLC_STANDARD_DATAGRAM,
-	.entries = RTNLC_STANDARD_ENTRIES, .depth = RTNLC_STANDARD_DEPTH,
-};
+static struct rtnlc_options limits = { RTNLC_STANDARD_TOTAL, RTNLC_STANDARD_DATAGRAM,
+	                                   RTNLC_STANDARD_ENTRIES, RTNLC_STANDARD_DEPTH, false,
+	                                   { 0 } };
 static unsigned long unfed;
 
 static const char *word(uint16_t kind)

@@ -19,10 +19,9 @@ struct shot {
 	uint64_t sums[5];
 };
 
-static struct rtnlc_options limits = {
-	.total = RTNLC_STANDARD_TOTAL, .datagram = RTNLC_STANDARD_DATAGRAM,
-	.entries = RTNLC_STANDARD_ENTRIES, .depth = RTNLC_STANDARD_DEPTH,
-};
+static struct rtnlc_options limits = { RTNLC_STANDARD_TOTAL, RTNLC_STANDARD_DATAGRAM,
+	                                   RTNLC_STANDARD_ENTRIES, RTNLC_STANDARD_DEPTH, false,
+	                                   { 0 } };
 static struct datagram all[MOST];
 static size_t count;
 static uint8_t out[ROOM];

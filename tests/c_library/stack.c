@@ -21,9 +21,7 @@ static uint8_t *stack;
 static ucontext_t outside, inside;
 static const uint8_t *bytes;
 static size_t len;
-static const struct rtnlc_options widest = {
-	.total = 1 << 30, .datagram = 1 << 20, .entries = 64, .depth = 32,
-};
+static const struct rtnlc_options widest = { 1 << 30, 1 << 20, 64, 32, false, { 0 } };
 static struct rtnlc_event events[1 << 15];
 static struct rtnlc_session session;
 static struct rtnlc_stream stream;

@@ -9,10 +9,9 @@
 
 #define ROOM (1 << 15)
 
-static struct rtnlc_options limits = {
-	.total = RTNLC_STANDARD_TOTAL, .datagram = RTNLC_STANDARD_DATAGRAM,
-	.entries = RTNLC_STANDARD_ENTRIES, .depth = RTNLC_STANDARD_DEPTH,
-};
+static struct rtnlc_options limits = { RTNLC_STANDARD_TOTAL, RTNLC_STANDARD_DATAGRAM,
+	                                   RTNLC_STANDARD_ENTRIES, RTNLC_STANDARD_DEPTH, false,
+	                                   { 0 } };
 static struct rtnlc_stream stream;
 static struct rtnlc_session whole, parts;
 static struct rtnlc_event events[ROOM], tape[ROOM];

@@ -15,7 +15,7 @@ static const uint8_t a_link[] = { 48, 0, 0, 0, 16, 0, 2, 0, 1, 0, 0, 0, 1,   0, 
 	                              7,  0, 3, 0, 'l', 'o', 0, 0, 7, 0, 3, 0, 'e', 'h', 0, 0 };
 static const uint8_t an_end[] = { 20, 0, 0, 0, 3, 0, 2, 0, 1, 0, 0, 0, 1, 0, 0, 0, 0, 0, 0, 0 };
 static uint8_t zeros[LARGEST + 1];
-static const struct rtnlc_options none = { .depth = 0 };
+static const struct rtnlc_options none = { 0, 0, 0, 0, false, { 0 } };
 static uint8_t out[64];
 static struct rtnlc_event events[4];
 
