@@ -16,7 +16,6 @@ With RTNL_BUILD=no nothing is built. The status is 3 where nothing could be buil
 says why, and 128 and the number of a signal that ended it.
 """
 import contextlib
-import fcntl
 import os
 import shutil
 import signal
@@ -28,7 +27,7 @@ from typing import IO, Any, Iterator, NoReturn, Optional
 sys.dont_write_bytecode = True
 import unproved
 from crates import ROOT, Crates, below, listed, newer
-from steps import Failed, Interrupted, say, step, stop_on_signals
+from steps import Failed, Interrupted, hold, say, step, stop_on_signals
 
 OUT = f"{ROOT}/out"
 PROGRAM, LIBRARY = "rtnl_cli", "rtnl_c"
@@ -54,11 +53,7 @@ def locked() -> Iterator[None]:
         why = f"{OUT} cannot be written: {error.strerror}"
         raise Failed(f"nothing could be built; {why}") from None
     with lock:
-        try:
-            fcntl.flock(lock, fcntl.LOCK_EX | fcntl.LOCK_NB)
-        except BlockingIOError:
-            say("waiting for another build here to end")
-            fcntl.flock(lock, fcntl.LOCK_EX)
+        hold(lock.fileno(), lambda: say("waiting for another build here to end"))
         yield
 
 

@@ -1,11 +1,12 @@
 """Steps of a build: each is said on standard error, what its commands say goes into a log."""
 import contextlib
+import fcntl
 import os
 import signal
 import subprocess
 import sys
 import time
-from typing import IO, Any, Iterator, List, Sequence
+from typing import IO, Any, Callable, Iterator, List, Sequence
 
 ENDING = (signal.SIGINT, signal.SIGTERM, signal.SIGHUP)
 
@@ -51,6 +52,16 @@ def undisturbed() -> Iterator[Any]:
         yield lambda: signal.pthread_sigmask(signal.SIG_SETMASK, before)
     finally:
         signal.pthread_sigmask(signal.SIG_SETMASK, before)
+
+
+def hold(lock: int, say_so: Callable[[], None]) -> None:
+    """Takes the lock of an open file until that is closed. Where another run has it, that is said,
+    and this one waits."""
+    try:
+        fcntl.flock(lock, fcntl.LOCK_EX | fcntl.LOCK_NB)
+    except BlockingIOError:
+        say_so()
+        fcntl.flock(lock, fcntl.LOCK_EX)
 
 
 def end(started: Sequence["subprocess.Popen[bytes]"]) -> None:

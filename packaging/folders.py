@@ -1,24 +1,31 @@
 """Files below a folder, by descriptors, so that no symbolic link there is followed.
 
 Whoever may write in one of these folders can put a link there at any time. So each folder is
-opened by its name in the one above it, and refused where it is a link; a new file is made under a
-name that nobody knows, and takes its place at once.
+opened by its name in the one above it, and refused where it is a link. A new file is made under a
+name of its own, by which a run that is cut leaves it to the next one, and takes its place at once.
 """
 import contextlib
 import errno
 import hashlib
 import os
-import secrets
 import stat
-from typing import Collection, Iterator, List, NamedTuple, Optional, Tuple
+from typing import Collection, Iterable, Iterator, List, NamedTuple, Optional, Tuple
 
 PLACE = os.O_PATH | os.O_NOFOLLOW | os.O_CLOEXEC
+LIST = os.O_RDONLY | os.O_DIRECTORY | os.O_NOFOLLOW | os.O_CLOEXEC
 READ = os.O_RDONLY | os.O_NOFOLLOW | os.O_NONBLOCK | os.O_NOCTTY | os.O_CLOEXEC
 NEW = os.O_WRONLY | os.O_CREAT | os.O_EXCL | os.O_NOFOLLOW | os.O_CLOEXEC
 # As many links as the kernel follows in a path.
 MOST_LINKS = 40
 # What a file system answers that has no hard links.
 NO_LINKS = (errno.EPERM, errno.EOPNOTSUPP, errno.ENOSYS, errno.EMLINK)
+# The mode of a folder, and of one that no record has yet: nobody else gives a folder that one, so a
+# run that is cut leaves a folder which the next one knows.
+SETTLED, UNSETTLED = 0o755, 0o1701
+# Of a new file's name, which is that of its place beside.
+NEW_NAME = ".{}.e1f0c7a95b3d4826.new"
+# What a file system answers that has no names to be kept on a disk.
+NO_SYNC = (errno.EINVAL, errno.EACCES)
 # The sum of what is neither a file nor a link, or can't be read.
 OTHER = "other"
 
@@ -45,14 +52,47 @@ class Reached(NamedTuple):
 
 
 def enter(fd: int, name: str, make: bool) -> Tuple[int, bool]:
-    """Opens what has this name in a folder, and says whether it is a folder that was made now."""
+    """Opens what has this name in a folder, and says whether it is a new folder: one that was made
+    now, or by a run of the caller's that was cut before a record had it."""
+    is_new = False
     try:
-        return os.open(name, PLACE, dir_fd=fd), False
+        found = os.open(name, PLACE, dir_fd=fd)
     except FileNotFoundError:
         if not make:
             raise
-    os.mkdir(name, dir_fd=fd)
-    return os.open(name, PLACE, dir_fd=fd), True
+        with contextlib.suppress(FileExistsError):
+            os.mkdir(name, UNSETTLED, dir_fd=fd)
+            is_new = True
+        found = os.open(name, PLACE, dir_fd=fd)
+    status = os.fstat(found)
+    is_cut = stat.S_ISDIR(status.st_mode) and status.st_mode & 0o1777 == UNSETTLED
+    return found, is_new or is_cut and status.st_uid == os.geteuid()
+
+
+@contextlib.contextmanager
+def listing(fd: int) -> Iterator[int]:
+    """A folder, open to be read."""
+    found = os.open(".", LIST, dir_fd=fd)
+    try:
+        yield found
+    finally:
+        os.close(found)
+
+
+def settle(fd: int, mode: int = SETTLED) -> None:
+    """Gives a folder its mode, and leaves it the bit by which what is in it has its group."""
+    with listing(fd) as folder:
+        os.fchmod(folder, mode | os.fstat(folder).st_mode & stat.S_ISGID)
+
+
+def sync(fd: int) -> None:
+    """Has the names in a folder outlive a power cut."""
+    try:
+        with listing(fd) as folder:
+            os.fsync(folder)
+    except OSError as error:
+        if error.errno not in NO_SYNC:
+            raise
 
 
 def reach(path: str, make: bool, below: Optional[Reached] = None) -> Reached:
@@ -70,6 +110,11 @@ def reach(path: str, make: bool, below: Optional[Reached] = None) -> Reached:
         fd, is_new = enter(now.fd, part, make)
         status, at = os.fstat(fd), os.path.normpath(f"{now.path.rstrip('/')}/{part}")
         if stat.S_ISDIR(status.st_mode):
+            if now.is_new and make:
+                # No record has a folder above the one that is asked for.
+                settle(now.fd)
+            if is_new and make:
+                sync(now.fd)
             now = Reached(fd, at, now.fd, is_new)
             continue
         links += 1
@@ -125,6 +170,8 @@ def write(fd: int, name: str, content: bytes, mode: str) -> None:
         file.write(content)
         file.flush()
         os.fchmod(file.fileno(), int(mode, 8))
+        # It takes its place only once its bytes outlive a power cut.
+        os.fsync(file.fileno())
 
 
 def take_free(fd: int, new: str, name: str) -> None:
@@ -147,19 +194,20 @@ class Folder:
         self.fd = fd
 
     @contextlib.contextmanager
-    def holder(self, place: str, made: Optional[List[str]] = None) -> Iterator[Tuple[int, str]]:
-        """The folder in which a place is, and its name there. Where a list is given, folders that
-        are missing are made, and put there."""
+    def holder(self, place: str, new: Optional[List[str]] = None,
+               make: bool = False) -> Iterator[Tuple[int, str]]:
+        """The folder in which a place is, and its name there. Folders that are missing are made
+        where that is asked, and the list gets those that are new."""
         *parts, name = place.split("/")
         fd = os.dup(self.fd)
         try:
             for number, part in enumerate(parts, 1):
                 at = "/".join(parts[:number])
-                found, is_new = enter(fd, part, made is not None)
+                found, is_new = enter(fd, part, make)
                 os.close(fd)
                 fd = found
-                if is_new and made is not None:
-                    made.append(at)
+                if is_new and new is not None and at not in new:
+                    new.append(at)
                 mode = os.fstat(fd).st_mode
                 if stat.S_ISLNK(mode):
                     raise Linked(at)
@@ -169,6 +217,28 @@ class Folder:
         finally:
             os.close(fd)
 
+    def settle(self, places: Iterable[str], mode: int = SETTLED) -> None:
+        """Gives these folders their mode."""
+        for place in places:
+            with self.holder(f"{place}/.") as (fd, _):
+                settle(fd, mode)
+
+    def sync(self, places: Iterable[str]) -> None:
+        """Has the names in the folders of these places outlive a power cut."""
+        for above in sorted({os.path.dirname(place) or "." for place in places}):
+            with contextlib.suppress(FileNotFoundError, NotADirectoryError, Linked), \
+                    self.holder(f"{above}/.") as (fd, _):
+                sync(fd)
+
+    def clean(self, places: Iterable[str]) -> None:
+        """Removes the new files of a run that was cut before they took these places."""
+        for place in places:
+            with contextlib.suppress(OSError, Linked), self.holder(place) as (fd, name):
+                new = NEW_NAME.format(name)
+                status = os.stat(new, dir_fd=fd, follow_symlinks=False)
+                if status.st_uid in (0, os.geteuid()):
+                    os.unlink(new, dir_fd=fd)
+
     def sum(self, place: str) -> Optional[str]:
         """As of `sum_at`; of a place whose folder is not there too."""
         try:
@@ -177,11 +247,10 @@ class Folder:
         except FileNotFoundError:
             return None
 
-    def put(self, place: str, content: bytes, mode: str, ours: Collection[str],
-            made: List[str]) -> None:
+    def put(self, place: str, content: bytes, mode: str, ours: Collection[str]) -> None:
         """Puts a file, whole and at once, where nothing is, or in place of one with such a sum."""
-        with self.holder(place, made) as (fd, name):
-            new = f".{name}.{secrets.token_hex(8)}.new"
+        with self.holder(place) as (fd, name):
+            new = NEW_NAME.format(name)
             try:
                 write(fd, new, content, mode)
                 found = sum_at(fd, name)
@@ -191,6 +260,9 @@ class Folder:
                     os.rename(new, name, src_dir_fd=fd, dst_dir_fd=fd)
                 else:
                     raise Taken
+            except FileExistsError:
+                # The new file is another's.
+                raise
             except BaseException:
                 with contextlib.suppress(FileNotFoundError):
                     os.unlink(new, dir_fd=fd)

@@ -2,12 +2,13 @@
 
 A line for each folder that was made there, one for each file with its sum, and one more for a
 program that is not proved. A folder is named by its path from the prefix, which is `.` itself; an
-older record has its whole path. A file has two lines while another is put in its place.
+older record has its whole path. What will be made has its line before it is, so a file has two
+lines while another is put in its place, and a run that is cut leaves nothing but what has one.
 """
 import os
 import re
 import stat
-from typing import Dict, List, Optional
+from typing import Dict, Iterable, List, Optional
 
 from folders import READ, Folder, sum_of
 from rows import RECORD
@@ -35,6 +36,8 @@ class Record:
         self.folders: List[str] = []
         self.sums: Dict[str, List[str]] = {}
         self.unproved = ""
+        # It has no bytes, as a power cut left those of older versions.
+        self.is_empty = False
         # The sum of the record as it stands there, where it does.
         self.written: List[str] = []
 
@@ -58,15 +61,24 @@ class Record:
         self.folders.append(rest)
         return rest == "." or is_place(rest)
 
+    def add_folders(self, places: Iterable[str]) -> None:
+        self.folders += [it for it in places if it not in self.folders]
+
+    def add_sum(self, place: str, found: str) -> None:
+        """Adds a file, or its sum beside that of an older one."""
+        self.sums[place] = [*dict.fromkeys([*self.sums.get(place, []), found])]
+
     def text(self) -> bytes:
         lines = [f"folder {it}" for it in self.folders]
         lines += [f"file {found} {place}" for place, sums in self.sums.items() for found in sums]
         lines += [f"unproved {self.unproved}"] if self.unproved else []
         return "".join(f"{it}\n" for it in lines).encode(errors="surrogateescape")
 
-    def write(self, folder: Folder, made: Optional[List[str]] = None) -> None:
+    def write(self, folder: Folder) -> None:
+        """Writes it into its folder, where it outlives a power cut."""
         text = self.text()
-        folder.put(RECORD, text, "644", self.written, self.folders if made is None else made)
+        folder.put(RECORD, text, "644", self.written)
+        folder.sync([RECORD, *self.folders])
         self.written = [sum_of(text, "644")]
 
 
@@ -100,8 +112,9 @@ def read(folder: Folder, prefix: str) -> Optional[Record]:
         return None
     record = Record(prefix)
     record.written = [sum_of(text, "644")]
+    record.is_empty = not text
     lines = text.decode(errors="surrogateescape").split("\n")
-    if len(text) > LONGEST or not text or lines.pop() != "":
+    if len(text) > LONGEST or lines.pop() != "":
         raise NotOurs("is no record of this script")
     for number, line in enumerate(lines, 1):
         if not record.take(line):

@@ -70,6 +70,11 @@ def version() -> str:
     return found[1]
 
 
+def escaped(path: str) -> str:
+    """A path as a file for pkg-config has it, where a blank at the end of a line is lost."""
+    return re.sub(r"""[ \\"'#${]""", r"\\\g<0>", path) + ('""' if path.endswith(" ") else "")
+
+
 def filled(text: bytes, words: Dict[str, str]) -> bytes:
     """A file of share/ with its words replaced."""
     return WORDS.sub(lambda found: os.fsencode(words[found[1].decode()]), text)

@@ -5,7 +5,7 @@ import os
 import stat
 import subprocess
 import tempfile
-from typing import Dict, Iterator, NamedTuple
+from typing import Dict, Iterable, Iterator, NamedTuple
 
 from steps import Failed
 
@@ -36,10 +36,10 @@ def read(folder: str) -> Tree:
     return found
 
 
-def folders(tree: Tree) -> Iterator[str]:
+def folders(places: Iterable[str]) -> Iterator[str]:
     """The folders in which the files are, each before those in it."""
     found = set()
-    for place in tree:
+    for place in places:
         while "/" in place:
             place = place.rpartition("/")[0]
             found.add(place)

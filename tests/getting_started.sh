@@ -13,7 +13,7 @@ unset RTNL_PATH RTNL_BUILD DESTDIR libdir
 tests/helpers/proved.py >/dev/null || exit 1
 
 if [ "${1-}" != inside ]; then
-  tests/helpers/install_packages.sh mandoc mandoc xxd xxd jq jq strace strace tshark tshark ip iproute2 \
+  tests/helpers/install_packages.sh mandoc mandoc pkg-config pkg-config xxd xxd jq jq strace strace tshark tshark ip iproute2 \
     /usr/share/bash-completion/bash_completion bash-completion zsh zsh fish fish
   # The first run builds the program where it isn't built from these sources.
   ./rtnl --version >/dev/null || exit 1
@@ -66,6 +66,7 @@ inside=no
 . tests/getting_started/installed.sh
 . tests/getting_started/prepared.sh
 . tests/getting_started/records.sh
+. tests/getting_started/together.sh
 . tests/getting_started/refusals.sh
 
 finish

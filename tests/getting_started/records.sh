@@ -88,6 +88,28 @@ is_open_to_all() {
     listed "$target" >"$folder/before" && is_left_alone 'can be written by every user'
 }
 
+# is_empty: a record without a byte is none, which a removal says.
+is_empty() {
+  has_record true && ends 1 '' "install: $record is empty, as after a power cut, and is written anew by installing again;\
+ nothing was removed" take_as "$target" && listed "$target" | diff "$folder/before" - && is_untouched
+}
+
+# is_written_anew: over such a record files without a byte and those of the same bytes are taken for what was put, and
+# then removed; the folders, which it doesn't name, are left.
+is_written_anew() {
+  has_record true && by mkdir -p "$target/share/man/man1" && by touch "$target/share/man/man1/rtnl.1" &&
+    ends 0 "$(printf "installed $target/%s\n" "${things[@]}")" "$not_proved" put_as "$target" &&
+    cmp -s share/rtnl.jq "$target/share/rtnl/rtnl.jq" && [ -s "$target/share/man/man1/rtnl.1" ] &&
+    [ "$(grep -c '^file ' "$record")" = "$((${#things[@]} - 1))" ] && take_as "$target" >/dev/null &&
+    [ -z "$(find "$target" ! -type d)" ] && is_untouched
+}
+
+# leaves_other: what has other bytes is not.
+leaves_other() {
+  has_record true && by sh -c 'echo mine >"$0"' "$target/bin/rtnl-record" &&
+    is_refused bin/rtnl-record 'is there and was not installed by this script'
+}
+
 # replaces_own: what the record has is replaced, and what was changed since is not.
 replaces_own() {
   is_put && put_as "$target" >/dev/null 2>&1 && echo >>"$target/bin/rtnl" &&
@@ -125,7 +147,9 @@ record_cases() {
   for line in "$outside/empty" /dev/shm "$target/../outside/empty" "$room"; do
     check "$1: a record with the folder $line" stays_below "folder $line"
   done
-  check "$1: an empty record" is_no_record true
+  check "$1: an empty record" is_empty
+  check "$1: an empty record is written anew" is_written_anew
+  check "$1: an empty record beside what is another's" leaves_other
   check "$1: a record without its last line's end" \
     is_no_record printf 'file %s bin/rtnl' "$sum_outside"
   check "$1: a record that is too long" is_no_record awk -v "line=file $sum_outside bin/rtnl" \
