@@ -82,7 +82,11 @@ def listing(fd: int) -> Iterator[int]:
 def settle(fd: int, mode: int = SETTLED) -> None:
     """Gives a folder its mode, and leaves it the bit by which what is in it has its group."""
     with listing(fd) as folder:
-        os.fchmod(folder, mode | os.fstat(folder).st_mode & stat.S_ISGID)
+        status = os.fstat(folder)
+        # One that took the place of a new folder meanwhile has another mode, or another owner.
+        is_new = status.st_mode & 0o1776 == 0o1700 and status.st_uid == os.geteuid()
+        if is_new or mode == UNSETTLED:
+            os.fchmod(folder, mode | status.st_mode & stat.S_ISGID)
 
 
 def sync(fd: int) -> None:
@@ -217,11 +221,11 @@ class Folder:
         finally:
             os.close(fd)
 
-    def settle(self, places: Iterable[str], mode: int = SETTLED) -> None:
-        """Gives these folders their mode."""
+    def settle(self, places: Iterable[str]) -> None:
+        """Gives new folders their mode."""
         for place in places:
             with self.holder(f"{place}/.") as (fd, _):
-                settle(fd, mode)
+                settle(fd)
 
     def sync(self, places: Iterable[str]) -> None:
         """Has the names in the folders of these places outlive a power cut."""

@@ -12,7 +12,7 @@ from typing import Dict, Iterator, List, NamedTuple, NoReturn, Optional, Tuple
 import page
 import record
 from crates import ROOT
-from folders import (LIST, UNSETTLED, Folder, Linked, Reached, Taken, listing, reach,
+from folders import (LIST, UNSETTLED, Folder, Linked, Reached, Taken, listing, reach, settle,
                      sum_of)
 from lines import say
 from record import NotOurs, Record
@@ -243,7 +243,7 @@ def remove_known(target: Target, reached: Reached, known: Record) -> int:
     try:
         folder.sync(known.sums)
         remove_folders(reached, folder, [it for it in known.folders if it not in AROUND])
-        folder.settle(lonely(folder, known), UNSETTLED)
+        unsettle(folder, known)
         is_removed = folder.remove(RECORD, known.written)
     except (OSError, Linked):
         is_removed = False
@@ -254,14 +254,14 @@ def remove_known(target: Target, reached: Reached, known: Record) -> int:
     return status
 
 
-def lonely(folder: Folder, known: Record) -> Iterator[str]:
-    """The folders around the record that were made and have nothing else, the innermost first."""
-    names = RECORD.split("/")
-    for place, name in zip(AROUND, names[::-1]):
+def unsettle(folder: Folder, known: Record) -> None:
+    """Has the next run know those folders around the record that were made, and have nothing else,
+    once the record is gone."""
+    for place, name in zip(AROUND, RECORD.split("/")[::-1]):
         with folder.holder(f"{place}/.") as (fd, _), listing(fd) as entries:
             if place not in known.folders or os.listdir(entries) != [name]:
                 return
-        yield place
+            settle(fd, UNSETTLED)
 
 
 def remove_unknown(reached: Reached) -> None:

@@ -54,11 +54,17 @@ static inline const char *part_number(struct part it, char *text)
 	return it.len == 4 ? text : "-";
 }
 
+/* A name may have any bytes. Those that a terminal doesn't just print are written as \x1b is. */
 static inline const char *part_name(struct part it, char *text)
 {
-	const size_t most = it.len < PART_TEXT ? it.len : PART_TEXT - 1;
-	snprintf(text, PART_TEXT, "%.*s", (int)most, it.len ? (const char *)it.bytes : "");
-	return it.len ? text : "-";
+	size_t at, len = 0;
+	for (at = 0; at < it.len && it.bytes[at] && len + 4 < PART_TEXT; at++) {
+		const unsigned byte = it.bytes[at];
+		const bool is_plain = byte > ' ' && byte < 0x7f && byte != '\\';
+		len += (size_t)snprintf(text + len, 5, is_plain ? "%c" : "\\x%02x", byte);
+	}
+	text[len] = 0;
+	return len ? text : "-";
 }
 
 static inline const char *part_address(struct part it, char *text)

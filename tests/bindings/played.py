@@ -18,17 +18,23 @@ FAMILIES = {"links": [0], "routes": [0, 2, 10]}
 # What a request of a dump is: struct nlmsghdr, and the size of the family's head.
 SIZES = {GETLINK: 32, GETROUTE: 28}
 HEAD = struct.Struct("=HHIIB")
+# Names that a terminal would obey, or not show: a colour, what is UTF-8 and what isn't, and each
+# byte but the one that ends a name.
+HOSTILE = [b"e\x1b[31mX", b"\\x1b[31m", "\u00fc\u202e".encode(), b"\xff\xc3", *(
+    bytes(range(at, min(at + 15, 256))) for at in range(1, 256, 15))]
 # Links of the names of the indexes in the recording of routes, made by hand: with all states, a
 # long name, hardware addresses of other lengths.
 LINKS = [
-    wire.link(2, "plain", 0, 1500, "02:00:00:00:00:02"),
-    wire.link(3, "gone", 1, 68, "02:00:00:00:00:03"),
-    wire.link(4, "fifteen-letters", 2, 9000, "02:00:00:00:00:04"),
-    wire.link(5, "low", 3, 1280, "02:00:00:00:00:05"),
-    wire.link(6, "test.7", 4, 65535, "c6:33:64:01"),
-    wire.link(7, "sleeps", 5, 4294967295, ":".join(["fe"] * 20)),
-    wire.link(8, "up", 6, 0, "ff:ff:ff:ff:ff:ff"),
-    wire.link(0x01020308, "far", 6, 1500, "02:00:00:00:00:08"),
+    wire.link(2, b"plain", 0, 1500, "02:00:00:00:00:02"),
+    wire.link(3, b"gone", 1, 68, "02:00:00:00:00:03"),
+    wire.link(4, b"fifteen-letters", 2, 9000, "02:00:00:00:00:04"),
+    wire.link(5, b"low", 3, 1280, "02:00:00:00:00:05"),
+    wire.link(6, b"test.7", 4, 65535, "c6:33:64:01"),
+    wire.link(7, b"sleeps", 5, 4294967295, ":".join(["fe"] * 20)),
+    wire.link(8, b"up", 6, 0, "ff:ff:ff:ff:ff:ff"),
+    wire.link(0x01020308, b"far", 6, 1500, "02:00:00:00:00:08"),
+    *(wire.link(index, name, 6, 1500, "02:00:00:00:00:09")
+      for index, name in enumerate(HOSTILE, 9)),
 ]
 # One with nothing but its head.
 BARE = Message(wire.NEWLINK, struct.pack("=BxHiII", 0, 1, 99, 0, 0))
@@ -55,6 +61,7 @@ ROUTES = [
     route(2, 31, wire.attribute(wire.RTA_DST, bytes([192, 0, 2, 2]))
           + number(wire.RTA_OIF, 0x01020308)),
     route(2, 32, wire.attribute(wire.RTA_DST, bytes([192, 0, 2, 1])) + number(wire.RTA_OIF, 77)),
+    route(2, 0, number(wire.RTA_OIF, 9)), route(2, 0, number(wire.RTA_OIF, 12)),
     route(2, 0, b"", table=7),
     route(2, 8, wire.attribute(wire.RTA_DST, bytes([10, 0, 0, 0]))
           + wire.attribute(wire.RTA_MULTIPATH, HOPS + struct.pack("=HBBi", 8, 0, 0, 0))),

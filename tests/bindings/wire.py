@@ -88,10 +88,10 @@ def hops(data: bytes) -> Iterator[Tuple[int, Attributes]]:
         place += (length + 3) & ~3
 
 
-def link(index: int, name: str, state: int, mtu: int, address: str) -> Message:
+def link(index: int, name: bytes, state: int, mtu: int, address: str) -> Message:
     """A link, made by hand."""
     body = struct.pack("=BxHiII", 0, 1, index, 0, 0)
-    body += attribute(IFLA_IFNAME, name.encode() + b"\0")
+    body += attribute(IFLA_IFNAME, name + b"\0")
     body += attribute(IFLA_OPERSTATE, bytes([state])) + attribute(IFLA_MTU, struct.pack("=I", mtu))
     return Message(NEWLINK, body + attribute(IFLA_ADDRESS, bytes.fromhex(address.replace(":", ""))))
 
@@ -103,8 +103,16 @@ def failure(code: int, request: bytes) -> Message:
 
 # ---- What the programs print ----
 
+# Graphic ASCII, but for the backslash, is printed as it is, and any other byte of a name by its
+# number.
+PLAIN = {*b"!\"#$%&'()*+,-./0123456789:;<=>?@[]^_`{|}~",
+         *b"ABCDEFGHIJKLMNOPQRSTUVWXYZabcdefghijklmnopqrstuvwxyz"}
+
+
 def text(payload: Optional[bytes]) -> str:
-    return "-" if payload is None else payload.split(b"\0")[0].decode()
+    if payload is None:
+        return "-"
+    return "".join(chr(it) if it in PLAIN else f"\\x{it:02x}" for it in payload.split(b"\0")[0])
 
 
 def address(payload: Optional[bytes]) -> str:

@@ -5,9 +5,9 @@ removes alone. In the end all is there that was there before, and nothing else.
 
   cut.py FOLDER CASE kill|power
 
-A run is ended as by kill -9; with `power`, files whose bytes were not synced lose them too, as where
-the power goes. The case is one of those in CASES below. Runs are of the scripts' own functions, over
-files that are made here, in a folder that is new.
+A run is ended as by kill -9; with `power`, files whose bytes were not synced lose them too, as
+where the power goes. The case is one of those in CASES below. Runs are of the scripts' own
+functions, over files that are made here, in a folder that is new.
 """
 import os
 import shutil

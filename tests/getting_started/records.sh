@@ -90,8 +90,9 @@ is_open_to_all() {
 
 # is_empty: a record without a byte is none, which a removal says.
 is_empty() {
-  has_record true && ends 1 '' "install: $record is empty, as after a power cut, and is written anew by installing again;\
- nothing was removed" take_as "$target" && listed "$target" | diff "$folder/before" - && is_untouched
+  local why='is empty, as after a power cut, and is written anew by installing again'
+  has_record true && ends 1 '' "install: $record $why; nothing was removed" take_as "$target" &&
+    listed "$target" | diff "$folder/before" - && is_untouched
 }
 
 # is_written_anew: over such a record files without a byte and those of the same bytes are taken for what was put, and

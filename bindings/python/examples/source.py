@@ -84,10 +84,17 @@ class Source:
         raise Failed("interrupted")
 
 
+def plain(text: str) -> str:
+    """A text in which the bytes that a terminal doesn't just print are written as \\x1b is. A name
+    may have any."""
+    found = text.encode("utf-8", "surrogateescape")
+    return "".join(chr(it) if 0x20 < it < 0x7F and it != 0x5C else f"\\x{it:02x}" for it in found)
+
+
 def say(*fields: object) -> None:
     """Prints a line of these fields, with a dash for a missing one."""
     texts = ("" if it is None else str(it) for it in fields)
-    print(*(text or "-" for text in texts))
+    print(*(plain(text) or "-" for text in texts))
 
 
 def why(error: Exception) -> Failed:
@@ -104,12 +111,10 @@ def run(
     name: str, program: Callable[[Source], None], groups: Iterable[int] = (), at: int = 1
 ) -> None:
     """Runs a program over the socket that its argument of this number names, or the kernel's, and
-    ends with its status. Names of links are printed in the very bytes that they have."""
+    ends with its status."""
     signal.signal(signal.SIGINT, signal.SIG_DFL)
     signal.signal(signal.SIGPIPE, signal.SIG_DFL)
-    sys.stdout = open(
-        1, "w", encoding="utf-8", errors="surrogateescape", buffering=1, closefd=False
-    )
+    sys.stdout = open(1, "w", encoding="ascii", buffering=1, closefd=False)
     try:
         with closing(Source(sys.argv[at] if sys.argv[at:] else None, groups)) as source:
             program(source)

@@ -88,14 +88,6 @@ func (s *Source) Dump(kept *rtnlc.List, messageType uint16, family uint8) error 
 	return err
 }
 
-// Or is a value's text, or a dash where there is none.
-func Or(value any, found bool) string {
-	if text := fmt.Sprint(value); found && text != "" {
-		return text
-	}
-	return "-"
-}
-
 // Exit ends the program: well where the socket has ended, else with a line that says what failed.
 func Exit(program string, err error) {
 	broken, number := new(rtnlc.Error), syscall.Errno(0)

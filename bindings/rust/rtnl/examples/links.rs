@@ -5,9 +5,9 @@
 mod source;
 
 use rtnl::{constants::AF_UNSPEC, Family, Link, Message, Options, Stream};
-use source::{or_dash, Source};
+use source::text::{or_dash, plain};
+use source::Source;
 use std::env;
-use std::ffi::OsStr;
 use std::io::{self, BufWriter, Write};
 
 fn main() {
@@ -26,7 +26,7 @@ fn run() -> source::Result<()> {
 }
 
 fn print(out: &mut impl Write, link: &Link<'_>) -> io::Result<()> {
-    let name = link.name().map(OsStr::to_string_lossy);
+    let name = link.name().map(plain);
     let state = link.operational_state().and_then(|it| it.word());
     let (mtu, address) = (link.mtu(), link.hardware_address());
     write!(out, "{} {} ", or_dash(&name), or_dash(&state))?;

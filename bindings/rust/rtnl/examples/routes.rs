@@ -7,14 +7,14 @@ mod source;
 
 use rtnl::constants::{AF_INET, AF_INET6, AF_UNSPEC};
 use rtnl::{Family, Message, Options, Route, Stream};
-use source::{or_dash, Source};
-use std::borrow::Cow;
+use source::text::{or_dash, plain};
+use source::Source;
 use std::collections::HashMap;
 use std::env;
 use std::fmt::Display;
 use std::io::{self, BufWriter, Write};
 
-type Names<'a> = HashMap<u32, Cow<'a, str>>;
+type Names = HashMap<u32, String>;
 
 fn main() {
     run().unwrap_or_else(|error| source::fail("routes", &*error))
@@ -25,8 +25,7 @@ fn run() -> source::Result<()> {
     let mut source = Source::open(0, env::args_os().nth(1))?;
     let links = source.dump(&mut stream, Family::Link, AF_UNSPEC)?;
     let links = links.iter().filter_map(Message::link);
-    let names: Names =
-        links.filter_map(|it| Some((it.index(), it.name()?.to_string_lossy()))).collect();
+    let names: Names = links.filter_map(|it| Some((it.index(), plain(it.name()?)))).collect();
     let mut out = BufWriter::new(io::stdout().lock());
     for family in [AF_INET, AF_INET6] {
         let routes = source.dump(&mut stream, Family::Route, family)?;
@@ -37,7 +36,7 @@ fn run() -> source::Result<()> {
     Ok(out.flush()?)
 }
 
-fn print(out: &mut impl Write, route: &Route<'_>, names: &Names<'_>) -> io::Result<()> {
+fn print(out: &mut impl Write, route: &Route<'_>, names: &Names) -> io::Result<()> {
     let to = if route.is_default() { None } else { Some(route.destination()) };
     let to = to.as_ref().map_or(&"default" as &dyn Display, or_dash);
     let table = route.table();

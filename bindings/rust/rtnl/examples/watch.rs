@@ -6,9 +6,9 @@ mod source;
 
 use rtnl::constants::*;
 use rtnl::{Action, Body, Message, Tape};
-use source::{or_dash, Source};
+use source::text::{or_dash, plain};
+use source::Source;
 use std::env;
-use std::ffi::OsStr;
 use std::fmt::Display;
 use std::io::{self, Write};
 
@@ -40,7 +40,7 @@ fn print(out: &mut impl Write, message: Message<'_>) -> io::Result<()> {
     };
     match message.body() {
         Body::Link(it) => {
-            let name = it.name().map(OsStr::to_string_lossy);
+            let name = it.name().map(plain);
             let state = it.operational_state().and_then(|it| it.word());
             writeln!(out, "{what} link {} {}", or_dash(&name), or_dash(&state))
         }

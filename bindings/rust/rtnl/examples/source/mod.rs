@@ -2,8 +2,9 @@
 #![allow(dead_code)] // No program uses all of it.
 
 pub mod change;
+pub mod text;
 use rtnl::{Family, Incomplete, MessageList, State, Stream};
-use std::{error::Error, ffi::OsString, fmt::Display, io, os::unix::ffi::OsStrExt, process};
+use std::{error::Error, ffi::OsString, io, os::unix::ffi::OsStrExt, process};
 
 pub type Result<T> = std::result::Result<T, Box<dyn Error>>;
 
@@ -97,11 +98,6 @@ impl Source {
         }
         Err(Incomplete::Interrupted.into())
     }
-}
-
-/// The value, or a dash where it is missing.
-pub fn or_dash<T: Display>(value: &Option<T>) -> &dyn Display {
-    value.as_ref().map_or(&"-", |it| it)
 }
 
 /// Ends a program that has failed, with a line that says why.
