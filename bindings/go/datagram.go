@@ -9,11 +9,12 @@ import "unsafe"
 // hold. Others begin with these, since a limit that is left out is 0. One that is out of its range
 // is ErrBadLimit.
 type Options struct {
-	Total     uint64 // bytes of all datagrams of a session or a stream at most: 0 to 2^40
-	Datagram  uint32 // bytes of a datagram at most: a multiple of 4 from 16 to 1,048,576
-	Entries   uint32 // entries of each table of a session at most: 0 to 65,536
-	Depth     uint8  // levels that attributes which hold others may open at most: 0 to 32
-	BigEndian bool   // numbers have their highest byte first, as on s390x
+	Total     uint64   // bytes of all datagrams of a session or a stream at most: 0 to 2^40
+	Datagram  uint32   // bytes of a datagram at most: a multiple of 4 from 16 to 1,048,576
+	Entries   uint32   // entries of each table of a session at most: 0 to 65,536
+	Depth     uint8    // levels that attributes which hold others may open at most: 0 to 32
+	BigEndian bool     // numbers have their highest byte first, as on s390x
+	seed      [16]byte // of the hash of a session's tables; zero, so the kernel gives one
 	_         [6]byte
 }
 
@@ -28,6 +29,7 @@ var (
 	_ [unsafe.Offsetof(limits.entries)]byte  = [unsafe.Offsetof(Options{}.Entries)]byte{}
 	_ [unsafe.Offsetof(limits.depth)]byte    = [unsafe.Offsetof(Options{}.Depth)]byte{}
 	_ [unsafe.Offsetof(limits.big)]byte      = [unsafe.Offsetof(Options{}.BigEndian)]byte{}
+	_ [unsafe.Offsetof(limits.seed)]byte     = [unsafe.Offsetof(Options{}.seed)]byte{}
 )
 
 // StandardOptions are 2^30 bytes, 65,536 a datagram, 4,096 entries, 8 levels and the lowest byte

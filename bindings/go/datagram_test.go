@@ -29,6 +29,7 @@ func TestErrors(t *testing.T) {
 	equal(t, "text", err, "rtnlc: bad length at 32")
 	equal(t, "text of a code", rtnlc.ErrBadLength, "rtnlc: bad length")
 	equal(t, "words of a code", rtnlc.ErrTooLarge.String(), "too large")
+	equal(t, "words of the last code", rtnlc.ErrNoSeed.String(), "no seed")
 	_, err = rtnlc.Parse(make([]byte, 65540))
 	equal(t, "no place", err, "rtnlc: too large")
 }
@@ -71,7 +72,8 @@ func TestFaults(t *testing.T) {
 }
 
 func TestOptions(t *testing.T) {
-	equal(t, "standard", rtnlc.StandardOptions(), "{1073741824 65536 4096 8 false [0 0 0 0 0 0]}")
+	wanted := rtnlc.Options{Total: 1073741824, Datagram: 65536, Entries: 4096, Depth: 8}
+	equal(t, "standard", rtnlc.StandardOptions() == wanted, true)
 	tape := rtnlc.Tape{Options: &rtnlc.Options{}}
 	_, parsed := tape.Parse(done(0))
 	_, scanned := rtnlc.Scan(done(0), &rtnlc.Options{})

@@ -28,6 +28,7 @@ const (
 	ErrNoStream   Code = C.RTNLC_NO_STREAM   // a Stream that NewStream did not make
 	ErrNoKind     Code = C.RTNLC_NO_KIND     // the message type is of no family that is dumped
 	ErrNoSession  Code = C.RTNLC_NO_SESSION  // a Session that NewSession did not make, or is closed
+	ErrNoSeed     Code = C.RTNLC_NO_SEED     // no random bytes for the hash of a Session's tables
 
 	// These are of a Builder, as are ErrTooLong, ErrTooDeep, ErrTooLarge, ErrMismatch and ErrNoRoom. A
 	// ChangeRequest has ErrTooLong, ErrTooLarge and ErrMismatch.

@@ -13,7 +13,7 @@ type Session struct {
 	options Options
 }
 
-// NewSession makes a session. The error is ErrBadLimit or ErrNoMemory, as an *Error.
+// NewSession makes a session. The error is ErrBadLimit, ErrNoMemory or ErrNoSeed, as an *Error.
 func NewSession(options *Options) (*Session, error) {
 	s := &Session{options: StandardOptions()}
 	if options != nil {

@@ -123,6 +123,14 @@ class Declarations(unittest.TestCase):
             body = text.partition(f"enum rtnlc_{name} {{\n")[2].partition("};")[0]
             self.assertEqual(body.count(" = "), len(kind), name)
 
+    def test_words_of_each_code(self) -> None:
+        """The library has others for each, and none for a number that is no code."""
+        words = {str(it) for it in Code}
+        self.assertEqual(len(words), len(Code))
+        self.assertIn("no seed", words)
+        unknown: bytes = _library.LIBRARY.rtnlc_code_name(25)
+        self.assertNotIn(unknown.decode(), words)
+
     def test_events_as_the_module_struct_reads_them(self) -> None:
         event = _structs.Event(1, 2, 3, 4, 1, True, False)
         self.assertEqual(_structs.EVENT.size, ctypes.sizeof(event))

@@ -24,6 +24,7 @@ class Options(Structure):
         ("entries", c_uint32),
         ("depth", c_uint8),
         ("big", c_bool),
+        ("seed", c_uint8 * 16),
     ]
 
 

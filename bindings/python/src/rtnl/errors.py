@@ -52,6 +52,8 @@ class Code(enum.IntEnum):
     """Something is still open in what should end, or before the next."""
     NO_BUILDER = 23
     """There is no builder."""
+    NO_SEED = 24
+    """No random bytes are had for the hash of a session's tables."""
     END = 255
     """Nothing more stands there."""
 

@@ -158,6 +158,11 @@ fn a_wrong_use_gets_an_error() {
 }
 
 #[test]
+fn no_seed_is_an_error_of_its_own() {
+    assert_eq!((Error::NoSeed.code(), Error::NoSeed.to_string()), (Some(24), "no seed".into()));
+}
+
+#[test]
 fn values_of_another_size_are_none() {
     let order = Order::Little;
     let head = Bytes(Vec::new(), order).bytes(&[AF_INET, 24, 0, 0, 254, 3, 0, 1]).u32(0);

@@ -53,7 +53,7 @@ macro_rules! numbers {
 
 fn add_structs_of_readings(lines: &mut Lines) {
     structs!(lines:
-        rtnlc_options { total, datagram, entries, depth, big }
+        rtnlc_options { total, datagram, entries, depth, big, seed }
         rtnlc_scanned { visits, place, code }
         rtnlc_broken_head { place, len, left, number, level, sort, whole, code }
         rtnlc_event { place, len, number, level, sort, nested, net }
@@ -125,7 +125,7 @@ fn add_numbers(lines: &mut Lines) {
         RTNLC_TOO_LONG RTNLC_TOO_DEEP RTNLC_TOO_LARGE RTNLC_TOTAL RTNLC_NOT_WAITING RTNLC_BUSY
         RTNLC_SAME_SEQ RTNLC_MISMATCH RTNLC_BAD_LIMIT RTNLC_NO_MEMORY RTNLC_NO_ROOM RTNLC_NO_STREAM
         RTNLC_NO_KIND RTNLC_NO_SESSION RTNLC_NOTHING_OPEN RTNLC_STILL_OPEN RTNLC_NO_BUILDER
-        RTNLC_END RTNLC_MESSAGE RTNLC_BYTES RTNLC_LIST RTNLC_HOPS RTNLC_NEXT_HOP RTNLC_NO_CONTEXT
+        RTNLC_NO_SEED RTNLC_END RTNLC_MESSAGE RTNLC_BYTES RTNLC_LIST RTNLC_HOPS RTNLC_NEXT_HOP RTNLC_NO_CONTEXT
         RTNLC_LINK RTNLC_LINK_INFO RTNLC_ADDR RTNLC_HOPS_BEHIND RTNLC_ROUTE RTNLC_METRICS
         RTNLC_NEIGH RTNLC_RULE RTNLC_PLAIN RTNLC_IDLE RTNLC_WAITING RTNLC_DONE RTNLC_FAILED
         RTNLC_OVERRUN RTNLC_ABANDONED RTNLC_STANDARD_TOTAL RTNLC_STANDARD_DATAGRAM

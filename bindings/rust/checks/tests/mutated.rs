@@ -148,7 +148,8 @@ fn compare_found(it: Message<'_>, is_big: bool) {
 }
 
 fn scanned(bytes: &[u8], depth: u8, big: bool) -> rtnlc_scanned {
-    let options = rtnlc_options { total: 1 << 40, datagram: 65_536, entries: 4_096, depth, big };
+    let (total, datagram, entries, seed) = (1 << 40, 65_536, 4_096, [0; 16]);
+    let options = rtnlc_options { total, datagram, entries, depth, big, seed };
     // SAFETY: the pointers are those of a slice, with its length, and of a reference.
     unsafe { rtnlc_scan(bytes.as_ptr(), bytes.len(), &options) }
 }

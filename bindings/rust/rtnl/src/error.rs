@@ -81,6 +81,8 @@ pub enum Error {
     BadLimit,
     /// The library was refused memory.
     NoMemory,
+    /// The kernel gave no random bytes for the hash of a session's tables.
+    NoSeed,
     /// The entry of a table can't be written as a message, which none of a dump has been seen to
     /// be.
     Unwritable,
@@ -111,6 +113,7 @@ impl Error {
             RTNLC_MISMATCH => Error::Unwritable,
             RTNLC_BAD_LIMIT => Error::BadLimit,
             RTNLC_NO_MEMORY => Error::NoMemory,
+            RTNLC_NO_SEED => Error::NoSeed,
             other => Error::Other(other),
         }
     }
@@ -126,6 +129,7 @@ impl Error {
             Error::SameSequence => RTNLC_SAME_SEQ,
             Error::BadLimit => RTNLC_BAD_LIMIT,
             Error::NoMemory => RTNLC_NO_MEMORY,
+            Error::NoSeed => RTNLC_NO_SEED,
             Error::Unwritable => RTNLC_MISMATCH,
             Error::Build(error) => error.code(),
             Error::Version => return None,

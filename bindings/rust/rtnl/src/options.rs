@@ -84,6 +84,7 @@ impl Options {
                 entries: RTNLC_STANDARD_ENTRIES,
                 depth: RTNLC_STANDARD_DEPTH,
                 big: matches!(Order::NATIVE, Order::Big),
+                seed: [0; 16],
             },
         }
     }

@@ -66,7 +66,7 @@ impl Session {
     ///
     /// # Errors
     ///
-    /// [`Error::BadLimit`], [`Error::NoMemory`] or [`Error::Version`].
+    /// [`Error::BadLimit`], [`Error::NoMemory`], [`Error::NoSeed`] or [`Error::Version`].
     pub fn new(options: &Options) -> Result<Session, Error> {
         version::check()?;
         let mut raw = rtnlc_session { at: null_mut() };

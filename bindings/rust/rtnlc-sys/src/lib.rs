@@ -78,6 +78,8 @@ pub const RTNLC_NOTHING_OPEN: u8 = 21;
 pub const RTNLC_STILL_OPEN: u8 = 22;
 /// Null, or what no call leaves in a [`rtnlc_builder`].
 pub const RTNLC_NO_BUILDER: u8 = 23;
+/// No random bytes are had for the hash of a session's tables.
+pub const RTNLC_NO_SEED: u8 = 24;
 /// Nothing more stands there.
 pub const RTNLC_END: u8 = 255;
 

@@ -18,6 +18,9 @@ pub struct rtnlc_options {
     pub depth: u8,
     /// Numbers have their highest byte first.
     pub big: bool,
+    /// Keys of the hash of a session's tables. Where all are 0, [`rtnlc_session_new`] has the kernel
+    /// give them.
+    pub seed: [u8; 16],
 }
 
 /// What [`rtnlc_scan`] answers.
