@@ -144,7 +144,8 @@ names_library() { grep -q '/librtnlc\.so\.0)$' "$folder/valgrind"; }
 
 # is_clean: no error at all, and no leak of what the library took.
 is_clean() {
-  under_valgrind "$package/tests" buffers builder dumps mutated refusals requests views &&
+  under_valgrind "$package/tests" buffers builder dumps mutated refusals requests \
+    subclasses views &&
     grep -q 'ERROR SUMMARY: 0 errors ' "$folder/valgrind" && ! names_library
 }
 

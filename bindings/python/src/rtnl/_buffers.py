@@ -4,7 +4,8 @@ from ctypes import byref, c_char
 from typing import Any, Literal, Tuple, Union
 
 Readable = Union[bytes, bytearray, memoryview]
-"""The bytes of a datagram. Of what can't be written to and is not bytes, a copy is read."""
+"""The bytes of a datagram. Of what can't be written to and is not bytes, or is of a class that is
+made of bytes, a copy is read."""
 Indexed = Union[bytes, memoryview]
 Order = Literal["little", "big"]
 """The order of numbers: their lowest byte first, or their highest."""
@@ -12,7 +13,7 @@ Order = Literal["little", "big"]
 
 def readable(data: Readable) -> Tuple[Indexed, Any]:
     """The bytes, one for each index, and what a call is handed for a pointer to them."""
-    if isinstance(data, bytes):
+    if type(data) is bytes:
         return data, data
     view = memoryview(data)
     if view.readonly or not view.c_contiguous or not view.nbytes:
@@ -20,6 +21,12 @@ def readable(data: Readable) -> Tuple[Indexed, Any]:
         return copy, copy
     view = view.cast("B")
     return view, byref(c_char.from_buffer(view))
+
+
+def plain(data: Readable) -> bytes:
+    """These bytes as no more than bytes. A class that is made of them may say another length than
+    it has, so what is handed to a call with its length is one of these."""
+    return data if type(data) is bytes else bytes(memoryview(data))
 
 
 def within(bits: int, **numbers: int) -> None:

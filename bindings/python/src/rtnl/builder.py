@@ -6,7 +6,7 @@ from contextlib import contextmanager
 from typing import Any, Iterator, Optional
 
 from . import _structs
-from ._buffers import Readable, readable, within
+from ._buffers import Readable, plain, readable, within
 from ._library import LIBRARY
 from .errors import Code, Error
 from .head import MARKS, Head
@@ -57,6 +57,8 @@ class Builder:
         self.limits = limits
         self._buffer = ctypes.create_string_buffer(limits.datagram if room is None else room)
         self._made = _structs.Builder()
+        # What points to the struct leads to the buffer, too: a call that lasts keeps both.
+        self._made.buffer = self._buffer
         self._pointer = ctypes.pointer(self._made)
         self.clear()
 
@@ -71,7 +73,7 @@ class Builder:
         not that of the type; NO_ROOM; or TOO_LARGE."""
         within(16, kind=kind, flags=flags)
         within(32, seq=seq, port=port)
-        front = head.packed(self.limits.order)
+        front = plain(head.packed(self.limits.order))
         call: Any = LIBRARY.rtnlc_builder_begin
         require(call(self._pointer, kind, flags, seq, port, front, len(front)))
 
@@ -138,7 +140,7 @@ class Builder:
     def put_text(self, number: int, text: str) -> None:
         """Puts an attribute that holds a text, and behind it a zero byte."""
         within(16, number=number)
-        data = os.fsencode(text)
+        data = plain(os.fsencode(text))
         require(LIBRARY.rtnlc_builder_put_text(self._pointer, number, data, len(data)))
 
     def put_address(self, number: int, address: IPAddress) -> None:
@@ -202,4 +204,4 @@ class Builder:
         Error has the code of the first refusal; or STILL_OPEN where a message is open."""
         put = LIBRARY.rtnlc_builder_finish(self._pointer)
         require(put.code)
-        return ctypes.string_at(self._buffer, put.len)
+        return memoryview(self._buffer)[: put.len].tobytes()

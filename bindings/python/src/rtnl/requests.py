@@ -8,7 +8,7 @@ from ipaddress import IPv4Address, IPv6Address
 from typing import Any, ClassVar, Mapping, NamedTuple, Optional, Sequence, Tuple
 
 from . import _structs
-from ._buffers import Readable, within
+from ._buffers import Readable, plain, within
 from ._library import LIBRARY
 from .builder import hops_of, require
 from .errors import Code
@@ -249,17 +249,18 @@ class RouteRequest(Request):
     def _made(self) -> ctypes.Structure:
         destination, destination_length = _prefix(self.destination)
         source, source_length = _prefix(self.source)
-        gateways = [it.gateway for it in self.hops]
+        metrics, hops = _metrics(self.metrics), [*self.hops]
+        gateways = [it.gateway for it in hops]
         own = [destination, source, self.gateway, self.preferred_source, *gateways]
         made = _structs.RouteRequest(
             destination=_address("destination", destination),
             source=_address("source", source),
             gateway=_address("gateway", self.gateway),
             preferred_source=_address("preferred_source", self.preferred_source),
-            metrics=_metrics(self.metrics),
-            metric_count=len(self.metrics),
-            hops=(_structs.NextHop * len(self.hops))(*(it._made() for it in self.hops)),
-            hop_count=len(self.hops),
+            metrics=metrics,
+            metric_count=len(metrics),
+            hops=(_structs.NextHop * len(hops))(*(it._made() for it in hops)),
+            hop_count=len(hops),
         )
         _put(made, 32, table=self.table, flags=self.flags)
         _put(made, 8, destination_length=destination_length, source_length=source_length)
@@ -372,8 +373,8 @@ class RuleRequest(Request):
 
 
 def _bytes(data: Optional[Readable]) -> _structs.Bytes:
-    """A copy of these bytes, or none."""
-    own = b"" if data is None else bytes(memoryview(data))
+    """These bytes, or none."""
+    own = b"" if data is None else plain(data)
     return _structs.Bytes(own, len(own))
 
 
@@ -388,7 +389,7 @@ def _packed(name: str, address: Optional[IPAddress]) -> Optional[bytes]:
         return None
     if not isinstance(address, (IPv4Address, IPv6Address)):
         raise TypeError(f"{name} must be an IPv4Address or an IPv6Address, not {address!r}")
-    return address.packed
+    return plain(address.packed)
 
 
 def _address(name: str, address: Optional[IPAddress]) -> _structs.Bytes:
@@ -410,10 +411,11 @@ def _family(family: Optional[int], other: int, *addresses: Optional[IPAddress]) 
 
 def _metrics(metrics: Mapping[int, int]) -> Any:
     """An array of them."""
-    for number, value in metrics.items():
+    rows = [*metrics.items()]
+    for number, value in rows:
         within(16, metric=number)
         within(32, value=value)
-    return (_structs.Metric * len(metrics))(*(_structs.Metric(*it) for it in metrics.items()))
+    return (_structs.Metric * len(rows))(*(_structs.Metric(*it) for it in rows))
 
 
 def _put(made: ctypes.Structure, bits: int, **numbers: int) -> None:
