@@ -2,11 +2,13 @@
 import array
 import signal
 import threading
+import tracemalloc
 import unittest
 from typing import Any, Callable, List
 
 import rtnl
 from rtnl import Datagram, Limits, Session, Stream
+from rtnl._tape import borrow
 from shared import attr, done, link, message
 
 LINK = message(16, link(7, attr(3, b"eth0\0")))
@@ -103,6 +105,31 @@ class Buffers(unittest.TestCase):
             Datagram(bytes(65540))
         self.assertEqual((caught.exception.code, caught.exception.place), (6, None))
         self.assertEqual(str(caught.exception), "too large")
+
+    def test_a_datagram_above_the_limit_takes_no_more_room_than_the_limit(self) -> None:
+        data, stream = bytes(1 << 26), Stream()
+        stream.begin(16, seq=1, port=12345)
+        tracemalloc.start()
+        try:
+            self.assertRaises(rtnl.Error, Datagram, data)
+            self.assertRaises(rtnl.Error, stream.feed, data)
+            self.assertEqual(rtnl.tape(data).code, rtnl.Code.TOO_LARGE)
+            _, peak = tracemalloc.get_traced_memory()
+        finally:
+            tracemalloc.stop()
+        self.assertLess(peak, 1 << 20)
+
+    def test_rooms_that_are_kept(self) -> None:
+        """However many calls were made at once, and how long their datagrams were."""
+        tracemalloc.start()
+        try:
+            for it in [borrow(1 << 20, 1 << 20) for _ in range(12)]:
+                it.taken(0)
+            held, peak = tracemalloc.get_traced_memory()
+        finally:
+            tracemalloc.stop()
+        self.assertGreater(peak, 30 << 20)
+        self.assertLess(held, (16 << 20) + (1 << 16))
 
     def test_threads(self) -> None:
         """Each thread reads datagrams of its own, and finds nothing of the others'."""

@@ -98,6 +98,6 @@ def _taped(data: Readable, limits: Limits) -> Tuple[Indexed, _Taped, bytes]:
     """The bytes of a datagram, what the library answers, and its events."""
     read, pointer = readable(data)
     size = len(read)
-    room = borrow(size)
+    room = borrow(size, limits.datagram)
     taped = LIBRARY.rtnlc_tape(pointer, size, limits.pointer, room.events, room.count)
     return read, taped, room.taken(taped.count)

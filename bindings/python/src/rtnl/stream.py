@@ -56,7 +56,7 @@ class Stream(Dump):
         so that it can't be complete.
         """
         read, at = readable(data)
-        room = borrow(len(read))
+        room = borrow(len(read), self.limits.datagram)
         found = LIBRARY.rtnlc_stream_feed(self.pointer, at, len(read), room.events, room.count)
         events = room.taken(found.events)
         require(found.code, found.place)
