@@ -76,8 +76,9 @@ import "net/netip"
 // The first refusal sticks, as an error does in a bufio.Writer: all calls behind it do nothing,
 // and Err and Finish answer it. No call that is refused changes a byte of the buffer. Attributes
 // are put by their number, with NLA_F_NESTED and NLA_F_NET_BYTEORDER where they are meant; neither
-// changes the bytes.
+// changes the bytes. A Builder is not to be copied: a copy panics where it is used.
 type Builder struct {
+	own     guard
 	made    C.struct_rtnlc_built
 	buffer  []byte
 	options *Options
@@ -94,7 +95,16 @@ func NewBuilder(buffer []byte, options *Options) *Builder {
 }
 
 // Reset begins again, in the same buffer and without a refusal: what was built is gone.
-func (b *Builder) Reset() { b.code = C.built_new(&b.made, b.options.c()) }
+func (b *Builder) Reset() {
+	b.own.stay("Builder")
+	b.code = C.built_new(&b.made, b.options.c())
+}
+
+// ready says whether nothing was refused.
+func (b *Builder) ready() bool {
+	b.own.stay("Builder")
+	return b.code == ok
+}
 
 func (b *Builder) out() *C.uint8_t { return bytesAt(b.buffer) }
 
@@ -105,7 +115,7 @@ func (b *Builder) room() C.size_t { return C.size_t(len(b.buffer)) }
 // the head, or the head is not that of the type; ErrStillOpen where a message is open; ErrNoRoom;
 // ErrTooLarge.
 func (b *Builder) Begin(header Header, head Head) {
-	if b.code == ok {
+	if b.ready() {
 		bytes, fits := head.appendTo(b.head[:0], order(b.options.isBigEndian()))
 		if !fits {
 			b.code = C.RTNLC_MISMATCH
@@ -121,7 +131,7 @@ func (b *Builder) Begin(header Header, head Head) {
 // ErrNothingOpen where no message is open; ErrMismatch where next hops stand, and for an attribute
 // that holds others; ErrTooLong for more than 65,531 bytes; ErrNoRoom; ErrTooLarge.
 func (b *Builder) Put(number uint16, bytes []byte) {
-	if b.code == ok {
+	if b.ready() {
 		b.code = C.built_put(&b.made, b.out(), b.room(), C.uint16_t(number), bytesAt(bytes),
 			C.size_t(len(bytes)))
 	}
@@ -129,7 +139,7 @@ func (b *Builder) Put(number uint16, bytes []byte) {
 
 // PutText puts an attribute that holds a text, and behind it a zero byte.
 func (b *Builder) PutText(number uint16, text string) {
-	if b.code == ok {
+	if b.ready() {
 		bytes := []byte(text)
 		b.code = C.built_text(&b.made, b.out(), b.room(), C.uint16_t(number), bytesAt(bytes),
 			C.size_t(len(bytes)))
@@ -144,7 +154,7 @@ func (b *Builder) PutAddr(number uint16, addr netip.Addr) {
 
 // PutVia puts an attribute that holds an address behind its address family, as RTA_VIA.
 func (b *Builder) PutVia(number uint16, addr netip.Addr) {
-	if bytes := b.bytesOf(addr); b.code == ok {
+	if bytes := b.bytesOf(addr); b.ready() {
 		family := order(b.options.isBigEndian()).append16(nil, uint16(FamilyOf(addr)))
 		b.Put(number, append(family, bytes...))
 	}
@@ -152,7 +162,7 @@ func (b *Builder) PutVia(number uint16, addr netip.Addr) {
 
 // bytesOf are those of an address; where it is none, that is refused.
 func (b *Builder) bytesOf(addr netip.Addr) []byte {
-	if b.code == ok && !addr.IsValid() {
+	if b.ready() && !addr.IsValid() {
 		b.code = C.RTNLC_MISMATCH
 	}
 	return addr.AsSlice()
@@ -160,49 +170,49 @@ func (b *Builder) bytesOf(addr netip.Addr) []byte {
 
 // PutUint8 puts an attribute that holds a number of one byte.
 func (b *Builder) PutUint8(number uint16, value uint8) {
-	if b.code == ok {
+	if b.ready() {
 		b.code = C.built_u8(&b.made, b.out(), b.room(), C.uint16_t(number), C.uint8_t(value))
 	}
 }
 
 // PutUint16 puts an attribute that holds a number of two bytes, in the order of the options.
 func (b *Builder) PutUint16(number uint16, value uint16) {
-	if b.code == ok {
+	if b.ready() {
 		b.code = C.built_u16(&b.made, b.out(), b.room(), C.uint16_t(number), C.uint16_t(value))
 	}
 }
 
 // PutUint32 puts an attribute that holds a number of four bytes, in the order of the options.
 func (b *Builder) PutUint32(number uint16, value uint32) {
-	if b.code == ok {
+	if b.ready() {
 		b.code = C.built_u32(&b.made, b.out(), b.room(), C.uint16_t(number), C.uint32_t(value))
 	}
 }
 
 // PutUint64 puts an attribute that holds a number of eight bytes, in the order of the options.
 func (b *Builder) PutUint64(number uint16, value uint64) {
-	if b.code == ok {
+	if b.ready() {
 		b.code = C.built_u64(&b.made, b.out(), b.room(), C.uint16_t(number), C.uint64_t(value))
 	}
 }
 
 // PutBE16 puts an attribute that holds a number of two bytes, the highest first.
 func (b *Builder) PutBE16(number uint16, value uint16) {
-	if b.code == ok {
+	if b.ready() {
 		b.code = C.built_be16(&b.made, b.out(), b.room(), C.uint16_t(number), C.uint16_t(value))
 	}
 }
 
 // PutBE32 puts an attribute that holds a number of four bytes, the highest first.
 func (b *Builder) PutBE32(number uint16, value uint32) {
-	if b.code == ok {
+	if b.ready() {
 		b.code = C.built_be32(&b.made, b.out(), b.room(), C.uint16_t(number), C.uint32_t(value))
 	}
 }
 
 // PutBE64 puts an attribute that holds a number of eight bytes, the highest first.
 func (b *Builder) PutBE64(number uint16, value uint64) {
-	if b.code == ok {
+	if b.ready() {
 		b.code = C.built_be64(&b.made, b.out(), b.room(), C.uint16_t(number), C.uint64_t(value))
 	}
 }
@@ -211,7 +221,7 @@ func (b *Builder) PutBE64(number uint16, value uint64) {
 // until Close. What is refused is ErrNothingOpen; ErrMismatch where next hops stand, and for an
 // attribute that holds bytes; ErrTooDeep; ErrNoRoom; ErrTooLarge.
 func (b *Builder) Open(number uint16) {
-	if b.code == ok {
+	if b.ready() {
 		b.code = C.built_open(&b.made, b.out(), b.room(), C.uint16_t(number))
 	}
 }
@@ -221,10 +231,10 @@ func (b *Builder) Open(number uint16) {
 // can't hold the index, or no next hops stand; ErrNothingOpen; ErrNoRoom; ErrTooLarge.
 func (b *Builder) OpenNextHop(head NextHopHead) {
 	hops, fits := hopsOf(head.Weight)
-	if b.code == ok && !(fits && isSigned(head.Index)) {
+	if b.ready() && !(fits && isSigned(head.Index)) {
 		b.code = C.RTNLC_MISMATCH
 	}
-	if b.code == ok {
+	if b.ready() {
 		b.code = C.built_open_hop(&b.made, b.out(), b.room(), C.uint8_t(head.Flags),
 			C.uint8_t(hops), C.int32_t(head.Index))
 	}
@@ -233,7 +243,7 @@ func (b *Builder) OpenNextHop(head NextHopHead) {
 // Close closes the attribute or the next hop that was opened last. It needs no room. What is
 // refused is ErrNothingOpen; ErrTooLong for more than 65,532 bytes.
 func (b *Builder) Close() {
-	if b.code == ok {
+	if b.ready() {
 		b.code = C.built_close(&b.made, b.out(), b.room(), false)
 	}
 }
@@ -241,7 +251,7 @@ func (b *Builder) Close() {
 // End ends the message. It needs no room. What is refused is ErrNothingOpen; ErrStillOpen where an
 // attribute or a next hop is.
 func (b *Builder) End() {
-	if b.code == ok {
+	if b.ready() {
 		b.code = C.built_close(&b.made, b.out(), b.room(), true)
 	}
 }
@@ -252,7 +262,7 @@ func (b *Builder) End() {
 // family, and for a body that is shorter than its type says, 20 bytes of NLMSG_ERROR and one of a
 // GET; ErrTooLong for a message of more than 1,048,576 bytes; ErrNoRoom; ErrTooLarge.
 func (b *Builder) PutMessage(header Header, body []byte) {
-	if b.code == ok {
+	if b.ready() {
 		b.code = C.built_message(&b.made, b.out(), b.room(), C.uint16_t(header.Type),
 			C.uint16_t(header.Flags), C.uint32_t(header.Seq), C.uint32_t(header.Port),
 			bytesAt(body), C.size_t(len(body)))
@@ -261,7 +271,7 @@ func (b *Builder) PutMessage(header Header, body []byte) {
 
 // Err is the first refusal, which is a Code, or nil.
 func (b *Builder) Err() error {
-	if b.code == ok {
+	if b.ready() {
 		return nil
 	}
 	return Code(b.code)
@@ -271,7 +281,7 @@ func (b *Builder) Err() error {
 // messages may come behind. The error is a Code: the first refusal; ErrStillOpen where a message
 // is open; ErrNoBuilder of a Builder that NewBuilder did not make.
 func (b *Builder) Finish() ([]byte, error) {
-	if b.code != ok {
+	if !b.ready() {
 		return nil, b.Err()
 	}
 	put := C.built_finish(&b.made, b.out(), b.room())

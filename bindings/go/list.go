@@ -3,8 +3,9 @@ package rtnlc
 // A List keeps messages when their datagrams are gone, as those of a whole dump that a Stream
 // reads: a copy of the bytes of each, and of its events. It keeps all, those of one key too, and
 // nothing bounds it but what its caller appends: Size says how far it has grown. The zero List is
-// ready. It is not to be copied.
+// ready. It is not to be copied: Append and Reset of a copy panic.
 type List struct {
+	own          guard
 	messages     []Message
 	blocks, free []*Tape // blocks hold the copies, one behind another
 }
@@ -16,6 +17,7 @@ const blockSize = 1 << 16
 // Append copies messages to the end of the list. It takes no memory for each: blocks grow, as
 // slices do by append.
 func (l *List) Append(messages ...Message) {
+	l.own.stay("List")
 	for _, message := range messages {
 		if message.tape != nil {
 			bytes := message.head(headerSize)
@@ -41,6 +43,7 @@ func (l *List) Size() (count, bytes int) {
 // Reset drops all messages, as those of a dump that was interrupted and is taken again. Their
 // memory is kept for others.
 func (l *List) Reset() {
+	l.own.stay("List")
 	for _, block := range l.blocks {
 		block.datagram, block.events = block.datagram[:0], block.events[:0]
 	}

@@ -7,35 +7,56 @@ import "runtime"
 
 // A Session reads one dump after another into tables: begin one, send its request, feed what comes
 // back until it has ended, and go over the table. Its tables are memory of the library, bounded by
-// the options; Close gives it back.
+// the options; Close gives it back. It is not to be copied: a copy panics where it is used. A call
+// while another goroutine is in one changes nothing, and its error is ErrInUse.
 type Session struct {
-	made    C.struct_rtnlc_session
+	own     guard
+	held    *held
 	options Options
 }
 
+// held is what the collector frees. It stands apart from the guard: what leads to itself is never
+// found to be unused.
+type held struct{ made C.struct_rtnlc_session }
+
+func (h *held) free() { C.rtnlc_session_free(&h.made) }
+
 // NewSession makes a session. The error is ErrBadLimit, ErrNoMemory or ErrNoSeed, as an *Error.
 func NewSession(options *Options) (*Session, error) {
-	s := &Session{options: StandardOptions()}
+	s := &Session{held: &held{}, options: StandardOptions()}
+	s.own.stay("Session")
 	if options != nil {
 		s.options = *options
 	}
-	if code := C.rtnlc_session_new(&s.made, s.options.c()); code != ok {
+	if code := C.rtnlc_session_new(s.c(), s.options.c()); code != ok {
 		return nil, refusal(code, 0)
 	}
-	runtime.SetFinalizer(s, (*Session).free)
+	runtime.SetFinalizer(s.held, (*held).free)
 	return s, nil
 }
 
-// Close frees the session and all that it holds; it may be closed again. All other calls then
-// answer ErrNoSession, or what a session is that has begun no dump. The error is nil. A session
-// that nothing refers to is closed by the collector.
-func (s *Session) Close() error {
-	runtime.SetFinalizer(s, nil)
-	s.free()
-	return nil
+// c is what the library takes: null of a session that NewSession did not make.
+func (s *Session) c() *C.struct_rtnlc_session {
+	if s.held == nil {
+		return nil
+	}
+	return &s.held.made
 }
 
-func (s *Session) free() { C.rtnlc_session_free(&s.made) }
+// Close frees the session and all that it holds; it may be closed again. All other calls then
+// answer ErrNoSession, or what a session is that has begun no dump. The error is ErrInUse or nil. A
+// session that nothing refers to is closed by the collector.
+func (s *Session) Close() error {
+	if err := s.own.enter("Session"); err != nil {
+		return err
+	}
+	defer s.own.leave()
+	if s.held != nil {
+		runtime.SetFinalizer(s.held, nil)
+		s.held.free()
+	}
+	return nil
+}
 
 // Begin begins a dump and answers its request, which the caller sends. The message type is any of
 // the family, as RTM_GETLINK; the address family is 0 for all; the port is that of the socket. The
@@ -43,10 +64,13 @@ func (s *Session) free() { C.rtnlc_session_free(&s.made) }
 // dump waits; ErrSameSeq for the number of the dump before; ErrNoMemory; ErrNoSession. Then
 // nothing has changed.
 func (s *Session) Begin(messageType uint16, family uint8, seq, port uint32) ([]byte, error) {
+	if err := s.own.enter("Session"); err != nil {
+		return nil, err
+	}
+	defer s.own.leave()
 	request := make([]byte, C.RTNLC_REQUEST)
-	put := C.rtnlc_session_begin(&s.made, C.uint16_t(messageType), C.uint8_t(family),
+	put := C.rtnlc_session_begin(s.c(), C.uint16_t(messageType), C.uint8_t(family),
 		C.uint32_t(seq), C.uint32_t(port), bytesAt(request), C.size_t(len(request)))
-	runtime.KeepAlive(s)
 	if put.code != ok {
 		return nil, refusal(put.code, 0)
 	}
@@ -58,24 +82,31 @@ func (s *Session) Begin(messageType uint16, family uint8, seq, port uint32) ([]b
 // at the first fault; ErrNoMemory. Behind it the dump waits as before, and all tables are as they
 // were; but for the first two the dump is damaged from then on.
 func (s *Session) Feed(datagram []byte) (Fed, error) {
-	fed := C.rtnlc_session_feed(&s.made, bytesAt(datagram), C.size_t(len(datagram)))
-	runtime.KeepAlive(s)
+	if err := s.own.enter("Session"); err != nil {
+		return Fed{}, err
+	}
+	defer s.own.leave()
+	fed := C.rtnlc_session_feed(s.c(), bytesAt(datagram), C.size_t(len(datagram)))
 	return fedOf(fed), refusal(fed.code, fed.place)
 }
 
 // Abandon ends the dump that waits; its table stays. The error is ErrNotWaiting or ErrNoSession,
 // as an *Error.
 func (s *Session) Abandon() error {
-	code := C.rtnlc_session_abandon(&s.made)
-	runtime.KeepAlive(s)
-	return refusal(code, 0)
+	if err := s.own.enter("Session"); err != nil {
+		return err
+	}
+	defer s.own.leave()
+	return refusal(C.rtnlc_session_abandon(s.c()), 0)
 }
 
 // Status is where the last dump stands.
 func (s *Session) Status() Status {
-	status := C.rtnlc_session_status(&s.made)
-	runtime.KeepAlive(s)
-	return statusOf(status)
+	if s.own.enter("Session") != nil {
+		return Status{InUse: true}
+	}
+	defer s.own.leave()
+	return statusOf(C.rtnlc_session_status(s.c()))
 }
 
 // Links is the table of the links of the last dump of links.
@@ -134,6 +165,7 @@ type entries struct {
 // table has room for most entries from the start: one that needs more is written twice.
 func (s *Session) table(kind uint16) entries {
 	const most = 4096
+	s.own.stay("Session")
 	return entries{session: s, kind: kind, tape: Tape{Options: &s.options},
 		buffer: make([]byte, most)}
 }
@@ -141,10 +173,15 @@ func (s *Session) table(kind uint16) entries {
 // Next goes to the next entry, and says whether there is one.
 func (t *entries) Next() bool {
 	t.message = Message{}
+	t.tape.own.stay("Table")
+	if err := t.session.own.enter("Session"); err != nil {
+		t.err = err
+		return false
+	}
+	defer t.session.own.leave()
 	for t.err == nil {
-		put := C.rtnlc_session_entry(&t.session.made, C.uint16_t(t.kind), C.uint32_t(t.next),
+		put := C.rtnlc_session_entry(t.session.c(), C.uint16_t(t.kind), C.uint32_t(t.next),
 			bytesAt(t.buffer), C.size_t(len(t.buffer)))
-		runtime.KeepAlive(t.session)
 		switch put.code {
 		case ok:
 			t.next++
@@ -171,13 +208,17 @@ func (t *entries) parse(entry []byte) bool {
 }
 
 // Err is why Next went no further, or nil where there was no further entry. It is an *Error, as
-// ErrNoSession.
+// ErrNoSession; or ErrInUse, of Size too.
 func (t *entries) Err() error { return t.err }
 
 // Size is how many entries the table has, how many it may have, and how often a new one found no
 // room. Of a closed session all are 0.
 func (t *entries) Size() (count, limit int, missed uint64) {
-	size := C.rtnlc_session_table(&t.session.made, C.uint16_t(t.kind))
-	runtime.KeepAlive(t.session)
+	if err := t.session.own.enter("Session"); err != nil {
+		t.err = err
+		return 0, 0, 0
+	}
+	defer t.session.own.leave()
+	size := C.rtnlc_session_table(t.session.c(), C.uint16_t(t.kind))
 	return int(size.count), int(size.limit), uint64(size.missed)
 }

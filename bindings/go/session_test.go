@@ -57,7 +57,7 @@ func TestSession(t *testing.T) {
 	equal(t, "links", names(t, s.Links()), "2 c 1 a")
 	count, limit, missed := s.Links().Size()
 	equal(t, "size", []any{count, limit, missed}, "[2 4096 0]")
-	equal(t, "status", s.Status(), "{156 24 1 7 4242 0 16 0 done false false true}")
+	equal(t, "status", s.Status(), "{156 24 1 7 4242 0 16 0 done false false true false}")
 	equal(t, "complete", s.Status().Err(), nil)
 	equal(t, "rules", s.Rules().Next(), false)
 

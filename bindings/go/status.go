@@ -53,6 +53,7 @@ type Status struct {
 	Damaged     bool // a datagram of the last dump was refused
 	Interrupted bool // the kernel's table changed meanwhile: dump again
 	Complete    bool // ended by DONE with no failure, and nothing of it was lost
+	InUse       bool // all else is zero, since another goroutine was in a call
 }
 
 // Why a dump is not complete, as Status.Err has it.
@@ -74,11 +75,13 @@ func (e *KernelError) Error() string { return "rtnlc: refused by the kernel: " +
 // Unwrap is the number, for errors.Is and errors.As.
 func (e *KernelError) Unwrap() error { return e.Errno }
 
-// Err is nil where the dump is complete. Else it is the first of these that applies: ErrNotEnded,
-// where none was begun too; ErrAbandoned; a *KernelError; ErrOverrun; ErrDamaged; ErrInterrupted;
-// ErrMissed.
+// Err is nil where the dump is complete. Else it is the first of these that applies: ErrInUse;
+// ErrNotEnded, where none was begun too; ErrAbandoned; a *KernelError; ErrOverrun; ErrDamaged;
+// ErrInterrupted; ErrMissed.
 func (s Status) Err() error {
 	switch {
+	case s.InUse:
+		return ErrInUse
 	case s.Complete:
 		return nil
 	case s.State == Idle || s.State == Waiting:

@@ -46,10 +46,11 @@ var (
 
 // A Tape reads datagrams one after another. It keeps its memory for the next one, so that Parse
 // takes none once it has seen the longest. The zero Tape is ready, and has the standard limits. It
-// is not to be copied.
+// is not to be copied: Parse of a copy panics.
 type Tape struct {
 	Options *Options // the limits, or nil
 
+	own      guard
 	datagram []byte
 	events   []Event // of the heads of the datagram
 	visits   uint64
@@ -61,6 +62,7 @@ type Tape struct {
 // They lie over the datagram, and are good until the next Parse. The error is an *Error: ErrCut to
 // ErrTooLarge, or ErrBadLimit; then there are no messages.
 func (t *Tape) Parse(datagram []byte) ([]Message, error) {
+	t.own.stay("Tape")
 	room := t.room(datagram)
 	taped := C.rtnlc_tape(bytesAt(datagram), C.size_t(len(datagram)), t.Options.c(),
 		eventsAt(room), C.size_t(len(room)))

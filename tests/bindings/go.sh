@@ -54,15 +54,31 @@ tested() {
   [ "$status" = 0 ] || grep -vE '^(=== RUN|--- PASS|ok )' "$folder/tests" | tail -n 40
 }
 
-# uses_it: a program of another module, which says where the package is.
+# makes_module NAME LINE..: another module, which says where the package is, of one file.
+makes_module() {
+  mkdir "$folder/$1" &&
+    printf '%s\n' "module $1" '' 'go 1.19' '' 'require rtnlc v0.3.0' '' \
+      "replace rtnlc => $package" >"$folder/$1/go.mod" &&
+    printf '%s\n' "${@:2}" >"$folder/$1/main.go"
+}
+
+# uses_it: a program of another module.
 uses_it() {
-  mkdir "$folder/user" &&
-    printf '%s\n' 'module user' '' 'go 1.19' '' 'require rtnlc v0.3.0' '' \
-      "replace rtnlc => $package" >"$folder/user/go.mod" &&
-    printf '%s\n' 'package main' '' 'import (' '	"fmt"' '' '	"rtnlc"' ')' '' 'func main() {' \
-      '	messages, err := rtnlc.Parse(make([]byte, 15))' '	fmt.Println(len(messages), err)' '}' \
-      >"$folder/user/main.go" &&
+  makes_module user 'package main' '' 'import (' '	"fmt"' '' '	"rtnlc"' ')' '' 'func main() {' \
+    '	messages, err := rtnlc.Parse(make([]byte, 15))' '	fmt.Println(len(messages), err)' '}' &&
     [ "$(cd "$folder/user" && go run . 2>&1)" = '0 rtnlc: cut at 0' ]
+}
+
+# finds_copies: go vet says where something is copied that leads to memory of another.
+finds_copies() {
+  local name names=(Session Stream Builder Tape List 'Table[rtnlc.Link]')
+  makes_module copies 'package main' '' 'import "rtnlc"' '' 'func main() {}' \
+    "${names[@]/#/func _(it *rtnlc.}" &&
+    sed -i 's/^func _.*/&) { copied := *it; _ = \&copied }/' "$folder/copies/main.go" &&
+    ! (cd "$folder/copies" && go vet . >"$folder/output" 2>&1) &&
+    for name in "${names[@]}"; do
+      grep -qF "copies lock value to copied: rtnlc.$name contains" "$folder/output" || return 1
+    done
 }
 
 # says_version: over a library of another version a program says which one is here.
@@ -116,6 +132,7 @@ else
   echo 'skipped: go test -race, since this Go has no race detector'
 fi
 check 'a program of another module' uses_it
+check 'go vet finds copies' finds_copies
 check 'a library of another version' says_version
 check 'no library' says_missing
 check 'its version' has_version
