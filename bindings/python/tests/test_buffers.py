@@ -1,7 +1,9 @@
 """The sorts of bytes that calls take, what they leave of them, and threads."""
 import array
 import signal
+import sys
 import threading
+import time
 import tracemalloc
 import unittest
 from typing import Any, Callable, List
@@ -180,6 +182,37 @@ class Buffers(unittest.TestCase):
             feeding.start()
             feeding.join()
             self.assertEqual([it.name for it in session.links], ["eth0"])
+
+    def test_no_other_thread_runs_while_a_call_does(self) -> None:
+        """So any thread may call, where the interpreter has its lock."""
+        if not getattr(sys, "_is_gil_enabled", lambda: True)():
+            self.skipTest("this Python has no lock")
+        data, turns, ended = message(16, link(7)) * (1 << 15), 0, threading.Event()
+
+        def run() -> None:
+            nonlocal turns
+            while not ended.is_set():
+                turns += 1
+                time.sleep(0)
+
+        interval, limits = sys.getswitchinterval(), Limits(datagram=1 << 20)
+        other = threading.Thread(target=run)
+        with Session(limits) as session:
+            session.begin(16, seq=1, port=12345)
+            # The other thread runs when this one gives the lock away, and else not for so long.
+            sys.setswitchinterval(60)
+            try:
+                other.start()
+                for _ in range(20):
+                    time.sleep(0)
+                    before = turns
+                    session.feed(data)
+                    self.assertEqual(turns, before)
+            finally:
+                ended.set()
+                sys.setswitchinterval(interval)
+                other.join()
+            self.assertGreater(turns, 0)
 
 
 if __name__ == "__main__":
