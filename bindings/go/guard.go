@@ -9,9 +9,9 @@ import (
 // goroutine is in such a call: it is used by one at a time. Nothing has changed then.
 var ErrInUse = errors.New("rtnlc: another goroutine is in a call")
 
-// A guard stands in what is not to be copied, since a copy leads to the same memory. The race
-// detector doesn't see what the library writes there; it does see busy, and so does go vet, which
-// says where something is copied that has one.
+// A guard stands in what is not to be copied, since a copy leads to the same memory. go vet says
+// where it is copied, by busy. The race detector doesn't see what the library writes, so a Session
+// and a Stream tell of two calls at once by themselves.
 type guard struct {
 	at   *guard      // where it stands, since the first call
 	busy atomic.Bool // a call lasts
