@@ -76,9 +76,16 @@ func panicked(method reflect.Value) (found any) {
 	return nil
 }
 
-func TestCopies(t *testing.T) {
-	session, stream := begunDumps(t)
-	datagram := someLinks(t, 1)
+// A copied is a copy of something in use.
+type copied struct {
+	name  string
+	it    any
+	reads string // methods that only look at what the copy has
+}
+
+// copies are those of a session, a stream and of what else is used with them.
+func copies(t *testing.T, session *Session, stream *Stream, datagram []byte) []copied {
+	t.Helper()
 	tape, list, builder := new(Tape), new(List), NewBuilder(make([]byte, 64), nil)
 	messages, err := tape.Parse(datagram)
 	if err != nil {
@@ -92,27 +99,29 @@ func TestCopies(t *testing.T) {
 	if !table.Next() {
 		t.Fatal(table.Err())
 	}
-	for _, row := range []struct {
-		name   string
-		copied any
-		reads  string // methods that only look at what the copy has
-	}{
+	return []copied{
 		{"Session", copyOf(session), ""},
 		{"Stream", copyOf(stream), ""},
 		{"Builder", copyOf(builder), ""},
 		{"Table", copyOf(table), "Entry Err Size"},
 		{"Tape", copyOf(tape), "Events Visits"},
 		{"List", copyOf(list), "Messages Size"},
-	} {
+	}
+}
+
+func TestCopies(t *testing.T) {
+	session, stream := begunDumps(t)
+	datagram := someLinks(t, 1)
+	for _, row := range copies(t, session, stream, datagram) {
 		wanted := "rtnlc: a " + row.name + " was copied by value, and the copy is used"
-		copied, refused := reflect.ValueOf(row.copied), 0
-		for at := 0; at < copied.NumMethod(); at++ {
-			name := copied.Type().Method(at).Name
+		it, refused := reflect.ValueOf(row.it), 0
+		for at := 0; at < it.NumMethod(); at++ {
+			name := it.Type().Method(at).Name
 			if strings.Contains(row.reads, name) {
 				continue
 			}
 			refused++
-			if found := panicked(copied.Method(at)); found != wanted {
+			if found := panicked(it.Method(at)); found != wanted {
 				t.Errorf("%s of a copied %s: %v", name, row.name, found)
 			}
 		}
