@@ -4,6 +4,7 @@
 const MESSAGE = 0, LIST = 2, NEXT_HOP = 4; // enum rtnlc_sort
 const OK = 0, TOO_LONG = 4, TOO_DEEP = 5, TOO_LARGE = 6, NO_MEMORY = 13; // enum rtnlc_code
 const DATAGRAM = 65536, EVENT = 16; // the standard limit; the bytes of a struct rtnlc_event
+const OPTIONS = 40, SEED = [18, 16]; // the bytes of a struct rtnlc_options, and its seed in them
 const BLOCK_HEAD = 16; // what heap.c has in front of each block, which has a power of two of bytes
 const GET = { 1: "getUint8", 2: "getUint16", 4: "getUint32", 8: "getBigUint64", [-4]: "getInt32" };
 
@@ -32,7 +33,9 @@ class Library {
     this.session = BigInt(this.area("session", 8));
     this.view().setBigUint64(Number(this.session), 0n, true);
     this.limits = ["little", "big"].map((name, order) => {
-      const at = this.area(name, 24), view = this.view();
+      const at = this.area(name, OPTIONS), view = this.view(), [seedAt, seed] = SEED;
+      new Uint8Array(this.calls.memory.buffer, at, OPTIONS).fill(0);
+      crypto.getRandomValues(new Uint8Array(this.calls.memory.buffer, at + seedAt, seed));
       view.setBigUint64(at, 1n << 30n, true);
       [DATAGRAM, 4096].forEach((limit, index) => view.setUint32(at + 8 + 4 * index, limit, true));
       [8, order].forEach((limit, index) => view.setUint8(at + 16 + index, limit));

@@ -106,6 +106,26 @@ function refusedArea(code) {
   }
 }
 
+// The options of both orders have a seed of their own for each module, and nothing behind it, also
+// where other bytes stood.
+function seeds(code) {
+  const found = [1, 2].flatMap(() => {
+    const calls = begun(code), block = (size) => Number(calls.malloc(BigInt(size)));
+    const taken = [8, 40, 40, 100].map((size) => [block(size), size]);
+    for (const [at, size] of taken) new Uint8Array(calls.memory.buffer, at, size).fill(0xa5);
+    for (const [at] of taken) calls.free(BigInt(at));
+    const { limits } = new Library(calls);
+    return limits.map((at) => Buffer.from(calls.memory.buffer, Number(at), 40).toString("hex"));
+  });
+  const standard = (order) => `00000040000000000000010000100000080${order}`;
+  found.forEach((it, at) => {
+    assert.equal(it.slice(0, 36), standard(at % 2), "the limits and the order");
+    assert.equal(it.slice(68), "00".repeat(6), "nothing is behind the seed");
+  });
+  const own = new Set(found.map((it) => it.slice(36, 68)));
+  assert.equal(own.size, 4, `seeds that are the same: ${[...own]}`);
+}
+
 function blocksRefused(code, least) {
   let refusals = 0;
   for (let most = least; most < least + 40; most++) {
@@ -119,3 +139,4 @@ const code = moduleOf(process.argv[2]), { least } = limited(code, MOST);
 blocksRefused(code, least);
 refusedArea(code);
 recordings(code, least);
+seeds(code);
