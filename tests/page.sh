@@ -27,6 +27,7 @@ if [ -z "${RTNL_PAGE+named}" ]; then
   check 'the heap of its module' tests/page/heap.sh
 fi
 check 'its heap in the module, with each growth refused' node tests/page/memory.js "$page"
+check 'its readers take linear time' node tests/page/linear.js
 # Debian's selenium is for Debian's Python.
 /usr/bin/python3 tests/page/run.py "$page" "$@" | tee "$folder/said"
 read -r found wrong < <(sed -nE '$s/^([0-9]+) passed, ([0-9]+) failed$/\1 \2/p' "$folder/said")
