@@ -12,14 +12,20 @@ const KINDS = {
   32: ["rules", "PRIORITY family SRC src_len DST dst_len IIFNAME FWMARK table action"],
 };
 
+const MOST_DUMPS = 1000; // that are told apart
+
+// The dumps, each with a name, and whether there are more.
 function dumpsOf({ library, datagrams, big }) {
-  const found = new Map(), headsOf = ({ bytes }) => [...library.messages(bytes, big)];
-  for (const { kind, flags, seq, port } of datagrams.flatMap(headsOf)) {
-    const key = `seq ${seq} port ${port}`, name = `${KINDS[kind]?.[0]}, ${key}`;
-    const isPart = flags & MULTI && kind in KINDS && !found.has(key);
-    if (isPart) found.set(key, { kind, seq, port, name });
+  const found = new Map(), dumps = () => [...found.values()];
+  for (const { bytes } of datagrams) {
+    for (const { kind, flags, seq, port } of library.messages(bytes, big)) {
+      const key = `seq ${seq} port ${port}`, name = `${KINDS[kind]?.[0]}, ${key}`;
+      const isPart = flags & MULTI && kind in KINDS && !found.has(key);
+      if (isPart && found.size === MOST_DUMPS) return { dumps: dumps(), isMore: true };
+      if (isPart) found.set(key, { kind, seq, port, name });
+    }
   }
-  return [...found.values()];
+  return { dumps: dumps(), isMore: false };
 }
 
 // A cell: a field, with the names of its bits, or what an attribute says.

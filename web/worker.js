@@ -3,13 +3,12 @@
 
 function answersOf(module) {
   const begun = () => new Library(new WebAssembly.Instance(module, {}).exports);
-  let library = begun(), input = "", recording = null, table = null;
+  let library = begun(), recording = null, table = null;
   return {
     version: () => library.string("rtnlc_version"),
-    // Reads an input, or the last one again, in this order. Where there was no memory the module
-    // is begun anew, since the blocks of another input may have other sizes.
-    read(order, given = input) {
-      input = given;
+    // Reads an input in this order. Where there was no memory the module is begun anew, since the
+    // blocks of another input may have other sizes.
+    read(order, input) {
       library = library.isFull ? begun() : library;
       recording = new Recording(library, foundIn(input, order === "big"), order);
       return recording.summary();

@@ -1,8 +1,8 @@
 // Whatever a reader hands in: which form it has, and the datagrams in it. Each form is read as far
 // as rtnl-record reads it; a line that is none of it is noted, and the rest is read.
 
-// Bytes of a datagram, of a text and of another file at most.
-const LONGEST = 1 << 20, LONGEST_TEXT = 1 << 24, LONGEST_FILE = 1 << 26;
+// Bytes of a datagram and of a text at most; those of another file are the page's LONGEST_FILE.
+const LONGEST = 1 << 20, LONGEST_TEXT = 1 << 24;
 const MOST_DATAGRAMS = 1 << 18, MOST_NOTES = 20;
 const valueOf = (digit) => [digit.charCodeAt(0), parseInt(digit, 16)];
 const DIGITS = new Map([..."0123456789abcdefABCDEF"].map(valueOf));

@@ -13,7 +13,7 @@ const calls = (count) => Array.from({ length: count }, (_, it) => `${it} recv(<u
 const TEXTS = {
   "blanks in the text beside a row": (size) => `0000: 00  a${" ".repeat(size)}b`,
   "blanks in the text of a trace": (size) => (
-    `recv(3<NETLINK:[ROUTE]>, "", 1, 0) = 1\n | 00000  00${" ".repeat(48)}a${" ".repeat(size)}b |`),
+    `recv(3<NETLINK:[ROUTE]>, "", 1, 0) = 1\n | 0  00${" ".repeat(48)}a${" ".repeat(size)}b |`),
   "carriage returns without a newline": (size) => `${"\r".repeat(size)}0`,
   "carriage returns in a file": (size) => new Uint8Array(size).fill(13),
   "carriage returns within lines": (size) => `${"\r".repeat(size / 4)}0\n`.repeat(4),
@@ -24,8 +24,8 @@ const TEXTS = {
 };
 const SIZES = { calls: 100000, blanks: 20000, carriage: 20000 };
 
-// The seconds of the processor that a text takes: the least of a few tries, of which the first that
-// is in time is the last.
+// The seconds of the processor that a text takes: the least of a few tries, of which the first
+// that is in time is the last.
 function secondsOf(text, limit) {
   let least = Infinity;
   for (let tries = 0; tries < TRIES && least > limit; tries++) {

@@ -58,7 +58,7 @@ function blocks({ malloc, free, memory }) {
 function read(library, text) {
   const recording = new Recording(library, foundIn(text, false), "auto");
   const nodes = recording.datagrams.map((it) => recording.nodes(it).length);
-  const tables = dumpsOf(recording).map((it) => tableOf(recording, it));
+  const tables = dumpsOf(recording).dumps.map((it) => tableOf(recording, it));
   return JSON.stringify([recording.text(false), recording.text(true), nodes, tables]);
 }
 
