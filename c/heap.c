@@ -30,13 +30,14 @@ static size_t list_for(size_t count)
 	return list;
 }
 
-/* A new block behind all others, or null. */
+/* A new block behind all others, or null. In a memory of 32 bits the answer of a growth that is
+ * refused is -1 of 32 bits, to which the addresses of 64 bits here add nothing. */
 static struct block *grown(size_t list)
 {
 	byte *at = end ? end : (byte *)(((size_t)&__heap_base + 15) & ~(size_t)15);
 	size_t have = __builtin_wasm_memory_size(0);
 	size_t want = ((size_t)at + ((size_t)1 << list) + PAGE - 1) / PAGE;
-	if (want > have && __builtin_wasm_memory_grow(0, want - have) == (size_t)-1)
+	if (want > have && (unsigned)__builtin_wasm_memory_grow(0, want - have) == (unsigned)-1)
 		return 0;
 	end = at + ((size_t)1 << list);
 	return (struct block *)at;

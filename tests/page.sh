@@ -12,9 +12,9 @@ RTNL_PROGRAM=$(tests/helpers/proved.py) && RTNL_PROGRAM=$(realpath "$RTNL_PROGRA
 export RTNL_PROGRAM
 tests/helpers/install_packages.sh chromium chromium chromedriver chromium-driver \
   /usr/lib/python3/dist-packages/selenium python3-selenium \
-  wasm-opt binaryen xxd xxd hexdump bsdextrautils
+  wasm-opt binaryen xxd xxd hexdump bsdextrautils node nodejs
 . tests/helpers/cases.sh
-for command in chromium chromedriver xxd hexdump; do
+for command in chromium chromedriver xxd hexdump node; do
   has "$command" 'the page' && continue
   finish
   exit
@@ -26,6 +26,8 @@ if [ -z "${RTNL_PAGE+named}" ]; then
   check 'the page, built twice' tests/page/twice.py
   check 'the heap of its module' tests/page/heap.sh
 fi
+check 'its heap in the module, with each growth refused' node tests/page/memory.js "$page"
+check 'its readers take linear time' node tests/page/linear.js
 # Debian's selenium is for Debian's Python.
 /usr/bin/python3 tests/page/run.py "$page" "$@" | tee "$folder/said"
 read -r found wrong < <(sed -nE '$s/^([0-9]+) passed, ([0-9]+) failed$/\1 \2/p' "$folder/said")

@@ -12,14 +12,20 @@ const KINDS = {
   32: ["rules", "PRIORITY family SRC src_len DST dst_len IIFNAME FWMARK table action"],
 };
 
+const MOST_DUMPS = 1000; // that are told apart
+
+// The dumps, each with a name, and whether there are more.
 function dumpsOf({ library, datagrams, big }) {
-  const found = new Map(), headsOf = ({ bytes }) => [...library.messages(bytes, big)];
-  for (const { kind, flags, seq, port } of datagrams.flatMap(headsOf)) {
-    const key = `seq ${seq} port ${port}`, name = `${KINDS[kind]?.[0]}, ${key}`;
-    const isPart = flags & MULTI && kind in KINDS && !found.has(key);
-    if (isPart) found.set(key, { kind, seq, port, name });
+  const found = new Map(), dumps = () => [...found.values()];
+  for (const { bytes } of datagrams) {
+    for (const { kind, flags, seq, port } of library.messages(bytes, big)) {
+      const key = `seq ${seq} port ${port}`, name = `${KINDS[kind]?.[0]}, ${key}`;
+      const isPart = flags & MULTI && kind in KINDS && !found.has(key);
+      if (isPart && found.size === MOST_DUMPS) return { dumps: dumps(), isMore: true };
+      if (isPart) found.set(key, { kind, seq, port, name });
+    }
   }
-  return [...found.values()];
+  return { dumps: dumps(), isMore: false };
 }
 
 // A cell: a field, with the names of its bits, or what an attribute says.
@@ -30,16 +36,26 @@ function cellOf(body, column) {
   return names?.length ? names.join(",") : isBits ? `0x${number.toString(16)}` : String(number);
 }
 
-// The table of a dump: the cells of each entry, and how it ended, in the words of `rtnl table`.
-function tableOf({ library, datagrams, big }, { kind, seq, port }) {
-  const { session, calls } = library, total = datagrams.length;
+// The table of a dump, of a session that is freed in the end, also where it had no memory.
+function tableOf(recording, dump) {
+  const { library: { session, calls, limits }, library, big } = recording;
+  try {
+    const made = calls.rtnlc_session_new(session, limits[Number(big)]);
+    if (made === NO_MEMORY) library.refuseMemory();
+    if (made !== OK) refuse(library.string("rtnlc_code_name", made));
+    return tableBy(session, recording, dump);
+  } finally {
+    calls.rtnlc_session_free(session);
+  }
+}
+
+// The cells of each entry, and how the dump ended, in the words of `rtnl table`.
+function tableBy(session, { library, datagrams, big }, { kind, seq, port }) {
+  const total = datagrams.length;
   const feed = ({ bytes }) => {
     const [at, size] = library.given(bytes, big);
     return library.answer(FED, "rtnlc_session_feed", session, at, size).ended;
   };
-  calls.rtnlc_session_free(session);
-  const made = calls.rtnlc_session_new(session, library.limits[Number(big)]);
-  if (made !== OK) refuse(`no session: ${library.string("rtnlc_code_name", made)}`);
   library.put("rtnlc_session_begin", session, kind, 0, seq, port);
   const unfed = total - (datagrams.findIndex(feed) + 1 || total);
   const { count, missed } = library.answer(TABLE, "rtnlc_session_table", session, kind);

@@ -2,8 +2,10 @@
 // answers of calls; the bytes of a datagram are only put there.
 
 const MESSAGE = 0, LIST = 2, NEXT_HOP = 4; // enum rtnlc_sort
-const OK = 0, TOO_LONG = 4, TOO_DEEP = 5, TOO_LARGE = 6; // enum rtnlc_code
+const OK = 0, TOO_LONG = 4, TOO_DEEP = 5, TOO_LARGE = 6, NO_MEMORY = 13; // enum rtnlc_code
 const DATAGRAM = 65536, EVENT = 16; // the standard limit; the bytes of a struct rtnlc_event
+const OPTIONS = 40, SEED = [18, 16]; // the bytes of a struct rtnlc_options, and its seed in them
+const BLOCK_HEAD = 16; // what heap.c has in front of each block, which has a power of two of bytes
 const GET = { 1: "getUint8", 2: "getUint16", 4: "getUint32", 8: "getBigUint64", [-4]: "getInt32" };
 
 // A struct of the header: its fields in order, each with its bytes, below zero where it is signed.
@@ -31,7 +33,9 @@ class Library {
     this.session = BigInt(this.area("session", 8));
     this.view().setBigUint64(Number(this.session), 0n, true);
     this.limits = ["little", "big"].map((name, order) => {
-      const at = this.area(name, 24), view = this.view();
+      const at = this.area(name, OPTIONS), view = this.view(), [seedAt, seed] = SEED;
+      new Uint8Array(this.calls.memory.buffer, at, OPTIONS).fill(0);
+      crypto.getRandomValues(new Uint8Array(this.calls.memory.buffer, at + seedAt, seed));
       view.setBigUint64(at, 1n << 30n, true);
       [DATAGRAM, 4096].forEach((limit, index) => view.setUint32(at + 8 + 4 * index, limit, true));
       [8, order].forEach((limit, index) => view.setUint8(at + 16 + index, limit));
@@ -43,21 +47,33 @@ class Library {
     return new DataView(this.calls.memory.buffer);
   }
 
-  // An area of the module's memory, as large as was ever asked for. What was in it may be lost.
-  area(name, size) {
-    const area = this.areas[name] ?? { at: 0, size: -1 };
-    if (size <= area.size) return area.at;
-    this.calls.free(BigInt(area.at));
-    this.areas[name] = { at: Number(this.calls.malloc(BigInt(2 * size))), size: 2 * size };
-    return this.areas[name].at || refuse("out of memory");
+  refuseMemory() {
+    this.isFull = true;
+    refuse("out of memory");
   }
 
-  // Makes a call, and reads the struct that it answers. Pointers and sizes are of 64 bits.
+  // An area of the module's memory, as large as was ever asked for. What was in it may be lost.
+  area(name, size) {
+    const { [name]: area = { at: 0, size: -1 } } = this.areas;
+    if (size <= area.size) return area.at;
+    let whole = 2 * BLOCK_HEAD;
+    while (whole < size + BLOCK_HEAD) whole *= 2;
+    delete this.areas[name];
+    this.calls.free(BigInt(area.at));
+    const room = whole - BLOCK_HEAD, at = Number(this.calls.malloc(BigInt(room)));
+    if (at === 0) this.refuseMemory();
+    this.areas[name] = { at, size: room };
+    return at;
+  }
+
+  // Makes a call, and reads the struct that it answers. Pointers and sizes are of 64 bits. A call
+  // that had no memory has done nothing.
   answer(struct, name, ...words) {
     const at = this.area("answer", 64);
     this.calls[name](BigInt(at), ...words);
     const view = this.view(), valueOf = (by, get) => Number(view[get](at + by, true));
-    return Object.fromEntries(struct.map(([field, by, get]) => [field, valueOf(by, get)]));
+    const found = Object.fromEntries(struct.map(([field, by, get]) => [field, valueOf(by, get)]));
+    return found.code === NO_MEMORY ? this.refuseMemory() : found;
   }
 
   // The words of a call for a datagram, which is put into the memory, and for the limits.

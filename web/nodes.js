@@ -30,8 +30,9 @@ class Nodes {
     const { bytes, big, number, code, from } = datagram, events = library.events(bytes, big);
     const broken = () => library.answer(BROKEN, "rtnlc_broken", ...library.given(bytes, big));
     const fault = code === OK ? null : broken(), lines = this.lines(events, fault);
-    const name = `datagram ${number}`, rest = `${bytes.length} bytes, ${from}`;
-    this.put({ name, rest }, 1, 0, 0, bytes.length);
+    const size = bytes.length, drawn = size > DATAGRAM ? `the first ${DATAGRAM} drawn, ` : "";
+    const name = `datagram ${number}`, rest = `${size} bytes, ${drawn}${from}`;
+    this.put({ name, rest }, 1, 0, 0, size);
     let next = 0;
     for (const event of events) {
       this.putHead(event, lines[next++]);
@@ -129,14 +130,22 @@ class Nodes {
   }
 }
 
-// What each byte of a datagram is of, and the innermost node that it belongs to.
+// The bytes of a datagram that are drawn: of one above the limit none is read.
+const drawnOf = ({ bytes }) => bytes.slice(0, DATAGRAM);
+
+// What each of so many bytes of a datagram is of.
 function painted(nodes, size) {
-  const kinds = new Uint8Array(size), owners = new Array(size).fill(0);
-  nodes.forEach(({ place, past, end, next, kind }, index) => {
+  const kinds = new Uint8Array(size);
+  for (const { place, past, end, next, kind } of nodes) {
     const isFault = kind === "fault", [front, to] = isFault ? [BAD, size] : [HEAD_BYTE, end];
     const rest = isFault ? UNREAD : kind === "unknown" ? UNKNOWN : PAYLOAD;
-    owners.fill(index, place, isFault ? size : next);
     kinds.fill(front, place, past).fill(rest, past, to).fill(PADDING, to, Math.max(to, next));
-  });
-  return { kinds, owners };
+  }
+  return kinds;
+}
+
+// The innermost node that a byte belongs to. A fault has all that follow.
+function ownerOf(nodes, at) {
+  const isIn = ({ place, next, kind }) => place <= at && (kind === "fault" || at < next);
+  return nodes.findLast(isIn) ?? nodes[0];
 }

@@ -2,7 +2,7 @@
 // where in it the reader is. What a row holds is asked of the library when it is seen.
 
 const MOST_HELD = 50000; // nodes of datagrams that aren't seen, about
-const LONGEST_SEEN = 500; // letters of a line
+const LONGEST_SEEN = 500, LONGEST_COPIED = 1 << 25; // letters of a line, and of all of them
 const clipped = (text) => text.slice(0, LONGEST_SEEN) + (text.length > LONGEST_SEEN ? "…" : "");
 
 // Whether more of the datagrams are accepted with the highest byte of a number first; where that
@@ -111,9 +111,9 @@ class Recording {
     if (this.rows === 0) return null;
     const to = this.moves[how](value);
     if (to) Object.assign(this, { chosen: to, cursor: to.cursor });
-    const { datagram, node } = this.chosen, { bytes } = datagram, row = this.chosenRow();
+    const { datagram, node } = this.chosen, bytes = drawnOf(datagram), row = this.chosenRow();
     const { place, past, end, next, level } = node, own = { place, past, end, next, level };
-    const { kinds } = painted(this.nodes(datagram), bytes.length);
+    const kinds = painted(this.nodes(datagram), bytes.length);
     const cursor = this.cursor ?? place, said = this.said(datagram, node);
     return { isFound: Boolean(to), row, rows: this.rows, bytes, kinds, cursor, own, said };
   }
@@ -124,9 +124,9 @@ class Recording {
     row: (row) => this.row(row),
     step: (count) => this.row(this.chosenRow() + count),
     byte: (place) => {
-      const { datagram } = this.chosen, nodes = this.nodes(datagram), size = datagram.bytes.length;
-      const cursor = Math.max(0, Math.min(size - 1, place));
-      return { datagram, node: nodes[painted(nodes, size).owners[cursor]], cursor };
+      const { datagram } = this.chosen, nodes = this.nodes(datagram);
+      const cursor = Math.max(0, Math.min(drawnOf(datagram).length - 1, place));
+      return { datagram, node: ownerOf(nodes, cursor), cursor };
     },
     toggle: (row) => {
       const { datagram, node } = this.row(row);
@@ -179,10 +179,17 @@ class Recording {
     return level === 1 ? line : whole;
   }
 
-  // What `rtnl show` prints of the recording.
+  // What `rtnl show` prints of the recording, where that isn't too long.
   text(isJson) {
-    const { library, datagrams, big } = this;
-    return datagrams.map(({ number, bytes }) => library.show(number, bytes, big, isJson)).join("");
+    const { library, datagrams, big } = this, parts = [];
+    let length = 0;
+    for (const { number, bytes } of datagrams) {
+      const part = library.show(number, bytes, big, isJson), long = LONGEST_COPIED;
+      parts.push(part);
+      length += part.length;
+      if (length > long) refuse(`it has more than ${long} characters; rtnl show prints it`);
+    }
+    return parts.join("");
   }
 
   // The order, and the digits of each datagram, as they stand in a link.
@@ -192,8 +199,10 @@ class Recording {
   }
 
   summary() {
-    const { datagrams, big, order, found: { form, notes, more } } = this, dumps = dumpsOf(this);
-    const said = more > 0 ? [...notes, `and ${more} more`] : notes;
+    const { datagrams, big, order, found: { form, notes, more } } = this;
+    const { dumps, isMore } = dumpsOf(this), left = more > 0 ? [`and ${more} more`] : [];
+    const many = isMore ? [`more than ${MOST_DUMPS} dumps: the others have no table here`] : [];
+    const said = [...notes, ...left, ...many];
     const sum = (of) => datagrams.reduce((total, it) => total + of(it), 0);
     const bytes = sum((it) => it.bytes.length), messages = sum((it) => it.messages);
     const refused = sum(({ code }) => Number(code !== OK)), count = datagrams.length;

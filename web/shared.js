@@ -1,5 +1,6 @@
 // What the page and its decoder share.
 
+const LONGEST_FILE = 1 << 26; // bytes
 const TEXT = new TextDecoder(), hex = (byte) => byte.toString(16).padStart(2, "0");
 
 // The bytes of what stands packed in the page.

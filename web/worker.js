@@ -1,13 +1,15 @@
 // What the page asks of the decoder, which runs beside it: each question, a name and words, is
 // answered in its turn, by whether it could be answered, and by that or by what was wrong.
 
-function answersOf(library) {
-  let input = "", recording = null, table = null;
+function answersOf(module) {
+  const begun = () => new Library(new WebAssembly.Instance(module, {}).exports);
+  let library = begun(), recording = null, table = null;
   return {
     version: () => library.string("rtnlc_version"),
-    // Reads an input, or the last one again, in this order.
-    read(order, given = input) {
-      input = given;
+    // Reads an input in this order. Where there was no memory the module is begun anew, since the
+    // blocks of another input may have other sizes.
+    read(order, input) {
+      library = library.isFull ? begun() : library;
       recording = new Recording(library, foundIn(input, order === "big"), order);
       return recording.summary();
     },
@@ -23,8 +25,7 @@ function answersOf(library) {
   };
 }
 
-const ready = unpacked(PACKED).then((code) => WebAssembly.instantiate(code, {}));
-const answers = ready.then(({ instance }) => answersOf(new Library(instance.exports)));
+const answers = unpacked(PACKED).then(WebAssembly.compile).then(answersOf);
 onmessage = async ({ data: [name, ...words] }) => {
   try {
     postMessage([true, (await answers)[name](...words)]);

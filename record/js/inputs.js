@@ -1,8 +1,8 @@
 // Whatever a reader hands in: which form it has, and the datagrams in it. Each form is read as far
 // as rtnl-record reads it; a line that is none of it is noted, and the rest is read.
 
-// Bytes of a datagram, of a text and of another file at most.
-const LONGEST = 1 << 20, LONGEST_TEXT = 1 << 24, LONGEST_FILE = 1 << 26;
+// Bytes of a datagram and of a text at most; those of another file are the page's LONGEST_FILE.
+const LONGEST = 1 << 20, LONGEST_TEXT = 1 << 24;
 const MOST_DATAGRAMS = 1 << 18, MOST_NOTES = 20;
 const valueOf = (digit) => [digit.charCodeAt(0), parseInt(digit, 16)];
 const DIGITS = new Map([..."0123456789abcdefABCDEF"].map(valueOf));
@@ -95,6 +95,17 @@ function textOf(bytes) {
   }
 }
 
+// The lines of a text, without the carriage returns in front of their ends. A last one without an
+// end is a line too.
+function linesOf(text) {
+  const lines = text.split("\n"), last = lines.pop(), ended = lines.map((line) => {
+    let end = line.length;
+    while (end > 0 && line[end - 1] === "\r") end--;
+    return line.slice(0, end);
+  });
+  return last === "" && ended.length > 0 ? ended : [...ended, last];
+}
+
 // What a text or the bytes of a file give. Numbers that hexdump prints are those of a machine.
 function foundIn(input, isBig) {
   const isText = typeof input === "string" || !input.subarray(0, 4096).some((byte) => byte < 9);
@@ -102,7 +113,7 @@ function foundIn(input, isBig) {
   if (input.length > most) refuse(`the input is longer than ${most} bytes`);
   if (!isText) return fromFile(input);
   const text = typeof input === "string" ? input : textOf(input);
-  const lines = text.replace(/\r*\n$/, "").split(/\r*\n/);
+  const lines = linesOf(text);
   const [form, read] = isTrace(lines) ? ["a trace of strace", fromTrace]
     : areRows(lines) ? ["rows of a hexadecimal dump", fromRows]
       : ["lines of hexadecimal", fromLines];

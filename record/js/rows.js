@@ -6,10 +6,19 @@ const ROW = /^\s*([0-9A-Fa-f]{4,16}):?(?:\s+|$)(.*)$/s;
 const WORDS = /^\s*([0-9A-Fa-f]{7})((?: [0-9A-Fa-f]{4})*) *$/;
 const HALF = 23, MOST_SAME = 1 << 24; // the width of eight bytes; bytes that are left out in all
 
+// A text without the blanks at its ends. A pattern would look at a run of blanks within it again
+// from each of them.
+function trimmed(text) {
+  let begin = 0, end = text.length;
+  while (begin < end && text[begin] === " ") begin++;
+  while (end > begin && text[end - 1] === " ") end--;
+  return text.slice(begin, end);
+}
+
 // Whether the text beside a row is that of its bytes: any sign for what isn't printable.
 function isTextOf(text, bytes) {
   const isFramed = /^\|.*\|$/su.test(text) && [...text].length === bytes.length + 2;
-  const signs = [...(isFramed ? text.slice(1, -1) : text.replace(/^ +| +$/g, ""))];
+  const signs = [...(isFramed ? text.slice(1, -1) : trimmed(text))];
   let begin = 0, end = bytes.length;
   while (!isFramed && begin < end && bytes[begin] === 0x20) begin++;
   while (!isFramed && end > begin && bytes[end - 1] === 0x20) end--;

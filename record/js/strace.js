@@ -103,16 +103,18 @@ class Trace {
     }
     if (result !== undefined) this.ended(process, name, before + text, number, result);
     else if (begun === undefined) refuse(`line ${number}: the end of this ${name} is missing`);
-    else this.begun.set(`${name} ${process}`, before + begun);
+    else {
+      if (!this.begun.has(name)) this.begun.set(name, new Map());
+      this.begun.get(name).set(process, before + begun);
+    }
   }
 
   // What stands before this. strace names no process where only one is left.
   beginning(name, process) {
-    const others = [...this.begun.keys()].filter((key) => key.startsWith(`${name} `));
-    const alone = process === null && others.length === 1 ? others : [];
-    const key = [`${name} ${process}`, `${name} null`, ...alone].find((it) => this.begun.has(it));
-    const text = this.begun.get(key);
-    this.begun.delete(key);
+    const waiting = this.begun.get(name) ?? new Map();
+    const alone = process === null && waiting.size === 1 ? waiting.keys() : [];
+    const key = [process, null, ...alone].find((it) => waiting.has(it)), text = waiting.get(key);
+    waiting.delete(key);
     return text;
   }
 

@@ -80,6 +80,15 @@ class Browser:
         self.call("order", order)
         return self.call("drop", base64.b64encode(data).decode())
 
+    def choose(self, path: str) -> Any:
+        """What the page says of a file that is opened, which needn't be one."""
+        root = self.driver.execute_cdp_cmd("DOM.getDocument", {})["root"]["nodeId"]
+        asked = {"nodeId": root, "selector": "#file"}
+        node = self.driver.execute_cdp_cmd("DOM.querySelector", asked)["nodeId"]
+        self.call("mark")
+        self.driver.execute_cdp_cmd("DOM.setFileInputFiles", {"files": [path], "nodeId": node})
+        return self.call("opened")
+
     def copied(self, button: str = "copy") -> str:
         return str(self.call("copied", button))
 

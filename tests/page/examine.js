@@ -102,6 +102,30 @@
     return said();
   }
 
+  // Marks the field, and then waits until a file has taken the place of the mark.
+  function mark() {
+    byId("input").placeholder = "a mark";
+  }
+
+  async function opened() {
+    await until(() => byId("input").placeholder !== "a mark");
+    await idle();
+    return said();
+  }
+
+  // Pastes a text, and waits for nothing.
+  function start(pasted) {
+    const clipboardData = new DataTransfer();
+    clipboardData.setData("text/plain", pasted);
+    document.body.dispatchEvent(new ClipboardEvent("paste", { clipboardData, bubbles: true }));
+  }
+
+  // The browser gives no clipboard from now on, and doesn't copy what is selected.
+  function withoutClipboard() {
+    Object.defineProperty(navigator, "clipboard", { value: undefined, configurable: true });
+    document.execCommand = () => false;
+  }
+
   const rowOf = (made) => ({
     text: made.textContent,
     level: Number(made.getAttribute("aria-level")),
@@ -203,7 +227,7 @@
 
   window.examine = {
     idle, ready, paste, order, view, copied, drop, scrolled, jumped, click, key, walk, faults,
-    find, cells, state, said, sample,
+    find, cells, state, said, sample, mark, opened, start, withoutClipboard,
     violations: () => violations,
     focus: (id) => byId(id).focus(),
     focused: () => document.activeElement.id,

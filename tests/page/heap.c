@@ -14,6 +14,8 @@
 
 static unsigned char *arena; /* where the heap begins, at a page */
 static size_t pages, most = ARENA >> 16;
+/* What answers a growth that is refused: -1 of 32 bits, as in the page, and then of 64. */
+static size_t refusal = 0xffffffff;
 
 static size_t size_in_pages(void)
 {
@@ -24,7 +26,7 @@ static size_t grow_by(size_t more)
 {
 	size_t before = size_in_pages();
 	if (more > most - pages)
-		return (size_t)-1;
+		return refusal;
 	pages += more;
 	return before;
 }
@@ -198,6 +200,8 @@ int main(void)
 	at_random();
 	again();
 	products();
+	refused();
+	refusal = (size_t)-1;
 	refused();
 	free(whole);
 	return 0;

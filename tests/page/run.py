@@ -11,6 +11,7 @@ import decoded
 import pictures
 import scripts
 import taken
+import troubles
 import used
 import wrong_pages
 from browser import Browser
@@ -31,6 +32,7 @@ def cases(page: str) -> Iterator[Case]:
         yield from used.policy(browser)
     finally:
         browser.close()
+    yield from troubles.cases(page)
     yield from used.older(page)
     yield from wrong_pages.cases(page)
 

@@ -139,10 +139,12 @@ def bad_lines(browser: Browser) -> Iterator[Case]:
 def many_lines(browser: Browser) -> Iterator[Case]:
     """Megabytes of what is no recording are refused soon, and the window goes on."""
     million = 1_000_000
+    calls = "".join(f"{it} recv(<unfinished ...>\n0 <... read resumed>\n" for it in range(40_000))
     for text in ("recvmsg(3, " + "a" * million, 'recvfrom(3, "' + "\\x00" * million,
                  "00000000: " + "00" * million + "z", "00000000  " + "00 " * million + "z",
                  " " * million + "z", "0" * million + "(", "1 " * million + "z", "z\n" * million,
-                 "recvmsg(3, AF_NETLINK" + ") " * million):
+                 "recvmsg(3, AF_NETLINK" + ") " * million, "0000: 00  a" + " " * million + "b",
+                 "\r" * million + "z", "1 recv(<unfinished ...>\n" + calls):
         took = browser.paste(text)
         right = took["time"] < 3000 and took["notes"] and took["longest"] < 500
         yield f"{text[:20]!r}, {len(text)}", [] if right else [str(took)[:200]]

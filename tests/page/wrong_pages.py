@@ -50,12 +50,12 @@ CHANGES = (
     Change("a tree without levels", '"aria-level": level', '"aria-lever": level', used.accessible),
     Change("a faint text", "--faint: #59636e", "--faint: #a9b3be", used.accessible),
     Change("a wide page", "#able { padding", "#able { min-width: 30rem; padding", used.accessible),
-    Change("a window that waits", 'this.summary = await this.ask("read"',
+    Change("a window that waits", 'const summary = await this.ask("read"',
            "for (const end = performance.now() + 300; performance.now() < end;);\n"
-           'this.summary = await this.ask("read"', used.large),
+           'const summary = await this.ask("read"', used.large),
     Change("a policy that allows connections", "default-src 'none'", "default-src *", used.policy),
-    Change("an error that is written", "new Page(ask);", "new Page(ask);\nconsole.error('wrong');",
-           used.policy),
+    Change("an error that is written", "new Page(decoding);",
+           "new Page(decoding);\nconsole.error('wrong');", used.policy),
 )
 
 
@@ -71,13 +71,22 @@ def allowed(page: str) -> str:
     return page
 
 
+def changed(page: str, *changes: Tuple[str, str]) -> str:
+    """The page with other texts in place of those that are there."""
+    for old, new in changes:
+        if old not in page:
+            raise Wrong(f"nothing to change: {old}")
+        page = page.replace(old, new)
+    return allowed(page)
+
+
 def finds(change: Change, folder: str, page: str) -> List[str]:
     """Nothing, where a case fails on the changed page."""
-    if page.count(change.old) < 1:
+    if change.old not in page:
         return [f"nothing to change: {change.old}"]
     path = f"{folder}/changed.html"
     with open(path, "w", encoding="utf-8") as file:
-        file.write(allowed(page.replace(change.old, change.new)))
+        file.write(changed(page, (change.old, change.new)))
     browser = Browser(path)
     try:
         if browser.open() is not True:
