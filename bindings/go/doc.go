@@ -64,8 +64,8 @@
 // # Goroutines
 //
 // The functions of the package can be called by any goroutine. A Tape, a Session, a Stream, a
-// List, a Table or a Builder is used by one at a time: a call of a Session or a Stream while another
-// goroutine is in one answers ErrInUse, and of the others the race detector tells.
+// List, a Table or a Builder is used by one at a time: a call of a Session or a Stream while
+// another goroutine is in one answers ErrInUse, and of the others the race detector tells.
 //
 // None of these is copied once it was used: it panics where a copy is used, and go vet says where
 // one is made.

@@ -18,8 +18,8 @@ pub struct rtnlc_options {
     pub depth: u8,
     /// Numbers have their highest byte first.
     pub big: bool,
-    /// Keys of the hash of a session's tables. Where all are 0, [`rtnlc_session_new`] has the kernel
-    /// give them.
+    /// Keys of the hash of a session's tables. Where all are 0, [`rtnlc_session_new`] has the
+    /// kernel give them.
     pub seed: [u8; 16],
 }
 
