@@ -2,6 +2,7 @@
 of a recording on standard output, all else on standard error."""
 import datetime
 import os
+import select
 import sys
 from typing import Iterator, Optional, Union
 
@@ -76,13 +77,24 @@ def write(items: Iterator[Item]) -> int:
 
 
 def put(text: str) -> None:
-    """Writes all of a text at once, whether a signal comes or not."""
-    left = memoryview(text.encode())
+    """Writes all of a text at once to standard output."""
     try:
-        while left:
-            left = left[os.write(1, left):]
+        write_all(1, text.encode())
     except OSError as error:
         raise Stop(f"standard output: {error.strerror}") from None
+
+
+def write_all(file: int, data: bytes) -> None:
+    """Writes all of these bytes, whether a signal comes or not, and whether the file waits until it
+    has room or not: a pipe or a terminal may have been left so by another program."""
+    left = memoryview(data)
+    while left:
+        try:
+            left = left[os.write(file, left):]
+        except BlockingIOError:
+            waiting = select.poll()
+            waiting.register(file, select.POLLOUT)
+            waiting.poll()
 
 
 def shown(name: str) -> str:
@@ -95,6 +107,6 @@ def report(text: object) -> None:
     if sys.stderr is None:
         return
     try:
-        print(f"rtnl-record: {text}", file=sys.stderr, flush=True)
+        write_all(2, f"rtnl-record: {text}\n".encode(sys.stderr.encoding, "backslashreplace"))
     except OSError:
         pass
