@@ -8,6 +8,8 @@ from typing import Iterator, Optional, Union
 
 # The greatest datagram that is taken, in bytes.
 LONGEST = 1 << 20
+# How much of a part of a capture an error names, in characters.
+MOST_NAMED = 40
 
 
 class Comment(str):
@@ -85,8 +87,8 @@ def put(text: str) -> None:
 
 
 def write_all(file: int, data: bytes) -> None:
-    """Writes all of these bytes, whether a signal comes or not, and whether the file waits until it
-    has room or not: a pipe or a terminal may have been left so by another program."""
+    """Writes all of these bytes, whether a signal comes or not, and where the file doesn't wait
+    for room: another program may have left a pipe or a terminal so."""
     left = memoryview(data)
     while left:
         try:
@@ -100,6 +102,11 @@ def write_all(file: int, data: bytes) -> None:
 def shown(name: str) -> str:
     """The name of a file, without control characters."""
     return "".join(it if it.isprintable() else it.encode("unicode_escape").decode() for it in name)
+
+
+def short(text: str) -> str:
+    """A part of a capture, as far as an error names it."""
+    return text if len(text) <= MOST_NAMED else f"{text[:MOST_NAMED]}.."
 
 
 def report(text: object) -> None:

@@ -5,11 +5,12 @@ forge them.
 
 The bytes are those that strace prints behind a call; or those of a buffer in quotes, which must be
 whole and in hexadecimal (-xx -s 65536). Calls that only peek and calls that fail are left out."""
+import re
 from typing import BinaryIO, Dict, Iterator, List, NamedTuple, Optional, Tuple
 
 import strace_line
-from hexdump import is_text_of
-from output import Comment, Damaged, Item, Loss, Note, cut
+from hexdump import bytes_of, is_text_of
+from output import LONGEST, Comment, Damaged, Item, Loss, Note, cut, short
 from source import lines
 from strace_line import Part
 
@@ -21,8 +22,8 @@ MANY = ("recvmmsg", "sendmmsg")
 PLAIN = ("read", "readv", "write", "writev")
 NAMES = (*WAYS, "socket", "close")
 BUFFER, ROW = " * ", " | "
-# Where, behind the place of a row, its pairs of digits end, and where its text begins.
-PAIRS, TEXT = 48, 50
+# The place of a row; and where behind it its pairs of digits end, and where its text begins.
+PLACE, PAIRS, TEXT = re.compile(" *[0-9A-Fa-f]+"), 48, 50
 
 
 class Call(NamedTuple):
@@ -43,6 +44,8 @@ class Call(NamedTuple):
         if not self.has_bytes():
             raise Damaged(f"{place}strace printed no bytes; run it with -e read=all")
         data = bytes(self.data) or strace_line.quoted(self.text, self.number)
+        if len(data) > LONGEST:
+            raise Damaged(f"{place}a datagram above {LONGEST} bytes")
         room = strace_line.room_of(self.text) if self.name in ("recvfrom", "recv") else None
         if room is not None and room < self.size:
             # strace prints as many bytes as the datagram has; the program has got the first.
@@ -116,17 +119,20 @@ class Trace:
         if not self.last:
             return
         place, _, rest = text[len(ROW):].partition("  ")
-        try:
-            begin, data = int(place, 16), bytes.fromhex(rest[:PAIRS])
-        except ValueError:
-            begin, data = 0, b""
-        if not data or rest[PAIRS:TEXT] != "  " or not is_text_of(rest[TEXT:-2], data):
+        # There may be two blanks behind the first eight bytes.
+        data = bytes_of(rest[:PAIRS].strip(" ").replace("  ", " ", 1))
+        is_row = bool(PLACE.fullmatch(place)) and rest[PAIRS:TEXT] == "  "
+        if not data or not is_row or not is_text_of(rest[TEXT:-2], data):
             raise Damaged(f"line {number}: no row of bytes")
+        begin = int(place, 16)
         if begin == 0:
             self.begin = len(self.last.data)
         if self.begin + begin != len(self.last.data):
-            raise Damaged(f"line {number}: a row is missing before the one of place {place}")
+            raise Damaged(f"line {number}: a row is missing before the one of place "
+                          f"{short(place)}")
         self.last.data.extend(data)
+        if len(self.last.data) > LONGEST:
+            raise Damaged(f"line {number}: a datagram above {LONGEST} bytes")
 
     def take(self, number: int, part: Part) -> None:
         """A call, the beginning of one, or the rest of one."""

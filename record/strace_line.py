@@ -1,7 +1,7 @@
 """The parts of a line of strace: whose call it is, and what the call's text says. Each takes time
-linear in the length of the line."""
+and memory linear in the length of the line."""
 import re
-from typing import List, NamedTuple, Optional, Tuple
+from typing import Iterator, NamedTuple, Optional, Tuple
 
 from output import Damaged
 
@@ -16,12 +16,13 @@ DESCRIPTOR = re.compile(r"[a-z0-9_]+\(([0-9]+)(?:<NETLINK:\[(\w+))?")
 BUFFER = r'("[^"]*"(?:\.\.\.)?|.)'
 IN_VECTOR = re.compile(rf"iov_base={BUFFER}")
 IN_ARGUMENT = re.compile(rf"[a-z0-9_]+\([0-9]+(?:<[^>]*>)?, *{BUFFER}")
-IN_HEXADECIMAL = re.compile(r'"((?:\\x[0-9a-f]{2})*)"')
+# What stands in front of each byte in quotes, whose digits these are.
+MARK, DIGITS = "\\x", re.compile(r"[0-9a-f]*")
 # How many bytes a buffer has that isn't in a vector.
 ROOM = re.compile(r", ([0-9]{1,19}), (?:0|MSG_[A-Z_|]+)(?:\)|, (?:NULL|\{|0x))")
 # A number that a call answers; an error is none.
 NUMBER = re.compile(r"[0-9]{1,19}")
-CUT = re.compile(r"msg_flags=(?:[A-Z_]+\|)*MSG_TRUNC\b")
+CUT = re.compile(r"msg_flags=(?:[A-Z_|]*\|)?MSG_TRUNC\b")
 
 
 class Part(NamedTuple):
@@ -77,18 +78,23 @@ def unfinished(text: str) -> Optional[str]:
     return text[:at] if at >= 0 and ATTACHED.fullmatch(text, at) else None
 
 
-def buffers(text: str) -> List[str]:
+def buffers(text: str) -> Iterator[str]:
     """The buffers that a call names, as they are printed."""
     if "iov_base=" in text:
-        return IN_VECTOR.findall(text)
+        yield from (it[1] for it in IN_VECTOR.finditer(text))
+        return
     found = IN_ARGUMENT.match(text)
-    return [found[1]] if found else []
+    if found:
+        yield found[1]
 
 
 def has_quoted(text: str) -> bool:
     """Whether bytes stand in quotes in a call."""
-    found = buffers(text)
-    return bool(found) and all(it.startswith('"') for it in found)
+    count = 0
+    for count, it in enumerate(buffers(text), 1):
+        if not it.startswith('"'):
+            return False
+    return count > 0
 
 
 def quoted(text: str, number: int) -> bytes:
@@ -97,14 +103,24 @@ def quoted(text: str, number: int) -> bytes:
     for buffer in buffers(text):
         if buffer.endswith("..."):
             raise Damaged(f"line {number}: strace cut the bytes off; run it with -s 65536")
-        inside = IN_HEXADECIMAL.fullmatch(buffer)
-        if not inside:
+        inside = unmarked(buffer[1:-1])
+        if inside is None:
             raise Damaged(f"line {number}: the bytes are not in hexadecimal; run strace with -xx")
-        data += bytes.fromhex(inside[1].replace("\\x", ""))
+        data += inside
     return bytes(data)
+
+
+def unmarked(inside: str) -> Optional[bytes]:
+    """The bytes of what stands in quotes, where all of it is in hexadecimal."""
+    digits = inside.replace(MARK, "")
+    are_marked = not any(inside[at::4].strip(sign) for at, sign in enumerate(MARK))
+    is_whole = are_marked and 2 * len(digits) == len(inside) and DIGITS.fullmatch(digits)
+    return bytes.fromhex(digits) if is_whole else None
 
 
 def room_of(text: str) -> Optional[int]:
     """How many bytes the buffer has that isn't in a vector, where the call says so."""
-    rooms = ROOM.findall(text)
-    return int(rooms[-1]) if rooms else None
+    last = None
+    for last in ROOM.finditer(text):
+        pass
+    return int(last[1]) if last else None

@@ -71,6 +71,12 @@ def damaged() -> Iterator[Case]:
     ):
         yield trace(name, [*front, recv, ROWS[0], row, "close(3) = 0"], 1, SENT,
                     said("line 6: no row of bytes"))
+    for place in ("0x10", "-0", "+0", "1_0", "0\f", "\f0", "0\t", "0 0", ""):
+        yield trace(f"a place {place!r}", [*front, recv, ROWS[0].replace("00000", place)], 1, SENT,
+                    said("line 5: no row of bytes"))
+    yield trace("a form feed between pairs",
+                [*front, recv, ROWS[0].replace("14 00", "14\f00")], 1, SENT,
+                said("line 5: no row of bytes"))
     yield trace("a row that was left out", [*front, recv, ROWS[1]], 1, SENT,
                 said("line 5: a row is missing before the one of place 00010"))
     yield trace("a last row that was left out", [*front, recv, ROWS[0]], 1, SENT,
