@@ -2,6 +2,7 @@
 netlink protocol, highest byte first."""
 from typing import Dict, Iterator
 
+import netlink
 from output import LONGEST, Damaged, Item, Note, cut
 from source import Source
 
@@ -37,7 +38,7 @@ class Packets:
         if kept < size:
             yield from cut(f"{place}: ", data, size - COOKED)
         else:
-            yield data
+            yield from netlink.sent(data)
 
     def leave(self, sort: str) -> None:
         self.others[sort] = self.others.get(sort, 0) + 1

@@ -8,6 +8,7 @@ whole and in hexadecimal (-xx -s 65536). Calls that only peek and calls that fai
 import re
 from typing import BinaryIO, Dict, Iterator, List, NamedTuple, Optional, Tuple
 
+import netlink
 import strace_line
 from hexdump import bytes_of, is_text_of
 from output import LONGEST, Comment, Damaged, Item, Loss, Note, cut, short
@@ -58,7 +59,7 @@ class Call(NamedTuple):
             raise Damaged(f"{place}{self.size} bytes were {way}, and {len(data)} of them are here")
         else:
             yield Comment(way)
-            yield data
+            yield from netlink.sent(data) if way == "sent" else [data]
 
 
 class Sockets:

@@ -177,6 +177,13 @@ is_traced() {
     record strace "$folder/trace" | grep -A 1 received | grep -v '^[#-]' | diff - <(grep -v '^#' "$folder/recording")
 }
 
+# What `ip` and `bridge` ask for is taken of a trace, though some requests have zero bytes behind them.
+takes_requests() {
+  strace -f -o "$folder/trace" -e trace=network -e read=all -e write=all "$@" >/dev/null &&
+    record strace "$folder/trace" >"$folder/recording" 2>"$folder/errors" && [ ! -s "$folder/errors" ] &&
+    grep -q '^# sent$' "$folder/recording" && "$program" check "$folder/recording" >"$folder/checked"
+}
+
 if is_made; then
   check 'links' has_entry link 'attr 3 IFNAME - text lo'
   check 'as many links' has_as_many link ip -o link
@@ -219,6 +226,8 @@ if is_made; then
   if strace -o /dev/null true 2>/dev/null; then
     check 'a trace of rtnl-record' is_traced
     for kind in link addr route neigh rule; do check "the request for $kind" asks_as "$kind" 10; done
+    for kind in link addr route neigh rule; do check "a trace of ip $kind" takes_requests ip "$kind"; done
+    check 'a trace of bridge fdb' takes_requests bridge fdb
   else
     echo 'skipped: a trace of rtnl-record, since strace is not here or may not trace'
   fi

@@ -1,7 +1,7 @@
 #!/usr/bin/env python3
 """What rtnl-record makes of captures that are made by hand, whole and damaged: the tables of
-made_pcap.py, made_rtmon.py, made_dumps.py and made_traces.py, and the long lines of made_long.py.
-The last line is 'N passed, M failed', and the status is 1 where a case failed.
+made_pcap.py, made_rtmon.py, made_dumps.py, made_traces.py and made_requests.py, and the long lines
+of made_long.py. The last line is 'N passed, M failed', and the status is 1 where a case failed.
 """
 import os
 import sys
@@ -12,13 +12,15 @@ sys.path.insert(0, f"{os.path.dirname(os.path.realpath(__file__))}/../helpers")
 import made_dumps
 import made_long
 import made_pcap
+import made_requests
 import made_rtmon
 import made_traces
 from case import judged
 from counting import counted
 
 # The page reads these too; long lines take more time.
-TABLES = [made_pcap.cases, made_rtmon.cases, made_dumps.cases, made_traces.cases]
+TABLES = [made_pcap.cases, made_rtmon.cases, made_dumps.cases, made_traces.cases,
+          made_requests.cases]
 
 
 SECONDS_OF_LONG = 30
