@@ -46,8 +46,8 @@ def end_of_requests(data: bytes, order: str) -> int:
 
 
 def sent(data: bytes) -> Iterator[Item]:
-    """A datagram that may have been sent. Some programs send all of a buffer, and the kernel passes
-    over what stands behind the last request: zero bytes are left out there."""
+    """A datagram that may have been sent. Some programs send all of a buffer, and the kernel
+    passes over what stands behind the last request: zero bytes are left out there."""
     for end in (end_of_requests(data, "<"), end_of_requests(data, ">")):
         if 0 < end < len(data) and not any(data[end:]):
             yield Comment(f"cut: {len(data) - end} zero bytes behind the last message")

@@ -51,6 +51,11 @@ def time_comment(seconds: int, microseconds: int) -> Comment:
     return Comment(f"time {moment:%Y-%m-%dT%H:%M:%S}.{microseconds:06}Z")
 
 
+def dropped(why: str) -> Comment:
+    """What stands where datagrams are missing."""
+    return Comment(f"dropped: {why}")
+
+
 def cut(place: str, data: bytes, size: Optional[int]) -> Iterator[Item]:
     """A datagram of which only the front is there, and its size, where that is known."""
     part = f"{len(data)} of {size} bytes" if size else f"{len(data)} bytes of a longer one"

@@ -60,6 +60,7 @@ counts() {
 . tests/rtnl_record/captures.sh
 counts tests/rtnl_record/made.py
 counts tests/rtnl_record/answers.py
+counts tests/rtnl_record/drops.py
 counts tests/rtnl_record/slow.py
 counts tests/rtnl_record/fuzz.py
 counts tests/rtnl_record/completions.py

@@ -24,7 +24,8 @@ PATIENCE = 20.0
 # What runs where a name is expanded: it makes a file in the folder of the shell.
 RUN = "touch${IFS}PWNED"
 NAMES = [
-    "blue", f"$({RUN})", f"`{RUN}`", f"<({RUN})", f"a;{RUN};", f"a|{RUN}", f"a&{RUN}&", f"$'{RUN}'",
+    "blue", f"$({RUN})", f"`{RUN}`", f"<({RUN})", f"a;{RUN};", f"a|{RUN}", f"a&{RUN}&",
+    f"$'{RUN}'",
     "two words", "  blanks ", "it's", 'say "no"', "back\\slash", "a\\nb", "${HOME}", "$HOME", "~",
     "~root", "*", "[ab]?", "{a,b}", "a!b", "#a", "a=b", "a(b)", "a (id: b)", "ünder",
 ]
@@ -53,7 +54,8 @@ class Shell:
         self.name, self.folder = name, folder
         os.mkdir(f"{folder}/bin")
         self.program("ip", 'cat "$NAMES"')
-        self.program("rtnl-record", 'printf "%s\\0" "$@" >"$ASKED.new" && mv "$ASKED.new" "$ASKED"')
+        self.program("rtnl-record",
+                     'printf "%s\\0" "$@" >"$ASKED.new" && mv "$ASKED.new" "$ASKED"')
         self.process, self.terminal = pty.fork()
         if self.process == 0:
             os.chdir(folder)

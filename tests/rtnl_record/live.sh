@@ -143,14 +143,23 @@ link.setsockopt(socket.IPPROTO_IP, socket.IP_ADD_MEMBERSHIP,
                 socket.inet_aton("239.1.2.3") + socket.inet_aton("192.0.2.1"))'
 }
 
-# Notifications that the kernel drops while nobody receives are said, and what comes later is recorded.
+# Notifications that the kernel drops while nobody receives are said behind those that it has queued, and what comes
+# later is recorded.
 tells_lost_notifications() {
   begins_monitor neigh && kill -STOP "$monitor" &&
     seq 9000 | sed 's/.*/neigh replace 2001:db8::2:& lladdr 02:00:00:00:00:01 dev lo/' | ip -batch - &&
-    kill -CONT "$monitor" && lines_come "$folder/errors" 1 && soon hears_again && ends_monitor INT &&
-    grep -qx '# the kernel dropped messages here' "$folder/recording" &&
-    ! grep -vx 'rtnl-record: the kernel dropped messages, since they were not received soon enough' \
-      "$folder/errors"
+    kill -CONT "$monitor" && lines_come "$folder/errors" 1 && soon hears_again || return
+  ends_monitor INT
+  [ $? = 1 ] && is_at_its_place && [ "$(<"$folder/errors")" = \
+    'rtnl-record: the kernel dropped messages, since they were not received soon enough' ]
+}
+is_at_its_place() {
+  local loss='# dropped: the kernel had no room for messages here'
+  sed "/^$loss\$/,\$d" "$folder/recording" | "$program" show | grep -o 'ipv6 2001:0db8.*' >"$folder/before" &&
+    sed "1,/^$loss\$/d" "$folder/recording" | "$program" show | grep -o 'ipv6 2001:0db8.*' >"$folder/behind" &&
+    [ "$(grep -cx "$loss" "$folder/recording")" = 1 ] && ! grep -q ':0002:' "$folder/behind" &&
+    seq "$(wc -l <"$folder/before")" | sed 's/.*/000&/; s/.*\(....\)$/ipv6 2001:0db8:0000:0000:0000:0000:0002:\1/' |
+    diff - "$folder/before"
 }
 hears_again() {
   ip -6 neigh replace 2001:db8::9 lladdr 02:00:00:00:00:02 dev lo &&
