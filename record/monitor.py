@@ -11,7 +11,7 @@ from typing import Iterator, List
 
 import groups
 import netlink
-from output import LONGEST, Comment, Item, Loss, Note, Stop, cut, dropped, time_comment
+from output import LONGEST, RECEIVED, Comment, Item, Loss, Note, Stop, cut, dropped, when
 
 SOL_NETLINK, ADD_MEMBERSHIP = 270, 1  # of linux/socket.h and linux/netlink.h
 # What is asked for, of which the kernel gives twice as much.
@@ -97,7 +97,7 @@ def items(link: socket.socket, words: List[str], is_timed: bool) -> Iterator[Ite
         if not found:
             continue
         if is_timed:
-            yield time_comment(*divmod(time.time_ns() // 1000, 1000000))
+            yield from when(time.time_ns() // 1000, RECEIVED)
         data, size = found
         if len(data) < size:
             yield from cut("", data, size)

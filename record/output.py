@@ -8,6 +8,10 @@ from typing import Iterator, Optional, Union
 
 # The greatest datagram that is taken, in bytes.
 LONGEST = 1 << 20
+SECOND = 1000000
+# The year 10000, which has no such form.
+END_OF_TIME = 253402300800 * SECOND
+SENT, RECEIVED = "sent", "received"
 # How much of a part of a capture an error names, in characters.
 MOST_NAMED = 40
 
@@ -45,10 +49,16 @@ class Usage(Stop):
     status = 2
 
 
-def time_comment(seconds: int, microseconds: int) -> Comment:
-    """A time, which stands in front of what was received then."""
-    moment = datetime.datetime.fromtimestamp(seconds, datetime.timezone.utc)
-    return Comment(f"time {moment:%Y-%m-%dT%H:%M:%S}.{microseconds:06}Z")
+def when(microseconds: Optional[int], way: str = "") -> Iterator[Item]:
+    """A comment in front of a datagram: when it went, since 1970, and which way, as far as either
+    is known."""
+    words = [way] if way else []
+    if microseconds is not None and 0 <= microseconds < END_OF_TIME:
+        seconds, rest = divmod(microseconds, SECOND)
+        moment = datetime.datetime.fromtimestamp(seconds, datetime.timezone.utc)
+        words.insert(0, f"{moment:%Y-%m-%dT%H:%M:%S}.{rest:06}Z")
+    if words:
+        yield Comment(" ".join(words))
 
 
 def dropped(why: str) -> Comment:

@@ -7,6 +7,8 @@ from output import Damaged
 
 # In front of a call stand the process, where there are many, and the time, where it was asked for.
 TIME = re.compile(r"[0-9:.]+")
+# A time since 1970 (-ttt): any other is one of a day, or since the call before.
+ABSOLUTE = re.compile(r"([0-9]{9,12})\.([0-9]{1,9})")
 CALL = re.compile(r"([a-z0-9_]+)\(|<\.\.\. ([a-z0-9_]+) resumed> ?")
 # What stands at the end of a call that another process interrupts.
 UNFINISHED = "<unfinished ...>"
@@ -22,22 +24,31 @@ MARK, DIGITS = "\\x", re.compile(r"[0-9a-f]*")
 ROOM = re.compile(r", ([0-9]{1,19}), (?:0|MSG_[A-Z_|]+)(?:\)|, (?:NULL|\{|0x))")
 # A number that a call answers; an error is none.
 NUMBER = re.compile(r"[0-9]{1,19}")
+ERROR = re.compile(r"-1 (E[A-Z]+)\b")
 CUT = re.compile(r"msg_flags=(?:[A-Z_|]*\|)?MSG_TRUNC\b")
 
 
 class Part(NamedTuple):
-    """A call, or a part of one: the process, the call's name, its text, and whether it is the rest
-    of a call that another line begins."""
+    """A call, or a part of one: the process, the time in microseconds, the call's name, its text,
+    and whether it is the rest of a call that another line begins."""
 
     process: Optional[str]
+    time: Optional[int]
     name: str
     text: str
     is_rest: bool
 
 
-def front(line: str) -> Tuple[Optional[str], str]:
-    """The process that a line names, and what stands behind that and the time."""
+def microseconds(word: str) -> Optional[int]:
+    """The time since 1970 that a word says, if it does."""
+    found = ABSOLUTE.fullmatch(word)
+    return int(f"{found[1]}{found[2][:6]:0<6}") if found else None
+
+
+def front(line: str) -> Tuple[Optional[str], Optional[int], str]:
+    """The process and the time that a line names, and what stands behind them."""
     process: Optional[str] = None
+    time: Optional[int] = None
     if line.startswith("[pid "):
         inside, _, line = line[5:].partition("]")
         process = inside.strip(" ")
@@ -47,18 +58,20 @@ def front(line: str) -> Tuple[Optional[str], str]:
         if not TIME.fullmatch(word):
             break
         process = word if process is None and word.isdecimal() else process
+        time = microseconds(word) if time is None else time
         line = rest
-    return process, line
+    return process, time, line
 
 
 def part_of(line: str) -> Optional[Part]:
     """The call of a line, where it has one."""
-    process, text = front(line)
+    process, time, text = front(line)
     found = CALL.match(text)
     if not found:
         return None
     is_rest = found[1] is None
-    return Part(process, found[1] or found[2], text[found.end():] if is_rest else text, is_rest)
+    rest = text[found.end():] if is_rest else text
+    return Part(process, time, found[1] or found[2], rest, is_rest)
 
 
 def result_of(text: str) -> Optional[str]:
@@ -67,6 +80,18 @@ def result_of(text: str) -> Optional[str]:
     if at < 0 or not text[:at].rstrip(" ").endswith(")"):
         return None
     return text[at + 3:].partition(" ")[0].partition("<")[0]
+
+
+def file_of(text: str) -> Optional[str]:
+    """The number of the file that a call is of."""
+    found = DESCRIPTOR.match(text)
+    return found[1] if found else None
+
+
+def error_of(text: str) -> Optional[str]:
+    """The name of the error that the call answered which ends in this text."""
+    found = ERROR.match(text, text.rfind(" = ") + 3)
+    return found[1] if found else None
 
 
 def unfinished(text: str) -> Optional[str]:

@@ -126,10 +126,10 @@ is_timed() {
   local before after
   before=$(date -u +%FT%T.%6N)
   notifies '20 21' --time address && [ ! -s "$folder/errors" ] &&
-    [ "$(sed -E '1d; s/^# time .*Z$/time/; s/^[0-9a-f]+$/datagram/' "$folder/recording" | xargs)" = \
+    [ "$(sed -E '1d; s/^# 2.*Z received$/time/; s/^[0-9a-f]+$/datagram/' "$folder/recording" | xargs)" = \
       'time datagram time datagram' ] || return
   after=$(date -u +%FT%T.%6N)
-  printf '%s\n' "$before" $(sed -n 's/^# time \(.*\)Z$/\1/p' "$folder/recording") "$after" | sort -c
+  printf '%s\n' "$before" $(sed -n 's/^# \(.*\)Z received$/\1/p' "$folder/recording") "$after" | sort -c
 }
 
 # A group above 32 is joined, too: that of multicast addresses, which newer kernels have.

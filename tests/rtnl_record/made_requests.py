@@ -5,7 +5,7 @@ import struct
 from typing import Iterator, NamedTuple
 
 from case import Case
-from made_pcap import cooked, pcap
+from made_pcap import AT, cooked, pcap
 from made_traces import OPENED, trace
 
 REQUEST, DUMP, ACK = 0x1, 0x300, 0x4
@@ -73,4 +73,4 @@ def cases() -> Iterator[Case]:
         yield trace(f"received, {row.name}", [OPENED, received, *rows], 0,
                     f"# received\n{row.data.hex()}\n")
         yield Case(f"pcap: a request, {row.name}", ["pcap", "-"], pcap(cooked(row.data)), 0,
-                   lines(row))
+                   f"{AT}{lines(row)}")
