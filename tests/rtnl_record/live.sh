@@ -10,7 +10,8 @@ is_made() {
 
 # tabled FILE KIND: the table of a recorded dump, which is complete.
 tabled() {
-  "$program" table --kind "$2" --seq 1 --port "$(sed -n '1s/^# seq 1 port //p' "$1")" "$1" >"$folder/table" &&
+  "$program" table --kind "$2" --seq 1 --port "$(sed -nE "1s/^# seq 1 port ([0-9]+) kind $2\$/\1/p" "$1")" "$1" \
+    >"$folder/table" &&
     [ "$(tail -1 "$folder/table")" = 'complete yes' ]
 }
 
