@@ -20,8 +20,8 @@ DESCRIPTION = """Makes recordings for rtnl: a line of hexadecimal for each rtnet
 comments behind #."""
 STATUSES = """Exit status:
   0  all is recorded
-  1  a capture is damaged, and refused with its place; a dump is not whole; or a datagram was cut.
-     What came before is printed
+  1  a capture is damaged, and refused with its place; a dump is not whole; datagrams were dropped;
+     or one was cut. What came before is printed
   2  usage error
   3  a socket, a read or a write failed"""
 

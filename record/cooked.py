@@ -1,8 +1,9 @@
 """Packets of captures. One of netlink is a datagram behind 16 bytes, of which the last two are the
 netlink protocol, highest byte first."""
-from typing import Dict, Iterator
+from typing import Dict, Iterator, Optional
 
-from output import LONGEST, Damaged, Item, Note, cut
+import netlink
+from output import LONGEST, Damaged, Item, Note, cut, when
 from source import Source
 
 NETLINK = 253  # LINKTYPE_NETLINK
@@ -16,9 +17,10 @@ class Packets:
     def __init__(self) -> None:
         self.others: Dict[str, int] = {}
 
-    def items(self, source: Source, place: str, link_type: int, kept: int,
-              size: int) -> Iterator[Item]:
-        """What a packet gives that begins at the place, of which so many bytes come next."""
+    def items(self, source: Source, place: str, link_type: int, kept: int, size: int,
+              time: Optional[int] = None) -> Iterator[Item]:
+        """What a packet gives that begins at the place, of which so many bytes come next. Its time
+        is in microseconds."""
         packet = f"a packet of {kept} bytes"
         if link_type != NETLINK:
             self.leave(f"link type {link_type}")
@@ -34,10 +36,11 @@ class Packets:
         if kept - COOKED > LONGEST:
             raise Damaged(f"{place}: a datagram of {kept - COOKED} bytes, above {LONGEST}")
         data = source.exactly(kept - COOKED, place, packet)
+        yield from when(time)
         if kept < size:
             yield from cut(f"{place}: ", data, size - COOKED)
         else:
-            yield data
+            yield from netlink.sent(data)
 
     def leave(self, sort: str) -> None:
         self.others[sort] = self.others.get(sort, 0) + 1

@@ -1,5 +1,5 @@
 """Asks the kernel for a dump and records its answers, behind a line with the sequence number of
-the request and the port id of the socket. Nothing is changed."""
+the request, the port id of the socket, and what was asked for. Nothing is changed."""
 import errno
 import os
 import socket
@@ -52,7 +52,7 @@ def seen(data: bytes) -> Seen:
 
 def items(link: socket.socket, kind: str, family: int, size: int) -> Iterator[Item]:
     """The answers, in a buffer of this size, and what is missing of them."""
-    yield Comment(f"seq {SEQ} port {link.getsockname()[0]}")
+    yield Comment(f"seq {SEQ} port {link.getsockname()[0]} kind {kind}")
     link.settimeout(WAIT)
     link.sendto(request(kind, family), (0, 0))
     room, end, is_interrupted, is_cut = bytearray(size), None, False, False

@@ -10,14 +10,14 @@ import cooked
 from output import LONGEST, Damaged, Item
 from source import Source, lines
 
-# The offset of a row, and the rest.
-ROW = re.compile(r"\s*([0-9A-Fa-f]{4,16}):?(?:\s+|$)(.*)", re.S)
-# hexdump alone has an offset of seven digits, and numbers of two bytes.
-NUMBERS = re.compile(r"\s*([0-9A-Fa-f]{7})((?: [0-9A-Fa-f]{4})*) *")
+# None of these repeats more than a set of signs, since a repeated group would keep each turn.
+# The offset of a row; hexdump alone has one of seven digits, and numbers of two bytes behind it.
+OFFSET = re.compile(r"\s*([0-9A-Fa-f]{4,16}):?(?:\s+|$)")
+OF_NUMBERS = re.compile(r"\s*([0-9A-Fa-f]{7})([0-9A-Fa-f ]*)")
+PAIRS = re.compile(r"[0-9A-Fa-f]+[0-9A-Fa-f ]*")
 GAP = re.compile(r"  +")
-# The width of eight bytes.
-HALF = 23
-GROUPS = re.compile(r"(?:[0-9A-Fa-f]{2})+(?: (?:[0-9A-Fa-f]{2})+)*")
+# The widths of eight bytes, and of a number with its blank.
+HALF, NUMBER = 23, 5
 # A row of this sign stands for rows that are the same as the one before: for so many bytes at most
 # in all, since a few signs could stand for any number.
 SAME = "*"
@@ -41,38 +41,64 @@ def is_text_of(text: str, data: bytes) -> bool:
         not 32 <= byte < 127 or sign == chr(byte) for sign, byte in zip(text, data))
 
 
-def readings(rest: str) -> Iterator[Tuple[str, str]]:
-    """The digits of a row and the text beside them, which are told apart by a gap. There may be
-    another gap behind the first eight bytes."""
-    gaps = [it.span() for it, _ in zip(GAP.finditer(rest), range(2))]
+def is_beside(line: str, begin: int, end: int, data: bytes) -> bool:
+    """Whether the text of these bytes stands there. A long one is none, and isn't copied."""
+    return end - begin <= len(data) + len("||") and is_text_of(line[begin:end], data)
+
+
+def bytes_of(digits: str) -> Optional[bytes]:
+    """The bytes of groups of pairs with one blank between them, where they are that."""
+    if not PAIRS.fullmatch(digits) or "  " in digits or digits.endswith(" "):
+        return None
+    try:
+        return bytes.fromhex(digits)
+    except ValueError:
+        return None
+
+
+def readings(line: str, begin: int, end: int) -> Iterator[Tuple[str, int]]:
+    """The digits of a row, and where the text beside them begins, which are told apart by a gap.
+    There may be another gap behind the first eight bytes."""
+    gaps = [it.span() for it, _ in zip(GAP.finditer(line, begin, end), range(2))]
     if not gaps:
-        yield rest, ""
+        yield line[begin:end], end
         return
-    (begin, end), ends = gaps[0], len(rest)
-    yield rest[:begin], rest[end:]
-    if begin == HALF:
-        begin, behind = gaps[1] if len(gaps) > 1 else (ends, ends)
-        yield f"{rest[:HALF]} {rest[end:begin]}", rest[behind:]
+    first, behind = gaps[0]
+    yield line[begin:first], behind
+    if first == begin + HALF:
+        last, text = gaps[1] if len(gaps) > 1 else (end, end)
+        yield f"{line[begin:first]} {line[behind:last]}", text
+
+
+def numbers_of(line: str) -> Optional[Row]:
+    """The row of a line of hexdump, where it is one."""
+    found = OF_NUMBERS.fullmatch(line)
+    if not found:
+        return None
+    numbers = found[2].rstrip(" ")
+    count, rest = divmod(len(numbers), NUMBER)
+    if rest or numbers.count(" ") != count or numbers[::NUMBER].strip(" "):
+        return None
+    data = bytearray.fromhex(numbers)
+    data[::2], data[1::2] = data[1::2], data[::2]
+    return Row(int(found[1], 16), bytes(data), True)
 
 
 def row_of(line: str) -> Optional[Row]:
-    """The row of a line, where it is one."""
-    found = NUMBERS.fullmatch(line)
+    """The row of a line, where it is one. No part of a long line is taken before it is needed."""
+    found = numbers_of(line)
     if found:
-        data = bytes.fromhex(found[2])
-        pairs = zip(data[1::2], data[::2])
-        return Row(int(found[1], 16), bytes(it for pair in pairs for it in pair), True)
-    found = ROW.fullmatch(line)
-    if not found:
+        return found
+    offset = OFFSET.match(line)
+    if not offset:
         return None
-    place = int(found[1], 16)
-    if not found[2]:
+    place, begin, end = int(offset[1], 16), offset.end(), len(line.rstrip(" "))
+    if begin >= end:
         return Row(place, b"")
-    for digits, text in readings(found[2].rstrip(" ")):
-        if GROUPS.fullmatch(digits):
-            data = bytes.fromhex(digits)
-            if not text or is_text_of(text, data):
-                return Row(place, data)
+    for digits, text in readings(line, begin, end):
+        data = bytes_of(digits)
+        if data and (text == end or is_beside(line, text, end, data)):
+            return Row(place, data)
     return None
 
 
@@ -148,6 +174,8 @@ def found(dump: Dump, file: BinaryIO) -> Iterator[Item]:
     for number, text in lines(file, "utf-8"):
         if text.strip() and not text.startswith("#"):
             yield from dump.line(number, text)
+        # It isn't kept while the next one is read.
+        del text
     yield from dump.end(number + 1)
 
 

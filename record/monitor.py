@@ -11,9 +11,10 @@ from typing import Iterator, List
 
 import groups
 import netlink
-from output import LONGEST, Comment, Item, Note, Stop, cut, time_comment
+from output import LONGEST, RECEIVED, Comment, Item, Loss, Note, Stop, cut, dropped, when
 
 SOL_NETLINK, ADD_MEMBERSHIP = 270, 1  # of linux/socket.h and linux/netlink.h
+# What is asked for, of which the kernel gives twice as much.
 ROOM = 1 << 20
 
 
@@ -36,6 +37,32 @@ class Interrupt:
         return self.reader in ready
 
 
+class Drops:
+    """Where the kernel dropped messages. It says so in front of those that wait, and drops until
+    all of them are received."""
+
+    def __init__(self) -> None:
+        self.waiting = 0  # at most so many bytes are in front of the place
+
+    def begin(self) -> Iterator[Item]:
+        """The kernel says so. It says so again only behind the place of the last time."""
+        yield from self.end()
+        self.waiting = 2 * ROOM + LONGEST
+
+    def received(self, size: int) -> Iterator[Item]:
+        """A datagram of this size came, which may be the last that can have waited."""
+        if 0 < self.waiting <= size:
+            yield from self.end()
+        self.waiting = max(self.waiting - size, 0)
+
+    def end(self) -> Iterator[Item]:
+        """None waits."""
+        if self.waiting:
+            yield dropped("the kernel had no room for messages here")
+            yield Loss("the kernel dropped messages, since they were not received soon enough")
+        self.waiting = 0
+
+
 def join(link: socket.socket, words: List[str]) -> Iterator[Item]:
     """Joins the groups. One of all that can't be joined is named, or not there in this kernel."""
     for name in groups.named(words):
@@ -55,23 +82,25 @@ def items(link: socket.socket, words: List[str], is_timed: bool) -> Iterator[Ite
     link.setsockopt(socket.SOL_SOCKET, socket.SO_RCVBUF, ROOM)
     yield from join(link, words)
     yield Comment(f"groups {' '.join(words)} port {link.getsockname()[0]}")
-    while not interrupt.comes_before(link):
+    drops = Drops()
+    while drops.waiting or not interrupt.comes_before(link):
         try:
             found = netlink.received(link, room)
         except BlockingIOError:
+            yield from drops.end()
             continue
         except OSError as error:
             if not netlink.is_full(error):
                 raise
-            yield Comment("the kernel dropped messages here")
-            yield Note("the kernel dropped messages, since they were not received soon enough")
+            yield from drops.begin()
             continue
         if not found:
             continue
         if is_timed:
-            yield time_comment(*divmod(time.time_ns() // 1000, 1000000))
+            yield from when(time.time_ns() // 1000, RECEIVED)
         data, size = found
         if len(data) < size:
             yield from cut("", data, size)
         else:
             yield data
+        yield from drops.received(size)

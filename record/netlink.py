@@ -6,9 +6,10 @@ import socket
 import struct
 from typing import Iterator, NamedTuple, Optional, Tuple
 
-from output import Stop, shown
+from output import Comment, Item, Stop, shown
 
 HEADER = struct.Struct("=IHHII")
+REQUEST = 1  # NLM_F_REQUEST
 CLONE_NEWNET = 0x40000000  # of linux/sched.h
 NAMESPACES = "/run/netns"
 
@@ -29,6 +30,30 @@ def messages(data: bytes) -> Iterator[Message]:
         length, kind, flags, seq, _ = HEADER.unpack_from(data, place)
         yield Message(kind, flags, seq, place + HEADER.size)
         place += max(length + 3 & ~3, HEADER.size)
+
+
+def end_of_requests(data: bytes, order: str) -> int:
+    """Where the whole messages end that a datagram begins with, if all are requests; or else 0."""
+    place = 0
+    while place + HEADER.size <= len(data):
+        length, _, flags = struct.unpack_from(f"{order}IHH", data, place)
+        if length < HEADER.size or place + length > len(data):
+            break
+        if not flags & REQUEST:
+            return 0
+        place += length + 3 & ~3
+    return place
+
+
+def sent(data: bytes) -> Iterator[Item]:
+    """A datagram that may have been sent. Some programs send all of a buffer, and the kernel
+    passes over what stands behind the last request: zero bytes are left out there."""
+    for end in (end_of_requests(data, "<"), end_of_requests(data, ">")):
+        if 0 < end < len(data) and not any(data[end:]):
+            yield Comment(f"cut: {len(data) - end} zero bytes behind the last message")
+            yield data[:end]
+            return
+    yield data
 
 
 def enter(name: str) -> None:

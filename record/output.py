@@ -2,11 +2,18 @@
 of a recording on standard output, all else on standard error."""
 import datetime
 import os
+import select
 import sys
 from typing import Iterator, Optional, Union
 
 # The greatest datagram that is taken, in bytes.
 LONGEST = 1 << 20
+SECOND = 1000000
+# The year 10000, which has no such form.
+END_OF_TIME = 253402300800 * SECOND
+SENT, RECEIVED = "sent", "received"
+# How much of a part of a capture an error names, in characters.
+MOST_NAMED = 40
 
 
 class Comment(str):
@@ -42,10 +49,21 @@ class Usage(Stop):
     status = 2
 
 
-def time_comment(seconds: int, microseconds: int) -> Comment:
-    """A time, which stands in front of what was received then."""
-    moment = datetime.datetime.fromtimestamp(seconds, datetime.timezone.utc)
-    return Comment(f"time {moment:%Y-%m-%dT%H:%M:%S}.{microseconds:06}Z")
+def when(microseconds: Optional[int], way: str = "") -> Iterator[Item]:
+    """A comment in front of a datagram: when it went, since 1970, and which way, as far as either
+    is known."""
+    words = [way] if way else []
+    if microseconds is not None and 0 <= microseconds < END_OF_TIME:
+        seconds, rest = divmod(microseconds, SECOND)
+        moment = datetime.datetime.fromtimestamp(seconds, datetime.timezone.utc)
+        words.insert(0, f"{moment:%Y-%m-%dT%H:%M:%S}.{rest:06}Z")
+    if words:
+        yield Comment(" ".join(words))
+
+
+def dropped(why: str) -> Comment:
+    """What stands where datagrams are missing."""
+    return Comment(f"dropped: {why}")
 
 
 def cut(place: str, data: bytes, size: Optional[int]) -> Iterator[Item]:
@@ -76,13 +94,24 @@ def write(items: Iterator[Item]) -> int:
 
 
 def put(text: str) -> None:
-    """Writes all of a text at once, whether a signal comes or not."""
-    left = memoryview(text.encode())
+    """Writes all of a text at once to standard output."""
     try:
-        while left:
-            left = left[os.write(1, left):]
+        write_all(1, text.encode())
     except OSError as error:
         raise Stop(f"standard output: {error.strerror}") from None
+
+
+def write_all(file: int, data: bytes) -> None:
+    """Writes all of these bytes, whether a signal comes or not, and where the file doesn't wait
+    for room: another program may have left a pipe or a terminal so."""
+    left = memoryview(data)
+    while left:
+        try:
+            left = left[os.write(file, left):]
+        except BlockingIOError:
+            waiting = select.poll()
+            waiting.register(file, select.POLLOUT)
+            waiting.poll()
 
 
 def shown(name: str) -> str:
@@ -90,11 +119,16 @@ def shown(name: str) -> str:
     return "".join(it if it.isprintable() else it.encode("unicode_escape").decode() for it in name)
 
 
+def short(text: str) -> str:
+    """A part of a capture, as far as an error names it."""
+    return text if len(text) <= MOST_NAMED else f"{text[:MOST_NAMED]}.."
+
+
 def report(text: object) -> None:
     """Writes a line on standard error, where there is one."""
     if sys.stderr is None:
         return
     try:
-        print(f"rtnl-record: {text}", file=sys.stderr, flush=True)
+        write_all(2, f"rtnl-record: {text}\n".encode(sys.stderr.encoding, "backslashreplace"))
     except OSError:
         pass

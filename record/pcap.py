@@ -1,19 +1,19 @@
 """Captures of an nlmon device, as tcpdump and tshark write them: pcap in either byte order, with
 microseconds or nanoseconds, and pcapng. The datagrams are those of netlink packets (link type 253)
-of protocol 0, rtnetlink, without the 16 bytes in front of each. All other packets are counted on
-standard error."""
+of protocol 0, rtnetlink, without the 16 bytes in front of each, behind a comment line with the
+time. All other packets are counted on standard error."""
 import struct
 from typing import BinaryIO, Iterator
 
 import pcapng
 from cooked import Packets
-from output import Damaged, Item
+from output import SECOND, Damaged, Item
 from source import Source
 
-# The first bytes of a file, and the byte order that they say, for microseconds and nanoseconds.
+# The first bytes of a file: the byte order that they say, and the parts of a microsecond.
 MAGICS = {
-    b"\xa1\xb2\xc3\xd4": ">", b"\xd4\xc3\xb2\xa1": "<",
-    b"\xa1\xb2\x3c\x4d": ">", b"\x4d\x3c\xb2\xa1": "<",
+    b"\xa1\xb2\xc3\xd4": (">", 1), b"\xd4\xc3\xb2\xa1": ("<", 1),
+    b"\xa1\xb2\x3c\x4d": (">", 1000), b"\x4d\x3c\xb2\xa1": ("<", 1000),
 }
 # The link type shares its field with what says how long a check sum is behind each packet.
 LINK_TYPE = 0x03FFFFFF
@@ -31,12 +31,12 @@ def found(source: Source, packets: Packets) -> Iterator[Item]:
     if magic == pcapng.SECTION:
         yield from pcapng.items(source, packets)
     elif magic in MAGICS:
-        yield from classic(source, packets, MAGICS[magic])
+        yield from classic(source, packets, *MAGICS[magic])
     else:
         raise Damaged("byte 0: neither pcap nor pcapng")
 
 
-def classic(source: Source, packets: Packets, order: str) -> Iterator[Item]:
+def classic(source: Source, packets: Packets, order: str, parts: int) -> Iterator[Item]:
     """The packets behind the first bytes of a pcap file."""
     head = source.exactly(20, "byte 0", "its header")
     major, minor, link_type = struct.unpack(f"{order}HH12xI", head)
@@ -49,5 +49,6 @@ def classic(source: Source, packets: Packets, order: str) -> Iterator[Item]:
             return
         if len(head) < 16:
             raise Damaged(f"{place}: the capture ends within the header of a packet")
-        kept, size = struct.unpack_from(f"{order}II", head, 8)
-        yield from packets.items(source, place, link_type & LINK_TYPE, kept, size)
+        seconds, rest, kept, size = struct.unpack(f"{order}IIII", head)
+        time = seconds * SECOND + rest // parts
+        yield from packets.items(source, place, link_type & LINK_TYPE, kept, size, time)

@@ -1,32 +1,62 @@
 """The blocks of a pcapng file. Each section has a byte order and interfaces of its own."""
 import struct
-from typing import Iterator, List, NamedTuple
+from typing import Iterator, List, NamedTuple, Optional, Tuple
 
-from cooked import Packets
-from output import Damaged, Item
+from cooked import NETLINK, Packets
+from output import SECOND, Damaged, Item, Loss, dropped
 from source import Source
 
 # The first bytes of a section are the same in either order; the order is said behind its length.
 SECTION = b"\x0a\x0d\x0d\x0a"
 ORDERS = {b"\x1a\x2b\x3c\x4d": ">", b"\x4d\x3c\x2b\x1a": "<"}
-INTERFACE, PACKET, SIMPLE, ENHANCED = 1, 2, 3, 6
+INTERFACE, PACKET, SIMPLE, STATISTICS, ENHANCED = 1, 2, 3, 5, 6
 # What a block has beside its body: its type, and its length in front and behind.
 FRAME = 12
 # What a section's body begins with: its byte order, its version and its length, which isn't used.
 BEGINNING = 16
+# Options: of an interface the parts of a second and the second of time 0; of a packet how many
+# were dropped before it; of statistics how many the interface and the system have dropped.
+RESOLUTION, OFFSET, DROPS = 9, 14, 4
+DROPPED = (5, 7)
+# A number of drops that says nothing.
+UNKNOWN = 0xFFFF
 
 
-class Interface(NamedTuple):
-    link_type: int
-    longest: int
+class Interface:
+    """What is said of an interface, and how many packets it is known to have dropped."""
+
+    def __init__(self, link_type: int, longest: int) -> None:
+        self.link_type, self.longest = link_type, longest
+        self.parts, self.offset, self.drops = SECOND, 0, 0
+
+    def take(self, code: int, value: bytes, order: str) -> None:
+        """Takes an option."""
+        if code == RESOLUTION and len(value) == 1:
+            base = 2 if value[0] & 0x80 else 10
+            self.parts = base ** (value[0] & 0x7F)
+        elif code == OFFSET and len(value) == 8:
+            self.offset, = struct.unpack(f"{order}q", value)
+
+    def time(self, high: int, low: int) -> int:
+        """A time in microseconds."""
+        return (high << 32 | low) * SECOND // self.parts + self.offset * SECOND
+
+    def lost(self, place: str, count: int) -> Iterator[Item]:
+        """So many more packets were dropped, some of which may have been for rtnetlink."""
+        if count > 0 and self.link_type == NETLINK:
+            self.drops += count
+            packets = f"{count} packet{'s' if count > 1 else ''}"
+            yield dropped(f"{packets}, as the capture says")
+            yield Loss(f"{place}: the capture says that {packets} were dropped")
 
 
 class Block(NamedTuple):
-    """A block's place, its type, and the size of its body."""
+    """A block's place, its type, the size of its body, and where that ends."""
 
     place: str
     kind: int
     size: int
+    end: int
 
 
 class Section:
@@ -38,22 +68,25 @@ class Section:
 
     def items(self, block: Block) -> Iterator[Item]:
         """What a block gives. All of its body is read."""
-        begin = self.source.place
         if block.kind == INTERFACE:
-            link_type, longest = self.fields(block, "HxxI")
-            self.interfaces.append(Interface(link_type, longest))
+            interface = Interface(*self.fields(block, "HxxI"))
+            self.interfaces.append(interface)
+            for code, value in self.options(block):
+                interface.take(code, value, self.order)
         elif block.kind == ENHANCED:
-            number, kept, size = self.fields(block, "I8xII")
-            yield from self.packet(block, 20, number, kept, size)
+            number, *time, kept, size = self.fields(block, "IIIII")
+            yield from self.packet(block, number, kept, size, time)
         elif block.kind == PACKET:
-            number, kept, size = self.fields(block, "Hxx8xII")
-            yield from self.packet(block, 20, number, kept, size)
+            number, drops, *time, kept, size = self.fields(block, "HHIIII")
+            yield from self.packet(block, number, kept, size, time, drops)
         elif block.kind == SIMPLE:
             size, = self.fields(block, "I")
             longest = self.interface(block, 0).longest or size
-            yield from self.packet(block, 4, 0, min(size, longest), size)
-        left = block.size - (self.source.place - begin)
-        self.source.skip(left, block.place, "a block")
+            yield from self.packet(block, 0, min(size, longest), size)
+        elif block.kind == STATISTICS and block.size >= 12:
+            number, = self.fields(block, "I8x")
+            yield from self.statistics(block, number)
+        self.source.skip(block.end - self.source.place, block.place, "a block")
 
     def fields(self, block: Block, form: str) -> List[int]:
         """The numbers at the front of a block's body."""
@@ -68,14 +101,44 @@ class Section:
             raise Damaged(f"{block.place}: a packet of the unknown interface {number}")
         return self.interfaces[number]
 
-    def packet(self, block: Block, front: int, number: int, kept: int,
-               size: int) -> Iterator[Item]:
-        """What the packet gives that stands behind the front of a block's body."""
-        link_type = self.interface(block, number).link_type
-        if kept > block.size - front:
+    def options(self, block: Block) -> Iterator[Tuple[int, bytes]]:
+        """The options up to the end of a block, as far as they are whole, and their bytes, none of
+        a long one."""
+        while block.end - self.source.place >= 4:
+            head = self.source.exactly(4, block.place, "a block")
+            code, size = struct.unpack(f"{self.order}HH", head)
+            if code == 0 or size + 3 & ~3 > block.end - self.source.place:
+                return
+            if size > 8:
+                self.source.skip(size + 3 & ~3, block.place, "a block")
+                continue
+            yield code, self.source.exactly(size + 3 & ~3, block.place, "a block")[:size]
+
+    def packet(self, block: Block, number: int, kept: int, size: int,
+               time: Optional[List[int]] = None, drops: int = UNKNOWN) -> Iterator[Item]:
+        """What the packet gives whose numbers were read, which stand in front of it."""
+        interface = self.interface(block, number)
+        if kept > block.end - self.source.place:
             raise Damaged(f"{block.place}: {kept} bytes of a packet in a block of "
                           f"{block.size + FRAME}")
-        yield from self.packets.items(self.source, block.place, link_type, kept, size)
+        found = [*self.packets.items(self.source, block.place, interface.link_type, kept, size,
+                                     interface.time(*time) if time else None)]
+        if block.kind == ENHANCED:
+            self.source.skip(-kept % 4, block.place, "a block")
+            for code, value in self.options(block):
+                if code == DROPS and len(value) == 8:
+                    drops, = struct.unpack(f"{self.order}Q", value)
+        yield from interface.lost(block.place, drops if drops != UNKNOWN else 0)
+        yield from found
+
+    def statistics(self, block: Block, number: int) -> Iterator[Item]:
+        """What an interface has dropped in all, beyond what is known."""
+        count = sum(struct.unpack(f"{self.order}Q", value)[0]
+                    for code, value in self.options(block)
+                    if code in DROPPED and len(value) == 8)
+        if number < len(self.interfaces):
+            interface = self.interfaces[number]
+            yield from interface.lost(block.place, count - interface.drops)
 
 
 def items(source: Source, packets: Packets) -> Iterator[Item]:
@@ -90,7 +153,7 @@ def items(source: Source, packets: Packets) -> Iterator[Item]:
         size = length - FRAME - (BEGINNING if kind == SECTION else 0)
         if size < 0 or length % 4:
             raise Damaged(f"{place}: a block of {length} bytes")
-        found = [*section.items(Block(place, number, size))]
+        found = [*section.items(Block(place, number, size, source.place + size))]
         if source.exactly(4, place, "a block") != lengths:
             raise Damaged(f"{place}: the lengths of a block differ")
         yield from found

@@ -1,10 +1,10 @@
-"""Files of rtmon: messages, each of which is taken as a datagram. The times that stand between
-them become comment lines."""
+"""Files of rtmon: messages, each of which is taken as a datagram. A comment line in front of each
+has the last time that the file gives before it."""
 import struct
 import sys
 from typing import BinaryIO, Iterator
 
-from output import LONGEST, Damaged, Item, time_comment
+from output import LONGEST, RECEIVED, SECOND, Damaged, Item, when
 from source import Source
 
 HEADER = 16
@@ -14,7 +14,7 @@ ORDERS = {"little": "<", "big": ">"}
 
 def items(file: BinaryIO) -> Iterator[Item]:
     """Each message, with the bytes that align it."""
-    source, order = Source(file), ""
+    source, order, time = Source(file), "", None
     while True:
         place = f"byte {source.place}"
         head = source.up_to(HEADER)
@@ -29,8 +29,10 @@ def items(file: BinaryIO) -> Iterator[Item]:
         aligned = length + 3 & ~3
         data = head + source.exactly(aligned - HEADER, place, f"a message of {length} bytes")
         if kind == TIME and length == HEADER + 8:
-            yield time_comment(*struct.unpack_from(f"{order}II", data, HEADER))
+            seconds, microseconds = struct.unpack_from(f"{order}II", data, HEADER)
+            time = seconds * SECOND + microseconds
         else:
+            yield from when(time, RECEIVED)
             yield data
 
 

@@ -48,4 +48,4 @@ def lines(file: BinaryIO, encoding: str) -> Iterator[Tuple[int, str]]:
         number += 1
         if len(line) > LONGEST_LINE:
             raise Damaged(f"line {number}: longer than {LONGEST_LINE} bytes")
-        yield number, line.decode(encoding, "replace").rstrip("\r\n")
+        yield number, line.rstrip(b"\r\n").decode(encoding, "replace")

@@ -1,9 +1,10 @@
 #!/usr/bin/env bash
 # Runs rtnl-record. Its arguments; the traces in tests/rtnl_record/, which strace wrote of small programs, where the
 # expected lines are cut from the bytes that it printed; captures of a live kernel in examples/, and what tools make
-# of them; captures that are made by hand, and changed at random; and the kernel itself, in a network namespace of
-# its own, where the machine allows one, with what `ip` makes there. A part that can't run says so and isn't
-# counted. The last line is 'N passed, M failed', and the status is 1 where a case failed.
+# of them; captures that are made by hand, and changed at random; its completions, in shells at a terminal; and the
+# kernel itself, in a network namespace of its own, where the machine allows one, with what `ip` makes there. A part
+# that can't run says so and isn't counted. The last line is 'N passed, M failed', and the status is 1 where a case
+# failed.
 set -u
 cd "$(dirname "${BASH_SOURCE[0]}")/.." || exit 1
 
@@ -11,7 +12,8 @@ program=$(tests/helpers/proved.py) || exit 1
 
 # All runs in the namespace, if there can be one.
 if [ "${1-}" != inside ]; then
-  tests/helpers/install_packages.sh ip iproute2 strace strace xxd xxd hexdump bsdextrautils tshark tshark tcpdump tcpdump
+  tests/helpers/install_packages.sh ip iproute2 strace strace xxd xxd hexdump bsdextrautils tshark tshark tcpdump tcpdump \
+    zsh zsh fish fish
   for way in -n -rn; do
     unshare "$way" ip link set lo up 2>/dev/null && exec unshare "$way" tests/rtnl_record.sh inside
   done
@@ -58,7 +60,10 @@ counts() {
 . tests/rtnl_record/captures.sh
 counts tests/rtnl_record/made.py
 counts tests/rtnl_record/answers.py
+counts tests/rtnl_record/drops.py
+counts tests/rtnl_record/slow.py
 counts tests/rtnl_record/fuzz.py
+counts tests/rtnl_record/completions.py
 if [ "${1-}" = inside ]; then
   . tests/rtnl_record/live.sh
 else

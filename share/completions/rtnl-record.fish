@@ -1,5 +1,13 @@
 # Completion of the command rtnl-record in fish.
 
+# The network namespaces. Behind a blank a name that begins with - would be an option. Fish takes what
+# is behind a tab for a description, and ~ for a home folder.
+function __rtnl_record_namespaces
+    set -l names (ip netns list 2>/dev/null | string replace -r ' \(id: \d+\)$' '')
+    string match -q -- '--netns=*' (commandline -ct); or set names (string match -v -- '-*' $names)
+    string match -rv -- '^~|\t' $names
+end
+
 set -l commands dump monitor pcap rtmon strace xxd
 set -l groups all address route rule link notify neigh tc ipv4_ifaddr ipv4_mroute \
     ipv4_route ipv4_rule \
@@ -28,7 +36,7 @@ complete -c rtnl-record -n $read -F
 complete -c rtnl-record -n $dump -a 'link addr route neigh rule'
 complete -c rtnl-record -n $dump -l family -x -d 'Address family of the request'
 complete -c rtnl-record -n $dump -l buffer -x -d 'Size of the buffer for a datagram'
-complete -c rtnl-record -n $asking -l netns -x -a '(ip netns list 2>/dev/null | cut -d " " -f 1)' \
+complete -c rtnl-record -n $asking -l netns -x -a '(__rtnl_record_namespaces)' \
     -d 'Network namespace'
 complete -c rtnl-record -n $monitor -a "$groups"
 complete -c rtnl-record -n $monitor -l time -d 'Print the time before each datagram'

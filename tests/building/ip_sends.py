@@ -160,7 +160,8 @@ def last_request(command: str) -> str:
                        stderr=subprocess.DEVNULL, stdout=subprocess.DEVNULL, check=False)
         lines = subprocess.run([f"{ROOT}/rtnl-record", "strace", trace.name],
                                capture_output=True, text=True, check=True).stdout.splitlines()
-    sent = [data for note, data in zip(lines, lines[1:]) if note == "# sent"]
+    said = [it for it in lines if not it.startswith("# cut")]
+    sent = [data for note, data in zip(said, said[1:]) if note == "# sent"]
     return without_seq(bytes.fromhex(sent[-1]))
 
 

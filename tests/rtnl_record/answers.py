@@ -32,7 +32,7 @@ def code(number: int) -> bytes:
 
 LINK = message(16, bytes(16))
 DONE = message(3, code(0))
-FIRST = f"# seq 1 port {PORT}"
+FIRST = f"# seq 1 port {PORT} kind link"
 
 
 class Socket:

@@ -73,6 +73,22 @@ prints_at_once() {
 check 'pcap as it comes' prints_at_once pcap examples/links.pcap
 check 'rtmon as it comes' prints_at_once rtmon examples/links.rtmon
 
+# takes_own_folder PROGRAM: where it is installed it takes its own folder alone, whatever else lies beside it.
+takes_own_folder() {
+  local prefix=$folder/prefix line='raise SystemExit("another module")' module
+  mkdir -p "$prefix/bin/record" "$prefix/share/rtnl-record" && cp rtnl-record "$prefix/bin" &&
+    cp record/*.py "$prefix/share/rtnl-record" && ln -s prefix/bin/rtnl-record "$folder/linked" || return
+  for module in argparse commands signal typing; do
+    echo "$line" | tee "$prefix/bin/$module.py" >"$prefix/bin/record/$module.py"
+  done
+  [ "$("$1" xxd examples/rules.xxd)" = "$(record xxd examples/rules.xxd)" ]
+}
+check 'its own folder' takes_own_folder "$folder/prefix/bin/rtnl-record"
+rm -rf "$folder/prefix" "$folder/linked"
+check 'its own folder, through a link' takes_own_folder "$folder/linked"
+rm -rf "$folder/prefix/share"
+check 'its folder is missing' ends 3 '' 'rtnl-record: its modules are missing' "$folder/prefix/bin/rtnl-record" --help
+
 # All modules are of Python 3.8.
 is_of_old_python() {
   python3 -B - rtnl-record record/*.py tests/rtnl_record/*.py <<'PY'

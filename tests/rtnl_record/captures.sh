@@ -41,18 +41,21 @@ if has tshark 'captures that tshark writes'; then
   check 'tshark -x of links.pcap' shows_same examples/links.hex dumped_by_tshark examples/links.pcap
 fi
 
+# at_zero: each line behind the time of the packets of links.pcap.
+at_zero() { sed 's/^/# 1970-01-01T00:00:00.000000Z\n/'; }
+
 # A capture of Ethernet beside netlink, and one that was cut at the front of its second packet.
 if has text2pcap 'a capture of Ethernet' && has mergecap 'a capture of Ethernet'; then
   merged() {
     echo '0000 ff ff ff ff ff ff 02 00 00 00 00 01 08 06 00 00' |
       text2pcap -q - "$folder/ethernet" 2>/dev/null &&
       mergecap -a -F pcapng -w "$folder/merged" "$folder/ethernet" examples/links.pcap &&
-      ends 0 "$(<examples/links.hex)" "rtnl-record: $folder/merged: left out: 1 packet of link type 1" \
+      ends 0 "$(at_zero <examples/links.hex)" "rtnl-record: $folder/merged: left out: 1 packet of link type 1" \
         record pcap "$folder/merged"
   }
   check 'Ethernet beside netlink' merged
 fi
-check 'links.pcap without its end' ends 1 "$(head -n 1 examples/links.hex)" \
+check 'links.pcap without its end' ends 1 "$(head -n 1 examples/links.hex | at_zero)" \
   'rtnl-record: standard input: byte 1524: the capture ends within a packet of 36 bytes' \
   record pcap - < <(head -c -1 examples/links.pcap)
 
@@ -62,11 +65,14 @@ is_rtmon() {
   record rtmon "$1" >"$folder/recording" &&
     diff <(xxd -p -c0 "$1" | "$program" show | without_datagrams) \
       <("$program" show "$folder/recording" | without_datagrams) &&
-    [ "$(grep -c '^# time 20..-..-..T..:..:..\.......Z$' "$folder/recording")" = "$(times_of "$1")" ] &&
     [ "$("$program" show "$folder/recording" | grep -c ^datagram)" = \
-      "$("$program" show "$folder/recording" | grep -c ^message)" ]
+      "$("$program" show "$folder/recording" | grep -c ^message)" ] && are_timed <"$folder/recording"
 }
-times_of() { xxd -p -c0 "$1" | "$program" show | grep -c '^message 15 other '; }
+# are_timed: each datagram stands behind a line with its time.
+are_timed() {
+  ! sed -E 's/^# 20..-..-..T..:..:..\.......Z received$/time/; s/^[0-9a-f]+$/datagram/' | paste - - |
+    grep -vx $'time\tdatagram'
+}
 check 'links.rtmon' is_rtmon examples/links.rtmon
 
 rows_joined examples/rules.strace 11 58 '^[0-9]' | grep . >"$folder/rules"
@@ -76,7 +82,8 @@ check 'rules.strace has both ways' [ "$(record strace examples/rules.strace | gr
 rows_joined examples/rules.xxd 11 49 '^00000000' | grep . >"$folder/rules"
 check 'rules.xxd' shows_same "$folder/rules" record xxd examples/rules.xxd
 check 'changes.hex' [ "$("$program" check examples/changes.hex | grep -c ' canonical$')" = \
-  "$(grep -c '^# time ' examples/changes.hex)" ]
+  "$(grep -c '^# .*Z received$' examples/changes.hex)" ]
+check 'times of changes.hex' are_timed < <(sed 1d examples/changes.hex)
 
 # dumped_by COMMAND..: what the command prints of the bytes of each line of routes.hex.
 dumped_by() {
@@ -94,4 +101,14 @@ if has hexdump 'dumps of hexdump'; then
   check 'hexdump -C -v' shows_same examples/routes.hex dumped_by hexdump -C -v
   check 'hexdump' shows_same examples/routes.hex dumped_by hexdump
   check 'hexdump -v' shows_same examples/routes.hex dumped_by hexdump -v
+fi
+
+# Times are those that tshark has of the same packets.
+has_times_of_tshark() {
+  diff <(tshark -r "$1" -T fields -e frame.time_epoch 2>/dev/null | while read -r time; do
+    date -u -d "@$time" +'# %FT%T.%6NZ'
+  done) <(record pcap "$1" | grep '^#')
+}
+if has tshark 'times of captures'; then
+  for name in links.pcap addresses.pcapng; do check "times of $name" has_times_of_tshark "examples/$name"; done
 fi

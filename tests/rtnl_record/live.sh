@@ -10,7 +10,8 @@ is_made() {
 
 # tabled FILE KIND: the table of a recorded dump, which is complete.
 tabled() {
-  "$program" table --kind "$2" --seq 1 --port "$(sed -n '1s/^# seq 1 port //p' "$1")" "$1" >"$folder/table" &&
+  "$program" table --kind "$2" --seq 1 --port "$(sed -nE "1s/^# seq 1 port ([0-9]+) kind $2\$/\1/p" "$1")" "$1" \
+    >"$folder/table" &&
     [ "$(tail -1 "$folder/table")" = 'complete yes' ]
 }
 
@@ -126,10 +127,10 @@ is_timed() {
   local before after
   before=$(date -u +%FT%T.%6N)
   notifies '20 21' --time address && [ ! -s "$folder/errors" ] &&
-    [ "$(sed -E '1d; s/^# time .*Z$/time/; s/^[0-9a-f]+$/datagram/' "$folder/recording" | xargs)" = \
+    [ "$(sed -E '1d; s/^# 2.*Z received$/time/; s/^[0-9a-f]+$/datagram/' "$folder/recording" | xargs)" = \
       'time datagram time datagram' ] || return
   after=$(date -u +%FT%T.%6N)
-  printf '%s\n' "$before" $(sed -n 's/^# time \(.*\)Z$/\1/p' "$folder/recording") "$after" | sort -c
+  printf '%s\n' "$before" $(sed -n 's/^# \(.*\)Z received$/\1/p' "$folder/recording") "$after" | sort -c
 }
 
 # A group above 32 is joined, too: that of multicast addresses, which newer kernels have.
@@ -143,14 +144,23 @@ link.setsockopt(socket.IPPROTO_IP, socket.IP_ADD_MEMBERSHIP,
                 socket.inet_aton("239.1.2.3") + socket.inet_aton("192.0.2.1"))'
 }
 
-# Notifications that the kernel drops while nobody receives are said, and what comes later is recorded.
+# Notifications that the kernel drops while nobody receives are said behind those that it has queued, and what comes
+# later is recorded.
 tells_lost_notifications() {
   begins_monitor neigh && kill -STOP "$monitor" &&
     seq 9000 | sed 's/.*/neigh replace 2001:db8::2:& lladdr 02:00:00:00:00:01 dev lo/' | ip -batch - &&
-    kill -CONT "$monitor" && lines_come "$folder/errors" 1 && soon hears_again && ends_monitor INT &&
-    grep -qx '# the kernel dropped messages here' "$folder/recording" &&
-    ! grep -vx 'rtnl-record: the kernel dropped messages, since they were not received soon enough' \
-      "$folder/errors"
+    kill -CONT "$monitor" && lines_come "$folder/errors" 1 && soon hears_again || return
+  ends_monitor INT
+  [ $? = 1 ] && is_at_its_place && [ "$(<"$folder/errors")" = \
+    'rtnl-record: the kernel dropped messages, since they were not received soon enough' ]
+}
+is_at_its_place() {
+  local loss='# dropped: the kernel had no room for messages here'
+  sed "/^$loss\$/,\$d" "$folder/recording" | "$program" show | grep -o 'ipv6 2001:0db8.*' >"$folder/before" &&
+    sed "1,/^$loss\$/d" "$folder/recording" | "$program" show | grep -o 'ipv6 2001:0db8.*' >"$folder/behind" &&
+    [ "$(grep -cx "$loss" "$folder/recording")" = 1 ] && ! grep -q ':0002:' "$folder/behind" &&
+    seq "$(wc -l <"$folder/before")" | sed 's/.*/000&/; s/.*\(....\)$/ipv6 2001:0db8:0000:0000:0000:0000:0002:\1/' |
+    diff - "$folder/before"
 }
 hears_again() {
   ip -6 neigh replace 2001:db8::9 lladdr 02:00:00:00:00:02 dev lo &&
@@ -175,6 +185,13 @@ is_traced() {
   strace -f -o "$folder/trace" -e trace=network -e read=all -e write=all \
     ./rtnl-record dump rule >"$folder/recording" &&
     record strace "$folder/trace" | grep -A 1 received | grep -v '^[#-]' | diff - <(grep -v '^#' "$folder/recording")
+}
+
+# What `ip` and `bridge` ask for is taken of a trace, though some requests have zero bytes behind them.
+takes_requests() {
+  strace -f -o "$folder/trace" -e trace=network -e read=all -e write=all "$@" >/dev/null &&
+    record strace "$folder/trace" >"$folder/recording" 2>"$folder/errors" && [ ! -s "$folder/errors" ] &&
+    grep -q '^# sent$' "$folder/recording" && "$program" check "$folder/recording" >"$folder/checked"
 }
 
 if is_made; then
@@ -219,6 +236,8 @@ if is_made; then
   if strace -o /dev/null true 2>/dev/null; then
     check 'a trace of rtnl-record' is_traced
     for kind in link addr route neigh rule; do check "the request for $kind" asks_as "$kind" 10; done
+    for kind in link addr route neigh rule; do check "a trace of ip $kind" takes_requests ip "$kind"; done
+    check 'a trace of bridge fdb' takes_requests bridge fdb
   else
     echo 'skipped: a trace of rtnl-record, since strace is not here or may not trace'
   fi

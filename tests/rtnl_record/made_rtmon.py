@@ -1,4 +1,5 @@
-"""Files of rtmon: messages as rtmon.c writes them, each aligned, behind times of type 15."""
+"""Files of rtmon: messages as rtmon.c writes them, each aligned, behind times of type 15, which it
+writes once before a dump, and before each message later."""
 import struct
 from typing import Iterator
 
@@ -10,25 +11,26 @@ def message(kind: int, body: bytes, order: str = "<") -> bytes:
     return struct.pack(f"{order}IHHII", length, kind, 0, 0, 0) + body + bytes(-length % 4)
 
 
-def moment(order: str = "<") -> bytes:
-    """1,700,000,000 seconds and 42 microseconds after 1970."""
-    return message(15, struct.pack(f"{order}II", 1700000000, 42), order)
+def moment(order: str = "<", part: int = 42) -> bytes:
+    """1,700,000,000 seconds and some microseconds after 1970."""
+    return message(15, struct.pack(f"{order}II", 1700000000, part), order)
 
 
 def cases() -> Iterator[Case]:
-    time = "# time 2023-11-14T22:13:20.000042Z\n"
+    time, later = (f"# 2023-11-14T22:13:20.0000{it}Z received\n" for it in (42, 43))
     for order in "<>":
         odd = message(16, b"12345", order)
-        yield Case(f"rtmon {order}", ["rtmon", "-"], moment(order) + odd + moment(order), 0,
-                   f"{time}{odd.hex()}\n{time}")
+        yield Case(f"rtmon {order}", ["rtmon", "-"],
+                   moment(order) + odd + odd + moment(order, 43) + odd + moment(order), 0,
+                   f"{time}{odd.hex()}\n{time}{odd.hex()}\n{later}{odd.hex()}\n")
     # A type 15 of another size is no time; a first message that is none says nothing of the order.
     other = message(15, b"1234")
     yield Case("rtmon without a time", ["rtmon", "-"], other + ONE, 0,
-               f"{other.hex()}\n{ONE.hex()}\n")
+               f"# received\n{other.hex()}\n# received\n{ONE.hex()}\n")
     yield Case("rtmon of nothing", ["rtmon", "-"], b"", 0, "")
     yield Case("rtmon of a strange time", ["rtmon", "-"],
-               message(15, struct.pack("<II", 0xFFFFFFFF, 0xFFFFFFFF)), 0,
-               "# time 2106-02-07T06:28:15.4294967295Z\n")
+               message(15, struct.pack("<II", 0xFFFFFFFF, 0xFFFFFFFF)) + ONE, 0,
+               f"# 2106-02-07T07:39:49.967295Z received\n{ONE.hex()}\n")
     for name, capture, line in (
             ("half a header", TWO[:15], "the capture ends within the header of a message"),
             ("half a message", ONE[:-1], "the capture ends within a message of 20 bytes"),

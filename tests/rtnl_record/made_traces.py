@@ -48,6 +48,8 @@ def whole() -> Iterator[Case]:
                 ["12:00:01.5 socket(AF_NETLINK, SOCK_RAW, NETLINK_ROUTE) = 3<NETLINK:[77]> <0.1>",
                  "7  12:00:02.5 recv(3<NETLINK:[ROUTE:7]>, [...], 65536, 0)  = 20 <0.000012>",
                  *ROWS], 0, RECEIVED)
+    yield from timed()
+    yield from dropping()
     yield trace("another socket", [OTHER, recv, *ROWS], 1, "", NOTHING)
     yield trace("a file of the same number",
                 [OPENED, "close(3) = 0", "read(3, \"...\", 99) = 20", *ROWS], 1, "", NOTHING)
@@ -57,6 +59,51 @@ def whole() -> Iterator[Case]:
     yield trace("a number with 5000 digits", [OPENED, f"recv(3, 0x1, 1, 0) = {'1' * 5000}"], 1, "",
                 NOTHING)
     yield trace("nothing", [], 1, "", NOTHING)
+
+
+def timed() -> Iterator[Case]:
+    """Times since 1970, as -ttt has them, and others."""
+    recv, time = "recv(3, [...], 65536, 0) = 20", "1700000000.000042"
+    line = f"# 2023-11-14T22:13:20.000042Z received\n{ONE.hex()}\n"
+    for name, front in (("a time", time), ("a process and a time", f"7  {time}"),
+                        ("a process in brackets and a time", f"[pid   7] {time}"),
+                        ("a time of nanoseconds", f"{time}999")):
+        yield trace(name, [OPENED, f"{front} {recv}", *ROWS], 0, line)
+    yield trace("a time of milliseconds", [OPENED, f"1700000000.042 {recv}", *ROWS], 0,
+                f"# 2023-11-14T22:13:20.042000Z received\n{ONE.hex()}\n")
+    yield trace("the time of a request",
+                [OPENED, f"{time} send(3, [...], 16, 0) = 16", *SHORT, recv, *ROWS], 0,
+                f"# 2023-11-14T22:13:20.000042Z sent\n{TWO.hex()}\n{RECEIVED}")
+    yield trace("the time at which a call ends",
+                [OPENED, f"7 1600000000.000001 {recv[:20]} <unfinished ...>",
+                 f"7 {time} <... recv resumed>{recv[20:]}", *ROWS], 0, line)
+    for name, front in (("of a day", "22:13:20.000042"),
+                        ("since the call before", "     0.000042"),
+                        ("behind the year 9999", "999999999999.000042")):
+        yield trace(f"a time {name}", [OPENED, f"{front} {recv}", *ROWS], 0, RECEIVED)
+
+
+def dropping() -> Iterator[Case]:
+    """Messages that the kernel dropped: it says so in front of those that wait, and what is behind
+    them is missing."""
+    recv = ["recv(3, [...], 65536, 0) = 20", *ROWS]
+    full = "recvmsg(3, {msg_namelen=12}, 0) = -1 ENOBUFS (No buffer space available)"
+    none = "recv(3, 0x1, 20, 0) = -1 EAGAIN (Resource temporarily unavailable)"
+    line, loss = "# dropped: the kernel had no room for messages here\n", (
+        "line 2: the kernel dropped messages for the program")
+    for name, lines, output, losses in (
+            ("up to where none waits", [full, *recv, none, *recv], RECEIVED + line + RECEIVED, 1),
+            ("up to a close", [full, *recv, "close(3) = 0"], RECEIVED + line, 1),
+            ("up to the end", [full, *recv], RECEIVED + line, 1),
+            ("of another file", [full.replace("(3", "(4"), *recv, none], RECEIVED, 0),
+            ("in two lines", [f"7 {full[:30]} <unfinished ...>",
+                              f"7 <... recvmsg resumed>{full[30:]}", *recv, none],
+             RECEIVED + line, 2)):
+        errors = loss.replace("line 2", f"line {losses + 1}")
+        yield trace(f"dropped, {name}", [OPENED, *lines], int(losses > 0), output,
+                    said(errors) if losses else "")
+    yield trace("dropped twice", [OPENED, full, *recv, full, none], 1, RECEIVED + line + line,
+                said(loss, loss.replace("line 2", "line 6")))
 
 
 def damaged() -> Iterator[Case]:
@@ -71,6 +118,12 @@ def damaged() -> Iterator[Case]:
     ):
         yield trace(name, [*front, recv, ROWS[0], row, "close(3) = 0"], 1, SENT,
                     said("line 6: no row of bytes"))
+    for place in ("0x10", "-0", "+0", "1_0", "0\f", "\f0", "0\t", "0 0", ""):
+        yield trace(f"a place {place!r}", [*front, recv, ROWS[0].replace("00000", place)], 1, SENT,
+                    said("line 5: no row of bytes"))
+    yield trace("a form feed between pairs",
+                [*front, recv, ROWS[0].replace("14 00", "14\f00")], 1, SENT,
+                said("line 5: no row of bytes"))
     yield trace("a row that was left out", [*front, recv, ROWS[1]], 1, SENT,
                 said("line 5: a row is missing before the one of place 00010"))
     yield trace("a last row that was left out", [*front, recv, ROWS[0]], 1, SENT,
