@@ -242,19 +242,22 @@ def endings():
             [PROGRAM, "follow"], input=FINISH.encode(), stdout=full, stderr=subprocess.PIPE
         )
     found = (run.returncode, run.stderr)
-    yield "a full device", [] if found == (3, b"rtnl: write fault\n") else [f"{found}"]
+    wanted = b"rtnl: write fault\nrtnl: standard output: No space left on device (os error 28)\n"
+    yield "a full device", [] if found == (3, wanted) else [f"{found}"]
     following = Followed()
     following.feed(FINISH)
     following.read(len(FINISH_TEXT.format(1)))
     following.run.stdout.close()
     following.feed(FINISH)
     status, errors = following.run.wait(PATIENCE), following.run.stderr.read()
-    wrong = [] if (status, errors) == (3, b"rtnl: write fault\n") else [f"{status}, {errors}"]
+    wanted = b"rtnl: write fault\nrtnl: standard output: Broken pipe (os error 32)\n"
+    wrong = [] if (status, errors) == (3, wanted) else [f"{status}, {errors}"]
     following.run.stdin.close()
     following.run.stderr.close()
     yield "a reader that has gone", wrong
     found = ran(b"", "follow", "/")
-    wrong = [] if found == (b"", 3, "rtnl: /: read fault\n") else [f"{found}"]
+    wanted = "rtnl: read fault\nrtnl: /: Is a directory (os error 21)\n"
+    wrong = [] if found == (b"", 3, wanted) else [f"{found}"]
     yield "a directory", wrong
 
 

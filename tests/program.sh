@@ -143,9 +143,23 @@ whole_get="$short_get 000000"
 padded_by_one='28000000 1000 0200 01000000 39300000 00000000 00000000 00000000 00000000 06000300 6c6f0100'
 padded_by_zeros='28000000 1000 0200 01000000 39300000 00000000 00000000 00000000 00000000 06000300 6c6f0000'
 
-read_fault='rtnl: read fault'
-write_fault='rtnl: write fault'
+# The fixed lines, and the reasons behind them.
+missing='No such file or directory (os error 2)'
+is_folder='Is a directory (os error 21)'
+closed='Bad file descriptor (os error 9)'
+full_device=$'rtnl: write fault\nrtnl: standard output: No space left on device (os error 28)'
+closed_output=$'rtnl: write fault\nrtnl: standard output: Bad file descriptor (os error 9)'
+no_reader=$'rtnl: write fault\nrtnl: standard output: Broken pipe (os error 32)'
 bad_first_line='rtnl: line 1: bad line'
+
+# unread NAME REASON: what is said of a recording that can't be read.
+unread() { printf 'rtnl: read fault\nrtnl: %s: %s\n' "$@"; }
+
+# too_long NAME
+too_long() { unread "$1" 'longer than 16777216 bytes; a recording can be cut at any line'; }
+
+# bad_line NUMBER FILE: what is said of a bad line of a file.
+bad_line() { printf 'rtnl: line %d: bad line\nrtnl: %s: bad line\n' "$@"; }
 
 # ---- the cases
 
@@ -158,6 +172,9 @@ bad_first_line='rtnl: line 1: bad line'
 . tests/program/colour.sh
 . tests/program/follow.sh
 . tests/program/explain.sh
+. tests/program/dropped.sh
+. tests/program/names.sh
+. tests/program/unwaited.sh
 . tests/program/terminal.sh
 . tests/program/interrupted.sh
 check 'each line of JSON is one that the schema allows' tests/schema.py "$folder/json"

@@ -219,13 +219,6 @@ def write(path: str, lines: List[str]) -> None:
         file.write("".join(f"{text}\n" for text in lines))
 
 
-def escaped(name: str) -> str:
-    """A name as it stands on standard error."""
-    for plain, shown in ("\\", "\\\\"), ('"', '\\"'), ("\t", "\\t"), ("\n", "\\n"):
-        name = name.replace(plain, shown)
-    return name
-
-
 def add(folder: str, name: str, number: int, known: Known) -> None:
     """Writes the recordings of a host, and adds what is to be found in them."""
     sort = SORTS[number % len(SORTS)]
@@ -237,7 +230,7 @@ def add(folder: str, name: str, number: int, known: Known) -> None:
         fault = f"1 hosts/{name}/{file}"
         if NO_DATAGRAM in found:
             line = content.index(NO_DATAGRAM) + 1
-            fault += f": rtnl: {escaped(f'hosts/{name}/{file}')}: line {line}: bad line"
+            fault += f": rtnl: line {line}: bad line"
         else:
             printed += found
         if file != "links.hex" and not sort.is_whole:

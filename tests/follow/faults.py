@@ -21,12 +21,14 @@ FORMS = [], ["--color", "always"], ["--format", "json"], ["--bytes"]
 FIRST = re.compile(r'^(?=datagram |\{"datagram":)', re.M)
 # What an entry of a dump begins with.
 ENTRY = re.compile(r"^(?=entry )", re.M)
-READ_FAULT, WRITE_FAULT = "rtnl: read fault\n", "rtnl: write fault\n"
-# With --explain the system's reason stands behind it, which is said in the words of strerror(3).
-EXPLAINED = {
-    "read": READ_FAULT + "rtnl: standard input: {} (os error {})\n",
-    "write": WRITE_FAULT + "rtnl: standard output: {} (os error {})\n",
-}
+# The system's reason stands behind the fixed line, in the words of strerror(3).
+READ_FAULT = "rtnl: read fault\nrtnl: standard input: {} (os error {})\n"
+NO_WRITE = "rtnl: write fault\n"
+WRITE_FAULT = NO_WRITE + "rtnl: standard output: {} (os error {})\n"
+
+
+def reason(fault: str, error: int) -> str:
+    return fault.format(os.strerror(error), error)
 
 
 def recorded():
@@ -78,7 +80,8 @@ class Faulty:
             front = self.recording[: (number - 1) * PIECE]
             whole = datagrams_of(front)
             is_made = number <= count
-            ended = (3, whole, READ_FAULT) if is_made else (0, len(self.texts), "")
+            errors = reason(READ_FAULT, errno.EIO)
+            ended = (3, whole, errors) if is_made else (0, len(self.texts), "")
             yield from self.is_as(f"read {number} {errno.EIO}", *ended)
             yield from self.is_as(f"read {number} part", 0, len(self.texts), "")
 
@@ -86,20 +89,14 @@ class Faulty:
         """Each write fails, of which each datagram has one: the texts before it are there."""
         count = len(self.texts)
         for number in range(1, count + 2):
-            is_made = number <= count
-            ended = (3, number - 1, WRITE_FAULT) if is_made else (0, count, "")
             for how in (errno.EIO, errno.ENOSPC, "none"):
+                # A write that takes no byte has no reason.
+                errors = NO_WRITE if how == "none" else reason(WRITE_FAULT, how)
+                ended = (3, number - 1, errors) if number <= count else (0, count, "")
                 yield from self.is_as(f"write {number} {how}", *ended)
-            # The rest of the text goes by a further write.
+            # The rest of the text goes by a further write, or when there is room again.
             yield from self.is_as(f"write {number} part", 0, count, "")
-
-    def reasons(self):
-        """A read and a write that fail are explained; a write that takes no byte has no reason."""
-        for call, lines in EXPLAINED.items():
-            for error in (errno.EIO, errno.EBADF):
-                errors = lines.format(os.strerror(error), error)
-                yield from self.is_as(f"{call} 1 {error}", 3, 0, errors)
-        yield from self.is_as("write 1 none", 3, 0, WRITE_FAULT)
+            yield from self.is_as(f"write {number} {errno.EAGAIN}", 0, count, "")
 
 
 class FaultyDump(Faulty):
@@ -136,7 +133,8 @@ class FaultyDump(Faulty):
         count = -(-len(self.recording) // PIECE)
         for number in range(1, count + 1):
             whole = datagrams_of(self.recording[: (number - 1) * PIECE])
-            yield from self.is_as(f"read {number} {errno.EIO}", 3, 1 + whole, READ_FAULT)
+            errors = reason(READ_FAULT, errno.EIO)
+            yield from self.is_as(f"read {number} {errno.EIO}", 3, 1 + whole, errors)
             yield from self.is_as(f"read {number} part", 0, len(self.texts), "")
 
 
@@ -152,7 +150,6 @@ def cases(folder):
         yield " ".join(["fault: what show prints", *form]), wrong
         yield from faulty.reads()
         yield from faulty.writes()
-    yield from Faulty(library, ["--explain"]).reasons()
     dump = FaultyDump(library)
     yield "fault: what table prints of the dump", dump.wrong
     yield from dump.reads()

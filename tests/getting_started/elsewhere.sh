@@ -64,7 +64,10 @@ is_long_rtmon_refused() {
 }
 
 # The bytes of a recording are no recording.
-is_no_text() { ends 1 '' "rtnl: $folder/rtmon: line 1: bad line" "$user/rtnl" show "$folder/rtmon"; }
+is_no_text() {
+  ends 1 '' "rtnl: line 1: bad line
+rtnl: $folder/rtmon: bad line" "$user/rtnl" show "$folder/rtmon"
+}
 
 # The same file by the recorder: a datagram for each message, but the times.
 is_rtmon_recorded() {

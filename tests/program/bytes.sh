@@ -401,7 +401,7 @@ usage show --bytes --bytes
 usage show --bytes=yes
 usage show --bytes --format xml
 expect 'bytes of a bad line' 1 '' "$bad_first_line" show --bytes <<<0g
-expect 'bytes of a missing file' 3 '' "rtnl: $folder/missing: read fault" show --bytes "$folder/missing"
-check 'bytes, a full device' ends 3 '' "$write_fault" into_full_device show --bytes <<<"$finish"
-check 'bytes in JSON, a full device' ends 3 '' "$write_fault" \
+expect 'bytes of a missing file' 3 '' "$(unread "$folder/missing" "$missing")" show --bytes "$folder/missing"
+check 'bytes, a full device' ends 3 '' "$full_device" into_full_device show --bytes <<<"$finish"
+check 'bytes in JSON, a full device' ends 3 '' "$full_device" \
   into_full_device show --bytes --format json <<<"$finish"

@@ -15,8 +15,8 @@ expect 'check: padding whole, and of zeros' 0 $'datagram 1 canonical\ndatagram 2
 expect 'check: a datagram too large' 1 'datagram 1 refused too large' '' check < <(zeros 65540)
 expect 'check: no datagram' 0 '' '' check </dev/null
 expect 'check: a bad line' 1 '' "$bad_first_line" check <<<'0g'
-expect 'check: a missing file' 3 '' "rtnl: $folder/missing: read fault" check "$folder/missing" <<<"$finish"
-check 'check: a full device' ends 3 '' "$write_fault" into_full_device check <<<"$finish"
+expect 'check: a missing file' 3 '' "$(unread "$folder/missing" "$missing")" check "$folder/missing" <<<"$finish"
+check 'check: a full device' ends 3 '' "$full_device" into_full_device check <<<"$finish"
 expect 'help of check' 0 "$any" '' check --help <<<"$finish"
 usage check "$folder/link" "$folder/link"
 usage check --kind link

@@ -168,7 +168,7 @@ usage show --color blue
 usage show --color
 usage show --bytes --color
 expect 'a bad line in colours' 1 '' "$bad_first_line" show --color always <<<0g
-check 'text in colours, a full device' ends 3 '' "$write_fault" \
+check 'text in colours, a full device' ends 3 '' "$full_device" \
   into_full_device show --color always <<<"$finish"
-check 'bytes in colour, a full device' ends 3 '' "$write_fault" \
+check 'bytes in colour, a full device' ends 3 '' "$full_device" \
   into_full_device show --bytes --color always <<<"$short_attribute"

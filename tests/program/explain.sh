@@ -109,14 +109,10 @@ rtnl: standard input: line 2, column 1: byte 0xef is no hexadecimal digit; the f
 expect 'explained bytes that are no byte order mark' 1 '' 'rtnl: line 1: bad line
 rtnl: standard input: line 1, column 1: byte 0xef is no hexadecimal digit; the file is binary: rtnl-record reads captures' \
   check --explain < <(printf '\xef\xbb00\n')
-expect 'a missing file, explained' 3 '' "rtnl: $folder/missing: read fault
-rtnl: $folder/missing: No such file or directory (os error 2)" check --explain "$folder/missing"
-expect 'a folder, explained' 3 '' "rtnl: $folder: read fault
-rtnl: $folder: Is a directory (os error 21)" show --explain "$folder"
-expect 'an input that is too long, explained' 3 '' 'rtnl: read fault
-rtnl: standard input: longer than 16777216 bytes; a recording can be cut at any line' show --explain < <(comment 16777217)
-check 'a full device, explained' ends 3 '' 'rtnl: write fault
-rtnl: standard output: No space left on device (os error 28)' into_full_device check --explain <<<"$done_line"
+expect 'a missing file, explained' 3 '' "$(unread "$folder/missing" "$missing")" check --explain "$folder/missing"
+expect 'a folder, explained' 3 '' "$(unread "$folder" "$is_folder")" show --explain "$folder"
+expect 'an input that is too long, explained' 3 '' "$(too_long 'standard input')" show --explain < <(comment 16777217)
+check 'a full device, explained' ends 3 '' "$full_device" into_full_device check --explain <<<"$done_line"
 check 'errors that cannot be written, explained' ends 1 'datagram 1 refused cut at 0' '' \
   with_full_errors check --explain <<<00
 

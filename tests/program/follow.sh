@@ -3,7 +3,7 @@
 expect 'follow, standard input' 0 "$finish_text" '' follow <<<"$finish"
 expect 'follow FILE' 0 "$loopback_text" '' follow "$folder/link" <<<"$finish"
 expect 'follow -' 0 "$finish_text" '' follow - <<<"$finish"
-expect 'follow ./-, which is a file' 3 '' 'rtnl: ./-: read fault' follow ./- <<<"$finish"
+expect 'follow ./-, which is a file' 3 '' "$(unread ./- "$missing")" follow ./- <<<"$finish"
 expect 'follow behind the end of options' 0 "$loopback_text" '' follow -- "$folder/link" </dev/null
 expect 'follow nothing' 0 '' '' follow </dev/null
 expect 'follow, order big' 0 "$loopback_text" '' follow --order big <<<"$loopback_big"
@@ -71,15 +71,15 @@ expect 'follow, strictly' 1 "$finish_text" 'rtnl: line 2: bad line' follow --str
 expect 'follow, strictly, no bad line' 0 "$finish_text" '' follow --strict <<<"$finish"
 printf '%s\n' zz "$loopback" >"$folder/some_bad"
 expect 'follow, a bad line of a FILE' 1 "$loopback_text" \
-  "rtnl: $folder/some_bad: line 1: bad line" follow "$folder/some_bad"
+  "$(bad_line 1 "$folder/some_bad")" follow "$folder/some_bad"
 expect 'follow, a bad line of a FILE, strictly and explained' 1 '' \
-  "rtnl: $folder/some_bad: line 1: bad line
+  "rtnl: line 1: bad line
 rtnl: $folder/some_bad: line 1, column 1: byte 0x7a is no hexadecimal digit" \
   follow --strict --explain "$folder/some_bad"
 cp "$folder/some_bad" "$folder/$odd_name"
 expect 'follow, a bad line of a FILE of an odd name' 1 "$loopback_text" \
-  "rtnl: $folder/$shown_name: line 1: bad line" follow "$folder/$odd_name"
-expect 'follow, the same, explained' 1 "$loopback_text" "rtnl: $folder/$shown_name: line 1: bad line
+  "$(bad_line 1 "$folder/$shown_name")" follow "$folder/$odd_name"
+expect 'follow, the same, explained' 1 "$loopback_text" "rtnl: line 1: bad line
 rtnl: $folder/$shown_name: line 1, column 1: byte 0x7a is no hexadecimal digit" \
   follow --explain "$folder/$odd_name"
 check 'follow, a bad line that cannot be named' ends 1 "$loopback_text" '' \
@@ -103,24 +103,21 @@ usage follow "${links[@]:1}" --entries 1
 
 # ---- what can't be read or written
 
-expect 'follow, a missing file' 3 '' "rtnl: $folder/missing: read fault" follow "$folder/missing"
-expect 'follow, a missing file, explained' 3 '' "rtnl: $folder/missing: read fault
-rtnl: $folder/missing: No such file or directory (os error 2)" follow --explain "$folder/missing"
-expect 'follow, a missing file of an odd name' 3 '' "rtnl: x$shown_name: read fault" \
+expect 'follow, a missing file' 3 '' "$(unread "$folder/missing" "$missing")" follow "$folder/missing"
+expect 'follow, a missing file, explained' 3 '' "$(unread "$folder/missing" "$missing")" follow --explain "$folder/missing"
+expect 'follow, a missing file of an odd name' 3 '' "$(unread "x$shown_name" "$missing")" \
   follow "x$odd_name"
-expect 'follow, a folder as FILE' 3 '' "rtnl: $folder: read fault" follow "$folder" <<<"$finish"
-expect 'follow, a folder as standard input' 3 '' "$read_fault" follow <"$folder"
-check 'follow, standard input closed' ends 3 '' "$read_fault" from_closed_input follow
-expect 'follow, a folder as standard input, explained' 3 '' "$read_fault
-rtnl: standard input: Is a directory (os error 21)" follow --explain <"$folder"
-check 'follow, a full device' ends 3 '' "$write_fault" into_full_device follow <<<"$finish"
-check 'follow, a full device, explained' ends 3 '' "$write_fault
-rtnl: standard output: No space left on device (os error 28)" \
+expect 'follow, a folder as FILE' 3 '' "$(unread "$folder" "$is_folder")" follow "$folder" <<<"$finish"
+expect 'follow, a folder as standard input' 3 '' "$(unread 'standard input' "$is_folder")" follow <"$folder"
+check 'follow, standard input closed' ends 3 '' "$(unread 'standard input' "$closed")" from_closed_input follow
+expect 'follow, a folder as standard input, explained' 3 '' "$(unread 'standard input' "$is_folder")" follow --explain <"$folder"
+check 'follow, a full device' ends 3 '' "$full_device" into_full_device follow <<<"$finish"
+check 'follow, a full device, explained' ends 3 '' "$full_device" \
   into_full_device follow --explain <<<"$finish"
-check 'follow, standard output closed' ends 3 '' "$write_fault" \
+check 'follow, standard output closed' ends 3 '' "$closed_output" \
   into_closed_output follow <<<"$finish"
 rm -f "$folder/pipe"
-check 'follow, a pipe that nobody reads' ends 3 '' "$write_fault" \
+check 'follow, a pipe that nobody reads' ends 3 '' "$no_reader" \
   into_pipe_without_reader follow <<<"$finish"
 check 'follow, nothing for a full device' ends 0 '' '' into_full_device follow </dev/null
 # More than may be taken as memory.
@@ -133,7 +130,7 @@ check 'follow, out of memory' ends 4 "$finish_text" 'rtnl: out of memory' in_lit
 
 expect 'help of follow' 0 "$any" '' follow --help <<<"$finish"
 expect 'help of follow, as a command' 0 "$any" '' help follow <<<"$finish"
-check 'help of follow, a full device' ends 3 '' "$write_fault" \
+check 'help of follow, a full device' ends 3 '' "$full_device" \
   into_full_device follow --help </dev/null
 usage follow a b
 usage follow "$folder/link" "$folder/link"

@@ -10,7 +10,7 @@ check 'interrupted, a refused datagram, explained' ends 1 "$loopback_refused" \
   'rtnl: datagram 1: bad length at 0: a length counts its head, and is at most the bytes left: '\
 'message 1 of type 4096 of length 805306368, 48 bytes left: [30]000000100002000100000039300000' \
   interrupted show --order big --explain "$folder/link"
-check 'interrupted, followed' ends 1 "$loopback_text" "rtnl: $folder/some_bad: line 1: bad line" \
+check 'interrupted, followed' ends 1 "$loopback_text" "$(bad_line 1 "$folder/some_bad")" \
   interrupted follow "$folder/some_bad"
 check 'interrupted, many reads that are followed' ends 0 "$finish_text" '' interrupted follow <"$folder/longest"
 check 'interrupted, a table' ends 0 "$two_links" '' interrupted "${links[@]}" "$folder/links"

@@ -86,11 +86,11 @@ for command in show check "${links[*]}"; do
   read -ra asked <<<"$command"
   expect "JSON, a bad line: $command" 1 '' 'rtnl: line 2: bad line' "${asked[@]}" --format json \
     < <(printf '%s\n' "$finish" 0g)
-  expect "JSON, a missing file: $command" 3 '' "rtnl: $folder/missing: read fault" "${asked[@]}" --format json \
+  expect "JSON, a missing file: $command" 3 '' "$(unread "$folder/missing" "$missing")" "${asked[@]}" --format json \
     "$folder/missing" </dev/null
-  check "JSON, a full device: $command" ends 3 '' "$write_fault" into_full_device "${asked[@]}" --format json \
+  check "JSON, a full device: $command" ends 3 '' "$full_device" into_full_device "${asked[@]}" --format json \
     <<<"$finish"
-  check "JSON, standard output closed: $command" ends 3 '' "$write_fault" into_closed_output "${asked[@]}" \
+  check "JSON, standard output closed: $command" ends 3 '' "$closed_output" into_closed_output "${asked[@]}" \
     --format json <<<"$finish"
   check "JSON, out of memory: $command" ends 4 '' 'rtnl: out of memory' in_little_memory "${asked[@]}" \
     --format json <"$folder/longest"

@@ -40,8 +40,8 @@ message 18 getlink flags 0x0301 REQUEST,ROOT,MATCH seq 1 port 0
 link_request=(request --kind link --seq 1)
 link_bytes=2000000012000103010000000000000000000000000000000000000000000000
 check 'request: standard input closed' ends 0 "$link_bytes" '' from_closed_input "${link_request[@]}"
-check 'request: a full device' ends 3 '' "$write_fault" into_full_device "${link_request[@]}"
-check 'request: standard output closed' ends 3 '' "$write_fault" into_closed_output "${link_request[@]}"
+check 'request: a full device' ends 3 '' "$full_device" into_full_device "${link_request[@]}"
+check 'request: standard output closed' ends 3 '' "$closed_output" into_closed_output "${link_request[@]}"
 
 expect 'help of request' 0 "$any" '' request --help <<<"$finish"
 usage request

@@ -8,7 +8,7 @@ echo "$loopback" >"$folder/link"
 expect 'show FILE' 0 "$loopback_text" '' show "$folder/link" <<<"$finish"
 expect 'show behind the end of options' 0 "$loopback_text" '' show -- "$folder/link" </dev/null
 expect 'show -, which is standard input' 0 "$finish_text" '' show - <<<"$finish"
-expect 'show ./-, which is a file' 3 '' 'rtnl: ./-: read fault' show ./- <<<"$finish"
+expect 'show ./-, which is a file' 3 '' "$(unread ./- "$missing")" show ./- <<<"$finish"
 expect 'order little' 0 "$loopback_text" '' show --order little <<<"$loopback"
 expect 'order big' 0 "$loopback_text" '' show --order big <<<"$loopback_big"
 expect 'order big, FILE' 1 "$loopback_refused" '' show --order=big "$folder/link" </dev/null
@@ -34,12 +34,12 @@ done
 expect 'help' 0 "$any" '' --help <<<"$finish"
 expect 'help of show' 0 "$any" '' show --help <<<"$finish"
 expect 'help of request, as a command' 0 "$any" '' help request <<<"$finish"
-check 'help, a full device' ends 3 '' "$write_fault" into_full_device --help </dev/null
-check 'help of table, standard output closed' ends 3 '' "$write_fault" into_closed_output table --help </dev/null
+check 'help, a full device' ends 3 '' "$full_device" into_full_device --help </dev/null
+check 'help of table, standard output closed' ends 3 '' "$closed_output" into_closed_output table --help </dev/null
 expect 'version' 0 'rtnl 0.3.0' '' --version <<<"$finish"
 expect 'version, in short' 0 'rtnl 0.3.0' '' -V <<<"$finish"
-check 'version, a full device' ends 3 '' "$write_fault" into_full_device --version </dev/null
-check 'version, standard output closed' ends 3 '' "$write_fault" into_closed_output -V </dev/null
+check 'version, a full device' ends 3 '' "$full_device" into_full_device --version </dev/null
+check 'version, standard output closed' ends 3 '' "$closed_output" into_closed_output -V </dev/null
 ln -s "$program" "$folder/rtnl"
 # The example of follow asks the kernel, and shows nothing.
 for command in show check table request; do
@@ -92,27 +92,26 @@ check 'an unknown option of a command' names_nothing show --links.hex
 # Arguments are looked at before FILE is opened.
 usage show --order middle "$folder/missing"
 
-expect 'a missing file' 3 '' "rtnl: $folder/missing: read fault" show "$folder/missing" <<<"$finish"
-expect 'a folder as FILE' 3 '' "rtnl: $folder: read fault" show "$folder" <<<"$finish"
-expect 'a folder as standard input' 3 '' "$read_fault" <"$folder"
-check 'standard input closed' ends 3 '' "$read_fault" from_closed_input
-check 'a full device' ends 3 '' "$write_fault" into_full_device <<<"$finish"
-check 'standard output closed' ends 3 '' "$write_fault" into_closed_output <<<"$finish"
-check 'a pipe that nobody reads' ends 3 '' "$write_fault" into_pipe_without_reader <<<"$finish"
+expect 'a missing file' 3 '' "$(unread "$folder/missing" "$missing")" show "$folder/missing" <<<"$finish"
+expect 'a folder as FILE' 3 '' "$(unread "$folder" "$is_folder")" show "$folder" <<<"$finish"
+expect 'a folder as standard input' 3 '' "$(unread 'standard input' "$is_folder")" <"$folder"
+check 'standard input closed' ends 3 '' "$(unread 'standard input' "$closed")" from_closed_input
+check 'a full device' ends 3 '' "$full_device" into_full_device <<<"$finish"
+check 'standard output closed' ends 3 '' "$closed_output" into_closed_output <<<"$finish"
+check 'a pipe that nobody reads' ends 3 '' "$no_reader" into_pipe_without_reader <<<"$finish"
 check 'a fault that cannot be printed' ends 3 '' '' with_full_errors show "$folder/missing" </dev/null
 check 'nothing for a full device' ends 0 '' '' into_full_device </dev/null
 
 # A file is named wherever it is what failed.
 echo zz >"$folder/bad"
-expect 'a bad line of a FILE' 1 '' "rtnl: $folder/bad: line 1: bad line" show "$folder/bad" <<<"$finish"
-check 'a full device, FILE' ends 3 '' "$write_fault" into_full_device show "$folder/link"
+expect 'a bad line of a FILE' 1 '' "$(bad_line 1 "$folder/bad")" show "$folder/bad" <<<"$finish"
+check 'a full device, FILE' ends 3 '' "$full_device" into_full_device show "$folder/link"
 
 cp "$folder/bad" "$folder/$odd_name"
-expect 'a bad line of a FILE of an odd name' 1 '' "rtnl: $folder/$shown_name: line 1: bad line" show "$folder/$odd_name"
-expect 'the same, explained' 1 '' "rtnl: $folder/$shown_name: line 1: bad line
+expect 'a bad line of a FILE of an odd name' 1 '' "$(bad_line 1 "$folder/$shown_name")" show "$folder/$odd_name"
+expect 'the same, explained' 1 '' "rtnl: line 1: bad line
 rtnl: $folder/$shown_name: line 1, column 1: byte 0x7a is no hexadecimal digit" show --explain "$folder/$odd_name"
-expect 'a missing file of an odd name, explained' 3 '' "rtnl: x$shown_name: read fault
-rtnl: x$shown_name: No such file or directory (os error 2)" check --explain "x$odd_name"
+expect 'a missing file of an odd name, explained' 3 '' "$(unread "x$shown_name" "$missing")" check --explain "x$odd_name"
 
 expect 'an odd number of digits' 1 '' "$bad_first_line" < <(printf 'abc')
 expect 'odd digits with blanks' 1 '' "$bad_first_line" <<<'14 00 0'
@@ -149,6 +148,6 @@ expect 'refused between two that are shown' 1 \
 { comment 16777171 && echo "$finish"; } >"$folder/too_long"
 expect 'the longest input' 0 "$finish_text" '' <"$folder/longest"
 expect 'the longest input as FILE' 0 "$finish_text" '' show "$folder/longest" </dev/null
-expect 'an input too long' 3 '' "$read_fault" <"$folder/too_long"
-expect 'a FILE too long' 3 '' "rtnl: $folder/too_long: read fault" show "$folder/too_long" </dev/null
+expect 'an input too long' 3 '' "$(too_long 'standard input')" <"$folder/too_long"
+expect 'a FILE too long' 3 '' "$(too_long "$folder/too_long")" show "$folder/too_long" </dev/null
 check 'out of memory' ends 4 '' 'rtnl: out of memory' in_little_memory <"$folder/longest"

@@ -204,11 +204,41 @@ end done 0
 entries 0 missed 0 ignored 1 unfed 0 damaged no interrupted no
 received 68 visits 16
 complete yes' '' "${links[@]}" <<<"${loopback/1000/1100} $finish"
-expect 'table of another kind' 0 'dump addr seq 1 port 12345
+
+# Of which kind the answers are, where the table has none of its kind.
+no_addrs='dump addr seq 1 port 12345
 end done 0
 entries 0 missed 0 ignored 1 unfed 0 damaged no interrupted no
 received 68 visits 16
-complete yes' '' table --kind addr --seq 1 --port 12345 <<<"$loopback $finish"
+complete yes'
+other_kind='rtnl: ignored 1: the answers with seq 1 port 12345 are of kind link'
+addrs=(table --kind addr --seq 1 --port 12345)
+expect 'table of another kind' 0 "$no_addrs" "$other_kind" "${addrs[@]}" <<<"$loopback $finish"
+expect 'table of another kind, explained' 0 "$no_addrs" "$other_kind" "${addrs[@]}" --explain \
+  <<<"$loopback $finish"
+expect 'table of another kind, FILE, in JSON' 0 "$any" "$other_kind" "${addrs[@]}" --format json \
+  < <(printf '%s\n' '# note' "$loopback" "$finish")
+expect 'table of another kind, order big' 0 "$no_addrs" "$other_kind" "${addrs[@]}" --order big \
+  <<<"$loopback_big $finish_big"
+expect 'table of another kind, a refused datagram before' 1 "$any" \
+  'rtnl: ignored 2: the answers with seq 1 port 12345 are of kind link' "${addrs[@]}" \
+  < <(printf '%s\n' "$cut" "$loopback" "$ethernet" "$finish")
+# A link and a rule; an address would be kept.
+rule_answer='1c000000 2000 0200 01000000 39300000 02000000 fe000001 00000000'
+expect 'table of two other kinds' 0 "$any" \
+  'rtnl: ignored 2: the first answer with seq 1 port 12345 is of kind link' "${addrs[@]}" \
+  <<<"$loopback $rule_answer $finish"
+expect 'table of its kind, another before' 0 "$any" '' "${links[@]}" \
+  < <(printf '%s\n' "$rule_answer" "$loopback" "$finish")
+# Nothing is said of what is deleted, of other numbers, of what was missed, and behind the end.
+expect 'table of deletions of another kind' 0 "$any" '' "${addrs[@]}" \
+  <<<"${loopback/ 1000 / 1100 } $finish"
+expect 'table of another kind, with other numbers' 0 "$any" '' "${addrs[@]}" \
+  <<<"${loopback/01000000/02000000} $finish"
+expect 'table of another kind behind the end' 0 "$any" '' "${addrs[@]}" \
+  < <(printf '%s\n' "$finish" "$loopback")
+expect 'table of its kind, all missed, another before' 1 "$any" '' "${links[@]}" --entries 0 \
+  <<<"$rule_answer $loopback $finish"
 expect 'table: the greatest numbers' 0 'dump link seq 4294967295 port 4294967295
 end done 0
 entries 0 missed 0 ignored 0 unfed 0 damaged no interrupted no
@@ -332,16 +362,16 @@ check 'table of a recording of rules' is_tabled examples/rules.hex rule 1021 635
 
 expect 'table: a bad line behind the end' 1 '' 'rtnl: line 2: bad line' "${links[@]}" \
   < <(printf '%s\n' "$loopback $finish" zz)
-expect 'table: a missing file' 3 '' "rtnl: $folder/missing: read fault" "${links[@]}" "$folder/missing" <<<"$finish"
-expect 'table: a folder as FILE' 3 '' "rtnl: $folder: read fault" "${links[@]}" "$folder" <<<"$finish"
-expect 'table: an input too long' 3 '' "$read_fault" "${links[@]}" <"$folder/too_long"
+expect 'table: a missing file' 3 '' "$(unread "$folder/missing" "$missing")" "${links[@]}" "$folder/missing" <<<"$finish"
+expect 'table: a folder as FILE' 3 '' "$(unread "$folder" "$is_folder")" "${links[@]}" "$folder" <<<"$finish"
+expect 'table: an input too long' 3 '' "$(too_long 'standard input')" "${links[@]}" <"$folder/too_long"
 check 'table: out of memory' ends 4 '' 'rtnl: out of memory' in_little_memory "${links[@]}" <"$folder/longest"
-check 'table: standard input closed' ends 3 '' "$read_fault" from_closed_input "${links[@]}"
-check 'table: a full device' ends 3 '' "$write_fault" into_full_device "${links[@]}" <<<"$finish"
-check 'table: a full device, empty input' ends 3 '' "$write_fault" into_full_device "${links[@]}" </dev/null
-check 'table: standard output closed' ends 3 '' "$write_fault" into_closed_output "${links[@]}" <<<"$finish"
+check 'table: standard input closed' ends 3 '' "$(unread 'standard input' "$closed")" from_closed_input "${links[@]}"
+check 'table: a full device' ends 3 '' "$full_device" into_full_device "${links[@]}" <<<"$finish"
+check 'table: a full device, empty input' ends 3 '' "$full_device" into_full_device "${links[@]}" </dev/null
+check 'table: standard output closed' ends 3 '' "$closed_output" into_closed_output "${links[@]}" <<<"$finish"
 
-# ---- the numbers of a dump, which the recording names
+# ---- the dump, which the recording names
 
 # unnamed NAME FIRST ARGUMENT..: these arguments are a usage error whose text begins with this line.
 unnamed() {
@@ -400,13 +430,57 @@ expect 'table: a port beside the sequence number of the recording' 0 "$one_link"
 expect 'table: numbers given, others in the recording' 0 "$one_link" '' "${links[@]}" \
   < <(printf '%s\n' '# seq 9 port 9' "$loopback $finish")
 expect 'table: numbers named, a bad line' 1 '' 'rtnl: line 2: bad line' table --kind link < <(printf '%s\n' "$here" zz)
-expect 'table: numbers named, an input too long' 3 '' "$read_fault" table --kind link \
+expect 'table: numbers named, an input too long' 3 '' "$(too_long 'standard input')" table --kind link \
   < <(echo "$here" && cat "$folder/longest")
 expect 'table: numbers named, a full table' 1 "$any" 'rtnl: missed 1: the limit is 0 entries; --entries sets another, up to 65536' \
   table --kind link --entries 0 --explain "$folder/named"
-check 'table: numbers named, a full device' ends 3 '' "$write_fault" into_full_device table --kind link "$folder/named"
-expect 'table: no numbers, a folder as FILE' 3 '' "rtnl: $folder: read fault" table --kind link "$folder" <<<"$finish"
-check 'table: no numbers, standard input closed' ends 3 '' "$read_fault" from_closed_input table --kind link
+check 'table: numbers named, a full device' ends 3 '' "$full_device" into_full_device table --kind link "$folder/named"
+expect 'table: no numbers, a folder as FILE' 3 '' "$(unread "$folder" "$is_folder")" table --kind link "$folder" <<<"$finish"
+check 'table: no numbers, standard input closed' ends 3 '' "$(unread 'standard input' "$closed")" from_closed_input table --kind link
+
+# Its kind too, where the line says it. Options win.
+with_kind="$here kind link"
+all_ways='needed, or a line `# seq N port N kind KIND` in the recording'
+printf '%s\n' "$with_kind" "$loopback $finish" >"$folder/of_kind"
+expect 'table FILE alone' 0 "$one_link" '' table "$folder/of_kind" </dev/null
+expect 'table alone' 0 "$one_link" '' table <"$folder/of_kind"
+expect 'table alone, explained' 0 "$one_link" '' table --explain "$folder/of_kind"
+expect 'table alone, in JSON' 0 "$any" '' table --format json "$folder/of_kind"
+expect 'table: a kind, blanks behind it' 0 "$one_link" '' table \
+  < <(printf '%s \t\r\n%s' "$with_kind" "$loopback $finish")
+for kind in link addr route neigh rule; do
+  expect "table: kind $kind of the recording" 0 "dump $kind seq 1 port 12345
+end done 0
+entries 0 missed 0 ignored 0 unfed 0 damaged no interrupted no
+received 20 visits 0
+complete yes" '' table < <(printf '%s\n' "$here kind $kind" "$finish")
+done
+expect 'table: a kind given, another in the recording' 0 "$no_addrs" "$other_kind" table --kind addr \
+  "$folder/of_kind"
+expect 'table: numbers given, a kind in the recording' 0 "$one_link" '' table --seq 1 --port 12345 \
+  < <(printf '%s\n' '# seq 9 port 9 kind link' "$loopback $finish")
+expect 'table: a port given, the rest in the recording' 0 "$one_link" '' table --port 12345 \
+  < <(printf '%s\n' '# seq 1 port 9 kind link' "$loopback $finish")
+expect 'table: a kind given, numbers beside a kind' 0 "$one_link" '' table --kind link "$folder/of_kind"
+expect 'table: a kind behind lines that are none' 0 "$one_link" '' table < <(printf '%s\n' \
+  '# seq 9 port 9 kind' '# seq 9 port 9 kind ' '# seq 9 port 9 kind links' '# seq 9 port 9 kind LINK' \
+  '# seq 9 port 9  kind addr' '# seq 9 port 9 kind  addr' '# seq 9 port 9 kind addr addr' \
+  '# seq 9 port 9 kind addr kind addr' '# kind addr seq 9 port 9' '# seq 9 kind addr port 9' \
+  '# seq 9 port 9 Kind addr' '# seq 9 port 9 addr' "$with_kind" "$loopback $finish")
+unnamed 'no kind, and none on the first line' "--kind is $all_ways; $folder/named has none" table \
+  "$folder/named"
+unnamed 'no kind on the first line of two' "--kind is $all_ways; standard input has none" table \
+  < <(printf '%s\n' "$here" "$with_kind" "$finish")
+unnamed 'no kind, numbers given' "--kind is $all_ways; standard input has none" \
+  table --seq 1 --port 12345 <<<"$finish"
+unnamed 'no kind and no port' "--kind and --port are $all_ways; standard input has none" \
+  table --seq 1 <<<"$finish"
+unnamed 'no kind and no sequence number' "--kind and --seq are $all_ways; standard input has none" \
+  table --port 1 <<<"$finish"
+unnamed 'nothing' "--kind, --seq and --port are $all_ways; standard input has none" table <<<"$finish"
+unnamed 'nothing, a missing file' "--kind, --seq and --port are $all_ways; $folder/missing cannot be opened: $missing" \
+  table "$folder/missing"
+
 unnamed 'no numbers' "--seq and --port are $both_ways; standard input has none" table --kind link <<<"$finish"
 unnamed 'no numbers, empty input' "--seq and --port are $both_ways; standard input has none" table --kind link </dev/null
 unnamed 'no numbers, FILE' "--seq and --port are $both_ways; $folder/link has none" table --kind link "$folder/link"

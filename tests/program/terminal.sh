@@ -83,33 +83,29 @@ on_terminal 'a dump of another kind without its end' 1 'dump addr seq 1 port 123
 end none
 entries 0 missed 0 ignored 1 unfed 0 damaged no interrupted no
 received 48 visits 16
-complete no' '' table --kind addr --seq 1 --port 12345 <<<"$loopback"
+complete no' "$other_kind" "${addrs[@]}" <<<"$loopback"
 on_terminal 'no datagram' 1 "$nothing" '' "${links[@]}" </dev/null
 on_terminal 'a complete table' 0 "$one_link" '' "${links[@]}" <<<"$loopback $finish"
 on_terminal 'a complete table, one message ignored' 0 "$any" '' "${links[@]}" <<<"$finish $loopback"
 
 # An input that is too long.
-too_long="$read_fault
-rtnl: standard input: longer than 16777216 bytes; a recording can be cut at any line"
-too_long_file="rtnl: $folder/too_long: read fault
-rtnl: $folder/too_long: longer than 16777216 bytes; a recording can be cut at any line"
-on_terminal 'an input too long' 3 '' "$too_long" <"$folder/too_long"
-on_terminal 'an input too long, checked' 3 '' "$too_long" check --format json <"$folder/too_long"
-on_terminal 'an input too long, of a table' 3 '' "$too_long" "${links[@]}" <"$folder/too_long"
-on_terminal 'a FILE too long' 3 '' "$too_long_file" show "$folder/too_long" </dev/null
-on_terminal 'a FILE too long, of a table' 3 '' "$too_long_file" "${links[@]}" "$folder/too_long"
-expect 'a FILE too long, explained' 3 '' "$too_long_file" show --explain "$folder/too_long"
+on_terminal 'an input too long' 3 '' "$(too_long 'standard input')" <"$folder/too_long"
+on_terminal 'an input too long, checked' 3 '' "$(too_long 'standard input')" check --format json <"$folder/too_long"
+on_terminal 'an input too long, of a table' 3 '' "$(too_long 'standard input')" "${links[@]}" <"$folder/too_long"
+on_terminal 'a FILE too long' 3 '' "$(too_long "$folder/too_long")" show "$folder/too_long" </dev/null
+on_terminal 'a FILE too long, of a table' 3 '' "$(too_long "$folder/too_long")" "${links[@]}" "$folder/too_long"
+expect 'a FILE too long, explained' 3 '' "$(too_long "$folder/too_long")" show --explain "$folder/too_long"
 
 # Nothing more is said of these.
 on_terminal 'the longest input' 0 "$finish_text" '' <"$folder/longest"
 on_terminal 'a refused datagram' 1 "$loopback_refused" '' show --order big "$folder/link"
 on_terminal 'a bad line' 1 '' "$bad_first_line" <<<0g
 on_terminal 'a bad line of a table' 1 '' "$bad_first_line" "${links[@]}" <<<0g
-on_terminal 'a missing file' 3 '' "rtnl: $folder/missing: read fault" show "$folder/missing"
-on_terminal 'a folder' 3 '' "rtnl: $folder: read fault" show "$folder"
-on_terminal 'a folder as a table' 3 '' "rtnl: $folder: read fault" "${links[@]}" "$folder"
+on_terminal 'a missing file' 3 '' "$(unread "$folder/missing" "$missing")" show "$folder/missing"
+on_terminal 'a folder' 3 '' "$(unread "$folder" "$is_folder")" show "$folder"
+on_terminal 'a folder as a table' 3 '' "$(unread "$folder" "$is_folder")" "${links[@]}" "$folder"
 full_on_terminal() { seen_on_terminal "$@" >/dev/full; }
-check 'on a terminal: a full device' ends 3 '' "$write_fault" \
+check 'on a terminal: a full device' ends 3 '' "$full_device" \
   full_on_terminal "${links[@]}" --entries 0 <<<"$three_messages"
 
 # What was counted is the last line where it follows, at the end of the input.
@@ -125,10 +121,10 @@ rtnl: 2 datagrams, 1 refused, 2 bad lines' follow \
 on_terminal 'followed strictly' 1 "$finish_text" 'rtnl: line 2: bad line
 rtnl: 1 datagrams, 0 refused, 1 bad lines' follow --strict \
   < <(printf '%s\n' "$finish" zz zz "$finish")
-on_terminal 'followed, FILE, explained' 1 "$loopback_text" "rtnl: $folder/some_bad: line 1: bad line
+on_terminal 'followed, FILE, explained' 1 "$loopback_text" "rtnl: line 1: bad line
 rtnl: $folder/some_bad: line 1, column 1: byte 0x7a is no hexadecimal digit
 rtnl: 1 datagrams, 0 refused, 1 bad lines" follow --explain "$folder/some_bad"
-on_terminal 'followed, a missing file' 3 '' "rtnl: $folder/missing: read fault" \
+on_terminal 'followed, a missing file' 3 '' "$(unread "$folder/missing" "$missing")" \
   follow "$folder/missing"
-check 'on a terminal: followed, a full device' ends 3 '' "$write_fault" \
+check 'on a terminal: followed, a full device' ends 3 '' "$full_device" \
   full_on_terminal follow <<<"$finish"

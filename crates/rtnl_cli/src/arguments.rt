@@ -1,9 +1,10 @@
 //! What the arguments of the program ask for.
 
-ghost use Rattle.std.specs.Prelude.{◌≡◌, ◌&&◌, is_some, IsSome, IsSomeAnd, IfSome, MatchOption};
+ghost use Rattle.std.specs.Prelude.{◌≡◌, ◌&&◌, ◌⊎◌, is_some};
+ghost use Rattle.std.specs.Prelude.{Some, IsSome, IsSomeAnd, IfSome, MatchOption};
 
 use crate::commands::{COLORS, FORMATS, Values, rtnl, usage_error};
-use crate::heading::{Numbers, is_digits, numbers_in};
+use crate::heading::{Heading, heading_in, is_digits};
 use crate::name::{Escaped, Name, is_escaped};
 use clap::error::ErrorKind;
 use clap::{ArgMatches, Error};
@@ -60,36 +61,39 @@ pub(crate) enum Color {
 /// The dump that a table is of, as far as the options say.
 #[derive(Clone, Copy, Debug)]
 pub(crate) struct Sought {
-    pub kind: Kind,
+    pub kind: Option<Kind>,
     pub family: u8,
     pub seq: Option<u32>,
     pub port: Option<u32>,
 }
 
 impl Sought {
-    /// Whether the options say both numbers.
+    /// Whether the options say all that names the dump.
     pub(crate) fn is_whole(self) -> bool
-        ensures { result ≡ (is_some self.seq && is_some self.port) }
+        ensures { result ≡ (is_some self.kind && (is_some self.seq && is_some self.port)) }
     {
-        self.seq.is_some() && self.port.is_some()
+        self.kind.is_some() && self.seq.is_some() && self.port.is_some()
     }
 
-    /// The dump, whose numbers are those of the options, and else these.
-    pub(crate) fn dump(self, numbers: Option<Numbers>) -> Option<Dump>
-        ensures asked { IfSome result (λ dump. (dump.kind ≡ self.kind)
-            × (dump.family ≡ self.family)) }
+    /// The dump, of which the options say what they do, and the recording the rest.
+    pub(crate) fn dump(self, found: Option<Heading>) -> Option<Dump>
+        ensures family { IfSome result (λ dump. dump.family ≡ self.family) }
+        ensures kind { IfSome result (λ dump. MatchOption self.kind
+            (IsSomeAnd found (λ its. its.kind ≡ Some dump.kind)) (λ given. dump.kind ≡ given)) }
         ensures seq { IfSome result (λ dump. MatchOption self.seq
-            (IsSomeAnd numbers (λ found. dump.seq ≡ found.seq)) (λ given. dump.seq ≡ given)) }
+            (IsSomeAnd found (λ its. dump.seq ≡ its.numbers.seq)) (λ given. dump.seq ≡ given)) }
         ensures port { IfSome result (λ dump. MatchOption self.port
-            (IsSomeAnd numbers (λ found. dump.port ≡ found.port)) (λ given. dump.port ≡ given)) }
-        ensures named { IsSome numbers → IsSome result }
-        ensures whole { IsSome self.seq → IsSome self.port → IsSome result }
+            (IsSomeAnd found (λ its. dump.port ≡ its.numbers.port)) (λ given. dump.port ≡ given)) }
+        ensures named { IsSomeAnd found (λ its. IsSome self.kind ⊎ IsSome its.kind)
+            → IsSome result }
+        ensures whole { IsSome self.kind → IsSome self.seq → IsSome self.port → IsSome result }
     {
+        let numbers = found.map(|its| its.numbers);
         Some(Dump {
-            kind: self.kind,
+            kind: self.kind.or(found.and_then(|its| its.kind))?,
             family: self.family,
-            seq: self.seq.or(numbers.map(|found| found.seq))?,
-            port: self.port.or(numbers.map(|found| found.port))?,
+            seq: self.seq.or(numbers.map(|its| its.seq))?,
+            port: self.port.or(numbers.map(|its| its.port))?,
         })
     }
 }
@@ -129,16 +133,16 @@ impl Table {
     pub(crate) fn work(&self, input: &[u8]) -> Option<Work>
         ensures asked { IfSome result (λ work. (work.format ≡ self.now.format)
             × (work.limits ≡ self.now.limits)) }
-        ensures whole { IsSome self.now.sought.seq → IsSome self.now.sought.port
-            → IsSome result }
+        ensures whole { IsSome self.now.sought.kind → IsSome self.now.sought.seq
+            → IsSome self.now.sought.port → IsSome result }
     {
-        let numbers = if self.sought.is_whole() {
+        let found = if self.sought.is_whole() {
             None
         } else {
-            numbers_in(input)
+            heading_in(input)
         };
         Some(Work {
-            engine: Engine::Table(self.sought.dump(numbers)?),
+            engine: Engine::Table(self.sought.dump(found)?),
             format: self.format,
             limits: self.limits,
         })
@@ -160,7 +164,7 @@ pub(crate) enum Task {
         explain: bool,
         file: Option<String>,
     },
-    /// Read one as the answers to a dump, of which it may name the numbers.
+    /// Read one as the answers to a dump, which it may name.
     Table {
         table: Table,
         explain: bool,
@@ -213,7 +217,7 @@ fn named<T: Copy>(table: &[(&str, T)], name: &str) -> Option<T> {
 
 fn sought_of(matches: &ArgMatches<'_>) -> Option<Sought> {
     Some(Sought {
-        kind: matches.get_one("kind")?,
+        kind: matches.get_one("kind"),
         family: matches.get_one("family")?,
         seq: matches.get_one("seq"),
         port: matches.get_one("port"),
@@ -397,20 +401,37 @@ pub(crate) fn parse(alloc: Global, arguments: &[String]) -> Result<Parsed, Alloc
     Ok(Parsed::Message(message))
 }
 
-/// A usage error of `table`: neither its options nor its recording say both numbers of the dump.
-/// Where the recording could not be opened, `error` says why.
+/// A usage error of `table`: neither its options nor its recording, of which this was found, name
+/// the dump. Where the recording could not be opened, `error` says why.
 pub(crate) fn unnamed(
     alloc: Global,
     sought: Sought,
+    found: Option<Heading>,
     name: Name<'_>,
     error: Option<&io::Error>,
 ) -> Result<Error, AllocError> {
-    let missing = match (sought.seq, sought.port) {
-        (None, Some(_)) => "--seq is",
-        (Some(_), None) => "--port is",
-        _ => "--seq and --port are",
+    let has_numbers = found.is_some();
+    let missing = match (
+        sought.kind.is_some(),
+        has_numbers || sought.seq.is_some(),
+        has_numbers || sought.port.is_some(),
+    ) {
+        (true, true, _) => "--port is",
+        (true, false, true) => "--seq is",
+        (true, false, false) => "--seq and --port are",
+        (false, true, true) => "--kind is",
+        (false, true, false) => "--kind and --port are",
+        (false, false, true) => "--kind and --seq are",
+        (false, false, false) => "--kind, --seq and --port are",
     };
-    let ways = format!(in alloc; "{missing} needed, or a line `# seq N port N` in the recording")?;
+    let kind = if sought.kind.is_some() {
+        ""
+    } else {
+        " kind KIND"
+    };
+    let ways = format!(in alloc;
+        "{missing} needed, or a line `# seq N port N{kind}` in the recording"
+    )?;
     let message = match error {
         None => format!(in alloc; "{ways}; {name} has none")?,
         Some(error) => format!(in alloc; "{ways}; {name} cannot be opened: {error}")?,

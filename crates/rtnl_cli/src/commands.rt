@@ -41,7 +41,8 @@ const EXAMPLES_STATUSES_AND_FILES: &str = "Examples:
 
 Exit status:
   0  no datagram was refused; for `table`, the dump is complete
-  1  a datagram was refused, the dump is not complete, or a line is bad
+  1  a datagram was refused, the dump is not complete, or a line is bad; for `follow`
+     also, a line says that messages were dropped
   2  usage error
   3  a read or a write failed
   4  out of memory
@@ -83,10 +84,13 @@ const REQUEST_EXAMPLE: &str = "Example:
 prints
   1c0000001a0001030700000000000000020000000000000000000000";
 
+/// The help of `--kind` where the recording may name it.
+const KIND_OF_TABLE: &str = "What the dump asks for [default: that of the recording's first line \
+    `# seq N port N kind KIND`]";
+
 /// The help of `--seq` where the recording may name the number.
-const SEQ_OF_TABLE: &str =
-    "Sequence number (nlmsg_seq) of the request and its answers [default: that of the \
-    recording's first line `# seq N port N`]";
+const SEQ_OF_TABLE: &str = "Sequence number (nlmsg_seq) of the request and its answers [default: \
+    that of the same line, with a kind or without]";
 
 /// The help of `--port` where nothing else names the number.
 const PORT_OF_FOLLOW: &str = "Port id (nlmsg_pid) of the answers";
@@ -262,7 +266,11 @@ fn table_command<'a>(alloc: Global, values: Values<'a>) -> Result<Command<'a>, A
             how the dump ended",
         )
         .after_help(TABLE_EXAMPLE)
-        .arg(kind_option(alloc, values))?
+        .arg(
+            kind_option(alloc, values)
+                .required(false)
+                .help(KIND_OF_TABLE),
+        )?
         .arg(seq_option(alloc).help(SEQ_OF_TABLE))?
         .arg(port_option(alloc))?
         .arg(family_option(alloc))?

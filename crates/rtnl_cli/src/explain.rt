@@ -3,9 +3,12 @@
 ghost use Rattle.std.specs.Prelude.{◌≡◌, ◌↔◌, ◌⊎◌, [], ◌∷◌, IsTrue, take};
 
 use crate::arguments::{Engine, Work};
-use crate::hints::{hint_ignored, hint_missed, hint_too_long};
+use crate::hints::{hint_ignored, hint_kind, hint_missed, hint_too_long};
+use crate::kinds::begins_otherwise;
 use crate::name::Name;
+use crate::output::Errors;
 use crate::place::Around;
+use crate::standard_error::name_file;
 use crate::subject::Subject;
 use nl_attr::Reason;
 use rtnl::dump::{Dump, FeedError, Session};
@@ -17,7 +20,9 @@ use std::io;
 /// How much is said.
 #[derive(Clone, Copy, Debug, PartialEq, Eq)]
 pub(crate) enum Detail {
-    /// What can be done about limits and numbers, as on a terminal.
+    /// What is always said.
+    Least,
+    /// Also what can be done about limits and numbers, as on a terminal.
     Hints,
     /// Also why something failed or was refused, as with `--explain`.
     All,
@@ -71,7 +76,7 @@ fn explain_line(rt: &HostRuntime, name: Name<'_>, input: &[u8], number: u32) -> 
     match line_fault(line) {
         Some(LineFault::Character { column, byte }) => {
             let hint = hint_of_byte(input, number, column, byte);
-            eprintln!(rt;
+            eprintln!(Errors(rt);
                 "rtnl: {name}: line {number}, column {column}: byte 0x{byte:02x} is no \
                 hexadecimal digit{hint}"
             )
@@ -82,7 +87,9 @@ fn explain_line(rt: &HostRuntime, name: Name<'_>, input: &[u8], number: u32) -> 
             } else {
                 ""
             };
-            eprintln!(rt; "rtnl: {name}: line {number}: {digits} digits, an odd number{hint}")
+            eprintln!(Errors(rt);
+                "rtnl: {name}: line {number}: {digits} digits, an odd number{hint}"
+            )
         }
         None => Ok(()),
     }
@@ -96,17 +103,19 @@ pub(crate) fn explain_one_line(
     line: Option<&[u8]>,
 ) -> io::Result<()> {
     let Some(line) = line else {
-        return eprintln!(rt; "rtnl: {name}: line {number}: longer than {LONGEST_LINE} bytes");
+        return eprintln!(Errors(rt);
+            "rtnl: {name}: line {number}: longer than {LONGEST_LINE} bytes"
+        );
     };
     match line_fault(line) {
         Some(LineFault::Character { column, byte }) => {
-            eprintln!(rt;
+            eprintln!(Errors(rt);
                 "rtnl: {name}: line {number}, column {column}: byte 0x{byte:02x} is no \
                 hexadecimal digit"
             )
         }
         Some(LineFault::Odd { digits }) => {
-            eprintln!(rt; "rtnl: {name}: line {number}: {digits} digits, an odd number")
+            eprintln!(Errors(rt); "rtnl: {name}: line {number}: {digits} digits, an odd number")
         }
         None => Ok(()),
     }
@@ -136,7 +145,7 @@ fn explain_head(
         bytes: datagram,
         place: fault.place as usize,
     };
-    eprintln!(rt; "rtnl: datagram {number}: {fault}: {rule}: {subject}: {around}")
+    eprintln!(Errors(rt); "rtnl: datagram {number}: {fault}: {rule}: {subject}: {around}")
 }
 
 /// Writes why the datagram of this number was refused, if it was.
@@ -158,7 +167,7 @@ pub(crate) fn explain_datagram(
         }
         Some(ScanError::TooLarge) => {
             let (size, limit) = (datagram.len(), limits.datagram());
-            eprintln!(rt;
+            eprintln!(Errors(rt);
                 "rtnl: datagram {number}: too large: {size} bytes, and the limit is {limit}"
             )
         }
@@ -179,7 +188,7 @@ fn explain_refusal(
         }
         FeedError::Total => {
             let (size, limit) = (datagram.len(), limits.total());
-            eprintln!(rt;
+            eprintln!(Errors(rt);
                 "rtnl: datagram {number}: total: with its {size} bytes all are above the limit of \
                 {limit}"
             )
@@ -197,8 +206,9 @@ fn explain_each(rt: &HostRuntime, found: &[Vec<u8>], limits: &Limits) -> io::Res
     Ok(())
 }
 
-/// Writes why datagrams were refused that answer a dump, up to its end, and what can be done about
-/// what was missed or ignored. A new session begins each dump, so only memory can be refused.
+/// Writes why datagrams were refused that answer a dump, up to its end, what can be done about what
+/// was missed or ignored, and of which kind the answers are where it is another. A new session
+/// begins each dump, so only memory can be refused.
 fn tell_dump(
     rt: &HostRuntime,
     found: &[Vec<u8>],
@@ -224,21 +234,37 @@ fn tell_dump(
             Err(_) => continue,
         }
     }
-    hint_missed(rt, &session, dump, limits)?;
-    hint_ignored(rt, found, dump, limits)
+    if detail != Detail::Least {
+        hint_missed(rt, &session, dump, limits)?;
+        hint_ignored(rt, found, dump, limits)?;
+    }
+    hint_kind(rt, &session, found, dump, limits)
 }
 
 /// Writes what there is to say of the datagrams of a recording. The recording was read, so only
 /// memory can be refused.
-fn tell_datagrams(rt: &HostRuntime, input: &[u8], work: &Work, detail: Detail) -> io::Result<()> {
-    let Ok(found) = datagrams(rt.alloc(), input) else {
+fn tell_datagrams(
+    rt: &HostRuntime,
+    input: &[u8],
+    work: &Work,
+    verdict: Verdict,
+    detail: Detail,
+) -> io::Result<()> {
+    let (alloc, limits) = (rt.alloc(), &work.limits);
+    let is_other = match work.engine {
+        Engine::Table(dump) => begins_otherwise(alloc, input, dump, limits)?,
+        _ => false,
+    };
+    if !is_other && (verdict == Verdict::Clean || detail == Detail::Least) {
+        return Ok(());
+    }
+    let Ok(found) = datagrams(alloc, input) else {
         return Err(AllocError.into());
     };
-    let limits = &work.limits;
     match (work.engine, detail) {
         (Engine::Table(dump), _) => tell_dump(rt, found.as_slice(), limits, dump, detail),
         (_, Detail::All) => explain_each(rt, found.as_slice(), limits),
-        (_, Detail::Hints) => Ok(()),
+        (_, Detail::Least | Detail::Hints) => Ok(()),
     }
 }
 
@@ -253,9 +279,10 @@ pub(crate) fn tell(
     detail: Detail,
 ) -> io::Result<()> {
     match (answer, detail) {
-        (Ok(Verdict::Blemished), _) => tell_datagrams(rt, input, work, detail),
+        (Ok(verdict), _) => tell_datagrams(rt, input, work, verdict, detail),
         (Err(RunError::ReadFault), _) => hint_too_long(rt, name),
         (Err(RunError::BadLine(number)), Detail::All) => explain_line(rt, name, input, number),
-        _ => Ok(()),
+        (Err(RunError::BadLine(_)), _) => name_file(rt, name),
+        (Err(RunError::WriteFault | RunError::Memory), _) => Ok(()),
     }
 }

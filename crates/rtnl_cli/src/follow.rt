@@ -6,6 +6,8 @@ use crate::arguments::{Follow, Format};
 use crate::color::{is_coloured, row_format};
 use crate::explain::{explain_datagram, explain_one_line};
 use crate::name::Name;
+use crate::output::Errors;
+use crate::standard_error::name_file;
 use rtnl::frame::Limits;
 use rtnl::{
     DumpFollowed, Followed, LiveSource, OnBadLine, RunError, Sink, run_follow, run_follow_bytes,
@@ -29,15 +31,12 @@ impl Named<'_> {
     /// Writes that the line of this number is bad, and why where that is asked for.
     fn name_line(&self, number: u64, line: Option<&[u8]>) -> io::Result<()> {
         let (rt, name) = (self.rt, self.name);
-        if name.is_file() {
-            eprintln!(rt; "rtnl: {name}: line {number}: bad line")?;
-        } else {
-            eprintln!(rt; "rtnl: line {number}: bad line")?;
-        }
+        eprintln!(Errors(rt); "rtnl: line {number}: bad line")?;
         if self.explain {
-            explain_one_line(rt, name, number, line)?;
+            explain_one_line(rt, name, number, line)
+        } else {
+            name_file(rt, name)
         }
-        Ok(())
     }
 }
 

@@ -1,10 +1,12 @@
 //! The line of a recording that names the dump which it answers.
 
-ghost use Rattle.std.specs.Prelude.{◌≡◌, ◌≤◌, ◌<◌, ◌^◌, ◌↔◌, All, IfSome, IsTrue, List, length, ℕ};
+ghost use Rattle.std.specs.Prelude.{◌≡◌, ◌≤◌, ◌<◌, ◌^◌, ◌↔◌, ◌++◌, ℕ};
+ghost use Rattle.std.specs.Prelude.{All, IfSome, IsTrue, List, length};
 ghost use Rattle.std.specs.Option.{SomeIff};
 ghost use Rattle.std.specs.Str.Parse.{IsNumeral, digits_value};
-ghost use Rattle.rtnl_cli.specs.Heading.{Names};
+ghost use Rattle.rtnl_cli.specs.Heading.{Names, kind_text};
 
+use rtnl::dump::Kind;
 use std::str;
 
 /// A sequence number and a port id.
@@ -34,20 +36,39 @@ fn number_of(word: &str) -> Option<u32>
     }
 }
 
-/// The numbers in a line `# seq N port N`, which may have blanks at its end.
-fn numbers_of(line: &[u8]) -> Option<Numbers>
-    ensures { IfSome result (λ numbers. (blanks : List ℕ)
-        × Names line.now numbers.seq numbers.port blanks) }
-{
-    let words = str::from_utf8(line).ok()?.strip_prefix("# seq ")?;
-    let (seq, port) = words.trim_end().split_once(" port ")?;
-    Some(Numbers {
-        seq: number_of(seq)?,
-        port: number_of(port)?,
-    })
+/// What a recording says of the dump that it answers.
+#[derive(Clone, Copy, Debug, PartialEq, Eq)]
+pub(crate) struct Heading {
+    pub numbers: Numbers,
+    pub kind: Option<Kind>,
 }
 
-/// The numbers in the first such line of a recording.
-pub(crate) fn numbers_in(input: &[u8]) -> Option<Numbers> {
-    input.split(|byte| *byte == b'\n').find_map(numbers_of)
+/// What stands before ` kind KIND` at the end of some words, and the kind, where they end so.
+fn split_kind(words: &str) -> Option<(&str, Option<Kind>)>
+    ensures { IfSome result (λ parts. words.now ≡ parts.0.now ++ kind_text parts.1) }
+{
+    match words.split_once(" kind ") {
+        None => Some((words, None)),
+        Some((front, name)) => Some((front, Some(name.parse().ok()?))),
+    }
+}
+
+/// What a line `# seq N port N` says, behind which ` kind KIND` may stand, and blanks at its end.
+fn heading_of(line: &[u8]) -> Option<Heading>
+    ensures { IfSome result (λ heading. (blanks : List ℕ)
+        × Names line.now heading.numbers.seq heading.numbers.port heading.kind blanks) }
+{
+    let words = str::from_utf8(line).ok()?.strip_prefix("# seq ")?;
+    let (seq, rest) = words.trim_end().split_once(" port ")?;
+    let (port, kind) = split_kind(rest)?;
+    let numbers = Numbers {
+        seq: number_of(seq)?,
+        port: number_of(port)?,
+    };
+    Some(Heading { numbers, kind })
+}
+
+/// What the first such line of a recording says.
+pub(crate) fn heading_in(input: &[u8]) -> Option<Heading> {
+    input.split(|byte| *byte == b'\n').find_map(heading_of)
 }

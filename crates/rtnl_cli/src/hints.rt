@@ -1,19 +1,19 @@
-//! What a user can do about a table that isn't complete, or a recording that is too long.
+//! What a user can do about a table that isn't what was meant, or a recording that is too long.
 
 use crate::commands::MOST_ENTRIES;
 use crate::heading::Numbers;
+use crate::kinds::{kind_answered, senders_of};
 use crate::name::Name;
-use nl_attr::{LONGEST_REGION, Order, SORT_MESSAGE};
+use crate::output::Errors;
 use nl_dump::match_table;
+use rtnl::LONGEST_INPUT;
 use rtnl::dump::{Dump, Session};
-use rtnl::frame::{Limits, message_at};
-use rtnl::{LONGEST_INPUT, Tape, tape_of};
-use std::alloc::{AllocError, Global};
+use rtnl::frame::Limits;
 use std::io;
 
 /// Writes what is done with a recording that is too long.
 pub(crate) fn hint_too_long(rt: &HostRuntime, name: Name<'_>) -> io::Result<()> {
-    eprintln!(rt;
+    eprintln!(Errors(rt);
         "rtnl: {name}: longer than {LONGEST_INPUT} bytes; a recording can be cut at any line"
     )
 }
@@ -30,48 +30,15 @@ pub(crate) fn hint_missed(
     if missed == 0 {
         Ok(())
     } else if i64::from(limit) < MOST_ENTRIES {
-        eprintln!(rt;
+        eprintln!(Errors(rt);
             "rtnl: missed {missed}: the limit is {limit} entries; --entries sets another, up to \
             {MOST_ENTRIES}"
         )
     } else {
-        eprintln!(rt; "rtnl: missed {missed}: the limit is {limit} entries, and no option lifts it")
+        eprintln!(Errors(rt);
+            "rtnl: missed {missed}: the limit is {limit} entries, and no option lifts it"
+        )
     }
-}
-
-/// The numbers of the message whose header stands at this place of a datagram.
-fn numbers_at(datagram: &[u8], place: u32, order: Order) -> Option<Numbers> {
-    if datagram.len() > LONGEST_REGION as usize {
-        return None;
-    }
-    match message_at(datagram, place, order)? {
-        Ok(frame) => Some(Numbers {
-            seq: frame.header.seq,
-            port: frame.header.port,
-        }),
-        Err(_) => None,
-    }
-}
-
-/// The numbers of each message of the datagrams that are taken.
-fn numbers_seen(
-    alloc: Global,
-    found: &[Vec<u8>],
-    limits: &Limits,
-) -> Result<Vec<Numbers>, AllocError> {
-    let mut numbers = Vec::new(alloc);
-    for datagram in found {
-        let Tape { events, refusal } = tape_of(alloc, datagram, limits)?;
-        if refusal.is_some() {
-            continue;
-        }
-        for event in events.iter().filter(|event| event.sort == SORT_MESSAGE) {
-            if let Some(its) = numbers_at(datagram, event.place, limits.order()) {
-                numbers.push(its)?;
-            }
-        }
-    }
-    Ok(numbers)
 }
 
 /// Writes which numbers the messages have, where none has those of the dump.
@@ -81,16 +48,17 @@ pub(crate) fn hint_ignored(
     dump: Dump,
     limits: &Limits,
 ) -> io::Result<()> {
-    let numbers = numbers_seen(rt.alloc(), found, limits)?;
-    let Some(first) = numbers.first().copied() else {
+    let senders = senders_of(rt.alloc(), found, limits)?;
+    let Some(first) = senders.first().map(|sender| sender.numbers) else {
         return Ok(());
     };
     let (seq, port) = (dump.seq, dump.port);
-    if numbers.iter().any(|other| *other == Numbers { seq, port }) {
+    let sought = Numbers { seq, port };
+    if senders.iter().any(|sender| sender.numbers == sought) {
         return Ok(());
     }
-    let count = numbers.len();
-    let who = if numbers.iter().all(|other| *other == first) {
+    let count = senders.len();
+    let who = if senders.iter().all(|sender| sender.numbers == first) {
         "all have"
     } else {
         "the first has"
@@ -99,8 +67,42 @@ pub(crate) fn hint_ignored(
         seq: its_seq,
         port: its_port,
     } = first;
-    eprintln!(rt;
+    eprintln!(Errors(rt);
         "rtnl: ignored {count}: no message has seq {seq} port {port}; {who} seq {its_seq} port \
         {its_port}"
     )
+}
+
+/// Writes of which kind the objects are that answer a dump, where the table has none of its kind.
+pub(crate) fn hint_kind(
+    rt: &HostRuntime,
+    session: &Session,
+    found: &[Vec<u8>],
+    dump: Dump,
+    limits: &Limits,
+) -> io::Result<()> {
+    let ignored = session.ignored();
+    let is_bare =
+        match_table!(dump.kind, session, table => table.is_empty() && table.missed() == 0);
+    if ignored == 0 || !is_bare {
+        return Ok(());
+    }
+    let senders = senders_of(rt.alloc(), found, limits)?;
+    let mut kinds = senders
+        .iter()
+        .filter_map(|sender| kind_answered(*sender, dump));
+    let Some(first) = kinds.next() else {
+        return Ok(());
+    };
+    let (seq, port) = (dump.seq, dump.port);
+    if kinds.all(|kind| kind == first) {
+        eprintln!(Errors(rt);
+            "rtnl: ignored {ignored}: the answers with seq {seq} port {port} are of kind {first}"
+        )
+    } else {
+        eprintln!(Errors(rt);
+            "rtnl: ignored {ignored}: the first answer with seq {seq} port {port} is of kind \
+            {first}"
+        )
+    }
 }

@@ -7,114 +7,43 @@ mod color;
 mod commands;
 mod explain;
 mod follow;
+mod given;
 mod heading;
 mod hints;
+mod kinds;
+mod messages;
 mod name;
-mod noting;
+mod output;
 mod place;
+mod reading;
+mod standard_error;
 mod subject;
 mod terminal;
 
-use arguments::{
-    Engine, Follow, Format, Parsed, Sought, Table, Task, Work, unknown_command, unnamed,
-};
-use clap::Error;
+use arguments::{Engine, Follow, Format, Parsed, Table, Task, Work};
 use color::{is_coloured, row_format};
 use explain::{Detail, tell};
 use follow::{Ended, Named, follow};
-use hints::hint_too_long;
-use name::{Escaped, Name};
-use noting::Noting;
+use given::{Given, read_given};
+use heading::heading_in;
+use messages::{print_message, print_unnamed};
+use name::Name;
+use nl_attr::Order;
+use output::{Errors, standard_output};
+use reading::Reading;
+use rtnl::dump::Kind;
 use rtnl::{
     Followed, LONGEST_INPUT, ReadSource, RunError, Sink, SliceSource, Source, VecSink, Verdict,
     WriteSink, run_check, run_check_json, run_request_ordered, run_show, run_show_bytes,
     run_show_coloured, run_show_json, run_table, run_table_json,
 };
+use standard_error::{
+    BLEMISHED, Causes, USAGE, after, ended, failed, followed, outcome, unread, unwritten,
+};
 use std::alloc::{AllocError, Global};
-use std::fs::File;
-use std::io::{self, Read, Write};
+use std::io::{self, ErrorKind, Read, Write};
 use std::process::ExitCode;
 use terminal::{STDERR, is_terminal};
-
-/// A datagram was refused, a dump is not complete, or a line is bad.
-const BLEMISHED: u8 = 1;
-
-/// A usage error.
-const USAGE: u8 = 2;
-
-/// A read or a write failed.
-const FAULT: u8 = 3;
-
-/// Memory ran out.
-const MEMORY: u8 = 4;
-
-/// What is named where a write failed.
-const STANDARD_OUTPUT: Name<'static> = Name(Some("standard output"));
-
-/// An exit status, after a message on standard error, be it printed or not.
-fn failed(_printed: io::Result<()>, status: u8) -> ExitCode {
-    ExitCode::from(status)
-}
-
-/// This exit status, after one more line on standard error, be it printed or not.
-fn followed(_printed: io::Result<()>, status: ExitCode) -> ExitCode {
-    status
-}
-
-/// The exit status of a run that was explained, or could not be.
-fn after(rt: &HostRuntime, written: io::Result<()>, status: ExitCode) -> ExitCode {
-    match written {
-        Ok(()) => status,
-        Err(error) => followed(eprintln!(rt; "rtnl: not explained: {error}"), status),
-    }
-}
-
-/// The exit status of a run over a recording of this name, with a line on standard error where it
-/// failed. A file is named where it is what failed.
-fn outcome(rt: &HostRuntime, name: Name<'_>, answer: Result<Verdict, RunError>) -> ExitCode {
-    match answer {
-        Ok(Verdict::Clean) => ExitCode::SUCCESS,
-        Ok(Verdict::Blemished) => ExitCode::from(BLEMISHED),
-        Err(error) => {
-            let (status, is_of_input) = match error {
-                RunError::BadLine(_) => (BLEMISHED, true),
-                RunError::ReadFault => (FAULT, true),
-                RunError::WriteFault => (FAULT, false),
-                RunError::Memory => (MEMORY, false),
-            };
-            if is_of_input && name.is_file() {
-                failed(eprintln!(rt; "rtnl: {name}: {error}"), status)
-            } else {
-                failed(eprintln!(rt; "rtnl: {error}"), status)
-            }
-        }
-    }
-}
-
-/// Names the command that shows this file, on standard error.
-fn name_show(rt: &HostRuntime, dashes: &str, file: &str) -> io::Result<()> {
-    let name = Escaped(file);
-    if file.is_empty() || file.contains(char::is_whitespace) {
-        eprintln!(rt; "rtnl: to show a recording: rtnl show {dashes}\"{name}\"")
-    } else {
-        eprintln!(rt; "rtnl: to show a recording: rtnl show {dashes}{name}")
-    }
-}
-
-/// Prints help or the version on standard output, or a usage error on standard error.
-fn print_message(rt: &HostRuntime, message: &Error, arguments: &[String]) -> ExitCode {
-    let printed = message.print(rt);
-    if message.use_stderr() {
-        return match unknown_command(message, arguments) {
-            Some((dashes, file)) => failed(name_show(rt, dashes, file), USAGE),
-            None => failed(printed, USAGE),
-        };
-    }
-    match printed {
-        Ok(()) => ExitCode::SUCCESS,
-        Err(_) => outcome(rt, Name(None), Err(RunError::WriteFault)),
-    }
-}
 
 /// Runs an engine over a source; what it prints goes to a sink.
 fn run<S: Source, W: Sink>(
@@ -141,58 +70,44 @@ fn run<S: Source, W: Sink>(
     }
 }
 
-/// Runs over what a reader gives; what is printed goes to standard output.
-fn run_over<R: Read + Drop>(rt: &HostRuntime, name: Name<'_>, reader: R, work: &Work) -> ExitCode {
-    let mut source = ReadSource::new(reader);
-    let mut sink = WriteSink::new(io::writer(rt));
+/// Runs over a recording as it is read; what is printed goes to standard output.
+fn run_over(rt: &HostRuntime, name: Name<'_>, mut reading: Reading<'_>, work: &Work) -> ExitCode {
+    let mut writer = standard_output(rt);
+    let mut source = ReadSource::new(&mut reading);
+    let mut sink = WriteSink::new(&mut writer);
     let answer = run(rt, &mut source, &mut sink, work);
-    let status = outcome(rt, name, answer);
-    // Where no read failed, the input is too long.
-    let is_too_long = answer == Err(RunError::ReadFault) && source.failures() == 0;
-    if is_too_long && is_terminal(rt, STDERR) {
-        return after(rt, hint_too_long(rt, name), status);
-    }
-    status
+    let causes = Causes {
+        read: reading.error,
+        written: writer.error,
+    };
+    ended(rt, name, answer, causes)
 }
 
-/// All that a reader gives, up to the longest input and one byte more.
-fn read_all<R: Read + Drop>(alloc: Global, reader: R) -> io::Result<Vec<u8>> {
+/// All of a recording, up to the longest input and one byte more.
+fn read_all(alloc: Global, reading: Reading<'_>) -> io::Result<Vec<u8>> {
     let mut input = Vec::new(alloc);
-    reader
+    reading
         .take(LONGEST_INPUT as u64 + 1)
         .read_to_end(&mut input)?;
     Ok(input)
 }
 
-/// The exit status of a read or a write that failed, after the fixed line and, where it is asked
-/// for, the system's reason.
-fn faulty(
-    rt: &HostRuntime,
-    fault: RunError,
-    name: Name<'_>,
-    error: &io::Error,
-    explain: bool,
-) -> ExitCode {
-    if error.kind() == io::ErrorKind::OutOfMemory {
-        return outcome(rt, name, Err(RunError::Memory));
-    }
-    let status = outcome(rt, name, Err(fault));
-    if explain {
-        return followed(eprintln!(rt; "rtnl: {name}: {error}"), status);
-    }
-    status
-}
-
-/// Runs over an input in memory, and says on a terminal what can be done about what was missed.
+/// Runs over an input in memory, and says what can be done about what was missed.
 fn run_kept(rt: &HostRuntime, name: Name<'_>, input: &[u8], work: &Work) -> ExitCode {
+    let mut writer = standard_output(rt);
     let mut source = SliceSource::new(input);
-    let mut sink = WriteSink::new(io::writer(rt));
+    let mut sink = WriteSink::new(&mut writer);
     let answer = run(rt, &mut source, &mut sink, work);
-    let status = outcome(rt, name, answer);
-    if answer == Ok(Verdict::Clean) || !is_terminal(rt, STDERR) {
-        return status;
+    if answer == Err(RunError::WriteFault) {
+        return unwritten(rt, writer.error);
     }
-    let told = tell(rt, name, input, work, answer, Detail::Hints);
+    let detail = if is_terminal(rt, STDERR) {
+        Detail::Hints
+    } else {
+        Detail::Least
+    };
+    let status = outcome(rt, answer);
+    let told = tell(rt, name, input, work, answer, detail);
     after(rt, told, status)
 }
 
@@ -205,46 +120,36 @@ fn run_explained(rt: &HostRuntime, name: Name<'_>, input: &[u8], work: &Work) ->
         Err(RunError::WriteFault) => Err(RunError::Memory),
         answer => answer,
     };
-    if answer.is_ok() {
-        if let Err(error) = io::writer(rt).write_all(sink.bytes.as_slice()) {
-            return faulty(rt, RunError::WriteFault, STANDARD_OUTPUT, &error, true);
-        }
+    if answer.is_ok()
+        && let Err(error) = standard_output(rt).write_all(sink.bytes.as_slice())
+    {
+        return unwritten(rt, Some(error));
     }
-    let status = outcome(rt, name, answer);
+    let status = outcome(rt, answer);
     let told = tell(rt, name, input, work, answer, Detail::All);
     after(rt, told, status)
-}
-
-/// All of a file, or of standard input where none is named.
-fn read_file(rt: &HostRuntime, file: Option<&str>) -> io::Result<Vec<u8>> {
-    match file {
-        None => read_all(rt.alloc(), rt.reader()),
-        Some(path) => read_all(rt.alloc(), File::open(rt, path)?),
-    }
 }
 
 /// Does with a recording what is asked for.
 fn perform_work(rt: &HostRuntime, work: &Work, explain: bool, file: Option<&str>) -> ExitCode {
     let name = Name(file);
-    if explain {
-        return match read_file(rt, file) {
-            Ok(input) => run_explained(rt, name, input.as_slice(), work),
-            Err(error) => faulty(rt, RunError::ReadFault, name, &error, explain),
-        };
+    let reading = match Reading::open(rt, file) {
+        Ok(reading) => reading,
+        Err(error) => return unread(rt, name, error),
+    };
+    if !explain {
+        return run_over(rt, name, reading, work);
     }
-    match file {
-        None => run_over(rt, name, rt.reader(), work),
-        Some(path) => match File::open(rt, path) {
-            Ok(opened) => run_over(rt, name, opened, work),
-            Err(_) => outcome(rt, name, Err(RunError::ReadFault)),
-        },
+    match read_all(rt.alloc(), reading) {
+        Ok(input) => run_explained(rt, name, input.as_slice(), work),
+        Err(error) => unread(rt, name, error),
     }
 }
 
 /// The exit status of a recording that was followed, after what was counted, which is said on a
 /// terminal.
-fn followed_status(rt: &HostRuntime, ended: Ended) -> ExitCode {
-    let status = if ended.is_clean {
+fn followed_status(rt: &HostRuntime, ended: Ended, is_lossy: bool) -> ExitCode {
+    let status = if ended.is_clean && !is_lossy {
         ExitCode::SUCCESS
     } else {
         ExitCode::from(BLEMISHED)
@@ -258,23 +163,22 @@ fn followed_status(rt: &HostRuntime, ended: Ended) -> ExitCode {
         bad_lines,
         ..
     } = ended.counts;
-    let counted = eprintln!(rt;
+    let counted = eprintln!(Errors(rt);
         "rtnl: {datagrams} datagrams, {refused} refused, {bad_lines} bad lines"
     );
     followed(counted, status)
 }
 
-/// Follows what a reader gives; what is printed goes to standard output.
-fn follow_over<R: Read + Drop>(
+/// Follows a recording as it is read; what is printed goes to standard output.
+fn follow_over(
     rt: &HostRuntime,
     name: Name<'_>,
-    reader: R,
+    mut reading: Reading<'_>,
     how: &Follow,
     explain: bool,
 ) -> ExitCode {
-    let mut reader = Noting::new(reader);
-    let mut writer = Noting::new(io::writer(rt));
-    let mut source = ReadSource::new(&mut reader);
+    let mut writer = standard_output(rt);
+    let mut source = ReadSource::new(&mut reading);
     let mut sink = WriteSink::new(&mut writer);
     let mut named = Named {
         rt,
@@ -285,17 +189,13 @@ fn follow_over<R: Read + Drop>(
         is_ended: false,
     };
     match follow(&mut source, &mut sink, &mut named, how) {
-        Ok(ended) => followed_status(rt, ended),
+        Ok(counted) => followed_status(rt, counted, reading.is_lossy),
         Err(fault) => {
-            let noted = match fault {
-                RunError::ReadFault => reader.error.map(|error| (name, error)),
-                RunError::WriteFault => writer.error.map(|error| (STANDARD_OUTPUT, error)),
-                RunError::BadLine(_) | RunError::Memory => None,
+            let causes = Causes {
+                read: reading.error,
+                written: writer.error,
             };
-            match noted {
-                Some((name, error)) => faulty(rt, fault, name, &error, explain),
-                None => outcome(rt, name, Err(fault)),
-            }
+            ended(rt, name, Err(fault), causes)
         }
     }
 }
@@ -303,59 +203,45 @@ fn follow_over<R: Read + Drop>(
 /// Follows a recording as it comes.
 fn perform_follow(rt: &HostRuntime, how: &Follow, explain: bool, file: Option<&str>) -> ExitCode {
     let name = Name(file);
-    match file {
-        None => follow_over(rt, name, rt.reader(), how, explain),
-        Some(path) => match File::open(rt, path) {
-            Ok(opened) => follow_over(rt, name, opened, how, explain),
-            Err(error) => faulty(rt, RunError::ReadFault, name, &error, explain),
-        },
+    match Reading::open(rt, file) {
+        Ok(reading) => follow_over(rt, name, reading, how, explain),
+        Err(error) => unread(rt, name, error),
     }
 }
 
-/// Prints the usage error of a table whose dump isn't known.
-fn print_unnamed(
-    rt: &HostRuntime,
-    sought: Sought,
-    name: Name<'_>,
-    error: Option<&io::Error>,
-) -> ExitCode {
-    match unnamed(rt.alloc(), sought, name, error) {
-        Ok(message) => failed(message.print(rt), USAGE),
-        Err(AllocError) => outcome(rt, name, Err(RunError::Memory)),
-    }
-}
-
-/// Reads a recording as the answers to a dump. It is read only once, so it is kept where it may name
-/// the numbers of the dump, or more may have to be said of it.
+/// Reads a recording as the answers to a dump. It is read only once, so it is kept: it may name the
+/// dump, and more may have to be said of it.
 fn perform_table(rt: &HostRuntime, table: &Table, explain: bool, file: Option<&str>) -> ExitCode {
     let (name, sought) = (Name(file), table.sought);
-    if let Some(work) = table.work(b"")
-        && !explain
-        && !is_terminal(rt, STDERR)
-    {
-        return perform_work(rt, &work, explain, file);
-    }
-    let read = match file {
-        None => read_all(rt.alloc(), rt.reader()),
-        Some(path) => match File::open(rt, path) {
-            Ok(opened) => read_all(rt.alloc(), opened),
-            Err(error) if !sought.is_whole() && error.kind() != io::ErrorKind::OutOfMemory => {
-                return print_unnamed(rt, sought, name, Some(&error));
-            }
-            Err(error) => Err(error),
-        },
+    let reading = match Reading::open(rt, file) {
+        Ok(reading) => reading,
+        Err(error) if !sought.is_whole() && error.kind() != ErrorKind::OutOfMemory => {
+            return print_unnamed(rt, sought, None, name, Some(&error));
+        }
+        Err(error) => return unread(rt, name, error),
     };
-    let input = match read {
+    let input = match read_all(rt.alloc(), reading) {
         Ok(input) => input,
-        Err(error) => return faulty(rt, RunError::ReadFault, name, &error, explain),
+        Err(error) => return unread(rt, name, error),
     };
     let Some(work) = table.work(input.as_slice()) else {
-        return print_unnamed(rt, sought, name, None);
+        let found = heading_in(input.as_slice());
+        return print_unnamed(rt, sought, found, name, None);
     };
     if explain {
         run_explained(rt, name, input.as_slice(), &work)
     } else {
         run_kept(rt, name, input.as_slice(), &work)
+    }
+}
+
+/// Prints a request.
+fn perform_request(rt: &HostRuntime, kind: Kind, family: u8, seq: u32, order: Order) -> ExitCode {
+    let mut writer = standard_output(rt);
+    let mut sink = WriteSink::new(&mut writer);
+    match run_request_ordered(rt.alloc(), &mut sink, kind, family, seq, order) {
+        Err(RunError::WriteFault) => unwritten(rt, writer.error),
+        answer => outcome(rt, answer),
     }
 }
 
@@ -382,30 +268,28 @@ fn perform(rt: &HostRuntime, task: &Task) -> ExitCode {
             family,
             seq,
             order,
-        } => {
-            let mut sink = WriteSink::new(io::writer(rt));
-            let answer = run_request_ordered(rt.alloc(), &mut sink, *kind, *family, *seq, *order);
-            outcome(rt, Name(None), answer)
-        }
+        } => perform_request(rt, *kind, *family, *seq, *order),
+    }
+}
+
+/// Does what these arguments, the program's name first, ask for.
+fn perform_given(rt: &HostRuntime, arguments: &[String]) -> ExitCode {
+    match arguments::parse(rt.alloc(), arguments) {
+        Ok(Parsed::Task(task)) => perform(rt, &task),
+        Ok(Parsed::Message(message)) => print_message(rt, &message, arguments),
+        Err(AllocError) => outcome(rt, Err(RunError::Memory)),
     }
 }
 
 fn main(rt: HostRuntime) -> ExitCode {
-    let alloc = rt.alloc();
-    let given = match std::env::args(&rt) {
-        Ok(given) => given,
-        Err(error) => match error.kind() {
-            io::ErrorKind::OutOfMemory => return outcome(&rt, Name(None), Err(RunError::Memory)),
-            _ => return failed(eprintln!(rt; "rtnl: an argument is not text"), USAGE),
-        },
-    };
-    let arguments: Vec<String> = match given.collect(alloc) {
-        Ok(arguments) => arguments,
-        Err(_) => return outcome(&rt, Name(None), Err(RunError::Memory)),
-    };
-    match arguments::parse(alloc, arguments.as_slice()) {
-        Ok(Parsed::Task(task)) => perform(&rt, &task),
-        Ok(Parsed::Message(message)) => print_message(&rt, &message, arguments.as_slice()),
-        Err(_) => outcome(&rt, Name(None), Err(RunError::Memory)),
+    match read_given(&rt) {
+        Ok(Given::Texts(arguments)) => perform_given(&rt, arguments.as_slice()),
+        Ok(Given::NoText(shown)) => failed(
+            eprintln!(Errors(&rt);
+                "rtnl: {shown} is not UTF-8; a file of such a name is read by rtnl show <FILE"
+            ),
+            USAGE,
+        ),
+        Err(AllocError) => outcome(&rt, Err(RunError::Memory)),
     }
 }

@@ -1,0 +1,59 @@
+//! Help, the version and usage errors, as they are printed.
+
+use crate::arguments::{Sought, unknown_command, unnamed};
+use crate::heading::Heading;
+use crate::name::{Escaped, Name};
+use crate::output::{Errors, standard_output};
+use crate::standard_error::{USAGE, failed, outcome, unwritten};
+use clap::Error;
+use rtnl::RunError;
+use std::alloc::AllocError;
+use std::io::{self, Write};
+use std::process::ExitCode;
+
+/// Names the command that shows this file, on standard error.
+fn name_show(rt: &HostRuntime, dashes: &str, file: &str) -> io::Result<()> {
+    let name = Escaped(file);
+    if file.is_empty() || file.contains(char::is_whitespace) {
+        eprintln!(Errors(rt); "rtnl: to show a recording: rtnl show {dashes}\"{name}\"")
+    } else {
+        eprintln!(Errors(rt); "rtnl: to show a recording: rtnl show {dashes}{name}")
+    }
+}
+
+/// Prints help or the version on standard output.
+fn print_help(rt: &HostRuntime, message: &Error) -> ExitCode {
+    let Ok(text) = message.to_string(rt.alloc()) else {
+        return outcome(rt, Err(RunError::Memory));
+    };
+    match standard_output(rt).write_all(text.as_bytes()) {
+        Ok(()) => ExitCode::SUCCESS,
+        Err(error) => unwritten(rt, Some(error)),
+    }
+}
+
+/// Prints help or the version on standard output, or a usage error on standard error.
+pub(crate) fn print_message(rt: &HostRuntime, message: &Error, arguments: &[String]) -> ExitCode {
+    if !message.use_stderr() {
+        return print_help(rt, message);
+    }
+    let printed = Errors(rt).eprint(message);
+    match unknown_command(message, arguments) {
+        Some((dashes, file)) => failed(name_show(rt, dashes, file), USAGE),
+        None => failed(printed, USAGE),
+    }
+}
+
+/// Prints the usage error of a table whose dump isn't known.
+pub(crate) fn print_unnamed(
+    rt: &HostRuntime,
+    sought: Sought,
+    found: Option<Heading>,
+    name: Name<'_>,
+    error: Option<&io::Error>,
+) -> ExitCode {
+    match unnamed(rt.alloc(), sought, found, name, error) {
+        Ok(message) => failed(Errors(rt).eprint(&message), USAGE),
+        Err(AllocError) => outcome(rt, Err(RunError::Memory)),
+    }
+}

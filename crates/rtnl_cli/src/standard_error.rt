@@ -1,0 +1,122 @@
+//! The fixed lines on standard error, the reasons behind them, and the exit statuses.
+
+use crate::hints::hint_too_long;
+use crate::name::Name;
+use crate::output::Errors;
+use rtnl::{RunError, Verdict};
+use std::io::{self, ErrorKind};
+use std::process::ExitCode;
+
+/// A datagram was refused, a dump is not complete, or a line is bad.
+pub(crate) const BLEMISHED: u8 = 1;
+
+/// A usage error.
+pub(crate) const USAGE: u8 = 2;
+
+/// A read or a write failed.
+const FAULT: u8 = 3;
+
+/// Memory ran out.
+const MEMORY: u8 = 4;
+
+/// What is named where a write failed.
+const STANDARD_OUTPUT: Name<'static> = Name(Some("standard output"));
+
+/// Why a read and a write failed, as far as the system said it.
+#[derive(Clone, Copy)]
+pub(crate) struct Causes {
+    pub read: Option<io::Error>,
+    pub written: Option<io::Error>,
+}
+
+/// An exit status, after a message on standard error, be it printed or not.
+pub(crate) fn failed(_printed: io::Result<()>, status: u8) -> ExitCode {
+    ExitCode::from(status)
+}
+
+/// This exit status, after one more line on standard error, be it printed or not.
+pub(crate) fn followed(_printed: io::Result<()>, status: ExitCode) -> ExitCode {
+    status
+}
+
+/// The exit status of a run of which more was to be said.
+pub(crate) fn after(rt: &HostRuntime, written: io::Result<()>, status: ExitCode) -> ExitCode {
+    match written {
+        Ok(()) => status,
+        Err(error) => followed(
+            eprintln!(Errors(rt); "rtnl: not explained: {error}"),
+            status,
+        ),
+    }
+}
+
+/// The exit status of a run, with the fixed line where it failed.
+pub(crate) fn outcome(rt: &HostRuntime, answer: Result<Verdict, RunError>) -> ExitCode {
+    match answer {
+        Ok(Verdict::Clean) => ExitCode::SUCCESS,
+        Ok(Verdict::Blemished) => ExitCode::from(BLEMISHED),
+        Err(error) => {
+            let status = match error {
+                RunError::BadLine(_) => BLEMISHED,
+                RunError::ReadFault | RunError::WriteFault => FAULT,
+                RunError::Memory => MEMORY,
+            };
+            failed(eprintln!(Errors(rt); "rtnl: {error}"), status)
+        }
+    }
+}
+
+/// Writes the system's reason behind the name of what failed.
+fn name_reason(rt: &HostRuntime, name: Name<'_>, error: io::Error) -> io::Result<()> {
+    eprintln!(Errors(rt); "rtnl: {name}: {error}")
+}
+
+/// Names the file that a bad line stands in, if it is one.
+pub(crate) fn name_file(rt: &HostRuntime, name: Name<'_>) -> io::Result<()> {
+    if name.is_file() {
+        eprintln!(Errors(rt); "rtnl: {name}: bad line")
+    } else {
+        Ok(())
+    }
+}
+
+/// The exit status where a recording of this name couldn't be opened or read.
+pub(crate) fn unread(rt: &HostRuntime, name: Name<'_>, error: io::Error) -> ExitCode {
+    if error.kind() == ErrorKind::OutOfMemory {
+        return outcome(rt, Err(RunError::Memory));
+    }
+    let status = outcome(rt, Err(RunError::ReadFault));
+    followed(name_reason(rt, name, error), status)
+}
+
+/// The exit status where standard output took no more, for this reason where the system said one.
+pub(crate) fn unwritten(rt: &HostRuntime, error: Option<io::Error>) -> ExitCode {
+    let status = outcome(rt, Err(RunError::WriteFault));
+    match error {
+        Some(error) => followed(name_reason(rt, STANDARD_OUTPUT, error), status),
+        None => status,
+    }
+}
+
+/// The exit status of a run over a recording of this name, with the fixed line where it failed and
+/// the reason behind it.
+pub(crate) fn ended(
+    rt: &HostRuntime,
+    name: Name<'_>,
+    answer: Result<Verdict, RunError>,
+    causes: Causes,
+) -> ExitCode {
+    match (answer, causes.read) {
+        (Err(RunError::ReadFault), Some(error)) => return unread(rt, name, error),
+        (Err(RunError::WriteFault), _) => return unwritten(rt, causes.written),
+        _ => {}
+    }
+    let status = outcome(rt, answer);
+    let said = match answer {
+        // No read failed.
+        Err(RunError::ReadFault) => hint_too_long(rt, name),
+        Err(RunError::BadLine(_)) => name_file(rt, name),
+        _ => Ok(()),
+    };
+    followed(said, status)
+}
