@@ -518,3 +518,7 @@ usage "${links[@]}" --seq 2
 usage "${links[@]}" --depth
 usage "${links[@]}" "$folder/link" "$folder/links"
 usage "${links[@]}" --depth 33 "$folder/missing"
+
+# ---- time
+
+check 'table: keys that were chosen to collide' tests/program/colliding.py "$program"

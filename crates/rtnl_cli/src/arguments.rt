@@ -10,7 +10,7 @@ use clap::error::ErrorKind;
 use clap::{ArgMatches, Error};
 use itoa::Buffer;
 use nl_attr::Order;
-use rtnl::dump::{Dump, Kind};
+use rtnl::dump::{Dump, Kind, Seed};
 use rtnl::frame::Limits;
 use std::alloc::{AllocError, Global};
 use std::io;
@@ -28,7 +28,7 @@ const MOST_FOLLOWED: u64 = 1 << 40;
 const NUMBERS: [&str; 5] = ["seq", "port", "family", "depth", "entries"];
 
 /// What is done with a recording.
-#[derive(Clone, Copy, Debug, PartialEq, Eq)]
+#[derive(Clone, Copy, Debug)]
 pub(crate) enum Engine {
     /// Print each datagram, coloured or not.
     Show(Color),
@@ -36,8 +36,8 @@ pub(crate) enum Engine {
     ShowBytes(Color),
     /// Print of each datagram whether it is canonical, accepted, or why it is refused.
     Check,
-    /// Read the datagrams as the answers to a dump, and print its table.
-    Table(Dump),
+    /// Read the datagrams as the answers to a dump, and print its table, which hashes by the seed.
+    Table(Dump, Seed),
 }
 
 /// How what is found is printed.
@@ -130,7 +130,7 @@ pub(crate) struct Table {
 
 impl Table {
     /// What is done with this recording, where the options or it say which dump it answers.
-    pub(crate) fn work(&self, input: &[u8]) -> Option<Work>
+    pub(crate) fn work(&self, input: &[u8], seed: Seed) -> Option<Work>
         ensures asked { IfSome result (λ work. (work.format ≡ self.now.format)
             × (work.limits ≡ self.now.limits)) }
         ensures whole { IsSome self.now.sought.kind → IsSome self.now.sought.seq
@@ -142,7 +142,7 @@ impl Table {
             heading_in(input)
         };
         Some(Work {
-            engine: Engine::Table(self.sought.dump(found)?),
+            engine: Engine::Table(self.sought.dump(found)?, seed),
             format: self.format,
             limits: self.limits,
         })

@@ -11,7 +11,7 @@ use crate::place::Around;
 use crate::standard_error::name_file;
 use crate::subject::Subject;
 use nl_attr::Reason;
-use rtnl::dump::{Dump, FeedError, Session};
+use rtnl::dump::{Dump, FeedError, Seed, Session};
 use rtnl::frame::{Limits, ScanError};
 use rtnl::{LONGEST_LINE, LineFault, RunError, Tape, Verdict, datagrams, line_fault, tape_of};
 use std::alloc::AllocError;
@@ -213,10 +213,10 @@ fn tell_dump(
     rt: &HostRuntime,
     found: &[Vec<u8>],
     limits: &Limits,
-    dump: Dump,
+    (dump, seed): (Dump, Seed),
     detail: Detail,
 ) -> io::Result<()> {
-    let mut session = Session::new(rt.alloc(), *limits)?;
+    let mut session = Session::with_seed(rt.alloc(), *limits, seed)?;
     if session
         .begin(dump.kind, dump.family, dump.seq, dump.port)
         .is_err()
@@ -252,7 +252,7 @@ fn tell_datagrams(
 ) -> io::Result<()> {
     let (alloc, limits) = (rt.alloc(), &work.limits);
     let is_other = match work.engine {
-        Engine::Table(dump) => begins_otherwise(alloc, input, dump, limits)?,
+        Engine::Table(dump, _) => begins_otherwise(alloc, input, dump, limits)?,
         _ => false,
     };
     if !is_other && (verdict == Verdict::Clean || detail == Detail::Least) {
@@ -262,7 +262,9 @@ fn tell_datagrams(
         return Err(AllocError.into());
     };
     match (work.engine, detail) {
-        (Engine::Table(dump), _) => tell_dump(rt, found.as_slice(), limits, dump, detail),
+        (Engine::Table(dump, seed), _) => {
+            tell_dump(rt, found.as_slice(), limits, (dump, seed), detail)
+        }
         (_, Detail::All) => explain_each(rt, found.as_slice(), limits),
         (_, Detail::Least | Detail::Hints) => Ok(()),
     }

@@ -31,11 +31,11 @@ use name::Name;
 use nl_attr::Order;
 use output::{Errors, standard_output};
 use reading::Reading;
-use rtnl::dump::Kind;
+use rtnl::dump::{Kind, Seed};
 use rtnl::{
     Followed, LONGEST_INPUT, ReadSource, RunError, Sink, SliceSource, Source, VecSink, Verdict,
     WriteSink, run_check, run_check_json, run_request_ordered, run_show, run_show_bytes,
-    run_show_coloured, run_show_json, run_table, run_table_json,
+    run_show_coloured, run_show_json, run_table_json, run_table_with_seed,
 };
 use standard_error::{
     BLEMISHED, Causes, USAGE, after, ended, failed, followed, outcome, unread, unwritten,
@@ -43,6 +43,7 @@ use standard_error::{
 use std::alloc::{AllocError, Global};
 use std::io::{self, ErrorKind, Read, Write};
 use std::process::ExitCode;
+use std::random::RandomSource;
 use terminal::{STDERR, is_terminal};
 
 /// Runs an engine over a source; what it prints goes to a sink.
@@ -65,8 +66,12 @@ fn run<S: Source, W: Sink>(
         }
         (Engine::Check, Format::Text) => run_check(alloc, source, sink, limits),
         (Engine::Check, Format::Json) => run_check_json(alloc, source, sink, limits),
-        (Engine::Table(dump), Format::Text) => run_table(alloc, source, sink, dump, limits),
-        (Engine::Table(dump), Format::Json) => run_table_json(alloc, source, sink, dump, limits),
+        (Engine::Table(dump, seed), Format::Text) => {
+            run_table_with_seed(alloc, source, sink, dump, limits, seed)
+        }
+        (Engine::Table(dump, seed), Format::Json) => {
+            run_table_json(alloc, source, sink, dump, limits, seed)
+        }
     }
 }
 
@@ -209,6 +214,16 @@ fn perform_follow(rt: &HostRuntime, how: &Follow, explain: bool, file: Option<&s
     }
 }
 
+/// What is named where the system gives no seed.
+const RANDOM_BYTES: Name<'static> = Name(Some("random bytes"));
+
+/// A seed that nobody knows.
+fn random_seed(rt: &HostRuntime) -> io::Result<Seed> {
+    let mut bytes = [0; 16];
+    rt.fill_bytes(&mut bytes)?;
+    Ok(Seed::from_bytes(bytes))
+}
+
 /// Reads a recording as the answers to a dump. It is read only once, so it is kept: it may name the
 /// dump, and more may have to be said of it.
 fn perform_table(rt: &HostRuntime, table: &Table, explain: bool, file: Option<&str>) -> ExitCode {
@@ -224,7 +239,11 @@ fn perform_table(rt: &HostRuntime, table: &Table, explain: bool, file: Option<&s
         Ok(input) => input,
         Err(error) => return unread(rt, name, error),
     };
-    let Some(work) = table.work(input.as_slice()) else {
+    let seed = match random_seed(rt) {
+        Ok(seed) => seed,
+        Err(error) => return unread(rt, RANDOM_BYTES, error),
+    };
+    let Some(work) = table.work(input.as_slice(), seed) else {
         let found = heading_in(input.as_slice());
         return print_unnamed(rt, sought, found, name, None);
     };
