@@ -12,6 +12,8 @@ import rtnl
 
 SIZE = 65536
 AGAIN = 10
+# How a byte of a name is printed: one that a terminal doesn't just print is written as \x1b is.
+SHOWN = [chr(it) if 0x20 < it < 0x7F and it != 0x5C else f"\\x{it:02x}" for it in range(256)]
 
 
 class Failed(Exception):
@@ -84,17 +86,11 @@ class Source:
         raise Failed("interrupted")
 
 
-def plain(text: str) -> str:
-    """A text in which the bytes that a terminal doesn't just print are written as \\x1b is. A name
-    may have any."""
-    found = text.encode("utf-8", "surrogateescape")
-    return "".join(chr(it) if 0x20 < it < 0x7F and it != 0x5C else f"\\x{it:02x}" for it in found)
-
-
 def say(*fields: object) -> None:
     """Prints a line of these fields, with a dash for a missing one."""
     texts = ("" if it is None else str(it) for it in fields)
-    print(*(plain(text) or "-" for text in texts))
+    data = (it.encode("utf-8", "surrogateescape") for it in texts)
+    print(*("".join(SHOWN[byte] for byte in it) or "-" for it in data))
 
 
 def why(error: Exception) -> Failed:

@@ -101,7 +101,7 @@ class Examples(unittest.TestCase):
         found = self.over("links", [two, bare, odd, done(**NUMBERS)])
         wanted = (
             "lo UNKNOWN 65536 00:00:00:00:00:00\neth0 UP 1500 02:00:00:00:00:01\n"
-            "- - - -\n\ufffd - - -\n"
+            "- - - -\n\\xff - - -\n"
         )
         self.assertEqual(found, (wanted, "", 0))
         request = struct.pack("<IHHII", 32, 18, 0x301, 1, 0) + bytes(16)
