@@ -152,10 +152,13 @@ def trace_of(call: str, data: bytes) -> bytes:
     return f'{call}(3<NETLINK:[ROUTE:7]>, "{quoted}", {len(data)}, 0) = {len(data)}\n'.encode()
 
 
-def capture_of(data: bytes) -> bytes:
-    head = struct.pack("<IHHiIII", 0xa1b2c3d4, 2, 4, 0, 0, 1 << 16, 253)
-    size = len(data) + 16
-    return head + struct.pack("<8xII", size, size) + bytes.fromhex("00040338") + bytes(12) + data
+def capture_of(found: List[bytes]) -> bytes:
+    """A pcap file of nlmon with these datagrams."""
+    head = struct.pack("<IHHiIII", 0xa1b2c3d4, 2, 4, 0, 0, 1 << 17, 253)
+    front = bytes.fromhex("00040338") + bytes(12)
+    sizes = (len(front) + len(it) for it in found)
+    return head + b"".join(struct.pack("<8xII", size, size) + front + it
+                           for size, it in zip(sizes, found))
 
 
 def requests(browser: Browser) -> Iterator[Case]:
@@ -164,7 +167,7 @@ def requests(browser: Browser) -> Iterator[Case]:
         data = bytes.fromhex(digits)
         kept = digits[:len(digits) - 2 * count]
         cut = f", cut: {count} zero bytes behind the last message"
-        for form, capture in (("strace", trace_of("send", data)), ("pcap", capture_of(data))):
+        for form, capture in (("strace", trace_of("send", data)), ("pcap", capture_of([data]))):
             browser.file(capture, order)
             row = browser.call("key", "tree", "Home")["chosen"]
             wrong = [] if row.endswith(cut) == (count > 0) else [row]
