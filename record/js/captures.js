@@ -1,5 +1,6 @@
 // Files of bytes: pcap and pcapng of an nlmon device, and what rtmon wrote. The numbers that are
-// read here are those of these files; no other script reads a number of what a reader hands in.
+// read here are those of these files, and of requests where they end; no other script reads a
+// number of what a reader hands in.
 
 const NETLINK = 253, COOKED = 16, ROUTE = 0; // LINKTYPE_NETLINK, the bytes in front of a datagram
 const PCAP = { a1b2c3d4: false, d4c3b2a1: true, a1b23c4d: false, "4d3cb2a1": true };
@@ -7,7 +8,8 @@ const SECTION = "0a0d0d0a", SECTIONS = { "1a2b3c4d": false, "4d3c2b1a": true };
 const INTERFACE = 1, PACKET = 2, SIMPLE = 3, ENHANCED = 6; // blocks, and what they begin with
 const FRONTS = { [INTERFACE]: 8, [PACKET]: 20, [SIMPLE]: 4, [ENHANCED]: 20 };
 const FRAME = 12, BEGINNING = 16; // of a block, and of a section in it
-const HEADER = 16, TIME = 15; // of the messages of rtmon, and the type of those that are times
+const HEADER = 16, TIME = 15; // of a message, and the type of those of rtmon that are times
+const REQUEST = 1; // NLM_F_REQUEST
 
 // Bytes from the front to the end, and the place of the next one.
 class Source {
@@ -32,6 +34,29 @@ class Source {
   }
 }
 
+// Where the whole messages end that a datagram begins with, if all are requests; or else 0.
+function endOfRequests(bytes, isLittle) {
+  const source = Object.assign(new Source(bytes), { isLittle });
+  let place = 0;
+  while (place + HEADER <= bytes.length) {
+    const length = source.u32(place);
+    if (length < HEADER || length > bytes.length - place) break;
+    if (!(source.u16(place + 6) & REQUEST)) return 0;
+    place += (length + 3) & ~3;
+  }
+  return place;
+}
+
+// Adds a datagram that may have been sent. Some programs send all of a buffer, and the kernel
+// passes over what stands behind the last request: zero bytes are left out there.
+function addSent(found, bytes, from) {
+  const isTail = (end) => end > 0 && end < bytes.length && !bytes.subarray(end).some(Boolean);
+  const end = [true, false].map((isLittle) => endOfRequests(bytes, isLittle)).find(isTail);
+  const cut = `, cut: ${bytes.length - end} zero bytes behind the last message`;
+  if (end === undefined) found.add(bytes, from);
+  else found.add(bytes.slice(0, end), from + cut);
+}
+
 // Takes the datagrams for rtnetlink out of packets, and counts all others.
 class Packets {
   constructor(found) {
@@ -51,7 +76,7 @@ class Packets {
     if (rest > LONGEST) refuse(`${place}: a datagram of ${rest} bytes, above ${LONGEST}`);
     const bytes = source.take(rest, place, packet);
     if (kept < size) this.found.cut(place, bytes, size - COOKED, place);
-    else this.found.add(bytes, place);
+    else addSent(this.found, bytes, place);
   }
 
   end() {

@@ -152,7 +152,8 @@ class Trace {
     if (room < moved) this.found.cut(place, bytes.slice(0, room), moved, from);
     else if (way === "received" && CUT.test(text)) {
       this.found.cut(place, bytes, bytes.length < moved ? moved : null, from);
-    } else if (bytes.length === moved) this.found.add(bytes, from);
+    } else if (bytes.length === moved && way === "sent") addSent(this.found, bytes, from);
+    else if (bytes.length === moved) this.found.add(bytes, from);
     else refuse(`${place}: ${moved} bytes were ${way}, and ${bytes.length} of them are here`);
   }
 }

@@ -5,6 +5,7 @@ import io
 import os
 import random
 import re
+import struct
 import subprocess
 import sys
 from typing import Iterator, List, Tuple
@@ -136,6 +137,46 @@ def bad_lines(browser: Browser) -> Iterator[Case]:
     yield "behind a bad line", differ(run("follow", data=text)[0], browser.copied())
 
 
+GET = "14000000120001030100000000000000" + "11000000"
+WITHOUT = "14000000120000030100000000000000" + "11000000"
+BIG_GET = "00000014001203010000000100000000" + "11000000"
+# What is sent, the order, and how many zero bytes behind it are left out.
+SENT = ((GET + "00" * 128, "little", 128), (GET + GET + "00", "little", 1),
+        (BIG_GET + "00" * 40, "big", 40), (GET, "little", 0), (GET + "00" * 7 + "01", "little", 0),
+        (WITHOUT + "00" * 16, "little", 0), (GET + WITHOUT + "00" * 16, "little", 0),
+        ("00" * 32, "little", 0))
+
+
+def trace_of(call: str, data: bytes) -> bytes:
+    quoted = "".join(f"\\x{it:02x}" for it in data)
+    return f'{call}(3<NETLINK:[ROUTE:7]>, "{quoted}", {len(data)}, 0) = {len(data)}\n'.encode()
+
+
+def capture_of(found: List[bytes]) -> bytes:
+    """A pcap file of nlmon with these datagrams."""
+    head = struct.pack("<IHHiIII", 0xa1b2c3d4, 2, 4, 0, 0, 1 << 17, 253)
+    front = bytes.fromhex("00040338") + bytes(12)
+    sizes = (len(front) + len(it) for it in found)
+    return head + b"".join(struct.pack("<8xII", size, size) + front + it
+                           for size, it in zip(sizes, found))
+
+
+def requests(browser: Browser) -> Iterator[Case]:
+    """The zero bytes behind requests that were sent are left out, and that is said."""
+    for digits, order, count in SENT:
+        data = bytes.fromhex(digits)
+        kept = digits[:len(digits) - 2 * count]
+        cut = f", cut: {count} zero bytes behind the last message"
+        for form, capture in (("strace", trace_of("send", data)), ("pcap", capture_of([data]))):
+            browser.file(capture, order)
+            row = browser.call("key", "tree", "Home")["chosen"]
+            wrong = [] if row.endswith(cut) == (count > 0) else [row]
+            text = differ(shown(kept, order), browser.copied())
+            yield f"{count} bytes behind a request, {form}, {digits[-16:]}", wrong + text
+        browser.file(trace_of("recv", data), order)
+        yield f"received, {digits[-16:]}", differ(shown(digits, order), browser.copied())
+
+
 def many_lines(browser: Browser) -> Iterator[Case]:
     """Megabytes of what is no recording are refused soon, and the window goes on."""
     million = 1_000_000
@@ -172,4 +213,4 @@ def changed(browser: Browser) -> Iterator[Case]:
             yield f"{CHANGED} changed captures of {sort.name}", wrong[:3]
 
 
-CASES = (made_captures, captured_files, dumped, bad_lines, many_lines, changed)
+CASES = (made_captures, captured_files, dumped, bad_lines, requests, many_lines, changed)

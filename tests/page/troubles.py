@@ -8,6 +8,7 @@ from typing import Any, Callable, Iterator, List, NamedTuple, Tuple
 
 from browser import Browser
 from expected import ROOT, differ, shown
+from taken import capture_of
 from wrong_pages import changed
 
 Case = Tuple[str, List[str]]
@@ -87,14 +88,6 @@ def unexpected(browser: Browser) -> Iterator[Case]:
         yield goes_on(browser, f"unexpected: {wanted}")
 
 
-def packets(found: List[bytes]) -> bytes:
-    """A pcap file of nlmon."""
-    head = struct.pack("<IHHiIII", 0xa1b2c3d4, 2, 4, 0, 0, 1 << 17, 253)
-    parts = [struct.pack("<8xII", 16 + len(it), 16 + len(it)) + bytes.fromhex("00040338") + bytes(12)
-             + it for it in found]
-    return b"".join([head, *parts])
-
-
 def link(seq: int, index: int, attrs: bytes = b"") -> bytes:
     return struct.pack("<IHHIIBxHiII", 32 + len(attrs), 16, 2, seq, 0, 0, 0, index, 0, 0) + attrs
 
@@ -102,28 +95,28 @@ def link(seq: int, index: int, attrs: bytes = b"") -> bytes:
 def large_links(count: int) -> bytes:
     """Links that take more memory in a table than the page's module may have."""
     attrs = bytes.fromhex("04003c00") * ((PACKET - 32) // 4)
-    return packets([link(1, it + 1, attrs) for it in range(count)])
+    return capture_of([link(1, it + 1, attrs) for it in range(count)])
 
 
 def many_dumps(count: int) -> bytes:
     """Links, each of a dump of its own."""
     links = [link(it + 1, 1) for it in range(count)]
-    return packets([b"".join(links[it:it + 2000]) for it in range(0, count, 2000)])
+    return capture_of([b"".join(links[it:it + 2000]) for it in range(0, count, 2000)])
 
 
 class Large(NamedTuple):
     name: str
     data: Callable[[], bytes]
     summary: str
-    notes: str
+    notes: List[str]
 
 
 LARGE = (
-    Large("64 MiB of zeros", lambda: bytes(1 << 26), "1 datagram, 67,108,864 bytes", ""),
-    Large("66 MB of no form", lambda: b"\0" + b"\7" * 65_999_999, "1 refused", ""),
+    Large("64 MiB of zeros", lambda: bytes(1 << 26), "1 datagram, 67,108,864 bytes", []),
+    Large("66 MB of no form", lambda: b"\0" + b"\7" * 65_999_999, "1 refused", []),
     Large("200,000 dumps", lambda: many_dumps(200_000), "200,000 messages",
-          "more than 1000 dumps: the others have no table here"),
-    Large("59 MB of links", lambda: large_links(900), "900 messages", ""),
+          ["more than 1000 dumps: the others have no table here"]),
+    Large("59 MB of links", lambda: large_links(900), "900 messages", []),
 )
 
 
@@ -141,7 +134,7 @@ def large(browser: Browser) -> Iterator[Case]:
             end = browser.call("key", "grid", "End")
             took = time.monotonic() - begun
             print(f"{it.name}: {opened:.1f} s, two keys {took:.1f} s")
-            right = it.summary in said["summary"] and said["notes"] == ([it.notes] * bool(it.notes))
+            right = it.summary in said["summary"] and said["notes"] == it.notes
             yield says(it.name, right and len(said["views"]) <= 1001, said)
             yield says(f"{it.name}, in time", opened < 20 and took < 5, (opened, took))
             yield says(f"{it.name}, drawn to its end", len(end["cursor"]) == 1, end)
@@ -160,7 +153,7 @@ def table_too_large(browser: Browser) -> Iterator[Case]:
 
 
 def copies(browser: Browser) -> Iterator[Case]:
-    """What is too long is not copied, and a text goes into the field only where that isn't long."""
+    """What is too long is not copied, and what goes into the field is short."""
     with open(f"{ROOT}/examples/rules.hex", encoding="ascii") as file:
         lines = file.read()
     browser.paste(lines * (15_000_000 // len(lines)))
