@@ -778,8 +778,12 @@ struct rtnlc_put rtnlc_attr_name(uint8_t context, uint16_t number, char *out, si
  * null. */
 const char *rtnlc_code_name(uint8_t code);
 
-/* The version of the library that is linked, as RTNLC_VERSION is that of this header. */
+/* The version of the library that is linked, as RTNLC_VERSION is that of this header; behind it
+ * stands +unproved where the library was compiled without a proof. */
 const char *rtnlc_version(void);
+
+/* Whether the library that is linked was made of what was proved. */
+bool rtnlc_proved(void);
 
 #undef RTNLC_READS
 #undef RTNLC_WRITES
