@@ -9,7 +9,10 @@ set -eu
 mkdir -p -- "$1"
 to=$(cd -- "$1" && pwd)
 cd "$(dirname "$(readlink -f "${BASH_SOURCE[0]}")")/.."
-kit=$(readlink -f "$(command -v rt)") || { echo 'build.sh: rt is not on the PATH' >&2; exit 1; }
+for tool in rt python3 "${CC:-cc}" ld objcopy ar; do
+  command -v "${tool%% *}" >/dev/null || { echo "build.sh: $tool is not on the PATH" >&2; exit 3; }
+done
+kit=$(readlink -f "$(command -v rt)")
 memory=${kit%/bin/*}/c/liblibc_c.a
 folder=$(mktemp -d)
 trap 'rm -rf "$folder"' EXIT

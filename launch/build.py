@@ -29,7 +29,7 @@ sys.path.append(f"{os.path.dirname(os.path.realpath(__file__))}/../c")
 import compiled
 import exports
 import unproved
-from crates import ROOT, Crates, NotBuilt, below, library, listed, outdated
+from crates import ROOT, Crates, below, drop_old_libraries, listed, outdated
 from steps import Failed, Interrupted, say, step, stop_on_signals
 
 OUT = f"{ROOT}/out"
@@ -87,22 +87,19 @@ def stop_without_room() -> None:
 
 
 def commands(made: Made, crates: Crates) -> Iterator[List[str]]:
-    """What proves and builds each crate, lowest first. Of the library those that rt ci built stand,
-    of which rt lib would prove each once more, and those below of which none is built anew."""
-    is_new = made.name == "program"
-    for it in below(crates, made.crate):
-        try:
-            library(it)
-        except NotBuilt:
-            is_new = True
+    """What proves and builds each crate, lowest first. For the library those stand that rt ci built
+    of these sources, with all below them, since rt lib would prove each once more."""
+    is_new, names = made.name == "program", below(crates, made.crate)
+    if not is_new:
+        drop_old_libraries({it: crates[it] for it in names})
+    for it in names:
+        is_new = is_new or not os.path.exists(f"{ROOT}/crates/{it}/out/rlib")
         yield ["rt", "lib"] if is_new else []
     yield ["rt", "run"] if made.name == "program" else [f"{ROOT}/c/archive.py"]
 
 
 def prove(made: Made, crates: Crates) -> str:
     """Proves and builds a crate and those below; an interrupted one goes on."""
-    if shutil.which("rt") is None:
-        raise Failed("rt, which proves and builds it, is not on the PATH")
     names, begun = [*below(crates, made.crate), made.crate], time.time()
     note = "" if os.path.exists(made.proved) else "; up to an hour of processor time in all, once"
     path = f"{os.path.dirname(made.proved)}/build.log"
@@ -175,6 +172,9 @@ def built(name: str) -> str:
             return made.unproved
         if os.environ.get("RTNL_BUILD") == "no":
             raise Failed(f"the {name} is not built from these sources")
+        if shutil.which("rt") is None:
+            why = "and rt, which builds it, is not on the PATH"
+            raise Failed(f"the {name} is not built from these sources, {why}")
         stop_without_room()
         if is_proof_wanted:
             return prove(made, listed())
