@@ -462,4 +462,7 @@ extern "C" {
 
     /// The version of the library that is linked: never null.
     pub fn rtnlc_version() -> *const c_char;
+
+    /// Whether the library that is linked was made of what was proved.
+    pub fn rtnlc_proved() -> bool;
 }
