@@ -36,6 +36,10 @@
 #include <stddef.h>
 #include <stdint.h>
 
+#if defined __BYTE_ORDER__ && __BYTE_ORDER__ != __ORDER_LITTLE_ENDIAN__
+#error "librtnlc is for processors that have the lowest byte first"
+#endif
+
 #ifdef __cplusplus
 extern "C" {
 #endif
@@ -50,6 +54,8 @@ extern "C" {
 #endif
 
 #define RTNLC_VERSION "0.3.0"
+/* What programs are linked with, the first two numbers of the version as one: 0 * 100 + 3. */
+#define RTNLC_ABI 3
 #define RTNLC_STACK 32768
 
 /* Why a call didn't do what it was asked for. */
