@@ -104,7 +104,7 @@ of_clone() {
     chmod +x "$clone/c/build.sh" && (
     cd "$clone/bindings/go" && unset PKG_CONFIG_PATH LD_LIBRARY_PATH && go generate &&
       go build -tags rtnlc_beside -o "$folder/beside" ./examples/links && ! ldd "$folder/beside" | grep librtnlc
-  ) && "$folder/beside" "$folder/nowhere" 2>&1 | grep -q 'no such file'
+  ) && "$folder/beside" "$folder/nowhere" 2>&1 | grep -q 'No such file'
 }
 
 # has_version: the versions of the package, of the changes and of the library are one.
