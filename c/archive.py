@@ -1,9 +1,10 @@
 #!/usr/bin/env python3
 """Proves rtnl_c and makes out/proved/librtnl_c.a over the libraries that lie built in the crates'
-folders out/, as `rt lib` does at its end. `rt ci` builds those libraries anew, and leaves no mark by
-which `rt lib` takes them: that would prove all of them once more. Nor does it make a static library,
-and it removes what crates/rtnl_c/out has. Beside the archive librtnl_c.bc is kept, the code that the
-kit hands to its clang, of which wasm.py makes the module of the page. launch/build.py calls it.
+folders out/, as `rt lib` does at its end. `rt ci` builds those libraries anew, and leaves no mark
+by which `rt lib` takes them: that would prove all of them once more. Nor does it make a static
+library, and it removes what crates/rtnl_c/out has. Beside the archive librtnl_c.bc is kept, the
+code that the kit hands to its clang, of which wasm.py makes the module of the page.
+launch/build.py calls it.
 The status is 1 where a library is missing or older than its sources, or rtnl_c is not proved.
 """
 import os

@@ -18,7 +18,8 @@ folder=$(mktemp -d)
 trap 'rm -rf "$folder"' EXIT
 
 archive=$(launch/build.py library) || exit
-# What the kit built of what it proved names the logic of the proof, and has its calls as C makes them.
+# What the kit built of what it proved names the logic of the proof, and its calls are as C makes
+# them.
 if grep -qaF 'rattle logic=' "$archive"; then
   how=(-DRTNLC_PROVED)
 else

@@ -66,7 +66,8 @@ def library() -> Tuple[str, List[str]]:
     if built.returncode:
         sys.exit(built.returncode)
     path = built.stdout.rstrip("\n")
-    return (archive.CODE, ["-DRTNLC_PROVED"]) if path == archive.ARCHIVE else (f"{path[:-2]}.ll", [])
+    is_proved = path == archive.ARCHIVE
+    return (archive.CODE, ["-DRTNLC_PROVED"]) if is_proved else (f"{path[:-2]}.ll", [])
 
 
 def make(made: str, words: Set[str]) -> None:
