@@ -1,10 +1,10 @@
 #!/usr/bin/env python3
-"""Builds crates/rtnl_c/out/librtnl_c.a over the libraries that lie built in the crates' folders
-out/, as `rt lib` does at its end. It is for a repository that `rt ci` passed: that command builds
-those libraries anew, but no static library, and `rt lib` would prove all of them once more. Here
-rtnl_c alone is proved again. Beside the archive librtnl_c.bc is kept, the code that the kit hands
-to its clang, of which wasm.py makes the module of the page. Nothing is done where the archive is
-there and no source, definition or proof is newer.
+"""Proves rtnl_c and makes out/proved/librtnl_c.a over the libraries that lie built in the crates'
+folders out/, as `rt lib` does at its end. `rt ci` builds those libraries anew, and leaves no mark
+by which `rt lib` takes them: that would prove all of them once more. Nor does it make a static
+library, and it removes what crates/rtnl_c/out has. Beside the archive librtnl_c.bc is kept, the
+code that the kit hands to its clang, of which wasm.py makes the module of the page.
+launch/build.py calls it.
 The status is 1 where a library is missing or older than its sources, or rtnl_c is not proved.
 """
 import os
@@ -16,11 +16,11 @@ from typing import Any, Dict, List, NoReturn
 
 sys.dont_write_bytecode = True
 sys.path.insert(0, f"{os.path.dirname(os.path.realpath(__file__))}/../launch")
-from crates import ROOT, Crates, NotBuilt, below, library, listed, newer
+from crates import ROOT, Crates, NotBuilt, below, library, listed
 from stand_in import stand_in
 
 NAME = "rtnl_c"
-ARCHIVE, CODE = (f"{ROOT}/crates/{NAME}/out/lib{NAME}.{it}" for it in ("a", "bc"))
+ARCHIVE, CODE = (f"{ROOT}/out/proved/lib{NAME}.{it}" for it in ("a", "bc"))
 # Keeps the module that is compiled.
 KEEPER = """#!/bin/sh
 for word in "$@"; do
@@ -33,11 +33,6 @@ exec '{clang}' "$@"
 def stop(why: str) -> NoReturn:
     print(f"archive.py: {why}", file=sys.stderr)
     sys.exit(1)
-
-
-def is_current(crates: Crates, made: str) -> bool:
-    time = os.path.getmtime(made) if os.path.isfile(made) else 0
-    return not any(newer(it, time, "specs", "proofs") for it in [NAME, *below(crates, NAME)])
 
 
 def kit_folder() -> str:
@@ -84,16 +79,8 @@ def build(crates: Crates) -> None:
     os.replace(f"{ARCHIVE}.new", ARCHIVE)
 
 
-def make(*wanted: str) -> None:
-    """Makes these files, the archive or the code, where one of them is not there or is older than
-    the sources."""
-    crates = listed()
-    if not all(is_current(crates, it) for it in wanted):
-        try:
-            build(crates)
-        except NotBuilt as error:
-            stop(f"{error}")
-
-
 if __name__ == "__main__":
-    make(ARCHIVE)
+    try:
+        build(listed())
+    except NotBuilt as error:
+        stop(f"{error}")

@@ -557,7 +557,19 @@ const char *rtnlc_code_name(uint8_t code)
 	}
 }
 
+/* `strings` finds the second of these in a library. */
+#ifdef RTNLC_PROVED
+static const char version[] = RTNLC_VERSION "\0librtnlc is proved";
+#else
+static const char version[] = RTNLC_VERSION "+unproved\0librtnlc is not proved";
+#endif
+
 const char *rtnlc_version(void)
 {
-	return RTNLC_VERSION;
+	return version;
+}
+
+bool rtnlc_proved(void)
+{
+	return version[sizeof(RTNLC_VERSION) - 1] == '\0';
 }

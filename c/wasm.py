@@ -1,10 +1,10 @@
 """Makes a module of WebAssembly, for the page in web/: the library for C, of the code that the
-proof made.
+proof made, or of what was compiled without one.
 
-archive.py keeps that code, which the kit has LLVM compile for a machine of 64 bits. It is compiled
-here for WebAssembly with as wide addresses, beside rtnlc.c, and heap.c in place of the C library's
-memory. wasm-opt makes the addresses those of a memory of 32 bits, which every browser has. No
-proof covers these steps, as none covers LLVM in the kit.
+archive.py or compiled.py keeps that code, which LLVM compiles for a machine of 64 bits. It is
+compiled here for WebAssembly with as wide addresses, beside rtnlc.c, and heap.c in place of the C
+library's memory. wasm-opt makes the addresses those of a memory of 32 bits, which every browser
+has. No proof covers these steps, as none covers LLVM in the kit.
 """
 import os
 import re
@@ -12,7 +12,7 @@ import shutil
 import subprocess
 import sys
 import tempfile
-from typing import List, NoReturn, Set
+from typing import List, NoReturn, Set, Tuple
 
 import archive
 from crates import ROOT
@@ -59,16 +59,28 @@ def exported(words: Set[str]) -> List[str]:
     return sorted({"malloc", "free", *words.intersection(declared)})
 
 
+def library() -> Tuple[str, List[str]]:
+    """The code of the library, and how rtnlc.c is compiled beside it."""
+    words = [f"{ROOT}/launch/build.py", "library"]
+    built = subprocess.run(words, stdout=subprocess.PIPE, text=True, check=False)
+    if built.returncode:
+        sys.exit(built.returncode)
+    path = built.stdout.rstrip("\n")
+    is_proved = path == archive.ARCHIVE
+    return (archive.CODE, ["-DRTNLC_PROVED"]) if is_proved else (f"{path[:-2]}.ll", [])
+
+
 def make(made: str, words: Set[str]) -> None:
     """Makes the module, with the calls that are among these words."""
     if shutil.which("wasm-opt") is None:
         stop("wasm-opt, of the package binaryen, is not on the PATH")
-    archive.make(archive.CODE)
     tools, headers = f"{archive.kit_folder()}/toolchain/bin", run("cc", "-print-file-name=include")
-    sources = {f"{ROOT}/c/heap.c": C, f"{ROOT}/c/rtnlc.c": [*C, "-isystem", headers.strip()]}
     with tempfile.TemporaryDirectory() as room:
+        kept, how = library()
+        sources = {f"{ROOT}/c/heap.c": C,
+                   f"{ROOT}/c/rtnlc.c": [*C, *how, "-isystem", headers.strip()]}
         code = f"{room}/code.ll"
-        run(f"{tools}/clang", "--target=x86_64", "-x", "ir", archive.CODE, "-S", "-emit-llvm",
+        run(f"{tools}/clang", "--target=x86_64", "-x", "ir", kept, "-S", "-emit-llvm",
             "-Xclang", "-disable-llvm-passes", "-o", code)
         with open(code, encoding="utf-8") as file:
             text = file.read()

@@ -36,6 +36,10 @@
 #include <stddef.h>
 #include <stdint.h>
 
+#if defined __BYTE_ORDER__ && __BYTE_ORDER__ != __ORDER_LITTLE_ENDIAN__
+#error "librtnlc is for processors that have the lowest byte first"
+#endif
+
 #ifdef __cplusplus
 extern "C" {
 #endif
@@ -50,6 +54,8 @@ extern "C" {
 #endif
 
 #define RTNLC_VERSION "0.3.0"
+/* What programs are linked with, the first two numbers of the version as one: 0 * 100 + 3. */
+#define RTNLC_ABI 3
 #define RTNLC_STACK 32768
 
 /* Why a call didn't do what it was asked for. */
@@ -782,8 +788,12 @@ struct rtnlc_put rtnlc_attr_name(uint8_t context, uint16_t number, char *out, si
  * null. */
 const char *rtnlc_code_name(uint8_t code);
 
-/* The version of the library that is linked, as RTNLC_VERSION is that of this header. */
+/* The version of the library that is linked, as RTNLC_VERSION is that of this header; behind it
+ * stands +unproved where the library was compiled without a proof. */
 const char *rtnlc_version(void);
+
+/* Whether the library that is linked was made of what was proved. */
+bool rtnlc_proved(void);
 
 #undef RTNLC_READS
 #undef RTNLC_WRITES

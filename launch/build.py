@@ -3,14 +3,14 @@
 
   launch/build.py program [ARGUMENT ..]  builds the program and runs it with these arguments
   launch/build.py path                   builds the program and prints its path
-  launch/build.py library                proves and builds the archive of the library for C
+  launch/build.py library                builds the library for C and prints its archive's path
 
-The program is compiled without a proof; with RTNL_PROVE=1, or where the kit does not let that be
-done, it is proved and built. What is not proved stands in out/unproved/, what is proved in the
-folders out/ of the crates, and takes the place of the other. What is built takes its place at once,
-whole, and is as old as this run, so that a source that was changed meanwhile is newer. One build
-runs at a time; who comes meanwhile waits. Standard error says what is done; standard output has
-the program's bytes alone.
+Both are compiled without a proof, and with RTNL_PROVE=1 proved and built. What is not proved stands
+in out/unproved/. A proved program is where rt puts it, a proved archive in out/proved/, which rt ci
+leaves alone; either takes the place of the other, and never the other way. What is built takes its
+place at once, whole, and is as old as this run, so that a source that was changed meanwhile is
+newer. One build runs at a time; who comes meanwhile waits. Standard error says what is done;
+standard output has the program's bytes alone.
 
 With RTNL_BUILD=no nothing is built. The status is 3 where nothing could be built, with a line that
 says why, and 128 and the number of a signal that ended it.
@@ -19,163 +19,170 @@ import contextlib
 import os
 import shutil
 import signal
-import subprocess
 import sys
 import time
-from typing import IO, Any, Iterator, NoReturn, Optional
+from typing import IO, Any, Callable, Iterator, List, NamedTuple, NoReturn, Sequence
 
 sys.dont_write_bytecode = True
+sys.path.append(f"{os.path.dirname(os.path.realpath(__file__))}/../c")
+import compiled
+import exports
 import unproved
-from crates import ROOT, Crates, below, listed, newer
+from crates import ROOT, Crates, below, drop_old_libraries, listed, outdated
 from steps import Failed, Interrupted, hold, say, step, stop_on_signals
 
 OUT = f"{ROOT}/out"
 PROGRAM, LIBRARY = "rtnl_cli", "rtnl_c"
-PROVED = f"{ROOT}/crates/{PROGRAM}/out/{PROGRAM}"
-ARCHIVE = f"{ROOT}/crates/{LIBRARY}/out/lib{LIBRARY}.a"
-UNPROVED = f"{OUT}/unproved/rtnl"
 # A build needs less, in bytes.
 LEAST_ROOM = 64 << 20
-LENGTH = "up to an hour of processor time in all, once"
 
 
-class NoRoom(Failed):
-    """The disk is full, so that a proof would not end either."""
+class Made(NamedTuple):
+    """What is built: its name, its crate, its places, and how it is made of a module."""
+
+    name: str
+    crate: str
+    proved: str
+    unproved: str
+    compile: Callable[[Crates, IO[Any], str], List[str]]
+
+
+MADE = {
+    "program": Made("program", PROGRAM, f"{ROOT}/crates/{PROGRAM}/out/{PROGRAM}",
+                    f"{unproved.FOLDER}/rtnl", lambda _, log, room: unproved.program(log, room)),
+    "library": Made("library", LIBRARY, f"{OUT}/proved/lib{LIBRARY}.a",
+                    f"{unproved.FOLDER}/lib{LIBRARY}.a",
+                    lambda crates, log, room: compiled.build(crates, LIBRARY, log, room)),
+}
 
 
 @contextlib.contextmanager
 def locked() -> Iterator[None]:
     """Holds the lock of the repository's builds, for which it waits."""
-    try:
-        os.makedirs(OUT, exist_ok=True)
-        lock = open(f"{OUT}/lock", "w", encoding="utf-8")
-    except OSError as error:
-        why = f"{OUT} cannot be written: {error.strerror}"
-        raise Failed(f"nothing could be built; {why}") from None
-    with lock:
+    with opened(f"{OUT}/lock", OUT) as lock:
         hold(lock.fileno(), lambda: say("waiting for another build here to end"))
         yield
 
 
-@contextlib.contextmanager
-def logged(path: str) -> Iterator[IO[Any]]:
-    """A new log, in which a build that fails says why."""
+def opened(path: str, said: str) -> IO[Any]:
+    """A new file in a folder that is made."""
     try:
         os.makedirs(os.path.dirname(path), exist_ok=True)
-        log = open(path, "w", encoding="utf-8")
+        return open(path, "w", encoding="utf-8")
     except OSError as error:
-        why = f"{path} cannot be written: {error.strerror}"
+        why = f"{said} cannot be written: {error.strerror}"
         raise Failed(f"nothing could be built; {why}") from None
-    with log:
-        yield log
 
 
 def stop_without_room() -> None:
     left = shutil.disk_usage(OUT).free
     if left < LEAST_ROOM:
         why = f"the disk of {OUT} is full, {left >> 20} MB are left"
-        raise NoRoom(f"nothing could be built; {why}")
+        raise Failed(f"nothing could be built; {why}")
 
 
-def current() -> Optional[str]:
-    """The program that is built from these sources, if there is one."""
-    how = {**os.environ, "RTNL_BUILD": "no", "RTNL_PATH": "1"}
-    said = subprocess.run([f"{ROOT}/rtnl"], env=how, stdout=subprocess.PIPE, text=True, check=False)
-    return said.stdout.rstrip("\n") if said.returncode == 0 else None
+def commands(made: Made, crates: Crates) -> Iterator[List[str]]:
+    """What proves and builds each crate, lowest first. For the library those stand that rt ci built
+    of these sources, with all below them, since rt lib would prove each once more."""
+    is_new, names = made.name == "program", below(crates, made.crate)
+    if not is_new:
+        drop_old_libraries({it: crates[it] for it in names})
+    for it in names:
+        is_new = is_new or not os.path.exists(f"{ROOT}/crates/{it}/out/rlib")
+        yield ["rt", "lib"] if is_new else []
+    yield ["rt", "run"] if made.name == "program" else [f"{ROOT}/c/archive.py"]
 
 
-def prove(crates: Crates, name: str, made: str) -> str:
-    """Proves and builds a crate and those below, lowest first; an interrupted one goes on."""
-    if shutil.which("rt") is None:
-        raise Failed("rt, which proves and builds it, is not on the PATH")
-    names, begun = [*below(crates, name), name], time.time()
-    note = "" if os.path.exists(made) else f"; {LENGTH}"
-    with logged(f"{os.path.dirname(made)}/build.log") as log:
-        for number, it in enumerate(names, 1):
+def prove(made: Made, crates: Crates) -> str:
+    """Proves and builds a crate and those below; an interrupted one goes on."""
+    names, begun = [*below(crates, made.crate), made.crate], time.time()
+    note = "" if os.path.exists(made.proved) else "; up to an hour of processor time in all, once"
+    path = f"{os.path.dirname(made.proved)}/build.log"
+    with opened(path, path) as log:
+        for number, (it, words) in enumerate(zip(names, [*commands(made, crates)]), 1):
             text = f"proving and building {it}, {number} of {len(names)}{note}"
-            words = ["rt", "run" if it == PROGRAM else "lib"]
             try:
-                done = step(text, log, [words], cwd=f"{ROOT}/crates/{it}")
+                done = not words or step(text, log, [words], cwd=f"{ROOT}/crates/{it}")
             except Interrupted as by:
-                how = f"interrupted in {it}; see {log.name}; the next run goes on"
+                how = f"interrupted in {it}; see {path}; the next run goes on"
                 raise Interrupted(by.number, how) from None
             if not done:
                 stop_without_room()
-                raise Failed(f"{it} could not be proved and built; see {log.name}")
+                raise Failed(f"{it} could not be proved and built; see {path}")
     # A build with nothing to do leaves the time alone.
-    os.utime(made, (begun, begun))
-    return made
+    os.utime(made.proved, (begun, begun))
+    with contextlib.suppress(FileNotFoundError):
+        os.unlink(made.unproved)
+    say(f"the {made.name} is built, and proved on this machine")
+    return made.proved
 
 
-def prove_program(crates: Crates) -> str:
-    made = prove(crates, PROGRAM, PROVED)
-    shutil.rmtree(os.path.dirname(UNPROVED), ignore_errors=True)
-    say("the program is built, and proved on this machine")
-    return made
+def take(room: str, names: Sequence[str], begun: float) -> None:
+    """Has files of the room take their places."""
+    for it in names:
+        os.utime(f"{room}/{it}", (begun, begun))
+        os.replace(f"{room}/{it}", f"{unproved.FOLDER}/{it}")
 
 
-def compile_program(crates: Crates) -> str:
-    """Compiles the program without a proof."""
-    room, begun = f"{OUT}/building", time.time()
+def compile_in(room: str, made: Made, crates: Crates, log: IO[Any]) -> None:
+    """Compiles it in a folder. The text is read where no module is kept of it."""
+    begun = time.time()
+    os.mkdir(room)
+    if outdated(f"{unproved.FOLDER}/{unproved.KEPT[0]}", PROGRAM, LIBRARY):
+        exports.copied(room, PROGRAM, LIBRARY)
+        uses = [*crates[PROGRAM].uses, LIBRARY]
+        both = {**crates, PROGRAM: crates[PROGRAM]._replace(uses=uses)}
+        unproved.lower(both, PROGRAM, log, room)
+        take(room, unproved.KEPT[::-1], begun)
+    # What is asked for is the last that is there.
+    take(room, made.compile(crates, log, room)[::-1], begun)
+
+
+def compile_it(made: Made, crates: Crates) -> str:
+    """Compiles it without a proof."""
+    room, path = f"{OUT}/building", f"{made.unproved}.log"
     shutil.rmtree(room, ignore_errors=True)
     try:
-        with logged(f"{UNPROVED}.log") as log:
-            os.mkdir(room)
-            made = unproved.build(crates, PROGRAM, log, room)
-        os.utime(made, (begun, begun))
-        os.replace(made, UNPROVED)
-    except Failed:
+        with opened(path, path) as log:
+            compile_in(room, made, crates, log)
+    except (Failed, OSError) as error:
         # What fills the disk may stand in the folder that is removed below.
         stop_without_room()
-        raise
-    except OSError as error:
-        stop_without_room()
-        raise Failed(f"{PROGRAM} was not compiled: {error}") from None
+        raise Failed(f"{error}; RTNL_PROVE=1 proves and builds it instead") from None
     finally:
         shutil.rmtree(room, ignore_errors=True)
-    say("the program is built from these sources, and not proved on this machine;"
+    say(f"the {made.name} is built from these sources, and not proved on this machine;"
         " tests/run proves and tests it")
-    return UNPROVED
+    return made.unproved
 
 
-def program() -> str:
-    """The program's path, once it is built."""
+def built(name: str) -> str:
+    """The path of the program or of the library's archive, once it is built."""
+    made, is_proof_wanted = MADE[name], os.environ.get("RTNL_PROVE") == "1"
     with locked():
-        found = current()
-        if found:
-            return found
+        why = outdated(made.proved, made.crate, parts=("specs", "proofs"))
+        if why is None:
+            return made.proved
+        if not is_proof_wanted and outdated(made.unproved, made.crate) is None:
+            return made.unproved
+        if os.environ.get("RTNL_BUILD") == "no":
+            raise Failed(f"the {name} is not built from these sources")
+        if shutil.which("rt") is None:
+            why = "and rt, which builds it, is not on the PATH"
+            raise Failed(f"the {name} is not built from these sources, {why}")
         stop_without_room()
-        crates = listed()
-        if os.environ.get("RTNL_PROVE") == "1":
-            return prove_program(crates)
-        say("no program is built from these sources; it is compiled now, in about a minute")
-        try:
-            return compile_program(crates)
-        except NoRoom:
-            raise
-        except Failed as error:
-            say(f"{error}")
-        say("it could not be compiled without a proof, so it is proved and built")
-        return prove_program(crates)
-
-
-def library() -> None:
-    with locked():
-        stop_without_room()
-        crates = listed()
-        names = [LIBRARY, *below(crates, LIBRARY)]
-        parts = ("specs", "proofs")
-        time_made = os.path.getmtime(ARCHIVE) if os.path.exists(ARCHIVE) else 0
-        if any(newer(it, time_made, *parts) for it in names):
-            if os.environ.get("RTNL_BUILD") == "no":
-                raise Failed("the library is not built from these sources")
-            prove(crates, LIBRARY, ARCHIVE)
-            say("the library is built, and proved on this machine")
+        if is_proof_wanted:
+            return prove(made, listed())
+        if os.path.exists(made.proved):
+            say(f"the {name} that was proved is older than {why}")
+        say(f"no {name} is built from these sources; it is compiled now, in about a minute")
+        return compile_it(made, listed())
 
 
 def run(path: str, *arguments: str) -> NoReturn:
     if arguments in (("--version",), ("-V",)):
-        say(f"this program is {'not ' if path == UNPROVED else ''}proved on this machine")
+        is_proved = path == MADE["program"].proved
+        say(f"this program is {'' if is_proved else 'not '}proved on this machine")
     # Python ignores these two, and a program would inherit that.
     for number in (signal.SIGPIPE, signal.SIGXFSZ):
         signal.signal(number, signal.SIG_DFL)
@@ -191,11 +198,9 @@ def main(verb: str = "", *arguments: str) -> int:
         sys.stderr = open(os.devnull, "w", encoding="utf-8")
     try:
         if verb == "program":
-            run(program(), *arguments)
-        elif verb == "path" and not arguments:
-            print(program())
-        elif verb == "library" and not arguments:
-            library()
+            run(built("program"), *arguments)
+        elif verb in ("path", "library") and not arguments:
+            print(built("program" if verb == "path" else verb))
         else:
             print(__doc__, end="", file=sys.stderr)
             return 2

@@ -1,7 +1,7 @@
 """The crates of the repository, as crates.txt lists them."""
 import os
 import shutil
-from typing import Dict, Iterator, List, NamedTuple, Optional
+from typing import Dict, Iterator, List, NamedTuple, Optional, Sequence
 
 ROOT = os.path.dirname(os.path.dirname(os.path.realpath(__file__)))
 FILE = "crates.txt"
@@ -76,9 +76,22 @@ def drop_old_libraries(crates: Crates) -> None:
 
 
 def newer(name: str, time: float, *parts: str) -> Optional[str]:
-    """A file of a crate's src/, or of these parts too, that is newer than this time."""
+    """A file or a folder of a crate's src/, or of these parts too, that is newer than this time."""
     for part in ("src", *parts):
-        for path in files(name, part):
-            if os.path.getmtime(f"{ROOT}/{path}") > time:
-                return path
+        for at, _, names in os.walk(f"{ROOT}/crates/{name}/{part}"):
+            for path in (at, *(f"{at}/{it}" for it in names)):
+                if os.path.getmtime(path) > time:
+                    return os.path.relpath(path, ROOT)
     return None
+
+
+def outdated(made: str, *names: str, parts: Sequence[str] = ()) -> Optional[str]:
+    """What is newer than what is made of these crates and of those below; or its own name, where it
+    is missing. What is compiled without a proof is made of no other part than src/."""
+    if not os.path.isfile(made):
+        return os.path.relpath(made, ROOT)
+    time, crates = os.path.getmtime(made), listed()
+    if os.path.getmtime(f"{ROOT}/{FILE}") > time:
+        return FILE
+    whole = dict.fromkeys(it for name in names for it in (*below(crates, name), name))
+    return next(filter(None, (newer(it, time, *parts) for it in whole)), None)

@@ -5,21 +5,22 @@ import os
 import sys
 
 sys.dont_write_bytecode = True
-from crates import ROOT, below, listed, newer
+from crates import ROOT, outdated
 
 MADE = f"{ROOT}/out/rtnl.html"
+ARCHIVE = f"{ROOT}/out/proved/librtnl_c.a"
 # The folders of what is in it, beside the library for C.
 PARTS = ("web", "record/js", "c", "include", "examples")
 
 
 def is_current() -> bool:
-    """Whether it is there, and nothing that it is made of is newer."""
-    if not os.path.isfile(MADE):
+    """Whether it is there, and nothing that it is made of is newer. One that was made before the
+    library was proved is not of the proved one."""
+    if outdated(MADE, "rtnl_c"):
         return False
-    time = os.path.getmtime(MADE)
     paths = [it.path for part in PARTS for it in os.scandir(f"{ROOT}/{part}") if it.is_file()]
-    names = ["rtnl_c", *below(listed(), "rtnl_c")]
-    return max(map(os.path.getmtime, paths)) <= time and not any(newer(it, time) for it in names)
+    paths += [it for it in [ARCHIVE] if os.path.exists(it)]
+    return max(map(os.path.getmtime, paths)) <= os.path.getmtime(MADE)
 
 
 if __name__ == "__main__":

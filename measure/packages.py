@@ -158,8 +158,9 @@ def rust_sides(folder: str) -> Sides:
 def in_go(folder: str, side: str, names: Iterable[str]) -> Made:
     """The programs in Go of a side. Debian's packages for Go lie in a GOPATH, and so do ours."""
     path = os.path.join(folder, "go")
-    os.makedirs(os.path.join(path, "src"), exist_ok=True)
-    for name, source in zip(("measure", "rtnlc"), files_of("go", "../../bindings/go")):
+    os.makedirs(os.path.join(path, "src", "rtnl.invalid"), exist_ok=True)
+    names_of = ("measure", "rtnl.invalid/rtnlc")
+    for name, source in zip(names_of, files_of("go", "../../bindings/go")):
         if not os.path.lexists(os.path.join(path, "src", name)):
             os.symlink(source, os.path.join(path, "src", name))
     way = {

@@ -45,20 +45,20 @@ class Package(NamedTuple):
 
 DESCRIPTIONS = {
     "rtnl": """\
-proved reader of recorded rtnetlink datagrams
+reader of recorded rtnetlink datagrams
 It prints what the Linux kernel says of links, addresses, routes, neighbours
 and rules, as text or as lines of JSON, byte by byte where that is asked for.
 A datagram has exactly one reading, or is refused with the place of its first
 fault. It opens no socket.
 It needs a processor with SSE4.2 (x86-64-v2).""",
     "librtnlc0": """\
-proved reader and builder of rtnetlink datagrams, shared library
+reader and builder of rtnetlink datagrams, shared library
 Programs in C scan the datagrams that they received, read dumps into bounded
 tables or in constant space, and build the requests that they send. The library
 opens no socket.
 It needs a processor with SSE4.2 (x86-64-v2).""",
     "librtnlc-dev": """\
-proved reader and builder of rtnetlink datagrams, for development
+reader and builder of rtnetlink datagrams, for development
 The header, the static library, what pkg-config says of them, and the manual
 page rtnlc(3). Programs in C scan the datagrams that they received, read dumps
 into bounded tables or in constant space, and build the requests that they

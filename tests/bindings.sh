@@ -19,10 +19,10 @@ tests/helpers/install_packages.sh cc gcc pkg-config pkg-config cargo cargo go go
 
 if [ -z "${RTNLC_PREFIX-}" ]; then
   export RTNLC_PREFIX=$folder/prefix
-  # The archive is made over what is proved already; what is installed is that.
-  c/build.sh "$folder/library" && RTNL_BUILD=no ./install --library "$RTNLC_PREFIX" >/dev/null ||
+  makes_library "$folder/library" && RTNL_BUILD=no ./install --library "$RTNLC_PREFIX" >/dev/null ||
     exit 1
 fi
+tests/helpers/proved.py --take "$RTNLC_PREFIX/lib/librtnlc.so.0" || exit 1
 export PKG_CONFIG_PATH=$RTNLC_PREFIX/lib/pkgconfig LD_LIBRARY_PATH=$RTNLC_PREFIX/lib
 flags() { pkg-config "$@" rtnlc; }
 

@@ -16,10 +16,9 @@ tests/helpers/install_packages.sh cc gcc ip iproute2 strace strace valgrind valg
   /usr/include/libmnl/libmnl.h libmnl-dev /usr/lib/python3/dist-packages/pyroute2 python3-pyroute2
 archive=${RTNLC:-$folder/library/librtnlc.a}
 if [ -z "${RTNLC:-}" ]; then
-  # What is installed is what is proved.
-  export RTNL_PROVE=1
-  c/build.sh "$folder/library" || exit 1
+  makes_library "$folder/library" || exit 1
 fi
+tests/helpers/proved.py --take "$archive" || exit 1
 
 # How many random datagrams, and how many changed sequences.
 trees=100000

@@ -16,9 +16,7 @@ program=$(tests/helpers/proved.py) || exit 1
 
 tests/helpers/install_packages.sh cc gcc c++ g++ objcopy binutils pkg-config pkg-config \
   mandoc mandoc groff groff-base valgrind valgrind
-# What is installed is what is proved.
-export RTNL_PROVE=1
-CFLAGS="${CFLAGS-} -Werror" c/build.sh "$folder/library" || exit 1
+CFLAGS="${CFLAGS-} -Werror" makes_library "$folder/library" || exit 1
 
 . tests/c_library/names.sh
 . tests/c_library/header.sh

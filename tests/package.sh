@@ -4,8 +4,7 @@
 # refused. They are installed into a root that has the C library and nothing else, as root, where
 # the program runs, a program in C, and with Python rtnl-record; and NOTICE is compared with the
 # kit. The library and the page are built where they are missing, as tests/c_library.sh and
-# tests/page.sh have them; but under tests/run --quick, where the program is not proved, there are
-# none then. Packages that are missing are
+# tests/page.sh have them, under tests/run --quick without a proof. Packages that are missing are
 # installed where that can be, and what can't run says so and isn't counted. The last line is 'N
 # passed, M failed', and the status is 1 where a case failed.
 set -u
@@ -23,14 +22,16 @@ how=()
 said_of_program='program proved where it was built'
 tests/helpers/proved.py "$program" ||
   how+=(--unproved) said_of_program='program NOT PROVED where it was built'
-has_library=yes
-if [ -z "${RTNL_PROGRAM-}" ]; then
-  c/build.sh "$folder/library" || exit 1
-  launch/page.py >/dev/null || ! has wasm-opt 'the page' || web/build.py || exit 1
-fi
-if ! RTNL_BUILD=no launch/build.py library 2>/dev/null || ! launch/page.py >/dev/null; then
+has_library=yes said_of_library='library proved where it was built'
+makes_library "$folder/library" || exit 1
+tests/helpers/proved.py "$folder/library/librtnlc.a" ||
+  how+=(--unproved) said_of_library='library NOT PROVED where it was built'
+launch/page.py >/dev/null || ! has wasm-opt 'the page' || web/build.py || exit 1
+# ./package goes by what is built, not by what is wanted here.
+unset RTNL_PROVE
+if ! launch/page.py >/dev/null; then
   has_library=no how+=(--without-library)
-  echo 'skipped: what has the library, since it or the page is not built here'
+  echo 'skipped: what has the library, since the page is not built here'
 fi
 version=$(sed -n 's/^## //p' CHANGELOG.md | head -n 1)
 archive=rtnl-$version-x86_64-linux

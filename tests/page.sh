@@ -8,6 +8,7 @@
 set -u
 cd "$(dirname "${BASH_SOURCE[0]}")/.." || exit 1
 
+RTNL_PROGRAM_NAMED=${RTNL_PROGRAM-}
 RTNL_PROGRAM=$(tests/helpers/proved.py) && RTNL_PROGRAM=$(realpath "$RTNL_PROGRAM") || exit 1
 export RTNL_PROGRAM
 tests/helpers/install_packages.sh chromium chromium chromedriver chromium-driver \
@@ -22,6 +23,8 @@ done
 
 page=${RTNL_PAGE-out/rtnl.html}
 if [ -z "${RTNL_PAGE+named}" ]; then
+  # The page is of a proved library, as the same page that is built once more shows.
+  [ -n "${RTNL_PROGRAM_NAMED-}" ] || export RTNL_PROVE=1
   launch/page.py >/dev/null || web/build.py || exit 1
   check 'the page, built twice' tests/page/twice.py
   check 'the heap of its module' tests/page/heap.sh

@@ -9,7 +9,7 @@ import (
 	"strings"
 	"testing"
 
-	"rtnlc"
+	"rtnl.invalid/rtnlc"
 )
 
 // adds are the flags by which ip(8) adds something.

@@ -6,7 +6,7 @@ import (
 	"strings"
 	"testing"
 
-	"rtnlc"
+	"rtnl.invalid/rtnlc"
 )
 
 // An attribute at 32 that counts more bytes than are left.

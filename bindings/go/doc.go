@@ -1,7 +1,7 @@
 // SPDX-License-Identifier: MIT OR Apache-2.0
 
-// Package rtnlc reads and builds rtnetlink datagrams, by way of the proved library for C of the
-// same name.
+// Package rtnlc reads and builds rtnetlink datagrams, by way of the library for C of the same name,
+// whose sources are proved.
 //
 // A datagram is bytes in memory: what one receive on a NETLINK_ROUTE socket gave. The package
 // opens no socket. A datagram has exactly one reading, or is refused with the offset of its first

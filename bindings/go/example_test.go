@@ -7,7 +7,7 @@ import (
 	"net/netip"
 	"strings"
 
-	"rtnlc"
+	"rtnl.invalid/rtnlc"
 )
 
 // received is what a socket would have received: messages as a kernel sent them, in hexadecimal.

@@ -5,7 +5,7 @@ import (
 	"strings"
 	"testing"
 
-	"rtnlc"
+	"rtnl.invalid/rtnlc"
 )
 
 // kept are the indexes and names of the links in a list.

@@ -9,7 +9,7 @@ import (
 	"strings"
 	"testing"
 
-	"rtnlc"
+	"rtnl.invalid/rtnlc"
 )
 
 // What the tests share: datagrams that are written field by field, after the kernel's headers, and

@@ -8,7 +8,7 @@ import (
 	"path/filepath"
 	"testing"
 
-	"rtnlc"
+	"rtnl.invalid/rtnlc"
 )
 
 // A hundred thousand mutated datagrams, the same in each run: each is refused as Scan refuses it,

@@ -6,7 +6,7 @@ import (
 	"strings"
 	"testing"
 
-	"rtnlc"
+	"rtnl.invalid/rtnlc"
 )
 
 // Each attribute has the name of its constant, where it stands.

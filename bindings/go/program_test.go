@@ -12,7 +12,7 @@ import (
 	"strconv"
 	"testing"
 
-	"rtnlc"
+	"rtnl.invalid/rtnlc"
 )
 
 // What the program rtnl prints in JSON of the same datagrams, and what must be said of it here.

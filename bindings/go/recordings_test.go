@@ -10,7 +10,7 @@ import (
 	"path/filepath"
 	"testing"
 
-	"rtnlc"
+	"rtnl.invalid/rtnlc"
 )
 
 // attrTexts are the attributes of a line of JSON, and foundTexts those that the package finds: the

@@ -1,6 +1,6 @@
 package rtnlc_test
 
-import "rtnlc"
+import "rtnl.invalid/rtnlc"
 
 // Commands of ip(8), and the requests that are to be the same.
 

@@ -10,7 +10,7 @@ import (
 	"strings"
 	"testing"
 
-	"rtnlc"
+	"rtnl.invalid/rtnlc"
 )
 
 // unsaid begin those commands that need an attribute which no request has, or one in another place:

@@ -8,7 +8,7 @@ import (
 	"syscall"
 	"testing"
 
-	"rtnlc"
+	"rtnl.invalid/rtnlc"
 )
 
 // begun is a session that waits for the links of the tests' dump.

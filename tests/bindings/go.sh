@@ -57,27 +57,27 @@ tested() {
 # makes_module NAME LINE..: another module, which says where the package is, of one file.
 makes_module() {
   mkdir "$folder/$1" &&
-    printf '%s\n' "module $1" '' 'go 1.19' '' 'require rtnlc v0.3.0' '' \
-      "replace rtnlc => $package" >"$folder/$1/go.mod" &&
+    printf '%s\n' "module $1" '' 'go 1.19' '' 'require rtnl.invalid/rtnlc v0.3.0' '' \
+      "replace rtnl.invalid/rtnlc => $package" >"$folder/$1/go.mod" &&
     printf '%s\n' "${@:2}" >"$folder/$1/main.go"
 }
 
 # uses_it: a program of another module.
 uses_it() {
-  makes_module user 'package main' '' 'import (' '	"fmt"' '' '	"rtnlc"' ')' '' 'func main() {' \
-    '	messages, err := rtnlc.Parse(make([]byte, 15))' '	fmt.Println(len(messages), err)' '}' &&
+  makes_module user 'package main' '' 'import (' '	"fmt"' '' '	"rtnl.invalid/rtnlc"' ')' '' \
+    'func main() {' '	messages, err := rtnlc.Parse(make([]byte, 15))' '	fmt.Println(len(messages), err)' '}' &&
     [ "$(cd "$folder/user" && go run . 2>&1)" = '0 rtnlc: cut at 0' ]
 }
 
 # finds_copies: go vet says where something is copied that leads to memory of another.
 finds_copies() {
   local name names=(Session Stream Builder Tape List 'Table[rtnlc.Link]')
-  makes_module copies 'package main' '' 'import "rtnlc"' '' 'func main() {}' \
+  makes_module copies 'package main' '' 'import "rtnl.invalid/rtnlc"' '' 'func main() {}' \
     "${names[@]/#/func _(it *rtnlc.}" &&
     sed -i 's/^func _.*/&) { copied := *it; _ = \&copied }/' "$folder/copies/main.go" &&
     ! (cd "$folder/copies" && go vet . >"$folder/output" 2>&1) &&
     for name in "${names[@]}"; do
-      grep -qF "copies lock value to copied: rtnlc.$name contains" "$folder/output" || return 1
+      grep -q "copies lock value to copied: .*\brtnlc\.${name%%[*}.* contains" "$folder/output" || return 1
     done
 }
 
@@ -97,6 +97,30 @@ says_missing() {
   cp -r bindings/go "$folder/copy" &&
     ! (cd "$folder/copy" && PKG_CONFIG_PATH='' go build . >"$folder/output" 2>&1) &&
     grep -q 'Package rtnlc was not found' "$folder/output"
+}
+
+# is_for_another: with a header of another version the compiler says what is needed.
+is_for_another() {
+  mkdir "$folder/later" && sed 's/^#define RTNLC_ABI .*/#define RTNLC_ABI 4/' include/rtnlc.h >"$folder/later/rtnlc.h" &&
+    ! in_package env CGO_CFLAGS="-I$folder/later" PKG_CONFIG=true go build . >/dev/null &&
+    grep -q 'the package rtnlc needs librtnlc 0.3: ./install --library PREFIX' "$folder/output"
+}
+
+# says_why WORDS NAME=VALUE..: where it can't be built, one line says why.
+says_why() {
+  ! in_package env "${@:2}" go build . >/dev/null && [ "$(wc -l <"$folder/output")" = 1 ] &&
+    grep -q "found packages rtnlc_is_for_$1 (" "$folder/output"
+}
+
+# of_clone: the clone around the package makes the library, and a program has it inside.
+of_clone() {
+  local clone=$folder/clone
+  mkdir -p "$clone"/{c,bindings} && cp -r include "$clone" && cp -r bindings/go "$clone/bindings" &&
+    printf '#!/bin/sh\nmkdir -p "$1" && cp "%s/lib/librtnlc.a" "$1"\n' "$RTNLC_PREFIX" >"$clone/c/build.sh" &&
+    chmod +x "$clone/c/build.sh" && (
+    cd "$clone/bindings/go" && unset PKG_CONFIG_PATH LD_LIBRARY_PATH && go generate &&
+      go build -tags rtnlc_beside -o "$folder/beside" ./examples/links && ! ldd "$folder/beside" | grep librtnlc
+  ) && "$folder/beside" "$folder/nowhere" 2>&1 | grep -q 'No such file'
 }
 
 # has_version: the versions of the package, of the changes and of the library are one.
@@ -135,5 +159,9 @@ check 'a program of another module' uses_it
 check 'go vet finds copies' finds_copies
 check 'a library of another version' says_version
 check 'no library' says_missing
+check 'a header of another version' is_for_another
+check 'no cgo' says_why C__set_CGO_ENABLED_1_and_have_a_compiler_of_C CGO_ENABLED=0
+check 'another processor' says_why Linux_on_amd64 GOARCH=arm64 CGO_ENABLED=1
+check 'the library of the clone' of_clone
 check 'its version' has_version
 finish

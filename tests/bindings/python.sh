@@ -48,13 +48,13 @@ build() {
   mkdir -p "$folder/$1" && quiet env RTNLC_LIB_DIR="$RTNLC_PREFIX/lib" "$python" -m pip wheel \
     --no-index --no-build-isolation --no-deps --wheel-dir "$folder/$1" "$copy"
 }
-wheel_of() { echo "$folder/$1"/rtnl-*-py3-none-"$platform".whl; }
+wheel_of() { echo "$folder/$1/rtnl-$wheel_version-py3-none-$platform.whl"; }
 is_same_again() { build again && cmp "$(wheel_of once)" "$(wheel_of again)"; }
 
 # in_wheel FILE: what a wheel holds: each source, the library, and six texts.
 in_wheel() { "$python" -m zipfile -l "$1" | awk 'NR > 1 { print $1 }' | sort; }
 wanted_in_wheel() {
-  local info=rtnl-$version.dist-info
+  local info=rtnl-$wheel_version.dist-info
   (cd "$copy/src" && find rtnl -type f)
   printf '%s\n' rtnl/librtnlc.so.0 "$info"/{METADATA,RECORD,WHEEL} \
     "$info"/licenses/{LICENSE-APACHE,LICENSE-MIT,NOTICE}
@@ -74,7 +74,7 @@ build_without() {
 }
 wheel_without() { echo "$folder/without/rtnl-$version-py3-none-any.whl"; }
 holds_all_but_library() {
-  diff <(in_wheel "$(wheel_without)") <(wanted_in_wheel | grep -v '\.so\.0$' | sort)
+  diff <(in_wheel "$(wheel_without)") <(wheel_version=$version wanted_in_wheel | grep -v '\.so\.0$' | sort)
 }
 
 # loads_system: that wheel, installed, loads the library that the loader finds.
@@ -98,6 +98,14 @@ from_archive() {
 install_of_beside() {
   cp "$RTNLC_PREFIX/lib/librtnlc.so.0" "$copy/src/rtnl/" &&
     install PKG_CONFIG_PATH=/none && whole_copy
+}
+
+# is_editable: a program finds the sources and the library beside them.
+is_editable() {
+  quiet env RTNLC_LIB_DIR="$RTNLC_PREFIX/lib" "$python" -m pip install --no-index \
+    --no-build-isolation --no-deps --force-reinstall --editable "$copy" &&
+    [ "$("$python" -c 'import rtnl; print(rtnl.__file__, rtnl.scan(b"").code.name)')" = \
+      "$copy/src/rtnl/__init__.py OK" ] && whole_copy
 }
 
 shows_why() { ! tail -n 40 "$folder/output"; }
@@ -162,8 +170,8 @@ done
 check 'a virtual environment' quiet "$system" -m venv "$folder/environment"
 check 'a clean copy' whole_copy
 version=$(sed -n 's/^VERSION = "\(.*\)"/\1/p' "$copy/src/rtnl/_loading.py")
-platform=$("$python" -c \
-  'import sysconfig; print(sysconfig.get_platform().replace("-", "_").replace(".", "_"))')
+platform=manylinux2014_$(uname -m)
+wheel_version=$(strings "$RTNLC_PREFIX/lib/librtnlc.so.0" | grep -xE -m 1 "$version([+]unproved)?")
 check 'no library' refuses_without_library
 check 'a wheel' build once
 check 'the name of the wheel' test -e "$(wheel_of once)"
@@ -174,6 +182,7 @@ check 'a wheel without the library' build_without
 check 'all that it holds' holds_all_but_library
 check 'it loads the library of the system' loads_system
 check 'the archive of the sources' from_archive
+check 'an editable installation' is_editable
 check 'the wheel by pkg-config' install PKG_CONFIG_PATH="$RTNLC_PREFIX/lib/pkgconfig"
 check 'the wheel of a library beside the sources' install_of_beside
 check 'the wheel by RTNLC_LIB_DIR' install RTNLC_LIB_DIR="$RTNLC_PREFIX/lib"

@@ -166,6 +166,31 @@ fi
 check 'the library by its folder' env -u PKG_CONFIG_PATH RTNLC_LIB_DIR="$RTNLC_PREFIX/lib" \
   bash -c "cd '$package' && cargo build --workspace >'$folder/output' 2>&1"
 check 'linked statically' is_static
+# of_clone: where pkg-config finds none, the clone around the crates makes the library, and a program has it inside.
+none=(env PKG_CONFIG_PATH="$folder/none" PKG_CONFIG_LIBDIR="$folder/none" CARGO_TARGET_DIR="$folder/of_clone")
+in_clone() { (cd "$clone/bindings/rust" && "${none[@]}" "$@") >"$folder/output" 2>&1; }
+clone=$folder/clone
+of_clone() {
+  mkdir -p "$clone"/{c,include,crates,bindings} && touch "$clone/crates.txt" && cp -r "$package" "$clone/bindings/" &&
+    printf '#!/bin/sh\nmkdir -p "$1" && cp "%s/lib/librtnlc.a" "$1"\n' "$RTNLC_PREFIX" >"$clone/c/build.sh" &&
+    chmod +x "$clone/c/build.sh" && in_clone cargo build --example links &&
+    ends 2 '' 'links: No such file or directory' \
+      env -u LD_LIBRARY_PATH "$folder/of_clone/debug/examples/links" "$folder/nowhere"
+}
+fails_in_clone() {
+  printf '#!/bin/sh\necho one >&2; echo rtnl: the disk is full >&2; exit 3\n' >"$clone/c/build.sh" &&
+    ! in_clone cargo build && grep -q 'the clone made no library: rtnl: the disk is full' "$folder/output" &&
+    ! in_clone env PKG_CONFIG_PATH="$RTNLC_PREFIX/lib/pkgconfig" \
+      cargo build --features vendored && grep -q 'the clone made no library' "$folder/output"
+}
+is_of_another_version() {
+  mkdir -p "$folder/later" && printf 'a\0000.4.1\000librtnlc is proved\000' >"$folder/later/librtnlc.so" &&
+    is_refused "$folder/later/librtnlc.so is of another version: '0.4.1'" \
+      env RTNLC_LIB_DIR="$folder/later" cargo build
+}
+check 'the library of the clone' of_clone
+check 'a clone that makes none' fails_in_clone
+check 'a library of another version by its folder' is_of_another_version
 check 'no library' is_refused './install --library PREFIX' \
   env PKG_CONFIG_PATH="$folder/none" PKG_CONFIG_LIBDIR="$folder/none" cargo build
 for version in 0.2.9 0.4.0 1.0.0; do

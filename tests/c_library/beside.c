@@ -90,7 +90,7 @@ int main(void)
 	compare_links();
 	expect(rtnlc_session_new(&session, NULL) == RTNLC_OK, "a session");
 	rtnlc_session_free(&session);
-	expect(strcmp(rtnlc_version(), RTNLC_VERSION) == 0, "the version");
+	expect(strncmp(rtnlc_version(), RTNLC_VERSION, strlen(RTNLC_VERSION)) == 0, "the version");
 	puts("beside one another");
 	return 0;
 }

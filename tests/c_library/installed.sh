@@ -16,6 +16,11 @@ mapfile -t library_things < <(library_in lib)
 # each WORD NAME..: a line for each thing that is put or removed.
 each() { printf "$1 $prefix/%s\n" "${@:2}"; }
 
+# note WORD FILE: the line behind an installation of the program or the library, where that is not proved.
+note() {
+  tests/helpers/proved.py "$2" || echo "install: the $1 is not proved on this machine; --proved proves it first"
+}
+
 # does STATUS OUTPUT ARGUMENT..: install with these arguments ends so and prints these lines.
 does() {
   local status=$1 output=$2
@@ -80,7 +85,7 @@ staged() {
   local stage=$folder/stage
   mapfile -t files < <(library_in "$1")
   mkdir "$stage" &&
-    DESTDIR=$stage does 0 "$(library_in "$1" | sed "s|^|installed $stage/usr/|")" \
+    DESTDIR=$stage does 0 "$(library_in "$1" | sed "s|^|installed $stage/usr/|" && note library "$archive")" \
       --library --libdir "/usr/$1" /usr &&
     has_files "$stage/usr" "${files[@]}" &&
     has_lines "$stage/usr/$1/pkgconfig/rtnlc.pc" prefix=/usr "libdir=\${prefix}/$1" &&
@@ -106,7 +111,7 @@ program_things=(bin/rtnl share/man/man1/rtnl.1 share/bash-completion/completions
 for module in record/*.py; do program_things+=("share/rtnl-record/${module##*/}"); done
 ! launch/page.py >/dev/null || program_things+=(share/rtnl/rtnl.html)
 
-library=$(each installed "${library_things[@]}")
+library=$(each installed "${library_things[@]}" && note library "$archive")
 
 check 'a link in the way' leaves_own
 check 'a link that was changed' leaves_changed
@@ -139,7 +144,7 @@ check 'the library is removed' does 0 "$(each removed "${library_things[@]}")" \
   --remove "$prefix"
 check 'nothing is left' [ ! -e "$prefix" ]
 check 'the program is installed' \
-  does 0 "$(each installed "${program_things[@]}" share/rtnl/installed)" "$prefix"
+  does 0 "$(each installed "${program_things[@]}" share/rtnl/installed && note program "$program")" "$prefix"
 check 'the library is installed beside it' does 0 "$library" --library "$prefix"
 check 'both are removed' \
   does 0 "$(each removed "${program_things[@]}" "${library_things[@]}")" --remove "$prefix"

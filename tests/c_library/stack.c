@@ -172,6 +172,7 @@ static void call_stream_status(void) { code = rtnlc_stream_status(&stream).code;
 static void call_stream_abandon(void) { code = rtnlc_stream_abandon(&stream); }
 static void call_code_name(void) { code = rtnlc_code_name(RTNLC_CUT) == NULL; }
 static void call_version(void) { code = rtnlc_version() == NULL; }
+static void call_proved(void) { code = rtnlc_proved(); }
 
 /* In an order in which a dump is begun, fed and read. */
 static struct measured all[] = {
@@ -213,6 +214,7 @@ static struct measured all[] = {
 	{ "stream_abandon", call_stream_abandon, 0 },
 	{ "code_name", call_code_name, 0 },
 	{ "version", call_version, 0 },
+	{ "proved", call_proved, 0 },
 };
 
 #define CALLS (sizeof all / sizeof *all)

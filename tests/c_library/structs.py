@@ -43,7 +43,7 @@ FIELDS = {("RouteFields", "sort"): "route_type"}
 # Where code stands whose structs are laid out as in C, beside rtnl_c.
 REQUESTS = "crates/nl_request/src"
 # Calls that answer words: they are made in c/rtnlc.c alone.
-WORDS = {"code_name", "version"}
+WORDS = {"code_name", "version", "proved"}
 TYPES = {f"u{bits}": f"uint{bits}_t" for bits in (8, 16, 32, 64)}
 TYPES |= {"i32": "int32_t", "usize": "size_t", "bool": "bool"}
 TYPES |= {name: f"struct {it}" for name, it in NAMES.items()}

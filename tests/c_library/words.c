@@ -37,8 +37,8 @@ int main(void)
 	for (one = 0; one < sizeof faults / sizeof *faults; one++)
 		if (strcmp(rtnlc_code_name((uint8_t)(one + 1)), faults[one]))
 			fail("the name of a fault", one + 1);
-	if (strcmp(rtnlc_version(), RTNLC_VERSION))
+	if (strcmp(rtnlc_version(), rtnlc_proved() ? RTNLC_VERSION : RTNLC_VERSION "+unproved"))
 		fail("the version", 0);
-	puts(rtnlc_version());
+	puts(RTNLC_VERSION);
 	return fflush(stdout) ? 3 : 0;
 }

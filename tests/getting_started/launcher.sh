@@ -24,12 +24,14 @@ stays_proved() {
 
 # A stale one is left where it is, and not run where one may be compiled; the next proof goes over both.
 stale_is_not_run() {
-  change "$1" && compiles && ends 0 "$unproved" '' start_for_path && [ -x "$proved" ] && starts && proves '' &&
-    starts && is_gone "${unproved%/*}"
+  rm -rf "${unproved%/*}"
+  change "$1" && answers "rtnl: the program that was proved is older than $1
+$compiled" start && ends 0 "$unproved" '' start_for_path && [ -x "$proved" ] && starts && proves '' &&
+    starts && is_gone "$unproved"
 }
 
 # A compiled program is not run where a proved one is asked for.
-none_but_proved() { forget && compiles && proves "$once" && is_gone "${unproved%/*}" && starts; }
+none_but_proved() { forget && compiles && proves "$once" && is_gone "$unproved" && starts; }
 
 # least_time: the least milliseconds of thirty runs.
 least_time() {

@@ -17,6 +17,12 @@ check() {
   fi
 }
 
+# makes_library FOLDER: the library for C, a proved one; for tests/run --quick also one that isn't.
+makes_library() {
+  [ -n "${RTNL_PROGRAM-}" ] || export RTNL_PROVE=1
+  c/build.sh "$1" && tests/helpers/proved.py --take "$1/librtnlc.a"
+}
+
 # has COMMAND WHAT: the command is here, or a line says that this is skipped.
 has() { command -v "$1" >/dev/null || ! echo "skipped: $2, since $1 is not here"; }
 

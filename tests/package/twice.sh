@@ -16,7 +16,7 @@ again() {
 cloned() {
   local file
   git clone -q . "$folder/clone with blanks" || return
-  for file in "${program#"$top/"}" crates/rtnl_c/out/librtnl_c.a out/rtnl.html; do
+  for file in "${program#"$top/"}" out/{proved,unproved}/librtnl_c.{a,ll,bc} out/rtnl.html; do
     [ ! -e "$file" ] || install -D "$file" "$folder/clone with blanks/$file" || return
   done
 }

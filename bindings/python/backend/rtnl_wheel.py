@@ -3,7 +3,11 @@
 
 * in the folder that RTNLC_LIB_DIR names, where it names one; else
 * beside the sources, in src/rtnl/, where it lies there; else
-* in the folder that `pkg-config --variable=libdir rtnlc` says.
+* in the folder that `pkg-config --variable=libdir rtnlc` says; else
+* made of the clone of rtnl that is around this folder, by c/build.sh there.
+
+The version of the wheel is that of the library, which ends in +unproved where that was compiled
+without a proof, and its tag says by what the library needs on which systems it can be loaded.
 
 With the setting `library=system` the wheel has none, and none is looked for: it is for any
 platform, and loads the library of the system. `library=wheel` is what holds without that setting.
@@ -17,19 +21,25 @@ import hashlib
 import importlib.util
 import io
 import os
+import re
 import subprocess
 import sysconfig
 import tarfile
+import tempfile
 import time
 import zipfile
 from types import ModuleType
-from typing import Any, Dict, Iterator, Optional, Tuple
+from typing import Any, Dict, Iterator, List, Optional, Tuple
 
 HERE = os.path.dirname(os.path.dirname(os.path.abspath(__file__)))
 SOURCES = "src/rtnl"
 TEXTS = ("README.md", "CHANGELOG.md", "pyproject.toml")
 LICENSES = ("LICENSE-MIT", "LICENSE-APACHE", "NOTICE")
 FOLDERS = ("backend", "examples", SOURCES, "tests")
+# What makes the library, in a clone.
+BUILD = "../../c/build.sh"
+# What a library may need of glibc on a system of the tag manylinux2014.
+OLDEST = (2, 17)
 # 1980-01-01, before which a zip has no time.
 FIRST_TIME = 315532800
 
@@ -68,29 +78,42 @@ def folder_of_pkg_config() -> str:
     return ran.stdout.strip()
 
 
-def candidates(module: ModuleType) -> Iterator[str]:
+def candidates(module: ModuleType, beside: bool) -> Iterator[str]:
     """Where the library may be. Where the user names a folder, it is there or nowhere."""
     named = module.named_folder()
     yield from named
     if not named:
-        yield f"{HERE}/{SOURCES}/{module.FILE}"
+        if beside:
+            yield f"{HERE}/{SOURCES}/{module.FILE}"
         found = folder_of_pkg_config()
         if found:
             yield f"{found}/{module.FILE}"
 
 
-def library(module: ModuleType) -> str:
-    """The path of a library that this package can use, or an end that says how to get one."""
-    looked = list(candidates(module))
-    for path in looked:
-        if os.path.isfile(path):
-            try:
-                module.opened(path)
-            except ImportError as error:
-                raise NoLibrary(f"rtnl: {error}") from None
-            return path
-    where = " or ".join(looked)
-    raise NoLibrary(f"rtnl: there is no {module.FILE} for the wheel: not {where}. {module.HELP}")
+def made(module: ModuleType, looked: List[str], room: str) -> str:
+    """The path of a library that the clone around makes, or an end that says how to get one."""
+    if module.named_folder() or not os.path.isfile(f"{HERE}/{BUILD}"):
+        where = " or ".join(looked)
+        why = f"there is no {module.FILE} for the wheel: not {where}"
+        raise NoLibrary(f"rtnl: {why}. {module.HELP}")
+    ran = subprocess.run([f"{HERE}/{BUILD}", room], stderr=subprocess.PIPE, text=True, check=False)
+    if ran.returncode:
+        why = (ran.stderr.strip().splitlines() or [f"status {ran.returncode}"])[-1]
+        raise NoLibrary(f"rtnl: the clone made no library for the wheel: {why}")
+    return f"{room}/{module.FILE}"
+
+
+def library(module: ModuleType, beside: bool = True) -> Tuple[str, bytes]:
+    """The version of a library that this package can use, and its bytes."""
+    looked = list(candidates(module, beside))
+    with tempfile.TemporaryDirectory() as room:
+        there = filter(os.path.isfile, looked)
+        path = next(there, None) or made(module, looked, room)
+        try:
+            version: str = module.opened(path).rtnlc_version().decode()
+        except ImportError as error:
+            raise NoLibrary(f"rtnl: {error}") from None
+        return version, read(path)
 
 
 def read(path: str) -> bytes:
@@ -98,21 +121,29 @@ def read(path: str) -> bytes:
         return file.read()
 
 
-def metadata(module: ModuleType) -> bytes:
+def metadata(version: str) -> bytes:
     """METADATA: its fields, and the README behind them."""
-    fields = read(f"{HERE}/backend/METADATA").replace(b"@VERSION@", module.VERSION.encode())
+    fields = read(f"{HERE}/backend/METADATA").replace(b"@VERSION@", version.encode())
     return fields + read(f"{HERE}/README.md")
 
 
-def tag(with_library: bool) -> str:
-    """The tag of a wheel with the library, or without it."""
+def tag(code: bytes) -> str:
+    """The tag of a wheel with this library, or without one."""
+    if not code:
+        return "py3-none-any"
     platform = sysconfig.get_platform().replace("-", "_").replace(".", "_")
-    return f"py3-none-{platform if with_library else 'any'}"
+    needs = {it for it in re.findall(rb"\0(lib[\w+-]+)\.so[.\d]*(?=\0)", code)} - {b"librtnlc"}
+    glibc = [(int(one), int(two)) for one, two in re.findall(rb"\0GLIBC_(\d+)\.(\d+)", code)]
+    if needs == {b"libc"} and glibc and platform.startswith("linux_"):
+        newest = max(glibc)
+        name = "2014" if newest <= OLDEST else f"_{newest[0]}_{newest[1]}"
+        platform = f"manylinux{name}{platform[len('linux'):]}"
+    return f"py3-none-{platform}"
 
 
-def wheel_text(with_library: bool) -> bytes:
-    pure = f"Root-Is-Purelib: {'false' if with_library else 'true'}"
-    lines = "Wheel-Version: 1.0", "Generator: rtnl", pure, f"Tag: {tag(with_library)}"
+def wheel_text(code: bytes) -> bytes:
+    pure = f"Root-Is-Purelib: {'false' if code else 'true'}"
+    lines = "Wheel-Version: 1.0", "Generator: rtnl", pure, f"Tag: {tag(code)}"
     return "".join(f"{line}\n" for line in lines).encode()
 
 
@@ -120,24 +151,38 @@ def is_source(name: str) -> bool:
     return name.endswith((".py", ".typed")) or name == "METADATA"
 
 
-def in_wheel(
-    module: ModuleType, info: str, with_library: bool
-) -> Iterator[Tuple[str, bytes]]:
-    """The files of the wheel, but for RECORD."""
+def in_wheel(module: ModuleType, code: bytes) -> Iterator[Tuple[str, bytes]]:
+    """The files of the package in a wheel."""
     for name in sorted(filter(is_source, os.listdir(f"{HERE}/{SOURCES}"))):
         yield f"rtnl/{name}", read(f"{HERE}/{SOURCES}/{name}")
-    if with_library:
-        yield f"rtnl/{module.FILE}", read(library(module))
-    yield f"{info}/METADATA", metadata(module)
-    yield f"{info}/WHEEL", wheel_text(with_library)
-    for name in LICENSES:
-        yield f"{info}/licenses/{name}", read(f"{HERE}/{name}")
+    if code:
+        yield f"rtnl/{module.FILE}", code
 
 
 def row(name: str, data: bytes) -> str:
     """The row of a file in RECORD."""
     digest = base64.urlsafe_b64encode(hashlib.sha256(data).digest()).decode().rstrip("=")
     return f"{name},sha256={digest},{len(data)}\n"
+
+
+def write_wheel(
+    folder: str, module: ModuleType, version: str, code: bytes, files: List[Tuple[str, bytes]]
+) -> str:
+    """Writes a wheel of these files, and answers its name."""
+    info = f"rtnl-{version}.dist-info"
+    texts = {"METADATA": metadata(version), "WHEEL": wheel_text(code)}
+    texts.update({f"licenses/{name}": read(f"{HERE}/{name}") for name in LICENSES})
+    files = [*files, *((f"{info}/{name}", text) for name, text in texts.items())]
+    record = "".join(row(*it) for it in files) + f"{info}/RECORD,,\n"
+    stamp = time.gmtime(max(FIRST_TIME, int(os.environ.get("SOURCE_DATE_EPOCH", 0))))[:6]
+    name = f"rtnl-{version}-{tag(code)}.whl"
+    with zipfile.ZipFile(os.path.join(folder, name), "w", zipfile.ZIP_DEFLATED) as wheel:
+        for path, data in [*files, (f"{info}/RECORD", record.encode())]:
+            entry = zipfile.ZipInfo(path, stamp)
+            mode = 0o755 if path.endswith(module.FILE) else 0o644
+            entry.external_attr = (0o100000 | mode) << 16
+            wheel.writestr(entry, data, zipfile.ZIP_DEFLATED)
+    return name
 
 
 def build_wheel(
@@ -147,18 +192,25 @@ def build_wheel(
 ) -> str:
     """Makes the wheel in a folder, and answers its name."""
     module, with_library = loading(), wants_library(config_settings)
-    info = f"rtnl-{module.VERSION}.dist-info"
-    files = list(in_wheel(module, info, with_library))
-    record = "".join(row(*it) for it in files) + f"{info}/RECORD,,\n"
-    stamp = time.gmtime(max(FIRST_TIME, int(os.environ.get("SOURCE_DATE_EPOCH", 0))))[:6]
-    name = f"rtnl-{module.VERSION}-{tag(with_library)}.whl"
-    with zipfile.ZipFile(os.path.join(wheel_directory, name), "w", zipfile.ZIP_DEFLATED) as wheel:
-        for path, data in [*files, (f"{info}/RECORD", record.encode())]:
-            entry = zipfile.ZipInfo(path, stamp)
-            mode = 0o755 if path.endswith(module.FILE) else 0o644
-            entry.external_attr = (0o100000 | mode) << 16
-            wheel.writestr(entry, data, zipfile.ZIP_DEFLATED)
-    return name
+    version, code = library(module) if with_library else (module.VERSION, b"")
+    return write_wheel(wheel_directory, module, version, code, list(in_wheel(module, code)))
+
+
+def build_editable(
+    wheel_directory: str,
+    config_settings: Settings = None,
+    metadata_directory: Optional[str] = None,
+) -> str:
+    """Makes a wheel that names the sources, beside which it puts the library (PEP 660)."""
+    module, with_library = loading(), wants_library(config_settings)
+    version, code = library(module, beside=False) if with_library else (module.VERSION, b"")
+    if code:
+        beside = f"{HERE}/{SOURCES}/{module.FILE}"
+        with open(f"{beside}.new", "wb") as file:
+            file.write(code)
+        os.replace(f"{beside}.new", beside)
+    names = [("rtnl.pth", f"{HERE}/src\n".encode())]
+    return write_wheel(wheel_directory, module, version, code, names)
 
 
 def in_archive() -> Iterator[str]:
@@ -177,7 +229,7 @@ def build_sdist(sdist_directory: str, config_settings: Settings = None) -> str:
     made = io.BytesIO()
     with tarfile.open(fileobj=made, mode="w", format=tarfile.PAX_FORMAT) as archive:
         files = [(path, read(f"{HERE}/{path}")) for path in in_archive()]
-        for path, data in [*files, ("PKG-INFO", metadata(module))]:
+        for path, data in [*files, ("PKG-INFO", metadata(module.VERSION))]:
             entry = tarfile.TarInfo(f"{top}/{path}")
             entry.size, entry.mtime, entry.mode = len(data), stamp, 0o644
             archive.addfile(entry, io.BytesIO(data))

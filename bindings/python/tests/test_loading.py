@@ -21,6 +21,9 @@ words = pathlib.Path("/proc/self/maps").read_text().split()
 print(*{it for it in words if it.endswith("/librtnlc.so.0")})
 """
 BUILD = "import rtnl_wheel, sys; print(rtnl_wheel.build_wheel(sys.argv[1]))"
+BUILD_EDITABLE = BUILD.replace("build_wheel", "build_editable")
+# The tag of a wheel with a library of the bytes of the argument.
+TAG = "import rtnl_wheel, sys; print(rtnl_wheel.tag(bytes.fromhex(sys.argv[1])))"
 # The same with a setting, as pip hands it on: without the library, and one that there is not.
 BUILD_WITHOUT = BUILD.replace("argv[1]", "argv[1], {'library': 'system'}")
 BUILD_WRONGLY = BUILD.replace("argv[1]", "argv[1], {'library': 'none'}")
@@ -66,7 +69,9 @@ class Loading(unittest.TestCase):
 
     def builds(self, **more: str) -> None:
         found = self.ran(BUILD, self.folder, **more)
-        self.assertEqual((found.stdout[:21], found.stderr), ("rtnl-0.3.0-py3-none-l", ""))
+        version = _loading.opened(self.path).rtnlc_version().decode()
+        name = f"rtnl-{version}-py3-none-manylinux2014_{os.uname().machine}.whl\n"
+        self.assertEqual((found.stdout, found.stderr), (name, ""))
 
     def other(self, version: Optional[str]) -> str:
         """The folder of a library of another version, or of something else."""
@@ -132,6 +137,55 @@ class Loading(unittest.TestCase):
         self.assertEqual(self.ran(IMPORT).stdout, "OK\n")
         self.builds()
         self.fails(IMPORT, "can't be loaded", RTNLC_LIB_DIR=self.folder)
+
+    def in_clone(self, script: str) -> None:
+        """The package is that of a clone, in which this makes the library."""
+        clone = f"{self.folder}/clone"
+        os.makedirs(f"{clone}/c")
+        os.makedirs(f"{clone}/bindings")
+        self.package = shutil.move(self.package, f"{clone}/bindings/python")
+        with open(f"{clone}/c/build.sh", "w", encoding="utf-8") as file:
+            file.write(f"#!/bin/sh\n{script}\n")
+        os.chmod(f"{clone}/c/build.sh", 0o755)
+
+    def test_of_a_clone(self) -> None:
+        self.in_clone(f'cp {self.path} "$1/{_loading.FILE}"')
+        self.builds(PKG_CONFIG_PATH=self.folder, PKG_CONFIG_LIBDIR=self.folder)
+        self.fails(BUILD, "there is no librtnlc.so.0", HELP, RTNLC_LIB_DIR=self.folder)
+
+    def test_of_a_clone_that_makes_none(self) -> None:
+        self.in_clone("echo one >&2; echo rtnl: the disk is full >&2; exit 3")
+        none = {"PKG_CONFIG_PATH": self.folder, "PKG_CONFIG_LIBDIR": self.folder}
+        why = "rtnl: the clone made no library for the wheel: rtnl: the disk is full"
+        self.fails(BUILD, why, **none)
+        self.fails(BUILD_EDITABLE, why, **none)
+        self.assertFalse(os.path.exists(f"{self.package}/src/rtnl/{_loading.FILE}"))
+
+    def test_editable(self) -> None:
+        """The wheel names the sources, and the library is put beside them."""
+        beside = f"{self.package}/src/rtnl/{_loading.FILE}"
+        with open(beside, "wb") as file:
+            file.write(b"an older one")
+        own = os.path.dirname(self.path)
+        found = self.ran(BUILD_EDITABLE, self.folder, RTNLC_LIB_DIR=own)
+        self.assertEqual(found.stderr, "")
+        with zipfile.ZipFile(f"{self.folder}/{found.stdout.strip()}") as wheel:
+            self.assertEqual(wheel.read("rtnl.pth").decode(), f"{self.package}/src\n")
+        with open(beside, "rb") as one, open(self.path, "rb") as other:
+            self.assertEqual(one.read(), other.read())
+        self.assertEqual(self.ran(IMPORT).stdout, "OK\n")
+
+    def test_tags(self) -> None:
+        names = b"\0librtnlc.so.0\0libc.so.6\0GLIBC_2.2.5\0"
+        for more, system in (
+            (b"GLIBC_2.17\0", "manylinux2014"),
+            (b"GLIBC_2.25\0GLIBC_2.4\0", "manylinux_2_25"),
+            (b"libm.so.6\0GLIBC_2.17\0", "linux"),
+        ):
+            found = self.ran(TAG, (names + more).hex())
+            wanted = f"py3-none-{system}_{os.uname().machine}\n"
+            self.assertEqual((found.stdout, found.stderr), (wanted, ""))
+        self.assertEqual(self.ran(TAG, b"\0libc.so\0".hex()).stdout[:14], "py3-none-linux")
 
     def test_wheel_without_it(self) -> None:
         """It is made without a library, has none, and loads the one that the loader finds."""

@@ -6,8 +6,8 @@ package main
 import (
 	"os"
 
-	"rtnlc"
-	"rtnlc/examples/source"
+	"rtnl.invalid/rtnlc"
+	"rtnl.invalid/rtnlc/examples/source"
 )
 
 func main() {

@@ -9,8 +9,8 @@ import (
 	"net/netip"
 	"os"
 
-	"rtnlc"
-	"rtnlc/examples/source"
+	"rtnl.invalid/rtnlc"
+	"rtnl.invalid/rtnlc/examples/source"
 )
 
 const usage = "route_add PREFIX via ADDRESS dev DEV [via ADDRESS dev DEV].. [SOCKET]"

@@ -7,8 +7,8 @@ package main
 import (
 	"fmt"
 
-	"rtnlc"
-	"rtnlc/examples/source"
+	"rtnl.invalid/rtnlc"
+	"rtnl.invalid/rtnlc/examples/source"
 )
 
 func main() { source.Exit("routes", routes()) }

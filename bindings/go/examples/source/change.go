@@ -7,7 +7,7 @@ import (
 	"os"
 	"syscall"
 
-	"rtnlc"
+	"rtnl.invalid/rtnlc"
 )
 
 // Arg is an argument of the program, or empty where there is none.

@@ -9,7 +9,7 @@ import (
 	"strings"
 	"syscall"
 
-	"rtnlc"
+	"rtnl.invalid/rtnlc"
 )
 
 // A Source is a netlink socket, or a unix socket at whose other end a program plays the kernel.

@@ -6,8 +6,8 @@ package main
 import (
 	"fmt"
 
-	"rtnlc"
-	"rtnlc/examples/source"
+	"rtnl.invalid/rtnlc"
+	"rtnl.invalid/rtnlc/examples/source"
 )
 
 const groups = 1<<(rtnlc.RTNLGRP_LINK-1) | 1<<(rtnlc.RTNLGRP_NEIGH-1) |

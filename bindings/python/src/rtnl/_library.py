@@ -78,6 +78,7 @@ CALLS: Dict[str, Tuple[Any, Tuple[Any, ...]]] = {
     "rtnlc_type_name": (Put, (c_uint16, Text, c_size_t)),
     "rtnlc_attr_name": (Put, (c_uint8, c_uint16, Text, c_size_t)),
     "rtnlc_code_name": (c_char_p, (c_uint8,)),
+    "rtnlc_proved": (c_bool, ()),
     "rtnlc_request": (Put, (c_uint16, c_uint8, c_uint32, c_bool, Room, c_size_t)),
     "rtnlc_session_new": (c_uint8, (SESSION, OPTIONS)),
     "rtnlc_session_free": (None, (SESSION,)),

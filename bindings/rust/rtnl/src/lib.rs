@@ -90,7 +90,7 @@ pub use session::{Session, Table};
 pub use stream::{Items, Stream};
 pub use tape::{Event, Sort, Tape};
 pub use values::{HardwareAddress, OperationalState, Prefix};
-pub use version::library_version;
+pub use version::{library_proved, library_version};
 pub use views::{Address, Link, Neighbour, Route, Rule};
 
 /// The example in README.md, which is tested as those of this crate.

@@ -5,7 +5,7 @@ use std::ffi::CStr;
 use std::fmt;
 use std::sync::atomic::{AtomicBool, Ordering};
 
-/// The version of `librtnlc` that is linked, as `0.3.0`.
+/// The version of `librtnlc` that is linked, as `0.3.0`, or `0.3.0+unproved`.
 ///
 /// ```
 /// assert!(rtnl::library_version().starts_with("0.3."));
@@ -14,6 +14,17 @@ pub fn library_version() -> &'static str {
     // SAFETY: the library answers a string that is always there and never null.
     let version = unsafe { CStr::from_ptr(rtnlc_sys::rtnlc_version()) };
     version.to_str().unwrap_or("unknown")
+}
+
+/// Whether `librtnlc`, as it is linked, was made of what was proved. Else its version ends in
+/// `+unproved`.
+///
+/// ```
+/// assert_eq!(rtnl::library_proved(), !rtnl::library_version().ends_with("+unproved"));
+/// ```
+pub fn library_proved() -> bool {
+    // SAFETY: the call takes nothing, and answers a bool.
+    unsafe { rtnlc_sys::rtnlc_proved() }
 }
 
 /// Refuses a library of another version. It is compared once.

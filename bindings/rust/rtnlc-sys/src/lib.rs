@@ -29,6 +29,9 @@ use std::os::raw::{c_char, c_void};
 
 /// The version of the header that is declared here.
 pub const RTNLC_VERSION: &str = "0.3.0";
+
+/// What programs are linked with: the first two numbers of the version, as one.
+pub const RTNLC_ABI: u32 = 3;
 /// No call needs more bytes of the stack.
 pub const RTNLC_STACK: usize = 32_768;
 /// Room for any request.
@@ -464,4 +467,7 @@ extern "C" {
 
     /// The version of the library that is linked: never null.
     pub fn rtnlc_version() -> *const c_char;
+
+    /// Whether the library that is linked was made of what was proved.
+    pub fn rtnlc_proved() -> bool;
 }

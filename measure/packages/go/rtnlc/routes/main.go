@@ -2,7 +2,7 @@
 package main
 
 import (
-	"rtnlc"
+	"rtnl.invalid/rtnlc"
 
 	"measure/rtnlc/text"
 	"measure/source"

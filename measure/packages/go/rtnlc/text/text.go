@@ -2,7 +2,7 @@
 package text
 
 import (
-	"rtnlc"
+	"rtnl.invalid/rtnlc"
 
 	"measure/source"
 )

@@ -5,7 +5,7 @@ package main
 import (
 	"io"
 
-	"rtnlc"
+	"rtnl.invalid/rtnlc"
 
 	"measure/rtnlc/text"
 	"measure/source"
