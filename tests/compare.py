@@ -75,8 +75,31 @@ class Schema:
         return None
 
 
-def forms(lines_schema, arguments, recording, objects, sizes):
-    """What a run prints otherwise than these objects in JSON, and the text of them."""
+def answers(found, dump):
+    """The kinds of the objects that answer a dump, in datagrams that are accepted."""
+    kinds = {number: name for name, number in reference.NEW.items()}
+    for data in found:
+        try:
+            read = [*reference.Reading(data, dump.order, dump.depth).messages()]
+        except reference.Fault:
+            continue
+        for (kind, _, *numbers), _ in read:
+            if numbers == [dump.sequence, dump.port] and kind in kinds:
+                yield kinds[kind]
+
+
+def errors_of(found, dump):
+    """What is said of a dump that was fed these, where all that answers it is of other kinds."""
+    kinds = [*answers(found, dump)]
+    if not kinds or kinds[0] == dump.name or not dump.ignored or dump.table or dump.missed:
+        return ""
+    numbers = f"with seq {dump.sequence} port {dump.port}"
+    are = f"the answers {numbers} are" if len({*kinds}) == 1 else f"the first answer {numbers} is"
+    return f"rtnl: ignored {dump.ignored}: {are} of kind {kinds[0]}\n"
+
+
+def forms(lines_schema, arguments, recording, objects, sizes, errors=""):
+    """What a run prints otherwise than these objects in JSON, the text of them, and errors."""
     command = arguments[0]
     status = int(any("refused" in it or it.get("complete") is False for it in objects))
     # The address family stands in the request alone, and text is what is printed without a format.
@@ -92,8 +115,8 @@ def forms(lines_schema, arguments, recording, objects, sizes):
         fault = f"no text of the JSON: {error!r}"
     wanted = reference_lines.text(command, objects, sizes)
     return {
-        "text": difference((wanted, status, ""), text),
-        "JSON": difference((reference_lines.lines(objects), status, ""), in_json) or fault,
+        "text": difference((wanted, status, errors), text),
+        "JSON": difference((reference_lines.lines(objects), status, errors), in_json) or fault,
         "both forms": difference((again, *others), text),
     }
 
@@ -111,7 +134,8 @@ def of_table(lines_schema, order, asked, found, fed=None):
     dump = reference.Dump(kind, seq, port, ORDERS[order], depth, entries)
     objects = [*reference_lines.tabled(found, dump)]
     asked = options(order=order, kind=kind, seq=seq, port=port, depth=depth, entries=entries)
-    return forms(lines_schema, ["table", *asked], as_lines(fed or found), objects, ())
+    errors = errors_of(found, dump)
+    return forms(lines_schema, ["table", *asked], as_lines(fed or found), objects, (), errors)
 
 
 def of_request(order, kind, family, seq):
