@@ -35,8 +35,10 @@ fi
 case ${machine%%-*} in
   x86_64) ;;
   aarch64)
-    [ -e "${archive%.a}.ll" ] || stop "for $machine only what is not proved is compiled, and here it is proved"
-    sed -E '/^target /d; s/ "(target-cpu|probe-stack|stack-probe-size)"="[^"]*"//g' "${archive%.a}.ll" >"$folder/code.ll"
+    code=${archive%.a}.ll
+    [ -e "$code" ] || stop "for $machine it is made of what is not proved, and here it is proved"
+    sed -E '/^target /d; s/ "(target-cpu|probe-stack|stack-probe-size)"="[^"]*"//g' "$code" \
+      >"$folder/code.ll"
     "${kit%/bin/*}/toolchain/bin/clang" "--target=$machine" -Wno-override-module -O3 -fPIC -ffunction-sections \
       -c "$folder/code.ll" -o "$folder/code.o"
     ${CC:-cc} -std=c99 -O2 -fPIC -ffunction-sections -c c/memory.c -o "$folder/memory.o"

@@ -27,5 +27,6 @@ CFLAGS="${CFLAGS-} -Werror" makes_library "$folder/library" || exit 1
 . tests/c_library/installed.sh
 . tests/c_library/manual.sh
 . tests/c_library/examples.sh
+. tests/c_library/arm64.sh
 
 finish
