@@ -216,8 +216,8 @@ def items(file: BinaryIO) -> Iterator[Item]:
     for number, text in lines(file, "latin-1"):
         yield from trace.line(number, text)
     yield from trace.end()
-    for file in [*trace.drops]:
-        yield from trace.dropped(file)
+    for it in [*trace.drops]:
+        yield from trace.dropped(it)
     if trace.silent:
         yield Note(f"left out: {trace.silent} sent datagrams, of which strace printed no bytes; "
                    "run it with -e write=all")

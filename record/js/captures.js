@@ -5,9 +5,13 @@
 const NETLINK = 253, COOKED = 16, ROUTE = 0; // LINKTYPE_NETLINK, the bytes in front of a datagram
 const PCAP = { a1b2c3d4: false, d4c3b2a1: true, a1b23c4d: false, "4d3cb2a1": true };
 const SECTION = "0a0d0d0a", SECTIONS = { "1a2b3c4d": false, "4d3c2b1a": true };
-const INTERFACE = 1, PACKET = 2, SIMPLE = 3, ENHANCED = 6; // blocks, and what they begin with
+// Blocks, and what they begin with.
+const INTERFACE = 1, PACKET = 2, SIMPLE = 3, STATISTICS = 5, ENHANCED = 6;
 const FRONTS = { [INTERFACE]: 8, [PACKET]: 20, [SIMPLE]: 4, [ENHANCED]: 20 };
 const FRAME = 12, BEGINNING = 16; // of a block, and of a section in it
+// Options that say how many packets were dropped: before one, and by an interface and the system.
+const DROPS = 4, DROPPED = [5, 7], UNCOUNTED = 0xffff; // the last of packets of the old form
+const LEAST_STATISTICS = 12; // bytes in front of their options
 const HEADER = 16, TIME = 15; // of a message, and the type of those of rtmon that are times
 const REQUEST = 1; // NLM_F_REQUEST
 
@@ -18,6 +22,7 @@ class Source {
     const view = new DataView(bytes.buffer, bytes.byteOffset, this.end);
     this.u16 = (at) => view.getUint16(at, this.isLittle);
     this.u32 = (at) => view.getUint32(at, this.isLittle);
+    this.u64 = (at) => view.getBigUint64(at, this.isLittle);
     this.digits = (at) => Array.from(bytes.subarray(at, at + 4), hex).join("");
   }
 
@@ -105,16 +110,57 @@ function takeSection(source, begin, place) {
   return major === 1 ? [] : refuse(`${place}: version ${major}.${minor} of pcapng`);
 }
 
+// Hands out the numbers of eight bytes among options, as far as these are whole.
+function eachNumber(source, begin, end, take) {
+  for (let at = begin, next; end - at >= 4; at = next) {
+    const code = source.u16(at), size = source.u16(at + 2);
+    next = at + 4 + ((size + 3) & ~3);
+    if (code === 0 || next > end) return;
+    if (size === 8) take(code, source.u64(at + 4));
+  }
+}
+
+// How many packets a block says were dropped: before its packet, or in all.
+function dropsIn(source, kind, begin, end) {
+  let count = 0n;
+  if (kind === PACKET) {
+    const drops = source.u16(begin + 2);
+    return drops === UNCOUNTED ? count : BigInt(drops);
+  }
+  const options = kind === STATISTICS ? begin + LEAST_STATISTICS
+    : begin + FRONTS[ENHANCED] + ((source.u32(begin + 12) + 3) & ~3);
+  eachNumber(source, options, end, (code, number) => {
+    if (kind === ENHANCED && code === DROPS) count = number;
+    if (kind === STATISTICS && DROPPED.includes(code)) count += number;
+  });
+  return count;
+}
+
+// Notes the packets that a block says were dropped, beyond what is known of its interface. Some of
+// them may have been for rtnetlink.
+function noteDrops(source, found, interfaces, place, kind, begin, end) {
+  const isStatistics = kind === STATISTICS && end - begin >= LEAST_STATISTICS;
+  if (kind !== PACKET && kind !== ENHANCED && !isStatistics) return;
+  const from = interfaces[kind === PACKET ? source.u16(begin) : source.u32(begin)];
+  if (from?.linkType !== NETLINK) return;
+  const count = dropsIn(source, kind, begin, end) - (isStatistics ? from.drops : 0n);
+  if (count <= 0n) return;
+  from.drops += count;
+  const many = `${count} packet${count > 1n ? "s" : ""}`;
+  found.note(`${place}: the capture says that ${many} were dropped`);
+}
+
 // Takes the body of a block, of which an interface is kept, and a packet looked at.
 function takeBody(source, packets, interfaces, place, kind, size) {
   const begin = source.place, front = FRONTS[kind] ?? 0, whole = size + FRAME;
   if (size < front) refuse(`${place}: a block of ${whole} bytes, too short`);
   source.take(front, place, "a block");
-  if (kind === INTERFACE) interfaces.push([source.u16(begin), source.u32(begin + 4)]);
-  else if (front > 0) {
+  if (kind === INTERFACE) {
+    interfaces.push({ linkType: source.u16(begin), longest: source.u32(begin + 4), drops: 0n });
+  } else if (front > 0) {
     const isSimple = kind === SIMPLE, numberAt = kind === PACKET ? source.u16 : source.u32;
     const number = isSimple ? 0 : numberAt(begin), unknown = `the unknown interface ${number}`;
-    const [linkType, longest] = interfaces[number] ?? refuse(`${place}: a packet of ${unknown}`);
+    const { linkType, longest } = interfaces[number] ?? refuse(`${place}: a packet of ${unknown}`);
     const length = source.u32(isSimple ? begin : begin + 16);
     const kept = isSimple ? Math.min(length, longest || length) : source.u32(begin + 12);
     if (kept > size - front) refuse(`${place}: ${kept} bytes of a packet in a block of ${whole}`);
@@ -133,8 +179,9 @@ function fromPcapng(source, packets) {
     if (isSection) interfaces = takeSection(source, begin, place);
     const length = source.u32(begin + 4), size = length - FRAME - (isSection ? BEGINNING : 0);
     if (size < 0 || length % 4) refuse(`${place}: a block of ${length} bytes`);
+    const kind = source.u32(begin), body = source.place;
     try {
-      takeBody(source, packets, interfaces, place, source.u32(begin), size);
+      takeBody(source, packets, interfaces, place, kind, size);
       source.take(4, place, "a block");
       const isSame = source.u32(source.place - 4) === length;
       if (!isSame) refuse(`${place}: the lengths of a block differ`);
@@ -142,6 +189,7 @@ function fromPcapng(source, packets) {
       datagrams.length = before;
       throw error;
     }
+    noteDrops(source, packets.found, interfaces, place, kind, body, body + size);
   });
 }
 

@@ -14,6 +14,8 @@ const IN_VECTOR = /iov_base=("[^"]*"(?:\.\.\.)?|.)/g;
 const IN_ARGUMENT = /^[a-z0-9_]+\([0-9]+(?:<[^>]*>)?, *("[^"]*"(?:\.\.\.)?|.)/;
 // How many bytes a buffer has that isn't in a vector.
 const ROOM = /, ([0-9]{1,19}), (?:0|MSG_[A-Z_|]+)(?:\)|, (?:NULL|\{|0x))/g;
+// What a call answers where no datagram waits, and where the kernel has dropped some.
+const ERROR = /^-1 (E[A-Z]+)\b/, NONE_WAITS = "EAGAIN", NO_ROOM = "ENOBUFS";
 const CUT = /msg_flags=(?:[A-Z_]+\|)*MSG_TRUNC\b/;
 const UNFINISHED = "<unfinished ...>";
 const withoutEnd = (text) => text.replace(/(?<! ) +$/, "");
@@ -66,6 +68,8 @@ class Trace {
   constructor(found) {
     Object.assign(this, { found, begun: new Map(), sockets: new Map(), last: null });
     Object.assign(this, { count: 0, silent: 0 });
+    // The sockets of which the kernel dropped messages, and the lines that say so.
+    this.drops = new Map();
   }
 
   // Takes a line, which ends the datagram before it where it is no row of it.
@@ -118,23 +122,46 @@ class Trace {
     return text;
   }
 
-  // A whole call, which answered this. A file is known by the process and its number, and by that
-  // alone, since a thread or a child may have it from another process.
+  // Whether a call is of a socket for rtnetlink, as far as the trace says. A file is known by the
+  // process and its number, and by that alone, since a thread or a child may have it from another
+  // process.
+  isRoute(name, text, keys, protocol = "0") {
+    const known = this.sockets.get(keys[0]) ?? this.sockets.get(keys[1]);
+    const isLike = !PLAIN.test(name) && /AF_NETLINK|nlmsg_len=/.test(text);
+    return /^[0-9]+$/.test(protocol) ? known ?? isLike : protocol === "ROUTE";
+  }
+
+  // A whole call, which answered this.
   ended(process, name, text, number, result) {
-    const [, file, protocol = "0"] = DESCRIPTOR.exec(text) ?? [];
-    const keys = [`${process} ${file}`, `${file}`], isMany = name.endsWith("mmsg");
-    if (!/^[0-9]{1,19}$/.test(result)) return;
-    if (name === "socket") {
+    const [, file, protocol] = DESCRIPTOR.exec(text) ?? [], isMany = name.endsWith("mmsg");
+    const keys = [`${process} ${file}`, `${file}`];
+    const isRoute = isMove(name) && this.isRoute(name, text, keys, protocol);
+    if (!/^[0-9]{1,19}$/.test(result)) {
+      if (isRoute && RECEIVES.test(name)) this.failed(text, number, file);
+    } else if (name === "socket") {
       for (const key of [`${process} ${result}`, result]) this.sockets.set(key, SOCKET.test(text));
-    } else if (name === "close") for (const key of keys) this.sockets.delete(key);
-    else if (result !== "0" && !text.includes("MSG_PEEK")) {
-      const known = this.sockets.get(keys[0]) ?? this.sockets.get(keys[1]);
-      const isLike = !PLAIN.test(name) && /AF_NETLINK|nlmsg_len=/.test(text);
-      const isRoute = /^[0-9]+$/.test(protocol) ? known ?? isLike : protocol === "ROUTE";
+    } else if (name === "close") {
+      this.noteDrops(file);
+      for (const key of keys) this.sockets.delete(key);
+    } else if (result !== "0" && !text.includes("MSG_PEEK")) {
       if (isRoute && isMany) refuse(`line ${number}: datagrams of ${name} are not taken`);
       const call = { number, name, text, moved: Number(result), pieces: [], size: 0, begin: 0 };
       this.last = isRoute ? call : null;
     }
+  }
+
+  // A call that failed. The kernel says that it drops messages in front of those that wait, and
+  // drops until all of them are received.
+  failed(text, number, file) {
+    const [, error] = ERROR.exec(text.slice(text.lastIndexOf(" = ") + 3)) ?? [];
+    if (error === NONE_WAITS || error === NO_ROOM) this.noteDrops(file);
+    if (error === NO_ROOM) this.drops.set(file, number);
+  }
+
+  // Notes what was dropped of a socket, if some was.
+  noteDrops(file) {
+    const number = this.drops.get(file), isKnown = this.drops.delete(file);
+    if (isKnown) this.found.note(`line ${number}: the kernel dropped messages for the program`);
   }
 
   // The datagram of the last call.
@@ -164,6 +191,7 @@ function fromTrace(lines, found) {
   const trace = new Trace(found);
   lines.forEach((line, at) => found.go(() => trace.line(line, at + 1)));
   found.go(() => trace.end());
+  for (const file of [...trace.drops.keys()]) trace.noteDrops(file);
   const silent = `${trace.silent} sent datagrams, of which strace printed no bytes`;
   if (trace.silent > 0) found.note(`left out: ${silent}; run it with -e write=all`);
   if (trace.count === 0) found.note("no datagram of a socket for rtnetlink");

@@ -35,7 +35,8 @@ def compared(browser: Browser, status: int, lines: str, notes: List[str], said: 
     wanted = shown(lines)
     found = browser.copied() if said["summary"] else ""
     wrong = differ(wanted, found if status == 0 else found[:len(wanted)])
-    return wrong + [f"not said: {it}" for it in notes if it not in said["notes"]]
+    more = [it for it in said["notes"] if "dropped" in it and it not in notes]
+    return wrong + [f"not said: {it}" for it in notes if it not in said["notes"]] + more
 
 
 def made_captures(browser: Browser) -> Iterator[Case]:

@@ -45,6 +45,7 @@ CHANGES = (
     Change("numbers of hexdump as they stand", "isBig ? numbers", "true ? numbers", taken.dumped),
     Change("a row that is missing", "&& place === this.size", "", taken.bad_lines),
     Change("an end of a line", "found.go(() => trace.end());", "", taken.made_captures),
+    Change("drops that aren't known", "drops === UNCOUNTED", "false", taken.made_captures),
     Change("a byte that selects nothing", '"byte", Number', '"row", Number', used.selected),
     Change("a link of little order", "return `${this.order}:", "return `little:", used.links),
     Change("a tree without levels", '"aria-level": level', '"aria-lever": level', used.accessible),

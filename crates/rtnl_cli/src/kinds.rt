@@ -1,5 +1,8 @@
 //! Whose the messages of a recording are, and of which kinds.
 
+ghost use Rattle.std.specs.Prelude.{◌≡◌, IfSome};
+ghost use Rattle.nl_route.specs.Families.{row};
+
 use crate::heading::Numbers;
 use nl_attr::{LONGEST_REGION, SORT_MESSAGE};
 use rtnl::dump::{Dump, Kind};
@@ -54,7 +57,11 @@ pub(crate) fn senders_of(
 }
 
 /// The kind of the object that a message brings, where it has the numbers of this dump.
-pub(crate) fn kind_answered(sender: Sender, dump: Dump) -> Option<Kind> {
+pub(crate) fn kind_answered(sender: Sender, dump: Dump) -> Option<Kind>
+    ensures whose { IfSome result (λ _. (sender.numbers.seq ≡ dump.seq)
+        × (sender.numbers.port ≡ dump.port)) }
+    ensures kind { IfSome result (λ kind. (row kind).new ≡ sender.number) }
+{
     let Dump { seq, port, .. } = dump;
     if sender.numbers != (Numbers { seq, port }) {
         return None;
