@@ -23,7 +23,7 @@ CPU, FLAGS = "x86-64-v2", {"cx16", "lahf_lm", "popcnt", "sse4_1", "sse4_2", "sss
 
 
 def cpu(said: str) -> str:
-    """The processor to compile for, by the text of /proc/cpuinfo."""
+    """The processor to compile for, by the text of /proc/cpuinfo: one of a proved library, or any."""
     found = re.search(r"^flags\s*:(.*)$", said, re.M)
     return CPU if found and FLAGS <= {*found[1].split()} else "x86-64"
 
