@@ -52,7 +52,7 @@ static void end_line(bool is_so)
 
 static void make(const char *line)
 {
-	struct rtnlc_options options;
+	struct rtnlc_options options = { 0, 0, 0, 0, false, { 0 } };
 	unsigned long total;
 	unsigned datagram, entries, depth, big;
 	uint8_t code;

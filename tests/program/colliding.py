@@ -4,8 +4,8 @@
   colliding.py PROGRAM
 
 The hash multiplies what it has by the last eight bytes of an address and by a constant: where they
-are the same, what came before is forgotten. Each way is run some times, and the least time of the
-processor counts. The status is 1 where the first takes more than 1.5 times the second.
+are the same, what came before is forgotten. Each way is run some times in turn, and the least time of
+the processor counts. The status is 1 where the first takes more than 1.5 times the second.
 """
 import os
 import struct
@@ -13,7 +13,7 @@ import subprocess
 import sys
 import tempfile
 
-COUNT, IN_ONE, ROUNDS, MOST = 65536, 1360, 3, 1.5
+COUNT, IN_ONE, ROUNDS, MOST = 65536, 1360, 5, 1.5
 COLLIDING, OTHERS = 0x9E3779B97F4A7C15, 0x0123456789ABCDEF
 
 
@@ -44,17 +44,21 @@ def seconds(program: str, path: str) -> float:
     return used.ru_utime
 
 
-def least(program: str, end: int) -> float:
-    with tempfile.NamedTemporaryFile("w") as file:
+def kept(folder: str, end: int) -> str:
+    """The path of a recording."""
+    path = f"{folder}/{end}"
+    with open(path, "w", encoding="utf-8") as file:
         file.write(recording(end))
-        file.flush()
-        return min(seconds(program, file.name) for _ in range(ROUNDS))
+    return path
 
 
 def main() -> int:
-    ratio = least(sys.argv[1], COLLIDING) / least(sys.argv[1], OTHERS)
-    print(f"{ratio:.2f} times the others")
-    return int(ratio > MOST)
+    with tempfile.TemporaryDirectory() as folder:
+        paths = [kept(folder, end) for end in (COLLIDING, OTHERS)]
+        rounds = [[seconds(sys.argv[1], path) for path in paths] for _ in range(ROUNDS)]
+    colliding, others = map(min, zip(*rounds))
+    print(f"{colliding / others:.2f} times the others")
+    return int(colliding / others > MOST)
 
 
 if __name__ == "__main__":
