@@ -165,15 +165,17 @@ crates/nl_dump/src/sifting.rt 1
 crates/nl_frame/src/building/copying.rt 2
 crates/nl_frame/src/front.rt 1
 crates/rtnl_c/src/cursors.rt 3
-crates/rtnl_cli/src/hints.rt 1'
+crates/rtnl_cli/src/kinds.rt 1'
 
 same 'an attribute of a number is sought for C by one loop over what stands at a place' \
   "$(counts '\brtnlc_attr_at\(')" \
   'crates/rtnl_c/src/cursors.rt 1
 crates/rtnl_c/src/find.rt 2'
 
+# A seed is of no datagram.
 same 'numbers are made of bytes by their order alone' \
-  "$(lines 'from_(le|be|ne)_bytes|(Little|Big|Native)Endian' | grep -v '^crates/nl_attr/src/order\.rt:')" ''
+  "$(lines 'from_(le|be|ne)_bytes|(Little|Big|Native)Endian' |
+    grep -vE '^crates/(nl_attr/src/order|nl_table/src/seed)\.rt:')" ''
 
 same 'calls that answer a tally' "$(counts '-> Tally<')" \
   'crates/nl_attr/src/fault.rt 2
