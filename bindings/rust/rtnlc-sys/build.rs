@@ -90,7 +90,9 @@ fn stop_on_target() {
     let of = |name: &str| env::var(format!("CARGO_CFG_TARGET_{name}")).unwrap_or_default();
     if of("OS") != "linux" || of("ENDIAN") != "little" || of("POINTER_WIDTH") != "64" {
         let target = env::var("TARGET").unwrap_or_default();
-        fail(&format!("librtnlc is for Linux on 64 bits, lowest byte first, and not for {target}"));
+        fail(&format!(
+            "librtnlc is for Linux on 64 bits, lowest byte first, and not for {target}"
+        ));
     }
     if env::var("TARGET") != env::var("HOST") && of("ARCH") != env::consts::ARCH {
         fail("for another machine than this, RTNLC_LIB_DIR names the folder of its library");
