@@ -2,12 +2,15 @@
  * What C calls: each call takes null pointers as include/rtnlc.h says, and hands everything else
  * to the call of crates/rtnl_c, which is proved. c/build.sh names those calls proved_*.
  */
-#include "rtnlc.h"
-
 #ifndef __wasm__
-#include <errno.h>
-#include <sys/random.h>
+#ifndef _DEFAULT_SOURCE
+#define _DEFAULT_SOURCE /* syscall */
 #endif
+#include <errno.h>
+#include <sys/syscall.h>
+#include <unistd.h>
+#endif
+#include "rtnlc.h"
 
 /* A session as the proved calls take it: `made` says whether `at` points to one. */
 struct handle {
@@ -227,7 +230,8 @@ static bool has_seed(const struct rtnlc_options *options)
 	return any != 0;
 }
 
-/* Takes a seed from the kernel, at once: early at boot it is as random as can be had then. */
+/* Takes a seed from the kernel, at once: early at boot it is as random as can be had then. It is
+ * asked by number, since glibc has a name for the call only from 2.25 on. */
 static bool take_seed(struct rtnlc_options *options)
 {
 #ifdef __wasm__
@@ -235,10 +239,11 @@ static bool take_seed(struct rtnlc_options *options)
 	return false;
 #else
 	const unsigned insecure = 4, nonblocking = 1; /* GRND_INSECURE since Linux 5.6, GRND_NONBLOCK */
-	ssize_t got = getrandom(options->seed, sizeof options->seed, insecure);
+	const long size = sizeof options->seed;
+	long got = syscall(SYS_getrandom, options->seed, size, insecure);
 	if (got < 0 && errno == EINVAL)
-		got = getrandom(options->seed, sizeof options->seed, nonblocking);
-	return got == sizeof options->seed;
+		got = syscall(SYS_getrandom, options->seed, size, nonblocking);
+	return got == size;
 #endif
 }
 

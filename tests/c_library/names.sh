@@ -37,7 +37,7 @@ carries_version() {
 # Only functions on memory, what gives a seed, and what the linker itself names.
 takes_memory_and_a_seed() {
   local memory='malloc|realloc|free|mem(cpy|move|set|cmp)' linker='_(ITM|_cxa|_gmon).*'
-  local seed='getrandom|__errno_location'
+  local seed='syscall|__errno_location'
   names_in "$@" | grep -vxE "$memory|$seed|$linker|_GLOBAL_OFFSET_TABLE_" >"$folder/names"
   [ ! -s "$folder/names" ] || ! cat "$folder/names"
 }
