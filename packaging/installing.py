@@ -256,12 +256,13 @@ def remove_known(target: Target, reached: Reached, known: Record) -> int:
 
 def unsettle(folder: Folder, known: Record) -> None:
     """Has the next run know those folders around the record that were made, and have nothing else,
-    once the record is gone."""
+    once the record is gone. Those of another user stay as they are."""
     for place, name in zip(AROUND, RECORD.split("/")[::-1]):
         with folder.holder(f"{place}/.") as (fd, _), listing(fd) as entries:
             if place not in known.folders or os.listdir(entries) != [name]:
                 return
-            settle(fd, UNSETTLED)
+            with contextlib.suppress(PermissionError):
+                settle(fd, UNSETTLED)
 
 
 def remove_unknown(reached: Reached) -> None:

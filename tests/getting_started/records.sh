@@ -99,6 +99,7 @@ is_empty() {
 # then removed; the folders, which it doesn't name, are left.
 is_written_anew() {
   has_record true && by mkdir -p "$target/share/man/man1" && by touch "$target/share/man/man1/rtnl.1" &&
+    by chmod -R a+rwX "$target/share/man" &&
     ends 0 "$(printf "installed $target/%s\n" "${things[@]}")" "$not_proved" put_as "$target" &&
     cmp -s share/rtnl.jq "$target/share/rtnl/rtnl.jq" && [ -s "$target/share/man/man1/rtnl.1" ] &&
     [ "$(grep -c '^file ' "$record")" = "$((${#things[@]} - 1))" ] && take_as "$target" >/dev/null &&
