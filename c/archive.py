@@ -1,11 +1,9 @@
 #!/usr/bin/env python3
 """Proves rtnl_c and makes out/proved/librtnl_c.a over the libraries that lie built in the crates'
-folders out/, as `rt lib` does at its end. `rt ci` builds those libraries anew, and leaves no mark
-by which `rt lib` takes them: that would prove all of them once more. Nor does it make a static
-library, and it removes what crates/rtnl_c/out has. Beside the archive librtnl_c.bc is kept, the
-code that the kit hands to its clang, of which wasm.py makes the module of the page.
-launch/build.py calls it.
-The status is 1 where a library is missing or older than its sources, or rtnl_c is not proved.
+folders out/, as `rt lib` does at its end. Beside it librtnl_c.bc is kept, the code that the kit
+hands to its clang, of which wasm.py makes the module of the page. launch/build.py calls it; why it
+does stands in docs/DECISIONS.md. The status is 1 where a library is missing or older than its
+sources, or rtnl_c is not proved.
 """
 import os
 import shutil
@@ -18,6 +16,8 @@ sys.dont_write_bytecode = True
 sys.path.insert(0, f"{os.path.dirname(os.path.realpath(__file__))}/../launch")
 from crates import ROOT, Crates, NotBuilt, below, library, listed
 from stand_in import stand_in
+from steps import Failed
+from unproved import kit_folder
 
 NAME = "rtnl_c"
 ARCHIVE, CODE = (f"{ROOT}/out/proved/lib{NAME}.{it}" for it in ("a", "bc"))
@@ -33,14 +33,6 @@ exec '{clang}' "$@"
 def stop(why: str) -> NoReturn:
     print(f"archive.py: {why}", file=sys.stderr)
     sys.exit(1)
-
-
-def kit_folder() -> str:
-    """The kit's folder."""
-    command = shutil.which("rt")
-    if command is None:
-        stop("rt, with which the compiler comes, is not on the PATH")
-    return os.path.dirname(os.path.dirname(os.path.realpath(command)))
 
 
 def words(kit: str, crates: Crates, toolchain: str, to: str) -> List[str]:
@@ -82,5 +74,5 @@ def build(crates: Crates) -> None:
 if __name__ == "__main__":
     try:
         build(listed())
-    except NotBuilt as error:
+    except (Failed, NotBuilt) as error:
         stop(f"{error}")

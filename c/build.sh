@@ -10,8 +10,10 @@ mkdir -p -- "$1"
 to=$(cd -- "$1" && pwd)
 cd "$(dirname "$(readlink -f "${BASH_SOURCE[0]}")")/.."
 stop() { echo "build.sh: $*" >&2; exit 3; }
+needed='the kit, Python, a C compiler, which CC names, and binutils'
 for tool in rt python3 "${CC:-cc}" ld objcopy ar; do
-  command -v "${tool%% *}" >/dev/null || stop "$tool is not on the PATH"
+  command -v "${tool%% *}" >/dev/null ||
+    stop "$tool is not on the PATH; what is needed is $needed"
 done
 # tool NAME: that of binutils for the machine of the compiler.
 tool() { ${CC:-cc} -print-prog-name="$1"; }
@@ -20,16 +22,29 @@ kit=$(readlink -f "$(command -v rt)")
 memory=${kit%/bin/*}/c/liblibc_c.a
 folder=$(mktemp -d)
 trap 'rm -rf "$folder"' EXIT
+# It needs less, in kilobytes.
+[ "$(df -k --output=avail "$folder" | tail -n 1)" -ge 8192 ] ||
+  stop "the disk of ${folder%/*} is full; TMPDIR names another folder"
 
-archive=$(launch/build.py library) || exit
-# What the kit built of what it proved names the logic of the proof, and its calls are as C makes
-# them.
-if grep -qaF 'rattle logic=' "$archive"; then
-  how=(-DRTNLC_PROVED)
-else
-  how=(-include "$folder/inner.h")
-  c/exports.py >"$folder/inner.h"
-fi
+# end NUMBER: this signal ends the build too, which then leaves nothing half made.
+building=''
+end() {
+  if [ -n "$building" ]; then
+    kill "$building" 2>/dev/null || true
+    wait "$building" || true
+  fi
+  exit "$((128 + $1))"
+}
+trap 'end 1' HUP
+trap 'end 2' INT
+trap 'end 15' TERM
+launch/build.py library >"$folder/archive" &
+building=$!
+wait "$building" || exit
+building=''
+archive=$(<"$folder/archive")
+# What the kit built of what it proved names the logic of the proof.
+proved=$(grep -qaF 'rattle logic=' "$archive" && echo -DRTNLC_PROVED) || true
 
 # For another processor the same code is compiled once more, but for what is of the first one.
 case ${machine%%-*} in
@@ -62,7 +77,7 @@ node=$(sed -nE 's/^#define RTNLC_VERSION "([0-9]+\.[0-9]+)\..*/RTNLC_\1/p' inclu
 # What stands behind the flags of the environment is so whatever they say: ld joins the object with
 # the proved code.
 # shellcheck disable=SC2086
-${CC:-cc} -std=c99 -O2 -Wall -Wextra -Iinclude "${how[@]}" ${CPPFLAGS-} ${CFLAGS-} \
+${CC:-cc} -std=c99 -O2 -Wall -Wextra -Iinclude $proved ${CPPFLAGS-} ${CFLAGS-} \
   -fPIC -ffunction-sections -fno-lto -c c/rtnlc.c -o "$folder/calls.o"
 "$(tool ld)" -r --whole-archive "$archive" -o "$folder/proved.o"
 "$(tool objcopy)" --redefine-syms="$folder/renamed" "$folder/proved.o"

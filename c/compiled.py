@@ -6,18 +6,15 @@ this one has of what a proved library needs.
 import re
 from typing import IO, Any, List
 
+import exports
 import unproved
 from crates import ROOT, Crates
 from marks import marked
 from parts import Module, used
 from steps import Failed, step
 
-# The changes by which a twin has the name of the kit's export.
-CHANGES = [
-    (r'@"rtnl_c::[\w:]+::rtnlc_(\w+)_twin"', r"@rtnlc_\1"),
-    (r"^define internal (.*@rtnlc_)", r"define \1"),
-    (r'(nounwind )?sanitize_address "frame-pointer"="all"', "nounwind"),
-]
+# What a trial asks of each function, in place of what a proved one has.
+OF_TRIAL = re.compile(r'(nounwind )?sanitize_address "frame-pointer"="all"')
 # What a proved library needs, of processors that have these flags.
 CPU, FLAGS = "x86-64-v2", {"cx16", "lahf_lm", "popcnt", "sse4_1", "sse4_2", "ssse3"}
 
@@ -28,28 +25,26 @@ def cpu(said: str) -> str:
     return CPU if found and FLAGS <= {*found[1].split()} else "x86-64"
 
 
-def text(module: Module, roots: "dict[str, str]") -> str:
+def text(module: Module, name: str, roots: "dict[str, str]") -> str:
     """The text of the library's module."""
-    twins = [it for it in module.functions if re.search(r'::rtnlc_\w+_twin"$', it)]
-    lines = (line for it in used(module, *twins) for line in module.functions[it].lines)
-    found = "".join([*module.rest, *lines])
+    calls = [it for it in module.functions if exports.IS_CALL.match(it)]
+    lines = (line for it in used(module, *calls) for line in module.functions[it].lines)
+    found = OF_TRIAL.sub("nounwind", "".join([*module.rest, *lines]))
     with open("/proc/cpuinfo", encoding="utf-8", errors="replace") as said:
-        changes = [*CHANGES, (r'"target-cpu"="x86-64"', f'"target-cpu"="{cpu(said.read())}"')]
-    for old, new in changes:
-        found = re.sub(old, new, found, flags=re.M)
-    return marked(found, roots)
+        found = found.replace('"target-cpu"="x86-64"', f'"target-cpu"="{cpu(said.read())}"')
+    return marked(found, roots) + exports.around_all(found, name)
 
 
-def build(crates: Crates, name: str, log: IO[Any], room: str) -> List[str]:
-    """Compiles the library of the module, and returns the names in the room: the archive, and its
-    code for other machines."""
+def build(crates: Crates, name: str, log: IO[Any], room: str, at: str) -> List[str]:
+    """Compiles the library of the module in a folder, and returns the names in the room: the
+    archive, and its code for other machines."""
     folder = unproved.kit()
     words = [*unproved.libraries(folder, crates, name), f"{name}:={ROOT}/crates/{name}/src/lib.rt"]
     roots = {it.partition(":")[0]: it.partition("=")[2] for it in words}
     made = [f"lib{name}.a", f"lib{name}.ll"]
     with open(f"{room}/{made[1]}", "w", encoding="utf-8") as file:
-        file.write(text(unproved.module(checks=False), roots))
-    command = [it for it in unproved.compiler(made[1], "-O3", "-fPIC") if it != "-fPIE"]
+        file.write(text(unproved.module(at, checks=False), name, roots))
+    command = [it for it in unproved.compiler(at, made[1], "-O3", "-fPIC") if it != "-fPIE"]
     packing = [f"{folder}/toolchain/bin/llvm-ar", "rcsD", made[0], "module.o"]
     if not (step("2 of 3: compiling it", log, [command], cwd=room)
             and step("3 of 3: packing it", log, [packing], cwd=room)):

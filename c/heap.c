@@ -85,33 +85,7 @@ void *realloc(void *at, size_t count)
 	return moved;
 }
 
-/* ---- What the proved code calls: whether memory was left, and where it is ---- */
-
-struct granted {
-	size_t is_granted;
-	void *at;
-};
-
-static struct granted granted(void *at)
-{
-	return (struct granted){ at != 0, at ? at : &__heap_base };
-}
-
-struct granted rattle_alloc(size_t count, size_t alignment)
-{
-	return granted(malloc(count ? count : alignment));
-}
-
-struct granted rattle_realloc(void *at, size_t old, size_t count, size_t alignment)
-{
-	(void)old;
-	return granted(realloc(at, count ? count : alignment));
-}
-
-void rattle_dealloc(void *at)
-{
-	free(at);
-}
+#include "memory.c"
 
 /* ---- What a compiler calls ---- */
 

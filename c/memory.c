@@ -1,11 +1,16 @@
 /*
- * The functions by which the code of the library takes memory, on processors for which the kit has
- * none. An answer says whether there is memory, and where; no bytes are a block of the alignment.
+ * The functions by which the code of the library takes memory, for which the kit has none on other
+ * processors and in the page. An answer says whether there is memory, and where; no bytes are a
+ * block of the alignment.
  */
-#include <stdlib.h>
+typedef __SIZE_TYPE__ size_t;
+
+void *malloc(size_t count);
+void *realloc(void *at, size_t count);
+void free(void *at);
 
 struct granted {
-	size_t is_there;
+	size_t is_granted;
 	void *at;
 };
 
@@ -13,7 +18,7 @@ static char nothing;
 
 static struct granted granted(void *at)
 {
-	return (struct granted){ at != NULL, at ? at : &nothing };
+	return (struct granted){ at != 0, at ? at : &nothing };
 }
 
 struct granted rattle_alloc(size_t count, size_t alignment)

@@ -12,7 +12,7 @@
 #endif
 #include "rtnlc.h"
 
-/* A session as the proved calls take it: `made` says whether `at` points to one. */
+/* A session or a mirror as the proved calls take it: `made` says whether `at` points to one. */
 struct handle {
 	void *at;
 	bool made;
@@ -58,6 +58,18 @@ struct rtnlc_table proved_session_table(struct handle *, uint16_t);
 struct rtnlc_put proved_session_entry(struct handle *, uint16_t, uint32_t, uint8_t *, size_t);
 struct rtnlc_put proved_session_key(struct handle *, uint16_t, uint32_t, uint8_t *, size_t);
 struct rtnlc_found proved_session_find(struct handle *, uint16_t, const uint8_t *, size_t);
+
+uint8_t proved_mirror_new(struct handle *, const struct rtnlc_options *, uint32_t);
+void proved_mirror_free(struct handle *);
+struct rtnlc_put proved_mirror_begin(struct handle *, uint16_t, uint8_t, uint32_t, uint32_t,
+                                     uint8_t *, size_t);
+struct rtnlc_heard proved_mirror_feed(struct handle *, const uint8_t *, size_t,
+                                      struct rtnlc_change *, size_t, uint8_t *, size_t);
+uint8_t proved_mirror_lost(struct handle *);
+struct rtnlc_mirrored proved_mirror_table(struct handle *, uint16_t);
+struct rtnlc_put proved_mirror_entry(struct handle *, uint16_t, uint32_t, uint8_t *, size_t);
+struct rtnlc_put proved_mirror_key(struct handle *, uint16_t, uint32_t, uint8_t *, size_t);
+struct rtnlc_found proved_mirror_find(struct handle *, uint16_t, const uint8_t *, size_t);
 
 uint8_t proved_stream_new(struct rtnlc_stream *, const struct rtnlc_options *);
 struct rtnlc_put proved_stream_begin(struct rtnlc_stream *, uint16_t, uint8_t, uint32_t, uint32_t,
@@ -207,18 +219,29 @@ struct rtnlc_put rtnlc_attr_name(uint8_t context, uint16_t number, char *out, si
 	return proved_attr_name(context, number, ROOM(out, room));
 }
 
-/* A null pointer is a handle with no session. */
-static struct handle handle_of(const struct rtnlc_session *s)
+/* What has no session or no mirror is a handle with none. */
+static struct handle handle_at(void *at)
 {
-	struct handle handle = { s ? s->at : NULL, s && s->at };
+	struct handle handle = { at, at != NULL };
 	return handle;
 }
 
-/* After a call the session is where its handle says. */
+/* After a call the session or the mirror is where its handle says. */
+static void *kept(const struct handle *handle)
+{
+	return handle->made ? handle->at : NULL;
+}
+
+/* A null pointer is a handle with no session. */
+static struct handle handle_of(const struct rtnlc_session *s)
+{
+	return handle_at(s ? s->at : NULL);
+}
+
 static void keep(struct rtnlc_session *s, const struct handle *handle)
 {
 	if (s)
-		s->at = handle->made ? handle->at : NULL;
+		s->at = kept(handle);
 }
 
 /* A seed that is all 0 is none. */
@@ -247,6 +270,12 @@ static bool take_seed(struct rtnlc_options *options)
 #endif
 }
 
+/* Whether the options have a seed, or need none since what it would be for is made, or got one. */
+static bool is_seeded(const struct handle *handle, struct rtnlc_options *options)
+{
+	return handle->made || has_seed(options) || take_seed(options);
+}
+
 uint8_t rtnlc_session_new(struct rtnlc_session *s, const struct rtnlc_options *options)
 {
 	struct handle handle = handle_of(s);
@@ -254,7 +283,7 @@ uint8_t rtnlc_session_new(struct rtnlc_session *s, const struct rtnlc_options *o
 	uint8_t code;
 	if (!s)
 		return RTNLC_NO_SESSION;
-	if (!handle.made && !has_seed(&seeded) && !take_seed(&seeded))
+	if (!is_seeded(&handle, &seeded))
 		return RTNLC_NO_SEED;
 	code = proved_session_new(&handle, &seeded);
 	keep(s, &handle);
@@ -333,6 +362,103 @@ struct rtnlc_found rtnlc_session_find(struct rtnlc_session *s, uint16_t kind, co
 	struct handle handle = handle_of(s);
 	struct rtnlc_found found = proved_session_find(&handle, kind, BYTES(key, len));
 	keep(s, &handle);
+	return found;
+}
+
+/* A null pointer is a handle with no mirror. */
+static struct handle mirror_handle(const struct rtnlc_mirror *m)
+{
+	return handle_at(m ? m->at : NULL);
+}
+
+static void keep_mirror(struct rtnlc_mirror *m, const struct handle *handle)
+{
+	if (m)
+		m->at = kept(handle);
+}
+
+uint8_t rtnlc_mirror_new(struct rtnlc_mirror *m, const struct rtnlc_options *options,
+                         uint32_t waiting)
+{
+	struct handle handle = mirror_handle(m);
+	struct rtnlc_options seeded = *limits_at(options);
+	uint8_t code;
+	if (!m)
+		return RTNLC_NO_MIRROR;
+	if (!is_seeded(&handle, &seeded))
+		return RTNLC_NO_SEED;
+	code = proved_mirror_new(&handle, &seeded, waiting);
+	keep_mirror(m, &handle);
+	return code;
+}
+
+void rtnlc_mirror_free(struct rtnlc_mirror *m)
+{
+	struct handle handle = mirror_handle(m);
+	proved_mirror_free(&handle);
+	keep_mirror(m, &handle);
+}
+
+struct rtnlc_put rtnlc_mirror_begin(struct rtnlc_mirror *m, uint16_t kind, uint8_t family,
+                                    uint32_t seq, uint32_t port, uint8_t *out, size_t room)
+{
+	struct handle handle = mirror_handle(m);
+	struct rtnlc_put put = proved_mirror_begin(&handle, kind, family, seq, port, ROOM(out, room));
+	keep_mirror(m, &handle);
+	return put;
+}
+
+struct rtnlc_heard rtnlc_mirror_feed(struct rtnlc_mirror *m, const uint8_t *bytes, size_t len,
+                                     struct rtnlc_change *changes, size_t room, uint8_t *before,
+                                     size_t before_room)
+{
+	struct handle handle = mirror_handle(m);
+	struct rtnlc_heard heard = proved_mirror_feed(&handle, BYTES(bytes, len), ROOM(changes, room),
+	                                              ROOM(before, before_room));
+	keep_mirror(m, &handle);
+	return heard;
+}
+
+uint8_t rtnlc_mirror_lost(struct rtnlc_mirror *m)
+{
+	struct handle handle = mirror_handle(m);
+	uint8_t code = proved_mirror_lost(&handle);
+	keep_mirror(m, &handle);
+	return code;
+}
+
+struct rtnlc_mirrored rtnlc_mirror_table(struct rtnlc_mirror *m, uint16_t kind)
+{
+	struct handle handle = mirror_handle(m);
+	struct rtnlc_mirrored mirrored = proved_mirror_table(&handle, kind);
+	keep_mirror(m, &handle);
+	return mirrored;
+}
+
+struct rtnlc_put rtnlc_mirror_entry(struct rtnlc_mirror *m, uint16_t kind, uint32_t index,
+                                    uint8_t *out, size_t room)
+{
+	struct handle handle = mirror_handle(m);
+	struct rtnlc_put put = proved_mirror_entry(&handle, kind, index, ROOM(out, room));
+	keep_mirror(m, &handle);
+	return put;
+}
+
+struct rtnlc_put rtnlc_mirror_key(struct rtnlc_mirror *m, uint16_t kind, uint32_t index,
+                                  uint8_t *out, size_t room)
+{
+	struct handle handle = mirror_handle(m);
+	struct rtnlc_put put = proved_mirror_key(&handle, kind, index, ROOM(out, room));
+	keep_mirror(m, &handle);
+	return put;
+}
+
+struct rtnlc_found rtnlc_mirror_find(struct rtnlc_mirror *m, uint16_t kind, const uint8_t *key,
+                                     size_t len)
+{
+	struct handle handle = mirror_handle(m);
+	struct rtnlc_found found = proved_mirror_find(&handle, kind, BYTES(key, len));
+	keep_mirror(m, &handle);
 	return found;
 }
 
@@ -557,6 +683,7 @@ const char *rtnlc_code_name(uint8_t code)
 	case RTNLC_STILL_OPEN: return "still open";
 	case RTNLC_NO_BUILDER: return "no builder";
 	case RTNLC_NO_SEED: return "no seed";
+	case RTNLC_NO_MIRROR: return "no mirror";
 	case RTNLC_END: return "end";
 	default: return "unknown code";
 	}

@@ -12,10 +12,11 @@ import shutil
 import subprocess
 import sys
 import tempfile
-from typing import List, NoReturn, Set, Tuple
+from typing import Callable, List, NoReturn, Set, Tuple
 
 import archive
 from crates import ROOT
+from unproved import kit_folder
 
 TARGET = ["--target=wasm64-unknown-unknown", "-mbulk-memory", "-mno-multivalue",
           "-mno-reference-types", "-c", "-Oz"]
@@ -59,24 +60,19 @@ def exported(words: Set[str]) -> List[str]:
     return sorted({"malloc", "free", *words.intersection(declared)})
 
 
-def library() -> Tuple[str, List[str]]:
-    """The code of the library, and how rtnlc.c is compiled beside it."""
-    words = [f"{ROOT}/launch/build.py", "library"]
-    built = subprocess.run(words, stdout=subprocess.PIPE, text=True, check=False)
-    if built.returncode:
-        sys.exit(built.returncode)
-    path = built.stdout.rstrip("\n")
+def library(path: str) -> Tuple[str, List[str]]:
+    """The code of the library with this archive, and how rtnlc.c is compiled beside it."""
     is_proved = path == archive.ARCHIVE
     return (archive.CODE, ["-DRTNLC_PROVED"]) if is_proved else (f"{path[:-2]}.ll", [])
 
 
-def make(made: str, words: Set[str]) -> None:
-    """Makes the module, with the calls that are among these words."""
+def make(made: str, words: Set[str], build: Callable[[], str]) -> None:
+    """Makes the module, with the calls that are among these words, of the archive that is built."""
     if shutil.which("wasm-opt") is None:
         stop("wasm-opt, of the package binaryen, is not on the PATH")
-    tools, headers = f"{archive.kit_folder()}/toolchain/bin", run("cc", "-print-file-name=include")
+    tools, headers = f"{kit_folder()}/toolchain/bin", run("cc", "-print-file-name=include")
     with tempfile.TemporaryDirectory() as room:
-        kept, how = library()
+        kept, how = library(build())
         sources = {f"{ROOT}/c/heap.c": C,
                    f"{ROOT}/c/rtnlc.c": [*C, *how, "-isystem", headers.strip()]}
         code = f"{room}/code.ll"

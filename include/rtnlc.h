@@ -7,23 +7,23 @@
  * A datagram is bytes in memory: what one recv(2) on a netlink socket gave, or what is to be sent.
  * No call opens a socket, and none keeps a pointer that it was handed, but that of the buffer in a
  * struct rtnlc_builder. The manual page rtnlc(3) is installed with this header; docs/C.md of the
- * sources has a table of all calls, three loops and a request.
+ * sources has a table of all calls, its loops and a request.
  *
  * What the caller owes, and no more:
  *  - `bytes` points to `len` bytes that can be read. A null pointer is no bytes, whatever `len` is.
  *  - `out` points to `room` elements that can be written, and that overlap nothing else that the
  *    call is handed. A null pointer is no room, whatever `room` is.
  *  - `options` points to a struct rtnlc_options, or is null: then the standard limits hold.
- *  - A session, a stream or a builder is in one call at a time.
+ *  - A session, a mirror, a stream or a builder is in one call at a time.
  * Any bytes are taken, and each call ends, whatever they hold. A datagram needn't be aligned.
  *
- * Threads: no call writes anything but its result, what it was handed to write, and its session.
- * Any thread may call, and a session, a stream or a builder may go from one thread to another
- * between two calls.
+ * Threads: no call writes anything but its result, what it was handed to write, and its session or
+ * its mirror. Any thread may call, and a session, a mirror, a stream or a builder may go from one
+ * thread to another between two calls.
  * Memory: rtnlc_check, rtnlc_show and rtnlc_show_json take some from malloc, realloc and free, and
- * have given all of it back when they return. A session holds memory until it is freed, and its
- * calls take some. These three and all calls of a session can't be made from a signal handler; the
- * others take no memory, and can.
+ * have given all of it back when they return. A session or a mirror holds memory until it is freed,
+ * and its calls take some. These three and all calls of a session or a mirror can't be made from a
+ * signal handler; the others take no memory, and can.
  * Stack: no call needs more than RTNLC_STACK bytes, however deep the datagram is.
  *
  * Places are offsets in bytes, from the front of the bytes that were handed in. `len` fields count
@@ -69,8 +69,10 @@ enum rtnlc_code {
 	RTNLC_TOO_LARGE = 6,    /* the datagram is above the datagram limit; nothing was looked at */
 	RTNLC_TOTAL = 7,        /* all datagrams would be above the total limit; nothing was looked at */
 	RTNLC_NOT_WAITING = 8,  /* no dump waits for its answers */
-	RTNLC_BUSY = 9,         /* a dump waits for its answers, or the session is made already */
-	RTNLC_SAME_SEQ = 10,    /* the sequence number is that of the dump before */
+	RTNLC_BUSY = 9,         /* a dump waits for its answers, or the session or the mirror is made
+	                         * already */
+	RTNLC_SAME_SEQ = 10,    /* the sequence number is that of the dump before; of a mirror, it isn't
+	                         * above that of each before */
 	RTNLC_MISMATCH = 11,    /* a value is of another kind than its attribute, or its type, holds */
 	RTNLC_BAD_LIMIT = 12,   /* one of the options is out of its range; nothing was looked at */
 	RTNLC_NO_MEMORY = 13,   /* an allocation was refused */
@@ -82,6 +84,7 @@ enum rtnlc_code {
 	RTNLC_STILL_OPEN = 22,  /* something is still open in what should end, or before the next */
 	RTNLC_NO_BUILDER = 23,  /* null, or what no call leaves in a struct rtnlc_builder */
 	RTNLC_NO_SEED = 24,     /* getrandom(2) gave no seed; one can be handed in */
+	RTNLC_NO_MIRROR = 25,   /* null, or a mirror that was never made, or is freed */
 	RTNLC_END = 255         /* nothing more stands there */
 };
 
@@ -107,16 +110,17 @@ enum rtnlc_context {
 	RTNLC_PLAIN = 8      /* any other list */
 };
 
-/* The limits of a call, of a session, a stream or a builder, each in its range, whichever a call
- * uses. */
+/* The limits of a call, of a session, a mirror, a stream or a builder, each in its range, whichever
+ * a call uses. */
 struct rtnlc_options {
 	uint64_t total;    /* bytes of all datagrams of a session or a stream at most: 0 to 2^40 */
 	uint32_t datagram; /* bytes of a datagram at most: a multiple of 4 from 16 to 1,048,576 */
-	uint32_t entries;  /* entries of each table of a session at most: 0 to 65,536 */
+	uint32_t entries;  /* entries of each table of a session or a mirror at most: 0 to 65,536 */
 	uint8_t depth;     /* levels that containers may open at most: 0 to 32 */
 	bool big;          /* numbers have their highest byte first, as on s390x */
-	uint8_t seed[16];  /* by which a session's tables hash, so that nobody else can choose keys
-	                    * that collide; all 0: rtnlc_session_new takes one from getrandom(2) */
+	uint8_t seed[16];  /* by which the tables of a session or a mirror hash, so that nobody else can
+	                    * choose keys that collide; all 0: rtnlc_session_new and rtnlc_mirror_new
+	                    * take one from getrandom(2) */
 };
 
 /* The limits that hold where no options are handed in, with the lowest byte first. */
@@ -421,6 +425,137 @@ struct rtnlc_found {
 RTNLC_READS(3, 4)
 struct rtnlc_found rtnlc_session_find(struct rtnlc_session *s, uint16_t kind, const uint8_t *key,
                                       size_t len);
+
+/* ---- The kernel's tables, kept current ---- */
+
+/* Why a table may differ from the kernel's, until the next whole dump of it. */
+enum rtnlc_stale {
+	RTNLC_CURRENT = 0,       /* it doesn't */
+	RTNLC_NEVER_DUMPED = 1,  /* no dump of it was whole yet, of the address family asked for last */
+	RTNLC_LOST = 2,          /* the kernel dropped messages: ENOBUFS, or NLMSG_OVERRUN */
+	RTNLC_REFUSED = 3,       /* a datagram was refused */
+	RTNLC_SHORT = 4,         /* there was no memory for what was heard */
+	RTNLC_TOO_MANY_WAIT = 5, /* more changes came while a dump ran than may wait for its end */
+	RTNLC_SILENT = 6,        /* the kernel takes routes of IPv4 away with a link or an address, and
+	                          * tells nobody */
+	RTNLC_UNNAMED = 7,       /* a route was replaced, joined or taken from others, and the message
+	                          * doesn't say which */
+	RTNLC_FULL = 8           /* the table had no room for an entry */
+};
+
+/* What a message makes of the table of its kind. */
+enum rtnlc_effect {
+	RTNLC_NOTHING = 0, /* nothing: it tells of no entry of a table, of one that wasn't there, or of
+	                    * one for which there was no room; or it is an item or the end of a dump */
+	RTNLC_ADDED = 1,   /* the entry is new, and stands last, at `index` */
+	RTNLC_CHANGED = 2, /* the entry at `index` was told anew; `before` is the one that was there */
+	RTNLC_REMOVED = 3, /* `before` is gone from `index`, where the last entry stands now */
+	RTNLC_WAITS = 4    /* a dump of the table runs: the change waits for its end */
+};
+
+/* The tables of links, addresses, routes, neighbours and rules, kept as the kernel has them
+ * (rtnetlink(7)): join the multicast groups, begin a dump of each table, send its request, and feed
+ * all that the socket receives, the answers of dumps and the notifications. What is told while a
+ * dump runs waits until its end. `stale` of rtnlc_mirror_table says of each table whether it can be
+ * trusted; dump it again where it can't. The mirror owns its tables; the caller owns this struct
+ * and every buffer, and no pointer into a mirror is handed out. Begin it as
+ * `struct rtnlc_mirror m = { 0 };`, end it with rtnlc_mirror_free, copy it only to move it, and
+ * leave its field alone. All calls but rtnlc_mirror_new answer RTNLC_NO_MIRROR where it is null,
+ * was never made or is freed. */
+struct rtnlc_mirror {
+	void *at;
+};
+
+/* Makes a mirror, of whose tables at most `waiting` changes each wait for the end of a dump.
+ * RTNLC_BAD_LIMIT, RTNLC_NO_MEMORY, RTNLC_NO_SEED, or RTNLC_NO_MIRROR for a null pointer: then none
+ * is made. RTNLC_BUSY where it is made already, and stays. The total limit says nothing of it. */
+uint8_t rtnlc_mirror_new(struct rtnlc_mirror *m, const struct rtnlc_options *options,
+                         uint32_t waiting);
+
+/* Frees a mirror and all that it holds. One that was never made or is freed is left alone. */
+void rtnlc_mirror_free(struct rtnlc_mirror *m);
+
+/* Begins a dump, and puts its request into `out`, as rtnlc_session_begin does. A dump of the same
+ * table that runs is given up. Where it asks for another address family than the one before, the
+ * table is stale until it has ended whole. The first that applies is answered: RTNLC_NO_MIRROR;
+ * RTNLC_NO_KIND; RTNLC_NO_ROOM; RTNLC_SAME_SEQ where `seq` isn't above that of each dump before:
+ * then nothing has begun. RTNLC_NO_MEMORY where what waited for the end of the dump that was given
+ * up is lost: then the dump has begun all the same, its request is in `out`, and the table is
+ * stale. */
+RTNLC_WRITES(6, 7)
+struct rtnlc_put rtnlc_mirror_begin(struct rtnlc_mirror *m, uint16_t kind, uint8_t family,
+                                    uint32_t seq, uint32_t port, uint8_t *out, size_t room);
+
+/* What became of one message of a datagram. */
+struct rtnlc_change {
+	uint32_t before;     /* where the entry before it stands in the bytes that were put */
+	uint32_t before_len; /* of RTNLC_CHANGED and RTNLC_REMOVED its length, 0 where it wasn't put;
+	                      * else 0 */
+	uint32_t index;      /* the entry's index in its table, as of rtnlc_mirror_entry; 0 of
+	                      * RTNLC_NOTHING and RTNLC_WAITS */
+	uint16_t kind;       /* the NEW type of the table, as RTM_NEWLINK; 0 where the message is of
+	                      * none, and where the code is not RTNLC_OK */
+	uint8_t effect;      /* enum rtnlc_effect */
+	uint8_t code;        /* RTNLC_OK; RTNLC_NO_MEMORY, or RTNLC_NO_ROOM where as many changes wait
+	                      * as may: then what it tells is lost, and a table is stale */
+};
+
+struct rtnlc_heard {
+	uint64_t visits;  /* attribute bytes visited: at most the depth limit plus one times `len` */
+	size_t changes;   /* how many were put: one for each message, or 0 where `room` is 0 */
+	size_t before;    /* how many bytes of entries before them were put */
+	uint32_t place;   /* of the first fault; 0 where there is none */
+	uint8_t code;     /* RTNLC_OK, or why the datagram was not taken */
+};
+
+/* Takes a datagram: each table takes what its messages tell of it. Of each message it puts what
+ * that makes of the table of its kind into `changes`, and the entries before them into `before`,
+ * as far as there is room and memory: each a whole message of the table's NEW type in its canonical
+ * bytes. No more of `before` is used than its first 4,294,967,295 bytes. A table may be stale then
+ * that wasn't before, or current: rtnlc_mirror_table tells it.
+ *
+ * The first that applies is answered: RTNLC_NO_MIRROR; RTNLC_NO_ROOM where `room` isn't 0 and less
+ * than a sixteenth of `len`, rounded down, which is always enough: then nothing is looked at.
+ * RTNLC_TOO_LARGE; RTNLC_CUT to RTNLC_TOO_DEEP at the first fault; RTNLC_NO_MEMORY: then nothing
+ * was heard, and all tables are stale. */
+RTNLC_READS(2, 3) RTNLC_WRITES(4, 5) RTNLC_WRITES(6, 7)
+struct rtnlc_heard rtnlc_mirror_feed(struct rtnlc_mirror *m, const uint8_t *bytes, size_t len,
+                                     struct rtnlc_change *changes, size_t room, uint8_t *before,
+                                     size_t before_room);
+
+/* Says that the kernel dropped messages for this socket: all tables are stale. For ENOBUFS of
+ * recv(2), and for all else that may have kept a datagram from the mirror. RTNLC_NO_MIRROR. */
+uint8_t rtnlc_mirror_lost(struct rtnlc_mirror *m);
+
+struct rtnlc_mirrored {
+	uint64_t missed; /* how often a new entry found no room since the last whole dump */
+	uint32_t count;  /* entries */
+	uint32_t limit;
+	uint32_t seq;    /* of the dump of it that runs; 0 where none does */
+	uint8_t stale;   /* enum rtnlc_stale */
+	bool dumps;      /* a dump of it runs; meanwhile the table is as it was when that began */
+	uint8_t code;    /* RTNLC_OK, RTNLC_NO_KIND or RTNLC_NO_MIRROR; else all fields are 0 */
+};
+
+/* How a table stands, and whether it can be trusted. */
+struct rtnlc_mirrored rtnlc_mirror_table(struct rtnlc_mirror *m, uint16_t kind);
+
+/* Puts the entry of an index from 0 on into `out`, as rtnlc_session_entry does. A removal moves the
+ * last entry to the index of the one that goes. */
+RTNLC_WRITES(4, 5)
+struct rtnlc_put rtnlc_mirror_entry(struct rtnlc_mirror *m, uint16_t kind, uint32_t index,
+                                    uint8_t *out, size_t room);
+
+/* Puts the key of that entry into `out`, as rtnlc_session_key does. The key of a bridge's
+ * forwarding entry has the bridge for the port. */
+RTNLC_WRITES(4, 5)
+struct rtnlc_put rtnlc_mirror_key(struct rtnlc_mirror *m, uint16_t kind, uint32_t index,
+                                  uint8_t *out, size_t room);
+
+/* The index of the entry with these bytes for its key. */
+RTNLC_READS(3, 4)
+struct rtnlc_found rtnlc_mirror_find(struct rtnlc_mirror *m, uint16_t kind, const uint8_t *key,
+                                     size_t len);
 
 /* ---- Dumps of any length, in constant space ---- */
 

@@ -28,31 +28,35 @@ sys.path.append(f"{os.path.dirname(os.path.realpath(__file__))}/../c")
 import compiled
 import exports
 import unproved
-from crates import ROOT, Crates, below, drop_old_libraries, listed, outdated
+from crates import LEFT_OF_CI, ROOT, Crates, below, is_built, listed, outdated
 from steps import Failed, Interrupted, hold, say, step, stop_on_signals
 
 OUT = f"{ROOT}/out"
 PROGRAM, LIBRARY = "rtnl_cli", "rtnl_c"
 # A build needs less, in bytes.
 LEAST_ROOM = 64 << 20
+# Their scripts say how a call stands in the module and in the library, on which c/build.sh relies.
+SCRIPTS = ("launch", "c")
 
 
 class Made(NamedTuple):
-    """What is built: its name, its crate, its places, and how it is made of a module."""
+    """What is built: its name, its crate, its places, how it is made of a module, and the folders
+    of the scripts for which it is made anew."""
 
     name: str
     crate: str
     proved: str
     unproved: str
-    compile: Callable[[Crates, IO[Any], str], List[str]]
+    compile: Callable[[Crates, IO[Any], str, str], List[str]]
+    scripts: Sequence[str]
 
 
 MADE = {
     "program": Made("program", PROGRAM, f"{ROOT}/crates/{PROGRAM}/out/{PROGRAM}",
-                    f"{unproved.FOLDER}/rtnl", lambda _, log, room: unproved.program(log, room)),
+                    f"{unproved.FOLDER}/rtnl", lambda _, *how: unproved.program(*how), ()),
     "library": Made("library", LIBRARY, f"{OUT}/proved/lib{LIBRARY}.a",
                     f"{unproved.FOLDER}/lib{LIBRARY}.a",
-                    lambda crates, log, room: compiled.build(crates, LIBRARY, log, room)),
+                    lambda crates, *how: compiled.build(crates, LIBRARY, *how), SCRIPTS),
 }
 
 
@@ -69,26 +73,22 @@ def opened(path: str, said: str) -> IO[Any]:
     try:
         os.makedirs(os.path.dirname(path), exist_ok=True)
         return open(path, "w", encoding="utf-8")
-    except OSError as error:
-        why = f"{said} cannot be written: {error.strerror}"
-        raise Failed(f"nothing could be built; {why}") from None
+    except OSError as by:
+        raise Failed(f"nothing could be built; {said} cannot be written: {by.strerror}") from None
 
 
 def stop_without_room() -> None:
     left = shutil.disk_usage(OUT).free
     if left < LEAST_ROOM:
-        why = f"the disk of {OUT} is full, {left >> 20} MB are left"
-        raise Failed(f"nothing could be built; {why}")
+        raise Failed(f"nothing could be built; the disk of {OUT} is full, {left >> 20} MB are left")
 
 
 def commands(made: Made, crates: Crates) -> Iterator[List[str]]:
     """What proves and builds each crate, lowest first. For the library those stand that rt ci built
     of these sources, with all below them, since rt lib would prove each once more."""
-    is_new, names = made.name == "program", below(crates, made.crate)
-    if not is_new:
-        drop_old_libraries({it: crates[it] for it in names})
-    for it in names:
-        is_new = is_new or not os.path.exists(f"{ROOT}/crates/{it}/out/rlib")
+    is_new = made.name == "program"
+    for it in below(crates, made.crate):
+        is_new = is_new or not is_built(it)
         yield ["rt", "lib"] if is_new else []
     yield ["rt", "run"] if made.name == "program" else [f"{ROOT}/c/archive.py"]
 
@@ -96,10 +96,12 @@ def commands(made: Made, crates: Crates) -> Iterator[List[str]]:
 def prove(made: Made, crates: Crates) -> str:
     """Proves and builds a crate and those below; an interrupted one goes on."""
     names, begun = [*below(crates, made.crate), made.crate], time.time()
-    note = "" if os.path.exists(made.proved) else "; up to an hour of processor time in all, once"
+    work = [*commands(made, crates)]
+    cost = "up to an hour of processor time in all" if any(work[:-1]) else LEFT_OF_CI
+    note = "" if os.path.exists(made.proved) else f"; {cost}, once"
     path = f"{os.path.dirname(made.proved)}/build.log"
     with opened(path, path) as log:
-        for number, (it, words) in enumerate(zip(names, [*commands(made, crates)]), 1):
+        for number, (it, words) in enumerate(zip(names, work), 1):
             text = f"proving and building {it}, {number} of {len(names)}{note}"
             try:
                 done = not words or step(text, log, [words], cwd=f"{ROOT}/crates/{it}")
@@ -117,25 +119,27 @@ def prove(made: Made, crates: Crates) -> str:
     return made.proved
 
 
-def take(room: str, names: Sequence[str], begun: float) -> None:
-    """Has files of the room take their places."""
+def take(room: str, names: Sequence[str], begun: float) -> str:
+    """Has files of the room take their places, and returns the folder of these."""
     for it in names:
         os.utime(f"{room}/{it}", (begun, begun))
         os.replace(f"{room}/{it}", f"{unproved.FOLDER}/{it}")
+    return unproved.FOLDER
 
 
 def compile_in(room: str, made: Made, crates: Crates, log: IO[Any]) -> None:
-    """Compiles it in a folder. The text is read where no module is kept of it."""
-    begun = time.time()
+    """Compiles it in a folder. The text is read where no module is kept of it: of both for the
+    program, which is kept, and for the library its own alone, which takes less."""
+    begun, at = time.time(), unproved.FOLDER
     os.mkdir(room)
-    if outdated(f"{unproved.FOLDER}/{unproved.KEPT[0]}", PROGRAM, LIBRARY):
-        exports.copied(room, PROGRAM, LIBRARY)
-        uses = [*crates[PROGRAM].uses, LIBRARY]
-        both = {**crates, PROGRAM: crates[PROGRAM]._replace(uses=uses)}
-        unproved.lower(both, PROGRAM, log, room)
-        take(room, unproved.KEPT[::-1], begun)
+    if outdated(f"{at}/{unproved.KEPT[0]}", PROGRAM, LIBRARY, scripts=SCRIPTS):
+        exports.copied(room, made.crate, LIBRARY)
+        uses = [*crates[made.crate].uses, *{LIBRARY} - {made.crate}]
+        read = {**crates, made.crate: crates[made.crate]._replace(uses=uses)}
+        unproved.lower(read, made.crate, log, room)
+        at = take(room, unproved.KEPT[::-1], begun) if made.crate == PROGRAM else room
     # What is asked for is the last that is there.
-    take(room, made.compile(crates, log, room)[::-1], begun)
+    take(room, made.compile(crates, log, room, at)[::-1], begun)
 
 
 def compile_it(made: Made, crates: Crates) -> str:
@@ -163,7 +167,8 @@ def built(name: str) -> str:
         why = outdated(made.proved, made.crate, parts=("specs", "proofs"))
         if why is None:
             return made.proved
-        if not is_proof_wanted and outdated(made.unproved, made.crate) is None:
+        stale = is_proof_wanted or outdated(made.unproved, made.crate, scripts=made.scripts)
+        if not stale:
             return made.unproved
         if os.environ.get("RTNL_BUILD") == "no":
             raise Failed(f"the {name} is not built from these sources")

@@ -1,10 +1,12 @@
 """The crates of the repository, as crates.txt lists them."""
+import contextlib
 import os
-import shutil
-from typing import Dict, Iterator, List, NamedTuple, Optional, Sequence
+from typing import Dict, List, NamedTuple, Optional, Sequence
 
 ROOT = os.path.dirname(os.path.dirname(os.path.realpath(__file__)))
 FILE = "crates.txt"
+# What the proof of the library for C takes, where rt ci has built all that it stands on.
+LEFT_OF_CI = "some 5 minutes of processor time"
 
 
 class NotBuilt(Exception):
@@ -43,14 +45,6 @@ def below(crates: Crates, name: str) -> List[str]:
     return found
 
 
-def files(name: str, part: str, root: str = ROOT) -> Iterator[str]:
-    """The files of a part of a crate, as src, by their paths in the repository, in order."""
-    for at, folders, names in os.walk(f"{root}/crates/{name}/{part}"):
-        folders.sort()
-        for it in sorted(names):
-            yield os.path.relpath(f"{at}/{it}", root)
-
-
 def library(name: str) -> str:
     """The folder of a built library, which is there and was not put there before its sources.
 
@@ -66,13 +60,11 @@ def library(name: str) -> str:
     return f"{ROOT}/{folder}"
 
 
-def drop_old_libraries(crates: Crates) -> None:
-    """Removes built libraries that are older than their sources, which rt ci leaves in place."""
-    for name in crates:
-        try:
-            library(name)
-        except NotBuilt:
-            shutil.rmtree(f"{ROOT}/crates/{name}/out/rlib", ignore_errors=True)
+def is_built(name: str) -> bool:
+    """Whether a library is built of its sources, as rt builds what it has proved."""
+    with contextlib.suppress(NotBuilt):
+        return bool(library(name))
+    return False
 
 
 def newer(name: str, time: float, *parts: str) -> Optional[str]:
@@ -85,13 +77,17 @@ def newer(name: str, time: float, *parts: str) -> Optional[str]:
     return None
 
 
-def outdated(made: str, *names: str, parts: Sequence[str] = ()) -> Optional[str]:
-    """What is newer than what is made of these crates and of those below; or its own name, where it
-    is missing. What is compiled without a proof is made of no other part than src/."""
+def outdated(made: str, *names: str, parts: Sequence[str] = (),
+             scripts: Sequence[str] = ()) -> Optional[str]:
+    """What is newer than what is made of these crates and of those below, or by the scripts of
+    these folders; or its own name, where it is missing. What is compiled without a proof is made of
+    no other part than src/."""
     if not os.path.isfile(made):
         return os.path.relpath(made, ROOT)
     time, crates = os.path.getmtime(made), listed()
-    if os.path.getmtime(f"{ROOT}/{FILE}") > time:
-        return FILE
+    files_of = (it.path for at in scripts for it in os.scandir(f"{ROOT}/{at}"))
+    for path in (f"{ROOT}/{FILE}", *(it for it in files_of if it.endswith(".py"))):
+        if os.path.getmtime(path) > time:
+            return os.path.relpath(path, ROOT)
     whole = dict.fromkeys(it for name in names for it in (*below(crates, name), name))
     return next(filter(None, (newer(it, time, *parts) for it in whole)), None)

@@ -8,7 +8,7 @@ HEADER = struct.Struct("<IHHII")
 DONE = 3
 # The bytes that one of a dump has at most, as a kernel sends it to a reader with room.
 DATAGRAM = 32_768
-# The bytes of a route in front of its attributes: nlmsghdr and rtmsg.
+# The bytes of a route or a neighbour in front of its attributes: nlmsghdr, and rtmsg or ndmsg.
 ROUTE_HEAD = HEADER.size + 12
 NLMSG_TSTAMP = 15
 # What a recording is a dump of, by the type of its first message.
@@ -138,13 +138,15 @@ def link_like(recorded: bytes, index: int) -> bytes:
 
 
 def route_like(recorded: bytes, index: int) -> bytes:
-    """The route of IPv4 that was recorded, with an RTA_DST of its own."""
+    """The route or the neighbour of IPv4 that was recorded, with an RTA_DST or an NDA_DST of its
+    own, which have the same number."""
     at = ROUTE_HEAD
     while at < len(recorded):
         length, kind = struct.unpack_from("<HH", recorded, at)
         if (length, kind) == (8, 1):
             own = struct.pack(">I", 0x0A000000 + index)
-            return message(24, recorded[HEADER.size:at + 4] + own + recorded[at + 8:])
+            behind = recorded[HEADER.size:at + 4] + own + recorded[at + 8:]
+            return message(kind_of(recorded), behind)
         at += length + 3 & ~3
     raise ValueError("a route without RTA_DST")
 

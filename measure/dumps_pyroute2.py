@@ -1,4 +1,3 @@
-#!/usr/bin/python3
 """Reads a dump by pyroute2, and prints how many messages there are.
 
 usage: dumps_pyroute2.py read|kept|visited FILE, where each datagram stands behind its size, four

@@ -124,8 +124,9 @@ def told(target: Target, place: str, what: str = "written", end: str = "") -> It
         raise Stopped(1, f"{at} is there and was not installed by this script{end}") from None
     except Linked as error:
         stop_on_link(target, error, end)
-    except OSError:
-        raise Stopped(3, f"{at} could not be {what}") from None
+    except OSError as error:
+        why = f"{error.strerror}; name another PREFIX"
+        raise Stopped(3, f"{at} could not be {what}: {why}") from None
 
 
 def look(target: Target, folder: Folder, files: Files) -> Record:

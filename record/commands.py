@@ -4,6 +4,7 @@ import signal
 import sys
 from typing import Any, BinaryIO, Callable, Iterator, List, NamedTuple, NoReturn, Optional
 
+import again
 import dump
 import groups
 import hexdump
@@ -21,7 +22,7 @@ comments behind #."""
 STATUSES = """Exit status:
   0  all is recorded
   1  a capture is damaged, and refused with its place; a dump is not whole; datagrams were dropped;
-     or one was cut. What came before is printed
+     or one was cut. What came before is printed. Or a line of --again is no kind
   2  usage error
   3  a socket, a read or a write failed"""
 
@@ -80,6 +81,14 @@ def group(text: str) -> str:
     return text
 
 
+def kinds(text: str) -> List[str]:
+    for it in text.split(","):
+        if it not in dump.KINDS:
+            raise argparse.ArgumentTypeError(
+                f"'{it}' is no kind; there are {', '.join(dump.KINDS)}")
+    return text.split(",")
+
+
 def add_netns(parser: Parser) -> None:
     parser.options.add_argument(
         "--netns", metavar="NAME", help="ask in this network namespace, as ip-netns names it")
@@ -108,12 +117,18 @@ def add_monitor(parser: Parser) -> None:
                                   help=f"what is listened to [default: {groups.ALL}]: {words}")
     parser.options.add_argument("--time", action="store_true",
                                 help="print the time before each datagram, as a comment line")
+    parser.options.add_argument("--dump", metavar="KINDS", type=kinds, action="extend", default=[],
+                                help="ask for dumps of these kinds first, as link,route: "
+                                f"{', '.join(dump.KINDS)}")
+    parser.options.add_argument("--again", metavar="PATH", help="read a kind on each line of this "
+                                "file, a named pipe, and ask for a dump of it again")
     add_netns(parser)
 
 
 def monitored(asked: argparse.Namespace) -> Iterator[Item]:
+    file = None if asked.again is None else again.Again(asked.again)
     with netlink.opened(asked.netns) as link:
-        yield from monitor.items(link, asked.groups or [groups.ALL], asked.time)
+        yield from monitor.items(link, asked.groups or [groups.ALL], asked.time, asked.dump, file)
 
 
 def add_file(parser: Parser) -> None:
@@ -159,7 +174,8 @@ COMMANDS = [
     Command("dump", "ask the kernel for links, addresses, routes, neighbours or rules",
             dump.__doc__, "rtnl-record dump link > links.hex", add_dump, dumped),
     Command("monitor", "record what the kernel notifies of, until an interrupt",
-            monitor.__doc__, "rtnl-record monitor --time link address > changes.hex",
+            monitor.__doc__, "rtnl-record monitor --time link address > changes.hex\n  mkfifo again\n"
+            "  rtnl-record monitor --dump route --again again route > routes.hex",
             add_monitor, monitored),
     Command("pcap", "read a capture of an nlmon device, as tcpdump and tshark write it",
             pcap.__doc__, "tcpdump -i nlmon0 -w nl.pcap\n  rtnl-record pcap nl.pcap | rtnl show",

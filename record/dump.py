@@ -4,11 +4,11 @@ import errno
 import os
 import socket
 import struct
-from typing import Iterator, NamedTuple, Optional
+from typing import Iterator, Optional
 
 import netlink
 from netlink import HEADER
-from output import LONGEST, Comment, Item, Loss, cut
+from output import Comment, Item, Loss, cut
 
 # The type of a request, and the size of the head that begins with the family.
 KINDS = {"link": (18, 16), "addr": (22, 8), "route": (26, 12), "neigh": (30, 12), "rule": (34, 12)}
@@ -19,49 +19,66 @@ SEQ = 1
 # How many seconds a datagram may take, and one behind a datagram that was cut, which may have been
 # the last: the kernel makes the next one before it hands one out.
 WAIT, WAIT_BEHIND_CUT = 5.0, 0.5
-BUFFER = LONGEST
+SLOW = Loss(f"no datagram came within {WAIT:g} seconds")
 
 
-class Seen(NamedTuple):
-    """What a datagram says of its dump: the error that ends it, 0 for none, where it ends; and
-    whether the kernel says that it was interrupted."""
+class Dump:
+    """A dump that a socket asks for, and what its answers say. Its end is the error that ended it,
+    or 0 for none."""
 
-    end: Optional[int]
-    is_interrupted: bool
+    def __init__(self, link: socket.socket, kind: str, family: int, seq: int) -> None:
+        self.link, self.kind, self.family, self.seq = link, kind, family, seq
+        self.port: int = link.getsockname()[0]
+        self.end: Optional[int] = None
+        self.is_interrupted = False
+
+    def ask(self) -> Iterator[Item]:
+        yield Comment(f"seq {self.seq} port {self.port} kind {self.kind}")
+        self.link.sendto(request(self.kind, self.family, self.seq), (0, 0))
+
+    def take(self, data: bytes) -> bool:
+        """Looks at a datagram. It answers whether the socket was meant, be it by this dump or by
+        one before."""
+        is_answer = False
+        for message in netlink.messages(data):
+            if message.port != self.port:
+                continue
+            is_answer = True
+            if message.seq != self.seq:
+                continue
+            self.is_interrupted |= bool(message.flags & INTERRUPTED)
+            if message.kind == OVERRUN:
+                self.end = errno.EOVERFLOW
+            elif message.kind in (ERROR, DONE):
+                code = data[message.body:message.body + 4]
+                self.end = max(-struct.unpack("=i", code)[0], 0) if len(code) == 4 else 0
+        return is_answer
+
+    def losses(self) -> Iterator[Loss]:
+        """What is missing of the answers, by what they say."""
+        if self.end:
+            yield Loss(f"the kernel answered with error {self.end}, {os.strerror(self.end)}")
+        if self.is_interrupted:
+            yield Loss("the kernel interrupted the dump: entries may be missing, or not agree")
 
 
-def request(kind: str, family: int) -> bytes:
+def request(kind: str, family: int, seq: int) -> bytes:
     number, head = KINDS[kind]
     body = bytes([family]).ljust(head, b"\0")
-    return HEADER.pack(HEADER.size + head, number, DUMP, SEQ, 0) + body
-
-
-def seen(data: bytes) -> Seen:
-    end, is_interrupted = None, False
-    for message in netlink.messages(data):
-        if message.seq != SEQ:
-            continue
-        is_interrupted |= bool(message.flags & INTERRUPTED)
-        if message.kind == OVERRUN:
-            end = errno.EOVERFLOW
-        elif message.kind in (ERROR, DONE):
-            code = data[message.body:message.body + 4]
-            end = max(-struct.unpack("=i", code)[0], 0) if len(code) == 4 else 0
-    return Seen(end, is_interrupted)
+    return HEADER.pack(HEADER.size + head, number, DUMP, seq, 0) + body
 
 
 def items(link: socket.socket, kind: str, family: int, size: int) -> Iterator[Item]:
     """The answers, in a buffer of this size, and what is missing of them."""
-    yield Comment(f"seq {SEQ} port {link.getsockname()[0]} kind {kind}")
+    dump, room, is_cut = Dump(link, kind, family, SEQ), bytearray(size), False
     link.settimeout(WAIT)
-    link.sendto(request(kind, family), (0, 0))
-    room, end, is_interrupted, is_cut = bytearray(size), None, False, False
-    while end is None:
+    yield from dump.ask()
+    while dump.end is None:
         try:
             found = netlink.received(link, room)
         except socket.timeout:
             if not is_cut:
-                yield Loss(f"no datagram came within {WAIT:g} seconds")
+                yield SLOW
             break
         if not found:
             continue
@@ -72,9 +89,5 @@ def items(link: socket.socket, kind: str, family: int, size: int) -> Iterator[It
             yield from cut("", data, whole)
         else:
             yield data
-        end, is_one = seen(data)
-        is_interrupted |= is_one
-    if end:
-        yield Loss(f"the kernel answered with error {end}, {os.strerror(end)}")
-    if is_interrupted:
-        yield Loss("the kernel interrupted the dump: entries may be missing, or not agree")
+        dump.take(data)
+    yield from dump.losses()

@@ -1,21 +1,23 @@
 """Records what the kernel notifies of, until an interrupt: each datagram at once. A group is one
 of linux/rtnetlink.h, by its name in lower case without RTNLGRP_; address, route and rule are those
 of all address families; all, the default, is each one that the kernel has and this user may listen
-to."""
+to. What --dump and --again ask for comes on the same socket, in order with the notifications."""
 import os
 import select
 import signal
 import socket
 import time
-from typing import Iterator, List
+from typing import Generator, Iterator, List, Optional, Union
 
 import groups
 import netlink
+from again import Again, Dumps
 from output import LONGEST, RECEIVED, Comment, Item, Loss, Note, Stop, cut, dropped, when
 
 SOL_NETLINK, ADD_MEMBERSHIP = 270, 1  # of linux/socket.h and linux/netlink.h
 # What is asked for, of which the kernel gives twice as much.
 ROOM = 1 << 20
+Readable = Union[socket.socket, Again]
 
 
 class Interrupt:
@@ -31,15 +33,16 @@ class Interrupt:
     def come(self, number: int, _: object) -> None:
         signal.signal(number, signal.SIG_DFL)
 
-    def comes_before(self, link: socket.socket) -> bool:
-        """Waits until a datagram is there, or an interrupt."""
-        ready, _, _ = select.select([self.reader, link], [], [])
-        return self.reader in ready
+    def ready(self, files: List[Readable], seconds: Optional[float]) -> Optional[List[Readable]]:
+        """Which of the files can be read, once one can or the time is over. It is none of them
+        where an interrupt comes. Unlike epoll(7), select takes a file on a disk, too."""
+        ready, _, _ = select.select([self.reader, *files], [], [], seconds)
+        return None if self.reader in ready else ready
 
 
 class Drops:
     """Where the kernel dropped messages. It says so in front of those that wait, and drops until
-    all of them are received."""
+    all of them are received. A dump that runs goes on meanwhile, and is received, too."""
 
     def __init__(self) -> None:
         self.waiting = 0  # at most so many bytes are in front of the place
@@ -50,7 +53,8 @@ class Drops:
         self.waiting = 2 * ROOM + LONGEST
 
     def received(self, size: int) -> Iterator[Item]:
-        """A datagram of this size came, which may be the last that can have waited."""
+        """A datagram of this size came, which may be the last that can have waited. It is none of
+        a dump: those come behind the place while the kernel drops all others."""
         if 0 < self.waiting <= size:
             yield from self.end()
         self.waiting = max(self.waiting - size, 0)
@@ -75,15 +79,34 @@ def join(link: socket.socket, words: List[str]) -> Iterator[Item]:
                 yield Note(f"group {name}: {error.strerror}; it is left out")
 
 
-def items(link: socket.socket, words: List[str], is_timed: bool) -> Iterator[Item]:
-    """The notifications of the groups until an interrupt."""
+def waited(interrupt: Interrupt, link: socket.socket, dumps: Dumps, again: Optional[Again]
+           ) -> Generator[Item, None, bool]:
+    """Waits until a datagram is there, and asks for dumps meanwhile. It returns whether an
+    interrupt came instead."""
+    while True:
+        yield from dumps.ask()
+        files: List[Readable] = [link, again] if again and again.is_open else [link]
+        ready = interrupt.ready(files, dumps.seconds())
+        if ready is None:
+            return True
+        if again and again in ready:
+            yield from again.read(dumps)
+        if link in ready:
+            return False
+        yield from dumps.end()
+
+
+def items(link: socket.socket, words: List[str], is_timed: bool, kinds: List[str],
+          again: Optional[Again]) -> Iterator[Item]:
+    """The notifications of the groups until an interrupt. Dumps of these kinds are asked for, and
+    of those that the file names."""
     interrupt, room = Interrupt(), bytearray(LONGEST)
     link.setblocking(False)
     link.setsockopt(socket.SOL_SOCKET, socket.SO_RCVBUF, ROOM)
     yield from join(link, words)
     yield Comment(f"groups {' '.join(words)} port {link.getsockname()[0]}")
-    drops = Drops()
-    while drops.waiting or not interrupt.comes_before(link):
+    drops, dumps = Drops(), Dumps(link, kinds)
+    while drops.waiting or not (yield from waited(interrupt, link, dumps, again)):
         try:
             found = netlink.received(link, room)
         except BlockingIOError:
@@ -93,6 +116,7 @@ def items(link: socket.socket, words: List[str], is_timed: bool) -> Iterator[Ite
             if not netlink.is_full(error):
                 raise
             yield from drops.begin()
+            dumps.doubt()
             continue
         if not found:
             continue
@@ -103,4 +127,8 @@ def items(link: socket.socket, words: List[str], is_timed: bool) -> Iterator[Ite
             yield from cut("", data, size)
         else:
             yield data
-        yield from drops.received(size)
+        if dumps.take(data):
+            yield from dumps.end()
+        else:
+            yield from drops.received(size)
+    yield from dumps.unfinished()

@@ -20,6 +20,7 @@ class Message(NamedTuple):
     kind: int
     flags: int
     seq: int
+    port: int
     body: int
 
 
@@ -27,8 +28,8 @@ def messages(data: bytes) -> Iterator[Message]:
     """The headers of a datagram, as far as its lengths go."""
     place = 0
     while place + HEADER.size <= len(data):
-        length, kind, flags, seq, _ = HEADER.unpack_from(data, place)
-        yield Message(kind, flags, seq, place + HEADER.size)
+        length, kind, flags, seq, port = HEADER.unpack_from(data, place)
+        yield Message(kind, flags, seq, port, place + HEADER.size)
         place += max(length + 3 & ~3, HEADER.size)
 
 

@@ -13,14 +13,15 @@ def bodies($type):
   | .link // .addr // .route // .neigh // .rule // .get // .error // .done // .bytes;
 
 # links, addrs, routes, neighs, rules: take a line, and give the bodies of what is there: those of
-# newlink and its like in a line of show, that of an entry in a line of table. A deletion gives
-# none, since what it names is no more; bodies("dellink") has those of links, of which one of
-# family 7 has only left its bridge.
-def links: bodies("newlink"), (.link // empty);
-def addrs: bodies("newaddr"), (.addr // empty);
-def routes: bodies("newroute"), (.route // empty);
-def neighs: bodies("newneigh"), (.neigh // empty);
-def rules: bodies("newrule"), (.rule // empty);
+# newlink and its like in a line of show, that of an entry in a line of table or mirror. A deletion
+# gives none, and an entry that is gone, since what it names is no more; bodies("dellink") has those
+# of links, of which one of family 7 has only left its bridge.
+def _entry: select(.change != "-");
+def links: bodies("newlink"), (_entry | .link // empty);
+def addrs: bodies("newaddr"), (_entry | .addr // empty);
+def routes: bodies("newroute"), (_entry | .route // empty);
+def neighs: bodies("newneigh"), (_entry | .neigh // empty);
+def rules: bodies("newrule"), (_entry | .rule // empty);
 
 # The value of each attribute of this name or number that lies in something, if any does.
 def _values($name):

@@ -12,6 +12,7 @@ top=$PWD
 RTNL=${RTNL:-$(tests/helpers/proved.py)} || exit 1
 export RTNL
 . tests/helpers/cases.sh
+. tests/helpers/namespace.sh
 unset DESTDIR libdir
 
 tests/helpers/install_packages.sh cc gcc pkg-config pkg-config cargo cargo go golang-go mypy mypy \
@@ -66,8 +67,10 @@ for name in rust go python; do
   PROGRAMS=$folder/$name adds "tests/bindings/$name.sh"
 done
 
-check 'the examples in C with librtnlc.a' in_c "$folder/static" "$RTNLC_PREFIX/lib/librtnlc.a"
-offers 'C with librtnlc.a' "$folder/static"
+if whole 'the examples in C with librtnlc.a'; then
+  check 'the examples in C with librtnlc.a' in_c "$folder/static" "$RTNLC_PREFIX/lib/librtnlc.a"
+  offers 'C with librtnlc.a' "$folder/static"
+fi
 # shellcheck disable=SC2046
 check 'the examples in C with librtnlc.so' in_c "$folder/shared" $(flags --libs)
 offers 'C with librtnlc.so' "$folder/shared"
@@ -81,5 +84,13 @@ examples=$top/bindings/python/examples
 languages+=(Python)
 for name in "${programs[@]}"; do languages+=("$python $examples/$name.py"); done
 adds tests/bindings/live.py "${languages[@]}"
+
+# This one opens no socket but the kernel's.
+if in_namespace ip link set lo up; then
+  # shellcheck disable=SC2086
+  check 'first.py names the links of a namespace' names_links $python "$examples/first.py"
+else
+  echo 'skipped: first.py over a socket, since no network namespace can be made here'
+fi
 
 finish

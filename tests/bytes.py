@@ -17,6 +17,7 @@ import sys
 sys.dont_write_bytecode = True
 sys.path.insert(0, f"{os.path.dirname(os.path.realpath(__file__))}/helpers")
 import compare
+import counting
 import datagrams
 import mutations
 import reference
@@ -25,7 +26,8 @@ from compare import difference, ran
 from datagrams import ORDERS
 
 # So many mutations of each recording, of datagrams of up to so many of its messages.
-MUTATIONS, TOGETHER = 1000, 3
+IS_WHOLE = counting.whole("19 of 20 mutations, and of what is made at random")
+MUTATIONS, TOGETHER = 1000 if IS_WHOLE else 50, 3
 # The first group of datagrams, which is of the recordings, is taken whole, and of the next each
 # so many-th.
 STEP = 8

@@ -1,7 +1,7 @@
 #!/usr/bin/env python3
 """Compares the built program with the second reading of docs/FORMAT.md, in both byte orders: what
-`show`, `check` and `table` print of the datagrams and the dumps of datagrams.py, as text and as
-lines of JSON, and the requests of `request`. The text must also be what is written from the
+`show`, `check` and `table` print of the datagrams and the dumps of datagrams.py, and `mirror` of
+the recordings of notifications.py, as text and as lines of JSON, and the requests of `request`. The text must also be what is written from the
 program's JSON alone, and each line of JSON one that share/rtnl.schema.json allows. The last line
 is 'N passed, M failed', and the status is 1 where a case failed.
 """
@@ -15,15 +15,18 @@ from concurrent.futures import ProcessPoolExecutor
 sys.dont_write_bytecode = True
 sys.path.insert(0, f"{os.path.dirname(os.path.realpath(__file__))}/helpers")
 import datagrams
+import notifications
 import proved
 import reference
 import reference_lines
+import reference_mirror
 import schema
-from counting import counted
+from counting import counted, whole
 from datagrams import ORDERS
 
 PROGRAM = proved.program()
 STANDARD = {"order": "little", "family": 0, "depth": reference.DEPTH, "entries": reference.ENTRIES}
+STANDARD["waiting"] = reference.ENTRIES
 SEQUENCES = (0, 1, 258, 0x01020304, 2**32 - 1)
 GOOD = f"{bytes.fromhex('1400000003000200010000003930000000000000').hex()}\n"
 # Recordings with a bad line, and its number.
@@ -98,27 +101,37 @@ def errors_of(found, dump):
     return f"rtnl: ignored {dump.ignored}: {are} of kind {kinds[0]}\n"
 
 
-def forms(lines_schema, arguments, recording, objects, sizes, errors=""):
-    """What a run prints otherwise than these objects in JSON, the text of them, and errors."""
-    command = arguments[0]
-    status = int(any("refused" in it or it.get("complete") is False for it in objects))
-    # The address family stands in the request alone, and text is what is printed without a format.
-    same = ["--family", "2", "--format", "text"] if command == "table" else []
+def both_forms(lines_schema, arguments, recording, objects, ending, as_text, same=()):
+    """What a run prints otherwise than these objects in JSON and the text of them, or how it ends
+    otherwise: by its status and its errors. What is the same in text may be asked for there."""
     text = ran(recording, *arguments, *same)
     lines, *others = in_json = ran(recording, *arguments, "--format", "json")
     found, again = lines.split("\n")[:-1], ""
     try:
         read = [json.loads(line) for line in found]
-        again = reference_lines.text(command, read, sizes)
-        fault = lines_schema.fault(command, found, read)
+        again = as_text(read)
+        fault = lines_schema.fault(arguments[0], found, read)
     except (AttributeError, LookupError, TypeError, ValueError) as error:
         fault = f"no text of the JSON: {error!r}"
-    wanted = reference_lines.text(command, objects, sizes)
     return {
-        "text": difference((wanted, status, errors), text),
-        "JSON": difference((reference_lines.lines(objects), status, errors), in_json) or fault,
+        "text": difference((as_text(objects), *ending), text),
+        "JSON": difference((reference_lines.lines(objects), *ending), in_json) or fault,
         "both forms": difference((again, *others), text),
     }
+
+
+def forms(lines_schema, arguments, recording, objects, sizes, errors=""):
+    """The same of a run whose status the objects say, with these errors."""
+    command = arguments[0]
+    status = int(any("refused" in it or it.get("complete") is False for it in objects))
+    # The address family stands in the request alone, and text is what is printed without a format.
+    same = ["--family", "2", "--format", "text"] if command == "table" else []
+
+    def as_text(found):
+        return reference_lines.text(command, found, sizes)
+
+    ending = status, errors
+    return both_forms(lines_schema, arguments, recording, objects, ending, as_text, same)
 
 
 def of_each(lines_schema, order, command, recording, found):
@@ -136,6 +149,22 @@ def of_table(lines_schema, order, asked, found, fed=None):
     asked = options(order=order, kind=kind, seq=seq, port=port, depth=depth, entries=entries)
     errors = errors_of(found, dump)
     return forms(lines_schema, ["table", *asked], as_lines(fed or found), objects, (), errors)
+
+
+def of_mirror(lines_schema, order, asked, recording, is_of_changes):
+    """The same of tables that are kept current: at the end, or as they change."""
+    kind, is_strict = asked.get("kind"), asked.get("strict", False)
+    limits = {it: asked[it] for it in ("family", "depth", "entries", "waiting") if it in asked}
+    mirror = reference_mirror.Mirror(ORDERS[order], **limits)
+    objects = [*mirror.mirrored(recording, kind, is_of_changes, is_strict)]
+    ending = mirror.status(kind), "".join(f"{it}\n" for it in mirror.errors)
+    flags = ["--changes"] * is_of_changes + ["--strict"] * is_strict
+    arguments = ["mirror", *options(order=order, kind=kind, **limits), *flags]
+
+    def as_text(found):
+        return reference_mirror.text(found, is_of_changes)
+
+    return both_forms(lines_schema, arguments, recording.decode(), objects, ending, as_text)
 
 
 def of_request(order, kind, family, seq):
@@ -164,6 +193,9 @@ def runs(lines_schema, order):
         yield f"{command} of files", (of_each(lines_schema, order, command, *it) for it in files)
     for name, found in datagrams.table_groups(of):
         yield f"table of {name} datagrams", (of_table(lines_schema, order, *it) for it in found)
+    for name, found in notifications.groups(of):
+        each = itertools.product(found, (False, True))
+        yield f"mirror of {name}", (of_mirror(lines_schema, order, *it, how) for it, how in each)
     for kind in reference.NEW:
         numbers = itertools.product((0, 2, 7, 10, 255), SEQUENCES)
         yield f"request of {kind}", (of_request(order, kind, *it) for it in numbers)
@@ -193,4 +225,5 @@ def main(cases):
 
 
 if __name__ == "__main__":
+    whole("19 of 20 mutations, and of what is made at random")
     sys.exit(main(cases))

@@ -15,10 +15,11 @@ sys.dont_write_bytecode = True
 HERE = os.path.dirname(os.path.realpath(__file__))
 sys.path[:0] = [f"{HERE}/../launch", f"{HERE}/helpers"]
 from counting import counted
-from crates import ROOT, files
+from crate_files import files
+from crates import ROOT
 
 # The libraries whose contracts a caller reads; those of the other crates' functions are their own.
-CRATES = "nl_attr nl_route nl_frame nl_request nl_table nl_dump rtnl rtnl_c".split()
+CRATES = "nl_attr nl_route nl_frame nl_request nl_table nl_dump nl_mirror rtnl rtnl_c".split()
 NUMBER = re.compile(r"^(?:abbrev pub )?([A-Z][A-Z_]+) = \w+$", re.M)
 # A clause ends with a line's last brace. In a ghost member of an impl an import decides, not the code.
 CLAUSE = re.compile(r"^ *(?:requires|ensures)\b[^\n{]*\{.*?\}$", re.M | re.S)

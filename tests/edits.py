@@ -31,8 +31,10 @@ import tempfile
 from typing import Any, Dict, Iterator, List, NamedTuple, Optional, Set, Tuple
 
 sys.dont_write_bytecode = True
-sys.path.insert(0, f"{os.path.dirname(os.path.realpath(__file__))}/../launch")
-from crates import ROOT, Crates, NotBuilt, below, files, library, listed
+HERE = os.path.dirname(os.path.realpath(__file__))
+sys.path[:0] = [f"{HERE}/../launch", f"{HERE}/helpers"]
+from crate_files import files
+from crates import ROOT, Crates, NotBuilt, below, library, listed
 
 LOCK = "tests/edits.lock"
 # A definition or a lemma where a text names it, in a file of the crate's folder specs/ or proofs/.

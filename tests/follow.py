@@ -6,7 +6,7 @@ written of a recording that is cut is the beginning of the whole and ends with a
 memory does not grow with the input, bad lines are named and passed over, and it ends as the other
 commands do where its reader goes, a device is full or a signal comes. Each read and each write goes
 wrong in turn, dumps of any length are followed, and it follows the kernel in a network namespace
-of its own, where the machine allows one. The last line is 'N passed, M failed', and the status is 1 where a case failed.
+of its own, where the machine allows one; `rtnl mirror` is tried so, too. The last line is 'N passed, M failed', and the status is 1 where a case failed.
 """
 import fcntl
 import os
@@ -25,13 +25,14 @@ import time
 sys.dont_write_bytecode = True
 TESTS = os.path.dirname(os.path.realpath(__file__))
 sys.path[:0] = [f"{TESTS}/helpers", f"{TESTS}/follow"]
+import counting
 import datagrams
 import dumps
 import faults
 import live
+import live_mirror
 import mutations
 import proved
-from counting import counted
 from datagrams import ORDERS
 
 PROGRAM = proved.program()
@@ -48,7 +49,7 @@ message 3 done flags 0x0002 MULTI seq 1 port 12345
   done status 0 tail -
 """
 # So many mutations of all recordings in each order, in recordings of so many datagrams.
-MUTATIONS, TOGETHER = 10_000, 250
+MUTATIONS, TOGETHER = 10_000 if counting.whole("19 of 20 mutations") else 500, 250
 # The longest line that is followed, in bytes.
 LONGEST_LINE = 16_777_216
 # How long a line may take to be there, in seconds: a machine may have much else to do.
@@ -288,6 +289,7 @@ def cases():
         yield from faults.cases(folder)
     if sys.argv[1:] == ["inside"]:
         yield from live.cases()
+        yield from live_mirror.cases()
     else:
         print("skipped: following live, since no network namespace can be made here")
     yield from cut_recordings()
@@ -307,4 +309,4 @@ if __name__ == "__main__":
     if sys.argv[1:] != ["inside"]:
         go_inside()
     resource.setrlimit(resource.RLIMIT_CORE, (0, 0))
-    sys.exit(counted(cases()))
+    sys.exit(counting.counted(cases()))

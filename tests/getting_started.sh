@@ -1,5 +1,5 @@
 #!/usr/bin/env bash
-# What a user meets first: each command that README.md and the manual page show with what it prints, recordings
+# What a user meets first: each command that README.md, the tutorial and the manual page show with what it prints, recordings
 # of other programs, the installation with its page and completions, and the launcher, which is tried over a kit
 # that builds nothing. Expected texts are those of the pages or worked by hand. Packages that are missing are
 # installed where that can be, and what can't run says so and isn't counted. All runs in a network namespace
@@ -63,6 +63,7 @@ inside=no
 . tests/getting_started/launcher.sh
 . tests/getting_started/unproved.sh
 . tests/getting_started/ended.sh
+. tests/getting_started/library.sh
 . tests/getting_started/installed.sh
 . tests/getting_started/prepared.sh
 . tests/getting_started/records.sh

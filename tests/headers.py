@@ -9,7 +9,7 @@ import os
 import re
 import subprocess
 import sys
-from typing import Iterator, List, NamedTuple, Optional, Tuple
+from typing import Iterator, List, NamedTuple, Optional, Sequence, Tuple
 
 sys.dont_write_bytecode = True
 TESTS = os.path.dirname(os.path.realpath(__file__))
@@ -20,6 +20,8 @@ from counting import counted
 
 ROOT = os.path.dirname(TESTS)
 HEADERS = ("netlink", "rtnetlink", "if_link", "if_addr", "neighbour", "fib_rules")
+INCLUDES = ["#include <stddef.h>", "#include <sys/socket.h>"]
+INCLUDES += [f"#include <linux/{name}.h>" for name in HEADERS]
 # What else of the headers stands in specs/ as a number.
 FIXED = {
     "NUMBERS": "(NLA_TYPE_MASK & 0xffff) + 1",
@@ -83,15 +85,15 @@ def notified() -> Iterator[Tuple[str, str, str]]:
     yield "RTNLGRP_MAX", f"RTNLGRP_MAX <= {len(groups.NAMES)}", "0"
 
 
-def refused(says: List[str]) -> List[int]:
+def refused(
+    says: List[str], includes: Sequence[str] = INCLUDES, options: Sequence[str] = ()
+) -> List[int]:
     """Which of these the compiler does not find so."""
-    lines = ["#include <stddef.h>", "#include <sys/socket.h>"]
-    lines += [f"#include <linux/{name}.h>" for name in HEADERS]
-    front = len(lines) + 1
-    lines += [f'_Static_assert({it}, "");' for it in says]
+    front = len(includes) + 1
+    lines = [*includes, *(f'_Static_assert({it}, "");' for it in says)]
     ran = subprocess.run(
-        ["cc", "-x", "c", "-fsyntax-only", "-fmax-errors=0", "-"], input="\n".join(lines) + "\n",
-        capture_output=True, text=True, check=False)
+        ["cc", *options, "-x", "c", "-fsyntax-only", "-fmax-errors=0", "-"],
+        input="\n".join(lines) + "\n", capture_output=True, text=True, check=False)
     found = {int(line) - front for line in re.findall(r"<stdin>:(\d+):\d+: error: ", ran.stderr)}
     if ran.returncode and not found or any(it < 0 for it in found):
         sys.exit(ran.stderr[-2000:])

@@ -10,8 +10,9 @@ small=$folder/small
 low=$small/crates/low
 high=$small/crates/high
 lock=$small/tests/edits.lock
-mkdir -p "$small/tests" "$small/.git" "$low/src" "$low/proofs/sum" "$high/src" "$high/edits" &&
-  cp -r launch HANDLES "$small" && cp tests/edits.py "$small/tests" || exit 1
+mkdir -p "$small/tests/helpers" "$small/.git" "$low/src" "$low/proofs/sum" "$high/src" "$high/edits" &&
+  cp -r launch HANDLES "$small" && cp tests/edits.py "$small/tests" &&
+    cp tests/helpers/crate_files.py "$small/tests/helpers" || exit 1
 printf 'low:\nhigh: low\n' >"$small/crates.txt"
 
 cat >"$low/src/lib.rt" <<'TEXT'

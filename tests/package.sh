@@ -26,10 +26,10 @@ has_library=yes said_of_library='library proved where it was built'
 makes_library "$folder/library" || exit 1
 tests/helpers/proved.py "$folder/library/librtnlc.a" ||
   how+=(--unproved) said_of_library='library NOT PROVED where it was built'
-launch/page.py >/dev/null || ! has wasm-opt 'the page' || web/build.py || exit 1
+packaging/page.py >/dev/null || ! has wasm-opt 'the page' || web/build.py || exit 1
 # ./package goes by what is built, not by what is wanted here.
 unset RTNL_PROVE
-if ! launch/page.py >/dev/null; then
+if ! packaging/page.py >/dev/null; then
   has_library=no how+=(--without-library)
   echo 'skipped: what has the library, since the page is not built here'
 fi

@@ -25,11 +25,12 @@ page=${RTNL_PAGE-out/rtnl.html}
 if [ -z "${RTNL_PAGE+named}" ]; then
   # The page is of a proved library, as the same page that is built once more shows.
   [ -n "${RTNL_PROGRAM_NAMED-}" ] || export RTNL_PROVE=1
-  launch/page.py >/dev/null || web/build.py || exit 1
-  check 'the page, built twice' tests/page/twice.py
+  packaging/page.py >/dev/null || web/build.py || exit 1
+  whole 'the page, built twice' && check 'the page, built twice' tests/page/twice.py
   check 'the heap of its module' tests/page/heap.sh
 fi
-check 'its heap in the module, with each growth refused' node tests/page/memory.js "$page"
+refused='its heap in the module, with each growth refused'
+whole "$refused" && check "$refused" node tests/page/memory.js "$page"
 check 'its readers take linear time' node tests/page/linear.js
 # Debian's selenium is for Debian's Python.
 /usr/bin/python3 tests/page/run.py "$page" "$@" | tee "$folder/said"

@@ -4,15 +4,17 @@
 Each relative link of each .md file leads to a file of the repository, and its fragment to a
 heading there, by the anchors that GitHub makes. A link to the glossary of docs/FORMAT.md is of a
 word that stands there, and a page links a word once: where it first uses it, if the word is one of
-those that only the pages use. Each claim on docs/PROOF.md under the name of
+those that only the pages use, and not the field's. Each claim on docs/PROOF.md under the name of
 a crate begins with functions of that crate, and has clauses of their contracts in brackets. Each
-function in a table of README.md or of SECURITY.md has the clauses that stand behind it, and those
-of SECURITY.md stand in docs/THEOREMS.md. Each block of Rattle, C, Go,
-Python or Rust on README.md, docs/LIBRARIES.md and docs/C.md stands in crates/rtnl_uses, apart from
-its contracts, or in examples/. The tables of calls and of codes on docs/C.md have those of
-include/rtnlc.h, and those of attributes and of bits in docs/FORMAT.md the names of crates/*/specs.
-docs/ARCHITECTURE.md begins with a map of all crates and folders, and lists the files that name the
-family of rules.
+function in a table of SECURITY.md has the clauses that stand behind it, and they stand in
+docs/THEOREMS.md. Each block of Rattle, C, Go, Python or Rust on README.md, docs/LIBRARIES.md and
+docs/C.md stands in crates/rtnl_uses, apart from its contracts, or in examples/. The tables of calls
+and of codes on docs/C.md have those of include/rtnlc.h, and those of attributes and of bits in
+docs/FORMAT.md the names of crates/*/specs. docs/ARCHITECTURE.md begins with a map of all crates and
+folders, and lists the files that name the family of rules. README.md has at most 220 lines, no word
+of ours where the field has one, and no claim that is larger than what it cites; no page has longer
+sentences than tests/data/pages/ allows it, and how long they are is printed (pages/reading.py).
+Each file of git that begins with #! can be executed, and no other (pages/scripts.py).
 
 Then each of these is tried: a fault is planted in a page or in the code, and must be found. The
 last line is 'N passed, M failed', and the status is 1 where a case failed.
@@ -25,17 +27,19 @@ from typing import Callable, Dict, Iterator, List, NamedTuple, Set, Tuple
 
 sys.dont_write_bytecode = True
 HERE = os.path.dirname(os.path.realpath(__file__))
-sys.path[:0] = [f"{HERE}/../launch", f"{HERE}/helpers"]
+sys.path[:0] = [f"{HERE}/../launch", f"{HERE}/helpers", f"{HERE}/pages"]
 import headers
+import reading
 import reference
-from contracts import Contracts, Texts
-from counting import counted
-from crates import ROOT, Crates, listed
+import scripts
+from contracts import Contracts
+from counting import counted, whole
+from repository import (BLOCK, CITED, FENCED, FORMAT, HEADING, NAME, PROOF, README, ROW, SCRIPTS,
+                        SECURITY, THEOREMS, Check, Fault, Repository, prose, read_repository,
+                        sections)
+from sentences import measured, shown
 
-README, PROOF, THEOREMS = "README.md", "docs/PROOF.md", "docs/THEOREMS.md"
-ARCHITECTURE = "docs/ARCHITECTURE.md"
-SECURITY, CHANGELOG = "SECURITY.md", "CHANGELOG.md"
-FORMAT, LIBRARIES, C = "docs/FORMAT.md", "docs/LIBRARIES.md", "docs/C.md"
+ARCHITECTURE, LIBRARIES, C = "docs/ARCHITECTURE.md", "docs/LIBRARIES.md", "docs/C.md"
 HEADER = "include/rtnlc.h"
 GLOSSARY = "words"
 # Pages whose blocks of code are compared, and where the code of a block stands.
@@ -44,24 +48,15 @@ SHOWN = {
     "c": "examples/c/", "go": "bindings/go/", "python": "bindings/python/",
     "rust": "crates/rtnl_uses/src/",
 }
-CODE = (".rt", ".antt", ".c", ".h", ".go", ".py", ".rs")
 CRATE = ("src", "specs", "proofs")
 
-FENCED = re.compile(r"^```.*?^```$", re.M | re.S)
-SPAN = re.compile(r"(`+)(?!`)(?:(?!\n\n).)*?(?<!`)\1(?!`)", re.S)
 LINK = re.compile(r"\[([^\[\]]*)\]\(([^()\s]*)\)|^\[([^\[\]]*)\]: *(\S+)", re.M)
 # A word of prose, or a link; and what is no prose of the page's own.
 USE = re.compile(r"\[([^\[\]]*)\]\(([^()\s]*)\)|[A-Za-z]+(?:-[A-Za-z]+)*")
 QUOTED = re.compile(r"^(?:#|>).*$", re.M)
-HEADING = re.compile(r"^(#+) +(.*?)(?: +#+)?$", re.M)
 CLAIM = re.compile(r"^- .*(?:\n  .*)*", re.M)
-NAME = re.compile(r"`([^`]+)`")
 BRACKET = re.compile(r"\(([^()]*`[^()]*)\)")
 NAMES = re.compile(r"`[a-z_]+`(?:, `[a-z_]+`)*")
-# The rows of tables, and in them a function with some of its clauses.
-ROW = re.compile(r"^\|.*\|$", re.M)
-CITED = re.compile(r"`([\w:]+)`: (`[a-z_]+`(?:, `[a-z_]+`)*)")
-BLOCK = re.compile(r"^```(\w+)\n(.*?)^```$", re.M | re.S)
 # What names the family of rules in the code of a crate, which has no comment then.
 OF_RULES = re.compile(r"(?<!borrow\.)\bRule(?:Head|Entry)?\b|\bmod rule\b")
 COMMENT = re.compile(r"^\s*(?://|--).*$", re.M)
@@ -77,49 +72,7 @@ class Link(NamedTuple):
     fragment: str
 
 
-class Repository(NamedTuple):
-    """The files by their paths, the texts of the pages and of the code among them, the crates."""
-
-    files: Set[str]
-    texts: Texts
-    crates: Crates
-
-    def pages(self) -> List[str]:
-        return sorted(it for it in self.texts if it.endswith(".md"))
-
-    def using(self) -> List[str]:
-        """The pages that link words to the glossary. Packages have CHANGELOG.md as a plain text, and
-        those of languages have pages that stand alone."""
-        others = (it for it in self.pages() if not it.startswith("bindings/"))
-        return [it for it in others if it not in (FORMAT, CHANGELOG)]
-
-    def promising(self) -> List[str]:
-        """The crates with definitions of their own, on each of which there are claims."""
-        return [it for it in self.crates if f"crates/{it}/specs" in self.files]
-
-
-def read_repository() -> Repository:
-    files: Set[str] = set()
-    texts: Texts = {}
-    for at, folders, names in os.walk(ROOT):
-        folders[:] = [it for it in folders if it not in ("out", "target", ".git")]
-        inside = os.path.relpath(at, ROOT)
-        files.add(inside)
-        for name in names:
-            path = posixpath.normpath(f"{inside}/{name}")
-            files.add(path)
-            if name.endswith((".md", *CODE)):
-                with open(f"{ROOT}/{path}", encoding="utf-8") as text:
-                    texts[path] = text.read()
-    return Repository(files, texts, listed())
-
-
 # The links.
-
-
-def prose(text: str) -> str:
-    """A page without its code, each piece of which is a blank."""
-    return SPAN.sub(" ", FENCED.sub(" ", text))
 
 
 def anchors(text: str) -> Set[str]:
@@ -226,14 +179,6 @@ def unlinked_words(repository: Repository, page: str) -> Iterator[str]:
 # The claims.
 
 
-def sections(text: str) -> Iterator[Tuple[str, str]]:
-    """The headings of a page, and what stands under each, without blocks of code."""
-    text = FENCED.sub(" ", text)
-    heads = [*HEADING.finditer(text)]
-    for head, following in zip(heads, [*heads[1:], None]):
-        yield head[2], text[head.end():following.start() if following else len(text)]
-
-
 def wrong_calls(contracts: Contracts, crate: str, calls: List[str]) -> Iterator[str]:
     """The calls that the crate doesn't have, and those without a contract."""
     for call in calls:
@@ -286,13 +231,7 @@ def wrong_citations(repository: Repository, page: str) -> Iterator[str]:
     """The functions that the tables of a page name with clauses that none of a crate has."""
     contracts = Contracts(repository.crates, repository.texts)
     cited = [it for row in ROW.findall(repository.texts[page]) for it in CITED.findall(row)]
-    if not cited:
-        yield "no clause is named"
-    for call, names in cited:
-        wanted = set(NAME.findall(names))
-        if not any(wanted <= contracts.clauses(crate, found) for crate in repository.crates
-                   for found in contracts.named(crate, call)):
-            yield f"no function {call} has the clauses {names}"
+    yield from reading.uncited(repository, contracts, cited)
 
 
 def lost_theorems(repository: Repository, page: str) -> Iterator[str]:
@@ -438,14 +377,13 @@ def wrong_room(repository: Repository, page: str) -> Iterator[str]:
 
 # The cases.
 
-Check = Callable[[Repository, str], Iterator[str]]
 # What is tested of each page or crate.
 TESTS: List[Tuple[str, Check, Callable[[Repository], List[str]]]] = [
     ("the links of", lost_links, Repository.pages),
     ("words of the glossary on", lost_words, Repository.pages),
     ("first uses of words on", unlinked_words, Repository.using),
     ("the claims on", wrong_claims, Repository.promising),
-    ("the clauses on", wrong_citations, lambda _: [README, SECURITY]),
+    ("the clauses on", wrong_citations, lambda _: [SECURITY]),
     ("the theorems on", lost_theorems, lambda _: [SECURITY]),
     ("the code on", strange_blocks, lambda _: SHOWING),
     ("the calls on", lost_calls, lambda _: [C]),
@@ -453,17 +391,13 @@ TESTS: List[Tuple[str, Check, Callable[[Repository], List[str]]]] = [
     ("the names on", lost_names, lambda _: [FORMAT]),
     ("the map on", lost_in_map, lambda _: [ARCHITECTURE]),
     ("the files of a family on", wrong_room, lambda _: [ARCHITECTURE]),
+    ("the lines of", reading.long_page, lambda _: [README]),
+    ("the sentences of", reading.long_sentences, Repository.pages),
+    ("the words of", reading.coined_words, lambda _: [README]),
+    ("what is claimed by", reading.large_claims, lambda _: [README]),
+    ("the programs of", reading.torn_programs, lambda _: [README]),
+    ("the modes of files of", scripts.wrong_modes, lambda _: [SCRIPTS]),
 ]
-
-
-class Fault(NamedTuple):
-    """A change of a file, which the check of a page or a crate must find."""
-
-    name: str
-    of: str
-    path: str
-    old: str
-    new: str
 
 
 FAULTS: Dict[Check, List[Fault]] = {
@@ -491,7 +425,7 @@ FAULTS: Dict[Check, List[Fault]] = {
               "# What is proved, and what is not\n\nTapes.\n"),
         Fault("a word in a table before its link", PROOF, PROOF,
               "# What is proved, and what is not\n", "# What is proved\n\n| a tape |\n"),
-        Fault("a word that is new", PROOF, FORMAT, "\n| canonical |", "\n| page | |\n| canon |"),
+        Fault("a word that is new", PROOF, FORMAT, "\n| container |", "\n| page | |\n| contain |"),
         Fault("a glossary without words", PROOF, FORMAT, "\n## Words\n", "\n## Glossary\n"),
     ],
     wrong_claims: [
@@ -521,11 +455,11 @@ FAULTS: Dict[Check, List[Fault]] = {
               "(`says`) Each [view]"),
     ],
     wrong_citations: [
-        Fault("a clause of a table that was renamed", README, "crates/nl_frame/src/canonical.rt",
-              "ensures canonical {", "ensures written {"),
-        Fault("a function of a table that there isn't", README, README, "`is_canonical`:",
-              "`is_canon`:"),
-        Fault("a page without clauses", README, README, "`: `", "` `"),
+        Fault("a clause of a table that was renamed", SECURITY, "crates/nl_table/src/table.rt",
+              "ensures within {", "ensures inside {"),
+        Fault("a function of a table that there isn't", SECURITY, SECURITY, "`Table::put`:",
+              "`Table::keep`:"),
+        Fault("a table without clauses", SECURITY, SECURITY, "`: `", "` `"),
     ],
     lost_theorems: [
         Fault("a theorem that there isn't", SECURITY, SECURITY, "`laws::headline_of_calls`",
@@ -607,14 +541,18 @@ def cases(repository: Repository) -> Iterator[Tuple[str, List[str]]]:
     for name, check, subjects in TESTS:
         for subject in subjects(repository):
             yield f"{name} {subject}", [*check(repository, subject)]
-    for check, faults in FAULTS.items():
+    planted = {**FAULTS, **reading.FAULTS, **scripts.FAULTS}
+    for check, faults in planted.items() if whole("the faults that are planted") else ():
         for fault in faults:
             wrong = [] if is_found(check, fault, repository) else ["it is not, or isn't planted"]
             yield f"{fault.name} is found", wrong
 
 
 def main() -> int:
-    return counted(cases(read_repository()))
+    repository = read_repository()
+    for page in repository.pages():
+        print(shown(page, measured(repository.texts[page])))
+    return counted(cases(repository))
 
 
 if __name__ == "__main__":

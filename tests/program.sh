@@ -171,6 +171,7 @@ bad_line() { printf 'rtnl: line %d: bad line\nrtnl: %s: bad line\n' "$@"; }
 . tests/program/bytes.sh
 . tests/program/colour.sh
 . tests/program/follow.sh
+. tests/program/mirror.sh
 . tests/program/explain.sh
 . tests/program/dropped.sh
 . tests/program/names.sh

@@ -41,17 +41,17 @@ ends() {
 record() { timeout 30 ./rtnl-record "$@"; }
 into_full_device() { "$@" >/dev/full; }
 
-# counts SCRIPT: the cases of a script that counts its own.
+# counts COMMAND..: the cases of a script that counts its own.
 counts() {
   local line
-  "$1" >"$folder/counted" 2>&1
+  "$@" >"$folder/counted" 2>&1
   sed '$d' "$folder/counted"
   line=$(tail -n 1 "$folder/counted")
   if [[ $line =~ ^([0-9]+)\ passed,\ ([0-9]+)\ failed$ ]]; then
     passed=$((passed + BASH_REMATCH[1]))
     failed=$((failed + BASH_REMATCH[2]))
   else
-    check "$1" false
+    check "$*" false
   fi
 }
 
@@ -61,11 +61,13 @@ counts() {
 counts tests/rtnl_record/made.py
 counts tests/rtnl_record/answers.py
 counts tests/rtnl_record/drops.py
+counts tests/rtnl_record/asked.py
 counts tests/rtnl_record/slow.py
 counts tests/rtnl_record/fuzz.py
 counts tests/rtnl_record/completions.py
 if [ "${1-}" = inside ]; then
   . tests/rtnl_record/live.sh
+  counts unshare -n tests/rtnl_record/asked_live.py
 else
   echo 'skipped: the live way, since no network namespace can be made here'
 fi

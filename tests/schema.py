@@ -22,14 +22,14 @@ from typing import Any, Dict, Iterator, List, Optional, Tuple
 
 sys.dont_write_bytecode = True
 sys.path.insert(0, f"{os.path.dirname(os.path.realpath(__file__))}/helpers")
-from counting import counted
+import counting
 
 ROOT = os.path.dirname(os.path.dirname(os.path.realpath(__file__)))
-COMMANDS = "show", "check", "table"
+COMMANDS = "show", "check", "table", "mirror"
 # Files that show lines, and what stands in front of one.
 PAGES = ["README.md", "share/man/man1/rtnl.1"]
 PAGES += ["tests/data/rows/json.rows", "tests/data/rows/bytes.rows"]
-PAGES += ["tests/refuse.sh", "tests/refuse/rows.sh"]
+PAGES += ["tests/refuse.sh", "tests/refuse/runs.rows"]
 SHOWN = re.compile(r'(?:= )?(\{".*)')
 # The libraries, and the Python of Debian, to which its packages of them belong.
 LIBRARIES = "fastjsonschema", "jsonschema"
@@ -158,7 +158,7 @@ def hand_made(command: str) -> List[Json]:
 
 OTHERS: Tuple[Json, ...] = (None, True, 0, "", [], {})
 # Fields whose strings are words that the schema lists.
-WORDS = "refused", "dump", "end", "type", "form", "flags", "fault"
+WORDS = "refused", "dump", "end", "type", "form", "flags", "fault", "table", "stale", "change"
 
 
 def may_be(holder: Json, field: str) -> Tuple[Json, ...]:
@@ -185,7 +185,9 @@ def changes(
         yield "an unknown field", name, {**value, "unknown": 0}
         for field, held in value.items():
             rest = {other: it for other, it in value.items() if other != field}
-            yield "a missing field", f"{name}.{field}", rest
+            # Without its sign an entry that is new or gone is one of a table.
+            if field != "change" or "before" in value or "table" in value:
+                yield "a missing field", f"{name}.{field}", rest
             yield "a renamed field", f"{name}.{field}", {**rest, f"{field}s": held}
             for kind, place, it in changes(held, field, may_be(value, field)):
                 yield kind, f"{name}.{place}", {**value, field: it}
@@ -242,8 +244,9 @@ LETTERS = {"B": (0, 255), "H": (0, 65535), "I": (0, 2**32 - 1), "i": (-(2**31), 
 RANGES = {
     **{"u8": (0, 255), "u16": (0, 65535), "u32": (0, 2**32 - 1), "i32": (-(2**31), 2**31 - 1)},
     **{"datagram_number": (1, 2**24), "count": (0, 2**24), "shown/properties/bytes": (16, 65536)},
-    **{"refused/properties/at": (0, 65535), "entry/properties/entry": (1, 65536)},
-    **{"dump/properties/entries": (0, 65536), "dump/properties/visits": (0, 33 * 2**23)},
+    **{"refused/properties/at": (0, 65535), "entry_number": (1, 65536)},
+    **{"entry_count": (0, 65536), "dump/properties/visits": (0, 33 * 2**23)},
+    **{"mirrored/properties/missed": (0, 2**64 - 1)},
     **{"row/properties/offset": (0, 2**23 - 16), "row/properties/length": (1, 16)},
     **{"row/properties/level": (0, 8), "attribute_number": (0, 16383)},
 }
@@ -338,11 +341,13 @@ def mixed() -> Iterator[Tuple[str, Json]]:
     link, addr = bodies()["link"], bodies()["addr"]
     yield from (("show", row) for row in mixed_rows())
     rows = [line for line in hand_made("show") if "offset" in line]
-    yield from ((command, row) for command in ("check", "table") for row in rows)
+    yield from ((command, row) for command in COMMANDS[1:] for row in rows)
+    yield from (("mirror", line) for line in mixed_of_mirror(link, addr))
     yield "table", {"entry": 1}
     yield "table", {"link": link, "addr": addr}
     yield "table", {"entry": 1, "link": link, "addr": addr}
     yield "table", {"entry": 1, "link": addr}
+    yield "mirror", {"datagram": 1, "refused": "total"}
     for command in COMMANDS:
         yield command, {"datagram": 1, "refused": "too large", "at": 0}
         yield command, {"datagram": 1, "refused": "total", "at": 0}
@@ -366,6 +371,23 @@ def mixed() -> Iterator[Tuple[str, Json]]:
         front: Dict[str, Json] = {"number": 1, "name": None, "flags": [], "form": form}
         for fields in (it for it in held if list(it) != [right]):
             yield "table", {"entry": 1, "link": {**link, "attrs": [{**front, **fields}]}}
+
+
+def mixed_of_mirror(link: Json, addr: Json) -> Iterator[Json]:
+    """Lines of `mirror` whose fields do not belong together."""
+    for line in hand_made("mirror"):
+        if "current" in line:
+            yield {**line, "current": not line["current"]}
+        if "change" in line:
+            others = "~=?" if line["change"] in "+-" else "+-~=?"
+            yield from ({**line, "change": it} for it in others if it != line["change"])
+    yield {"change": "~", "entry": 1, "link": link, "before": addr}
+    yield {"change": "~", "entry": 1, "link": link, "addr": addr, "before": link}
+    yield {"change": "+", "entry": 1, "link": link, "before": link}
+    yield {"change": "-", "entry": 1, "link": link, "addr": addr}
+    yield {"change": "=", "table": "link", "entries": 1, "stale": "lost"}
+    yield {"table": "link", "entries": 1}
+    yield {"table": "link", "entries": 1, "missed": 0, "current": True, "stale": "lost"}
 
 
 def mixed_rows() -> Iterator[Json]:
@@ -433,11 +455,13 @@ def cases() -> Iterator[Tuple[str, Fault]]:
     yield "types of messages", fault_of_types()
     yield "fields that do not belong together", fault_of_mixed()
     yield "each field, word and alternative", fault_of_cover()
+    is_whole = counting.whole("three of four lines that are changed")
     for command in COMMANDS:
         allowed = Allowed(command)
         for number, line in enumerate(hand_made(command), 1):
             yield f"{command}, line {number}", fault_of_line(allowed, line)
-            yield f"{command}, line {number}, changed", fault_of_changes(allowed, line)
+            if is_whole or number % 4 == 1:
+                yield f"{command}, line {number}, changed", fault_of_changes(allowed, line)
     yield from ((path, fault_of_lines(shown(path))) for path in PAGES)
 
 
@@ -445,7 +469,7 @@ def main(paths: List[str]) -> int:
     found = ((it, fault_of_lines(read(it))) for it in paths) if paths else cases()
     if not has_libraries():
         found = iter(())
-    return counted((name, [fault] if fault else []) for name, fault in found)
+    return counting.counted((name, [fault] if fault else []) for name, fault in found)
 
 
 if __name__ == "__main__":

@@ -4,9 +4,8 @@ loads nothing else.
 
   web/build.py [FOLDER]
 
-The library in it is that for C, as WebAssembly; c/wasm.py says how it is made of what the proof
-left. Where that is not there, crates/rtnl_c is proved first, over the libraries that `rt ci`
-built.
+The library in it is that for C, as WebAssembly, which c/wasm.py makes of the code of the one that
+launch/build.py builds.
 """
 import base64
 import hashlib
@@ -20,8 +19,10 @@ from typing import List
 
 sys.dont_write_bytecode = True
 ROOT = f"{os.path.dirname(os.path.realpath(__file__))}/.."
-sys.path[:0] = [f"{ROOT}/c"]
+sys.path[:0] = [f"{ROOT}/c", f"{ROOT}/packaging", f"{ROOT}/launch"]
 import wasm
+from installing import Stopped, output
+from steps import Failed, Interrupted, say, stop_on_signals
 
 # The scripts that both have, those of the decoder, which runs beside the page, and the page's own.
 SHARED = ["web/shared"]
@@ -77,7 +78,9 @@ def page(made: str) -> str:
 
 def main(to: str = f"{ROOT}/out") -> None:
     with tempfile.TemporaryDirectory() as room:
-        wasm.make(f"{room}/rtnl.wasm", {*re.findall(r"\brtnlc_\w+", scripts(DECODER))})
+        words = {*re.findall(r"\brtnlc_\w+", scripts(DECODER))}
+        building = [f"{ROOT}/launch/build.py", "library"]
+        wasm.make(f"{room}/rtnl.wasm", words, lambda: output(building))
         text = page(f"{room}/rtnl.wasm").encode()
     if len(text) > LARGEST:
         sys.exit(f"build.py: the page would have {len(text)} bytes, and {LARGEST} are allowed")
@@ -90,4 +93,13 @@ def main(to: str = f"{ROOT}/out") -> None:
 if __name__ == "__main__":
     if len(sys.argv) > 2 or sys.argv[-1].startswith("-"):
         sys.exit(__doc__)
-    main(*sys.argv[1:])
+    stop_on_signals()
+    try:
+        main(*sys.argv[1:])
+    except (Failed, OSError) as error:
+        say(f"{error}")
+        sys.exit(3)
+    except Stopped as stopped:
+        sys.exit(stopped.status)
+    except Interrupted as by:
+        sys.exit(128 + by.number)

@@ -11,8 +11,8 @@ import (
 	"rtnl.invalid/rtnlc"
 )
 
-// A hundred thousand mutated datagrams, the same in each run: each is refused as Scan refuses it,
-// or every answer of every view, attribute and next hop in it is taken.
+// A hundred thousand mutated datagrams, the same in each run, or with -short two thousand: each is
+// refused as Scan refuses it, or every answer of every view, attribute and next hop in it is taken.
 func TestMutations(t *testing.T) {
 	choose := rand.New(rand.NewSource(1))
 	whole := seeds(t)
@@ -21,7 +21,11 @@ func TestMutations(t *testing.T) {
 	bigOptions.BigEndian = true
 	tape.Options, big.Options = &options, &bigOptions
 	var seen tally
-	for turn := 0; turn < 100000; turn++ {
+	turns := 100000
+	if testing.Short() {
+		turns = 2000
+	}
+	for turn := 0; turn < turns; turn++ {
 		datagram := mutated(choose, whole)
 		options.Depth = 8
 		if turn%8 == 0 {
@@ -42,7 +46,9 @@ func TestMutations(t *testing.T) {
 		}
 	}
 	t.Log(seen)
-	seen.checkCounts(t)
+	if !testing.Short() {
+		seen.checkCounts(t)
+	}
 }
 
 // checkCounts says which codes, and which parts of a datagram, came too seldom.

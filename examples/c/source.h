@@ -72,9 +72,9 @@ static inline void source_open(struct source *s, int count, char **words, uint32
 	s->port = own.nl_pid;
 }
 
-/* The next datagram of the kernel, and of no other process, stands in `bytes`; false at the end of
- * the socket, which fails where `ends` is false. */
-static inline bool source_next(struct source *s, bool ends)
+/* Takes the next datagram of the kernel, and of no other process, into `bytes`: none at the end of
+ * the socket. Answers 0, or an errno: ENOBUFS where some were lost, EMSGSIZE of one that is cut. */
+static inline int source_take(struct source *s)
 {
 	struct sockaddr_nl from = { 0 };
 	struct iovec room = { s->bytes, sizeof s->bytes };
@@ -83,16 +83,26 @@ static inline bool source_next(struct source *s, bool ends)
 	do
 		len = recvmsg(s->socket, &message, 0);
 	while (len < 0 ? errno == EINTR : from.nl_family == AF_NETLINK && from.nl_pid != 0);
-	if (len < 0 && errno == ENOBUFS)
-		source_fail(s, LOST, "lost datagrams");
+	s->len = len < 0 ? 0 : (size_t)len;
 	if (len < 0)
-		source_fail(s, FAILED, "%s", strerror(errno));
-	if (message.msg_flags & MSG_TRUNC)
+		return errno;
+	return message.msg_flags & MSG_TRUNC ? EMSGSIZE : 0;
+}
+
+/* The same, and fails where there is none; false at the end of the socket, which fails where `ends`
+ * is false. */
+static inline bool source_next(struct source *s, bool ends)
+{
+	const int error = source_take(s);
+	if (error == ENOBUFS)
+		source_fail(s, LOST, "lost datagrams");
+	if (error == EMSGSIZE)
 		source_fail(s, CUT, "cut datagram");
-	if (len == 0 && !ends)
+	if (error != 0)
+		source_fail(s, FAILED, "%s", strerror(error));
+	if (s->len == 0 && !ends)
 		source_fail(s, FAILED, "the answer ended early");
-	s->len = (size_t)len;
-	return len > 0;
+	return s->len > 0;
 }
 
 /* Fails where a datagram was not taken, by the code and the place that the library answered. */

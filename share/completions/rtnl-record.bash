@@ -39,9 +39,15 @@ _rtnl_record() {
       _rtnl_record_namespaces "$word" "$sign"
       return
       ;;
+    # One kind, or one more behind a comma.
+    *,*,--dump,*)
+      mapfile -t COMPREPLY < <(compgen -P "${word%"${word##*,}"}" -W "$kinds" -- "${word##*,}")
+      return
+      ;;
+    *,*,--again,*) compopt -o default 2>/dev/null ;;
     *,*,--family,* | *,*,--buffer,*) ;;
     *,dump,*,-*) words='--family --buffer --netns --help' ;;
-    *,monitor,*,-*) words='--time --netns --help' ;;
+    *,monitor,*,-*) words='--time --dump --again --netns --help' ;;
     *,xxd,*,-*) words='--cooked --help' ;;
     *,*,*,-*) words=--help ;;
     *,dump,*) words=$kinds ;;

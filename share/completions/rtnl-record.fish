@@ -8,6 +8,12 @@ function __rtnl_record_namespaces
     string match -rv -- '^~|\t' $names
 end
 
+# The kinds, each behind those that are typed with commas between them.
+function __rtnl_record_kinds
+    set -l typed (commandline -ct | string replace -r '^(--dump=)?(.*,)?.*' '$2')
+    printf '%s\n' "$typed"{link,addr,route,neigh,rule}
+end
+
 set -l commands dump monitor pcap rtmon strace xxd
 set -l groups all address route rule link notify neigh tc ipv4_ifaddr ipv4_mroute \
     ipv4_route ipv4_rule \
@@ -40,4 +46,7 @@ complete -c rtnl-record -n $asking -l netns -x -a '(__rtnl_record_namespaces)' \
     -d 'Network namespace'
 complete -c rtnl-record -n $monitor -a "$groups"
 complete -c rtnl-record -n $monitor -l time -d 'Print the time before each datagram'
+complete -c rtnl-record -n $monitor -l dump -x -a '(__rtnl_record_kinds)' \
+    -d 'Ask for dumps of these kinds first'
+complete -c rtnl-record -n $monitor -l again -r -F -d 'Read kinds here, and ask for them again'
 complete -c rtnl-record -n $dumped -l cooked -d 'The dumps are of packets of an nlmon device'

@@ -11,12 +11,15 @@ _rtnl_options() {
     table)
       echo --kind --seq --port --family --depth --entries --order --format --explain --help
       ;;
+    mirror)
+      echo --kind --family --changes --depth --entries --waiting --order --format --strict --explain --help
+      ;;
     request) echo --kind --seq --family --order --help ;;
   esac
 }
 
 _rtnl() {
-  local commands='show follow check table request'
+  local commands='show follow check table mirror request'
   local word=${COMP_WORDS[COMP_CWORD]} before=${COMP_WORDS[COMP_CWORD - 1]} command=${COMP_WORDS[1]} words=
   # Bash splits an option and its value at the sign between them.
   [ "$before" = '=' ] && before=${COMP_WORDS[COMP_CWORD - 2]}
@@ -33,7 +36,7 @@ _rtnl() {
       --format) words='text json' ;;
       --color) words='auto always never' ;;
       --kind) words='link addr route neigh rule' ;;
-      --seq | --port | --family | --depth | --entries) ;;
+      --seq | --port | --family | --depth | --entries | --waiting) ;;
       *)
         if [ "$command" = request ] || [[ $word == -* ]]; then
           words=$(_rtnl_options "$command")

@@ -147,21 +147,25 @@ check 'the example programs are short' \
   is_short 60 bindings/go/examples/{links,routes,watch,link_up}/main.go
 check 'what adds routes is short' is_short 85 bindings/go/examples/route_add/main.go
 check 'what they share is short' is_short 120 bindings/go/examples/source/source.go
-tested 'go test'
-GODEBUG=cgocheck=2 tested 'go test with cgocheck=2'
-has_race || tests/helpers/install_packages.sh "$(go env GOROOT)/src/runtime/race" golang-src
-if has_race; then
-  tested 'go test -race' -race
+if whole '98,000 of 100,000 mutations, cgocheck=2, and -race'; then
+  tested 'go test'
+  GODEBUG=cgocheck=2 tested 'go test with cgocheck=2'
+  has_race || tests/helpers/install_packages.sh "$(go env GOROOT)/src/runtime/race" golang-src
+  if has_race; then
+    tested 'go test -race' -race
+  else
+    echo 'skipped: go test -race, since this Go has no race detector'
+  fi
 else
-  echo 'skipped: go test -race, since this Go has no race detector'
+  tested 'go test' -short
 fi
 check 'a program of another module' uses_it
 check 'go vet finds copies' finds_copies
 check 'a library of another version' says_version
 check 'no library' says_missing
-check 'a header of another version' is_for_another
+whole 'a header of another version' && check 'a header of another version' is_for_another
 check 'no cgo' says_why C__set_CGO_ENABLED_1_and_have_a_compiler_of_C CGO_ENABLED=0
 check 'another processor' says_why Linux_on_amd64 GOARCH=arm64 CGO_ENABLED=1
-check 'the library of the clone' of_clone
+whole 'the library of the clone' && check 'the library of the clone' of_clone
 check 'its version' has_version
 finish

@@ -175,21 +175,26 @@ wheel_version=$(strings "$RTNLC_PREFIX/lib/librtnlc.so.0" | grep -xE -m 1 "$vers
 check 'no library' refuses_without_library
 check 'a wheel' build once
 check 'the name of the wheel' test -e "$(wheel_of once)"
-check 'the same wheel again' is_same_again
 check 'all that the wheel holds' holds_all
 check 'the library in the wheel' holds_library
 check 'a wheel without the library' build_without
 check 'all that it holds' holds_all_but_library
 check 'it loads the library of the system' loads_system
-check 'the archive of the sources' from_archive
-check 'an editable installation' is_editable
-check 'the wheel by pkg-config' install PKG_CONFIG_PATH="$RTNLC_PREFIX/lib/pkgconfig"
-check 'the wheel of a library beside the sources' install_of_beside
+if whole 'the wheel once more, in other ways, and the archive of the sources'; then
+  check 'the same wheel again' is_same_again
+  check 'the archive of the sources' from_archive
+  check 'an editable installation' is_editable
+  check 'the wheel by pkg-config' install PKG_CONFIG_PATH="$RTNLC_PREFIX/lib/pkgconfig"
+  check 'the wheel of a library beside the sources' install_of_beside
+fi
 check 'the wheel by RTNLC_LIB_DIR' install RTNLC_LIB_DIR="$RTNLC_PREFIX/lib"
 
+whole '98,000 of 100,000 mutations' || export MUTATIONS=2000
 run_tests 'the tests' "$python" -X dev -W error "$package/tests"
 # Other versions of Python, where they are here.
-for other in python3.9 python3.10 python3.12 python3.13 python3.14; do
+others=(python3.9 python3.10 python3.12 python3.13 python3.14)
+whole 'other versions of Python' || others=()
+for other in "${others[@]}"; do
   if "$other" -c '' 2>/dev/null; then
     run_tests "the tests by $other" env MUTATIONS=10000 PYTHONPATH="$package/src" \
       RTNLC_LIB_DIR="$RTNLC_PREFIX/lib" "$other" -X dev -W error "$package/tests"
@@ -197,9 +202,11 @@ for other in python3.9 python3.10 python3.12 python3.13 python3.14; do
 done
 if has mypy 'the types'; then
   check 'the types of all' has_types
-  check 'the types of the package that is installed' has_own_types
+  if whole 'the types of the package that is installed'; then
+    check 'the types of the package that is installed' has_own_types
+  fi
 fi
-if has valgrind 'the tests under valgrind'; then
+if whole 'the tests under valgrind' && has valgrind 'the tests under valgrind'; then
   check 'valgrind finds a session that is not freed' finds_a_leak
   check 'valgrind finds nothing in the tests' is_clean
 fi

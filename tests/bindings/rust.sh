@@ -123,14 +123,19 @@ packaged() {
     done
 }
 
+whole '98,000 of 100,000 mutations' || export RTNL_MUTATIONS=2000
+# These take a third of the time of a build that is done once.
+whole 'what a debugger needs' || export CARGO_INCREMENTAL=0 CARGO_PROFILE_DEV_DEBUG=0
 tested --workspace
-if has_part clippy 'what clippy says'; then
+if whole 'what clippy says' && has_part clippy 'what clippy says'; then
   check 'clippy' in_package cargo clippy --workspace --all-targets -- -D warnings
 fi
 has_part fmt 'the form of the code' && check 'rustfmt' in_package cargo fmt --all --check
-check 'pages without a warning' env RUSTDOCFLAGS='-D warnings' bash -c \
-  "cd '$package' && cargo doc --no-deps --workspace --exclude checks >'$folder/output' 2>&1"
-if has valgrind 'the tests under valgrind'; then
+if whole 'the pages of the crates'; then
+  check 'pages without a warning' env RUSTDOCFLAGS='-D warnings' bash -c \
+    "cd '$package' && cargo doc --no-deps --workspace --exclude checks >'$folder/output' 2>&1"
+fi
+if whole 'the tests under valgrind' && has valgrind 'the tests under valgrind'; then
   export RTNL_MUTATIONS=2000
   for binary in $(binaries); do
     check "valgrind: $(basename "${binary%-*}")" under_valgrind "$binary"
@@ -151,21 +156,29 @@ done
 check 'route_add.rs is short' is_short route_add.rs 80
 check 'source/mod.rs is short' is_short source/mod.rs 120
 if [ -n "${PROGRAMS-}" ]; then
-  check 'the example programs, with optimization' in_package cargo build --release --examples
+  profile=debug
+  if whole 'optimization of the example programs'; then
+    profile=release
+    check 'the example programs, with optimization' in_package cargo build --release --examples
+  fi
   mkdir -p "$PROGRAMS" &&
-    cp "$folder"/target/release/examples/{links,routes,watch,link_up,route_add} "$PROGRAMS"
+    cp "$folder/target/$profile/examples"/{links,routes,watch,link_up,route_add} "$PROGRAMS"
 fi
 
 # Before 1.90 it asks a registry for the crate that another one of the workspace stands on.
-if [ "$(cargo --version | sed -nE 's/^cargo 1\.([0-9]+).*/\1/p')" -ge 90 ]; then
+if ! whole 'the crates as they are published'; then
+  :
+elif [ "$(cargo --version | sed -nE 's/^cargo 1\.([0-9]+).*/\1/p')" -ge 90 ]; then
   check 'both crates are packaged' packaged
   check 'a program uses them' uses_it
 else
   echo 'skipped: the crates as they are published, since cargo is older than 1.90'
 fi
-check 'the library by its folder' env -u PKG_CONFIG_PATH RTNLC_LIB_DIR="$RTNLC_PREFIX/lib" \
-  bash -c "cd '$package' && cargo build --workspace >'$folder/output' 2>&1"
-check 'linked statically' is_static
+if whole 'the library by its folder, and linked statically'; then
+  check 'the library by its folder' env -u PKG_CONFIG_PATH RTNLC_LIB_DIR="$RTNLC_PREFIX/lib" \
+    bash -c "cd '$package' && cargo build --workspace >'$folder/output' 2>&1"
+  check 'linked statically' is_static
+fi
 # of_clone: where pkg-config finds none, the clone around the crates makes the library, and a program has it inside.
 none=(env PKG_CONFIG_PATH="$folder/none" PKG_CONFIG_LIBDIR="$folder/none" CARGO_TARGET_DIR="$folder/of_clone")
 in_clone() { (cd "$clone/bindings/rust" && "${none[@]}" "$@") >"$folder/output" 2>&1; }
@@ -188,8 +201,10 @@ is_of_another_version() {
     is_refused "$folder/later/librtnlc.so is of another version: '0.4.1'" \
       env RTNLC_LIB_DIR="$folder/later" cargo build
 }
-check 'the library of the clone' of_clone
-check 'a clone that makes none' fails_in_clone
+if whole 'the library of the clone'; then
+  check 'the library of the clone' of_clone
+  check 'a clone that makes none' fails_in_clone
+fi
 check 'a library of another version by its folder' is_of_another_version
 check 'no library' is_refused './install --library PREFIX' \
   env PKG_CONFIG_PATH="$folder/none" PKG_CONFIG_LIBDIR="$folder/none" cargo build

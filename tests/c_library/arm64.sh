@@ -18,10 +18,10 @@ if [ -z "${RTNL_PROGRAM-}" ] || [ -e out/proved/librtnl_c.a ]; then
 elif has "${arm64[0]}" 'the library for arm64' && has qemu-aarch64 'the library for arm64'; then
   check 'the library for arm64' env "CC=${arm64[0]}" c/build.sh "$folder/arm64"
   check 'the names that it defines' defines_the_calls "$folder/arm64/librtnlc.a" -g --defined-only
-  for name in every find fixed misuse room builder words wrong null; do
+  for name in every find fixed misuse room builder mirror words wrong null; do
     check "arm64: $name.c" built_arm64 "$name"
   done
-  for name in fixed misuse room builder wrong null; do
+  for name in fixed misuse room builder mirror wrong null; do
     check "arm64: $name.c runs" quietly "$folder/arm64 $name"
   done
   check 'arm64: names of codes, and the version' says_version 'arm64 words'

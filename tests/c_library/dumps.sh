@@ -82,9 +82,12 @@ all_dumps() {
   check "$name: sessions in threads" each little agree_so "session_threads $name"
 }
 
-all_dumps plain 50000 cc -std=c99
+count=50000
+whole '98,000 of 100,000 dumps' || count=1000
+all_dumps plain "$count" cc -std=c99
 echo "mutated: $(<"$folder/dumps.said")"
-all_dumps 'with sanitizers' 2500 cc -std=c99 -fsanitize=address,undefined -fno-sanitize-recover=all
+whole 'dumps with sanitizers' && all_dumps 'with sanitizers' 2500 \
+  cc -std=c99 -fsanitize=address,undefined -fno-sanitize-recover=all
 awk '{ sum += $1 } END { print "allocations of sessions refused: " sum }' \
   "$folder/refused.in.sessions"
 
@@ -93,11 +96,13 @@ check 'a million routes in constant space' quietly "$folder/million"
 check 'colliding.c' built colliding colliding cc -std=c99
 check 'keys that were chosen to collide' "$folder/colliding"
 
-if has valgrind 'sessions and streams under valgrind'; then
+under='sessions and streams under valgrind'
+if whole "$under" && has valgrind "$under"; then
   see=(valgrind -q --leak-check=full --error-exitcode=9)
   check 'valgrind: sessions and streams' each little clean
   check 'valgrind: wrong uses' "${see[@]}" "$folder/misuse plain"
   check 'valgrind: room' "${see[@]}" "$folder/room plain"
+  check 'valgrind: mirrors' "${see[@]}" "$folder/mirror plain"
   check 'valgrind: mutated dumps' dumps 1000 "${see[@]}" "$folder/dumps plain"
   how=(valgrind -q --tool=helgrind --error-exitcode=9)
   check 'helgrind: sessions in threads' each little agree_so 'session_threads plain'

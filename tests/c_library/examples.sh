@@ -3,6 +3,7 @@
 # written by hand, is in the program's JSON, or stands in the kernel's files. tests/bindings.sh runs
 # those in C that the packages of other languages have too.
 
+. tests/helpers/namespace.sh
 export PKG_CONFIG_PATH=$prefix/lib/pkgconfig LD_LIBRARY_PATH=$prefix/lib
 
 # The recording has the loopback link, and then the end of the dump.
@@ -20,6 +21,28 @@ ended='14000000 0300 0200 01000000 01000000 00000000'
 interrupted='14000000 0300 1200 01000000 01000000 00000000'
 programs=(links routes watch stream)
 writers=(link_up route_add)
+keepers=(mirror)
+
+# What a kernel tells a mirror: the dump of links is interrupted first, and then has a link with
+# index 7; those of other tables are empty. Then an address of IPv6 comes, changes and goes, and a
+# second link comes.
+told_link='20000000 1000 0000 00000000 00000000 0000 0100 08000000 03100000 00000000'
+told_addr='18000000 1400 0000 00000000 00000000 0a40 8000 07000000'
+changed_addr='18000000 1400 0000 00000000 00000000 0a40 00fd 07000000'
+gone_addr='18000000 1500 0000 00000000 00000000 0a40 00fd 07000000'
+kept='? links stale: never dumped
+= links 1 entries
+= addresses 0 entries
+= routes 0 entries
+= neighbours 0 entries
+= rules 0 entries
++ addr family 10 prefix 64 flags 0x80 scope 0 index 7
+~ addr family 10 prefix 64 flags 0x00 scope 253 index 7
+- addr family 10 prefix 64 flags 0x00 scope 253 index 7
++ link family 0 type 1 index 8 flags 0x00001003 UP,BROADCAST,MULTICAST change 0x00000000'
+
+# What stands alone, without a header of this folder, and opens a socket of the kernel's itself.
+alone=(first)
 
 # in_json: the link of the recording, its name and what the program's JSON says.
 in_json() {
@@ -68,8 +91,19 @@ of_lines() {
   [ $? = "$status" ] && [ "$(<"$folder/output")" = "$text" ]
 }
 
+# keeps: the mirror asks for each table and prints what changes.
+keeps() {
+  local at answers=("$interrupted" "$bare$ended" "$ended" "$ended" "$ended"
+    "$ended"$'\n'"$told_addr"$'\n'"$changed_addr"$'\n'"$gone_addr$told_link")
+  for at in "${!answers[@]}"; do echo "${answers[at]}" >"$folder/answer.$at"; done
+  prints "$kept" tests/bindings/play.py "$folder"/answer.? -- "$folder/mirror"
+}
+
 # is_short NAME LINES
 is_short() { [ "$(wc -l <"examples/c/$1")" -le "$2" ]; }
+
+# stands_alone NAME: it reads in no header of this folder.
+stands_alone() { ! grep '^#include "' "examples/c/$1"; }
 
 # is_of_the_kernel: the links are those that this machine's files say, with their addresses.
 is_of_the_kernel() {
@@ -82,9 +116,6 @@ is_of_the_kernel() {
 # has_loopback PROGRAM LINE: the kernel's routes are read to their end, and one is that of the
 # loopback link.
 has_loopback() { "$folder/$1" >"$folder/output" && grep -qx "$2" "$folder/output"; }
-
-# in_namespace COMMAND..: in a network namespace of its own.
-in_namespace() { unshare -n "$@" 2>/dev/null || unshare -rn "$@" 2>/dev/null; }
 
 # is_told: the loopback link of a namespace is set up and down until a notification says so.
 is_told() {
@@ -123,21 +154,27 @@ run_programs() {
   check "stream.c, $1: no destination, no index" \
     of_lines 0 $'default oif -\n10.0.0.0/8 oif -' stream '# lines' "$default" '' "$hops" "$ended"
   check "stream.c, $1: interrupted" of_lines 2 'stream: interrupted' stream "$interrupted"
+  check "mirror.c, $1" keeps
   check "stream.c, $1: no end" of_lines 2 $'default oif -\nstream: the answer ended early' \
     stream "$default"
 }
 
 check 'what is expected of the examples' is_in_json
 for name in "${programs[@]}"; do check "$name.c is short" is_short "$name.c" 60; done
+for name in "${alone[@]}"; do
+  check "$name.c is short" is_short "$name.c" 40
+  check "$name.c stands alone" stands_alone "$name.c"
+done
 for name in source parts dump change; do check "$name.h is short" is_short "$name.h" 120; done
 check 'link_up.c is short' is_short link_up.c 60
 check 'route_add.c is short' is_short route_add.c 110
-for name in "${programs[@]}" "${writers[@]}"; do
+check 'mirror.c is short' is_short mirror.c 200
+for name in "${programs[@]}" "${writers[@]}" "${keepers[@]}" "${alone[@]}"; do
   check "$name.c with librtnlc.a" in_static "$name"
 done
 run_programs 'with librtnlc.a'
 if has pkg-config 'the examples in C with pkg-config'; then
-  for name in "${programs[@]}" "${writers[@]}"; do
+  for name in "${programs[@]}" "${writers[@]}" "${keepers[@]}" "${alone[@]}"; do
     check "$name.c with librtnlc.so" compiled "$name"
   done
   run_programs 'with librtnlc.so'
@@ -150,10 +187,13 @@ else
   echo 'skipped: the examples in C over a socket, since the machine opens none'
 fi
 if in_namespace ip link set lo up; then
+  check 'first.c names the links of a namespace' names_links "$folder/first"
   check 'watch.c hears the kernel' is_told
   check 'link_up.c and route_add.c ask the kernel' writes
+  check 'mirror.c prints each change within a second' \
+    in_namespace tests/c_library/keeps.py "$folder/mirror"
 else
-  echo 'skipped: watch.c over a socket, since no network namespace can be made here'
+  echo 'skipped: first.c, watch.c and mirror.c over a socket, since no namespace can be made here'
 fi
 
 # A link with an MTU and no name, and one with neither.

@@ -77,6 +77,9 @@ if has gcc 'what gcc says of wrong uses' && [ "$(gcc -dumpversion | cut -d . -f 
      return rtnlc_request_link(&link, RTNLC_SET, 1, false, out, 32).code;'
   check 'bytes for elements' warns -Wstringop-overflow \
     'struct rtnlc_event out[4]; return (int)rtnlc_tape(NULL, 0, NULL, out, sizeof out).count;'
+  check 'bytes for changes' warns -Wstringop-overflow \
+    'struct rtnlc_mirror m = { 0 }; struct rtnlc_change out[4];
+     return (int)rtnlc_mirror_feed(&m, NULL, 0, out, sizeof out, NULL, 0).changes;'
   check 'bytes without a value' warns -Wuninitialized \
     'uint8_t bytes[16]; return rtnlc_scan(bytes, sizeof bytes, NULL).code;'
 else

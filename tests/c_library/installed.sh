@@ -26,7 +26,8 @@ does() {
   local status=$1 output=$2
   shift 2
   ./install "$@" >"$folder/output" 2>&1
-  [ $? = "$status" ] && [ "$(<"$folder/output")" = "$output" ]
+  # Over what rt ci built it says how long that takes.
+  [ $? = "$status" ] && [ "$(sed 's/\( proves it first\), in .*/\1/' "$folder/output")" = "$output" ]
 }
 
 # is_left: what stands where the link would is all that is there; then it is removed.
@@ -109,7 +110,7 @@ program_things=(bin/rtnl share/man/man1/rtnl.1 share/bash-completion/completions
   share/bash-completion/completions/rtnl-record share/zsh/site-functions/_rtnl-record
   share/fish/vendor_completions.d/rtnl-record.fish)
 for module in record/*.py; do program_things+=("share/rtnl-record/${module##*/}"); done
-! launch/page.py >/dev/null || program_things+=(share/rtnl/rtnl.html)
+! packaging/page.py >/dev/null || program_things+=(share/rtnl/rtnl.html)
 
 library=$(each installed "${library_things[@]}" && note library "$archive")
 
@@ -131,14 +132,17 @@ for ((at = 0; at < ${#outside[@]}; at += 2)); do
 done
 check 'nothing is put in any of these' [ ! -e "$prefix" ]
 check 'the library in lib64' in_libdir lib64 ./install --libdir lib64
-check 'the library in a folder of lib' in_libdir lib/x86_64-linux-gnu \
-  env libdir=lib/x86_64-linux-gnu ./install
-check 'the library in a folder by its path' in_libdir lib64 ./install "--libdir=$prefix/lib64/"
-check 'the option before the environment' in_libdir lib32 env libdir=lib64 ./install --libdir lib32
-check 'the library in one folder and in another' in_both
 check 'a package' staged lib
-check 'a package with a folder' staged lib/x86_64-linux-gnu
-check 'a package over another file' leaves_own_staged
+if whole 'the library in other folders'; then
+  check 'the library in a folder of lib' in_libdir lib/x86_64-linux-gnu \
+    env libdir=lib/x86_64-linux-gnu ./install
+  check 'the library in a folder by its path' in_libdir lib64 ./install "--libdir=$prefix/lib64/"
+  check 'the option before the environment' \
+    in_libdir lib32 env libdir=lib64 ./install --libdir lib32
+  check 'the library in one folder and in another' in_both
+  check 'a package with a folder' staged lib/x86_64-linux-gnu
+  check 'a package over another file' leaves_own_staged
+fi
 check 'the library is installed' does 0 "$library" --library "$prefix"
 check 'the library is removed' does 0 "$(each removed "${library_things[@]}")" \
   --remove "$prefix"

@@ -134,6 +134,33 @@ IS_SIZE(rtnlc_found, 8);
 IS_AT(rtnlc_found, index, 0);
 IS_AT(rtnlc_found, code, 4);
 
+IS_SIZE(rtnlc_mirror, 8);
+IS_AT(rtnlc_mirror, at, 0);
+
+IS_SIZE(rtnlc_change, 16);
+IS_AT(rtnlc_change, before, 0);
+IS_AT(rtnlc_change, before_len, 4);
+IS_AT(rtnlc_change, index, 8);
+IS_AT(rtnlc_change, kind, 12);
+IS_AT(rtnlc_change, effect, 14);
+IS_AT(rtnlc_change, code, 15);
+
+IS_SIZE(rtnlc_heard, 32);
+IS_AT(rtnlc_heard, visits, 0);
+IS_AT(rtnlc_heard, changes, 8);
+IS_AT(rtnlc_heard, before, 16);
+IS_AT(rtnlc_heard, place, 24);
+IS_AT(rtnlc_heard, code, 28);
+
+IS_SIZE(rtnlc_mirrored, 24);
+IS_AT(rtnlc_mirrored, missed, 0);
+IS_AT(rtnlc_mirrored, count, 8);
+IS_AT(rtnlc_mirrored, limit, 12);
+IS_AT(rtnlc_mirrored, seq, 16);
+IS_AT(rtnlc_mirrored, stale, 20);
+IS_AT(rtnlc_mirrored, dumps, 21);
+IS_AT(rtnlc_mirrored, code, 22);
+
 IS_SIZE(rtnlc_stream, 64);
 IS_AT(rtnlc_stream, total, 0);
 IS_AT(rtnlc_stream, received, 8);

@@ -38,7 +38,8 @@ def of_header(header: str) -> Set[str]:
     found = {plain(it[0]) for it in DECLARED.finditer(code)}
     found |= {plain(it) for it in STRUCT.findall(code)}
     enum = re.search(r"^enum rtnlc_code \{(.*?)^\};", header, re.M | re.S)
-    for name, says in CODE.findall(enum[1] if enum else ""):
+    for name, lines in CODE.findall(enum[1] if enum else ""):
+        says = re.sub(r"\n\s*\*", " ", lines)
         found.add(f"{name}: {' '.join(says.split()).lower()}" if says else name)
     return found
 

@@ -12,8 +12,8 @@ lint_is_silent() {
 # groff_is_silent FILE: no warning of groff, which man(1) asks.
 groff_is_silent() { [ -z "$(groff -mandoc -Tutf8 -ww "$1" 2>&1 >/dev/null)" ]; }
 
-# finds CHANGE COMMAND..: the command fails on the page once sed has changed it so.
-finds() {
+# refuses CHANGE COMMAND..: the command fails on the page once sed has changed it so.
+refuses() {
   sed "$1" "$installed_page" >"$folder/page.3" && ! cmp -s "$installed_page" "$folder/page.3" &&
     ! "${@:2}" "$folder/page.3" >/dev/null
 }
@@ -45,18 +45,18 @@ TEXT
 }
 
 check 'rtnlc(3) and the header' tests/c_library/manual.py "$installed_page"
-check 'another type is found' finds 's/^\.Fa "uint16_t number"/.Fa "uint32_t number"/' \
+check 'another type is found' refuses 's/^\.Fa "uint16_t number"/.Fa "uint32_t number"/' \
   tests/c_library/manual.py
-check 'a call that is missing is found' finds '/^\.Fn rtnlc_version/d' tests/c_library/manual.py
-check 'a field that is missing is found' finds '/^    uint32_t entries;/d' \
+check 'a call that is missing is found' refuses '/^\.Fn rtnlc_version/d' tests/c_library/manual.py
+check 'a field that is missing is found' refuses '/^    uint32_t entries;/d' \
   tests/c_library/manual.py
-check 'another word on a code is found' finds 's/^An allocation was refused/An allocation failed/' \
+check 'another word on a code is found' refuses 's/^An allocation was refused/An allocation failed/' \
   tests/c_library/manual.py
 check 'the example of rtnlc(3)' runs_example
 if has mandoc 'the form of rtnlc(3)'; then
   check 'the form of rtnlc(3)' lint_is_silent "$installed_page"
   check 'the form of rtnlc(3) in the sources' lint_is_silent "$page"
-  check 'a section in another place is found' finds 's/^\.Sh FILES/.Sh CAVEATS/' lint_is_silent
+  check 'a section in another place is found' refuses 's/^\.Sh FILES/.Sh CAVEATS/' lint_is_silent
 fi
 if has groff 'rtnlc(3) by groff'; then
   check 'rtnlc(3) by groff' groff_is_silent "$installed_page"

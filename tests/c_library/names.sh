@@ -26,7 +26,7 @@ names_all_codes() {
     <(sed -n '/codes\[\]/,/^};/p' tests/c_library/words.c | grep -oE 'RTNLC_[A-Z_]+' | sort)
 }
 
-defines_the_calls() { [ "$(declared | wc -l)" = 55 ] && diff <(declared) <(names_in "$@"); }
+defines_the_calls() { [ "$(declared | wc -l)" = 64 ] && diff <(declared) <(names_in "$@"); }
 
 # Each call of the shared library carries the version of its interface.
 carries_version() {

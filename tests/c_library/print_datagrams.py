@@ -16,11 +16,13 @@ import sys
 
 sys.dont_write_bytecode = True
 sys.path.insert(0, f"{os.path.dirname(os.path.realpath(__file__))}/../helpers")
+import counting
 import datagrams
 import mutations
 import reference
 
-MUTATIONS = 150
+# So many of each recording.
+MUTATIONS = 150 if counting.IS_WHOLE else 15
 
 
 def recorded(order):

@@ -1,5 +1,6 @@
 # The programs in this folder, built and run.
 
+whole 'nine of ten mutations'
 for order in little big; do
   for sort in recorded mutated; do
     tests/c_library/print_datagrams.py "$sort" "$order" >"$folder/$sort.$order" || exit 1
@@ -67,6 +68,9 @@ stays_in_stack() {
 # finds PROGRAM SORT ORDER: it finds what a walk finds in every region.
 finds() { sees_all "$1" "$folder/$2.$3" "$3"; }
 
+# hears PROGRAM SORT ORDER: mirrors hear all messages as notifications, and are as a model is.
+hears() { sees_all "$1" "$folder/$2.$3" "$3"; }
+
 # says_version PROGRAM: the library's version is the program's.
 says_version() { [ "rtnl $("$folder/$1")" = "$("$program" --version)" ]; }
 
@@ -97,7 +101,16 @@ all_programs() {
       check "$name: what is found in $sort datagrams, $order" finds "find $name" "$sort" "$order"
     done
   done
-  for program_name in misuse room builder; do
+  check "$name: mirror_hears.c" built mirror_hears "mirror_hears $name" "$@"
+  for order in little big; do
+    for sort in recorded mutated; do
+      check "$name: mirrors hear $sort datagrams, $order" \
+        hears "mirror_hears $name" "$sort" "$order"
+    done
+  done
+  check "$name: mirror_refused.c" built mirror_refused "mirror_refused $name" "$@" "$wraps"
+  check "$name: a mirror's allocations refused" quietly "$folder/mirror_refused $name"
+  for program_name in misuse room builder mirror; do
     check "$name: $program_name.c" built "$program_name" "$program_name $name" "$@"
     check "$name: $program_name.c runs" "$folder/$program_name $name"
   done
@@ -108,7 +121,8 @@ all_programs() {
 }
 
 all_programs plain cc -std=c99
-all_programs 'with sanitizers' cc -std=c99 -fsanitize=address,undefined -fno-sanitize-recover=all
+whole 'the programs with sanitizers' && all_programs 'with sanitizers' \
+  cc -std=c99 -fsanitize=address,undefined -fno-sanitize-recover=all
 echo "allocations refused: $(<"$folder/refusals")"
 check 'stack.c' built stack stack cc -std=c99
 check 'the stack of each call' stays_in_stack stack
@@ -120,15 +134,17 @@ for standard in c11 c17; do
   check "$standard: fixed.c" built fixed fixed cc "-std=$standard"
   check "$standard: fixed.c runs" "$folder/fixed"
 done
-for standard in c++11 c++17 c++20; do
-  for name in fixed threads stack find misuse room builder named words session stream \
-    session_threads dumps million; do
+standards=(c++11 c++17 c++20)
+whole 'most programs in C++11 and C++20' || standards=(c++17)
+for standard in "${standards[@]}"; do
+  for name in fixed threads stack find misuse room builder mirror mirror_hears named words session \
+    stream session_threads dumps million; do
     check "$standard: $name.c" built "$name" "$name" c++ "-std=$standard" -x c++
   done
-  for name in refused session_refused; do
+  for name in refused session_refused mirror_refused; do
     check "$standard: $name.c" built "$name" "$name" c++ "-std=$standard" "$wraps" -x c++
   done
-  for name in fixed misuse room builder words; do
+  for name in fixed misuse room builder mirror words; do
     check "$standard: $name.c runs" quietly "$folder/$name"
   done
 done
@@ -139,7 +155,9 @@ check 'c++11: calls on recorded datagrams' compares every recorded little
 # reads.
 echo 'int main(void) { return 0; }' >"$folder/try.c"
 thread_sanitizer=no
-if cc -fsanitize=thread "$folder/try.c" -o "$folder/try" 2>/dev/null && "$folder/try"; then
+if ! whole 'threads under ThreadSanitizer'; then
+  :
+elif cc -fsanitize=thread "$folder/try.c" -o "$folder/try" 2>/dev/null && "$folder/try"; then
   thread_sanitizer=yes
   check 'threads.c under ThreadSanitizer' built threads threads cc -std=c99 -fsanitize=thread
   check 'threads at once under ThreadSanitizer' agree threads

@@ -1,8 +1,7 @@
 /*
- * Sessions and streams in threads, over a recording: session_threads KIND SEQ PORT <RECORDING.
- * Two threads at once have a session and a stream each; then one session and one stream go from
- * thread to thread, each datagram and each entry in another one. All come to what one thread
- * alone comes to.
+ * Sessions, mirrors and streams in threads, over a recording: session_threads KIND SEQ PORT
+ * <RECORDING. Two threads at once have one of each; then one of each goes from thread to thread,
+ * each datagram and each entry in another one. All come to what one thread alone comes to.
  */
 #include "asked.h"
 #include <pthread.h>
@@ -16,6 +15,7 @@
 /* What goes from thread to thread, and the next step of it. */
 struct baton {
 	struct rtnlc_session session;
+	struct rtnlc_mirror mirror;
 	struct rtnlc_stream stream;
 	uint64_t sum;
 	size_t step;
@@ -35,14 +35,31 @@ static void begin(struct baton *it)
 	must(!rtnlc_session_begin(&it->session, kind, 0, seq, port, it->out, ROOM).code &&
 	         !rtnlc_stream_begin(&it->stream, kind, 0, seq, port, it->out, ROOM).code,
 	     "a beginning", 0);
+	must(!rtnlc_mirror_new(&it->mirror, NULL, MOST) &&
+	         !rtnlc_mirror_begin(&it->mirror, kind, 0, seq, port, it->out, ROOM).code,
+	     "a mirror's beginning", 0);
 }
 
 static void feed(struct baton *it, const struct datagram *one)
 {
 	struct rtnlc_fed fed = rtnlc_session_feed(&it->session, one->bytes, one->len);
+	struct rtnlc_heard heard =
+	    rtnlc_mirror_feed(&it->mirror, one->bytes, one->len, NULL, 0, it->out, ROOM);
+	it->sum = it->sum * 31 + heard.code + heard.visits * 3u + heard.place * 5u;
 	it->sum = it->sum * 31 + fed.items * 7u + fed.ignored * 5u + fed.code;
 	fed = rtnlc_stream_feed(&it->stream, one->bytes, one->len, it->events, EVENTS);
 	it->sum = it->sum * 31 + fed.items * 7u + fed.ignored * 5u + fed.code + fed.events * 3u;
+}
+
+/* An entry of the mirror, and its key. */
+static void read_mirrored(struct baton *it, uint32_t at)
+{
+	struct rtnlc_put put = rtnlc_mirror_entry(&it->mirror, kind, at, it->out, ROOM);
+	it->sum = added(it->sum, it->out, put.len);
+	put = rtnlc_mirror_key(&it->mirror, kind, at, it->out, ROOM);
+	it->sum = added(it->sum, it->out, put.len);
+	if (!put.code && rtnlc_mirror_find(&it->mirror, kind, it->out, put.len).index != at)
+		fail("a key of a mirror", at);
 }
 
 static void read_entry(struct baton *it, uint32_t at)
@@ -54,15 +71,19 @@ static void read_entry(struct baton *it, uint32_t at)
 	it->sum = added(it->sum, it->out, put.len);
 	if (!it->is_over && rtnlc_session_find(&it->session, kind, it->out, put.len).index != at)
 		fail("a key", at);
+	read_mirrored(it, at);
 }
 
 static void finish(struct baton *it)
 {
 	struct rtnlc_status told = rtnlc_session_status(&it->session);
+	const struct rtnlc_mirrored table = rtnlc_mirror_table(&it->mirror, kind);
+	it->sum = it->sum * 31 + table.count * 3u + table.stale;
 	it->sum = it->sum * 31 + told.visits + told.received * 3u + told.state + told.complete;
 	told = rtnlc_stream_status(&it->stream);
 	it->sum = it->sum * 31 + told.visits + told.received * 3u + told.state + told.complete;
 	rtnlc_session_free(&it->session);
+	rtnlc_mirror_free(&it->mirror);
 }
 
 /* One step: a beginning, a datagram, an entry, or the end. */

@@ -24,9 +24,11 @@ static size_t len;
 static const struct rtnlc_options widest = { 1 << 30, 1 << 20, 64, 32, false, { 0 } };
 static struct rtnlc_event events[1 << 15];
 static struct rtnlc_session session;
+static struct rtnlc_mirror mirror;
+static struct rtnlc_change changes[1 << 13];
 static struct rtnlc_stream stream;
 static struct rtnlc_message first;
-static uint8_t out[ROOM], key[ROOM];
+static uint8_t out[ROOM], key[ROOM], before[ROOM];
 static size_t key_len;
 static unsigned long code;
 
@@ -156,6 +158,49 @@ static void call_session_find(void)
 static void call_session_abandon(void) { code = rtnlc_session_abandon(&session); }
 static void call_session_free(void) { rtnlc_session_free(&session); }
 
+static void call_mirror_new(void)
+{
+	rtnlc_mirror_free(&mirror);
+	code = rtnlc_mirror_new(&mirror, &widest, 64);
+}
+
+/* Twice: what is new, and then what was before. */
+static void call_mirror_feed(void)
+{
+	const size_t room = sizeof changes / sizeof *changes;
+	rtnlc_mirror_feed(&mirror, bytes, len, changes, room, before, ROOM);
+	code = rtnlc_mirror_feed(&mirror, bytes, len, changes, room, before, ROOM).code;
+}
+
+/* Twice: what waits for the end of the first is told when that is given up. */
+static void call_mirror_begin(void)
+{
+	static uint32_t seq;
+	rtnlc_mirror_begin(&mirror, first.kind, 0, ++seq, first.port, out, ROOM);
+	rtnlc_mirror_feed(&mirror, bytes, len, NULL, 0, NULL, 0);
+	code = rtnlc_mirror_begin(&mirror, first.kind, 0, ++seq, first.port, out, ROOM).code;
+}
+
+static void call_mirror_table(void) { code = rtnlc_mirror_table(&mirror, first.kind).code; }
+
+static void call_mirror_entry(void)
+{
+	code = rtnlc_mirror_entry(&mirror, first.kind, 0, out, ROOM).code;
+}
+
+static void call_mirror_key(void)
+{
+	key_len = rtnlc_mirror_key(&mirror, first.kind, 0, key, ROOM).len;
+}
+
+static void call_mirror_find(void)
+{
+	code = rtnlc_mirror_find(&mirror, first.kind, key, key_len).code;
+}
+
+static void call_mirror_lost(void) { code = rtnlc_mirror_lost(&mirror); }
+static void call_mirror_free(void) { rtnlc_mirror_free(&mirror); }
+
 static void call_stream_new(void) { code = rtnlc_stream_new(&stream, &widest); }
 
 static void call_stream_begin(void)
@@ -207,6 +252,15 @@ static struct measured all[] = {
 	{ "session_find", call_session_find, 0 },
 	{ "session_abandon", call_session_abandon, 0 },
 	{ "session_free", call_session_free, 0 },
+	{ "mirror_new", call_mirror_new, 0 },
+	{ "mirror_feed", call_mirror_feed, 0 },
+	{ "mirror_table", call_mirror_table, 0 },
+	{ "mirror_entry", call_mirror_entry, 0 },
+	{ "mirror_key", call_mirror_key, 0 },
+	{ "mirror_find", call_mirror_find, 0 },
+	{ "mirror_begin", call_mirror_begin, 0 },
+	{ "mirror_lost", call_mirror_lost, 0 },
+	{ "mirror_free", call_mirror_free, 0 },
 	{ "stream_new", call_stream_new, 0 },
 	{ "stream_begin", call_stream_begin, 0 },
 	{ "stream_feed", call_stream_feed, 0 },
@@ -262,6 +316,11 @@ static void hold_deep(size_t levels)
 	if (code || rtnlc_session_entry(&session, 16, 0, out, ROOM).len != len)
 		fail("the entry of a deep message", levels);
 	rtnlc_session_free(&session);
+	call_mirror_new();
+	call_mirror_feed();
+	if (code || changes[0].effect != RTNLC_CHANGED || changes[0].before_len != len)
+		fail("what a deep message was before", levels);
+	rtnlc_mirror_free(&mirror);
 	free((void *)(uintptr_t)bytes);
 }
 

@@ -30,14 +30,18 @@ NAMES = {
     "Status": "rtnlc_status",
     "TableSize": "rtnlc_table",
     "FoundEntry": "rtnlc_found",
+    "Change": "rtnlc_change",
+    "Heard": "rtnlc_heard",
+    "Mirrored": "rtnlc_mirrored",
     "Metric": "rtnlc_metric",
     "NextHop": "rtnlc_next_hop",
 } | {f"{it.title()}Fields": f"rtnlc_{it}_request"
      for it in ("link", "addr", "route", "neigh", "rule")}
-# What C keeps of a session has no field that is compared: c/rtnlc.c makes the one of the other. A
-# builder for C has the buffer beside what the code keeps. Bytes of a request are a slice in the
-# code, and the gateway of a next hop is spread over its fields in C.
-APART = ("rtnlc_session", "Handle", "rtnlc_builder", "rtnlc_bytes", "Gateway")
+# What C keeps of a session or a mirror has no field that is compared: c/rtnlc.c makes the one of
+# the other. A builder for C has the buffer beside what the code keeps. Bytes of a request are a
+# slice in the code, and the gateway of a next hop is spread over its fields in C.
+APART = ("rtnlc_session", "Handle", "rtnlc_mirror", "MirrorHandle", "rtnlc_builder", "rtnlc_bytes",
+         "Gateway")
 # Fields that have another name in C, where a field `sort` is enum rtnlc_sort.
 FIELDS = {("RouteFields", "sort"): "route_type"}
 # Where code stands whose structs are laid out as in C, beside rtnl_c.
@@ -49,7 +53,7 @@ TYPES |= {"i32": "int32_t", "usize": "size_t", "bool": "bool"}
 TYPES |= {name: f"struct {it}" for name, it in NAMES.items()}
 # What stands for a parameter of the code; one of the type Global takes no place.
 PARAMETERS = {"Global": []} | {name: [it] for name, it in TYPES.items()}
-for name in ("u8", "Event"):
+for name in ("u8", "Event", "Change"):
     PARAMETERS[f"&[{name}]"] = [f"const {TYPES[name]} *", "size_t"]
     PARAMETERS[f"&mut [{name}]"] = [f"{TYPES[name]} *", "size_t"]
 for name in NAMES:
@@ -60,6 +64,7 @@ PARAMETERS["&mut Kept"] = ["struct rtnlc_stream *"]
 PARAMETERS["&KeptBuilder"] = ["const struct rtnlc_built *"]
 PARAMETERS["&mut KeptBuilder"] = ["struct rtnlc_built *"]
 PARAMETERS["&mut Handle"] = ["struct rtnlc_session *"]
+PARAMETERS["&mut MirrorHandle"] = ["struct rtnlc_mirror *"]
 
 
 def text_of(file):
@@ -164,7 +169,8 @@ def main():
     calls = calls_in_code(code)
     # A text is of bytes in the code, and of characters in the header.
     declared = calls_in_c(re.sub(r" char \*(out|text)", r" uint8_t *\1", header), "rtnlc")
-    glue = plain(text_of("c/rtnlc.c")).replace("struct handle *", "struct rtnlc_session *")
+    glue = plain(text_of("c/rtnlc.c"))
+    glue = re.sub(r"(_(session|mirror)_\w+\()struct handle \*", r"\1struct rtnlc_\2 *", glue)
     between = calls_in_c(glue, "proved")
     structs, known = structs_in_c(header), structs_in_code(code) | others
     for name in APART:

@@ -3,7 +3,7 @@
 for name in wrong null; do
   check "$name.c" built "$name" "$name" cc -std=c99
   check "$name.c runs" "$folder/$name"
-  if has valgrind "$name.c under valgrind"; then
+  if whole "$name.c under valgrind" && has valgrind "$name.c under valgrind"; then
     check "$name.c under valgrind" \
       valgrind -q --leak-check=full --error-exitcode=9 "$folder/$name"
   fi

@@ -1,5 +1,6 @@
-"""Each read of standard input, and each write to standard output, of `rtnl follow` that goes wrong
-in turn, by faults.c: it fails, or takes only a part of the bytes, or none."""
+"""Each read of standard input, and each write to standard output, of `rtnl follow` and of
+`rtnl mirror` that goes wrong in turn, by faults.c: it fails, or takes only a part of the bytes, or
+none."""
 import errno
 import os
 import re
@@ -7,7 +8,9 @@ import struct
 import subprocess
 from itertools import islice
 
+import counting
 import proved
+import reference_mirror
 from proved import ROOT
 
 PROGRAM = proved.program()
@@ -16,7 +19,9 @@ DUMP = "routes"
 HEADER = struct.Struct("<IHHII")
 # So many bytes a read has: lines end within reads, at their ends, and lie over many.
 PIECE = 250
-FORMS = [], ["--color", "always"], ["--format", "json"], ["--bytes"]
+FORMS = [[], ["--color", "always"], ["--format", "json"], ["--bytes"]]
+if not counting.whole("faults in other forms than text"):
+    FORMS = FORMS[:1]
 # What a datagram's text begins with.
 FIRST = re.compile(r'^(?=datagram |\{"datagram":)', re.M)
 # What an entry of a dump begins with.
@@ -48,6 +53,8 @@ def datagrams_of(text):
 class Faulty:
     """The program over a recording, in one form; beside it, what `show` prints of each datagram."""
 
+    command = "follow"
+
     def __init__(self, library, form):
         self.library, self.form = library, form
         self.recording = recorded()
@@ -59,7 +66,7 @@ class Faulty:
         run = subprocess.run(
             [PROGRAM, command, *self.form],
             input=self.recording,
-            env=given if command == "follow" else None,
+            env=given if command == self.command else None,
             capture_output=True,
             text=True,
         )
@@ -67,18 +74,21 @@ class Faulty:
 
     def is_as(self, fault, status, count, errors, more=""):
         """A case: with this fault it ends so, after the texts of so many datagrams, and more."""
-        found = self.ran("follow", fault)
+        found = self.ran(self.command, fault)
         wanted = (status, "".join(self.texts[:count]) + more, errors)
-        name = " ".join(["fault", fault or "none", *self.form])
+        name = " ".join(["fault", self.command, fault or "none", *self.form])
         yield name, [] if found == wanted else [f"{found[0]}, {len(found[1])} bytes, {found[2]!r}"]
+
+    def told_of(self, front):
+        """How many texts the whole lines of a front have."""
+        return datagrams_of(front)
 
     def reads(self):
         """Each read fails: the texts of all whole lines that were read before are there."""
         # The last read has no byte.
         count = -(-len(self.recording) // PIECE) + 1
         for number in range(1, count + 2):
-            front = self.recording[: (number - 1) * PIECE]
-            whole = datagrams_of(front)
+            whole = self.told_of(self.recording[: (number - 1) * PIECE])
             is_made = number <= count
             errors = reason(READ_FAULT, errno.EIO)
             ended = (3, whole, errors) if is_made else (0, len(self.texts), "")
@@ -138,6 +148,25 @@ class FaultyDump(Faulty):
             yield from self.is_as(f"read {number} part", 0, len(self.texts), "")
 
 
+class FaultyMirror(Faulty):
+    """The program over dumps and notifications: what each line changes is written by a call, and is
+    what the second reading says."""
+
+    command, form = "mirror", ["--changes"]
+
+    def __init__(self, library):
+        self.library, mirror = library, reference_mirror.Mirror("<")
+        with open(f"{ROOT}/examples/mirror.hex", encoding="ascii") as lines:
+            self.recording = lines.read()
+        steps = enumerate(self.recording.encode().split(b"\n"), 1)
+        changes = [[*mirror.step(*it, list(mirror.of))] for it in steps]
+        self.by_line = [reference_mirror.text(it, True) for it in changes]
+        self.texts = [it for it in self.by_line if it]
+
+    def told_of(self, front):
+        return sum(map(bool, self.by_line[: front.count("\n")]))
+
+
 def cases(folder):
     """The cases; the library is made in this folder."""
     library = f"{folder}/faults.so"
@@ -154,3 +183,7 @@ def cases(folder):
     yield "fault: what table prints of the dump", dump.wrong
     yield from dump.reads()
     yield from dump.writes()
+    mirror = FaultyMirror(library)
+    yield "fault: what is told of changes", [] if len(mirror.texts) > 15 else ["too few texts"]
+    yield from mirror.reads()
+    yield from mirror.writes()

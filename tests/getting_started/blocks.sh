@@ -1,11 +1,11 @@
 # The commands that a page shows behind `$ `, and what is shown behind them. A block is live
 # where it asks the kernel of this machine; of its output the words behind `bytes`, `seq`, `port`,
-# `entries`, `received` and `visits` are not compared.
+# `entries`, `received` and `visits`, and the times in an address's CACHEINFO, are not compared.
 
 # masked FILE: what is compared of it.
 masked() {
   local numbers=''
-  [ "$live" = no ] || numbers='s/\<(bytes|seq|port|entries|received|visits) [0-9a-f]+/\1 N/g'
+  [ "$live" = no ] || numbers='s/\<(bytes|seq|port|entries|received|visits|CACHEINFO - hex) [0-9a-f]+/\1 N/g'
   sed -E "/^($notes)\$/d; $numbers" "$1"
 }
 

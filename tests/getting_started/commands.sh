@@ -1,23 +1,50 @@
-# The commands of README.md.
+# The commands of README.md and of docs/TUTORIAL.md, each with its whole output.
 
-# finds_change SECTION CHANGE: with this change the commands of a section of README.md don't show
-# what it says.
+tutorial=docs/TUTORIAL.md
+
+# finds_change PAGE SECTION CHANGE: with this change the commands of a section don't show what it
+# says. Files that those before it made are there.
 finds_change() {
   (
     failed=0
-    run_page 'a changed section' < <(sed -n "/^## $1\$/,/^## /p" README.md | sed "$2") >/dev/null
+    run_page 'a changed section' < <(sed -n "/^## $2\$/,/^## /p" "$1" | sed "$3") >/dev/null
     [ "$failed" = 1 ]
   )
 }
 
-run_page README.md <README.md
-check 'commands of README.md' runs_all README.md
-check 'a changed refusal is found' finds_change 'What a broken datagram gives' \
+# sources: the commands of README's table of what one may have.
+sources() { sed -n '/^| you have | run |$/,/^$/s/^.* | `\(rtnl-record [^`]*\)`.*/\1/p' README.md; }
+
+# shows_source COMMAND: what it records is shown, or followed where it goes on until it is ended.
+shows_source() {
+  local reader=show
+  [[ $1 != *' monitor' ]] || reader=follow
+  (cd "$user" && PATH=$user:$PATH bash -c "set -o pipefail
+    ${1/#rtnl-record monitor/timeout 1 rtnl-record monitor} | rtnl $reader") >"$folder/found" 2>&1
+  case $?,$reader in
+    124,follow) [ ! -s "$folder/found" ] ;;
+    0,show) grep -q '^message ' "$folder/found" ;;
+    *) return 1 ;;
+  esac
+}
+
+for page in README.md "$tutorial"; do
+  run_page "$page" <"$page"
+  check "commands of $page" runs_all "$page"
+done
+check 'a changed refusal is found' finds_change README.md 'See it' \
   's/^datagram 1 refused bad length at 40$/datagram 1 refused bad length at 44/'
-check 'a missing line is found' finds_change 'The command' '/^datagram 1 accepted$/d'
+check 'a missing line is found' finds_change "$tutorial" 'When it is refused' \
+  '/^datagram 1 accepted$/d'
+check 'all sources of README.md' [ "$(sources | wc -l)" = 6 ]
+while IFS= read -r command; do
+  if [[ $command != *@(dump|monitor)* ]] || has_namespace "$command"; then
+    check "README.md: $command" shows_source "$command"
+  fi
+done < <(sources)
 if has_namespace 'a changed live block'; then
-  check 'a change in a live block is found' finds_change 'From a capture' \
-    's/^complete yes$/complete no/'
-  check 'a change of a word that is compared is found' finds_change 'From a capture' \
-    's/ missed 0 / missed 1 /'
+  check 'a change in a live block is found' finds_change "$tutorial" 'Is the dump complete' \
+    's/^complete yes$/complete no/;/ links.hex /,$d'
+  check 'a change of a word that is compared is found' finds_change "$tutorial" \
+    'Is the dump complete' 's/ missed 0 / missed 1 /'
 fi

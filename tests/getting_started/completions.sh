@@ -16,7 +16,7 @@ in_fish() {
 completed() {
   local shell=$1 command
   check "$shell: a command" completes "$shell" show rtnl sh
-  check "$shell: all commands" completes "$shell" 'check follow help request show table' rtnl ''
+  check "$shell: all commands" completes "$shell" 'check follow help mirror request show table' rtnl ''
   check "$shell: an option" completes "$shell" --kind rtnl table --k
   check "$shell: an option of the program" completes "$shell" --version rtnl --v
   check "$shell: byte orders" completes "$shell" 'big little' rtnl show --order ''
@@ -28,9 +28,11 @@ completed() {
   check "$shell: colours of what is followed" completes "$shell" 'always auto never' rtnl follow --color ''
   check "$shell: options of follow" completes "$shell" '--seq --strict' rtnl follow --s
   check "$shell: kinds that are followed" completes "$shell" 'addr link neigh route rule' rtnl follow --kind ''
+  check "$shell: options of mirror" completes "$shell" '--changes' rtnl mirror --c
+  check "$shell: no number that waits" completes "$shell" '' rtnl mirror --waiting ''
   check "$shell: no option of show" completes "$shell" '' rtnl show --s
   check "$shell: help of a command" completes "$shell" table rtnl help t
-  for command in show follow check table request; do
+  for command in show follow check table mirror request; do
     check "$shell: options of $command" completes "$shell" \
       "$(helped "$command" | grep -e '^--' | tr '\n' ' ' | sed 's/ $//')" rtnl "$command" --
   done
@@ -81,6 +83,7 @@ check 'two prefixes' ends 2 '' 'install: more than one PREFIX; see --help' "$use
 check 'an unknown option' ends 2 '' "install: unknown option '--unknown'; see --help" "$user/install" --unknown
 check 'no home folder' ends 2 '' 'install: HOME is not set; name a PREFIX' env -u HOME "$user/install"
 check 'an empty prefix' ends 2 '' 'install: PREFIX is empty; see --help' "$user/install" ''
-check 'a prefix that cannot be made' ends 3 '' "install: $prefix/bin/other/share/rtnl could not be made" \
+check 'a prefix that cannot be made' ends 3 '' \
+  "install: $prefix/bin/other/share/rtnl could not be made: Not a directory; name another PREFIX" \
   "$user/install" "$prefix/bin/other"
 check 'the prefix is as it was' diff "$folder/before" <(listed "$prefix")

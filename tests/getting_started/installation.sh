@@ -7,7 +7,7 @@ things=(bin/rtnl share/man/man1/rtnl.1 share/bash-completion/completions/rtnl sh
   share/fish/vendor_completions.d/rtnl-record.fish)
 for module in record/*.py; do things+=("share/rtnl-record/${module##*/}"); done
 page_is_built=no
-! launch/page.py >/dev/null || page_is_built=yes things+=(share/rtnl/rtnl.html)
+! packaging/page.py >/dev/null || page_is_built=yes things+=(share/rtnl/rtnl.html)
 things+=(share/rtnl/installed)
 
 # listed FOLDER: everything in it, with its kind, its mode and the sum of a file.

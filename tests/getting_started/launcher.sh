@@ -70,7 +70,7 @@ check 'a proof that fails' fails_in_proof
 check 'a proved program that is current' stays_proved
 check 'its version' says_which 'proved on this machine' start
 check 'the version of a program without the mark of a proof' says_unmarked
-for file in crates/nl_table/src/lib.rt crates/nl_table/specs crates/rtnl_cli/proofs; do
+for file in crates/nl_table/src/lib.rt crates/nl_table/specs crates/rtnl/proofs; do
   check "a proved program that is not current, by $file" stale_is_not_run "$file"
 done
 check 'a proved program is asked for' none_but_proved

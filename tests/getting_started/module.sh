@@ -46,6 +46,10 @@ ask_module() {
     check "the entry of a table: $name" asks table "$name == .${name%s}" true
     check "no $name in a check" asks check "$name" ''
   done
+  # Of a mirror's lines one link is an entry; a link, a route and a rule are new, and one of each kind came again.
+  check 'what is there of a mirror' asks mirror \
+    '[(links | "link"), (addrs | "addr"), (routes | "route"), (neighs | "neigh"), (rules | "rule")] | select(. != [])' \
+    $'["link"]\n["link"]\n["route"]\n["rule"]\n["link"]\n["addr"]\n["route"]\n["neigh"]\n["rule"]'
   check 'bodies of other messages' asks show 'bodies("noop", "other"), bodies("error").code,
     bodies("done").status, bodies("getrule").family' $'""\n"abcd"\n-1\n0\n4'
   check 'next hops' asks show 'routes | [attr("GATEWAY"), (hops | [.index, attr("GATEWAY")])]' \

@@ -2,7 +2,7 @@
 
 # The program, with its commands and its page.
 of=rtnl
-commands_of=(show follow check table request)
+commands_of=(show follow check table mirror request)
 page=share/man/man1/rtnl.1
 
 # helped COMMAND: the options in the help of this command, or of the program.

@@ -89,7 +89,7 @@ follows_no_change() {
 
 # each_case WHO: what is put with the words of now, which is $put_things.
 each_case() {
-  local place above
+  local place above places
   mapfile -t put_in < <(printf '%s\n' "${put_things[@]%/*}" | sort -u)
   check "$1: links named .new" follows_no_new
   check "$1: a folder that becomes a link" follows_no_change
@@ -97,7 +97,9 @@ each_case() {
     check "$1: a link in place of the folder $above" refuses_link "$above"
   done < <(printf '%s\n' "${put_in[@]}" |
     awk -F/ '{ it = $1; print it; for (n = 2; n <= NF; n++) print it = it "/" $n }' | sort -u)
-  for place in "${put_things[@]}"; do
+  places=("${put_things[@]}")
+  whole "$1: most places of what is put" || places=("${put_things[0]}" "${put_things[-2]}" "${put_things[-1]}")
+  for place in "${places[@]}"; do
     check "$1: a link in place of $place" refuses_in_place "$place" ln -s "$outside/file"
   done
   for place in "${put_things[0]}" share/rtnl/installed; do
@@ -105,7 +107,7 @@ each_case() {
     check "$1: a pipe in place of $place" refuses_in_place "$place" mkfifo
     check "$1: a folder in place of $place" refuses_in_place "$place" mkdir
   done
-  for place in "${put_things[@]::${#put_things[@]}-1}"; do
+  for place in "${places[@]::${#places[@]}-1}"; do
     check "$1: a file in place of $place" refuses_in_place "$place" cp "$outside/file"
   done
   check "$1: a hard link in place of ${put_things[0]}" \
@@ -165,7 +167,7 @@ all_cases() {
 }
 
 all_cases "$(id -un)"
-if [ "$has_users" = yes ]; then
+if [ "$has_users" = yes ] && whole 'hostile prefixes of another user'; then
   runner=(setpriv --reuid 65533 --regid 65533 --clear-groups)
   all_cases 'a user'
 fi

@@ -35,6 +35,10 @@ completed_recorder() {
   check "$shell: kinds of a dump" completes "$shell" 'addr link neigh route rule' rtnl-record dump ''
   check "$shell: groups" completes "$shell" "$(groups_in_help | xargs)" rtnl-record monitor ''
   check "$shell: another group" completes "$shell" 'neigh' rtnl-record monitor link nei
+  check "$shell: kinds of the monitor's dumps" completes "$shell" 'addr link neigh route rule' \
+    rtnl-record monitor --dump ''
+  check "$shell: one more kind" completes "$shell" 'addr,route addr,rule' rtnl-record monitor --dump addr,r
+  check "$shell: no kind of a file" completes "$shell" '' rtnl-record monitor --again no-such
   check "$shell: no number of the recorder" completes "$shell" '' rtnl-record dump --buffer ''
   for command in dump monitor pcap rtmon strace xxd; do
     check "$shell: options of the recorder's $command" completes "$shell" "$(options_of "$command")" \

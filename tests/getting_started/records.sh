@@ -180,7 +180,7 @@ record_cases() {
 
 runner=()
 record_cases "$(id -un)"
-if [ "$has_users" = yes ]; then
+if [ "$has_users" = yes ] && whole 'records of another user'; then
   runner=(setpriv --reuid 65533 --regid 65533 --clear-groups)
   record_cases 'a user'
 fi

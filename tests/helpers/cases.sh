@@ -26,6 +26,9 @@ makes_library() {
 # has COMMAND WHAT: the command is here, or a line says that this is skipped.
 has() { command -v "$1" >/dev/null || ! echo "skipped: $2, since $1 is not here"; }
 
+# whole WHAT: all is tried, as the gate does; tests/run --quick leaves this out, and a line says so.
+whole() { [ -z "${RTNL_QUICK-}" ] || ! echo "left out: $1"; }
+
 # ends STATUS OUTPUT ERRORS COMMAND..: the command ends with this status and writes exactly this.
 ends() {
   local status=$1 output=$2 errors=$3 found

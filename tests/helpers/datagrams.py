@@ -9,6 +9,7 @@ import itertools
 import random
 import struct
 
+import counting
 import mutations
 import reference
 from reference import ROOT
@@ -26,7 +27,10 @@ RECORDINGS = {
     "tests/data/recordings/no_neighbours": "neigh",
     "tests/data/recordings/default_rules": "rule",
 }
-MUTATIONS, FED = 1000, 10
+# So many mutations of each recording, datagrams that one run of `table` is fed at most, and
+# datagrams and dumps that are generated.
+MUTATIONS, FED = 1000 if counting.IS_WHOLE else 50, 10
+GENERATED, ASKED = (4000, 1100) if counting.IS_WHOLE else (200, 60)
 KINDS = (*reference.SORTS, 0, 1, 4, 5, 15, 23, 27, 31, 35, 40, 65535)
 CHANGES = (0, 1, 3, 4, 5, 8, 9, 16, 18, 32, 34, 64, 128, 255)
 DEPTHS, ENTRIES = (0, 1, 2, 8, 32), (0, 1, 2, 3, 4096)
@@ -276,10 +280,11 @@ def groups(order):
     choose = random.Random(f"rtnetlink {order}")
     whole = [text for _, _, *both in recordings(order) for texts in both for text in texts]
     short = [text for text in whole if len(text) <= 400]
-    new = [generated(choose, order) for _ in range(4000)]
+    new = [generated(choose, order) for _ in range(GENERATED)]
     yield "recorded", whole
     yield "recorded and cut", [text[:place] for text in short for place in range(1, len(text))]
-    yield "recorded and changed", [changed(choose, choose.choice(whole)) for _ in range(8000)]
+    count = 2 * GENERATED
+    yield "recorded and changed", [changed(choose, choose.choice(whole)) for _ in range(count)]
     yield "generated", new
     yield "generated and cut", [cut(choose, text) for text in new]
     yield "generated and changed", [changed(choose, text) for text in new for _ in range(2)]
@@ -496,7 +501,7 @@ def table_groups(order):
         for *ids, whole, alone in found
         for texts in [whole, alone] * 20
     ]
-    new = [asked_and_dump(choose, order) for _ in range(1100)]
+    new = [asked_and_dump(choose, order) for _ in range(ASKED)]
     yield "generated", new
     yield "generated and changed", [(it, damaged(choose, texts)) for it, texts in new[:400]]
     yield "large", large(order)

@@ -11,7 +11,7 @@ code() { grep -HvE '^[[:space:]]*//' "$@"; }
 
 sources() {
   find crates -path '*/src/*.rt' -not -path '*/out/*' -not -path 'crates/rtnl_rows/*' \
-    -not -path 'crates/rtnl_uses/*' -not -path 'crates/rtnl_calls/*' | LC_ALL=C sort
+    -not -path 'crates/rtnl_uses/*' | LC_ALL=C sort
 }
 
 # lines PATTERN [FILE..]: the lines of code with it, in these files or in all.
@@ -187,11 +187,13 @@ crates/nl_dump/src/straining.rt 1
 crates/nl_frame/src/body.rt 3
 crates/nl_frame/src/reading.rt 3
 crates/nl_frame/src/scanning.rt 1
+crates/nl_mirror/src/mirror.rt 1
 crates/nl_route/src/object.rt 2'
 
 same 'a tally is ended without its visits by those who answer none' "$(counts '\.into_result\(')" \
   'crates/nl_frame/src/canonical.rt 1
 crates/rtnl/src/bytes/tape.rt 1
+crates/rtnl/src/runs/mirror.rt 1
 crates/rtnl/src/runs/show.rt 2
 crates/rtnl_bench/src/main.rt 1
 crates/rtnl_c/src/broken.rt 1'
@@ -207,7 +209,9 @@ crates/nl_dump/src/picking.rt 1
 crates/nl_dump/src/reading.rt 1
 crates/nl_frame/src/canonical.rt 1
 crates/nl_frame/src/reading.rt 6
+crates/nl_mirror/src/mirror.rt 1
 crates/nl_route/src/object.rt 4
+crates/rtnl/src/runs/mirror.rt 1
 crates/rtnl/src/runs/show.rt 2'
 
 same 'each family is read by one arm' "$(counts 'read_body_ordered \$')" 'crates/nl_route/src/family.rt 5'
@@ -237,9 +241,10 @@ same 'they are added, and nothing else' \
   'self.visits += visits;
 self.visits += visits;'
 
-same 'the datagrams of a table are read by the session alone, and those of a dump for C by a session or a stream' \
+same 'the datagrams of a table are read by the session alone, and those for C by a session, a stream or a mirror' \
   "$(counts '\.feed\(')" \
   'crates/rtnl/src/runs/table.rt 1
+crates/rtnl_c/src/hearing.rt 1
 crates/rtnl_c/src/session.rt 1
 crates/rtnl_c/src/stream.rt 1
 crates/rtnl_cli/src/explain.rt 1'

@@ -31,10 +31,12 @@ differs() {
 }
 
 check 'the same bytes again' again
-if [ -z "$(git status --porcelain)" ]; then
-  check 'a clone' cloned
-  check 'the same bytes elsewhere' eval '(elsewhere)'
-else
-  echo 'skipped: the same bytes elsewhere, since there are changes that are not committed'
+if whole 'packages that are made elsewhere, and at another time'; then
+  if [ -z "$(git status --porcelain)" ]; then
+    check 'a clone' cloned
+    check 'the same bytes elsewhere' eval '(elsewhere)'
+  else
+    echo 'skipped: the same bytes elsewhere, since there are changes that are not committed'
+  fi
+  check 'other bytes of another time' eval '(differs)'
 fi
-check 'other bytes of another time' eval '(differs)'

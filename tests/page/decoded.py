@@ -9,6 +9,7 @@ from browser import SMOOTH, Browser, soonest
 from expected import (ROOT, as_lines, datagrams_of, differ, explained, recordings, run, shown)
 
 sys.path.insert(0, f"{ROOT}/tests/helpers")
+import counting
 import datagrams
 import mutations
 import reference
@@ -18,6 +19,8 @@ ORDERS = datagrams.ORDERS
 # Each so many-th of the mutations of the recordings, 5,000 in all, and of those whose faults are
 # gone to.
 STEP, GONE_TO = 4, 16
+# So many recordings have their rows walked.
+WALKED = 8 if counting.whole("19 of 20 mutations, and the rows of most recordings") else 2
 KINDS = {"links": "link", "addresses": "addr", "routes": "route", "neighbours": "neigh",
          "rules": "rule"}
 
@@ -107,7 +110,7 @@ def is_body(row: dict) -> bool:
 
 def every_row(browser: Browser) -> Iterator[Case]:
     """Each row of the tree marks the bytes of its head, as the second reading has them."""
-    for name, lines in itertools.islice(recordings(), 8):
+    for name, lines in itertools.islice(recordings(), WALKED):
         data = max(datagrams_of(lines), key=len)[:2000] if lines.strip() else b""
         found = mutations.heads(data, "<")
         browser.paste(data.hex())

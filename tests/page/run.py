@@ -1,4 +1,3 @@
-#!/usr/bin/env python3
 """run.py PAGE [--pictures]: tries a built page; see tests/page.sh."""
 import os
 import sys
@@ -7,6 +6,7 @@ from typing import Iterator, List, Tuple
 
 sys.dont_write_bytecode = True
 sys.path.insert(0, f"{os.path.dirname(os.path.realpath(__file__))}/../helpers")
+import counting
 import decoded
 import pictures
 import scripts
@@ -15,7 +15,6 @@ import troubles
 import used
 import wrong_pages
 from browser import Browser
-from counting import counted
 
 Case = Tuple[str, List[str]]
 
@@ -32,16 +31,17 @@ def cases(page: str) -> Iterator[Case]:
         yield from used.policy(browser)
     finally:
         browser.close()
-    yield from troubles.cases(page)
-    yield from used.older(page)
-    yield from wrong_pages.cases(page)
+    if counting.whole("troubles, older browsers, and changed pages, each of which is found wrong"):
+        yield from troubles.cases(page)
+        yield from used.older(page)
+        yield from wrong_pages.cases(page)
 
 
 def main(words: List[str]) -> int:
     page = os.path.realpath(words[0])
     if "--pictures" in words:
         pictures.make(page)
-    return counted(cases(page))
+    return counting.counted(cases(page))
 
 
 if __name__ == "__main__":

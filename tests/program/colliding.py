@@ -4,8 +4,9 @@
   colliding.py PROGRAM
 
 The hash multiplies what it has by the last eight bytes of an address and by a constant: where they
-are the same, what came before is forgotten. Each way is run some times in turn, and the least time of
-the processor counts. The status is 1 where the first takes more than 1.5 times the second.
+are the same, what came before is forgotten. Each way is run some times in turn, and the least time
+of the processor counts: the kernel's with it, since which of them a tick falls into is chance. The
+status is 1 where the first takes more than 1.5 times the second.
 """
 import os
 import struct
@@ -41,7 +42,7 @@ def seconds(program: str, path: str) -> float:
         ran.returncode = os.waitstatus_to_exitcode(status)
     if entries != COUNT:
         sys.exit(f"{entries} entries of {COUNT}")
-    return used.ru_utime
+    return used.ru_utime + used.ru_stime
 
 
 def kept(folder: str, end: int) -> str:

@@ -22,6 +22,10 @@ for sort in pipe socket; do
   done
   check "unwaited $sort: check" comes_through "$sort" check "$folder/many_ends"
   check "unwaited $sort: table" comes_through "$sort" table --entries 10000 "$folder/many_entries"
+  for command in 'mirror' 'mirror --changes' 'mirror --format json'; do
+    read -ra words <<<"$command --kind link --entries 10000"
+    check "unwaited $sort: $command" comes_through "$sort" "${words[@]}" "$folder/many_entries"
+  done
 done
 
 # errors_come_through SORT: each of a hundred thousand bad lines is named.

@@ -23,8 +23,10 @@ for arguments in '' '--unknown' 'other' 'dum link' 'dump' 'dump links' 'dump lin
   'dump link --family -1' 'dump link --family 256' 'dump link --family +1' 'dump link --family 0x1' \
   'dump link --fam 2' 'dump link --buffer 0' 'dump link --buffer 1048577' 'dump link --buffer 1e3' \
   'dump link --netns' 'dump link --time' 'monitor links' 'monitor LINK' 'monitor none' 'monitor link --family 2' \
-  'monitor --timeout 1' 'pcap' 'pcap one two' 'rtmon' 'rtmon one two' 'strace one two' 'strace --unknown' \
-  'xxd one two' 'xxd --cook' 'xxd --version' '--version=1' '--vers'; do
+  'monitor --timeout 1' 'monitor --dump' 'monitor --dump links' 'monitor --dump=' 'monitor --dump link,' \
+  'monitor --dump link,,addr' 'monitor --dump link --dump ,' 'monitor --dum link' 'monitor --again' \
+  'monitor --aga none' 'dump link --again none' 'pcap' 'pcap one two' 'rtmon' 'rtmon one two' 'strace one two' \
+  'strace --unknown' 'xxd one two' 'xxd --cook' 'xxd --version' '--version=1' '--vers'; do
   # shellcheck disable=SC2086
   usage $arguments
 done
@@ -42,6 +44,10 @@ for command in pcap rtmon strace xxd; do
   check "$command: closed input" ends 3 '' 'rtnl-record: standard input is closed' without_input "$command" -
   check "$command: closed output" ends 3 '' 'rtnl-record: standard output is closed' without_output "$command" -
 done
+check 'no such pipe' ends 3 '' "rtnl-record: $folder/none: $read_errors" record monitor --again "$folder/none"
+check 'a folder for a pipe' ends 3 '' "rtnl-record: $folder: Is a directory" record monitor --again "$folder"
+check 'control characters in the name of a pipe' ends 3 '' "rtnl-record: no\\x1b[31m: $read_errors" \
+  record monitor --again $'no\e[31m'
 check 'control characters in a name' ends 3 '' 'rtnl-record: no\x1b[31m\nfile: '"$read_errors" \
   record pcap $'no\e[31m\nfile'
 check 'a name that is damaged, with its capture' ends 1 '' \

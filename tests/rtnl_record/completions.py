@@ -1,8 +1,8 @@
 #!/usr/bin/env python3
 """Types `rtnl-record dump link --netns` with a tab in bash, zsh and fish, where the one network
 namespace that `ip` lists has a hostile name: the command that is entered then names just that one,
-and nothing that stands in the name was run. The last line is 'N passed, M failed', and the status
-is 1 where a case failed.
+and nothing that stands in the name was run. The kinds and the file of a monitor are completed, too.
+The last line is 'N passed, M failed', and the status is 1 where a case failed.
 """
 import os
 import pty
@@ -35,6 +35,12 @@ LEFT_OUT = {"fish": ["~", "~root"]}
 DASHED = ["-dash", f"--$({RUN})"]
 # What is typed in front of the tab, and the rest of the name.
 QUOTED = [("'t", "two words"), ("'i", "it's"), ("'$", f"$({RUN})")]
+# What is typed behind the monitor, and the words that come of it: kinds, and a file of the folder.
+MONITORED = [
+    ("--dump ne", ["--dump", "neigh"]), ("--dump=ru", ["--dump=rule"]),
+    ("--dump link,ne", ["--dump", "link,neigh"]), ("--dump=rule,ad", ["--dump=rule,addr"]),
+    ("--again nam", ["--again", "names"]), ("--again=nam", ["--again=names"]),
+]
 START = {
     "bash": f". '{ROOT}/share/completions/rtnl-record.bash'",
     "zsh": f"fpath=('{ROOT}/share/completions' $fpath); autoload -Uz compinit; compinit -D -u",
@@ -98,11 +104,15 @@ class Shell:
         """What is wrong with the words that come of this, typed with a tab."""
         with open(f"{self.folder}/names", "w", encoding="utf-8") as file:
             file.write(f"{name} (id: 7)\n")
-        self.type(f"rtnl-record dump link --netns{typed}\t")
+        wrong = self.compared(f"dump link --netns{typed}", words)
+        return wrong + (["it was run"] if os.path.exists(f"{self.folder}/PWNED") else [])
+
+    def compared(self, typed: str, words: List[str]) -> List[str]:
+        """The words that come of this, typed with a tab, where they are others."""
+        self.type(f"rtnl-record {typed}\t")
         self.type("\r")
         found = self.asked()
-        wrong = [] if found == words else [f"{found} for {words}"]
-        return wrong + (["it was run"] if os.path.exists(f"{self.folder}/PWNED") else [])
+        return [] if found == words else [f"{found} for {words}"]
 
     def end(self) -> None:
         os.kill(self.process, signal.SIGKILL)
@@ -120,6 +130,8 @@ def cases(shell: Shell) -> Iterator[Tuple[str, List[str]]]:
         yield f"{name} behind the sign", shell.judged(name, "=", [*front, f"--netns={name}"])
     for typed, name in QUOTED:
         yield f"{typed} of {name}", shell.judged(name, f" {typed}", [*front, "--netns", name])
+    for typed, words in MONITORED:
+        yield typed, shell.compared(f"monitor {typed}", ["monitor", *words])
 
 
 def main() -> int:

@@ -6,7 +6,7 @@ had queued when it said so. They come from a socket that is made here. The last 
 import errno
 import os
 import sys
-from typing import Iterator, List, Tuple
+from typing import Iterator, List, Optional, Tuple
 
 sys.dont_write_bytecode = True
 TESTS = os.path.dirname(os.path.dirname(os.path.realpath(__file__)))
@@ -67,13 +67,13 @@ class Socket:
 class Interrupt:
     """Comes where the socket has nothing more, or is asked to."""
 
-    def comes_before(self, link: Socket) -> bool:
-        return link.is_ended or not link.steps
+    def ready(self, files: List[Socket], _: Optional[float]) -> Optional[List[Socket]]:
+        return None if files[0].is_ended or not files[0].steps else files
 
 
 def judged(steps: List[Step], expected: List[str]) -> List[str]:
     link = Socket(list(steps))
-    found: List[Item] = [*monitor.items(link, ["link"], False)]  # type: ignore[arg-type]
+    found: List[Item] = [*monitor.items(link, ["link"], False, [], None)]  # type: ignore[arg-type]
     signs = [sign_of(it) for it in found if not isinstance(it, Note)][1:]
     said = [str(it) for it in found if isinstance(it, Loss)]
     wrong = [] if signs == expected else [f"{signs} for {expected}"]

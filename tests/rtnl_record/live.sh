@@ -110,6 +110,18 @@ is_monitored() {
     grep -q 'attr 1 DST - ipv6 2001:0db8:0000:0000:0000:0000:0000:0008$' "$folder/shown"
 }
 
+# reads_both: of a recording of the monitor's dumps the program reads the first, and another by its number.
+reads_both() {
+  begins_monitor --dump link --dump addr link && soon has_dump 2 addr && has_dump 1 link && ends_monitor INT &&
+    [ ! -s "$folder/errors" ] && has_dump 2 addr && grep -q '^ *attr 2 LOCAL - ipv4 192.0.2.1$' "$folder/table" &&
+    "$program" table "$folder/recording" >"$folder/table" && [ "$(tail -1 "$folder/table")" = 'complete yes' ] &&
+    grep -q '^ *attr 3 IFNAME - text lo$' "$folder/table"
+}
+has_dump() {
+  "$program" table --seq "$1" --kind "$2" --port "$(sed -n 's/^# groups link port //p' "$folder/recording")" \
+    "$folder/recording" >"$folder/table" && [ "$(tail -1 "$folder/table")" = 'complete yes' ]
+}
+
 # notifies TYPES ARGUMENT..: of an address that comes and goes, with its routes, this is what is heard.
 notifies() {
   local types=$1
@@ -222,6 +234,7 @@ if is_made; then
   fi
   check 'an interrupted monitor' is_monitored INT
   check 'a monitor that is told to end' is_monitored TERM
+  check 'dumps of a monitor' reads_both
   check 'addresses come and go' notifies '20 21' ipv4_ifaddr
   check 'routes come and go' notifies '24 25' ipv4_route link
   check 'addresses and routes, by words for both families' notifies '20 21 24 25' address route

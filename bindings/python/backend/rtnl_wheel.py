@@ -103,7 +103,7 @@ def made(module: ModuleType, looked: List[str], room: str) -> str:
     return f"{room}/{module.FILE}"
 
 
-def library(module: ModuleType, beside: bool = True) -> Tuple[str, bytes]:
+def library(module: ModuleType, beside: bool) -> Tuple[str, bytes]:
     """The version of a library that this package can use, and its bytes."""
     looked = list(candidates(module, beside))
     with tempfile.TemporaryDirectory() as room:
@@ -114,6 +114,14 @@ def library(module: ModuleType, beside: bool = True) -> Tuple[str, bytes]:
         except ImportError as error:
             raise NoLibrary(f"rtnl: {error}") from None
         return version, read(path)
+
+
+def chosen(settings: Settings, beside: bool = True) -> Tuple[ModuleType, str, bytes]:
+    """The module, the version of the wheel, and the library that goes into it, by the settings."""
+    module = loading()
+    if not wants_library(settings):
+        return module, module.VERSION, b""
+    return (module, *library(module, beside))
 
 
 def read(path: str) -> bytes:
@@ -191,8 +199,7 @@ def build_wheel(
     metadata_directory: Optional[str] = None,
 ) -> str:
     """Makes the wheel in a folder, and answers its name."""
-    module, with_library = loading(), wants_library(config_settings)
-    version, code = library(module) if with_library else (module.VERSION, b"")
+    module, version, code = chosen(config_settings)
     return write_wheel(wheel_directory, module, version, code, list(in_wheel(module, code)))
 
 
@@ -202,8 +209,7 @@ def build_editable(
     metadata_directory: Optional[str] = None,
 ) -> str:
     """Makes a wheel that names the sources, beside which it puts the library (PEP 660)."""
-    module, with_library = loading(), wants_library(config_settings)
-    version, code = library(module, beside=False) if with_library else (module.VERSION, b"")
+    module, version, code = chosen(config_settings, beside=False)
     if code:
         beside = f"{HERE}/{SOURCES}/{module.FILE}"
         with open(f"{beside}.new", "wb") as file:

@@ -6,7 +6,7 @@ from typing import Any, Dict, Iterator, List, Tuple
 
 import shared
 from rtnl import Code, Operation, State, _families, _heads, _library, _structs, dump, names, table
-from rtnl._library import BUILDER, EVENTS, OPTIONS, SESSION, STREAM
+from rtnl._library import BUILDER, CHANGES, EVENTS, MIRROR, OPTIONS, SESSION, STREAM
 
 HEADER = ["#include <stddef.h>", "#include <rtnlc.h>"]
 SCALARS = {
@@ -29,6 +29,8 @@ SCALARS = {
     OPTIONS: "const struct rtnlc_options *",
     EVENTS: "struct rtnlc_event *",
     SESSION: "struct rtnlc_session *",
+    MIRROR: "struct rtnlc_mirror *",
+    CHANGES: "struct rtnlc_change *",
     STREAM: "struct rtnlc_stream *",
     BUILDER: "struct rtnlc_builder *",
     _structs.Data: "const void *",
@@ -127,8 +129,8 @@ class Declarations(unittest.TestCase):
         """The library has others for each, and none for a number that is no code."""
         words = {str(it) for it in Code}
         self.assertEqual(len(words), len(Code))
-        self.assertIn("no seed", words)
-        unknown: bytes = _library.LIBRARY.rtnlc_code_name(25)
+        self.assertIn("no mirror", words)
+        unknown: bytes = _library.LIBRARY.rtnlc_code_name(26)
         self.assertNotIn(unknown.decode(), words)
 
     def test_events_as_the_module_struct_reads_them(self) -> None:

@@ -35,12 +35,6 @@ use Rattle.nl_dump.specs.Reading.{item_messages}
 use Rattle.nl_attr.specs.declared.events.Event.{Event}
 use Rattle.nl_attr.specs.HeadOrder.{put_from}
 
--- a message is sorted as an item, as an end, or as neither
-abbrev pub HasRole : {T : Type 0} → (T → Item) → Dump → MessageVal → Role T → Type 0
-HasRole item d m (Brings x) = (item_in d m ≡ Some (item x)) × (end_in d m ≡ None)
-HasRole item d m (Ends e) = (item_in d m ≡ None) × (end_in d m ≡ Some e)
-HasRole item d m Other = (item_in d m ≡ None) × (end_in d m ≡ None)
-
 -- an end; or an item; or neither
 abbrev pub role_of : Option End → Bool → Role (Unit {0})
 role_of (Some e) brings = Ends e

@@ -9,8 +9,8 @@ use nl_frame::Body;
 use nl_route::{Addr, Family, Link, Neigh, Route, Rule};
 use nl_table::Entry;
 
-/// Whether a body is an entry of this family.
-pub(crate) fn is_of(kind: Family, body: &Body) -> bool
+/// Whether a body is an entry of this kind.
+pub fn is_of(kind: Family, body: &Body) -> bool
     ensures { result ≡ is_some (body_item kind (body_view body.now)) }
 {
     match kind {
@@ -23,7 +23,7 @@ pub(crate) fn is_of(kind: Family, body: &Body) -> bool
 }
 
 /// An entry that comes in messages.
-pub(crate) trait FromBody: Entry + Drop {
+pub trait FromBody: Entry + Drop {
     ghost use Rattle.std.specs.Prelude.{◌≡◌, option_map};
     ghost use Rattle.nl_attr.specs.declared.order.Order.{Order};
     ghost use Rattle.nl_route.specs.declared.family.Family.{Family};

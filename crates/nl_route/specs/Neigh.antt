@@ -41,3 +41,7 @@ NDA_PORT = 6
 -- the VXLAN network identifier
 abbrev pub NDA_VNI : ℕ
 NDA_VNI = 7
+
+-- the bridge of a forwarding entry
+abbrev pub NDA_MASTER : ℕ
+NDA_MASTER = 9

@@ -23,6 +23,8 @@ pub const NDA_VLAN: u16 = 5;
 pub const NDA_PORT: u16 = 6;
 /// The VXLAN network identifier.
 pub const NDA_VNI: u16 = 7;
+/// The bridge of a forwarding entry.
+pub const NDA_MASTER: u16 = 9;
 
 /// The head of a neighbour, `ndmsg`: 12 bytes, of which the second to fourth are not kept.
 #[derive(Clone, Copy, Debug, PartialEq, Eq, Hash)]
@@ -191,6 +193,23 @@ impl Neigh {
         ensures { result ≡ number_view order 4 fixed.NDA_VNI (attrs_in self.now) }
     {
         u32_view(&self.attrs, NDA_VNI, order)
+    }
+
+    /// The index of the bridge that a forwarding entry is of, `NDA_MASTER`, its lowest byte first.
+    ///
+    /// For a body that was read in the other order, call `master_ordered`.
+    pub fn master(&self) -> Option<u32>
+        ensures { result ≡ number_view Order.Little 4 fixed.NDA_MASTER (attrs_in self.now) }
+    {
+        self.master_ordered(Order::Little)
+    }
+
+    /// The index of the bridge that a forwarding entry is of, `NDA_MASTER`, its bytes in this
+    /// order.
+    pub fn master_ordered(&self, order: Order) -> Option<u32>
+        ensures { result ≡ number_view order 4 fixed.NDA_MASTER (attrs_in self.now) }
+    {
+        u32_view(&self.attrs, NDA_MASTER, order)
     }
 
     /// The UDP port of a VXLAN entry, `NDA_PORT`: in network order, whatever the order of other

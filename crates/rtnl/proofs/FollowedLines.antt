@@ -9,7 +9,7 @@ use Rattle.std.proofs.lemmas.Bool.Decides.{nat_tests}
 use Rattle.std.proofs.lemmas.List.Sums.{sum_by-cons}
 use Rattle.hex.specs.Hex.{decode_of}
 use Rattle.hex.specs.declared.error.FromHexError.{FromHexError}
-use Rattle.rtnl.specs.Followed.{LONGEST_LINE, HeardLine, Hears, Steps, TellsAsPrinted, alone, bad_at, bad_from, datagram_in, datagrams_in, kept_of, line_says, never, refused_in, refused_one, said_of}
+use Rattle.rtnl.specs.Followed.{LONGEST_LINE, HeardLine, Hears, Steps, TellsAsPrinted, alone, all_said, bad_at, bad_from, kept_of, line_says, never, refused_in, refused_one, said_by, said_of}
 use Rattle.rtnl.specs.Lines.{compact, datagrams_from, decoded, digits_at, is_comment, line_at, lines_of, with_first, ◌>>=◌}
 use Rattle.rtnl.specs.Runs.{EachIs, texts_from, verdict_from, with_one}
 use Rattle.rtnl.specs.declared.error.Verdict.{Verdict}
@@ -38,21 +38,21 @@ short_kept line short =
     let is : nat_le (length line) LONGEST_LINE ≡ true = grind (arith, common_steps, nat_tests) in
     rw is refl
 
-first_then : (d : Option (List ℕ)) (rest : List (List ℕ)) → datagram_in (Ok d) ++ rest ≡ with_first d rest
+first_then : (d : Option (List ℕ)) (rest : List (List ℕ)) → said_by (Ok d) ++ rest ≡ with_first d rest
 first_then None rest = refl
 first_then (Some d) rest = refl
 
 -- lines of which none is bad
 abbrev AreGood : List (List ℕ) → List (List ℕ) → Type 0
-AreGood lines ds = (datagrams_in lines ≡ ds) × ((m : ℕ) → bad_from m lines ≡ [])
+AreGood lines ds = (all_said (line_at 0) lines ≡ ds) × ((m : ℕ) → bad_from (line_at 0) m lines ≡ [])
 
 good_lines : (n : ℕ) (lines ds : List (List ℕ)) → sum_by length lines ≤ LONGEST_LINE → datagrams_from n lines ≡ Ok ds → AreGood lines ds
 unfolding datagrams_from
 good_lines n [] ds short is = (ap (λ r. result_unwrap_or r []) is, λ m. refl)
 good_lines n (l ∷ ls) ds short is =
     by_case (line_at n l) (datagrams_from (n + 1) ls) refl is (λ more rest. good_lines (n + 1) ls more (omega (arith, short, sum_by-cons length l ls)) rest) refl where
-      says : (d : Option (List ℕ)) → line_at n l ≡ Ok d → line_says l ≡ Ok d
-      says d is = ap said_of (short_kept l (omega (arith, short, sum_by-cons length l ls))) ∙ line_any 0 n l d is
+      says : (d : Option (List ℕ)) → line_at n l ≡ Ok d → line_says (line_at 0) l ≡ Ok d
+      says d is = ap (said_of (line_at 0)) (short_kept l (omega (arith, short, sum_by-cons length l ls))) ∙ line_any 0 n l d is
 
       by_case : (r : Result (Option (List ℕ)) ℕ) (others : Result (List (List ℕ)) ℕ) → line_at n l ≡ r
           → (r >>= λ d. others >>= λ more. Ok (with_first d more)) ≡ Ok ds → ((more : List (List ℕ)) → others ≡ Ok more → AreGood ls more) → others ≡ others → AreGood (l ∷ ls) ds
@@ -61,7 +61,7 @@ good_lines n (l ∷ ls) ds short is =
       by_case (Ok d) (Ok more) this is rest same =
           let good = rest more refl in
           let e = says d this in
-          (ap (λ r. datagram_in r ++ datagrams_in ls) e ∙ ap (λ x. datagram_in (Ok d) ++ x) good.0 ∙ first_then d more ∙ ap (λ r. result_unwrap_or r []) is, λ m. ap (λ r. bad_at m (kept_of l) r ++ bad_from (m + 1) ls) e ∙ good.1 (m + 1))
+          (ap (λ r. said_by r ++ all_said (line_at 0) ls) e ∙ ap (λ x. said_by (Ok d) ++ x) good.0 ∙ first_then d more ∙ ap (λ r. result_unwrap_or r []) is, λ m. ap (λ r. bad_at m (kept_of l) r ++ bad_from (line_at 0) (m + 1) ls) e ∙ good.1 (m + 1))
 
 module _ {X : Type 0} (Is : List ℕ → X → Type 0) (text : ℕ → List ℕ → X → List ℕ) (is_taken : X → Bool) where
   stays : (b : Bool) → with_one Blemished b ≡ Blemished

@@ -11,7 +11,7 @@ use Rattle.rtnl.proofs.KnownBytes.{prefix_more}
 use Rattle.std.proofs.KnownBytes.{Appends-trans, Appends-nil, Consumes-nil, Consumes-trans}
 use Rattle.rtnl.specs.Lines.{is_newline, lines_of}
 use Rattle.rtnl.specs.Runs.{texts_from}
-use Rattle.rtnl.specs.Followed.{Follows, GoesOn, HasRead, HeardLine, Hears, IsCounted, LONGEST_LINE, Steps, Stops, Tells, TellsOne, TellsPart, TellsReads, TellsSome, TellsUpTo, ToldBehind, bad_at, bad_from, datagram_in, datagrams_in, kept_of, line_says, none_followed, refused_in, refused_one, said_of, with_part}
+use Rattle.rtnl.specs.Followed.{Follows, GoesOn, HasRead, HeardLine, Hears, IsCounted, LONGEST_LINE, Steps, Stops, Tells, TellsOne, TellsPart, TellsReads, TellsSome, TellsUpTo, ToldBehind, all_said, bad_at, bad_from, kept_of, line_says, none_followed, refused_in, refused_one, said_by, said_of, with_part}
 use Rattle.rtnl.specs.declared.runs.telling.Followed.{Followed}
 
 -- ---- the lines of one input and then another
@@ -82,16 +82,17 @@ lines_more input part lines rest first others cut more =
 
 -- ---- what is told of one line more
 
-datagrams_more : (lines : List (List ℕ)) (line : List ℕ) → datagrams_in (lines ++ line ∷ []) ≡ datagrams_in lines ++ datagram_in (line_says line)
-datagrams_more [] line = append-nil (datagram_in (line_says line))
-datagrams_more (l ∷ ls) line = ap (λ x. datagram_in (line_says l) ++ x) (datagrams_more ls line) ∙ sym (append_assoc (datagram_in (line_says l)) (datagrams_in ls) (datagram_in (line_says line)))
+module _ {Y : Type 0} (says : List ℕ → Result (Option Y) ℕ) where
+  said_more : (lines : List (List ℕ)) (line : List ℕ) → all_said says (lines ++ line ∷ []) ≡ all_said says lines ++ said_by (line_says says line)
+  said_more [] line = append-nil (said_by (line_says says line))
+  said_more (l ∷ ls) line = ap (λ x. said_by (line_says says l) ++ x) (said_more ls line) ∙ sym (append_assoc (said_by (line_says says l)) (all_said says ls) (said_by (line_says says line)))
 
-bad_more : (n : ℕ) (lines : List (List ℕ)) (line : List ℕ) → bad_from n (lines ++ line ∷ []) ≡ bad_from n lines ++ bad_at (n + length lines) (kept_of line) (line_says line)
-bad_more n [] line = append-nil (bad_at n (kept_of line) (line_says line)) ∙ ap (λ k. bad_at k (kept_of line) (line_says line)) (sym (add-zero n))
-bad_more n (l ∷ ls) line =
-    let same : n + 1 + length ls ≡ n + length (l ∷ ls) = omega arith in
-    ap (λ x. bad_at n (kept_of l) (line_says l) ++ x) (bad_more (n + 1) ls line ∙ ap (λ k. bad_from (n + 1) ls ++ bad_at k (kept_of line) (line_says line)) same)
-    ∙ sym (append_assoc (bad_at n (kept_of l) (line_says l)) (bad_from (n + 1) ls) (bad_at (n + length (l ∷ ls)) (kept_of line) (line_says line)))
+  bad_more : (n : ℕ) (lines : List (List ℕ)) (line : List ℕ) → bad_from says n (lines ++ line ∷ []) ≡ bad_from says n lines ++ bad_at (n + length lines) (kept_of line) (line_says says line)
+  bad_more n [] line = append-nil (bad_at n (kept_of line) (line_says says line)) ∙ ap (λ k. bad_at k (kept_of line) (line_says says line)) (sym (add-zero n))
+  bad_more n (l ∷ ls) line =
+      let same : n + 1 + length ls ≡ n + length (l ∷ ls) = omega arith in
+      ap (λ x. bad_at n (kept_of l) (line_says says l) ++ x) (bad_more (n + 1) ls line ∙ ap (λ k. bad_from says (n + 1) ls ++ bad_at k (kept_of line) (line_says says line)) same)
+      ∙ sym (append_assoc (bad_at n (kept_of l) (line_says says l)) (bad_from says (n + 1) ls) (bad_at (n + length (l ∷ ls)) (kept_of line) (line_says says line)))
 
 -- one bad line more was heard of
 hears_more : {B : Type 0} (heard : B → Option (List HeardLine)) (is_over : B → Type 0) (g m h : B) (lines : List HeardLine) (line : HeardLine)
@@ -100,7 +101,7 @@ hears_more heard is_over g m h [] line same on more = (subst (λ k. is_over k �
 hears_more heard is_over g m h (l ∷ ls) line first on more = (first.0, first.1, first.2, hears_more heard is_over first.1 m h ls line first.3 on more)
 
 -- what is told goes on behind a line that says so, and stops at one that doesn't
-module _ {X T B : Type 0} (Is : T → List ℕ → X → T → Type 0) (text : ℕ → List ℕ → X → List ℕ) (is_taken : X → Bool) (ends : T → Bool) (heard : B → Option (List HeardLine)) (is_over : B → Type 0)
+module _ {Y X T B : Type 0} (says : List ℕ → Result (Option Y) ℕ) (Is : T → Y → X → T → Type 0) (text : ℕ → Y → X → List ℕ) (is_taken : X → Bool) (ends : T → Bool) (heard : B → Option (List HeardLine)) (is_over : B → Type 0)
     (line : Option (List ℕ)) (a b : T) (s t : Followed) (g h : B) (old new : Option (List ℕ)) where
   negated : (c : Bool) → true ≡ not c → c ≡ false
   negated true e = cc e
@@ -110,26 +111,26 @@ module _ {X T B : Type 0} (Is : T → List ℕ → X → T → Type 0) (text : �
   affirmed true e = refl
   affirmed false e = cc e
 
-  pub goes_more : (r : Result (Option (List ℕ)) ℕ) → TellsOne Is text is_taken ends heard is_over line r true a b s t g h old new → GoesOn ends is_over a g → GoesOn ends is_over b h
+  pub goes_more : (r : Result (Option Y) ℕ) → TellsOne says Is text is_taken ends heard is_over line r true a b s t g h old new → GoesOn ends is_over a g → GoesOn ends is_over b h
   goes_more (Ok None) one on = (ap ends one.0 ∙ on.0, subst (λ k. is_over k → ⊥) (sym one.2) on.1)
   goes_more (Ok (Some d)) one on = (negated (ends b) one.5, subst (λ k. is_over k → ⊥) (sym one.3) on.1)
   goes_more (Err e) one on = (ap ends one.0 ∙ on.0, λ over. let same : true ≡ false = one.4.0 over in cc)
 
-  pub stops_so : (r : Result (Option (List ℕ)) ℕ) → TellsOne Is text is_taken ends heard is_over line r false a b s t g h old new → GoesOn ends is_over a g → Stops ends is_over r b h
+  pub stops_so : (r : Result (Option Y) ℕ) → TellsOne says Is text is_taken ends heard is_over line r false a b s t g h old new → GoesOn ends is_over a g → Stops ends is_over r b h
   stops_so (Ok None) one on = cc one.4
   stops_so (Ok (Some d)) one on = (affirmed (ends b) one.5, subst (λ k. is_over k → ⊥) (sym one.3) on.1)
   stops_so (Err e) one on = (ap ends one.0 ∙ on.0, one.4.1 refl)
 
-module _ {X T B : Type 0} (Is : T → List ℕ → X → T → Type 0) (text : ℕ → List ℕ → X → List ℕ) (is_taken : X → Bool) (ends : T → Bool) (heard : B → Option (List HeardLine)) (is_over : B → Type 0) where
-  -- one datagram more is found so
-  each_more : (a m b : T) (ds : List (List ℕ)) (found : List X) (d : List ℕ) (x : X) → Steps Is ends a ds found m → ends m ≡ false → Is m d x b → Steps Is ends a (ds ++ d ∷ []) (found ++ x ∷ []) b
+module _ {Y X T B : Type 0} (says : List ℕ → Result (Option Y) ℕ) (Is : T → Y → X → T → Type 0) (text : ℕ → Y → X → List ℕ) (is_taken : X → Bool) (ends : T → Bool) (heard : B → Option (List HeardLine)) (is_over : B → Type 0) where
+  -- of one thing more that was said it is found so
+  each_more : (a m b : T) (ds : List Y) (found : List X) (d : Y) (x : X) → Steps Is ends a ds found m → ends m ≡ false → Is m d x b → Steps Is ends a (ds ++ d ∷ []) (found ++ x ∷ []) b
   each_more a m b [] [] d x each on is = (subst (λ k. ends k ≡ false) each on, b, subst (λ k. Is k d x b) each is, refl)
   each_more a m b [] (y ∷ found) d x each on is = absurd each
   each_more a m b (e ∷ ds) [] d x each on is = absurd each
   each_more a m b (e ∷ ds) (y ∷ found) d x each on is = (each.0, each.1, each.2, each_more each.1 m b ds found d x each.3 on is)
 
   -- and has its text behind the others
-  text_more : (n : ℕ) (a b : T) (ds : List (List ℕ)) (found : List X) (d : List ℕ) (x : X) → Steps Is ends a ds found b → texts_from text n (ds ++ d ∷ []) (found ++ x ∷ []) ≡ texts_from text n ds found ++ text (n + length ds) d x
+  text_more : (n : ℕ) (a b : T) (ds : List Y) (found : List X) (d : Y) (x : X) → Steps Is ends a ds found b → texts_from text n (ds ++ d ∷ []) (found ++ x ∷ []) ≡ texts_from text n ds found ++ text (n + length ds) d x
   unfolding texts_from
   text_more n a b [] [] d x each = append-nil (text n d x) ∙ ap (λ k. text k d x) (sym (add-zero n))
   text_more n a b [] (y ∷ found) d x each = absurd each
@@ -144,87 +145,87 @@ module _ {X T B : Type 0} (Is : T → List ℕ → X → T → Type 0) (text : �
   refused_more (y ∷ found) x = omega (arith, refused_more found x)
 
   module _ (lines : List (List ℕ)) (line : List ℕ) where
-    -- a line more without a datagram, or one that is not bad
-    datagrams_without : (r : Result (Option (List ℕ)) ℕ) → line_says line ≡ r → datagram_in r ≡ [] → datagrams_in (lines ++ line ∷ []) ≡ datagrams_in lines
-    datagrams_without r is empty = datagrams_more lines line ∙ ap (λ x. datagrams_in lines ++ x) (ap datagram_in is ∙ empty) ∙ append-nil (datagrams_in lines)
+    -- a line more that says nothing, or one that is not bad
+    said_without : (r : Result (Option Y) ℕ) → line_says says line ≡ r → said_by r ≡ [] → all_said says (lines ++ line ∷ []) ≡ all_said says lines
+    said_without r is empty = said_more says lines line ∙ ap (λ x. all_said says lines ++ x) (ap said_by is ∙ empty) ∙ append-nil (all_said says lines)
 
-    bad_without : (d : Option (List ℕ)) → line_says line ≡ Ok d → bad_from 1 (lines ++ line ∷ []) ≡ bad_from 1 lines
-    bad_without d is = bad_more 1 lines line ∙ ap (λ r. bad_from 1 lines ++ bad_at (1 + length lines) (kept_of line) r) is ∙ append-nil (bad_from 1 lines)
+    bad_without : (d : Option Y) → line_says says line ≡ Ok d → bad_from says 1 (lines ++ line ∷ []) ≡ bad_from says 1 lines
+    bad_without d is = bad_more says 1 lines line ∙ ap (λ r. bad_from says 1 lines ++ bad_at (1 + length lines) (kept_of line) r) is ∙ append-nil (bad_from says 1 lines)
 
-  module _ (lines : List (List ℕ)) (line d : List ℕ) (says : line_says line ≡ Ok (Some d)) where
-    -- a line more with a datagram
-    datagrams_with : datagrams_in (lines ++ line ∷ []) ≡ datagrams_in lines ++ d ∷ []
-    datagrams_with = datagrams_more lines line ∙ ap (λ r. datagrams_in lines ++ datagram_in r) says
+  module _ (lines : List (List ℕ)) (line : List ℕ) (d : Y) (is : line_says says line ≡ Ok (Some d)) where
+    -- a line more that says something
+    said_with : all_said says (lines ++ line ∷ []) ≡ all_said says lines ++ d ∷ []
+    said_with = said_more says lines line ∙ ap (λ r. all_said says lines ++ said_by r) is
 
-    each_with : (a m b : T) (found : List X) (x : X) → Steps Is ends a (datagrams_in lines) found m → ends m ≡ false → Is m d x b → Steps Is ends a (datagrams_in (lines ++ line ∷ [])) (found ++ x ∷ []) b
-    each_with a m b found x each on is = subst (λ l. Steps Is ends a l (found ++ x ∷ []) b) (sym datagrams_with) (each_more a m b (datagrams_in lines) found d x each on is)
+    each_with : (a m b : T) (found : List X) (x : X) → Steps Is ends a (all_said says lines) found m → ends m ≡ false → Is m d x b → Steps Is ends a (all_said says (lines ++ line ∷ [])) (found ++ x ∷ []) b
+    each_with a m b found x each on is = subst (λ l. Steps Is ends a l (found ++ x ∷ []) b) (sym said_with) (each_more a m b (all_said says lines) found d x each on is)
 
-    text_with : (a m : T) (found : List X) (x : X) → Steps Is ends a (datagrams_in lines) found m
-        → texts_from text 1 (datagrams_in lines) found ++ text (length (datagrams_in lines) + 1) d x ≡ texts_from text 1 (datagrams_in (lines ++ line ∷ [])) (found ++ x ∷ [])
+    text_with : (a m : T) (found : List X) (x : X) → Steps Is ends a (all_said says lines) found m
+        → texts_from text 1 (all_said says lines) found ++ text (length (all_said says lines) + 1) d x ≡ texts_from text 1 (all_said says (lines ++ line ∷ [])) (found ++ x ∷ [])
     text_with a m found x each =
-        let same : length (datagrams_in lines) + 1 ≡ 1 + length (datagrams_in lines) = omega arith in
-        ap (λ k. texts_from text 1 (datagrams_in lines) found ++ text k d x) same ∙ sym (text_more 1 a m (datagrams_in lines) found d x each) ∙ ap (λ l. texts_from text 1 l (found ++ x ∷ [])) (sym datagrams_with)
+        let same : length (all_said says lines) + 1 ≡ 1 + length (all_said says lines) = omega arith in
+        ap (λ k. texts_from text 1 (all_said says lines) found ++ text k d x) same ∙ sym (text_more 1 a m (all_said says lines) found d x each) ∙ ap (λ l. texts_from text 1 l (found ++ x ∷ [])) (sym said_with)
 
-  -- the counts of lines, by what is found of their datagrams
+  -- the counts of lines, by what is found of what they say
   abbrev counted : List (List ℕ) → List X → Followed
-  counted lines found = record { lines = length lines; datagrams = length (datagrams_in lines); refused = refused_in is_taken found; bad_lines = length (bad_from 1 lines) }
+  counted lines found = record { lines = length lines; datagrams = length (all_said says lines); refused = refused_in is_taken found; bad_lines = length (bad_from says 1 lines) }
 
   -- what one line more says is told of it
   module _ (lines : List (List ℕ)) (line : List ℕ) (a m b : T) (s t : Followed) (g k h : B) (old mid new : Option (List ℕ))
-      (told : Tells Is text is_taken ends heard is_over lines a m s g k old mid) (on : GoesOn ends is_over m k) where
+      (told : Tells says Is text is_taken ends heard is_over lines a m s g k old mid) (on : GoesOn ends is_over m k) where
     long : length (lines ++ line ∷ []) ≡ length lines + 1
     long = length-append lines (line ∷ [])
 
-    more_by : (r : Result (Option (List ℕ)) ℕ) (goes_on : Bool) → line_says line ≡ r → TellsOne Is text is_taken ends heard is_over (kept_of line) r goes_on m b s t k h mid new
-        → Tells Is text is_taken ends heard is_over (lines ++ line ∷ []) a b t g h old new
+    more_by : (r : Result (Option Y) ℕ) (goes_on : Bool) → line_says says line ≡ r → TellsOne says Is text is_taken ends heard is_over (kept_of line) r goes_on m b s t k h mid new
+        → Tells says Is text is_taken ends heard is_over (lines ++ line ∷ []) a b t g h old new
     more_by (Ok None) goes_on is one =
-        let ds = datagrams_without lines line (Ok None) is refl in
+        let ds = said_without lines line (Ok None) is refl in
         let bs = bad_without lines line None is in
         record {
           found = told.found;
-          each = subst (λ l. Steps Is ends a l told.found b) (sym ds) (subst (λ c. Steps Is ends a (datagrams_in lines) told.found c) (sym one.0) told.each);
-          written = subst (Appends old new) (ap (λ l. texts_from text 1 l told.found) (sym ds)) (subst (λ x. Appends old x (texts_from text 1 (datagrams_in lines) told.found)) (sym one.3) told.written);
-          bad = subst (λ l. Hears heard is_over g l h) (sym bs) (subst (λ c. Hears heard is_over g (bad_from 1 lines) c) (sym one.2) told.bad);
+          each = subst (λ l. Steps Is ends a l told.found b) (sym ds) (subst (λ c. Steps Is ends a (all_said says lines) told.found c) (sym one.0) told.each);
+          written = subst (Appends old new) (ap (λ l. texts_from text 1 l told.found) (sym ds)) (subst (λ x. Appends old x (texts_from text 1 (all_said says lines) told.found)) (sym one.3) told.written);
+          bad = subst (λ l. Hears heard is_over g l h) (sym bs) (subst (λ c. Hears heard is_over g (bad_from says 1 lines) c) (sym one.2) told.bad);
           counts =
               one.1 ∙ ap (λ (x : Followed). record x { lines = x.lines + 1 }) told.counts
               ∙ λ i. record { lines = sym long i; datagrams = length (sym ds i); refused = refused_in is_taken told.found; bad_lines = length (sym bs i) };
         }
     more_by (Ok (Some d)) goes_on is one =
-        let ds = datagrams_with lines line d is in
+        let ds = said_with lines line d is in
         let bs = bad_without lines line (Some d) is in
         let x = one.0 in
-        let many : s.datagrams + 1 ≡ length (datagrams_in lines) + 1 = ap (λ (y : Followed). y.datagrams + 1) told.counts in
-        let texts = Appends-trans old mid new (texts_from text 1 (datagrams_in lines) told.found) (text (s.datagrams + 1) d x) told.written one.4 in
-        let size : length (datagrams_in lines) + 1 ≡ length (datagrams_in (lines ++ line ∷ [])) = sym (ap length ds ∙ length-append (datagrams_in lines) (d ∷ [])) in
+        let many : s.datagrams + 1 ≡ length (all_said says lines) + 1 = ap (λ (y : Followed). y.datagrams + 1) told.counts in
+        let texts = Appends-trans old mid new (texts_from text 1 (all_said says lines) told.found) (text (s.datagrams + 1) d x) told.written one.4 in
+        let size : length (all_said says lines) + 1 ≡ length (all_said says (lines ++ line ∷ [])) = sym (ap length ds ∙ length-append (all_said says lines) (d ∷ [])) in
         let turned : refused_in is_taken told.found + refused_one (is_taken x) ≡ refused_in is_taken (told.found ++ x ∷ []) = sym (refused_more told.found x) in
         record {
           found = told.found ++ x ∷ [];
           each = each_with lines line d is a m b told.found x told.each on.0 one.1;
-          written = subst (Appends old new) (ap (λ k. texts_from text 1 (datagrams_in lines) told.found ++ text k d x) many ∙ text_with lines line d is a m told.found x told.each) texts;
-          bad = subst (λ l. Hears heard is_over g l h) (sym bs) (subst (λ c. Hears heard is_over g (bad_from 1 lines) c) (sym one.3) told.bad);
+          written = subst (Appends old new) (ap (λ k. texts_from text 1 (all_said says lines) told.found ++ text k d x) many ∙ text_with lines line d is a m told.found x told.each) texts;
+          bad = subst (λ l. Hears heard is_over g l h) (sym bs) (subst (λ c. Hears heard is_over g (bad_from says 1 lines) c) (sym one.3) told.bad);
           counts =
               one.2 ∙ ap (λ (y : Followed). record y { lines = y.lines + 1; datagrams = y.datagrams + 1; refused = y.refused + refused_one (is_taken x) }) told.counts
               ∙ λ i. record { lines = sym long i; datagrams = size i; refused = turned i; bad_lines = length (sym bs i) };
         }
     more_by (Err e) goes_on is one =
-        let ds = datagrams_without lines line (Err e) is refl in
-        let bs : bad_from 1 (lines ++ line ∷ []) ≡ bad_from 1 lines ++ record { number = 1 + length lines; line = kept_of line } ∷ [] =
-        bad_more 1 lines line ∙ ap (λ r. bad_from 1 lines ++ bad_at (1 + length lines) (kept_of line) r) is in
+        let ds = said_without lines line (Err e) is refl in
+        let bs : bad_from says 1 (lines ++ line ∷ []) ≡ bad_from says 1 lines ++ record { number = 1 + length lines; line = kept_of line } ∷ [] =
+        bad_more says 1 lines line ∙ ap (λ r. bad_from says 1 lines ++ bad_at (1 + length lines) (kept_of line) r) is in
         let number : s.lines + 1 ≡ 1 + length lines = ap (λ (y : Followed). y.lines + 1) told.counts ∙ omega arith in
         let this : Gains (heard k) (heard h) (record { number = 1 + length lines; line = kept_of line } ∷ []) = subst (λ n. Gains (heard k) (heard h) (record { number = n; line = kept_of line } ∷ [])) number one.2 in
-        let size : length (bad_from 1 lines) + 1 ≡ length (bad_from 1 (lines ++ line ∷ [])) = sym (ap (length {A = HeardLine}) bs ∙ length-append (bad_from 1 lines) (record { number = 1 + length lines; line = kept_of line } ∷ [])) in
+        let size : length (bad_from says 1 lines) + 1 ≡ length (bad_from says 1 (lines ++ line ∷ [])) = sym (ap (length {A = HeardLine}) bs ∙ length-append (bad_from says 1 lines) (record { number = 1 + length lines; line = kept_of line } ∷ [])) in
         record {
           found = told.found;
-          each = subst (λ l. Steps Is ends a l told.found b) (sym ds) (subst (λ c. Steps Is ends a (datagrams_in lines) told.found c) (sym one.0) told.each);
-          written = subst (Appends old new) (ap (λ l. texts_from text 1 l told.found) (sym ds)) (subst (λ x. Appends old x (texts_from text 1 (datagrams_in lines) told.found)) (sym one.3) told.written);
-          bad = subst (λ l. Hears heard is_over g l h) (sym bs) (hears_more heard is_over g k h (bad_from 1 lines) (record { number = 1 + length lines; line = kept_of line }) told.bad on.1 this);
+          each = subst (λ l. Steps Is ends a l told.found b) (sym ds) (subst (λ c. Steps Is ends a (all_said says lines) told.found c) (sym one.0) told.each);
+          written = subst (Appends old new) (ap (λ l. texts_from text 1 l told.found) (sym ds)) (subst (λ x. Appends old x (texts_from text 1 (all_said says lines) told.found)) (sym one.3) told.written);
+          bad = subst (λ l. Hears heard is_over g l h) (sym bs) (hears_more heard is_over g k h (bad_from says 1 lines) (record { number = 1 + length lines; line = kept_of line }) told.bad on.1 this);
           counts =
               one.1 ∙ ap (λ (y : Followed). record y { lines = y.lines + 1; bad_lines = y.bad_lines + 1 }) told.counts
               ∙ λ i. record { lines = sym long i; datagrams = length (sym ds i); refused = refused_in is_taken told.found; bad_lines = size i };
         }
 
-    pub tells_more : (goes_on : Bool) → TellsOne Is text is_taken ends heard is_over (kept_of line) (line_says line) goes_on m b s t k h mid new → Tells Is text is_taken ends heard is_over (lines ++ line ∷ []) a b t g h old new
-    tells_more goes_on one = more_by (line_says line) goes_on refl one
+    pub tells_more : (goes_on : Bool) → TellsOne says Is text is_taken ends heard is_over (kept_of line) (line_says says line) goes_on m b s t k h mid new → Tells says Is text is_taken ends heard is_over (lines ++ line ∷ []) a b t g h old new
+    tells_more goes_on one = more_by (line_says says line) goes_on refl one
 
 -- ---- an input so far
 
@@ -248,9 +249,9 @@ first_ended part more one = by_case (lines_of more) refl (some_line more) where
   by_case [] is some = absurd some
   by_case (l ∷ ls) is some = (l ∷ ls, lines_more (part ++ 10 ∷ []) more (part ∷ []) [] l ls (one_ended part one) is)
 
-module _ {X T B : Type 0} (Is : T → List ℕ → X → T → Type 0) (text : ℕ → List ℕ → X → List ℕ) (is_taken : X → Bool) (ends : T → Bool) (heard : B → Option (List HeardLine)) (is_over : B → Type 0) where
+module _ {Y X T B : Type 0} (says : List ℕ → Result (Option Y) ℕ) (Is : T → Y → X → T → Type 0) (text : ℕ → Y → X → List ℕ) (is_taken : X → Bool) (ends : T → Bool) (heard : B → Option (List HeardLine)) (is_over : B → Type 0) where
   -- nothing is read yet
-  pub follows_none : (a : T) (g : B) (old : Option (List ℕ)) → Follows Is text is_taken ends heard is_over [] (Some []) a a none_followed g g old old
+  pub follows_none : (a : T) (g : B) (old : Option (List ℕ)) → Follows says Is text is_taken ends heard is_over [] (Some []) a a none_followed g g old old
   unfolding texts_from
   follows_none a g old =
       record {
@@ -261,9 +262,9 @@ module _ {X T B : Type 0} (Is : T → List ℕ → X → T → Type 0) (text : �
         tells = record { found = []; each = refl; written = Appends-nil old; bad = refl; counts = refl };
       }
 
-  module _ (input : List ℕ) (kept : Option (List ℕ)) (a m : T) (s : Followed) (g k : B) (old mid : Option (List ℕ)) (h : Follows Is text is_taken ends heard is_over input kept a m s g k old mid) where
+  module _ (input : List ℕ) (kept : Option (List ℕ)) (a m : T) (s : Followed) (g k : B) (old mid : Option (List ℕ)) (h : Follows says Is text is_taken ends heard is_over input kept a m s g k old mid) where
     -- a part without a newline has come
-    pub follows_part : (part : List ℕ) → lines_of part ≡ part ∷ [] → Follows Is text is_taken ends heard is_over (input ++ part) (with_part kept part) a m s g k old mid
+    pub follows_part : (part : List ℕ) → lines_of part ≡ part ∷ [] → Follows says Is text is_taken ends heard is_over (input ++ part) (with_part kept part) a m s g k old mid
     follows_part part one =
         record {
           lines = h.lines;
@@ -278,7 +279,7 @@ module _ {X T B : Type 0} (Is : T → List ℕ → X → T → Type 0) (text : �
     keeps_with part = ap (λ r. with_part r part) h.keeps ∙ kept_more h.rest part
 
     -- what was written of it
-    pub told_behind : ends m ≡ false → ToldBehind Is text ends a input old mid
+    pub told_behind : ends m ≡ false → ToldBehind says Is text ends a input old mid
     told_behind on = record { lines = h.lines; rest = h.rest; cut = h.cut; found = h.tells.found; kept = m; each = h.tells.each; goes_on = on; written = h.tells.written }
 
     first_of : (more : List ℕ) (ls : List (List ℕ)) → lines_of more ≡ ls → IsSome ls → (others : List (List ℕ)) × (lines_of (input ++ more) ≡ h.lines ++ others)
@@ -286,7 +287,7 @@ module _ {X T B : Type 0} (Is : T → List ℕ → X → T → Type 0) (text : �
     first_of more (l ∷ ls) is some = ((h.rest ++ l) ∷ ls, lines_more input more h.lines h.rest l ls h.cut is)
 
     -- the other lines are not told, whatever comes
-    pub follows_some : (more : List ℕ) → TellsSome Is text is_taken ends heard is_over (input ++ more) a m s g k old mid
+    pub follows_some : (more : List ℕ) → TellsSome says Is text is_taken ends heard is_over (input ++ more) a m s g k old mid
     follows_some more =
         let f = first_of more (lines_of more) refl (some_line more) in
         record { lines = h.lines; others = f.0; cut = f.1; tells = h.tells }
@@ -294,14 +295,14 @@ module _ {X T B : Type 0} (Is : T → List ℕ → X → T → Type 0) (text : �
     module _ (on : GoesOn ends is_over m k) where
       -- a line has ended, and was told of
       module _ (part : List ℕ) (one : lines_of part ≡ part ∷ []) (goes_on : Bool) (b : T) (t : Followed) (l : B) (new : Option (List ℕ))
-          (told : TellsOne Is text is_taken ends heard is_over (with_part kept part) (said_of (with_part kept part)) goes_on m b s t k l mid new) where
-        told_whole : TellsOne Is text is_taken ends heard is_over (kept_of (h.rest ++ part)) (line_says (h.rest ++ part)) goes_on m b s t k l mid new
-        told_whole = subst (λ r. TellsOne Is text is_taken ends heard is_over r (said_of r) goes_on m b s t k l mid new) (keeps_with part) told
+          (told : TellsOne says Is text is_taken ends heard is_over (with_part kept part) (said_of says (with_part kept part)) goes_on m b s t k l mid new) where
+        told_whole : TellsOne says Is text is_taken ends heard is_over (kept_of (h.rest ++ part)) (line_says says (h.rest ++ part)) goes_on m b s t k l mid new
+        told_whole = subst (λ r. TellsOne says Is text is_taken ends heard is_over r (said_of says r) goes_on m b s t k l mid new) (keeps_with part) told
 
-        tells_line : Tells Is text is_taken ends heard is_over (h.lines ++ (h.rest ++ part) ∷ []) a b t g l old new
-        tells_line = tells_more Is text is_taken ends heard is_over h.lines (h.rest ++ part) a m b s t g k l old mid new h.tells on goes_on told_whole
+        tells_line : Tells says Is text is_taken ends heard is_over (h.lines ++ (h.rest ++ part) ∷ []) a b t g l old new
+        tells_line = tells_more says Is text is_taken ends heard is_over h.lines (h.rest ++ part) a m b s t g k l old mid new h.tells on goes_on told_whole
 
-        pub follows_line : Follows Is text is_taken ends heard is_over (input ++ (part ++ 10 ∷ [])) (Some []) a b t g l old new
+        pub follows_line : Follows says Is text is_taken ends heard is_over (input ++ (part ++ 10 ∷ [])) (Some []) a b t g l old new
         follows_line =
             record {
               lines = h.lines ++ (h.rest ++ part) ∷ [];
@@ -313,8 +314,8 @@ module _ {X T B : Type 0} (Is : T → List ℕ → X → T → Type 0) (text : �
 
       -- and what is told stops at it
       module _ (part : List ℕ) (one : lines_of part ≡ part ∷ []) (b : T) (t : Followed) (l : B) (new : Option (List ℕ))
-          (told : TellsOne Is text is_taken ends heard is_over (with_part kept part) (said_of (with_part kept part)) false m b s t k l mid new) where
-        up_to : (before piece : List ℕ) (others : List (List ℕ)) → lines_of (before ++ piece) ≡ h.lines ++ (h.rest ++ part) ∷ others → length (lines_of before) ≤ length (lines_of input) → TellsUpTo Is text is_taken ends heard is_over before piece a b t g l old new
+          (told : TellsOne says Is text is_taken ends heard is_over (with_part kept part) (said_of says (with_part kept part)) false m b s t k l mid new) where
+        up_to : (before piece : List ℕ) (others : List (List ℕ)) → lines_of (before ++ piece) ≡ h.lines ++ (h.rest ++ part) ∷ others → length (lines_of before) ≤ length (lines_of input) → TellsUpTo says Is text is_taken ends heard is_over before piece a b t g l old new
         up_to before piece others cut fewer =
             let size : length (lines_of input) ≡ length h.lines + 1 = ap (length {A = List ℕ}) h.cut ∙ length-append h.lines (h.rest ∷ []) in
             record {
@@ -322,31 +323,31 @@ module _ {X T B : Type 0} (Is : T → List ℕ → X → T → Type 0) (text : �
               line = h.rest ++ part;
               others = others;
               cut = cut ∙ sym (append_assoc h.lines ((h.rest ++ part) ∷ []) others);
-              stops = stops_so Is text is_taken ends heard is_over (kept_of (h.rest ++ part)) m b s t k l mid new (line_says (h.rest ++ part)) (told_whole part one false b t l new told) on;
+              stops = stops_so says Is text is_taken ends heard is_over (kept_of (h.rest ++ part)) m b s t k l mid new (line_says says (h.rest ++ part)) (told_whole part one false b t l new told) on;
               tells = tells_line part one false b t l new told;
               soon = omega (arith, fewer, size);
             }
 
         -- in the middle of an input
-        pub stops_at_line : (before piece more : List ℕ) → input ++ ((part ++ 10 ∷ []) ++ more) ≡ before ++ piece → length (lines_of before) ≤ length (lines_of input) → TellsUpTo Is text is_taken ends heard is_over before piece a b t g l old new
+        pub stops_at_line : (before piece more : List ℕ) → input ++ ((part ++ 10 ∷ []) ++ more) ≡ before ++ piece → length (lines_of before) ≤ length (lines_of input) → TellsUpTo says Is text is_taken ends heard is_over before piece a b t g l old new
         stops_at_line before piece more is fewer =
             let f = first_ended part more one in
             up_to before piece f.0 (ap lines_of (sym is) ∙ lines_more input ((part ++ 10 ∷ []) ++ more) h.lines h.rest part f.0 h.cut f.1) fewer
 
       -- the last line was told of
-      module _ (goes_on : Bool) (b : T) (t : Followed) (l : B) (new : Option (List ℕ)) (told : TellsOne Is text is_taken ends heard is_over kept (said_of kept) goes_on m b s t k l mid new) where
-        told_last : TellsOne Is text is_taken ends heard is_over (kept_of h.rest) (line_says h.rest) goes_on m b s t k l mid new
-        told_last = subst (λ r. TellsOne Is text is_taken ends heard is_over r (said_of r) goes_on m b s t k l mid new) h.keeps told
+      module _ (goes_on : Bool) (b : T) (t : Followed) (l : B) (new : Option (List ℕ)) (told : TellsOne says Is text is_taken ends heard is_over kept (said_of says kept) goes_on m b s t k l mid new) where
+        told_last : TellsOne says Is text is_taken ends heard is_over (kept_of h.rest) (line_says says h.rest) goes_on m b s t k l mid new
+        told_last = subst (λ r. TellsOne says Is text is_taken ends heard is_over r (said_of says r) goes_on m b s t k l mid new) h.keeps told
 
-        tells_last : Tells Is text is_taken ends heard is_over (h.lines ++ h.rest ∷ []) a b t g l old new
-        tells_last = tells_more Is text is_taken ends heard is_over h.lines h.rest a m b s t g k l old mid new h.tells on goes_on told_last
+        tells_last : Tells says Is text is_taken ends heard is_over (h.lines ++ h.rest ∷ []) a b t g l old new
+        tells_last = tells_more says Is text is_taken ends heard is_over h.lines h.rest a m b s t g k l old mid new h.tells on goes_on told_last
 
-        pub follows_last : Tells Is text is_taken ends heard is_over (lines_of input) a b t g l old new
-        follows_last = subst (λ ls. Tells Is text is_taken ends heard is_over ls a b t g l old new) (sym h.cut) tells_last
+        pub follows_last : Tells says Is text is_taken ends heard is_over (lines_of input) a b t g l old new
+        follows_last = subst (λ ls. Tells says Is text is_taken ends heard is_over ls a b t g l old new) (sym h.cut) tells_last
 
       -- and what is told stops at it
       pub stops_at_last : (before piece : List ℕ) → input ≡ before ++ piece → length (lines_of before) ≤ length (lines_of input) → (b : T) (t : Followed) (l : B) (new : Option (List ℕ))
-          → TellsOne Is text is_taken ends heard is_over kept (said_of kept) false m b s t k l mid new → TellsUpTo Is text is_taken ends heard is_over before piece a b t g l old new
+          → TellsOne says Is text is_taken ends heard is_over kept (said_of says kept) false m b s t k l mid new → TellsUpTo says Is text is_taken ends heard is_over before piece a b t g l old new
       stops_at_last before piece is fewer b t l new told =
           let size : length (lines_of input) ≡ length h.lines + 1 = ap (length {A = List ℕ}) h.cut ∙ length-append h.lines (h.rest ∷ []) in
           record {
@@ -354,39 +355,39 @@ module _ {X T B : Type 0} (Is : T → List ℕ → X → T → Type 0) (text : �
             line = h.rest;
             others = [];
             cut = ap lines_of (sym is) ∙ h.cut ∙ sym (append-nil (h.lines ++ h.rest ∷ []));
-            stops = stops_so Is text is_taken ends heard is_over (kept_of h.rest) m b s t k l mid new (line_says h.rest) (told_last false b t l new told) on;
+            stops = stops_so says Is text is_taken ends heard is_over (kept_of h.rest) m b s t k l mid new (line_says says h.rest) (told_last false b t l new told) on;
             tells = tells_last false b t l new told;
             soon = omega (arith, fewer, size);
           }
 
-      -- the line that has ended has a datagram, and of the text of that a front was written
+      -- the line that has ended says something, and of the text of that a front was written
       module _ (line : List ℕ) (others : List (List ℕ)) (all : List ℕ) (cut : lines_of all ≡ h.lines ++ line ∷ others) where
-        follows_front : (d : List ℕ) (x : X) (b : T) (l : B) (w : Option (List ℕ)) → line_says line ≡ Ok (Some d) → Is m d x b → l ≡ k → AppendsPrefix mid w (text (s.datagrams + 1) d x) → TellsPart Is text is_taken ends heard is_over all a b g l old w
-        follows_front d x b l w says is same front =
+        follows_front : (d : Y) (x : X) (b : T) (l : B) (w : Option (List ℕ)) → line_says says line ≡ Ok (Some d) → Is m d x b → l ≡ k → AppendsPrefix mid w (text (s.datagrams + 1) d x) → TellsPart says Is text is_taken ends heard is_over all a b g l old w
+        follows_front d x b l w told is same front =
             let t = h.tells in
-            let many : s.datagrams + 1 ≡ length (datagrams_in h.lines) + 1 = ap (λ (y : Followed). y.datagrams + 1) t.counts in
+            let many : s.datagrams + 1 ≡ length (all_said says h.lines) + 1 = ap (λ (y : Followed). y.datagrams + 1) t.counts in
             record {
               lines = h.lines ++ line ∷ [];
               others = others;
               cut = cut ∙ sym (append_assoc h.lines (line ∷ []) others);
               found = t.found ++ x ∷ [];
-              each = each_with Is text is_taken ends heard is_over h.lines line d says a m b t.found x t.each on.0 is;
+              each = each_with says Is text is_taken ends heard is_over h.lines line d told a m b t.found x t.each on.0 is;
               written =
-                  subst (AppendsPrefix old w) (ap (λ n. texts_from text 1 (datagrams_in h.lines) t.found ++ text n d x) many ∙ text_with Is text is_taken ends heard is_over h.lines line d says a m t.found x t.each)
-                  (prefix_more old mid w (texts_from text 1 (datagrams_in h.lines) t.found) (text (s.datagrams + 1) d x) t.written front);
-              bad = subst (λ ls. Hears heard is_over g ls l) (sym (bad_without Is text is_taken ends heard is_over h.lines line (Some d) says)) (subst (λ c. Hears heard is_over g (bad_from 1 h.lines) c) (sym same) t.bad);
+                  subst (AppendsPrefix old w) (ap (λ n. texts_from text 1 (all_said says h.lines) t.found ++ text n d x) many ∙ text_with says Is text is_taken ends heard is_over h.lines line d told a m t.found x t.each)
+                  (prefix_more old mid w (texts_from text 1 (all_said says h.lines) t.found) (text (s.datagrams + 1) d x) t.written front);
+              bad = subst (λ ls. Hears heard is_over g ls l) (sym (bad_without says Is text is_taken ends heard is_over h.lines line (Some d) told)) (subst (λ c. Hears heard is_over g (bad_from says 1 h.lines) c) (sym same) t.bad);
             }
 
       -- so it is with a line in the middle
-      pub part_of_line : (part more : List ℕ) (d : List ℕ) (x : X) (b : T) (l : B) (w : Option (List ℕ)) → lines_of part ≡ part ∷ [] → said_of (with_part kept part) ≡ Ok (Some d) → Is m d x b → l ≡ k
-          → AppendsPrefix mid w (text (s.datagrams + 1) d x) → TellsPart Is text is_taken ends heard is_over (input ++ ((part ++ 10 ∷ []) ++ more)) a b g l old w
+      pub part_of_line : (part more : List ℕ) (d : Y) (x : X) (b : T) (l : B) (w : Option (List ℕ)) → lines_of part ≡ part ∷ [] → said_of says (with_part kept part) ≡ Ok (Some d) → Is m d x b → l ≡ k
+          → AppendsPrefix mid w (text (s.datagrams + 1) d x) → TellsPart says Is text is_taken ends heard is_over (input ++ ((part ++ 10 ∷ []) ++ more)) a b g l old w
       part_of_line part more d x b l w one said is same front =
           let f = first_ended part more one in
-          follows_front (h.rest ++ part) f.0 (input ++ ((part ++ 10 ∷ []) ++ more)) (lines_more input ((part ++ 10 ∷ []) ++ more) h.lines h.rest part f.0 h.cut f.1) d x b l w (sym (ap said_of (keeps_with part)) ∙ said) is same front
+          follows_front (h.rest ++ part) f.0 (input ++ ((part ++ 10 ∷ []) ++ more)) (lines_more input ((part ++ 10 ∷ []) ++ more) h.lines h.rest part f.0 h.cut f.1) d x b l w (sym (ap (said_of says) (keeps_with part)) ∙ said) is same front
 
       -- and with the last
-      pub part_of_last : (d : List ℕ) (x : X) (b : T) (l : B) (w : Option (List ℕ)) → said_of kept ≡ Ok (Some d) → Is m d x b → l ≡ k → AppendsPrefix mid w (text (s.datagrams + 1) d x) → TellsPart Is text is_taken ends heard is_over input a b g l old w
-      part_of_last d x b l w said is same front = follows_front h.rest [] input h.cut d x b l w (sym (ap said_of h.keeps) ∙ said) is same front
+      pub part_of_last : (d : Y) (x : X) (b : T) (l : B) (w : Option (List ℕ)) → said_of says kept ≡ Ok (Some d) → Is m d x b → l ≡ k → AppendsPrefix mid w (text (s.datagrams + 1) d x) → TellsPart says Is text is_taken ends heard is_over input a b g l old w
+      part_of_last d x b l w said is same front = follows_front h.rest [] input h.cut d x b l w (sym (ap (said_of says) h.keeps) ∙ said) is same front
 
 -- ---- reads
 
@@ -404,21 +405,21 @@ pub gains_none : {A : Type 0} (a : Option (List A)) → Gains a a []
 gains_none None = tt
 gains_none (Some x) = sym (append-nil x)
 
-module _ {X T : Type 0} (Is : T → List ℕ → X → T → Type 0) (text : ℕ → List ℕ → X → List ℕ) (ends : T → Bool) where
+module _ {Y X T : Type 0} (says : List ℕ → Result (Option Y) ℕ) (Is : T → Y → X → T → Type 0) (text : ℕ → Y → X → List ℕ) (ends : T → Bool) where
   -- one read more
-  told_more : (a : T) (old : Option (List ℕ)) (input : List ℕ) (reads : List Read) (last : Read) → TellsReads Is text ends a old input reads → ToldBehind Is text ends a (input ++ all_moved reads) old last.written
-      → TellsReads Is text ends a old input (reads ++ last ∷ [])
-  told_more a old input [] last told this = (subst (λ i. ToldBehind Is text ends a i old last.written) (append-nil input) this, tt)
+  told_more : (a : T) (old : Option (List ℕ)) (input : List ℕ) (reads : List Read) (last : Read) → TellsReads says Is text ends a old input reads → ToldBehind says Is text ends a (input ++ all_moved reads) old last.written
+      → TellsReads says Is text ends a old input (reads ++ last ∷ [])
+  told_more a old input [] last told this = (subst (λ i. ToldBehind says Is text ends a i old last.written) (append-nil input) this, tt)
   told_more a old input (r ∷ reads) last told this =
-      (told.0, told_more a old (input ++ r.moved) reads last told.1 (subst (λ i. ToldBehind Is text ends a i old last.written) (sym (append_assoc input r.moved (all_moved reads))) this))
+      (told.0, told_more a old (input ++ r.moved) reads last told.1 (subst (λ i. ToldBehind says Is text ends a i old last.written) (sym (append_assoc input r.moved (all_moved reads))) this))
 
   module _ {S : Type 0} (left : S → Option (List ℕ)) (reads_of : S → Option (List Read)) where
-    pub read_none : (a : T) (old : Option (List ℕ)) (from : S) → HasRead Is text ends left reads_of a old from from []
+    pub read_none : (a : T) (old : Option (List ℕ)) (from : S) → HasRead says Is text ends left reads_of a old from from []
     read_none a old from = record { reads = []; given = Consumes-nil (left from); seen = gains_none (reads_of from); moved = refl; told = tt }
 
-    pub read_more : (a : T) (old written : Option (List ℕ)) (from_old from_mid from_new : S) (input piece : List ℕ) → (r : HasRead Is text ends left reads_of a old from_old from_mid input) → ToldBehind Is text ends a input old written
+    pub read_more : (a : T) (old written : Option (List ℕ)) (from_old from_mid from_new : S) (input piece : List ℕ) → (r : HasRead says Is text ends left reads_of a old from_old from_mid input) → ToldBehind says Is text ends a input old written
         → Consumes (left from_mid) (left from_new) piece → Gains (reads_of from_mid) (reads_of from_new) (record { written = written; moved = piece } ∷ [])
-        → (now : HasRead Is text ends left reads_of a old from_old from_new (input ++ piece)) × (now.reads ≡ r.reads ++ record { written = written; moved = piece } ∷ [])
+        → (now : HasRead says Is text ends left reads_of a old from_old from_new (input ++ piece)) × (now.reads ≡ r.reads ++ record { written = written; moved = piece } ∷ [])
     read_more a old written from_old from_mid from_new input piece r this next seen =
         let last : Read = record { written = written; moved = piece } in (
           record {
@@ -426,61 +427,62 @@ module _ {X T : Type 0} (Is : T → List ℕ → X → T → Type 0) (text : ℕ
             given = Consumes-trans (left from_old) (left from_mid) (left from_new) input piece r.given next;
             seen = gains_more (reads_of from_old) (reads_of from_mid) (reads_of from_new) r.reads (last ∷ []) r.seen seen;
             moved = moved_more r.reads last ∙ ap (λ x. x ++ piece) r.moved;
-            told = told_more a old [] r.reads last r.told (subst (λ i. ToldBehind Is text ends a i old written) (sym r.moved) this);
+            told = told_more a old [] r.reads last r.told (subst (λ i. ToldBehind says Is text ends a i old written) (sym r.moved) this);
           },
           refl,
         )
 
 -- ---- counts
 
-few_datagrams : (r : Result (Option (List ℕ)) ℕ) → length (datagram_in r) ≤ 1
-few_datagrams (Ok None) = omega arith
-few_datagrams (Ok (Some d)) = omega arith
-few_datagrams (Err e) = omega arith
+module _ {Y : Type 0} (says : List ℕ → Result (Option Y) ℕ) where
+  few_said : (r : Result (Option Y) ℕ) → length (said_by r) ≤ 1
+  few_said (Ok None) = omega arith
+  few_said (Ok (Some d)) = omega arith
+  few_said (Err e) = omega arith
 
-few_bad : (n : ℕ) (line : Option (List ℕ)) (r : Result (Option (List ℕ)) ℕ) → length (bad_at n line r) ≤ 1
-few_bad n line (Ok d) = omega arith
-few_bad n line (Err e) = omega arith
+  few_bad : (n : ℕ) (line : Option (List ℕ)) (r : Result (Option Y) ℕ) → length (bad_at n line r) ≤ 1
+  few_bad n line (Ok d) = omega arith
+  few_bad n line (Err e) = omega arith
 
-fewer_datagrams : (lines : List (List ℕ)) → length (datagrams_in lines) ≤ length lines
-fewer_datagrams [] = omega arith
-fewer_datagrams (l ∷ ls) = omega (arith, length-append (datagram_in (line_says l)) (datagrams_in ls), few_datagrams (line_says l), fewer_datagrams ls)
+  fewer_said : (lines : List (List ℕ)) → length (all_said says lines) ≤ length lines
+  fewer_said [] = omega arith
+  fewer_said (l ∷ ls) = omega (arith, length-append (said_by (line_says says l)) (all_said says ls), few_said (line_says says l), fewer_said ls)
 
-fewer_bad : (n : ℕ) (lines : List (List ℕ)) → length (bad_from n lines) ≤ length lines
-fewer_bad n [] = omega arith
-fewer_bad n (l ∷ ls) = omega (arith, length-append (bad_at n (kept_of l) (line_says l)) (bad_from (n + 1) ls), few_bad n (kept_of l) (line_says l), fewer_bad (n + 1) ls)
+  fewer_bad : (n : ℕ) (lines : List (List ℕ)) → length (bad_from says n lines) ≤ length lines
+  fewer_bad n [] = omega arith
+  fewer_bad n (l ∷ ls) = omega (arith, length-append (bad_at n (kept_of l) (line_says says l)) (bad_from says (n + 1) ls), few_bad n (kept_of l) (line_says says l), fewer_bad (n + 1) ls)
 
-module _ {X T B : Type 0} (Is : T → List ℕ → X → T → Type 0) (text : ℕ → List ℕ → X → List ℕ) (is_taken : X → Bool) (ends : T → Bool) (heard : B → Option (List HeardLine)) (is_over : B → Type 0) where
+module _ {Y X T B : Type 0} (says : List ℕ → Result (Option Y) ℕ) (Is : T → Y → X → T → Type 0) (text : ℕ → Y → X → List ℕ) (is_taken : X → Bool) (ends : T → Bool) (heard : B → Option (List HeardLine)) (is_over : B → Type 0) where
   one_refused : (b : Bool) → refused_one b ≤ 1
   one_refused true = omega arith
   one_refused false = omega arith
 
-  fewer_refused : (a b : T) (ds : List (List ℕ)) (found : List X) → Steps Is ends a ds found b → refused_in is_taken found ≤ length ds
+  fewer_refused : (a b : T) (ds : List Y) (found : List X) → Steps Is ends a ds found b → refused_in is_taken found ≤ length ds
   fewer_refused a b [] [] each = omega arith
   fewer_refused a b [] (x ∷ found) each = absurd each
   fewer_refused a b (d ∷ ds) [] each = absurd each
   fewer_refused a b (d ∷ ds) (x ∷ found) each = omega (arith, one_refused (is_taken x), fewer_refused each.1 b ds found each.3)
 
   -- no count is greater than that of the lines
-  is_counted : (lines : List (List ℕ)) (a b : T) (s : Followed) (g h : B) (old new : Option (List ℕ)) (n : ℕ) → Tells Is text is_taken ends heard is_over lines a b s g h old new → length lines + n < 2 ^ 64 → IsCounted n s
+  is_counted : (lines : List (List ℕ)) (a b : T) (s : Followed) (g h : B) (old new : Option (List ℕ)) (n : ℕ) → Tells says Is text is_taken ends heard is_over lines a b s g h old new → length lines + n < 2 ^ 64 → IsCounted n s
   is_counted lines a b s g h old new n told few =
       let e = told.counts in
       record {
         lines = subst (λ (t : Followed). t.lines + n < 2 ^ 64) (sym e) few;
-        datagrams = subst (λ (t : Followed). t.datagrams ≤ t.lines) (sym e) (fewer_datagrams lines);
-        refused = subst (λ (t : Followed). t.refused ≤ t.datagrams) (sym e) (fewer_refused a b (datagrams_in lines) told.found told.each);
-        bad_lines = subst (λ (t : Followed). t.bad_lines ≤ t.lines) (sym e) (fewer_bad 1 lines);
+        datagrams = subst (λ (t : Followed). t.datagrams ≤ t.lines) (sym e) (fewer_said says lines);
+        refused = subst (λ (t : Followed). t.refused ≤ t.datagrams) (sym e) (fewer_refused a b (all_said says lines) told.found told.each);
+        bad_lines = subst (λ (t : Followed). t.bad_lines ≤ t.lines) (sym e) (fewer_bad says 1 lines);
       }
 
   -- lines are no more than the bytes of their input, and one
-  pub follows_counted : (input : List ℕ) (kept : Option (List ℕ)) (a b : T) (s : Followed) (g h : B) (old new : Option (List ℕ)) (n : ℕ) → Follows Is text is_taken ends heard is_over input kept a b s g h old new → length input + n < 2 ^ 64 → IsCounted n s
+  pub follows_counted : (input : List ℕ) (kept : Option (List ℕ)) (a b : T) (s : Followed) (g h : B) (old new : Option (List ℕ)) (n : ℕ) → Follows says Is text is_taken ends heard is_over input kept a b s g h old new → length input + n < 2 ^ 64 → IsCounted n s
   follows_counted input kept a b s g h old new n f few =
       let lines : length f.lines + 1 ≡ length (lines_of input) = sym (ap (length {A = List ℕ}) f.cut ∙ length-append f.lines (f.rest ∷ [])) in
       is_counted f.lines a b s g h old new n f.tells (omega (arith, lines, length-lines_of input))
 
   -- one line more is counted
-  pub tells_counted : (line : Option (List ℕ)) (r : Result (Option (List ℕ)) ℕ) (goes_on : Bool) (a b : T) (s t : Followed) (g h : B) (old new : Option (List ℕ)) (n : ℕ) → IsCounted (n + 1) s
-      → TellsOne Is text is_taken ends heard is_over line r goes_on a b s t g h old new → IsCounted n t
+  pub tells_counted : (line : Option (List ℕ)) (r : Result (Option Y) ℕ) (goes_on : Bool) (a b : T) (s t : Followed) (g h : B) (old new : Option (List ℕ)) (n : ℕ) → IsCounted (n + 1) s
+      → TellsOne says Is text is_taken ends heard is_over line r goes_on a b s t g h old new → IsCounted n t
   tells_counted line (Ok None) goes_on a b s t g h old new n c told = rw told.1 (record { lines = omega (arith, c.lines); datagrams = omega (arith, c.datagrams); refused = c.refused; bad_lines = omega (arith, c.bad_lines) })
   tells_counted line (Ok (Some d)) goes_on a b s t g h old new n c told =
       rw told.2 (record { lines = omega (arith, c.lines); datagrams = omega (arith, c.datagrams); refused = omega (arith, c.refused, one_refused (is_taken told.0)); bad_lines = omega (arith, c.bad_lines) })

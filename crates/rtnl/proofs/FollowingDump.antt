@@ -1,5 +1,5 @@
 -- A dump that is followed: what is told of a datagram, and what is written before it and behind it.
-use Rattle.std.proofs.Common.{◌≡◌, ◌≢◌, ◌+◌, ◌++◌, ℕ, Bool, true, false, not, List, length, map, Option, Ok, Err, refl, sym, ap, ◌∙◌, subst, inl, inr}
+use Rattle.std.proofs.Common.{◌≡◌, ◌≢◌, ◌+◌, ◌++◌, ℕ, Bool, true, false, not, List, length, map, Option, Some, Result, Ok, Err, refl, sym, ap, ◌∙◌, subst, inl, inr}
 use Rattle.std.proofs.lemmas.List.{length-map}
 use Rattle.std.specs.Io.KnownBytes.{Appends}
 use Rattle.nl_attr.specs.declared.order.Order.{Order}
@@ -18,21 +18,21 @@ use Rattle.rtnl.specs.declared.runs.dump_so_far.DumpSoFar.{DumpSoFar}
 
 -- ---- a datagram
 
-module _ (t : Report) (o : Order) (number : ℕ) (a b : DumpSoFar) (d old new : List ℕ) (taken goes_on : Bool) where
+module _ (t : Report) (o : Order) (number : ℕ) (said : Result (Option (List ℕ)) ℕ) (a b : DumpSoFar) (d old new : List ℕ) (is : said ≡ Ok (Some d)) (taken goes_on : Bool) where
   -- it gave something
   abbrev pub Gives : Type 0
-  Gives = (x : Given) × Reads a d x b × (new ≡ old ++ given_text t o number d x) × (taken ≡ is_given x) × (goes_on ≡ not (ends_dump b))
+  Gives = (y : List ℕ) × (x : Given) × (said ≡ Ok (Some y)) × Reads a y x b × (new ≡ old ++ given_text t o number y x) × (taken ≡ is_given x) × (goes_on ≡ not (ends_dump b))
 
   -- its items
   pub gives_items : (r : ItemsRead) → StreamRead a.stream d (Ok r) b.stream → b.items ≡ a.items + length r.items.items
       → new ≡ old ++ bodies_text (λ m. m.body) t o (a.items + 1) (map message_view r.items.items) → taken ≡ true → goes_on ≡ not (ends_dump b) → Gives
-  gives_items r step size text is goes =
-      (record { before = a.items; answer = Ok (map message_view r.items.items) }, (refl, ((r, step, refl), size ∙ ap (λ n. a.items + n) (sym (length-map r.items.items message_view)))), text, is, goes)
+  gives_items r step size text was goes =
+      (d, record { before = a.items; answer = Ok (map message_view r.items.items) }, is, (refl, ((r, step, refl), size ∙ ap (λ n. a.items + n) (sym (length-map r.items.items message_view)))), text, was, goes)
 
   -- or why it was refused
   pub gives_refusal : (e : FeedError) → StreamRead a.stream d (Err e) b.stream → e ≢ feed.Memory → b.items ≡ a.items
       → new ≡ old ++ t.refusal number e → taken ≡ false → goes_on ≡ not (ends_dump b) → Gives
-  gives_refusal e step other same text is goes = (record { before = a.items; answer = Err e }, (refl, (step, other, same)), text, is, goes)
+  gives_refusal e step other same text was goes = (d, record { before = a.items; answer = Err e }, is, (refl, (step, other, same)), text, was, goes)
 
 -- ---- a text
 

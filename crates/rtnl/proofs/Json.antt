@@ -122,6 +122,10 @@ no_more w = refl
 pub an_object : (w a b c : Line) (fields : List Field) → a ≡ w ⊕ (begin_object ∷ []) → b ≡ a ⊕ fields_tokens fields → c ≡ b ⊕ (end_object ∷ []) → c ≡ w ⊕ json_tokens (object fields)
 an_object w a b c fields begun written ended = rw (ended, written, begun) (simp (more, tokens_object))
 
+-- the name of a field, and then its value
+pub named_value : (w a d : Line) (name : List ℕ) (value : Json) → a ≡ w ⊕ (key name ∷ []) → d ≡ a ⊕ json_tokens value → d ≡ w ⊕ fields_tokens ((name, value) ∷ [])
+named_value w a d name value named written = rw (written, named) (simp (more, one_field))
+
 -- the name of a field, and then an object
 pub object_field : (w a b c d : Line) (name : List ℕ) (fields : List Field) → a ≡ w ⊕ (key name ∷ []) → b ≡ a ⊕ (begin_object ∷ []) → c ≡ b ⊕ fields_tokens fields → d ≡ c ⊕ (end_object ∷ [])
     → d ≡ w ⊕ fields_tokens ((name, object fields) ∷ [])

@@ -13,10 +13,12 @@ mod FollowedPieces
 mod Following
 mod FollowingDump
 mod Fronts
+mod Headings
 mod Headline
 mod Json
 mod KnownBytes
 mod Listing
+mod Mirrors
 mod Painting
 mod Parts
 mod PieceEnds

@@ -13,6 +13,7 @@ use Rattle.nl_dump.specs.declared.errors.FeedError.TheVariants.{Memory}
 use Rattle.nl_dump.specs.Reading.{StreamRead}
 use Rattle.nl_dump.specs.Standing.{new_standing, whole_of}
 use Rattle.rtnl.specs.Followed.{FollowsAll, HeardLine}
+use Rattle.rtnl.specs.Lines.{line_at}
 use Rattle.rtnl.specs.Runs.{Writes}
 use Rattle.rtnl.specs.Streams.{Read}
 use Rattle.rtnl.specs.Tabled.{Report, bodies_text}
@@ -74,7 +75,7 @@ module _ {S W B : Type 0} (left : S → Option (List ℕ)) (is_ended : S → Typ
     (t : Report) (bounds : Bounds) (d : Dump) (from_old from_new : S) (to_old to_new : W) (g h : B) where
   -- what is told of the lines, from one state of the sink and of the dump to another
   abbrev pub Told : DumpSoFar → DumpSoFar → W → W → Result Followed RunError → Type 0
-  Told a b v w = FollowsAll Reads (given_text t bounds.shape.order) is_given ends_dump heard is_over left is_ended failed_reads reads_of taken is_stalled stalls failed_writes a b from_old from_new v w g h
+  Told a b v w = FollowsAll (line_at 0) Reads (given_text t bounds.shape.order) is_given ends_dump heard is_over left is_ended failed_reads reads_of taken is_stalled stalls failed_writes a b from_old from_new v w g h
 
   -- it could not be written which dump is read, and nothing else was done
   pub record NotBegun (error : RunError) : Type 0 where

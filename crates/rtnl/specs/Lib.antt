@@ -12,10 +12,14 @@ pub mod Datagrams
 pub mod Followed
 pub mod FollowedDump
 pub mod Further
+pub mod Heading
 pub mod Json
 pub mod Kernel
 pub mod Lines
 pub mod Messages
+pub mod Mirroring
+pub mod MirroringJson
+pub mod Mirrors
 pub mod NamedBits
 pub mod Names
 pub mod Notations

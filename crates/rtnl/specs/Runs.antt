@@ -19,11 +19,11 @@ EachIs Is [] (_ ∷ _) = ⊥
 EachIs Is (_ ∷ _) [] = ⊥
 EachIs Is (d ∷ ds) (x ∷ found) = Is d x × EachIs Is ds found
 
--- the texts of the datagrams from this number on
-unfoldable pub texts_from : {X : Type 0} → (ℕ → List ℕ → X → List ℕ) → ℕ → List (List ℕ) → List X → List ℕ
+-- the texts of datagrams, or of whatever has texts, from this number on
+unfoldable pub texts_from : {Y X : Type 0} → (ℕ → Y → X → List ℕ) → ℕ → List Y → List X → List ℕ
 texts_from text number [] _ = []
-texts_from text number (d ∷ ds) [] = []
-texts_from text number (d ∷ ds) (x ∷ found) = text number d x ++ texts_from text (number + 1) ds found
+texts_from text number (y ∷ ys) [] = []
+texts_from text number (y ∷ ys) (x ∷ found) = text number y x ++ texts_from text (number + 1) ys found
 
 -- a verdict, and a datagram more
 abbrev pub with_one : Verdict → Bool → Verdict

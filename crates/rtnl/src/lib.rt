@@ -22,11 +22,15 @@ pub use error::{RunError, Verdict};
 pub use names::kernel::{KernelName, attribute_name, message_name};
 pub use nl_dump as dump;
 pub use nl_frame as frame;
+pub use nl_mirror as mirror;
+pub use recordings::heading::{Heading, Numbers, heading_in, heading_of, is_digits};
 pub use recordings::lines::{LineFault, datagrams, line_fault};
 pub use recordings::unfinished::LONGEST_LINE;
 pub use runs::check::{run_check, run_check_json};
 pub use runs::follow::{run_follow, run_follow_bytes, run_follow_coloured, run_follow_json};
 pub use runs::follow_dump::{DumpFollowed, run_follow_dump, run_follow_dump_json};
+pub use runs::mirror::{MirrorFollowed, run_mirror, run_mirror_json};
+pub use runs::mirrored::MirrorSettings;
 pub use runs::request::{run_request, run_request_ordered};
 pub use runs::show::{
     push_datagram, push_datagram_json, run_show, run_show_coloured, run_show_json,

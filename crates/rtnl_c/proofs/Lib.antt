@@ -5,6 +5,8 @@ mod Breaking
 mod Pointers
 mod Handles
 mod Seen
+mod Mirrors
+mod Telling
 mod Streams
 mod Finding
 mod Keeping

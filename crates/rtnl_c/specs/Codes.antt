@@ -5,9 +5,13 @@ use Rattle.std.specs.Prelude.{ℕ}
 abbrev pub too_large : ℕ
 too_large = 6
 
--- a session is made already
+-- a session or a mirror is made already
 abbrev pub busy : ℕ
 busy = 9
+
+-- a dump of a mirror had the sequence number, or a later one
+abbrev pub used_seq : ℕ
+used_seq = 10
 
 -- a growth was refused
 abbrev pub no_memory : ℕ
@@ -32,6 +36,10 @@ no_session = 20
 -- what is kept is no builder
 abbrev pub no_builder : ℕ
 no_builder = 23
+
+-- there is no mirror
+abbrev pub no_mirror : ℕ
+no_mirror = 25
 
 -- nothing stands there
 abbrev pub nothing_there : ℕ

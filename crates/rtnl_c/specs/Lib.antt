@@ -16,6 +16,7 @@ pub mod Status
 pub mod Held
 pub mod Sessions
 pub mod Entries
+pub mod Mirrors
 pub mod Streams
 pub mod Building
 pub mod Asked

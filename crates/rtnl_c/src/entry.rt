@@ -21,7 +21,11 @@ fn deepest() -> Depth {
 }
 
 /// The message of an entry, its numbers in this order.
-fn message<H: Head>(alloc: Global, entry: &Object<H>, order: Order) -> Result<Vec<u8>, WriteError>
+pub(crate) fn message<H: Head>(
+    alloc: Global,
+    entry: &Object<H>,
+    order: Order,
+) -> Result<Vec<u8>, WriteError>
     ensures { IfOk result (λ v. v.items ≡ message_bytes order H.family
         (H.SIZE + items_len (attrs_in entry.now)) (H.fields entry.now.head) (attrs_in entry.now)) }
 {

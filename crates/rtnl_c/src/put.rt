@@ -63,7 +63,7 @@ impl Put {
 }
 
 /// Puts bytes at the front of a buffer that has room for them.
-fn lay(bytes: &[u8], out: &mut [u8])
+pub(crate) fn lay(bytes: &[u8], out: &mut [u8])
     requires { length bytes.now ≤ length out.old }
     ensures { out.new ≡ bytes.now ++ drop (length bytes.now) out.old }
 {

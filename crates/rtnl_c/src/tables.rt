@@ -55,7 +55,7 @@ fn table_none(code: u8) -> TableSize
 }
 
 /// The size of a table.
-fn size<T: Entry>(table: &Table<T>) -> TableSize
+pub(crate) fn size<T: Entry>(table: &Table<T>) -> TableSize
     ensures { result ≡ sized (length table.now.entries) table.now.missed table.now.limit }
 {
     TableSize {
@@ -205,7 +205,7 @@ pub extern "C" fn rtnlc_session_key(
 }
 
 /// Where an entry stands, or why none does.
-fn found(index: u32, code: u8) -> FoundEntry
+pub(crate) fn found(index: u32, code: u8) -> FoundEntry
     ensures { result ≡ found_at index code }
 {
     FoundEntry { index, code }

@@ -4,7 +4,6 @@ ghost use Rattle.std.specs.Prelude.{◌≡◌, ◌&&◌, ◌⊎◌, is_some};
 ghost use Rattle.std.specs.Prelude.{Some, IsSome, IsSomeAnd, IfSome, MatchOption};
 
 use crate::commands::{COLORS, FORMATS, Values, rtnl, usage_error};
-use crate::heading::{Heading, heading_in, is_digits};
 use crate::name::{Escaped, Name, is_escaped};
 use clap::error::ErrorKind;
 use clap::{ArgMatches, Error};
@@ -12,6 +11,7 @@ use itoa::Buffer;
 use nl_attr::Order;
 use rtnl::dump::{Dump, Kind, Seed};
 use rtnl::frame::Limits;
+use rtnl::{Heading, MirrorSettings, heading_in, is_digits};
 use std::alloc::{AllocError, Global};
 use std::io;
 
@@ -21,11 +21,11 @@ const UNKNOWN: &str = "a command or a value is not known";
 /// What names standard input in the place of a file.
 const STANDARD_INPUT: &str = "-";
 
-/// The most bytes of datagrams of a dump that is followed: as many as limits allow.
+/// The most bytes of datagrams of what is followed: as many as limits allow.
 const MOST_FOLLOWED: u64 = 1 << 40;
 
 /// The options whose value is a number.
-const NUMBERS: [&str; 5] = ["seq", "port", "family", "depth", "entries"];
+const NUMBERS: [&str; 6] = ["seq", "port", "family", "depth", "entries", "waiting"];
 
 /// What is done with a recording.
 #[derive(Clone, Copy, Debug)]
@@ -106,18 +106,74 @@ pub(crate) struct Work {
     pub limits: Limits,
 }
 
+/// What is printed of a recording that is followed.
+#[derive(Clone, Copy, Debug)]
+pub(crate) enum What {
+    /// Each datagram, coloured or not.
+    Each(Color),
+    /// The bytes of each datagram beside what they are, coloured or not.
+    Bytes(Color),
+    /// The entries of a dump, and how it ended.
+    Dump(Dump),
+    /// Tables that dumps and notifications keep current, or how they change.
+    Mirror(MirrorSettings),
+}
+
 /// How a recording is followed, and under which limits.
 #[derive(Clone, Copy, Debug)]
 pub(crate) struct Follow {
-    /// The dump that is followed, where it is one.
-    pub dump: Option<Dump>,
-    /// Whether the bytes of each datagram are printed.
-    pub bytes: bool,
-    pub color: Color,
+    pub what: What,
     pub format: Format,
     pub limits: Limits,
     /// Whether it ends at the first bad line.
     pub is_strict: bool,
+}
+
+impl Follow {
+    /// Whether messages that were dropped spoil what is printed, whatever comes behind them. A
+    /// mirror says itself which table they are missing of, and until when.
+    pub(crate) fn is_spoilt_by_loss(&self) -> bool {
+        !matches!(self.what, What::Mirror(_))
+    }
+}
+
+/// Which tables are kept current, how they are printed, and under which limits.
+#[derive(Clone, Copy, Debug)]
+pub(crate) struct Mirror {
+    /// The kind of the table that is printed, where not all are.
+    pub kind: Option<Kind>,
+    /// The address family that the dumps asked for.
+    pub family: u8,
+    /// How many changes of a kind may wait for the end of its dump.
+    pub waiting: u32,
+    /// Whether changes are printed as they come, in place of the tables at the end.
+    pub changes: bool,
+    pub format: Format,
+    pub limits: Limits,
+    /// Whether it ends at the first bad line.
+    pub is_strict: bool,
+}
+
+impl Mirror {
+    /// How the recording is followed, with tables that hash by this seed.
+    pub(crate) fn follow(&self, seed: Seed) -> Follow
+        ensures format { result.format ≡ self.now.format }
+        ensures limits { result.limits ≡ self.now.limits }
+    {
+        Follow {
+            what: What::Mirror(MirrorSettings {
+                limits: self.limits,
+                waiting: self.waiting,
+                seed,
+                family: self.family,
+                kind: self.kind,
+                changes: self.changes,
+            }),
+            format: self.format,
+            limits: self.limits,
+            is_strict: self.is_strict,
+        }
+    }
 }
 
 /// Which table is asked for, how it is printed, and under which limits.
@@ -158,9 +214,15 @@ pub(crate) enum Task {
         explain: bool,
         file: Option<String>,
     },
-    /// Print each datagram of one when it comes.
+    /// Print each datagram of one when it comes, or what it says of one dump.
     Follow {
         follow: Follow,
+        explain: bool,
+        file: Option<String>,
+    },
+    /// Keep tables current by its dumps and notifications.
+    Mirror {
+        mirror: Mirror,
         explain: bool,
         file: Option<String>,
     },
@@ -224,19 +286,24 @@ fn sought_of(matches: &ArgMatches<'_>) -> Option<Sought> {
     })
 }
 
-/// The standard limits, but for those that the options of a table set.
-fn limits_of(matches: &ArgMatches<'_>) -> Option<Limits> {
-    let standard = Limits::standard();
+/// The standard limits, but for this total, this greatest number of entries, and what the options
+/// say of depth and order.
+fn limits_of(matches: &ArgMatches<'_>, total: u64, entries: u32) -> Option<Limits> {
     let depth = matches.get_one("depth")?;
-    let entries = matches.get_one("entries")?;
-    Limits::new(depth, standard.datagram(), standard.total(), entries).ok()
+    let limits = Limits::new(depth, Limits::standard().datagram(), total, entries).ok()?;
+    Some(limits.with_order(matches.get_one("order")?))
+}
+
+fn format_of(matches: &ArgMatches<'_>) -> Option<Format> {
+    named(FORMATS.as_slice(), matches.get_str("format")?)
 }
 
 fn table_of(matches: &ArgMatches<'_>, file: Option<String>) -> Option<Task> {
+    let total = Limits::standard().total();
     let table = Table {
         sought: sought_of(matches)?,
-        format: named(FORMATS.as_slice(), matches.get_str("format")?)?,
-        limits: limits_of(matches)?.with_order(matches.get_one("order")?),
+        format: format_of(matches)?,
+        limits: limits_of(matches, total, matches.get_one("entries")?)?,
     };
     Some(Task::Table {
         table,
@@ -260,24 +327,36 @@ fn dump_of(matches: &ArgMatches<'_>) -> Option<Dump> {
 }
 
 fn follow_of(matches: &ArgMatches<'_>, file: Option<String>) -> Option<Task> {
-    let (standard, depth) = (Limits::standard(), matches.get_one("depth")?);
-    let limits = Limits::new(
-        depth,
-        standard.datagram(),
-        MOST_FOLLOWED,
-        standard.entries(),
-    )
-    .ok()?;
+    let what = match dump_of(matches) {
+        Some(dump) => What::Dump(dump),
+        None if matches.get_flag("bytes") => What::Bytes(color_of(matches)?),
+        None => What::Each(color_of(matches)?),
+    };
     let follow = Follow {
-        dump: dump_of(matches),
-        bytes: matches.get_flag("bytes"),
-        color: color_of(matches)?,
-        format: named(FORMATS.as_slice(), matches.get_str("format")?)?,
-        limits: limits.with_order(matches.get_one("order")?),
+        what,
+        format: format_of(matches)?,
+        limits: limits_of(matches, MOST_FOLLOWED, Limits::standard().entries())?,
         is_strict: matches.get_flag("strict"),
     };
     Some(Task::Follow {
         follow,
+        explain: matches.get_flag("explain"),
+        file,
+    })
+}
+
+fn mirror_of(matches: &ArgMatches<'_>, file: Option<String>) -> Option<Task> {
+    let mirror = Mirror {
+        kind: matches.get_one("kind"),
+        family: matches.get_one("family")?,
+        waiting: matches.get_one("waiting")?,
+        changes: matches.get_flag("changes"),
+        format: format_of(matches)?,
+        limits: limits_of(matches, MOST_FOLLOWED, matches.get_one("entries")?)?,
+        is_strict: matches.get_flag("strict"),
+    };
+    Some(Task::Mirror {
+        mirror,
         explain: matches.get_flag("explain"),
         file,
     })
@@ -299,13 +378,14 @@ fn command_task(name: &str, matches: &ArgMatches<'_>, file: Option<String>) -> O
         "show" => Engine::Show(color_of(matches)?),
         "check" => Engine::Check,
         "follow" => return follow_of(matches, file),
+        "mirror" => return mirror_of(matches, file),
         "table" => return table_of(matches, file),
         "request" => return request_of(matches),
         _ => return None,
     };
     let work = Work {
         engine,
-        format: named(FORMATS.as_slice(), matches.get_str("format")?)?,
+        format: format_of(matches)?,
         limits: Limits::standard().with_order(matches.get_one("order")?),
     };
     Some(Task::Recording {

@@ -37,12 +37,15 @@ const EXAMPLES_STATUSES_AND_FILES: &str = "Examples:
   rtnl follow links.hex
   rtnl check --explain links.hex
   rtnl table --kind link --seq 1 --port 19050 links.hex
+  rtnl mirror --changes mirror.hex
   rtnl request --kind link --seq 1
 
 Exit status:
-  0  no datagram was refused; for `table`, the dump is complete
-  1  a datagram was refused, the dump is not complete, or a line is bad; for `follow`
-     also, a line says that messages were dropped
+  0  no datagram was refused; for `table`, the dump is complete; for `mirror`, each table
+     that is printed is current at the end
+  1  a datagram was refused, the dump is not complete, a table is not current, or a line is
+     bad; for `follow` also, a line says that messages were dropped; for `mirror` also, a
+     dump was refused
   2  usage error
   3  a read or a write failed
   4  out of memory
@@ -79,6 +82,16 @@ prints
   received 52 visits 0
   complete yes";
 
+const MIRROR_EXAMPLE: &str = "Example:
+  printf '%s\\n' '# seq 1 port 12345 kind link' \\
+    '14000000 0300 0200 01000000 39300000 00000000' \\
+    '20000000 1000 0000 00000000 00000000 00000100 02000000 01000000 00000000' |
+    rtnl mirror --kind link --changes
+prints
+  = link 0
+  + link 1
+    link family 0 type 1 index 2 flags 0x00000001 UP change 0x00000000";
+
 const REQUEST_EXAMPLE: &str = "Example:
   rtnl request --kind route --family 2 --seq 7
 prints
@@ -91,6 +104,16 @@ const KIND_OF_TABLE: &str = "What the dump asks for [default: that of the record
 /// The help of `--seq` where the recording may name the number.
 const SEQ_OF_TABLE: &str = "Sequence number (nlmsg_seq) of the request and its answers [default: \
     that of the same line, with a kind or without]";
+
+/// The help of `--kind` where all kinds are kept.
+const KIND_OF_MIRROR: &str = "Print what is of this kind alone [default: all]";
+
+/// The help of `--family` where the recording doesn't say what its dumps asked for.
+const FAMILY_OF_MIRROR: &str =
+    "Address family that the dumps asked for, 0 to 255; 0 is all (AF_UNSPEC)";
+
+/// The help of `--entries` where there are many tables.
+const ENTRIES_OF_MIRROR: &str = "Greatest number of entries in each table, 0 to 65536";
 
 /// The help of `--port` where nothing else names the number.
 const PORT_OF_FOLLOW: &str = "Port id (nlmsg_pid) of the answers";
@@ -213,6 +236,22 @@ fn strict_option<'a>(alloc: Global) -> Arg<'a> {
         .help("End at the first bad line, as `rtnl show` does")
 }
 
+fn changes_option<'a>(alloc: Global) -> Arg<'a> {
+    Arg::new(alloc, "changes")
+        .long("changes")
+        .action(ArgAction::SetTrue)
+        .help("Print what changes when it comes, in place of the tables at the end")
+}
+
+fn waiting_option<'a>(alloc: Global, values: Values<'a>) -> Arg<'a> {
+    Arg::new(alloc, "waiting")
+        .long("waiting")
+        .value_name("N")
+        .value_parser(value_parser!(u32))
+        .default_value(values.entries)
+        .help("Greatest number of changes of a kind that wait while a dump of it runs")
+}
+
 /// The option of `follow` that names the kind of one dump.
 fn followed_kind<'a>(alloc: Global, values: Values<'a>) -> Result<Arg<'a>, AllocError> {
     let option = kind_option(alloc, values).required(false).help(
@@ -282,6 +321,31 @@ fn table_command<'a>(alloc: Global, values: Values<'a>) -> Result<Command<'a>, A
         .arg(file_argument(alloc))
 }
 
+fn mirror_command<'a>(alloc: Global, values: Values<'a>) -> Result<Command<'a>, AllocError> {
+    Command::new(alloc, "mirror")
+        .about(
+            "Keeps the tables of links, addresses, routes, neighbours and rules current by the \
+            dumps and notifications of a recording of any length, and prints them at its end, \
+            or each change when it comes",
+        )
+        .after_help(MIRROR_EXAMPLE)
+        .arg(
+            kind_option(alloc, values)
+                .required(false)
+                .help(KIND_OF_MIRROR),
+        )?
+        .arg(family_option(alloc).help(FAMILY_OF_MIRROR))?
+        .arg(changes_option(alloc))?
+        .arg(depth_option(alloc, values))?
+        .arg(entries_option(alloc, values).help(ENTRIES_OF_MIRROR))?
+        .arg(waiting_option(alloc, values))?
+        .arg(order_option(alloc, values))?
+        .arg(format_option(alloc, values))?
+        .arg(strict_option(alloc))?
+        .arg(explain_option(alloc))?
+        .arg(file_argument(alloc))
+}
+
 fn request_command<'a>(alloc: Global, values: Values<'a>) -> Result<Command<'a>, AllocError> {
     Command::new(alloc, "request")
         .about("Prints the request that begins a dump as one line of hexadecimal")
@@ -303,6 +367,7 @@ fn command_named<'a>(
         "follow" => follow_command(alloc, values)?,
         "check" => check_command(alloc, values)?,
         "table" => table_command(alloc, values)?,
+        "mirror" => mirror_command(alloc, values)?,
         "request" => request_command(alloc, values)?,
         _ => return Ok(None),
     };
@@ -319,6 +384,7 @@ fn with_all_commands<'a>(
         .subcommand(follow_command(alloc, values)?)?
         .subcommand(check_command(alloc, values)?)?
         .subcommand(table_command(alloc, values)?)?
+        .subcommand(mirror_command(alloc, values)?)?
         .subcommand(request_command(alloc, values)?)
 }
 

@@ -2,16 +2,18 @@
 
 ghost use Rattle.std.specs.Prelude.{◌≡◌, false};
 
-use crate::arguments::{Follow, Format};
+use crate::arguments::{Color, Follow, Format, What};
 use crate::color::{is_coloured, row_format};
 use crate::explain::{explain_datagram, explain_one_line};
 use crate::name::Name;
 use crate::output::Errors;
 use crate::standard_error::name_file;
+use rtnl::dump::Dump;
 use rtnl::frame::Limits;
 use rtnl::{
-    DumpFollowed, Followed, LiveSource, OnBadLine, RunError, Sink, run_follow, run_follow_bytes,
-    run_follow_coloured, run_follow_dump, run_follow_dump_json, run_follow_json,
+    DumpFollowed, Followed, LiveSource, MirrorFollowed, MirrorSettings, OnBadLine, RunError, Sink,
+    run_follow, run_follow_bytes, run_follow_coloured, run_follow_dump, run_follow_dump_json,
+    run_follow_json, run_mirror, run_mirror_json,
 };
 use std::io;
 
@@ -65,8 +67,28 @@ impl OnBadLine for Named<'_> {
 #[derive(Clone, Copy, Debug)]
 pub(crate) struct Ended {
     pub counts: Followed,
-    /// No line was bad; and no datagram was refused or, of a dump, it is complete.
+    /// No line was bad; and no datagram was refused or, of a dump, it is complete. Of a mirror no
+    /// dump was refused either, and each table that is printed is current.
     pub is_clean: bool,
+}
+
+impl Ended {
+    /// Of datagrams by themselves.
+    fn of_each(counts: Followed) -> Ended {
+        let is_clean = counts.refused == 0 && counts.bad_lines == 0;
+        Ended { counts, is_clean }
+    }
+
+    fn of_dump(DumpFollowed { counts, complete }: DumpFollowed) -> Ended {
+        let is_clean = complete && counts.bad_lines == 0;
+        Ended { counts, is_clean }
+    }
+
+    fn of_mirror(ended: MirrorFollowed) -> Ended {
+        let Ended { counts, is_clean } = Ended::of_each(ended.counts);
+        let is_clean = is_clean && ended.unbegun == 0 && ended.current;
+        Ended { counts, is_clean }
+    }
 }
 
 /// Follows what a source gives, each datagram by itself.
@@ -75,21 +97,51 @@ fn follow_each<S: LiveSource<W>, W: Sink>(
     sink: &mut W,
     named: &mut Named<'_>,
     follow: &Follow,
+    color: Color,
 ) -> Result<Followed, RunError>
     requires { named.old.is_ended ≡ false }
 {
-    let (rt, limits) = (named.rt, &follow.limits);
-    let alloc = rt.alloc();
-    if follow.bytes {
-        let rows = row_format(rt, follow.color, follow.format);
-        return run_follow_bytes(alloc, source, sink, named, limits, rows);
-    }
+    let (alloc, limits) = (named.rt.alloc(), &follow.limits);
     match follow.format {
         Format::Json => run_follow_json(alloc, source, sink, named, limits),
-        Format::Text if is_coloured(rt, follow.color) => {
+        Format::Text if is_coloured(named.rt, color) => {
             run_follow_coloured(alloc, source, sink, named, limits)
         }
         Format::Text => run_follow(alloc, source, sink, named, limits),
+    }
+}
+
+/// Follows what a source gives as the answers to a dump.
+fn follow_dump<S: LiveSource<W>, W: Sink>(
+    source: &mut S,
+    sink: &mut W,
+    named: &mut Named<'_>,
+    follow: &Follow,
+    dump: Dump,
+) -> Result<DumpFollowed, RunError>
+    requires { named.old.is_ended ≡ false }
+{
+    let (alloc, limits) = (named.rt.alloc(), &follow.limits);
+    match follow.format {
+        Format::Text => run_follow_dump(alloc, source, sink, named, dump, limits),
+        Format::Json => run_follow_dump_json(alloc, source, sink, named, dump, limits),
+    }
+}
+
+/// Keeps tables current by what a source gives.
+fn mirror<S: LiveSource<W>, W: Sink>(
+    source: &mut S,
+    sink: &mut W,
+    named: &mut Named<'_>,
+    format: Format,
+    settings: &MirrorSettings,
+) -> Result<MirrorFollowed, RunError>
+    requires { named.old.is_ended ≡ false }
+{
+    let alloc = named.rt.alloc();
+    match format {
+        Format::Text => run_mirror(alloc, source, sink, named, settings),
+        Format::Json => run_mirror_json(alloc, source, sink, named, settings),
     }
 }
 
@@ -102,18 +154,25 @@ pub(crate) fn follow<S: LiveSource<W>, W: Sink>(
 ) -> Result<Ended, RunError>
     requires { named.old.is_ended ≡ false }
 {
-    let (alloc, limits) = (named.rt.alloc(), &follow.limits);
-    let Some(dump) = follow.dump else {
-        let counts = follow_each(source, sink, named, follow)?;
-        let is_clean = counts.refused == 0 && counts.bad_lines == 0;
-        return Ok(Ended { counts, is_clean });
-    };
-    let DumpFollowed { counts, complete } = match follow.format {
-        Format::Text => run_follow_dump(alloc, source, sink, named, dump, limits)?,
-        Format::Json => run_follow_dump_json(alloc, source, sink, named, dump, limits)?,
-    };
-    Ok(Ended {
-        counts,
-        is_clean: complete && counts.bad_lines == 0,
-    })
+    let (rt, limits, format) = (named.rt, &follow.limits, follow.format);
+    let alloc = rt.alloc();
+    match &follow.what {
+        What::Each(color) => {
+            let counts = follow_each(source, sink, named, follow, *color)?;
+            Ok(Ended::of_each(counts))
+        }
+        What::Bytes(color) => {
+            let rows = row_format(rt, *color, format);
+            let counts = run_follow_bytes(alloc, source, sink, named, limits, rows)?;
+            Ok(Ended::of_each(counts))
+        }
+        What::Dump(dump) => {
+            let ended = follow_dump(source, sink, named, follow, *dump)?;
+            Ok(Ended::of_dump(ended))
+        }
+        What::Mirror(settings) => {
+            let ended = mirror(source, sink, named, format, settings)?;
+            Ok(Ended::of_mirror(ended))
+        }
+    }
 }

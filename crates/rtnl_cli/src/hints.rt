@@ -1,14 +1,13 @@
 //! What a user can do about a table that isn't what was meant, or a recording that is too long.
 
 use crate::commands::MOST_ENTRIES;
-use crate::heading::Numbers;
 use crate::kinds::{kind_answered, senders_of};
 use crate::name::Name;
 use crate::output::Errors;
 use nl_dump::match_table;
-use rtnl::LONGEST_INPUT;
 use rtnl::dump::{Dump, Session};
 use rtnl::frame::Limits;
+use rtnl::{LONGEST_INPUT, Numbers};
 use std::io;
 
 /// Writes what is done with a recording that is too long.

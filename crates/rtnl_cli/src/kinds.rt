@@ -3,11 +3,10 @@
 ghost use Rattle.std.specs.Prelude.{◌≡◌, IfSome};
 ghost use Rattle.nl_route.specs.Families.{row};
 
-use crate::heading::Numbers;
 use nl_attr::{LONGEST_REGION, SORT_MESSAGE};
 use rtnl::dump::{Dump, Kind};
 use rtnl::frame::{Limits, message_at};
-use rtnl::{Tape, datagrams, tape_of};
+use rtnl::{Numbers, Tape, datagrams, tape_of};
 use std::alloc::{AllocError, Global};
 
 /// What the header of a message says of whose it is.

@@ -1,5 +1,5 @@
 //! The command `rtnl`: shows and checks recordings of rtnetlink datagrams, reads them as the
-//! answers to a dump, and prints the request that begins one.
+//! answers to a dump, keeps tables current by them, and prints the request that begins a dump.
 #![tactic(auto)]
 
 mod arguments;
@@ -8,7 +8,6 @@ mod commands;
 mod explain;
 mod follow;
 mod given;
-mod heading;
 mod hints;
 mod kinds;
 mod messages;
@@ -20,12 +19,11 @@ mod standard_error;
 mod subject;
 mod terminal;
 
-use arguments::{Engine, Follow, Format, Parsed, Table, Task, Work};
+use arguments::{Engine, Follow, Format, Mirror, Parsed, Table, Task, Work};
 use color::{is_coloured, row_format};
 use explain::{Detail, tell};
 use follow::{Ended, Named, follow};
 use given::{Given, read_given};
-use heading::heading_in;
 use messages::{print_message, print_unnamed};
 use name::Name;
 use nl_attr::Order;
@@ -34,8 +32,8 @@ use reading::Reading;
 use rtnl::dump::{Kind, Seed};
 use rtnl::{
     Followed, LONGEST_INPUT, ReadSource, RunError, Sink, SliceSource, Source, VecSink, Verdict,
-    WriteSink, run_check, run_check_json, run_request_ordered, run_show, run_show_bytes,
-    run_show_coloured, run_show_json, run_table_json, run_table_with_seed,
+    WriteSink, heading_in, run_check, run_check_json, run_request_ordered, run_show,
+    run_show_bytes, run_show_coloured, run_show_json, run_table_json, run_table_with_seed,
 };
 use standard_error::{
     BLEMISHED, Causes, USAGE, after, ended, failed, followed, outcome, unread, unwritten,
@@ -153,8 +151,8 @@ fn perform_work(rt: &HostRuntime, work: &Work, explain: bool, file: Option<&str>
 
 /// The exit status of a recording that was followed, after what was counted, which is said on a
 /// terminal.
-fn followed_status(rt: &HostRuntime, ended: Ended, is_lossy: bool) -> ExitCode {
-    let status = if ended.is_clean && !is_lossy {
+fn followed_status(rt: &HostRuntime, ended: Ended, is_spoilt: bool) -> ExitCode {
+    let status = if ended.is_clean && !is_spoilt {
         ExitCode::SUCCESS
     } else {
         ExitCode::from(BLEMISHED)
@@ -194,7 +192,10 @@ fn follow_over(
         is_ended: false,
     };
     match follow(&mut source, &mut sink, &mut named, how) {
-        Ok(counted) => followed_status(rt, counted, reading.is_lossy),
+        Ok(counted) => {
+            let is_spoilt = reading.is_lossy && how.is_spoilt_by_loss();
+            followed_status(rt, counted, is_spoilt)
+        }
         Err(fault) => {
             let causes = Causes {
                 read: reading.error,
@@ -222,6 +223,19 @@ fn random_seed(rt: &HostRuntime) -> io::Result<Seed> {
     let mut bytes = [0; 16];
     rt.fill_bytes(&mut bytes)?;
     Ok(Seed::from_bytes(bytes))
+}
+
+/// Keeps tables current by a recording as it comes.
+fn perform_mirror(
+    rt: &HostRuntime,
+    mirror: &Mirror,
+    explain: bool,
+    file: Option<&str>,
+) -> ExitCode {
+    match random_seed(rt) {
+        Ok(seed) => perform_follow(rt, &mirror.follow(seed), explain, file),
+        Err(error) => unread(rt, RANDOM_BYTES, error),
+    }
 }
 
 /// Reads a recording as the answers to a dump. It is read only once, so it is kept: it may name the
@@ -277,6 +291,11 @@ fn perform(rt: &HostRuntime, task: &Task) -> ExitCode {
             explain,
             file,
         } => perform_follow(rt, follow, *explain, file.as_ref().map(String::as_str)),
+        Task::Mirror {
+            mirror,
+            explain,
+            file,
+        } => perform_mirror(rt, mirror, *explain, file.as_ref().map(String::as_str)),
         Task::Table {
             table,
             explain,

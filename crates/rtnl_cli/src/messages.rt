@@ -1,12 +1,11 @@
 //! Help, the version and usage errors, as they are printed.
 
 use crate::arguments::{Sought, unknown_command, unnamed};
-use crate::heading::Heading;
 use crate::name::{Escaped, Name};
 use crate::output::{Errors, standard_output};
 use crate::standard_error::{USAGE, failed, outcome, unwritten};
 use clap::Error;
-use rtnl::RunError;
+use rtnl::{Heading, RunError};
 use std::alloc::AllocError;
 use std::io::{self, Write};
 use std::process::ExitCode;

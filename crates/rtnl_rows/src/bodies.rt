@@ -4,7 +4,7 @@ ghost use Rattle.std.specs.Prelude.{◌≤◌, length};
 
 use crate::messages::say_body;
 use crate::rows::Row;
-use crate::said::{Hex, Maybe, say};
+use crate::said::{Hex, Maybe, OUT_OF_MEMORY, say};
 use crate::shown::Shown;
 use crate::stop::{Stop, Wrong};
 use crate::trees::{say_attrs, say_hops};
@@ -256,6 +256,7 @@ fn write(rt: &HostRuntime, row: &mut Row<'_>) -> Result<(), Stop> {
     let bytes = row.bytes(rt.alloc())?;
     let body = match way.read(rt.alloc(), bytes.as_slice())?.into_result() {
         Ok(body) => body,
+        Err(ListError::Memory) => return Err(Stop::Memory),
         Err(error) => return say(rt, error),
     };
     let mut out = Vec::from_slice(rt.alloc(), &[0xee])?;
@@ -283,12 +284,16 @@ fn tell_key(rt: &HostRuntime, row: &mut Row<'_>) -> Result<(), Stop> {
     let bytes = row.bytes(rt.alloc())?;
     let body = match way.read(rt.alloc(), bytes.as_slice())?.into_result() {
         Ok(body) => body,
+        Err(ListError::Memory) => return Err(Stop::Memory),
         Err(error) => return say(rt, error),
     };
-    let key = match_object!(&body, Body, entry => key_of(rt.alloc(), entry, way.order)?, {
+    let key = match_object!(&body, Body, entry => key_of(rt.alloc(), entry, way.order), {
         _ => return Err(Stop::Wrong(Wrong::Input)),
     });
-    say(rt, Hex(key.as_slice()))
+    match key {
+        Ok(key) => say(rt, Hex(key.as_slice())),
+        Err(AllocError) => say(rt, OUT_OF_MEMORY),
+    }
 }
 
 /// Tells a head, and its bytes by the calls that write it.

@@ -3,8 +3,10 @@
 use crate::said::{Hex, Maybe, say, yes_or_no};
 use crate::stop::{Stop, Wrong};
 use nl_attr::Depth;
-use nl_route::{Head, Object};
+use nl_dump::{Session, match_table};
+use nl_route::{Family, Head, Object};
 use nl_table::{Entry, Table};
+use std::alloc::Global;
 
 /// Tells how many entries a table has, of how many at most, and how many it missed.
 pub(crate) fn say_count<H: Head>(rt: &HostRuntime, table: &Table<Object<H>>) -> Result<(), Stop>
@@ -35,10 +37,9 @@ where
         _ => return Err(Stop::Wrong(Wrong::Absent)),
     };
     let mut body = Vec::new(rt.alloc());
-    let written = entry.write_body_ordered(Depth::standard(), &mut body, table.order());
-    if written.is_err() {
-        return Err(Stop::Wrong(Wrong::Refused));
-    }
+    entry
+        .write_body_ordered(Depth::standard(), &mut body, table.order())
+        .map_err(|error| Stop::behind(error.code()))?;
     let found = Maybe(table.find(key));
     let (key, body) = (Hex(key), Hex(body.as_slice()));
     say(rt, format_args!("key {key} at {found} body {body}"))
@@ -68,4 +69,34 @@ where
         say_entry(rt, table, place)?;
     }
     Ok(())
+}
+
+/// More bytes than the tables of a row that is told so come to.
+const ROOM: usize = 1024;
+
+/// Appends how many entries a table has, how many it missed, how many places are reserved, and the
+/// key and the body of each entry.
+fn push_table<H: Head>(out: &mut Vec<u8>, table: &Table<Object<H>>) -> Result<(), Stop>
+where
+    Object<H>: Entry,
+{
+    out.extend_from_slice(&table.len().to_le_bytes())?;
+    out.extend_from_slice(&table.missed().to_le_bytes())?;
+    out.extend_from_slice(&table.spare().to_le_bytes())?;
+    for (key, entry) in table {
+        out.extend_from_slice(key)?;
+        entry
+            .write_body_ordered(Depth::standard(), out, table.order())
+            .map_err(|error| Stop::behind(error.code()))?;
+    }
+    Ok(())
+}
+
+/// All that the tables of a session hold, in bytes.
+pub(crate) fn tables_of(alloc: Global, session: &Session) -> Result<Vec<u8>, Stop> {
+    let mut tables = Vec::with_capacity(alloc, ROOM)?;
+    for kind in Family::ALL {
+        match_table!(kind, session, table => push_table(&mut tables, table)?);
+    }
+    Ok(tables)
 }

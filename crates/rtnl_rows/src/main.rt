@@ -9,6 +9,11 @@
 //! stands for bytes so many times, and a word with a capital letter for the bytes that a row
 //! `bytes NAME` above has as its input, or as `NAME:FROM..END` for a part of them; that of a run
 //! is the lines of a recording. What is wrong with a row is answered behind a question mark.
+//!
+//! The tables of tests/refuse have a row of each call that takes memory, which says in its answer
+//! where there was none, and what stands then. Where memory runs out elsewhere, before a call or
+//! while its answer is made, the program ends with status 4, else with 1 where the table can't be
+//! read or an answer printed.
 #![tactic(auto)]
 
 mod bodies;
@@ -22,6 +27,7 @@ mod forms;
 mod laws;
 mod lines;
 mod messages;
+mod mirrors;
 mod numbers;
 mod readings;
 mod rows;
@@ -60,6 +66,7 @@ fn has_answered(rt: &HostRuntime, row: &mut Row<'_>) -> Result<bool, Stop> {
             || numbers::has_answered(rt, row)?
             || readings::has_answered(rt, row)?
             || sessions::has_answered(rt, row)?
+            || mirrors::has_answered(rt, row)?
             || streams::has_answered(rt, row)?
             || tables::has_answered(rt, row)?
             || faults::has_answered(rt, row)?
@@ -141,13 +148,13 @@ fn run(rt: &HostRuntime) -> Result<(), Stop> {
 }
 
 /// An exit status, after a message on standard error, be it printed or not.
-fn failed(_printed: io::Result<()>) -> ExitCode {
-    ExitCode::FAILURE
+fn failed(_printed: io::Result<()>, status: u8) -> ExitCode {
+    ExitCode::from(status)
 }
 
 fn main(rt: HostRuntime) -> ExitCode {
     match run(&rt) {
         Ok(()) => ExitCode::SUCCESS,
-        Err(stop) => failed(eprintln!(rt; "rtnl_rows: {stop}")),
+        Err(stop) => failed(eprintln!(rt; "rtnl_rows: {stop}"), stop.status()),
     }
 }

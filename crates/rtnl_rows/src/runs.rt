@@ -18,6 +18,9 @@ use std::fmt;
 /// The most bytes that a comment has above the longest input.
 const ABOVE: usize = 100;
 
+/// Room that a run into memory has beforehand: short output takes no more.
+const ROOM: usize = 1024;
+
 /// The dump of links to which most answers in tables belong.
 const LINKS: Dump = Dump {
     kind: Kind::Link,
@@ -192,6 +195,7 @@ fn write<S: Source>(
         return say(rt, end);
     }
     let mut sink = VecSink::new(rt.alloc());
+    sink.bytes.reserve(ROOM)?;
     let end = run.end(rt.alloc(), source, &mut sink);
     say_written(rt, sink.bytes.as_slice())?;
     say(rt, end)

@@ -130,6 +130,9 @@ impl fmt::Display for Flags {
     }
 }
 
+/// What is told of a call that answers a refused growth by no refusal of its own.
+pub(crate) const OUT_OF_MEMORY: &str = "out of memory";
+
 pub(crate) fn yes_or_no(holds: bool) -> &'static str {
     if holds { "yes" } else { "no" }
 }

@@ -61,11 +61,33 @@ pub(crate) enum Stop {
     /// The table is no text, or too long.
     #[error("no table")]
     NoTable,
+    /// Memory ran out where a row was read or prepared, or its answer written.
     #[error("out of memory")]
     Memory,
     /// The table was not read, or an answer not printed.
     #[error("a read or a write failed")]
     Fault,
+}
+
+/// The number of each refusal for which memory ran out.
+const MEMORY: u8 = 13;
+
+impl Stop {
+    /// Why a row is not tried whose call would come behind a refusal of this number.
+    pub(crate) fn behind(refusal: u8) -> Stop {
+        match refusal {
+            MEMORY => Stop::Memory,
+            _ => Stop::Wrong(Wrong::Refused),
+        }
+    }
+
+    /// The exit status, by which the end of memory is told apart from a failure.
+    pub(crate) fn status(self) -> u8 {
+        match self {
+            Stop::Memory => 4,
+            _ => 1,
+        }
+    }
 }
 
 impl From<AllocError> for Stop {

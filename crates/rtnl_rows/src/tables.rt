@@ -2,13 +2,13 @@
 
 use crate::entries::{say_count, say_entries, say_entry, say_keys};
 use crate::rows::Row;
-use crate::said::{Maybe, say};
+use crate::said::{Maybe, OUT_OF_MEMORY, say};
 use crate::stop::{Stop, Wrong};
 use crate::words::number_in;
 use nl_attr::{Depth, LONGEST_REGION, Order};
 use nl_route::{AddrHead, Family, Head, LinkHead, NeighHead, Object, RouteHead, RuleHead};
 use nl_table::{Entry, Put, Table};
-use std::alloc::Global;
+use std::alloc::{AllocError, Global};
 
 /// Makes the call of a row, if it is one of these. Whether it is.
 pub(crate) fn has_answered(rt: &HostRuntime, row: &mut Row<'_>) -> Result<bool, Stop> {
@@ -37,11 +37,16 @@ where
 {
     let order = row.words.order();
     let entries: u32 = row.words.number_of("entries", 1)?;
-    let mut table: Table<Object<H>> = match order {
-        Some(order) => Table::new_ordered(rt.alloc(), entries, order)?,
-        None => Table::new(rt.alloc(), entries)?,
+    let lines = row.lines();
+    let made = match order {
+        Some(order) => Table::new_ordered(rt.alloc(), entries, order),
+        None => Table::new(rt.alloc(), entries),
     };
-    for line in row.lines() {
+    let mut table: Table<Object<H>> = match made {
+        Ok(table) => table,
+        Err(AllocError) => return say(rt, OUT_OF_MEMORY),
+    };
+    for line in lines {
         step(rt, &mut table, row, line)?;
     }
     Ok(())
@@ -60,8 +65,8 @@ where
 {
     match line.split_once(' ').unwrap_or((line, "")) {
         ("reserve", count) => {
-            table.reserve(number_in(count)?)?;
-            say_spare(rt, table.spare())
+            let answer = table.reserve(number_in(count)?);
+            say_reserved(rt, answer, table.spare())
         }
         ("spare", "") => say_spare(rt, table.spare()),
         ("put", body) => {
@@ -90,6 +95,14 @@ fn say_spare(rt: &HostRuntime, spare: u32) -> Result<(), Stop> {
     say(rt, format_args!("spare {spare}"))
 }
 
+/// Tells whether places were reserved, and how many there are.
+fn say_reserved(rt: &HostRuntime, answer: Result<(), AllocError>, spare: u32) -> Result<(), Stop> {
+    match answer {
+        Ok(()) => say_spare(rt, spare),
+        Err(AllocError) => say(rt, format_args!("{OUT_OF_MEMORY}, spare {spare}")),
+    }
+}
+
 /// The entry of a body.
 fn entry_in<H: Head>(alloc: Global, bytes: &[u8], order: Order) -> Result<Object<H>, Stop> {
     if bytes.len() < H::SIZE || bytes.len() > LONGEST_REGION {
@@ -98,7 +111,7 @@ fn entry_in<H: Head>(alloc: Global, bytes: &[u8], order: Order) -> Result<Object
     let tally = Object::read_body_ordered(alloc, bytes, 0, Depth::standard(), order);
     match tally.into_result() {
         Ok(entry) => Ok(entry),
-        Err(_) => Err(Stop::Wrong(Wrong::Refused)),
+        Err(error) => Err(Stop::behind(error.code())),
     }
 }
 

@@ -3,13 +3,14 @@
 ghost use Rattle.std.specs.Prelude.{◌≤◌, ◌+◌, length};
 
 use crate::rows::Row;
-use crate::said::{Flags, Hex, Indent, Maybe, say, yes_or_no};
+use crate::said::{Flags, Hex, Indent, Maybe, OUT_OF_MEMORY, say, yes_or_no};
+use crate::shown::Shown;
 use crate::stop::{Stop, Wrong};
 use nl_attr::{
     Attr, Content, Ctx, Depth, FARTHEST_END, Hop, LONGEST_REGION, ListError, Order, Payload, Tally,
     Value, find, holds, read_list, read_list_ordered,
 };
-use std::alloc::Global;
+use std::alloc::{AllocFailed, Global};
 use std::fmt;
 
 /// Makes the call of a row, if it is one of these. Whether it is.
@@ -209,14 +210,29 @@ fn tell_content(rt: &HostRuntime, row: &mut Row<'_>) -> Result<(), Stop> {
 /// `payload`: the bytes kept as a payload, and taken out of it.
 fn keep(rt: &HostRuntime, row: &mut Row<'_>) -> Result<(), Stop> {
     let bytes = row.bytes(rt.alloc())?;
-    let payload = Payload::from_slice(rt.alloc(), bytes.as_slice())?;
+    let Ok(payload) = Payload::from_slice(rt.alloc(), bytes.as_slice()) else {
+        return say(rt, OUT_OF_MEMORY);
+    };
     let (len, is_empty) = (payload.len(), yes_or_no(payload.is_empty()));
     let kept = Hex(payload.as_slice());
     say(rt, format_args!("len {len} empty {is_empty} kept {kept}"))?;
-    let taken = payload.into_vec(rt.alloc())?;
-    let again = Payload::from(bytes).into_vec(rt.alloc())?;
-    let (taken, again) = (Hex(taken.as_slice()), Hex(again.as_slice()));
+    let taken = payload.into_vec(rt.alloc());
+    let again = Payload::from(bytes).into_vec(rt.alloc());
+    let (taken, again) = (Shown(&taken), Shown(&again));
     say(rt, format_args!("taken {taken} again {again}"))
+}
+
+/// The bytes that were taken out of a payload, or where memory ran out those that it still has.
+impl fmt::Display for Shown<'_, Result<Vec<u8>, AllocFailed<Payload>>> {
+    fn fmt<W: fmt::Write>(&self, f: &mut fmt::Formatter<W>) -> fmt::Result {
+        match self.0 {
+            Ok(bytes) => Hex(bytes.as_slice()).fmt(f),
+            Err(AllocFailed { value }) => {
+                let left = Hex(value.as_slice());
+                write!(f, "{OUT_OF_MEMORY} left {left}")
+            }
+        }
+    }
 }
 
 /// `same_payload`: whether the bytes of two lines are one payload, in both directions and by bytes.

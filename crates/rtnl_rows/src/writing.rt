@@ -120,7 +120,9 @@ fn attrs_of(alloc: Global, row: &mut Row<'_>, ctx: Ctx) -> Result<Vec<Attr>, Sto
             Some((order, hex)) => {
                 let (bytes, depth) = (row.bytes_of(alloc, hex)?, Depth::standard());
                 let read = read_list_ordered(alloc, bytes.as_slice(), 0, ctx, 0, depth, order);
-                attrs = read.into_result().map_err(|_| Stop::Wrong(Wrong::Refused))?;
+                attrs = read
+                    .into_result()
+                    .map_err(|error| Stop::behind(error.code()))?;
             }
             None => build(alloc, row, line, &mut attrs, &mut hops)?,
         }
@@ -208,7 +210,7 @@ fn messages_of(alloc: Global, row: &mut Row<'_>) -> Result<Vec<Message>, Stop> {
                 let limits = greatest.with_order(order);
                 messages = read_datagram(alloc, bytes.as_slice(), &limits)
                     .into_result()
-                    .map_err(|_| Stop::Wrong(Wrong::Refused))?;
+                    .map_err(|error| Stop::behind(error.code()))?;
             }
             None => {
                 let mut last = messages.pop().ok_or(Stop::Wrong(Wrong::Absent))?;

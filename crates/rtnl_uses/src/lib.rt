@@ -6,6 +6,7 @@ pub mod datagrams;
 pub mod dumps;
 pub mod families;
 pub mod links;
+pub mod mirrors;
 pub mod recordings;
 pub mod requests;
 pub mod streams;

@@ -1,4 +1,3 @@
-#!/usr/bin/env python3
 """Builds requests for routes by pyroute2: the message of a request, and its bytes.
 usage: pyroute2_build.py one|two COUNT
 """

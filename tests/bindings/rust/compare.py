@@ -23,7 +23,7 @@ sys.dont_write_bytecode = True
 HERE = os.path.dirname(os.path.realpath(__file__))
 sys.path[:0] = [HERE, f"{HERE}/../../helpers"]
 import datagrams
-from counting import counted
+from counting import counted, whole
 from json_of import Object, VIEWS, viewed
 
 ROOT = os.path.realpath(f"{HERE}/../../..")
@@ -209,4 +209,5 @@ def cases() -> Iterator[Case]:
 
 
 if __name__ == "__main__":
+    whole("19 of 20 mutations, and of what is made at random")
     sys.exit(counted(cases()))

@@ -18,13 +18,17 @@ from . import _loading
 from ._structs import (
     AddrRequest,
     Builder,
+    Change,
     Checked,
     Event,
     Family,
     Fed,
     Found,
+    Heard,
     Holds,
     LinkRequest,
+    Mirror,
+    Mirrored,
     NeighRequest,
     Options,
     Put,
@@ -62,6 +66,7 @@ class ReadText(c_void_p):
 
 SESSION, STREAM, OPTIONS = POINTER(Session), POINTER(Stream), POINTER(Options)
 EVENTS, BUILDER = POINTER(Event), POINTER(Builder)
+MIRROR, CHANGES = POINTER(Mirror), POINTER(Change)
 DATAGRAM = (Bytes, c_size_t)
 REQUEST = (c_uint16, c_uint8, c_uint32, c_uint32, Room, c_size_t)
 # What stands behind the struct of a request that changes something.
@@ -90,6 +95,15 @@ CALLS: Dict[str, Tuple[Any, Tuple[Any, ...]]] = {
     "rtnlc_session_entry": (Put, (SESSION, c_uint16, c_uint32, Room, c_size_t)),
     "rtnlc_session_key": (Put, (SESSION, c_uint16, c_uint32, Room, c_size_t)),
     "rtnlc_session_find": (Found, (SESSION, c_uint16, *DATAGRAM)),
+    "rtnlc_mirror_new": (c_uint8, (MIRROR, OPTIONS, c_uint32)),
+    "rtnlc_mirror_free": (None, (MIRROR,)),
+    "rtnlc_mirror_begin": (Put, (MIRROR, *REQUEST)),
+    "rtnlc_mirror_feed": (Heard, (MIRROR, *DATAGRAM, CHANGES, c_size_t, Room, c_size_t)),
+    "rtnlc_mirror_lost": (c_uint8, (MIRROR,)),
+    "rtnlc_mirror_table": (Mirrored, (MIRROR, c_uint16)),
+    "rtnlc_mirror_entry": (Put, (MIRROR, c_uint16, c_uint32, Room, c_size_t)),
+    "rtnlc_mirror_key": (Put, (MIRROR, c_uint16, c_uint32, Room, c_size_t)),
+    "rtnlc_mirror_find": (Found, (MIRROR, c_uint16, *DATAGRAM)),
     "rtnlc_stream_new": (c_uint8, (STREAM, OPTIONS)),
     "rtnlc_stream_begin": (Put, (STREAM, *REQUEST)),
     "rtnlc_stream_feed": (Fed, (STREAM, *DATAGRAM, EVENTS, c_size_t)),

@@ -139,6 +139,51 @@ class Found(Structure):
     _fields_ = [("index", c_uint32), ("code", c_uint8)]
 
 
+class Mirror(Structure):
+    """The handle of a mirror."""
+
+    _fields_ = [("at", c_void_p)]
+
+
+class Change(Structure):
+    """What became of a message."""
+
+    _fields_ = [
+        ("before", c_uint32),
+        ("before_len", c_uint32),
+        ("index", c_uint32),
+        ("kind", c_uint16),
+        ("effect", c_uint8),
+        ("code", c_uint8),
+    ]
+
+
+class Heard(Structure):
+    """What became of a datagram."""
+
+    _fields_ = [
+        ("visits", c_uint64),
+        ("changes", c_size_t),
+        ("before", c_size_t),
+        ("place", c_uint32),
+        ("code", c_uint8),
+    ]
+
+
+class Mirrored(Structure):
+    """How a table of a mirror stands."""
+
+    _fields_ = [
+        ("missed", c_uint64),
+        ("count", c_uint32),
+        ("limit", c_uint32),
+        ("seq", c_uint32),
+        ("stale", c_uint8),
+        ("dumps", c_bool),
+        ("code", c_uint8),
+    ]
+
+
 class Stream(Structure):
     """Where the dumps of a socket stand."""
 

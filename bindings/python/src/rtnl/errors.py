@@ -54,6 +54,8 @@ class Code(enum.IntEnum):
     """There is no builder."""
     NO_SEED = 24
     """No random bytes are had for the hash of a session's tables."""
+    NO_MIRROR = 25
+    """There is no mirror."""
     END = 255
     """Nothing more stands there."""
 

@@ -79,6 +79,10 @@ fn add_structs_of_dumps(lines: &mut Lines) {
         rtnlc_session { at }
         rtnlc_table { missed, count, limit, code }
         rtnlc_found { index, code }
+        rtnlc_mirror { at }
+        rtnlc_change { before, before_len, index, kind, effect, code }
+        rtnlc_heard { visits, changes, before, place, code }
+        rtnlc_mirrored { missed, count, limit, seq, stale, dumps, code }
         rtnlc_stream {
             total, received, visits, ignored, datagram, entries, seq, port, status, kind, family,
             state, depth, big, damaged, interrupted
@@ -125,7 +129,10 @@ fn add_numbers(lines: &mut Lines) {
         RTNLC_TOO_LONG RTNLC_TOO_DEEP RTNLC_TOO_LARGE RTNLC_TOTAL RTNLC_NOT_WAITING RTNLC_BUSY
         RTNLC_SAME_SEQ RTNLC_MISMATCH RTNLC_BAD_LIMIT RTNLC_NO_MEMORY RTNLC_NO_ROOM RTNLC_NO_STREAM
         RTNLC_NO_KIND RTNLC_NO_SESSION RTNLC_NOTHING_OPEN RTNLC_STILL_OPEN RTNLC_NO_BUILDER
-        RTNLC_NO_SEED RTNLC_END RTNLC_MESSAGE RTNLC_BYTES RTNLC_LIST RTNLC_HOPS RTNLC_NEXT_HOP
+        RTNLC_NO_SEED RTNLC_NO_MIRROR RTNLC_END RTNLC_MESSAGE RTNLC_BYTES RTNLC_LIST RTNLC_HOPS
+        RTNLC_NEXT_HOP RTNLC_CURRENT RTNLC_NEVER_DUMPED RTNLC_LOST RTNLC_REFUSED RTNLC_SHORT
+        RTNLC_TOO_MANY_WAIT RTNLC_SILENT RTNLC_UNNAMED RTNLC_FULL RTNLC_NOTHING RTNLC_ADDED
+        RTNLC_CHANGED RTNLC_REMOVED RTNLC_WAITS
         RTNLC_NO_CONTEXT RTNLC_LINK RTNLC_LINK_INFO RTNLC_ADDR RTNLC_HOPS_BEHIND RTNLC_ROUTE
         RTNLC_METRICS RTNLC_NEIGH RTNLC_RULE RTNLC_PLAIN RTNLC_IDLE RTNLC_WAITING RTNLC_DONE
         RTNLC_FAILED RTNLC_OVERRUN RTNLC_ABANDONED RTNLC_STANDARD_TOTAL RTNLC_STANDARD_DATAGRAM
@@ -209,7 +216,15 @@ fn the_header_has_nothing_else() {
     let own: BTreeSet<&str> = words(SOURCE).collect();
     let others = words(&source).filter(|it| it.starts_with("rtnlc_") || it.starts_with("RTNLC_"));
     // The names of C's enums, of which each value is declared there as a number.
-    let enums = ["rtnlc_code", "rtnlc_sort", "rtnlc_context", "rtnlc_state", "rtnlc_operation"];
+    let enums = [
+        "rtnlc_code",
+        "rtnlc_sort",
+        "rtnlc_context",
+        "rtnlc_state",
+        "rtnlc_operation",
+        "rtnlc_stale",
+        "rtnlc_effect",
+    ];
     let missing: BTreeSet<&str> =
         others.filter(|it| !own.contains(it) && !enums.contains(it)).collect();
     assert_eq!(missing, OF_THE_HEADER_ALONE.into_iter().collect());

@@ -57,9 +57,9 @@ pub const RTNLC_TOO_LARGE: u8 = 6;
 pub const RTNLC_TOTAL: u8 = 7;
 /// No dump waits for its answers.
 pub const RTNLC_NOT_WAITING: u8 = 8;
-/// A dump waits for its answers, or the session is made already.
+/// A dump waits for its answers, or the session or the mirror is made already.
 pub const RTNLC_BUSY: u8 = 9;
-/// The sequence number is that of the dump before.
+/// The sequence number is that of the dump before; of a mirror, it isn't above that of each before.
 pub const RTNLC_SAME_SEQ: u8 = 10;
 /// A value is of another kind than its attribute holds, or a head is not that of its message type.
 pub const RTNLC_MISMATCH: u8 = 11;
@@ -83,6 +83,8 @@ pub const RTNLC_STILL_OPEN: u8 = 22;
 pub const RTNLC_NO_BUILDER: u8 = 23;
 /// No random bytes are had for the hash of a session's tables.
 pub const RTNLC_NO_SEED: u8 = 24;
+/// Null, or a mirror that was never made, or is freed.
+pub const RTNLC_NO_MIRROR: u8 = 25;
 /// Nothing more stands there.
 pub const RTNLC_END: u8 = 255;
 
@@ -117,6 +119,36 @@ pub const RTNLC_RULE: u8 = 7;
 pub const RTNLC_PLAIN: u8 = 8;
 /// Next hops, in [`rtnlc_built`] alone.
 pub const RTNLC_HOPS_BEHIND: u8 = 9;
+
+/// A table of a mirror doesn't differ from the kernel's.
+pub const RTNLC_CURRENT: u8 = 0;
+/// No dump of it was whole yet, of the address family asked for last.
+pub const RTNLC_NEVER_DUMPED: u8 = 1;
+/// The kernel dropped messages: `ENOBUFS`, or `NLMSG_OVERRUN`.
+pub const RTNLC_LOST: u8 = 2;
+/// A datagram was refused.
+pub const RTNLC_REFUSED: u8 = 3;
+/// There was no memory for what was heard.
+pub const RTNLC_SHORT: u8 = 4;
+/// More changes came while a dump ran than may wait for its end.
+pub const RTNLC_TOO_MANY_WAIT: u8 = 5;
+/// The kernel takes routes of IPv4 away with a link or an address, and tells nobody.
+pub const RTNLC_SILENT: u8 = 6;
+/// A route was replaced, joined or taken from others, and the message doesn't say which.
+pub const RTNLC_UNNAMED: u8 = 7;
+/// The table had no room for an entry.
+pub const RTNLC_FULL: u8 = 8;
+
+/// A message makes nothing of a table.
+pub const RTNLC_NOTHING: u8 = 0;
+/// The entry is new, and stands last.
+pub const RTNLC_ADDED: u8 = 1;
+/// The entry was told anew.
+pub const RTNLC_CHANGED: u8 = 2;
+/// The entry is gone, and the last one stands in its place.
+pub const RTNLC_REMOVED: u8 = 3;
+/// A dump of the table runs: the change waits for its end.
+pub const RTNLC_WAITS: u8 = 4;
 
 /// No dump was begun.
 pub const RTNLC_IDLE: u8 = 0;
@@ -290,6 +322,70 @@ extern "C" {
     /// The index of the entry with these bytes for its key.
     pub fn rtnlc_session_find(
         s: *mut rtnlc_session,
+        kind: u16,
+        key: *const u8,
+        len: usize,
+    ) -> rtnlc_found;
+
+    /// Makes a mirror, of whose tables so many changes each wait for the end of a dump at most.
+    pub fn rtnlc_mirror_new(
+        m: *mut rtnlc_mirror,
+        options: *const rtnlc_options,
+        waiting: u32,
+    ) -> u8;
+
+    /// Frees a mirror and all that it holds.
+    pub fn rtnlc_mirror_free(m: *mut rtnlc_mirror);
+
+    /// Begins a dump, and puts its request into `out`.
+    pub fn rtnlc_mirror_begin(
+        m: *mut rtnlc_mirror,
+        kind: u16,
+        family: u8,
+        seq: u32,
+        port: u32,
+        out: *mut u8,
+        room: usize,
+    ) -> rtnlc_put;
+
+    /// Takes a datagram into the tables, and puts what became of each message into `changes`.
+    pub fn rtnlc_mirror_feed(
+        m: *mut rtnlc_mirror,
+        bytes: *const u8,
+        len: usize,
+        changes: *mut rtnlc_change,
+        room: usize,
+        before: *mut u8,
+        before_room: usize,
+    ) -> rtnlc_heard;
+
+    /// Says that the kernel dropped messages: all tables are stale.
+    pub fn rtnlc_mirror_lost(m: *mut rtnlc_mirror) -> u8;
+
+    /// How a table stands, and whether it can be trusted.
+    pub fn rtnlc_mirror_table(m: *mut rtnlc_mirror, kind: u16) -> rtnlc_mirrored;
+
+    /// Puts an entry of a table into `out`, a whole message.
+    pub fn rtnlc_mirror_entry(
+        m: *mut rtnlc_mirror,
+        kind: u16,
+        index: u32,
+        out: *mut u8,
+        room: usize,
+    ) -> rtnlc_put;
+
+    /// Puts the key of an entry into `out`.
+    pub fn rtnlc_mirror_key(
+        m: *mut rtnlc_mirror,
+        kind: u16,
+        index: u32,
+        out: *mut u8,
+        room: usize,
+    ) -> rtnlc_put;
+
+    /// The index of the entry with these bytes for its key.
+    pub fn rtnlc_mirror_find(
+        m: *mut rtnlc_mirror,
         kind: u16,
         key: *const u8,
         len: usize,

@@ -288,6 +288,69 @@ pub struct rtnlc_found {
     pub code: u8,
 }
 
+/// A mirror, which owns its tables. Null before [`rtnlc_mirror_new`]; copied only to move it.
+#[repr(C)]
+#[derive(Debug)]
+pub struct rtnlc_mirror {
+    /// The library's.
+    pub at: *mut c_void,
+}
+
+/// What became of one message of a datagram that a mirror took.
+#[repr(C)]
+#[derive(Clone, Copy, Debug, Default, PartialEq, Eq, Hash)]
+pub struct rtnlc_change {
+    /// Where the entry before it stands in the bytes that were put.
+    pub before: u32,
+    /// Its length, 0 where none was put.
+    pub before_len: u32,
+    /// The entry's index in its table; 0 of [`RTNLC_NOTHING`] and [`RTNLC_WAITS`].
+    pub index: u32,
+    /// The NEW type of the table; 0 where the message is of none, and where the code is not
+    /// [`RTNLC_OK`].
+    pub kind: u16,
+    /// [`RTNLC_NOTHING`] to [`RTNLC_WAITS`].
+    pub effect: u8,
+    /// [`RTNLC_OK`]; [`RTNLC_NO_MEMORY`] or [`RTNLC_NO_ROOM`] where what it tells is lost.
+    pub code: u8,
+}
+
+/// What a mirror answers to a datagram.
+#[repr(C)]
+#[derive(Clone, Copy, Debug, Default, PartialEq, Eq, Hash)]
+pub struct rtnlc_heard {
+    /// Attribute bytes visited.
+    pub visits: u64,
+    /// Changes that were put: one for each message, or 0 where there is no room for any.
+    pub changes: usize,
+    /// Bytes of entries before them that were put.
+    pub before: usize,
+    /// Of the first fault; 0 where there is none.
+    pub place: u32,
+    /// [`RTNLC_OK`], or why the datagram was not taken.
+    pub code: u8,
+}
+
+/// What [`rtnlc_mirror_table`] answers.
+#[repr(C)]
+#[derive(Clone, Copy, Debug, Default, PartialEq, Eq, Hash)]
+pub struct rtnlc_mirrored {
+    /// How often a new entry found no room since the last whole dump.
+    pub missed: u64,
+    /// Entries.
+    pub count: u32,
+    /// The most that there may be.
+    pub limit: u32,
+    /// The sequence number of the dump of it that runs; 0 where none does.
+    pub seq: u32,
+    /// [`RTNLC_CURRENT`] to [`RTNLC_FULL`].
+    pub stale: u8,
+    /// A dump of it runs.
+    pub dumps: bool,
+    /// [`RTNLC_OK`], [`RTNLC_NO_KIND`] or [`RTNLC_NO_MIRROR`].
+    pub code: u8,
+}
+
 /// Where the dumps of one socket stand, with no table. Any bytes are taken for one.
 #[repr(C)]
 #[derive(Clone, Copy, Debug, Default, PartialEq, Eq, Hash)]

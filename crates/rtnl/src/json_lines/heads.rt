@@ -25,8 +25,14 @@ pub(crate) trait HeadFields: FamilyHead {
 /// An item of a table, as it is written in JSON.
 pub(crate) trait ItemField: TableItem {
     ghost use Rattle.std.specs.Prelude.{◌≡◌, ◌∷◌, [], OnOk};
+    ghost use Rattle.json.specs.Tree.{json_tokens};
     ghost use Rattle.rtnl.specs.Json.{◌⊕◌, fields_tokens};
     ghost use Rattle.rtnl.specs.MessagesJson.{item_field};
+
+    /// Writes the value of that field alone, an object.
+    fn push_value(&self, line: &mut Line, order: Order) -> Result<(), AllocError>
+        ensures { OnOk result (line.new
+            ≡ line.old ⊕ json_tokens (item_field order (Self.TableItem.item self.now)).1) };
 
     /// Writes a field of the family's name, with the fields of the head and the attributes.
     fn push_field(&self, line: &mut Line, order: Order) -> Result<(), AllocError>
@@ -35,12 +41,16 @@ pub(crate) trait ItemField: TableItem {
 }
 
 impl<H: HeadFields> ItemField for Object<H> {
-    fn push_field(&self, line: &mut Line, order: Order) -> Result<(), AllocError> {
-        line.key(H::family().row().name)?;
+    fn push_value(&self, line: &mut Line, order: Order) -> Result<(), AllocError> {
         line.begin_object()?;
         self.head.push_fields(line)?;
         push_attrs(line, "attrs", order, H::context(), &self.attrs)?;
         line.end_object()
+    }
+
+    fn push_field(&self, line: &mut Line, order: Order) -> Result<(), AllocError> {
+        line.key(H::family().row().name)?;
+        self.push_value(line, order)
     }
 }
 

@@ -7,5 +7,6 @@ pub(crate) mod flags;
 pub(crate) mod heads;
 pub(crate) mod line;
 pub(crate) mod message;
+pub(crate) mod mirror;
 pub(crate) mod tree;
 pub(crate) mod values;

@@ -17,13 +17,13 @@ use crate::streams::source::LONGEST_INPUT;
 use memchr::{memchr, memchr3};
 use std::alloc::{AllocError, Global};
 
-fn is_blank_byte(byte: u8) -> bool
+pub(crate) fn is_blank_byte(byte: u8) -> bool
     ensures { result ≡ is_blank byte }
 {
     matches!(byte, b' ' | b'\t' | b'\r')
 }
 
-fn begins_comment(line: &[u8]) -> bool
+pub(crate) fn begins_comment(line: &[u8]) -> bool
     ensures { result ≡ is_comment line.now }
 {
     matches!(line, [b'#', ..])

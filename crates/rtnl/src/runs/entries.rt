@@ -17,7 +17,7 @@ use nl_table::{Entry, Table};
 use std::alloc::{AllocError, Global};
 
 /// Reports the entries of a table.
-fn push_entries<F: ReportFormat, T: Entry + ItemLines + ItemField>(
+pub(crate) fn push_entries<F: ReportFormat, T: Entry + ItemLines + ItemField>(
     alloc: Global,
     out: &mut Vec<u8>,
     order: Order,

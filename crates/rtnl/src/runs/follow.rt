@@ -2,6 +2,7 @@
 
 ghost use Rattle.rtnl.specs.ByteRows.{Views, is_accepted, viewed_text};
 ghost use Rattle.rtnl.specs.Followed.{FollowsAll, alone, never};
+ghost use Rattle.rtnl.specs.Lines.{line_at};
 ghost use Rattle.rtnl.specs.Painted.{coloured_text};
 ghost use Rattle.rtnl.specs.Shown.{Answers, datagram_json, datagram_text, is_taken};
 
@@ -33,7 +34,7 @@ pub fn run_follow<S: LiveSource<W>, W: Sink, B: OnBadLine>(
     limits: &Limits,
 ) -> Result<Followed, RunError>
     requires { B.is_ended bad_lines.old → ⊥ }
-    ensures { FollowsAll (alone (Answers limits.now)) (datagram_text limits.now.shape.order)
+    ensures { FollowsAll (line_at 0) (alone (Answers limits.now)) (datagram_text limits.now.shape.order)
         is_taken never B.heard B.is_ended S.remaining S.is_ended S.failure_count S.reads
         W.contents W.is_stalled W.stall_count W.failure_count tt tt
         source.old source.new sink.old sink.new bad_lines.old bad_lines.new result }
@@ -52,7 +53,7 @@ pub fn run_follow_coloured<S: LiveSource<W>, W: Sink, B: OnBadLine>(
     limits: &Limits,
 ) -> Result<Followed, RunError>
     requires { B.is_ended bad_lines.old → ⊥ }
-    ensures { FollowsAll (alone (Answers limits.now)) (coloured_text limits.now.shape.order)
+    ensures { FollowsAll (line_at 0) (alone (Answers limits.now)) (coloured_text limits.now.shape.order)
         is_taken never B.heard B.is_ended S.remaining S.is_ended S.failure_count S.reads
         W.contents W.is_stalled W.stall_count W.failure_count tt tt
         source.old source.new sink.old sink.new bad_lines.old bad_lines.new result }
@@ -70,7 +71,7 @@ pub fn run_follow_json<S: LiveSource<W>, W: Sink, B: OnBadLine>(
     limits: &Limits,
 ) -> Result<Followed, RunError>
     requires { B.is_ended bad_lines.old → ⊥ }
-    ensures { FollowsAll (alone (Answers limits.now)) (datagram_json limits.now.shape.order)
+    ensures { FollowsAll (line_at 0) (alone (Answers limits.now)) (datagram_json limits.now.shape.order)
         is_taken never B.heard B.is_ended S.remaining S.is_ended S.failure_count S.reads
         W.contents W.is_stalled W.stall_count W.failure_count tt tt
         source.old source.new sink.old sink.new bad_lines.old bad_lines.new result }
@@ -89,7 +90,7 @@ pub fn run_follow_bytes<S: LiveSource<W>, W: Sink, B: OnBadLine>(
     format: RowFormat,
 ) -> Result<Followed, RunError>
     requires { B.is_ended bad_lines.old → ⊥ }
-    ensures { FollowsAll (alone (Views limits.now)) (viewed_text format limits.now.shape.order)
+    ensures { FollowsAll (line_at 0) (alone (Views limits.now)) (viewed_text format limits.now.shape.order)
         is_accepted never B.heard B.is_ended S.remaining S.is_ended S.failure_count S.reads
         W.contents W.is_stalled W.stall_count W.failure_count tt tt
         source.old source.new sink.old sink.new bad_lines.old bad_lines.new result }

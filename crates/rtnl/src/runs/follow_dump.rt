@@ -11,7 +11,7 @@ use crate::error::RunError;
 use crate::runs::dump_so_far::DumpSoFar;
 use crate::runs::following::follow;
 use crate::runs::report::{InJson, InText, ReportFormat};
-use crate::runs::teller::{Teller, Told};
+use crate::runs::teller::{Teller, Told, read_datagram_of};
 use crate::runs::telling::{Followed, OnBadLine};
 use crate::streams::sink::{Sink, give_all};
 use crate::streams::source::LiveSource;
@@ -95,9 +95,15 @@ struct TellDump<F> {
 }
 
 impl<F: ReportFormat> Teller for TellDump<F> {
+    ghost use Rattle.std.specs.Prelude.{ℕ, List};
     ghost use Rattle.rtnl.specs.FollowedDump.{Given, Reads, ends_dump, given_text, is_given};
+    ghost use Rattle.rtnl.specs.Lines.{line_at};
 
     type Kept = DumpSoFar;
+
+    ghost Said = { List ℕ };
+
+    ghost says = { λ _. line_at 0 };
 
     ghost Found = { Given };
 
@@ -114,12 +120,16 @@ impl<F: ReportFormat> Teller for TellDump<F> {
         alloc: Global,
         kept: &mut DumpSoFar,
         out: &mut Vec<u8>,
+        bytes: &mut Vec<u8>,
         number: usize,
-        bytes: &[u8],
-    ) -> Result<Told, AllocError> {
+        line: &[u8],
+    ) -> Result<Option<Told>, RunError> {
+        if !read_datagram_of(alloc, bytes, line)? {
+            return Ok(None);
+        }
         let mut stream = kept.stream;
         let mut items = kept.items;
-        let taken = match stream.read(alloc, bytes) {
+        let taken = match stream.read(alloc, bytes.as_slice()) {
             Ok(read) => {
                 push_items::<F>(alloc, out, self.order, items, read.items.as_slice())?;
                 items += read.items.len() as u64;
@@ -131,10 +141,11 @@ impl<F: ReportFormat> Teller for TellDump<F> {
             }
         };
         *kept = DumpSoFar { stream, items };
-        Ok(Told {
+        Ok(Some(Told {
             taken,
+            number: number as u64,
             goes_on: !is_over(stream.state()),
-        })
+        }))
     }
 }
 

@@ -51,7 +51,7 @@ fn end_line<W: Sink, B: OnBadLine, E: Teller>(
     requires counted { IsCounted 1 following.old.telling.counts }
     requires short { length part.now ≤ fixed.LONGEST_LINE }
     requires going { GoesOn E.ends B.is_ended kept.old bad_lines.old }
-    ensures tells { TellsLine (E.finds each.now) (E.text each.now) E.takes E.ends
+    ensures tells { TellsLine (E.says each.now) (E.finds each.now) (E.text each.now) E.takes E.ends
         B.heard B.is_ended W.contents W.is_stalled W.stall_count W.failure_count
         (with_part following.old.unfinished part.now) kept.old kept.new
         following.old.telling.counts following.new.telling.counts
@@ -89,10 +89,10 @@ fn follow_piece<W: Sink, B: OnBadLine, E: Teller>(
     requires short { length piece.now ≤ fixed.LONGEST_LINE }
     requires going { GoesOn E.ends B.is_ended kept.old bad_lines.old }
     ensures { (before : List ℕ) (first : E.Kept) (unheard : B) (old : Option (List ℕ))
-        → Follows (E.finds each.now) (E.text each.now) E.takes E.ends B.heard B.is_ended
+        → Follows (E.says each.now) (E.finds each.now) (E.text each.now) E.takes E.ends B.heard B.is_ended
         before following.old.unfinished first kept.old following.old.telling.counts
         unheard bad_lines.old old (W.contents sink.old)
-        → FollowsPiece (E.finds each.now) (E.text each.now) E.takes E.ends B.heard B.is_ended
+        → FollowsPiece (E.says each.now) (E.finds each.now) (E.text each.now) E.takes E.ends B.heard B.is_ended
         W.contents W.is_stalled W.stall_count W.failure_count before piece.now
         following.new.unfinished first kept.new following.new.telling.counts
         unheard bad_lines.new old sink.old sink.new result }
@@ -114,7 +114,7 @@ fn follow_piece<W: Sink, B: OnBadLine, E: Teller>(
 const MOST_FOLLOWED: u64 = u64::MAX - 65_536;
 
 /// Follows a recording: each line is told of as it ends, and the last one at the end of the input.
-/// What is kept of datagrams begins as `kept`, and is there at the end.
+/// What is kept of what lines say begins as `kept`, and is there at the end.
 ///
 /// What is told of a line is written before the next read. No more is kept of the input than a
 /// piece and a line. After a read fault or the end of memory the texts of whole lines were written,
@@ -128,7 +128,7 @@ pub(crate) fn follow<S: LiveSource<W>, W: Sink, B: OnBadLine, E: Teller>(
     kept: &mut E::Kept,
 ) -> Result<Followed, RunError>
     requires going { GoesOn E.ends B.is_ended kept.old bad_lines.old }
-    ensures { FollowsAll (E.finds each.now) (E.text each.now) E.takes E.ends B.heard B.is_ended
+    ensures { FollowsAll (E.says each.now) (E.finds each.now) (E.text each.now) E.takes E.ends B.heard B.is_ended
         S.remaining S.is_ended S.failure_count S.reads
         W.contents W.is_stalled W.stall_count W.failure_count kept.old kept.new
         source.old source.new sink.old sink.new bad_lines.old bad_lines.new result }

@@ -1,61 +1,97 @@
-//! What is told of each datagram of a recording that is followed.
+//! What is told of each line of a recording that is followed.
 
+ghost use Rattle.rtnl.specs.Lines.{Reads, line_at};
+ghost use Rattle.std.specs.Prelude.{[]};
+
+use crate::error::RunError;
+use crate::recordings::lines::read_line;
 use crate::runs::per_datagram::PerDatagram;
-use std::alloc::{AllocError, Global};
+use std::alloc::Global;
 
-/// What a datagram is told to be.
+/// What is told of what a line says.
 #[derive(Drop)]
 pub(crate) struct Told {
-    /// Whether the datagram is taken.
+    /// Whether it is taken.
     pub(crate) taken: bool,
+    /// The number of the line's datagram, counted from 1 among the datagrams, by which it is seen
+    /// if it is not taken. No clause speaks of it.
+    pub(crate) number: u64,
     /// Whether the lines behind it are told.
     pub(crate) goes_on: bool,
 }
 
-/// What is told of the datagrams of a recording that is followed, one after another.
+/// What is told of the lines of a recording that is followed, one after another.
 pub(crate) trait Teller {
-    ghost use Rattle.std.specs.Prelude.{◌≡◌, ◌++◌, ℕ, List, Bool, IfOk, false, not};
+    ghost use Rattle.std.specs.Prelude.{◌≡◌, ℕ, List, Bool, Option, Result, false};
+    ghost use Rattle.rtnl.specs.Followed.{TellsSo};
 
-    /// What is kept from one datagram to the next.
+    /// What is kept from one line to the next.
     type Kept;
 
-    // What may be found of a datagram.
+    // What a line may say.
+    ghost Said: { Type 0 };
+
+    // What a line says, if it says anything; or it is bad.
+    ghost says: { Self → List ℕ → Result (Option Said) ℕ };
+
+    // What may be found of what a line says.
     ghost Found: { Type 0 };
 
-    // Whether it is found of these bytes, behind what was kept, and what is kept then.
-    ghost finds: { Self → Self.Kept → List ℕ → Found → Self.Kept → Type 0 };
+    // Whether it is found of that, behind what was kept, and what is kept then.
+    ghost finds: { Self → Self.Kept → Said → Found → Self.Kept → Type 0 };
 
-    // The text of the datagram of this number, of which it is found.
-    ghost text: { Self → ℕ → List ℕ → Found → List ℕ };
+    // The text of what the line of this number says, of which it is found: lines are counted that
+    // say something.
+    ghost text: { Self → ℕ → Said → Found → List ℕ };
 
-    // Whether the datagram is taken.
+    // Whether what is found is taken.
     ghost takes: { Found → Bool };
 
     // Whether nothing is told behind what is kept so.
     ghost ends: { Self.Kept → Bool };
 
-    /// Writes the text of the datagram of this number, counted from 1, and says whether it is
-    /// taken, and whether the lines behind it are told. Without memory `kept` may be anything.
+    /// Writes the text of what a line says, if it says anything: so many lines have said something
+    /// then, with this one. It answers whether that is taken, and whether the lines behind it are
+    /// told. Of a bad line (`BadLine`, its number may be any) nothing is kept or written. Without
+    /// memory `kept` and `out` may be anything. `bytes` is room that is used again for each line:
+    /// behind the call it has the line's datagram, if that is not taken.
     fn tell(
         &self,
         alloc: Global,
         kept: &mut Self::Kept,
         out: &mut Vec<u8>,
+        bytes: &mut Vec<u8>,
         number: usize,
-        bytes: &[u8],
-    ) -> Result<Told, AllocError>
+        line: &[u8],
+    ) -> Result<Option<Told>, RunError>
         requires { ends kept.old ≡ false }
-        ensures { IfOk result (λ told. (found : Found)
-            × finds self.now kept.old bytes.now found kept.new
-            × (out.new.items ≡ out.old.items ++ text self.now number bytes.now found)
-            × (told.taken ≡ takes found) × (told.goes_on ≡ not (ends kept.new))) };
+        ensures { TellsSo (finds self.now) (text self.now number) takes ends
+            (says self.now line.now) kept.old kept.new out.old.items out.new.items result };
+}
+
+/// Reads the datagram of a line into `bytes`, which it clears before, and says whether there is one.
+pub(crate) fn read_datagram_of(
+    alloc: Global,
+    bytes: &mut Vec<u8>,
+    line: &[u8],
+) -> Result<bool, RunError>
+    ensures { Reads [] bytes.new.items result (line_at 0 line.now) }
+{
+    bytes.clear();
+    read_line(alloc, bytes, 0, line)
 }
 
 /// What says something of each datagram by itself keeps nothing, and tells of all.
 impl<E: PerDatagram> Teller for E {
+    ghost use Rattle.std.specs.Prelude.{ℕ, List};
     ghost use Rattle.rtnl.specs.Followed.{alone, never};
+    ghost use Rattle.rtnl.specs.Lines.{line_at};
 
     type Kept = ();
+
+    ghost Said = { List ℕ };
+
+    ghost says = { λ _. line_at 0 };
 
     ghost Found = { E.Found };
 
@@ -72,13 +108,18 @@ impl<E: PerDatagram> Teller for E {
         alloc: Global,
         _kept: &mut (),
         out: &mut Vec<u8>,
+        bytes: &mut Vec<u8>,
         number: usize,
-        bytes: &[u8],
-    ) -> Result<Told, AllocError> {
-        let taken = self.push(alloc, out, number, bytes)?;
-        Ok(Told {
+        line: &[u8],
+    ) -> Result<Option<Told>, RunError> {
+        if !read_datagram_of(alloc, bytes, line)? {
+            return Ok(None);
+        }
+        let taken = self.push(alloc, out, number, bytes.as_slice())?;
+        Ok(Some(Told {
             taken,
+            number: number as u64,
             goes_on: true,
-        })
+        }))
     }
 }

@@ -6,7 +6,6 @@ ghost use Rattle.rtnl.specs.Streams.{Gains};
 ghost use Rattle.rtnl.specs.Followed.{GoesOn, IsCounted, TellsLine, one_bad};
 
 use crate::error::RunError;
-use crate::recordings::lines::read_line;
 use crate::runs::teller::Teller;
 use crate::streams::sink::{Sink, give_all};
 use std::alloc::Global;
@@ -52,7 +51,7 @@ pub trait OnBadLine {
 }
 
 /// What was counted so far, and room that is used again for each line: for the bytes of its
-/// datagram, and for the text of that.
+/// datagram, and for the text of what it says.
 #[derive(Drop)]
 pub(crate) struct Telling {
     pub(crate) counts: Followed,
@@ -98,8 +97,8 @@ pub(crate) fn tell_bad<B: OnBadLine>(
     bad_lines.hear(counts.lines, line)
 }
 
-/// Tells of a line: writes the text of its datagram, if it has one, or says that it is bad. It
-/// answers whether the lines behind it are told.
+/// Tells of a line: writes the text of what it says, if it says anything, or says that it is bad.
+/// It answers whether the lines behind it are told.
 pub(crate) fn tell_line<W: Sink, B: OnBadLine, E: Teller>(
     alloc: Global,
     each: &E,
@@ -111,7 +110,7 @@ pub(crate) fn tell_line<W: Sink, B: OnBadLine, E: Teller>(
 ) -> Result<bool, RunError>
     requires counted { IsCounted 1 telling.old.counts }
     requires going { GoesOn E.ends B.is_ended kept.old bad_lines.old }
-    ensures { TellsLine (E.finds each.now) (E.text each.now) E.takes E.ends B.heard B.is_ended
+    ensures { TellsLine (E.says each.now) (E.finds each.now) (E.text each.now) E.takes E.ends B.heard B.is_ended
         W.contents W.is_stalled W.stall_count W.failure_count
         (Some line.now) kept.old kept.new telling.old.counts telling.new.counts
         bad_lines.old bad_lines.new sink.old sink.new result }
@@ -121,22 +120,20 @@ pub(crate) fn tell_line<W: Sink, B: OnBadLine, E: Teller>(
         bytes,
         text,
     } = telling;
-    bytes.clear();
-    match read_line(alloc, bytes, 0, line) {
-        Ok(true) => {}
-        Ok(false) => {
+    text.clear();
+    let number = counts.datagrams + 1;
+    let told = match each.tell(alloc, kept, text, bytes, number as usize, line) {
+        Ok(Some(told)) => told,
+        Ok(None) => {
             counts.lines += 1;
             return Ok(true);
         }
         Err(RunError::BadLine(_)) => return Ok(tell_bad(bad_lines, counts, Some(line))),
         Err(error) => return Err(error),
-    }
-    text.clear();
-    let number = counts.datagrams + 1;
-    let told = each.tell(alloc, kept, text, number as usize, bytes.as_slice())?;
+    };
     give_all(sink, text.as_slice())?;
     if !told.taken {
-        bad_lines.see_refused(number, bytes.as_slice());
+        bad_lines.see_refused(told.number, bytes.as_slice());
     }
     counts.lines += 1;
     counts.datagrams = number;

@@ -6,6 +6,7 @@ pub(crate) mod dump;
 pub(crate) mod flags;
 pub(crate) mod heads;
 pub(crate) mod message;
+pub(crate) mod mirror;
 pub(crate) mod painting;
 pub(crate) mod tree;
 pub(crate) mod values;

@@ -7,9 +7,9 @@ abbrev pub invariant-loop-received : goal.invariant-loop-received
 invariant-loop-received g l =
     record {
       input : List ℕ;
-      read : HasRead (g.E.Teller.finds l.each) (g.E.Teller.text l.each) g.E.Teller.ends g.S.Source.remaining g.S.LiveSource.reads l.initial.kept (g.W.Sink.contents l.initial.sink) l.initial.source l.source input;
+      read : HasRead (g.E.Teller.says l.each) (g.E.Teller.finds l.each) (g.E.Teller.text l.each) g.E.Teller.ends g.S.Source.remaining g.S.LiveSource.reads l.initial.kept (g.W.Sink.contents l.initial.sink) l.initial.source l.source input;
       size : l.received ≡ length input;
-      follows : Follows (g.E.Teller.finds l.each) (g.E.Teller.text l.each) g.E.Teller.takes g.E.Teller.ends g.B.OnBadLine.heard g.B.OnBadLine.is_ended input l.following.unfinished l.initial.kept l.kept l.following.telling.counts
+      follows : Follows (g.E.Teller.says l.each) (g.E.Teller.finds l.each) (g.E.Teller.text l.each) g.E.Teller.takes g.E.Teller.ends g.B.OnBadLine.heard g.B.OnBadLine.is_ended input l.following.unfinished l.initial.kept l.kept l.following.telling.counts
           l.initial.bad_lines l.bad_lines (g.W.Sink.contents l.initial.sink) (g.W.Sink.contents l.sink);
       going : GoesOn g.E.Teller.ends g.B.OnBadLine.is_ended l.kept l.bad_lines;
       room : length l.buffer ≡ 8192;

@@ -7,9 +7,9 @@ abbrev pub invariant-loop-end : goal.invariant-loop-end
 invariant-loop-end g l =
     record {
       front : (done : List ℕ) × (done ++ l.left ≡ l.piece) × ((before : List ℕ) (first : _) (unheard : _) (old : Option (List ℕ))
-          → Follows (g.E.Teller.finds l.each) (g.E.Teller.text l.each) g.E.Teller.takes g.E.Teller.ends g.B.OnBadLine.heard g.B.OnBadLine.is_ended
+          → Follows (g.E.Teller.says l.each) (g.E.Teller.finds l.each) (g.E.Teller.text l.each) g.E.Teller.takes g.E.Teller.ends g.B.OnBadLine.heard g.B.OnBadLine.is_ended
           before l.initial.following.unfinished first l.initial.kept l.initial.following.telling.counts unheard l.initial.bad_lines old (g.W.Sink.contents l.initial.sink)
-          → Follows (g.E.Teller.finds l.each) (g.E.Teller.text l.each) g.E.Teller.takes g.E.Teller.ends g.B.OnBadLine.heard g.B.OnBadLine.is_ended
+          → Follows (g.E.Teller.says l.each) (g.E.Teller.finds l.each) (g.E.Teller.text l.each) g.E.Teller.takes g.E.Teller.ends g.B.OnBadLine.heard g.B.OnBadLine.is_ended
           (before ++ done) l.following.unfinished first l.kept l.following.telling.counts unheard l.bad_lines old (g.W.Sink.contents l.sink));
       going : GoesOn g.E.Teller.ends g.B.OnBadLine.is_ended l.kept l.bad_lines;
       counted : IsCounted (length l.left) l.following.telling.counts;

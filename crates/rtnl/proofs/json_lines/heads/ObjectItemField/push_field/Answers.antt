@@ -1,11 +1,11 @@
-use Rattle.std.proofs.Common.{◌≡◌, ◌∷◌, ◌++◌, ◌∙◌, [], List, ap, codes, sym}
+use Rattle.std.proofs.Common.{◌≡◌, ◌∷◌, ◌∙◌, [], ap, sym}
 use Rattle.std.proofs.lemmas.Result.{IfOk-weaker}
 use Rattle.json.specs.Token.{key}
 use Rattle.nl_attr.specs.View.{attrs_view}
-use Rattle.nl_route.specs.Families.{context_of, family_of, name_of}
-use Rattle.rtnl.specs.Json.{Field, ◌⊕◌, array, fields_tokens}
-use Rattle.rtnl.specs.MessagesJson.{attrs_json, family_field, head_fields}
-use Rattle.rtnl.proofs.Json.{object_field, then_fields}
+use Rattle.nl_route.specs.Families.{family_of, name_of}
+use Rattle.rtnl.specs.Json.{◌⊕◌}
+use Rattle.rtnl.specs.MessagesJson.{family_field}
+use Rattle.rtnl.proofs.Json.{named_value}
 use Rattle.rtnl.proofs.Unescaped.{unescaped_family}
 use Rattle.rtnl.proofs.json_lines.heads.ObjectItemField.push_field.Goals as goal
 
@@ -18,11 +18,6 @@ returns g c =
     let h = g.H.FamilyHead.as_any c.args.self.now.head in
     let w = c.args.line.now in
     let name : c.row.result.name.now ≡ name_of (family_of h) = c.row.ensures.name ∙ ap name_of (c.family.ensures ∙ sym (g.met.H.FamilyHead.named c.args.self.now.head)) in
-    let ctx : c.context.result ≡ context_of (family_of h) = c.context.ensures ∙ g.met.H.FamilyHead.same c.args.self.now.head in
-    let attrs : List Field = (codes "attrs", array (attrs_json c.args.order (context_of (family_of h)) (attrs_view c.args.self.now.attrs.items))) ∷ [] in
     let named = c.in_ok-key.ensures ∙ ap (λ n. w ⊕ (key n ∷ [])) name in
-    let held : c.push_attrs.new.line ≡ c.push_fields.new.line ⊕ fields_tokens attrs =
-    c.in_ok-push_attrs.ensures ∙ λ i. c.push_fields.new.line ⊕ fields_tokens ((codes "attrs", array (attrs_json c.args.order (ctx i) (attrs_view (c.deref.ensures.value i)))) ∷ []) in
-    let fields = then_fields c.begin_object.new.self c.push_fields.new.line c.push_attrs.new.line (head_fields h) attrs c.in_ok-push_fields.ensures held in
-    IfOk-weaker c.end_object.result _ _
-    (λ _ ended. object_field w c.key.new.self c.begin_object.new.self c.push_attrs.new.line c.end_object.new.self (name_of (family_of h)) (head_fields h ++ attrs) named c.in_ok-begin_object.ensures fields ended) c.end_object.ensures
+    IfOk-weaker c.push_value.result _ _
+    (λ _ written. named_value w c.key.new.self c.push_value.new.line (name_of (family_of h)) (family_field c.args.order h (attrs_view c.args.self.now.attrs.items)).1 named written) c.push_value.ensures

@@ -1,0 +1,10 @@
+mod Lookups
+mod Pasts
+mod OneMore
+mod Lifting
+mod Doubts
+mod Hearings
+mod Datagram
+mod Fives
+mod Rooms
+pub mod Effects

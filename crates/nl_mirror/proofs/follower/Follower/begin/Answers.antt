@@ -1,0 +1,13 @@
+use Rattle.std.proofs.Common.{Some, false, subst}
+use Rattle.nl_mirror.specs.Hearing.{Following, IsHeardBy, in_items}
+use Rattle.nl_mirror.specs.Notes.{asks}
+use Rattle.nl_mirror.proofs.Hearings.{follows, begun}
+use Rattle.nl_mirror.proofs.follower.Follower.begin.Goals as goal
+
+pub returns-clause-heard : goal.returns-clause-heard
+returns-clause-heard g c =
+    let item = g.T.FromBody.item in
+    let at = c.self.inside in
+    let r = c.begin in
+    subst (λ (f : Following g.row.T.Denot). IsHeardBy r.result (in_items item f) (asks f.listening c.args.dump) (follows item at.kind (Some c.args.dump) false c.args.dump.family r.new.self)) c.self.view_is
+    (begun item at.kind at.dump at.interrupted at.asked at.replica r.new.self r.result c.args.dump c.renewal-loss.result c.self.invariant.1 c.renewal-loss.ensures r.ensures.ok r.ensures.err r.ensures.memory)

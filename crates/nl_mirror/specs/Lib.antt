@@ -1,0 +1,13 @@
+pub mod Changes
+pub mod Names
+pub mod Replicated
+pub mod Past
+pub mod Converging
+pub mod Notes
+pub mod Told
+pub mod Seen
+pub mod Short
+pub mod Hearing
+pub mod Effects
+pub mod Datagrams
+pub mod Five

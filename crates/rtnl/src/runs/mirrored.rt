@@ -1,0 +1,51 @@
+//! What is set of a mirror that a recording keeps, and what is kept of it.
+
+use nl_dump::{Kind, Seed};
+use nl_frame::Limits;
+use nl_mirror::Mirror;
+
+/// How a mirror is kept by the lines of a recording, and what is told of it.
+#[derive(Clone, Copy, Debug)]
+pub struct MirrorSettings {
+    /// The limits of its datagrams and of its tables.
+    pub limits: Limits,
+    /// How many changes of a kind may wait for the end of a dump.
+    pub waiting: u32,
+    /// The seed under which its tables hash.
+    pub seed: Seed,
+    /// The address family that its dumps ask for, 0 for all.
+    pub family: u8,
+    /// The only kind whose table is told of; all are where there is none.
+    pub kind: Option<Kind>,
+    /// Whether each change is told as it comes, in place of the tables at the end.
+    pub changes: bool,
+}
+
+/// What is kept of a mirror from one line to the next.
+#[derive(Drop)]
+pub(crate) struct MirrorSoFar {
+    pub(crate) mirror: Mirror,
+    /// How many datagrams were fed.
+    pub(crate) datagrams: u64,
+    /// How many dumps didn't begin.
+    pub(crate) unbegun: u64,
+}
+
+/// How the table of a kind stands.
+#[derive(Clone, Copy)]
+pub(crate) struct Stood {
+    /// Whether a dump of it runs.
+    pub(crate) runs: bool,
+    /// Whether it is stale.
+    pub(crate) doubted: bool,
+}
+
+/// How the tables of all kinds stand.
+#[derive(Clone, Copy)]
+pub(crate) struct Standing {
+    pub(crate) link: Stood,
+    pub(crate) addr: Stood,
+    pub(crate) route: Stood,
+    pub(crate) neigh: Stood,
+    pub(crate) rule: Stood,
+}

@@ -1,0 +1,272 @@
+//! The tables of the mirror of a handle.
+
+ghost use Rattle.std.specs.Prelude.{◌≡◌, option_map, option_copied, IfOk};
+ghost use Rattle.nl_route.specs.Types.{route_type};
+ghost use Rattle.nl_mirror.specs.Five.{follower_at};
+ghost use Rattle.rtnl_c.specs.Kinds.{family_in};
+ghost use Rattle.rtnl_c.specs.Entries.{PutsEntry, PutsKey, entry_bytes, key_bytes, place_of};
+ghost use Rattle.rtnl_c.specs.Entries.{size_of};
+ghost use Rattle.rtnl_c.specs.Mirrors.{OfTable, found_in, found_of, standing as standing_of};
+ghost use Rattle.rtnl_c.specs.Mirrors.{stale_number as number_of_stale, standing_in};
+ghost use Rattle.rtnl_c.specs.Mirrors.{table_at, unmirrored};
+
+use crate::codes::{END, NO_KIND, NO_MIRROR};
+use crate::entry::entry_in;
+use crate::kinds::family_of;
+use crate::mirror_handle::MirrorHandle;
+use crate::put::Put;
+use crate::tables::{FoundEntry, TableSize, found, size};
+use nl_dump::match_table;
+use nl_frame::WriteError;
+use nl_mirror::{Mirror, Stale};
+use nl_route::Family;
+use std::alloc::Global;
+
+/// How a table stands.
+#[repr(C)]
+#[derive(Clone, Copy)]
+pub struct Mirrored {
+    /// How many new keys it had no place for since its last whole dump.
+    pub missed: u64,
+    /// How many entries it has.
+    pub count: u32,
+    /// How many it may have.
+    pub limit: u32,
+    /// The sequence number of the dump of it that runs, 0 where none does.
+    pub seq: u32,
+    /// 0 where it is current, else the number of why it is stale.
+    pub stale: u8,
+    /// Whether a dump of it runs.
+    pub dumps: bool,
+    /// 0, or why there is no table.
+    pub code: u8,
+}
+
+/// There is no table, for this reason.
+fn mirrored_none(code: u8) -> Mirrored
+    ensures { result ≡ unmirrored code }
+{
+    Mirrored {
+        missed: 0,
+        count: 0,
+        limit: 0,
+        seq: 0,
+        stale: 0,
+        dumps: false,
+        code,
+    }
+}
+
+/// The number of why a table is stale.
+fn stale_number(stale: Option<Stale>) -> u8
+    ensures { result ≡ number_of_stale stale }
+{
+    match stale {
+        None => 0,
+        Some(Stale::NeverDumped) => 1,
+        Some(Stale::Lost) => 2,
+        Some(Stale::Refused) => 3,
+        Some(Stale::Memory) => 4,
+        Some(Stale::Waiting) => 5,
+        Some(Stale::Silent) => 6,
+        Some(Stale::Unnamed) => 7,
+        Some(Stale::Full) => 8,
+    }
+}
+
+/// The size of the table of a family.
+fn size_in(mirror: &Mirror, kind: Family) -> TableSize
+    ensures { result ≡ size_of (table_at kind mirror.now) }
+{
+    match_table!(kind, mirror, table => size(table))
+}
+
+/// How the table of a family stands.
+fn standing(mirror: &Mirror, kind: Family) -> Mirrored
+    ensures { result ≡ standing_of (follower_at kind mirror.now) }
+{
+    let size = size_in(mirror, kind);
+    let (dumps, seq) = match mirror.dump(kind) {
+        Some(dump) => (true, dump.seq),
+        None => (false, 0),
+    };
+    Mirrored {
+        missed: size.missed,
+        count: size.count,
+        limit: size.limit,
+        seq,
+        stale: stale_number(mirror.stale(kind)),
+        dumps,
+        code: 0,
+    }
+}
+
+/// How the table of the family of a message type stands.
+#[unsafe(no_mangle)]
+pub extern "C" fn rtnlc_mirror_table(
+    alloc: Global,
+    handle: &mut MirrorHandle,
+    kind: u16,
+) -> Mirrored
+    ensures table { result ≡ standing_in handle.old.mirror (family_in (route_type kind)) }
+    ensures stays { handle.new.mirror ≡ handle.old.mirror }
+{
+    match handle.take(alloc) {
+        None => mirrored_none(NO_MIRROR),
+        Some(mirror) => {
+            let stands = match family_of(kind) {
+                Some(kind) => standing(&mirror, kind),
+                None => mirrored_none(NO_KIND),
+            };
+            *handle = MirrorHandle::of(mirror);
+            stands
+        }
+    }
+}
+
+/// The entry at an index of the table of a family, as its message is written; none from the
+/// table's length on.
+fn entry(
+    alloc: Global,
+    mirror: &Mirror,
+    kind: Family,
+    index: u32,
+) -> Result<Option<Vec<u8>>, WriteError>
+    ensures { IfOk result (λ r. option_map (λ v. v.items) r
+        ≡ entry_bytes index kind (table_at kind mirror.now)) }
+{
+    match kind {
+        Family::Link => entry_in(alloc, mirror.links(), index),
+        Family::Addr => entry_in(alloc, mirror.addrs(), index),
+        Family::Route => entry_in(alloc, mirror.routes(), index),
+        Family::Neigh => entry_in(alloc, mirror.neighs(), index),
+        Family::Rule => entry_in(alloc, mirror.rules(), index),
+    }
+}
+
+/// Puts the entry at an index of the table of a family into a buffer.
+fn put_entry(alloc: Global, mirror: &Mirror, kind: Family, index: u32, out: &mut [u8]) -> Put
+    ensures { PutsEntry index (table_at kind mirror.now) kind out.old out.new result }
+{
+    match entry(alloc, mirror, kind, index) {
+        Ok(Some(bytes)) => Put::all(bytes.as_slice(), out),
+        Ok(None) => Put::none(END),
+        Err(error) => Put::none(error.code()),
+    }
+}
+
+/// Puts the entry at an index of the table of the family of a message type into `out`: a message
+/// of type NEW. 25 where the handle has no mirror, 19 where no family has the type, 255 where the
+/// table has no such entry, 13 where memory ran out, 17 where `out` has less room.
+#[unsafe(no_mangle)]
+pub extern "C" fn rtnlc_mirror_entry(
+    alloc: Global,
+    handle: &mut MirrorHandle,
+    kind: u16,
+    index: u32,
+    out: &mut [u8],
+) -> Put
+    ensures entry { OfTable (PutsEntry index) handle.old.mirror (family_in (route_type kind))
+        out.old out.new result }
+    ensures stays { handle.new.mirror ≡ handle.old.mirror }
+{
+    match handle.take(alloc) {
+        None => Put::none(NO_MIRROR),
+        Some(mirror) => {
+            let put = match family_of(kind) {
+                Some(kind) => put_entry(alloc, &mirror, kind, index, out),
+                None => Put::none(NO_KIND),
+            };
+            *handle = MirrorHandle::of(mirror);
+            put
+        }
+    }
+}
+
+/// The key of the entry at an index of the table of a family.
+fn key(mirror: &Mirror, kind: Family, index: u32) -> Option<&[u8]>
+    ensures { option_copied result ≡ key_bytes index (table_at kind mirror.now) }
+{
+    match_table!(kind, mirror, table => table.key_at(index))
+}
+
+/// Puts the key of the entry at an index of the table of a family into a buffer.
+fn put_key(mirror: &Mirror, kind: Family, index: u32, out: &mut [u8]) -> Put
+    ensures { PutsKey index (table_at kind mirror.now) kind out.old out.new result }
+{
+    match key(mirror, kind, index) {
+        Some(bytes) => Put::all(bytes, out),
+        None => Put::none(END),
+    }
+}
+
+/// Puts the key of the entry at an index of the table of the family of a message type into `out`;
+/// 25 where the handle has no mirror, 19 where no family has the type, 255 where the table has no
+/// such entry, 17 where `out` has less room.
+#[unsafe(no_mangle)]
+pub extern "C" fn rtnlc_mirror_key(
+    alloc: Global,
+    handle: &mut MirrorHandle,
+    kind: u16,
+    index: u32,
+    out: &mut [u8],
+) -> Put
+    ensures key { OfTable (PutsKey index) handle.old.mirror (family_in (route_type kind))
+        out.old out.new result }
+    ensures stays { handle.new.mirror ≡ handle.old.mirror }
+{
+    match handle.take(alloc) {
+        None => Put::none(NO_MIRROR),
+        Some(mirror) => {
+            let put = match family_of(kind) {
+                Some(kind) => put_key(&mirror, kind, index, out),
+                None => Put::none(NO_KIND),
+            };
+            *handle = MirrorHandle::of(mirror);
+            put
+        }
+    }
+}
+
+/// The place of a key in the table of a family.
+#[tactic(auto, using(crate::proofs::Mirrors::keys_held))]
+fn place(mirror: &Mirror, kind: Family, key: &[u8]) -> Option<u32>
+    ensures { result ≡ place_of key.now (table_at kind mirror.now) }
+{
+    match_table!(kind, mirror, table => table.find(key))
+}
+
+/// Where the entry of a key stands in the table of a family.
+fn find(mirror: &Mirror, kind: Option<Family>, key: &[u8]) -> FoundEntry
+    ensures { result ≡ found_of mirror.now kind key.now }
+{
+    let Some(kind) = kind else {
+        return found(0, NO_KIND);
+    };
+    match place(mirror, kind, key) {
+        Some(index) => found(index, 0),
+        None => found(0, END),
+    }
+}
+
+/// Where the entry of a key stands in the table of the family of a message type; 25 where the
+/// handle has no mirror, 19 where no family has the type, 255 where none has the key.
+#[unsafe(no_mangle)]
+pub extern "C" fn rtnlc_mirror_find(
+    alloc: Global,
+    handle: &mut MirrorHandle,
+    kind: u16,
+    key: &[u8],
+) -> FoundEntry
+    ensures found { result ≡ found_in handle.old.mirror (family_in (route_type kind)) key.now }
+    ensures stays { handle.new.mirror ≡ handle.old.mirror }
+{
+    match handle.take(alloc) {
+        None => found(0, NO_MIRROR),
+        Some(mirror) => {
+            let found = find(&mirror, family_of(kind), key);
+            *handle = MirrorHandle::of(mirror);
+            found
+        }
+    }
+}

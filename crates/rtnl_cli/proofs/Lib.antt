@@ -1,3 +1,0 @@
--- What proofs of the program cite.
-mod Digits
-mod Headings
