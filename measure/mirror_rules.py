@@ -1,6 +1,6 @@
 #!/usr/bin/env python3
 """Breaks each rule of a mirror in turn, and counts in how many runs over a live kernel that shows.
-It prints the table of docs/PROOF.md. It is no part of the gate.
+It prints the table of docs/THEOREMS.md. It is no part of the gate.
 
 usage: measure/mirror_rules.py [--runs N] [FOLDER]
 

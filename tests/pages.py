@@ -4,17 +4,18 @@
 Each relative link of each .md file leads to a file of the repository, and its fragment to a
 heading there, by the anchors that GitHub makes. A link to the glossary of docs/FORMAT.md is of a
 word that stands there, and a page links a word once: where it first uses it, if the word is one of
-those that only the pages use, and not the field's. Each claim on docs/PROOF.md under the name of
-a crate begins with functions of that crate, and has clauses of their contracts in brackets. Each
-function in a table of SECURITY.md has the clauses that stand behind it, and they stand in
-docs/THEOREMS.md. Each block of Rattle, C, Go, Python or Rust on README.md, docs/LIBRARIES.md and
-docs/C.md stands in crates/rtnl_uses, apart from its contracts, or in examples/. The tables of calls
-and of codes on docs/C.md have those of include/rtnlc.h, and those of attributes and of bits in
-docs/FORMAT.md the names of crates/*/specs. docs/ARCHITECTURE.md begins with a map of all crates and
-folders, and lists the files that name the family of rules. README.md has at most 220 lines, no word
-of ours where the field has one, and no claim that is larger than what it cites; no page has longer
-sentences than tests/data/pages/ allows it, and how long they are is printed (pages/reading.py).
-Each file of git that begins with #! can be executed, and no other (pages/scripts.py).
+those that only the pages use, and not the field's. Each claim on docs/THEOREMS.md under the name
+of a crate has definitions, functions and clauses that the code has, and each law of the crate has
+a claim. Each function that SECURITY.md names has the clauses that stand behind it, and its
+promises have theorems on that page (pages/claims.py). Each block of Rattle, C, Go, Python or Rust
+on README.md, docs/LIBRARIES.md and docs/C.md stands in crates/rtnl_uses, apart from its contracts,
+or in examples/. The tables of calls and of codes on docs/C.md have those of include/rtnlc.h, and
+those of attributes and of bits in docs/FORMAT.md the names of crates/*/specs. docs/ARCHITECTURE.md
+begins with a map of all crates and folders, and lists the files that name the family of rules.
+README.md has at most 220 lines, no word of ours where the field has one, and no claim that is
+larger than what it cites; no page has longer sentences than tests/data/pages/ allows it, and how
+long they are is printed (pages/reading.py). Each file of git that begins with #! can be executed,
+and no other (pages/scripts.py).
 
 Then each of these is tried: a fault is planted in a page or in the code, and must be found. The
 last line is 'N passed, M failed', and the status is 1 where a case failed.
@@ -28,15 +29,14 @@ from typing import Callable, Dict, Iterator, List, NamedTuple, Set, Tuple
 sys.dont_write_bytecode = True
 HERE = os.path.dirname(os.path.realpath(__file__))
 sys.path[:0] = [f"{HERE}/../launch", f"{HERE}/helpers", f"{HERE}/pages"]
+import claims
 import headers
 import reading
 import reference
 import scripts
-from contracts import Contracts
 from counting import counted, whole
-from repository import (BLOCK, CITED, FENCED, FORMAT, HEADING, NAME, PROOF, README, ROW, SCRIPTS,
-                        SECURITY, THEOREMS, Check, Fault, Repository, prose, read_repository,
-                        sections)
+from repository import (BLOCK, FENCED, FORMAT, HEADING, NAME, README, ROW, SCRIPTS, SECURITY,
+                        THEOREMS, Check, Fault, Repository, prose, read_repository, sections)
 from sentences import measured, shown
 
 ARCHITECTURE, LIBRARIES, C = "docs/ARCHITECTURE.md", "docs/LIBRARIES.md", "docs/C.md"
@@ -54,9 +54,6 @@ LINK = re.compile(r"\[([^\[\]]*)\]\(([^()\s]*)\)|^\[([^\[\]]*)\]: *(\S+)", re.M)
 # A word of prose, or a link; and what is no prose of the page's own.
 USE = re.compile(r"\[([^\[\]]*)\]\(([^()\s]*)\)|[A-Za-z]+(?:-[A-Za-z]+)*")
 QUOTED = re.compile(r"^(?:#|>).*$", re.M)
-CLAIM = re.compile(r"^- .*(?:\n  .*)*", re.M)
-BRACKET = re.compile(r"\(([^()]*`[^()]*)\)")
-NAMES = re.compile(r"`[a-z_]+`(?:, `[a-z_]+`)*")
 # What names the family of rules in the code of a crate, which has no comment then.
 OF_RULES = re.compile(r"(?<!borrow\.)\bRule(?:Head|Entry)?\b|\bmod rule\b")
 COMMENT = re.compile(r"^\s*(?://|--).*$", re.M)
@@ -174,74 +171,6 @@ def unlinked_words(repository: Repository, page: str) -> Iterator[str]:
             yield f"{found[0]} is first used without a link to the glossary"
         if link is None or is_of_glossary(link):
             seen |= rows
-
-
-# The claims.
-
-
-def wrong_calls(contracts: Contracts, crate: str, calls: List[str]) -> Iterator[str]:
-    """The calls that the crate doesn't have, and those without a contract."""
-    for call in calls:
-        found = contracts.named(crate, call)
-        if not found:
-            yield f"{crate} has no function {call}"
-        elif not all(re.search(r"\bensures\b", it.contract) for it in found):
-            yield f"{call} of {crate} promises nothing"
-
-
-def wrong_clauses(contracts: Contracts, crate: str, calls: List[str], names: str) -> Iterator[str]:
-    """The names that are no clauses of one of the calls."""
-    for call in calls:
-        for function in contracts.named(crate, call):
-            for name in NAME.findall(names):
-                if name not in contracts.clauses(crate, function):
-                    yield f"{'::'.join(function.path)} of {crate} has no clause {name}"
-
-
-def wrong_claim(contracts: Contracts, crate: str, claim: str) -> Iterator[str]:
-    """What is wrong with a claim: it begins with the calls that it is of, and a colon."""
-    lead, _, body = claim.partition(": ")
-    calls = NAME.findall(lead)
-    if not calls or not body or "(" in lead:
-        yield f"it doesn't begin with calls and a colon: {claim}"
-        return
-    yield from wrong_calls(contracts, crate, calls)
-    for found in BRACKET.finditer(body):
-        if NAMES.fullmatch(found[1]):
-            yield from wrong_clauses(contracts, crate, calls, found[1])
-        else:
-            yield f"brackets with a name hold names of clauses alone: ({found[1]})"
-
-
-def wrong_claims(repository: Repository, crate: str) -> Iterator[str]:
-    """What is wrong with the claims on a crate, one of which must be there."""
-    contracts = Contracts(repository.crates, repository.texts)
-    body = "".join(text for name, text in sections(repository.texts[PROOF]) if name == crate)
-    claims = [" ".join(it[2:].split()) for it in CLAIM.findall(body)]
-    if not claims:
-        yield f"there is no claim on {crate}"
-    for claim in claims:
-        yield from wrong_claim(contracts, crate, claim)
-    for found in BRACKET.finditer(CLAIM.sub("", body)):
-        if NAMES.fullmatch(found[1]):
-            yield f"clauses are named outside of a claim: ({found[1]})"
-
-
-def wrong_citations(repository: Repository, page: str) -> Iterator[str]:
-    """The functions that the tables of a page name with clauses that none of a crate has."""
-    contracts = Contracts(repository.crates, repository.texts)
-    cited = [it for row in ROW.findall(repository.texts[page]) for it in CITED.findall(row)]
-    yield from reading.uncited(repository, contracts, cited)
-
-
-def lost_theorems(repository: Repository, page: str) -> Iterator[str]:
-    """What the tables of a page cite that no section of docs/THEOREMS.md has by the same names."""
-    parts = [{*NAME.findall(text)} for _, text in sections(repository.texts[THEOREMS])]
-    for row in ROW.findall(repository.texts[page])[2:]:
-        for theorem in row.split("|")[-2].split(";"):
-            wanted = {*NAME.findall(theorem)}
-            if not wanted or not any(wanted <= part for part in parts):
-                yield f"no section of {THEOREMS} has {theorem.strip()}"
 
 
 # The blocks of code.
@@ -382,9 +311,9 @@ TESTS: List[Tuple[str, Check, Callable[[Repository], List[str]]]] = [
     ("the links of", lost_links, Repository.pages),
     ("words of the glossary on", lost_words, Repository.pages),
     ("first uses of words on", unlinked_words, Repository.using),
-    ("the claims on", wrong_claims, Repository.promising),
-    ("the clauses on", wrong_citations, lambda _: [SECURITY]),
-    ("the theorems on", lost_theorems, lambda _: [SECURITY]),
+    ("the claims on", claims.wrong_claims, claims.claimed),
+    ("the clauses on", claims.wrong_citations, lambda _: [SECURITY, THEOREMS]),
+    ("the theorems on", claims.lost_theorems, lambda _: [SECURITY]),
     ("the code on", strange_blocks, lambda _: SHOWING),
     ("the calls on", lost_calls, lambda _: [C]),
     ("the codes on", lost_codes, lambda _: [C]),
@@ -402,73 +331,33 @@ TESTS: List[Tuple[str, Check, Callable[[Repository], List[str]]]] = [
 
 FAULTS: Dict[Check, List[Fault]] = {
     lost_links: [
-        Fault("a link to no file", PROOF, PROOF, "(THEOREMS.md)", "(THEOREM.md)"),
-        Fault("a link to no heading", PROOF, PROOF, "#the-headline)", "#a-headline)"),
-        Fault("a link within a page", PROOF, PROOF, "(#nl_dump)", "(#nl_dumps)"),
-        Fault("a link out of the repository", PROOF, PROOF, "(../tests/", "(../../tests/"),
-        Fault("a link that leads nowhere", PROOF, PROOF, "(THEOREMS.md)", "()"),
-        Fault("a link by a reference", PROOF, PROOF, "\n## What is neither",
+        Fault("a link to no file", THEOREMS, THEOREMS, "(LIBRARIES.md)", "(LIBRARY.md)"),
+        Fault("a link to no heading", FORMAT, FORMAT, "#the-headline)", "#a-headline)"),
+        Fault("a link within a page", THEOREMS, THEOREMS, "(#the-headline)", "(#headlines)"),
+        Fault("a link out of the repository", THEOREMS, THEOREMS, "(../tests/", "(../../tests/"),
+        Fault("a link that leads nowhere", THEOREMS, THEOREMS, "(LIBRARIES.md)", "()"),
+        Fault("a link by a reference", THEOREMS, THEOREMS, "\n## What is neither",
               "\n[x]: X.md\n\n## What is neither"),
-        Fault("a link in two lines", PROOF, PROOF, "[GATE.md](GATE", "[THE\nGATE.md](THE_GATE"),
-        Fault("a heading that was renamed", PROOF, THEOREMS, "## The headline", "## The sentence"),
-        Fault("a heading in code alone", PROOF, THEOREMS, "## The headline",
+        Fault("a link in two lines", THEOREMS, THEOREMS, "[GATE.md](GATE",
+              "[THE\nGATE.md](THE_GATE"),
+        Fault("a heading that was renamed", FORMAT, THEOREMS, "## The headline", "## The sentence"),
+        Fault("a heading in code alone", FORMAT, THEOREMS, "## The headline",
               "```\n## The headline\n```"),
     ],
     lost_words: [
-        Fault("a word that the glossary lost", PROOF, FORMAT, "| canonical |", "| canonic |"),
-        Fault("a word that the glossary never had", PROOF, PROOF, "[canonical](", "[canon]("),
-        Fault("a word that is linked twice", PROOF, PROOF, "[canonical](", "[faults]("),
+        Fault("a word that the glossary lost", THEOREMS, FORMAT, "| canonical |", "| canonic |"),
+        Fault("a word that the glossary never had", THEOREMS, THEOREMS, "[canonical](", "[canon]("),
+        Fault("a word that is linked twice", THEOREMS, THEOREMS, "[canonical](", "[faults]("),
     ],
     unlinked_words: [
-        Fault("a word without a link", PROOF, PROOF, "[tape](FORMAT.md#words)", "tape"),
-        Fault("a word before its link", PROOF, PROOF, "# What is proved, and what is not\n",
-              "# What is proved, and what is not\n\nTapes.\n"),
-        Fault("a word in a table before its link", PROOF, PROOF,
-              "# What is proved, and what is not\n", "# What is proved\n\n| a tape |\n"),
-        Fault("a word that is new", PROOF, FORMAT, "\n| container |", "\n| page | |\n| contain |"),
-        Fault("a glossary without words", PROOF, FORMAT, "\n## Words\n", "\n## Glossary\n"),
-    ],
-    wrong_claims: [
-        Fault("a clause that was renamed", "nl_frame", "crates/nl_frame/src/canonical.rt",
-              "ensures canonical {", "ensures written {"),
-        Fault("a clause in a comment alone", "nl_frame", "crates/nl_frame/src/canonical.rt",
-              "    ensures canonical {", "    // ensures canonical {"),
-        Fault("a clause of one head alone", "nl_route", "crates/nl_route/src/ndmsg.rt",
-              "ensures { IsHeadOf", "ensures { IsHead"),
-        Fault("a clause of another function", "nl_attr", PROOF, "one sum (`some`, `only`)",
-              "one sum (`some`, `front`)"),
-        Fault("a field that was renamed", "nl_attr", "crates/nl_attr/specs/Walk.antt",
-              "pub walk :", "pub goes :"),
-        Fault("a field of a crate below", "nl_route", "crates/nl_attr/specs/Writes.antt",
-              "pub again :", "pub fits :"),
-        Fault("a function that was renamed", "nl_table", "crates/nl_table/src/laws.rt",
-              "pub fn keys_tell_apart", "pub fn keys_differ"),
-        Fault("a function of another type", "nl_dump", PROOF, "- `Session::complete`:",
-              "- `Table::complete`:"),
-        Fault("a function without a contract", "nl_attr", "crates/nl_attr/src/order.rt",
-              "        ensures { result.now ≡ order_name self }\n", ""),
-        Fault("a claim on another crate", "nl_route", PROOF, "### nl_table", "### nl_route"),
-        Fault("a crate without a claim", "nl_table", PROOF, "### nl_table", "### Tables"),
-        Fault("a claim without a function", "nl_attr", PROOF, "- `find`: the", "- The"),
-        Fault("brackets with more than names", "nl_route", PROOF, "(`says`)", "(its `says`)"),
-        Fault("a clause outside of a claim", "nl_route", PROOF, "Each [view]",
-              "(`says`) Each [view]"),
-    ],
-    wrong_citations: [
-        Fault("a clause of a table that was renamed", SECURITY, "crates/nl_table/src/table.rt",
-              "ensures within {", "ensures inside {"),
-        Fault("a function of a table that there isn't", SECURITY, SECURITY, "`Table::put`:",
-              "`Table::keep`:"),
-        Fault("a table without clauses", SECURITY, SECURITY, "`: `", "` `"),
-    ],
-    lost_theorems: [
-        Fault("a theorem that there isn't", SECURITY, SECURITY, "`laws::headline_of_calls`",
-              "`laws::headline_of_call`"),
-        Fault("a clause of another theorem", SECURITY, SECURITY, "`step`, `within`",
-              "`step`, `visits`"),
-        Fault("a theorem that was renamed", SECURITY, THEOREMS, "`laws::stream_is_session`",
-              "`laws::stream_is_it`"),
-        Fault("a promise without a theorem", SECURITY, SECURITY, "`rtnlc_scan`: `scanned`", "it"),
+        Fault("a word without a link", THEOREMS, THEOREMS, "[tapes](FORMAT.md#words)", "tapes"),
+        Fault("a word before its link", THEOREMS, THEOREMS, "## How a claim is read\n",
+              "## How a claim is read\n\nTapes.\n"),
+        Fault("a word in a table before its link", THEOREMS, THEOREMS, "## How a claim is read\n",
+              "## How a claim is read\n\n| a tape |\n"),
+        Fault("a word that is new", THEOREMS, FORMAT, "\n| container |",
+              "\n| page | |\n| contain |"),
+        Fault("a glossary without words", THEOREMS, FORMAT, "\n## Words\n", "\n## Glossary\n"),
     ],
     strange_blocks: [
         Fault("another line of Rattle", LIBRARIES, "crates/rtnl_uses/src/attributes.rt",
@@ -527,11 +416,10 @@ FAULTS: Dict[Check, List[Fault]] = {
 }
 
 
-def is_found(check: Check, fault: Fault, repository: Repository) -> bool:
+def is_found(check: Check, fault: Fault, repository: Repository, before: Set[str]) -> bool:
     """Whether the check finds something with the fault in place that it doesn't find without."""
     text = repository.texts.get(fault.path, "")
     texts = {**repository.texts, fault.path: text.replace(fault.old, fault.new)}
-    before = set(check(repository, fault.of))
     after = set(check(repository._replace(texts=texts), fault.of))
     return fault.old in text and bool(after - before)
 
@@ -541,10 +429,12 @@ def cases(repository: Repository) -> Iterator[Tuple[str, List[str]]]:
     for name, check, subjects in TESTS:
         for subject in subjects(repository):
             yield f"{name} {subject}", [*check(repository, subject)]
-    planted = {**FAULTS, **reading.FAULTS, **scripts.FAULTS}
+    planted = {**FAULTS, **claims.FAULTS, **reading.FAULTS, **scripts.FAULTS}
     for check, faults in planted.items() if whole("the faults that are planted") else ():
+        before = {of: set(check(repository, of)) for of in {it.of for it in faults}}
         for fault in faults:
-            wrong = [] if is_found(check, fault, repository) else ["it is not, or isn't planted"]
+            found = is_found(check, fault, repository, before[fault.of])
+            wrong = [] if found else ["it is not, or isn't planted"]
             yield f"{fault.name} is found", wrong
 
 

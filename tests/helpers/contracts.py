@@ -15,6 +15,8 @@ Texts = Dict[str, str]
 
 HOLDER = re.compile(r"(?:pub(?:\([^)]*\))? )?(impl|trait)\b(.*)")
 FUNCTION = re.compile(r'( *)(?:pub(?:\([^)]*\))? )?(?:const )?(?:extern "C" )?fn (\w+)')
+# What a type implements of a trait of std has its contract in such a line.
+GHOST = re.compile(r" *ghost (\w+) = (\{.*)")
 CLAUSE = re.compile(r"\bensures (?:(\w+) )?\{")
 HEAD = re.compile(r"[\s(]*(\w+)")
 DEFINITION = re.compile(r"^ *(?:pub |abbrev )*(record|abbrev)(?: pub)? (\w+)", re.M)
@@ -75,6 +77,9 @@ def functions(path: str, text: str) -> Iterator[Function]:
         found = FUNCTION.match(line)
         if found:
             yield Function((*modules(path), *holder, found[2]), contract(lines[at:], found[1]))
+        ghost = GHOST.match(line)
+        if ghost:
+            yield Function((*modules(path), *holder, ghost[1]), f"ensures {ghost[2]}")
 
 
 class Contracts:

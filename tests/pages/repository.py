@@ -8,7 +8,7 @@ from typing import Callable, Iterator, List, NamedTuple, Set, Tuple
 from contracts import Texts
 from crates import ROOT, Crates, listed
 
-README, PROOF, THEOREMS = "README.md", "docs/PROOF.md", "docs/THEOREMS.md"
+README, THEOREMS = "README.md", "docs/THEOREMS.md"
 SECURITY, CHANGELOG, FORMAT = "SECURITY.md", "CHANGELOG.md", "docs/FORMAT.md"
 CODE = (".rt", ".antt", ".c", ".h", ".go", ".py", ".rs")
 # What else is read: what the gate keeps of edits, and what these checks are handed.
