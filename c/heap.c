@@ -3,7 +3,8 @@
  * that is freed waits in the list of its size, and is taken again before the memory grows, which
  * it does by pages, up to the limit that the linker was given.
  */
-typedef __SIZE_TYPE__ size_t;
+#include "memory.c"
+
 typedef unsigned char byte;
 
 #define PAGE  65536
@@ -84,8 +85,6 @@ void *realloc(void *at, size_t count)
 	}
 	return moved;
 }
-
-#include "memory.c"
 
 /* ---- What a compiler calls ---- */
 

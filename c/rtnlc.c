@@ -219,30 +219,33 @@ struct rtnlc_put rtnlc_attr_name(uint8_t context, uint16_t number, char *out, si
 	return proved_attr_name(context, number, ROOM(out, room));
 }
 
+/* Where a session or a mirror is kept: null where the pointer to its struct is. */
+#define PLACE(kept) ((kept) ? &(kept)->at : NULL)
+
 /* What has no session or no mirror is a handle with none. */
-static struct handle handle_at(void *at)
+static struct handle handle_of(void *const *place)
 {
+	void *at = place ? *place : NULL;
 	struct handle handle = { at, at != NULL };
 	return handle;
 }
 
 /* After a call the session or the mirror is where its handle says. */
-static void *kept(const struct handle *handle)
+static void keep(void **place, const struct handle *handle)
 {
-	return handle->made ? handle->at : NULL;
+	if (place)
+		*place = handle->made ? handle->at : NULL;
 }
 
-/* A null pointer is a handle with no session. */
-static struct handle handle_of(const struct rtnlc_session *s)
-{
-	return handle_at(s ? s->at : NULL);
-}
-
-static void keep(struct rtnlc_session *s, const struct handle *handle)
-{
-	if (s)
-		s->at = kept(handle);
-}
+/* Returns what a call answers that takes `handle`, the handle of a session or of a mirror, and
+ * keeps what the call left in it. */
+#define RETURN_KEPT(kept, type, call)                  \
+	do {                                               \
+		struct handle handle = handle_of(PLACE(kept)); \
+		const type answer = call;                      \
+		keep(PLACE(kept), &handle);                    \
+		return answer;                                 \
+	} while (0)
 
 /* A seed that is all 0 is none. */
 static bool has_seed(const struct rtnlc_options *options)
@@ -271,195 +274,133 @@ static bool take_seed(struct rtnlc_options *options)
 }
 
 /* Whether the options have a seed, or need none since what it would be for is made, or got one. */
-static bool is_seeded(const struct handle *handle, struct rtnlc_options *options)
+static bool is_seeded(const void *made, struct rtnlc_options *options)
 {
-	return handle->made || has_seed(options) || take_seed(options);
+	return made || has_seed(options) || take_seed(options);
 }
 
 uint8_t rtnlc_session_new(struct rtnlc_session *s, const struct rtnlc_options *options)
 {
-	struct handle handle = handle_of(s);
 	struct rtnlc_options seeded = *limits_at(options);
-	uint8_t code;
 	if (!s)
 		return RTNLC_NO_SESSION;
-	if (!is_seeded(&handle, &seeded))
+	if (!is_seeded(s->at, &seeded))
 		return RTNLC_NO_SEED;
-	code = proved_session_new(&handle, &seeded);
-	keep(s, &handle);
-	return code;
+	RETURN_KEPT(s, uint8_t, proved_session_new(&handle, &seeded));
 }
 
 void rtnlc_session_free(struct rtnlc_session *s)
 {
-	struct handle handle = handle_of(s);
+	struct handle handle = handle_of(PLACE(s));
 	proved_session_free(&handle);
-	keep(s, &handle);
+	keep(PLACE(s), &handle);
 }
 
 struct rtnlc_put rtnlc_session_begin(struct rtnlc_session *s, uint16_t kind, uint8_t family,
                                      uint32_t seq, uint32_t port, uint8_t *out, size_t room)
 {
-	struct handle handle = handle_of(s);
-	struct rtnlc_put put = proved_session_begin(&handle, kind, family, seq, port, ROOM(out, room));
-	keep(s, &handle);
-	return put;
+	RETURN_KEPT(s, struct rtnlc_put,
+	            proved_session_begin(&handle, kind, family, seq, port, ROOM(out, room)));
 }
 
 struct rtnlc_fed rtnlc_session_feed(struct rtnlc_session *s, const uint8_t *bytes, size_t len)
 {
-	struct handle handle = handle_of(s);
-	struct rtnlc_fed fed = proved_session_feed(&handle, BYTES(bytes, len));
-	keep(s, &handle);
-	return fed;
+	RETURN_KEPT(s, struct rtnlc_fed, proved_session_feed(&handle, BYTES(bytes, len)));
 }
 
 uint8_t rtnlc_session_abandon(struct rtnlc_session *s)
 {
-	struct handle handle = handle_of(s);
-	uint8_t code = proved_session_abandon(&handle);
-	keep(s, &handle);
-	return code;
+	RETURN_KEPT(s, uint8_t, proved_session_abandon(&handle));
 }
 
 struct rtnlc_status rtnlc_session_status(struct rtnlc_session *s)
 {
-	struct handle handle = handle_of(s);
-	struct rtnlc_status status = proved_session_status(&handle);
-	keep(s, &handle);
-	return status;
+	RETURN_KEPT(s, struct rtnlc_status, proved_session_status(&handle));
 }
 
 struct rtnlc_table rtnlc_session_table(struct rtnlc_session *s, uint16_t kind)
 {
-	struct handle handle = handle_of(s);
-	struct rtnlc_table table = proved_session_table(&handle, kind);
-	keep(s, &handle);
-	return table;
+	RETURN_KEPT(s, struct rtnlc_table, proved_session_table(&handle, kind));
 }
 
 struct rtnlc_put rtnlc_session_entry(struct rtnlc_session *s, uint16_t kind, uint32_t index,
                                      uint8_t *out, size_t room)
 {
-	struct handle handle = handle_of(s);
-	struct rtnlc_put put = proved_session_entry(&handle, kind, index, ROOM(out, room));
-	keep(s, &handle);
-	return put;
+	RETURN_KEPT(s, struct rtnlc_put, proved_session_entry(&handle, kind, index, ROOM(out, room)));
 }
 
 struct rtnlc_put rtnlc_session_key(struct rtnlc_session *s, uint16_t kind, uint32_t index,
                                    uint8_t *out, size_t room)
 {
-	struct handle handle = handle_of(s);
-	struct rtnlc_put put = proved_session_key(&handle, kind, index, ROOM(out, room));
-	keep(s, &handle);
-	return put;
+	RETURN_KEPT(s, struct rtnlc_put, proved_session_key(&handle, kind, index, ROOM(out, room)));
 }
 
 struct rtnlc_found rtnlc_session_find(struct rtnlc_session *s, uint16_t kind, const uint8_t *key,
                                       size_t len)
 {
-	struct handle handle = handle_of(s);
-	struct rtnlc_found found = proved_session_find(&handle, kind, BYTES(key, len));
-	keep(s, &handle);
-	return found;
-}
-
-/* A null pointer is a handle with no mirror. */
-static struct handle mirror_handle(const struct rtnlc_mirror *m)
-{
-	return handle_at(m ? m->at : NULL);
-}
-
-static void keep_mirror(struct rtnlc_mirror *m, const struct handle *handle)
-{
-	if (m)
-		m->at = kept(handle);
+	RETURN_KEPT(s, struct rtnlc_found, proved_session_find(&handle, kind, BYTES(key, len)));
 }
 
 uint8_t rtnlc_mirror_new(struct rtnlc_mirror *m, const struct rtnlc_options *options,
                          uint32_t waiting)
 {
-	struct handle handle = mirror_handle(m);
 	struct rtnlc_options seeded = *limits_at(options);
-	uint8_t code;
 	if (!m)
 		return RTNLC_NO_MIRROR;
-	if (!is_seeded(&handle, &seeded))
+	if (!is_seeded(m->at, &seeded))
 		return RTNLC_NO_SEED;
-	code = proved_mirror_new(&handle, &seeded, waiting);
-	keep_mirror(m, &handle);
-	return code;
+	RETURN_KEPT(m, uint8_t, proved_mirror_new(&handle, &seeded, waiting));
 }
 
 void rtnlc_mirror_free(struct rtnlc_mirror *m)
 {
-	struct handle handle = mirror_handle(m);
+	struct handle handle = handle_of(PLACE(m));
 	proved_mirror_free(&handle);
-	keep_mirror(m, &handle);
+	keep(PLACE(m), &handle);
 }
 
 struct rtnlc_put rtnlc_mirror_begin(struct rtnlc_mirror *m, uint16_t kind, uint8_t family,
                                     uint32_t seq, uint32_t port, uint8_t *out, size_t room)
 {
-	struct handle handle = mirror_handle(m);
-	struct rtnlc_put put = proved_mirror_begin(&handle, kind, family, seq, port, ROOM(out, room));
-	keep_mirror(m, &handle);
-	return put;
+	RETURN_KEPT(m, struct rtnlc_put,
+	            proved_mirror_begin(&handle, kind, family, seq, port, ROOM(out, room)));
 }
 
 struct rtnlc_heard rtnlc_mirror_feed(struct rtnlc_mirror *m, const uint8_t *bytes, size_t len,
                                      struct rtnlc_change *changes, size_t room, uint8_t *before,
                                      size_t before_room)
 {
-	struct handle handle = mirror_handle(m);
-	struct rtnlc_heard heard = proved_mirror_feed(&handle, BYTES(bytes, len), ROOM(changes, room),
-	                                              ROOM(before, before_room));
-	keep_mirror(m, &handle);
-	return heard;
+	RETURN_KEPT(m, struct rtnlc_heard,
+	            proved_mirror_feed(&handle, BYTES(bytes, len), ROOM(changes, room),
+	                               ROOM(before, before_room)));
 }
 
 uint8_t rtnlc_mirror_lost(struct rtnlc_mirror *m)
 {
-	struct handle handle = mirror_handle(m);
-	uint8_t code = proved_mirror_lost(&handle);
-	keep_mirror(m, &handle);
-	return code;
+	RETURN_KEPT(m, uint8_t, proved_mirror_lost(&handle));
 }
 
 struct rtnlc_mirrored rtnlc_mirror_table(struct rtnlc_mirror *m, uint16_t kind)
 {
-	struct handle handle = mirror_handle(m);
-	struct rtnlc_mirrored mirrored = proved_mirror_table(&handle, kind);
-	keep_mirror(m, &handle);
-	return mirrored;
+	RETURN_KEPT(m, struct rtnlc_mirrored, proved_mirror_table(&handle, kind));
 }
 
 struct rtnlc_put rtnlc_mirror_entry(struct rtnlc_mirror *m, uint16_t kind, uint32_t index,
                                     uint8_t *out, size_t room)
 {
-	struct handle handle = mirror_handle(m);
-	struct rtnlc_put put = proved_mirror_entry(&handle, kind, index, ROOM(out, room));
-	keep_mirror(m, &handle);
-	return put;
+	RETURN_KEPT(m, struct rtnlc_put, proved_mirror_entry(&handle, kind, index, ROOM(out, room)));
 }
 
 struct rtnlc_put rtnlc_mirror_key(struct rtnlc_mirror *m, uint16_t kind, uint32_t index,
                                   uint8_t *out, size_t room)
 {
-	struct handle handle = mirror_handle(m);
-	struct rtnlc_put put = proved_mirror_key(&handle, kind, index, ROOM(out, room));
-	keep_mirror(m, &handle);
-	return put;
+	RETURN_KEPT(m, struct rtnlc_put, proved_mirror_key(&handle, kind, index, ROOM(out, room)));
 }
 
 struct rtnlc_found rtnlc_mirror_find(struct rtnlc_mirror *m, uint16_t kind, const uint8_t *key,
                                      size_t len)
 {
-	struct handle handle = mirror_handle(m);
-	struct rtnlc_found found = proved_mirror_find(&handle, kind, BYTES(key, len));
-	keep_mirror(m, &handle);
-	return found;
+	RETURN_KEPT(m, struct rtnlc_found, proved_mirror_find(&handle, kind, BYTES(key, len)));
 }
 
 uint8_t rtnlc_stream_new(struct rtnlc_stream *stream, const struct rtnlc_options *options)

@@ -232,27 +232,26 @@ static void whole_dump(void)
 	rtnlc_mirror_free(&m);
 }
 
+/* Dump 2, of this table, ends so: why it is stale then, and with how many entries. */
+static void spoiled_dump(const char *what, uint16_t kind, const char *end, uint8_t why,
+                         uint32_t count)
+{
+	struct rtnlc_mirror m = of_links(8);
+	begin(&m, kind, 0, 2);
+	feed(&m, end);
+	expect(what, stale(&m, kind), why);
+	expect("it has ended", rtnlc_mirror_table(&m, kind).dumps, false);
+	expect("with its entries", count_of(&m, kind), count);
+	rtnlc_mirror_free(&m);
+}
+
 /* A dump that was interrupted or has failed is none, and a table that was current stays so. */
 static void spoiled_dumps(void)
 {
-	struct rtnlc_mirror m = of_links(8);
-	begin(&m, 24, 0, 2);
-	feed(&m, INTERRUPTED_2);
-	expect("interrupted", stale(&m, 24), RTNLC_NEVER_DUMPED);
-	expect("it has ended", rtnlc_mirror_table(&m, 24).dumps, false);
-	rtnlc_mirror_free(&m);
-	m = of_links(8);
-	begin(&m, 24, 0, 2);
-	feed(&m, FAILED_2);
-	expect("failed", stale(&m, 24), RTNLC_NEVER_DUMPED);
-	expect("it has ended", rtnlc_mirror_table(&m, 24).dumps, false);
-	rtnlc_mirror_free(&m);
-	m = of_links(8);
-	begin(&m, 16, 0, 2);
-	feed(&m, INTERRUPTED_2);
-	expect("the dump before stays", stale(&m, 16), RTNLC_CURRENT);
-	expect("with its entries", count_of(&m, 16), 2);
-	rtnlc_mirror_free(&m);
+	spoiled_dump("interrupted", 24, INTERRUPTED_2, RTNLC_NEVER_DUMPED, 0);
+	spoiled_dump("failed", 24, FAILED_2, RTNLC_NEVER_DUMPED, 0);
+	spoiled_dump("the dump before stays", 16, INTERRUPTED_2, RTNLC_CURRENT, 2);
+	spoiled_dump("and behind one that failed", 16, FAILED_2, RTNLC_CURRENT, 2);
 }
 
 /* A dump that is given up: what waited is told, and its late answers are none of the next. */
@@ -287,7 +286,7 @@ static void families(void)
 	feed(&m, DONE_2);
 	begin(&m, 28, 7, 3);
 	expect("another", stale(&m, 28), RTNLC_NEVER_DUMPED);
-	feed(&m, "14000000 0300 0200 03000000 39300000 00000000");
+	feed(&m, DONE_OF(3));
 	expect("until its end", stale(&m, 28), RTNLC_CURRENT);
 	feed(&m, STATION_MOVED);
 	expect_change("one of these", 0, RTNLC_ADDED, 28, 0, 0, 0);
@@ -395,7 +394,7 @@ static void no_room(void)
 static struct rtnlc_mirror all_current(void)
 {
 	struct rtnlc_mirror m = of_links(8);
-	char done[] = "14000000 0300 0200 02000000 39300000 00000000";
+	char done[] = DONE;
 	size_t at;
 	for (at = 1; at < 5; at++) {
 		begin(&m, kinds[at], 0, (uint32_t)(1 + at));
@@ -433,7 +432,7 @@ static void refused(void)
 	expect("the first reason stays", rtnlc_mirror_lost(&m), RTNLC_OK);
 	expect_all("  refused", &m, RTNLC_REFUSED);
 	begin(&m, 16, 0, 9);
-	feed(&m, "14000000 0300 0200 09000000 39300000 00000000");
+	feed(&m, DONE_OF(9));
 	expect("a whole dump mends it", stale(&m, 16), RTNLC_CURRENT);
 	expect("and no other", stale(&m, 24), RTNLC_REFUSED);
 	rtnlc_mirror_free(&m);
@@ -462,10 +461,10 @@ static void lost(void)
 	expect("with what they had", count_of(&m, 16), 2);
 	begin(&m, 16, 0, 6);
 	expect("lost in a dump", rtnlc_mirror_lost(&m), RTNLC_OK);
-	feed(&m, "14000000 0300 0200 06000000 39300000 00000000");
+	feed(&m, DONE_OF(6));
 	expect("which doesn't count", stale(&m, 16), RTNLC_LOST);
 	begin(&m, 16, 0, 7);
-	feed(&m, "14000000 0300 0200 07000000 39300000 00000000");
+	feed(&m, DONE_OF(7));
 	expect("but the next", stale(&m, 16), RTNLC_CURRENT);
 	expect("and no other", stale(&m, 20), RTNLC_LOST);
 	rtnlc_mirror_free(&m);
@@ -565,7 +564,7 @@ static void none_waits(void)
 	expect("that dump doesn't count", stale(&m, 16), RTNLC_TOO_MANY_WAIT);
 	expect("the table stays", count_of(&m, 16), 2);
 	begin(&m, 16, 0, 3);
-	feed(&m, "14000000 0300 0200 03000000 39300000 00000000");
+	feed(&m, DONE_OF(3));
 	expect("the next does", stale(&m, 16), RTNLC_CURRENT);
 	rtnlc_mirror_free(&m);
 }

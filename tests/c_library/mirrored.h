@@ -47,9 +47,11 @@
 	"00000030 001c 0000 00000000 00000000 07000000 00000004 00020000 000a0002 02000000 00010000 "  \
 	"00080009 00000002"
 #define DONE_BIG "00000014 0003 0002 00000001 00003039 00000000"
-/* Ends of dump 1, of dump 2, and one that says that dump 2 was interrupted, or has failed. */
-#define DONE "14000000 0300 0200 01000000 39300000 00000000"
-#define DONE_2 "14000000 0300 0200 02000000 39300000 00000000"
+/* The end of the dump whose number is this digit, those of dumps 1 and 2, and ends that say that
+ * dump 2 was interrupted, or has failed. */
+#define DONE_OF(digit) "14000000 0300 0200 0" #digit "000000 39300000 00000000"
+#define DONE DONE_OF(1)
+#define DONE_2 DONE_OF(2)
 #define INTERRUPTED_2 "14000000 0300 1200 02000000 39300000 00000000"
 #define FAILED_2 "14000000 0300 0200 02000000 39300000 a1ffffff"
 #define OVERRUN_TOLD "10000000 0400 0000 00000000 00000000"

@@ -134,29 +134,7 @@ static void call_session_begin(void)
 
 static void call_session_feed(void) { code = rtnlc_session_feed(&session, bytes, len).code; }
 static void call_session_status(void) { code = rtnlc_session_status(&session).code; }
-
-static void call_session_table(void)
-{
-	code = rtnlc_session_table(&session, first.kind).code;
-}
-
-static void call_session_entry(void)
-{
-	code = rtnlc_session_entry(&session, first.kind, 0, out, ROOM).code;
-}
-
-static void call_session_key(void)
-{
-	key_len = rtnlc_session_key(&session, first.kind, 0, key, ROOM).len;
-}
-
-static void call_session_find(void)
-{
-	code = rtnlc_session_find(&session, first.kind, key, key_len).code;
-}
-
 static void call_session_abandon(void) { code = rtnlc_session_abandon(&session); }
-static void call_session_free(void) { rtnlc_session_free(&session); }
 
 static void call_mirror_new(void)
 {
@@ -181,25 +159,27 @@ static void call_mirror_begin(void)
 	code = rtnlc_mirror_begin(&mirror, first.kind, 0, ++seq, first.port, out, ROOM).code;
 }
 
-static void call_mirror_table(void) { code = rtnlc_mirror_table(&mirror, first.kind).code; }
-
-static void call_mirror_entry(void)
-{
-	code = rtnlc_mirror_entry(&mirror, first.kind, 0, out, ROOM).code;
-}
-
-static void call_mirror_key(void)
-{
-	key_len = rtnlc_mirror_key(&mirror, first.kind, 0, key, ROOM).len;
-}
-
-static void call_mirror_find(void)
-{
-	code = rtnlc_mirror_find(&mirror, first.kind, key, key_len).code;
-}
-
 static void call_mirror_lost(void) { code = rtnlc_mirror_lost(&mirror); }
-static void call_mirror_free(void) { rtnlc_mirror_free(&mirror); }
+
+/* The calls that a session and a mirror have alike. */
+#define READS_AND_FREES(it)                                                                    \
+	static void call_##it##_table(void) { code = rtnlc_##it##_table(&it, first.kind).code; }   \
+	static void call_##it##_entry(void)                                                        \
+	{                                                                                          \
+		code = rtnlc_##it##_entry(&it, first.kind, 0, out, ROOM).code;                         \
+	}                                                                                          \
+	static void call_##it##_key(void)                                                          \
+	{                                                                                          \
+		key_len = rtnlc_##it##_key(&it, first.kind, 0, key, ROOM).len;                         \
+	}                                                                                          \
+	static void call_##it##_find(void)                                                         \
+	{                                                                                          \
+		code = rtnlc_##it##_find(&it, first.kind, key, key_len).code;                          \
+	}                                                                                          \
+	static void call_##it##_free(void) { rtnlc_##it##_free(&it); }
+
+READS_AND_FREES(session)
+READS_AND_FREES(mirror)
 
 static void call_stream_new(void) { code = rtnlc_stream_new(&stream, &widest); }
 

@@ -14,24 +14,27 @@ PORTS = [f"p{at}" for at in range(3)]
 Change = Callable[[random.Random], str]
 
 
+def pair(device: str, peer: str, *between: str) -> List[str]:
+    """Adds a device with its peer, and sets both up behind the lines `between`."""
+    return [
+        f"link add {device} type veth peer name {peer}",
+        *between,
+        f"link set {peer} up",
+        f"link set {device} up",
+    ]
+
+
 def setting() -> List[str]:
     """What is there before the changes: enough for dumps of several parts."""
     lines: List[str] = ["link set lo up", "link add b0 type bridge", "link set b0 up"]
     for at, device in enumerate(DEVICES):
+        lines += pair(device, f"e{at}")
         lines += [
-            f"link add {device} type veth peer name e{at}",
-            f"link set e{at} up",
-            f"link set {device} up",
             f"addr add 10.{at}.0.1/16 dev {device}",
             f"addr add fd00:{at}::1/64 dev {device} nodad",
         ]
     for at, port in enumerate(PORTS):
-        lines += [
-            f"link add {port} type veth peer name q{at}",
-            f"link set {port} master b0",
-            f"link set q{at} up",
-            f"link set {port} up",
-        ]
+        lines += pair(port, f"q{at}", f"link set {port} master b0")
     lines += [f"route add 172.16.{at}.0/24 via 10.{at % 4}.0.7" for at in range(200)]
     lines += [f"route add fd01:{at:x}::/64 via fd00:{at % 4}::7" for at in range(150)]
     lines += [
