@@ -1,5 +1,4 @@
 mod Forms
-pub mod Beginnings
 pub mod Extents
 pub mod Firsts
 pub mod Fronts

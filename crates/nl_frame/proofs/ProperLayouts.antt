@@ -1,5 +1,5 @@
--- Messages that are a layout can be written, are as long as the datagram with its last padding, keep no more bytes than it has, and are its one list.
-use Rattle.std.proofs.Common.{◌≡◌, ℕ, ◌+◌, ◌%◌, ◌≤◌, List, [], ◌∷◌, length, take, drop, Some, None, refl, sym, ap, subst, ◌∙◌, arith, length-drop}
+-- Messages that are a layout can be written, are sized, are as long as the datagram with its last padding, keep no more bytes than it has, and are its one list.
+use Rattle.std.proofs.Common.{◌≡◌, ℕ, ◌+◌, ◌%◌, ◌≤◌, List, [], ◌∷◌, length, take, drop, Some, None, refl, sym, ap, subst, ◌∙◌, arith, inl, inr, length-drop}
 use Rattle.std.proofs.Math.Logic.{⊎_elim}
 use Rattle.nl_attr.specs.Fixed.{LONGEST_REGION}
 use Rattle.nl_attr.specs.declared.order.Order.{Order}
@@ -9,6 +9,7 @@ use Rattle.nl_attr.specs.Layout.{IsPiece}
 use Rattle.nl_attr.proofs.Lemmas.Fitted.{IsAllowed, items_allowed, fitted_is_proper, fitted_len}
 use Rattle.nl_attr.proofs.Lemmas.Numbers.{bytes_drop}
 use Rattle.nl_attr.proofs.Lemmas.Pieces.{apart, two_parts, piece_bytes}
+use Rattle.nl_attr.proofs.Lemmas.Writing.{list_is_sized}
 use Rattle.nl_route.specs.Fields.{signed}
 use Rattle.nl_route.proofs.Fields.{fields_are_ranged}
 use Rattle.nl_route.proofs.Families.{is_family}
@@ -21,6 +22,7 @@ use Rattle.nl_frame.specs.Layout.{BodyOf, Layout}
 use Rattle.nl_frame.specs.Limits.{Bounds, AreLimits}
 use Rattle.nl_frame.specs.Written.{body_len, written_len, written}
 use Rattle.nl_frame.specs.Proper.{IsMismatchedBody, IsMismatched, IsDeepBody, IsDeep, IsLongBody, HasLong, IsProper, IsRangedBody, IsRanged}
+use Rattle.nl_frame.specs.Measured.{IsSized, IsSizedBody}
 use Rattle.nl_frame.specs.Kept.{body_kept, kept}
 use Rattle.nl_frame.specs.OneList.{IsTheList}
 use Rattle.nl_frame.proofs.Firsts.{one_layout}
@@ -37,6 +39,15 @@ tail_len n payload tail le e = omega (arith, ap (length {A = ℕ}) e, length-dro
 
 again : (n k size : ℕ) → n % 4 ≡ 0 → n + k ≡ size → aligned (16 + (n + aligned k)) ≡ aligned (16 + size)
 again n k size e f = omega (arith, e, f)
+
+-- messages that are neither mismatched nor too long are sized
+body_is_sized : (b : BodyVal) (f : Form) → (IsMismatchedBody b f → ⊥) → (IsLongBody b → ⊥) → IsSizedBody b
+body_is_sized (object h is) f m s = list_is_sized is (context_of (family_of h)) (λ x. m (inr x)) (λ x. s (inr x))
+body_is_sized b f m s = tt
+
+are_sized : (ms : List MessageVal) → (IsMismatched ms → ⊥) → (HasLong ms → ⊥) → IsSized ms
+are_sized [] m s = tt
+are_sized (x ∷ ms) m s = (body_is_sized x.body (form_of x.kind) (λ y. m (inl y)) (λ y. s (inl y)), are_sized ms (λ y. m (inr y)) (λ y. s (inr y)))
 
 module _ (S : Shape) where
   pub body_len_is : (c : BodyVal) (f : Form) (payload : List ℕ) → BodyOf S c f payload → aligned (16 + body_len c) ≡ aligned (16 + length payload)
@@ -120,6 +131,11 @@ module _ (S : Shape) where
       let a = layout_allowed ms d f in
       record { matched = a.matched; shallow = a.shallow; short = ⊎_elim (λ h. omega (arith, layout_len ms d f, top, h)) (λ h. a.short (top, h)) }
 
+  pub layout_sized : (ms : List MessageVal) (d : List ℕ) → Layout S ms d → length d ≤ LONGEST_REGION → IsSized ms
+  layout_sized ms d f top =
+      let p = layout_proper ms d f top in
+      are_sized ms p.matched (λ x. p.short (inr x))
+
   pub layout_ranged : (ms : List MessageVal) (d : List ℕ) → AreBytes d → Layout S ms d → IsRanged ms
   layout_ranged ms d fits f = (layout_allowed ms d f).ranged fits
 
@@ -128,7 +144,7 @@ module _ (S : Shape) where
   layout_kept ms d f = (layout_allowed ms d f).kept
 
 -- what holds of messages that are a layout
-pub ruleset proper = (layout_proper, layout_len, layout_ranged)
+pub ruleset proper = (layout_proper, layout_len, layout_sized, layout_ranged)
 
 pub the_list : (b : Bounds) (bytes : List ℕ) (ms : List MessageVal) → AreLimits b → AreBytes bytes → length bytes ≤ b.datagram → Layout b.shape ms bytes → IsTheList b bytes ms
 the_list b bytes ms limits fit size layout =

@@ -1,4 +1,4 @@
--- What one walk over messages measures: whether they are too deep, and their length where it is not too long; and which messages can be compared with bytes.
+-- What one walk over messages measures: whether they are too deep, and their length where it is not too long.
 use Rattle.std.specs.Prelude.{◌≡◌, ◌<◌, ◌≤◌, ◌+◌, ◌⊎◌, ℕ, List, [], ◌∷◌, Option, Some, None}
 use Rattle.nl_attr.specs.Fixed.{LONGEST_REGION}
 use Rattle.nl_attr.specs.Numbers.{aligned}
@@ -34,8 +34,3 @@ IsMessageLen b o = IsLenOf (LONGEST_REGION + 80) (IsLongBody b) (IsSizedBody b) 
 abbrev pub IsLen : List MessageVal → Option ℕ → Type 0
 IsLen ms None = IsLong ms
 IsLen ms (Some n) = (n ≡ written_len ms) × (n ≤ LONGEST_REGION) × (HasLong ms → ⊥) × IsSized ms
-
--- each message is no longer than a datagram, and its attributes are sized
-abbrev pub AreSized : List MessageVal → Type 0
-AreSized [] = Unit {0}
-AreSized (m ∷ ms) = (16 + body_len m.body ≤ LONGEST_REGION) × IsSizedBody m.body × AreSized ms

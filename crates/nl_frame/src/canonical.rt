@@ -7,16 +7,18 @@ ghost use Rattle.nl_frame.specs.Heads.{IsFirstFault, whole};
 ghost use Rattle.nl_frame.specs.Outcomes.{IfFault};
 ghost use Rattle.nl_frame.specs.Written.{written};
 
-use crate::comparing::are_written;
+use crate::appending::append_messages;
 use crate::limits::Limits;
 use crate::reading::{ReadError, read_datagram};
+use nl_attr::align4;
 use std::alloc::Global;
 
 /// Whether a datagram is canonical: written as its messages are, every padding whole and of zeros,
 /// and every byte of a head that is not kept zero.
 ///
-/// It refuses as `read_datagram` does. What was read is compared with the bytes where they stand;
-/// no second datagram is made.
+/// It refuses as `read_datagram` does. What was read is written into a second datagram, which is
+/// compared with the first.
+#[tactic(auto, using(crate::proofs::ProperLayouts::proper))]
 pub fn is_canonical(alloc: Global, bytes: &[u8], limits: &Limits) -> Result<bool, ReadError>
     ensures large { result ≡ Err ReadError.TooLarge ↔ limits.now.datagram < length bytes.now }
     // The datagram has a layout, and is canonical exactly where it is what that is written as.
@@ -33,5 +35,8 @@ pub fn is_canonical(alloc: Global, bytes: &[u8], limits: &Limits) -> Result<bool
     // A datagram within the limit is within the longest, so its messages can be written.
     let _limit = limits.datagram();
     let messages = read_datagram(alloc, bytes, limits).into_result()?;
-    Ok(are_written(messages.as_slice(), limits.order(), bytes))
+    // The padding of the last message may be cut short.
+    let mut again = Vec::with_capacity(alloc, align4(bytes.len() as u32) as usize)?;
+    append_messages(messages.as_slice(), limits.order(), &mut again);
+    Ok(again.as_slice() == bytes)
 }

@@ -6,7 +6,6 @@ mod body;
 mod broken;
 mod building;
 mod canonical;
-mod comparing;
 mod form;
 mod front;
 mod header;
