@@ -1,14 +1,16 @@
 #!/usr/bin/env python3
 """Tries the edits crates/NAME/edits/*.edit: each turns the meaning of a function, and the prover
 must refuse it. A file has a line 'file: src/lib.rt' and pairs of lines 'old: TEXT' and 'new: TEXT',
-each TEXT one line; the old one stands in that file once.
+each TEXT one line; the old one stands in that file once. Edits of different functions are tried in
+one check (helpers/trials.py).
 
   tests/edits.py         tries the edits of each crate whose line in tests/edits.lock is another
   tests/edits.py NAME..  tries those of these crates, whatever the lock says
   --all                  tries those of every crate
   --update               writes into the lock the line of each crate whose edits this run all saw
-                         refused, or was told by rt that it refused before, in the same files
-  --over-checks          begins with what `rt check` kept, and not with what `rt ci` kept
+                         refused
+  --over-checks          has `rt check` say first that the crate is proved, and not `rt ci`
+  --singly               tries each edit in a check of its own
 
 The lock has a line for each crate: its name, how many edits it has, and a sum of what their refusal
 depends on (docs/GATE.md says why): the kit; HANDLES; what crates.txt says of the crate and those
@@ -24,22 +26,21 @@ import argparse
 import hashlib
 import os
 import re
-import shutil
 import subprocess
 import sys
 import tempfile
-from typing import Any, Dict, Iterator, List, NamedTuple, Optional, Set, Tuple
+from typing import Dict, Iterator, List, NamedTuple, Optional, Set, Tuple
 
 sys.dont_write_bytecode = True
 HERE = os.path.dirname(os.path.realpath(__file__))
 sys.path[:0] = [f"{HERE}/../launch", f"{HERE}/helpers"]
 from crate_files import files
 from crates import ROOT, Crates, NotBuilt, below, library, listed
+from trials import Misplaced, Trials, applied, batches, edit_of
 
 LOCK = "tests/edits.lock"
 # A definition or a lemma where a text names it, in a file of the crate's folder specs/ or proofs/.
 NAMED = re.compile(r"\b(\w+)(?:\.|::)(specs|proofs)((?:(?:\.|::)\w+)+)")
-SAID = re.compile(r"(?:rt: )?must-fail (\w+)/(\S+\.edit): (.*)")
 SUM = re.compile(r"[0-9a-f]{64}")
 
 
@@ -51,8 +52,6 @@ class Row(NamedTuple):
 
 
 Lock = Dict[str, Row]
-# A crate, and the name of a file.
-Edit = Tuple[str, str]
 
 
 def edits_of(name: str) -> List[str]:
@@ -61,26 +60,12 @@ def edits_of(name: str) -> List[str]:
 
 def misplaced(name: str, edit: str) -> Optional[str]:
     """Why an edit can't be applied, with its line, or nothing."""
-    folder, path, old = f"{ROOT}/crates/{name}", "", ""
-    texts: Dict[str, str] = {}
-    with open(f"{folder}/edits/{edit}", encoding="utf-8") as lines:
-        for number, line in enumerate(lines.read().split("\n"), 1):
-            word, _, rest = line.partition(":")
-            rest = rest[1:] if rest.startswith(" ") else rest
-            if word == "file":
-                path = rest.strip()
-                if not os.path.isfile(f"{folder}/{path}"):
-                    return f"{number}: there is no file {path}"
-                with open(f"{folder}/{path}", encoding="utf-8") as text:
-                    texts.setdefault(path, text.read())
-            elif word == "old":
-                old = rest
-            elif word == "new":
-                count = texts.get(path, "").count(old) if old else 0
-                if count != 1:
-                    return f"{number}: what it replaces is {count} times in {path}, not once: {old}"
-                texts[path], old = texts[path].replace(old, rest), ""
-    return None if texts else "1: it names no file"
+    folder = f"{ROOT}/crates/{name}"
+    try:
+        applied([edit_of(folder, edit)], folder)
+    except Misplaced as why:
+        return str(why)
+    return None
 
 
 def contracts(name: str) -> Iterator[Tuple[str, str]]:
@@ -162,52 +147,38 @@ def write_lock(rows: Lock) -> None:
     os.replace(f"{ROOT}/{LOCK}.new", f"{ROOT}/{LOCK}")
 
 
-def copy(crates: Crates, names: List[str], room: str) -> None:
-    """The crates that are tried, with those below, and the edits where rt looks for them."""
-    wanted = [it for it in crates if any(it in (name, *below(crates, name)) for name in names)]
-    for it in wanted:
-        leaves = shutil.ignore_patterns("out", "edits")
-        shutil.copytree(f"{ROOT}/crates/{it}", f"{room}/crates/{it}", ignore=leaves)
-        if it in names:
-            shutil.copytree(f"{ROOT}/crates/{it}/edits", f"{room}/crates/{it}/must-fail")
-    with open(f"{room}/crates.txt", "w", encoding="utf-8") as text:
-        text.writelines(crates[it].line for it in wanted)
-    shutil.copy(f"{ROOT}/HANDLES", room)
-    # rt takes this for the top of a repository.
-    os.mkdir(f"{room}/.git")
-
-
-def refused(crates: Crates, names: List[str], command: List[str]) -> Tuple[Set[Edit], bool]:
-    """Tries the edits of these crates: those that were refused, and whether rt ended well."""
-    found = set()
-    how: Dict[str, Any] = {"stdin": subprocess.DEVNULL, "stdout": subprocess.PIPE}
-    how.update(stderr=subprocess.STDOUT, text=True, errors="replace")
+def tried(crates: Crates, name: str, given: argparse.Namespace) -> Tuple[int, List[str]]:
+    """Tries a crate's edits: in how many checks, and what failed."""
+    command = ["rt", "check"] if given.over_checks else ["rt", "ci"]
+    placed = [it for it in edits_of(name) if not misplaced(name, it)]
+    edits = [edit_of(f"{ROOT}/crates/{name}", it) for it in placed]
     with tempfile.TemporaryDirectory(prefix="rtnl-edits-") as room:
-        copy(crates, names, room)
-        with subprocess.Popen(command, cwd=room, **how) as ran:
-            for line in ran.stdout or ():
-                print(line, end="", flush=True)
-                said = SAID.match(line)
-                if said and said[3].startswith("refused, as it must be"):
-                    found.add((said[1], said[2]))
-    return found, ran.returncode == 0
+        trials = Trials(crates, name, room)
+        if not trials.proves(command):
+            return 0, [f"{' '.join(command)} does not prove {name}"]
+        good = set()
+        for part in [[it] for it in edits] if given.singly else batches(edits, trials.source):
+            good |= trials.refused(part)
+    lost = (it for it in edits_of(name) if it not in good)
+    return trials.checks, [f"crates/{name}/edits/{it} was not refused" for it in lost]
 
 
-def judge(crates: Crates, command: List[str], sums: Dict[str, str]) -> Tuple[Lock, List[str]]:
+def judge(crates: Crates, given: argparse.Namespace,
+          sums: Dict[str, str]) -> Tuple[Lock, List[str]]:
     """Tries the edits of the crates with these sums: lines for the lock, and what failed."""
-    if not sums:
-        return {}, []
-    print(f"trying the edits of {' '.join(sums)}", flush=True)
-    good, is_well = refused(crates, [*sums], command)
     rows: Lock = {}
-    failed = [] if is_well else [f"{' '.join(command[:2])} did not end well"]
+    failed = []
     for name, made in sums.items():
-        lost = [it for it in edits_of(name) if (name, it) not in good]
-        failed += [f"crates/{name}/edits/{it} was not refused" for it in lost]
+        count = len(edits_of(name))
+        print(f"trying the {count} edits of {name}", flush=True)
+        checks, lost = tried(crates, name, given)
+        if checks:
+            print(f"{count - len(lost)} are refused, in {checks} checks", flush=True)
+        failed += lost
         if sum_of(crates, name) != made:
             failed.append(f"{name} was changed while its edits were tried: run this again")
-        elif is_well and not lost:
-            rows[name] = Row(len(edits_of(name)), made)
+        elif not lost:
+            rows[name] = Row(count, made)
     return rows, failed
 
 
@@ -215,7 +186,7 @@ def arguments(having: List[str]) -> argparse.Namespace:
     as_it_is = argparse.RawTextHelpFormatter
     reader = argparse.ArgumentParser(description=__doc__, formatter_class=as_it_is)
     reader.add_argument("names", nargs="*", metavar="NAME")
-    for flag in ("--all", "--update", "--over-checks"):
+    for flag in ("--all", "--update", "--over-checks", "--singly"):
         reader.add_argument(flag, action="store_true")
     given = reader.parse_args()
     for it in given.names:
@@ -232,14 +203,13 @@ def main() -> int:
     found = ((name, it, misplaced(name, it)) for name in having for it in edits_of(name))
     failed += [f"crates/{name}/edits/{it}:{why}" for name, it, why in found if why]
     try:
-        sums = {it: sum_of(crates, it) for it in having}
+        sums = {it: sum_of(crates, it) for it in given.names or having}
     except NotBuilt as error:
         print(f"edits.py: {error}\n0 passed, 1 failed")
         return 1
-    is_as_locked = {it: lock.get(it) == Row(len(edits_of(it)), sums[it]) for it in having}
+    is_as_locked = {it: lock.get(it) == Row(len(edits_of(it)), sums[it]) for it in sums}
     names = given.names or [it for it in having if given.all or not is_as_locked[it]]
-    command = ["rt", "must-fail", *names] if given.over_checks else ["rt", "ci"]
-    rows, lost = judge(crates, command, {it: sums[it] for it in names})
+    rows, lost = judge(crates, given, {it: sums[it] for it in names})
     if given.update:
         write_lock({**lock, **rows})
         failed = [it for it in failed if not it.startswith(LOCK)] + read_lock(having)[1]
@@ -249,9 +219,9 @@ def main() -> int:
     for line in failed:
         print(f"FAILED {line}")
     stand = sum(len(edits_of(it)) for it in having if it not in names and not given.names)
-    tried = sum(row.edits for row in rows.values())
-    print(f"{tried} edits are refused, as rt found now or before; {stand} stand by {LOCK}")
-    print(f"{tried + stand} passed, {len(failed)} failed")
+    refused = sum(row.edits for row in rows.values())
+    print(f"{refused} edits are refused; {stand} stand by {LOCK}")
+    print(f"{refused + stand} passed, {len(failed)} failed")
     return 1 if failed else 0
 
 

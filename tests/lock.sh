@@ -12,7 +12,7 @@ high=$small/crates/high
 lock=$small/tests/edits.lock
 mkdir -p "$small/tests/helpers" "$small/.git" "$low/src" "$low/proofs/sum" "$high/src" "$high/edits" &&
   cp -r launch HANDLES "$small" && cp tests/edits.py "$small/tests" &&
-    cp tests/helpers/crate_files.py "$small/tests/helpers" || exit 1
+    cp tests/helpers/crate_files.py tests/helpers/trials.py "$small/tests/helpers" || exit 1
 printf 'low:\nhigh: low\n' >"$small/crates.txt"
 
 cat >"$low/src/lib.rt" <<'TEXT'
@@ -82,6 +82,15 @@ pub fn at_most_ten(a: u32) -> u32
 {
     lesser(a, 10)
 }
+
+const TIMES: u32 = 2;
+
+/// Twice a number of at most ten.
+pub fn at_most_twenty(a: u32) -> u32
+    ensures { result ≤ 20 }
+{
+    at_most_ten(a) * TIMES
+}
 TEXT
 edit=$high/edits/eleven.edit
 printf 'file: src/lib.rt\nold: lesser(a, 10)\nnew: lesser(a, 11)\n' >"$edit"
@@ -104,8 +113,8 @@ says() {
   [ "$found" = "$status" ] || { echo "$found, in:" && cat "$folder/said" && return 1; }
 }
 
-tried='1 edits are refused, as rt found now or before; 0 stand by tests/edits.lock'
-stands='0 edits are refused, as rt found now or before; 1 stand by tests/edits.lock'
+tried='1 edits are refused; 0 stand by tests/edits.lock'
+stands='0 edits are refused; 1 stand by tests/edits.lock'
 is_missing='FAILED tests/edits.lock:1: the line of high is missing'
 
 touch "$lock"
@@ -146,6 +155,25 @@ check 'an edit of no file' misplaced '1: there is no file src/other.rt' 'file: s
 check 'an edit that names nothing' misplaced '1: it names no file' 'lesser'
 cp "$folder/edit" "$edit"
 
+# beside NAME TEXT: an edit that puts this text into the upper function, beside that of the lower.
+beside() { printf 'file: src/lib.rt\nold: at_most_ten(a) * TIMES\nnew: %s\n' "$2" >"$high/edits/$1.edit"; }
+beside thrice 'at_most_ten(a) * 3'
+check 'edits of two functions, in one check' says 0 '2 are refused, in 1 checks' '2 passed, 0 failed' -- high
+beside fourfold 'at_most_ten(a) * 4'
+check 'two edits of one function, in two' says 0 '3 are refused, in 2 checks' '3 passed, 0 failed' -- high
+check 'each by itself' says 0 '3 are refused, in 3 checks' '3 passed, 0 failed' -- high --singly
+rm "$high/edits/thrice.edit"
+beside fourfold 'at_most_ten(a) * 1'
+check 'one that is not refused beside one that is' says 1 'high/fourfold.edit is still proved' \
+  'FAILED crates/high/edits/fourfold.edit was not refused' '1 are refused, in 2 checks' -- high
+beside fourfold 'at_most_ten(b) * 2'
+check 'one that is not read beside one that is refused' says 1 \
+  'FAILED crates/high/edits/fourfold.edit was not refused' '1 are refused, in 3 checks' -- high
+rm "$high/edits/fourfold.edit"
+printf 'file: src/lib.rt\nold: u32 = 2;\nnew: u32 = 3;\n' >"$high/edits/thrice.edit"
+check 'one outside functions is tried alone' says 0 '2 are refused, in 2 checks' '2 passed, 0 failed' -- high
+rm "$high/edits/thrice.edit"
+
 # A body, a contract in a private file and a proof below are others, in the same public contracts: the edit stands by
 # the lock, and is refused.
 sed -i 's/{ result ≤ 255 }/{ result ≤ 260 }/' "$low/src/steps.rt"
@@ -164,7 +192,7 @@ sed -i 's/^\/\/\/ At most ten/\/\/\/ A number of at most ten/' "$high/src/lib.rt
 sed -i 's/{ result ≤ b }/{ result ≤ 9 }/; s/^    if b < a .*/    a.min(b).min(9)/' "$low/src/lib.rt"
 check 'a contract below' proves
 check 'a contract below: the edit is tried, and not refused' says 1 \
-  'FAILED crates/high/edits/eleven.edit was not refused' '0 passed, 2 failed' --
+  'FAILED crates/high/edits/eleven.edit was not refused' '0 passed, 1 failed' --
 check 'an edit that is not refused is not locked' says 1 \
   'FAILED crates/high/edits/eleven.edit was not refused' -- --update
 check 'the lock is as it was' cmp -s "$lock" "$folder/lock"
