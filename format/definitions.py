@@ -2,7 +2,7 @@
 code has, so that a proof refuses one that was changed in the code alone.
 """
 import re
-from typing import Dict, Iterable
+from typing import Dict, Iterable, Set
 
 import rattle
 from named import BEHIND, BITS, CONTEXTS, Blocks, Writer
@@ -10,6 +10,8 @@ from named import controls, families, first_types, named, numbered, put_in, put_
 
 # A number with a name, which may be the kernel's.
 CONSTANT = r"^(?P<name>[A-Z][A-Z0-9_]*) = (?P<number>\w+)$"
+# The styles, as their type lists them.
+ORDER = "U8", "U16", "U32", "NetworkU16", "Text", "Address", "Hex"
 # The lines that choose by a number.
 CHOICE = r"(?:^    if n == [^\n]+\n)+"
 
@@ -28,15 +30,18 @@ def choice(items: Dict[str, str], otherwise: str) -> str:
 
 
 def attributes(*contexts: str) -> Writer:
-    """The lists of attributes of these contexts whose payload is read."""
+    """The lists of attributes of these contexts whose payload is read, and the styles in them."""
 
     def write(text: str, blocks: Blocks) -> str:
+        styles: Set[str] = set()
         for it in (it for it in CONTEXTS if it.name in contexts):
             rows = rattle.rows_of(it, True, text, blocks)
             items = (
                 f'({number}, codes "{row.name}", {rattle.style(row)})' for number, row in rows)
             text = table(f"{it.name}_rows", items, text)
-        return text
+            styles |= {rattle.style(row) for _, row in rows}
+        words = ", ".join(sorted(styles, key=ORDER.index))
+        return put_lines(r"(?<=Style\.TheVariants\.\{)[^}]+", text, words)
 
     return write
 
