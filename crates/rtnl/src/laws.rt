@@ -15,7 +15,7 @@ ghost use Rattle.rtnl.specs.declared.bytes.rows.RowFormat.{RowFormat};
 ghost use Rattle.rtnl.specs.Tabled.{HeadlineOfTables};
 ghost use Rattle.rtnl.specs.declared.error.Verdict.{Verdict};
 
-use crate::runs::telling::OnBadLine;
+use crate::runs::followed::OnBadLine;
 
 /// A datagram has one answer: its one layout, or its one refusal. A check finds one thing of it.
 #[tactic(auto, using(crate::proofs::Answers::some_answer, crate::proofs::Answers::same_answer, crate::proofs::Answers::same_finding))]
