@@ -131,4 +131,4 @@ texts_are o n (d ∷ ds) (a ∷ found) =
 pub shown_is : (b : Bounds) (ds : List (List ℕ)) (text : List ℕ) (v : Verdict) → ShowsColoured b ds text v → (p : List ℕ) × Colours text p × Shows b ds p v
 shown_is b ds text v h =
     let p = texts_from (datagram_text b.shape.order) 1 ds h.0 in
-    (p, subst (λ (t : List ℕ). Colours t p) (sym h.2) (texts_are b.shape.order 1 ds h.0), h.0, h.1, refl, h.3)
+    (p, subst (λ (t : List ℕ). Colours t p) (sym h.2) (texts_are b.shape.order 1 ds h.0), (h.0, h.1, refl, h.3))

@@ -4,7 +4,7 @@ use Rattle.rtnl.specs.Followed.{IsCounted, said_of, with_part}
 use Rattle.std.proofs.lemmas.Result.{err_from_is_err_and}
 use Rattle.rtnl.specs.Lines.{lines_of}
 use Rattle.rtnl.proofs.Cuts.{first_line, last_line, line_parts}
-use Rattle.rtnl.proofs.Follower.{goes_more, tells_counted}
+use Rattle.rtnl.proofs.Following.{goes_more, tells_counted}
 use Rattle.rtnl.proofs.FollowedPieces.{piece_ended, piece_failed, piece_kept, piece_lost, piece_more}
 use Rattle.rtnl.proofs.runs.follow_lines.follow_piece.Goals as goal
 
