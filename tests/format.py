@@ -1,9 +1,10 @@
 #!/usr/bin/env python3
 """Compares the rows of format/ with the kernel's headers, by the C compiler: numbers, the places,
 sizes and signs of fields, and that no attribute is left out; with the YNL files of Debian's
-linux-source-6.12, and in the whole gate with its headers too, where that is installed; with what
-format/write.py writes; with crates/ and record/; and with one another. Then it tries rows that are
-wrong. The last line is 'N passed, M failed', and the status is 1 where one differs.
+linux-source-6.12, and in the whole gate with its headers too, where that is installed; with one
+another; and with what format/write.py writes from them. Then it changes files that the script
+writes, and tries rows that are wrong. The last line is 'N passed, M failed', and the status is 1
+where one differs.
 """
 import os
 import re
@@ -14,16 +15,13 @@ from typing import Any, Dict, Iterator, List, NamedTuple, Optional, Tuple
 
 sys.dont_write_bytecode = True
 TESTS = os.path.dirname(os.path.realpath(__file__))
-sys.path[:0] = [f"{TESTS}/../format", f"{TESTS}/../record", f"{TESTS}/helpers", TESTS]
-import groups
+sys.path[:0] = [f"{TESTS}/../format", f"{TESTS}/helpers", TESTS]
 import headers
-import pages
-import reference
 import rows
 import write
 from counting import counted, whole
+from named import SIZES, Blocks
 from rows import Block, Row
-from write import Blocks
 
 try:
     import yaml
@@ -34,15 +32,12 @@ except ImportError:
 Case = Tuple[str, List[str]]
 SOURCE = "/usr/src/linux-source-6.12.tar.xz"
 SPECS = ("rt_link", "rt_addr", "rt_route", "tc")
-SIZES = {f"{sign}{8 * size}": size for sign in "us" for size in (1, 2, 4, 8)}
 # Under these keys a row names another block.
 KEYS = "struct nested-attributes sub-message enum bits set head request class".split()
 BIG = "byte-order=big-endian"
 # The words of YNL, in its order, that are compared.
 YNL = """byte-order min-len max-len max len sub-type struct nested-attributes sub-message selector
 enum enum-as-flags display-hint multi-attr""".split()
-# What the names of the headers in crates/ begin with.
-PREFIXES = ("IFLA_", "IFA_", "RTA_", "RTAX_", "NDA_", "FRA_", "NLA_F_", "RTM_", "NLMSG_")
 
 
 class Claim(NamedTuple):
@@ -260,36 +255,39 @@ def by_itself(blocks: Blocks) -> Iterator[Case]:
         yield block.name, [] if block.rows else ["no rows"]
 
 
-def constants() -> Iterator[Tuple[str, int]]:
-    """The constants that crates have of headers, in their definitions and sources."""
-    yield from reference.FIXED.items()
-    for crate in ("nl_attr", "nl_route"):
-        folder = f"{TESTS}/../crates/{crate}/src"
-        for path in (it for it in os.listdir(folder) if it.endswith(".rt")):
-            with open(f"{folder}/{path}", encoding="utf-8") as file:
-                found = re.findall(r"^pub const ([A-Z_]+): u16 = (\w+);", file.read(), re.M)
-            yield from ((name, int(number, 0)) for name, number in found)
-
-
-def of_crates(blocks: Blocks) -> Iterator[Case]:
-    """That crates/ and record/ have what the rows say."""
-    defined = {*map(pages.attribute_row, headers.attributes())}
-    defined |= {*map(pages.bits_row, reference.tables("NamedBits"))}
-    ours = {it.rstrip() for table in write.TABLES.values() for it in table(blocks)}
-    yield from ((it, [] if it in defined & ours else ["not in both"]) for it in defined | ours)
-    known = {it.name: it.number for block in blocks.values() for it in block.rows if it.value}
-    types = ((name, number) for number, name in reference.TYPES.items())
-    for name, number in (*constants(), *types):
-        if name.startswith(PREFIXES):
-            yield name, [] if known.get(name) == number else ["no such row"]
-    notified = {it.name[8:].lower(): it.number for it in blocks["groups"].rows}
-    yield "groups", [] if notified == groups.NUMBERS else ["not those of record/groups.py"]
-
-
 def of_written(blocks: Blocks) -> Iterator[Case]:
-    changed = write.differing(blocks)
-    for path in write.FILES:
-        yield path, ["not what format/write.py writes"] if path in changed else []
+    """That each file is as format/write.py writes it."""
+    for path, writes in write.writers(blocks).items():
+        text = write.text_of(path)
+        try:
+            is_so = write.written(text, writes, blocks) == text
+            yield path, [] if is_so else ["not what format/write.py writes"]
+        except LookupError as error:
+            yield path, [str(error)]
+
+
+def of_changed(blocks: Blocks) -> Iterator[Case]:
+    """That a changed file comes back, or has what is no row's, and that each file is tried."""
+    writers = write.writers(blocks)
+    untried = {path for part in write.PARTS for path in part.FILES}
+    for line in lines_of("changed"):
+        path, _, change = line.partition(": ")
+        old, _, new = change.partition(" ->")
+        text = write.text_of(path)
+        other = text.replace(old, new[1:], 1)
+        untried.discard(path)
+        try:
+            is_back = other != text and write.written(other, writers[path], blocks) == text
+            yield line, [] if is_back else ["it stays so"]
+        except LookupError:
+            yield line, []
+    yield "files with no change to try", sorted(untried)
+
+
+def lines_of(name: str) -> List[str]:
+    """The lines of a file of data but for comments."""
+    with open(f"{TESTS}/data/format/{name}.txt", encoding="utf-8") as file:
+        return [it for it in file.read().splitlines() if not it.startswith("#")]
 
 
 def tried(line: str, blocks: Blocks, installed: Headers, specs: List[Any]) -> List[str]:
@@ -304,7 +302,7 @@ def tried(line: str, blocks: Blocks, installed: Headers, specs: List[Any]) -> Li
         return ["no such row"]
     many = {**blocks, name: other}
     found = [*installed.cases({name: other}), *of_ynl(specs, many), *by_itself(many)]
-    found += [*of_crates(many), *of_written(many)]
+    found += of_written(many)
     return [] if any(wrong for _, wrong in found) else ["not found"]
 
 
@@ -322,12 +320,9 @@ def main() -> int:
                     file.write("#define __user\n#define __force\n#define __counted_by(member)\n")
             cases["with the headers of Linux 6.12"] = list(Headers(blocks, folder).cases(blocks))
     cases["with one another"] = list(by_itself(blocks))
-    cases["with crates/ and record/"] = list(of_crates(blocks))
     cases["with what is written"] = list(of_written(blocks))
-    with open(f"{TESTS}/data/format/wrong.txt", encoding="utf-8") as file:
-        by_any, _, by_ynl = file.read().partition("# Found by YNL alone:\n")
-    lines = (by_any + (by_ynl if specs else "")).splitlines()
-    wrong = [it for it in lines if not it.startswith("#")]
+    cases["changed files"] = list(of_changed(blocks))
+    wrong = lines_of("wrong") + (lines_of("wrong_by_ynl") if specs else [])
     cases["wrong rows"] = [(it, tried(it, blocks, installed, specs)) for it in wrong]
     for what, of in cases.items():
         print(f"{what}: {len(of)} compared, {sum(bool(it[1]) for it in of)} differ")

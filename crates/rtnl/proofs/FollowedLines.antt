@@ -14,7 +14,7 @@ use Rattle.rtnl.specs.Lines.{compact, datagrams_from, decoded, digits_at, is_com
 use Rattle.rtnl.specs.Runs.{EachIs, texts_from, verdict_from, with_one}
 use Rattle.rtnl.specs.declared.error.Verdict.{Verdict}
 use Rattle.rtnl.specs.declared.error.Verdict.TheVariants.{Clean, Blemished}
-use Rattle.rtnl.specs.declared.runs.telling.Followed.{Followed}
+use Rattle.rtnl.specs.declared.runs.followed.Followed.{Followed}
 use Rattle.rtnl.proofs.Cuts.{total-lines_of}
 
 -- what a good line says does not depend on its number

@@ -6,7 +6,7 @@ use Rattle.rtnl.specs.Lines.{lines_of}
 use Rattle.rtnl.specs.Streams.{Gains, Read, StopsOnce, all_moved, one_more}
 use Rattle.rtnl.specs.declared.error.RunError.{RunError}
 use Rattle.rtnl.specs.declared.error.RunError.TheVariants.{ReadFault, WriteFault, Memory}
-use Rattle.rtnl.specs.declared.runs.telling.Followed.{Followed}
+use Rattle.rtnl.specs.declared.runs.followed.Followed.{Followed}
 use Rattle.rtnl.proofs.Following.{follows_last, follows_line, follows_part, follows_some, goes_more, more_lines, part_of_last, part_of_line, read_more, stops_at_last, stops_at_line, told_behind}
 
 -- a piece behind an input, in the parts that it is gone over in

@@ -12,7 +12,7 @@ use Rattle.std.proofs.KnownBytes.{Appends-trans, Appends-nil, Consumes-nil, Cons
 use Rattle.rtnl.specs.Lines.{is_newline, lines_of}
 use Rattle.rtnl.specs.Runs.{texts_from}
 use Rattle.rtnl.specs.Followed.{Follows, GoesOn, HasRead, HeardLine, Hears, IsCounted, LONGEST_LINE, Steps, Stops, Tells, TellsOne, TellsPart, TellsReads, TellsSome, TellsUpTo, ToldBehind, all_said, bad_at, bad_from, kept_of, line_says, none_followed, refused_in, refused_one, said_by, said_of, with_part}
-use Rattle.rtnl.specs.declared.runs.telling.Followed.{Followed}
+use Rattle.rtnl.specs.declared.runs.followed.Followed.{Followed}
 
 -- ---- the lines of one input and then another
 

@@ -14,11 +14,11 @@ use Rattle.rtnl.specs.Streams.{AppendsPrefix, StopsOnce}
 use Rattle.rtnl.specs.Tabled.{Report, bodies_text}
 use Rattle.rtnl.specs.declared.error.RunError.{RunError}
 use Rattle.rtnl.specs.declared.error.RunError.TheVariants.{WriteFault, Memory}
-use Rattle.rtnl.specs.declared.runs.dump_so_far.DumpSoFar.{DumpSoFar}
+use Rattle.rtnl.specs.declared.runs.open_dump.OpenDump.{OpenDump}
 
 -- ---- a datagram
 
-module _ (t : Report) (o : Order) (number : ℕ) (said : Result (Option (List ℕ)) ℕ) (a b : DumpSoFar) (d old new : List ℕ) (is : said ≡ Ok (Some d)) (taken goes_on : Bool) where
+module _ (t : Report) (o : Order) (number : ℕ) (said : Result (Option (List ℕ)) ℕ) (a b : OpenDump) (d old new : List ℕ) (is : said ≡ Ok (Some d)) (taken goes_on : Bool) where
   -- it gave something
   abbrev pub Gives : Type 0
   Gives = (y : List ℕ) × (x : Given) × (said ≡ Ok (Some y)) × Reads a y x b × (new ≡ old ++ given_text t o number y x) × (taken ≡ is_given x) × (goes_on ≡ not (ends_dump b))

@@ -6,7 +6,6 @@ mod Cuts
 mod Decoded
 mod Digits
 mod Entries
-mod Escapes
 mod Feeding
 mod FollowedLines
 mod FollowedPieces
@@ -30,4 +29,3 @@ mod Showing
 mod Taping
 mod Trees
 mod Unescaped
-mod Unpainted

@@ -13,7 +13,7 @@ use Rattle.nl_mirror.specs.declared.short.Short.{Short}
 use Rattle.nl_mirror.specs.Changes.{Held, held_of}
 use Rattle.nl_mirror.specs.Five.{Mirrored, EachHearsBy, IsUpdate}
 use Rattle.nl_mirror.specs.Seen.{held_seen}
-use Rattle.rtnl.specs.Mirroring.{Comes, Hearing, HearsAll, Outcome, Passed, Passes, Step, Telling, answer_text, answers_text, begins_well, comment_says, entry_at, fed_by, is_heard, is_passed, kind_text, of_shown, outcome_text, standing, step_in, step_of, step_text, stood_in, unbegun_by, where_so}
+use Rattle.rtnl.specs.Mirroring.{Comes, Hearing, HearsAll, Outcome, Passed, Passes, Step, Progress, answer_text, answers_text, begins_well, comment_says, entry_at, fed_by, is_heard, is_passed, kind_text, of_shown, outcome_text, standing, step_in, step_of, step_text, stood_in, unbegun_by, where_so}
 use Rattle.rtnl.specs.Tabled.{Report}
 use Rattle.rtnl.specs.Lines.{is_comment}
 use Rattle.rtnl.specs.declared.runs.steps.Said.{Said}
@@ -62,7 +62,7 @@ hears_one f g [] (k ∷ hs) m h all hears is = absurd all
 hears_one f g (n ∷ ms) [] m h all hears is = absurd all
 hears_one f g (n ∷ ms) (k ∷ hs) m h all hears is = (all.0, all.1, hears_one k.mirror g ms hs m h all.2 hears is)
 
-module _ (t : Report) (r : Telling) (o : Order) (only : Option Family) where
+module _ (t : Report) (r : Progress) (o : Order) (only : Option Family) where
   answers_both : (hs ks : List Hearing) → answers_text t r o only (hs ++ ks) ≡ answers_text t r o only hs ++ answers_text t r o only ks
   answers_both [] ks = refl
   answers_both (h ∷ hs) ks = ap (λ x. answer_text t r o only h.mirror h.answer ++ x) (answers_both hs ks) ∙ sym (append_assoc (answer_text t r o only h.mirror h.answer) (answers_text t r o only hs) (answers_text t r o only ks))
@@ -80,7 +80,7 @@ module _ (t : Report) (r : Telling) (o : Order) (only : Option Family) where
 
 -- ---- a step
 
-module _ (t : Report) (r : Telling) (s : MirrorSettings) (a b : MirrorSoFar) (step : Step) (old mid new : List ℕ) (taken : Bool) where
+module _ (t : Report) (r : Progress) (s : MirrorSettings) (a b : MirrorSoFar) (step : Step) (old mid new : List ℕ) (taken : Bool) where
   -- what is found of it
   abbrev pub FindsStep : Type 0
   FindsStep = (x : Passed) × Passes s.limits a step x b × (new ≡ old ++ step_text t r s.limits.shape.order s step x) × (taken ≡ is_passed x)

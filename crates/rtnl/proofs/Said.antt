@@ -7,7 +7,7 @@ use Rattle.rtnl.specs.Runs.{EachIs, Prints, texts_from, verdict_from, with_one}
 use Rattle.rtnl.specs.Said.{IsSaid, SaysInput}
 use Rattle.rtnl.specs.declared.error.Verdict.{Verdict}
 use Rattle.rtnl.specs.declared.error.Verdict.TheVariants.{Clean}
-use Rattle.rtnl.specs.declared.runs.so_far.SoFar.{SoFar}
+use Rattle.rtnl.specs.declared.runs.output.Output.{Output}
 use Rattle.rtnl.proofs.Cuts.{length-lines_of}
 use Rattle.rtnl.proofs.Following.{lines_more, one_ended}
 use Rattle.rtnl.proofs.Reading.{grown}
@@ -79,7 +79,7 @@ module _ {X : Type 0} (Is : List ℕ → X → Type 0) (text : ℕ → List ℕ 
 
   -- ---- a line more, by what is read of it
 
-  module _ (done : List (List ℕ)) (line : List ℕ) (s t : SoFar) where
+  module _ (done : List (List ℕ)) (line : List ℕ) (s t : Output) where
     pushed : IsSaid Is text is_taken (datagrams_from 1 done >>= λ ds. line_at (1 + length done) line >>= λ d. Ok (grown ds d)) t → IsSaid Is text is_taken (datagrams_from 1 (done ++ line ∷ [])) t
     pushed h = subst (λ r. IsSaid Is text is_taken r t) (sym (datagrams_push 1 done line)) h
 
@@ -126,7 +126,7 @@ module _ {X : Type 0} (Is : List ℕ → X → Type 0) (text : ℕ → List ℕ 
   -- ---- an input
 
   -- a line has ended
-  pub line_said : (input part : List ℕ) (s t : SoFar) → lines_of part ≡ part ∷ [] → (h : SaysInput Is text is_taken input s) → t.lines ≡ s.lines + 1 → t.unfinished.items ≡ []
+  pub line_said : (input part : List ℕ) (s t : Output) → lines_of part ≡ part ∷ [] → (h : SaysInput Is text is_taken input s) → t.lines ≡ s.lines + 1 → t.unfinished.items ≡ []
       → IsSaid Is text is_taken (datagrams_from 1 (h.0 ++ (s.unfinished.items ++ part) ∷ [])) t → SaysInput Is text is_taken (input ++ (part ++ 10 ∷ [])) t
   line_said input part s t one h count none said = (
     h.0 ++ (s.unfinished.items ++ part) ∷ [],
@@ -136,13 +136,13 @@ module _ {X : Type 0} (Is : List ℕ → X → Type 0) (text : ℕ → List ℕ 
     said,
   )
 
-  same_said : (r : Result (List (List ℕ)) ℕ) (s t : SoFar) → t.bad_line ≡ s.bad_line → t.datagrams ≡ s.datagrams → joined t.parts.items ++ t.part.items ≡ joined s.parts.items ++ s.part.items → t.verdict ≡ s.verdict
+  same_said : (r : Result (List (List ℕ)) ℕ) (s t : Output) → t.bad_line ≡ s.bad_line → t.datagrams ≡ s.datagrams → joined t.parts.items ++ t.part.items ≡ joined s.parts.items ++ s.part.items → t.verdict ≡ s.verdict
       → IsSaid Is text is_taken r s → IsSaid Is text is_taken r t
   same_said (Ok ds) s t bad count printed verdict said = (bad ∙ said.0, count ∙ said.1, (said.2.0, said.2.1, printed ∙ said.2.2, verdict ∙ said.2.3))
   same_said (Err k) s t bad count printed verdict said = bad ∙ said
 
   -- a part of a line is kept
-  pub part_kept : (input part whole : List ℕ) (s t : SoFar) → input ++ part ≡ whole → lines_of part ≡ part ∷ [] → t.unfinished.items ≡ s.unfinished.items ++ part → t.lines ≡ s.lines
+  pub part_kept : (input part whole : List ℕ) (s t : Output) → input ++ part ≡ whole → lines_of part ≡ part ∷ [] → t.unfinished.items ≡ s.unfinished.items ++ part → t.lines ≡ s.lines
       → t.bad_line ≡ s.bad_line → t.datagrams ≡ s.datagrams → joined t.parts.items ++ t.part.items ≡ joined s.parts.items ++ s.part.items → t.verdict ≡ s.verdict
       → SaysInput Is text is_taken input s → SaysInput Is text is_taken whole t
   part_kept input part whole s t all one kept lines bad count printed verdict h = (
@@ -153,7 +153,7 @@ module _ {X : Type 0} (Is : List ℕ → X → Type 0) (text : ℕ → List ℕ 
   )
 
   -- nothing is read
-  pub none_said : (s : SoFar) → s.bad_line ≡ None → s.verdict ≡ Clean → s.parts.items ≡ [] → s.part.items ≡ [] → s.lines ≡ 0 → s.datagrams ≡ 0 → s.unfinished.items ≡ [] → SaysInput Is text is_taken [] s
+  pub none_said : (s : Output) → s.bad_line ≡ None → s.verdict ≡ Clean → s.parts.items ≡ [] → s.part.items ≡ [] → s.lines ≡ 0 → s.datagrams ≡ 0 → s.unfinished.items ≡ [] → SaysInput Is text is_taken [] s
   unfolding datagrams_from prints_none
   none_said s bad verdict parts part lines count kept = (
     [],
@@ -163,20 +163,20 @@ module _ {X : Type 0} (Is : List ℕ → X → Type 0) (text : ℕ → List ℕ 
   )
 
   -- the last line has ended
-  pub all_said : (input : List ℕ) (s t : SoFar) (h : SaysInput Is text is_taken input s) → IsSaid Is text is_taken (datagrams_from 1 (h.0 ++ (s.unfinished.items ++ []) ∷ [])) t → IsSaid Is text is_taken (datagrams input) t
+  pub all_said : (input : List ℕ) (s t : Output) (h : SaysInput Is text is_taken input s) → IsSaid Is text is_taken (datagrams_from 1 (h.0 ++ (s.unfinished.items ++ []) ∷ [])) t → IsSaid Is text is_taken (datagrams input) t
   all_said input s t h said = subst (λ ls. IsSaid Is text is_taken (datagrams_from 1 ls) t) (ap (λ r. h.0 ++ r ∷ []) (append-nil s.unfinished.items) ∙ sym h.1) said
 
   -- there are no more lines than bytes
-  pub few_lines : (input : List ℕ) (s : SoFar) → SaysInput Is text is_taken input s → s.lines ≤ length input
+  pub few_lines : (input : List ℕ) (s : Output) → SaysInput Is text is_taken input s → s.lines ≤ length input
   few_lines input s h =
       let size : length (lines_of input) ≡ length h.0 + 1 = ap length h.1 ∙ length-append h.0 (s.unfinished.items ∷ []) in
       omega (arith, size, h.2, length-lines_of input)
 
   -- a bad line, or none
-  pub bad_said : (r : Result (List (List ℕ)) ℕ) (s : SoFar) (m : ℕ) → IsSaid Is text is_taken r s → s.bad_line ≡ Some m → r ≡ Err m
+  pub bad_said : (r : Result (List (List ℕ)) ℕ) (s : Output) (m : ℕ) → IsSaid Is text is_taken r s → s.bad_line ≡ Some m → r ≡ Err m
   bad_said (Ok ds) s m said bad = let e : Some m ≡ None = sym bad ∙ said.0 in cc
   bad_said (Err k) s m said bad = let e : Some k ≡ Some m = sym said ∙ bad in cc
 
-  pub good_said : (r : Result (List (List ℕ)) ℕ) (s : SoFar) → IsSaid Is text is_taken r s → s.bad_line ≡ None → (ds : List (List ℕ)) × (r ≡ Ok ds) × Prints Is text is_taken ds (joined s.parts.items ++ s.part.items) s.verdict
+  pub good_said : (r : Result (List (List ℕ)) ℕ) (s : Output) → IsSaid Is text is_taken r s → s.bad_line ≡ None → (ds : List (List ℕ)) × (r ≡ Ok ds) × Prints Is text is_taken ds (joined s.parts.items ++ s.part.items) s.verdict
   good_said (Ok ds) s said good = (ds, refl, said.2)
   good_said (Err k) s said good = let e : Some k ≡ None = sym said ∙ good in cc

@@ -8,8 +8,8 @@ use Rattle.rtnl.specs.declared.error.RunError.{RunError}
 use Rattle.rtnl.specs.declared.error.RunError.TheVariants.{BadLine, ReadFault, WriteFault, Memory}
 use Rattle.rtnl.specs.declared.error.Verdict.{Verdict}
 use Rattle.rtnl.specs.declared.error.Verdict.TheVariants.{Clean}
-use Rattle.rtnl.specs.declared.runs.telling.Followed.{Followed}
-use Rattle.rtnl.specs.declared.runs.teller.Told.{Told}
+use Rattle.rtnl.specs.declared.runs.followed.Followed.{Followed}
+use Rattle.rtnl.specs.declared.runs.per_line.Told.{Told}
 
 -- the longest line that is followed, in bytes: as long as an input of the other commands, so that each line of theirs is followed
 abbrev pub LONGEST_LINE : ℕ

@@ -20,8 +20,8 @@ use Rattle.rtnl.specs.Tabled.{Report, bodies_text}
 use Rattle.rtnl.specs.declared.ending.Ending.{Ending}
 use Rattle.rtnl.specs.declared.error.RunError.{RunError}
 use Rattle.rtnl.specs.declared.runs.follow_dump.DumpFollowed.{DumpFollowed}
-use Rattle.rtnl.specs.declared.runs.dump_so_far.DumpSoFar.{DumpSoFar}
-use Rattle.rtnl.specs.declared.runs.telling.Followed.{Followed}
+use Rattle.rtnl.specs.declared.runs.open_dump.OpenDump.{OpenDump}
+use Rattle.rtnl.specs.declared.runs.followed.Followed.{Followed}
 
 -- what a datagram gave: how many items came before its own; and its items, or why it was refused
 pub record Given : Type 0 where
@@ -29,11 +29,11 @@ pub record Given : Type 0 where
   pub answer : Result (List MessageVal) FeedError
 
 -- a stream read a datagram so, and memory did not run out
-abbrev pub ReadsSo : Result (List MessageVal) FeedError → DumpSoFar → List ℕ → DumpSoFar → Type 0
+abbrev pub ReadsSo : Result (List MessageVal) FeedError → OpenDump → List ℕ → OpenDump → Type 0
 ReadsSo (Ok ms) a d b = ((r : ItemsRead) × StreamRead a.stream d (Ok r) b.stream × (map message_view r.items.items ≡ ms)) × (b.items ≡ a.items + length ms)
 ReadsSo (Err e) a d b = StreamRead a.stream d (Err e) b.stream × (e ≢ Memory) × (b.items ≡ a.items)
 
-abbrev pub Reads : DumpSoFar → List ℕ → Given → DumpSoFar → Type 0
+abbrev pub Reads : OpenDump → List ℕ → Given → OpenDump → Type 0
 Reads a d g b = (g.before ≡ a.items) × ReadsSo g.answer a d b
 
 -- the entries of these items, behind so many others; or the line of the datagram of this number that was refused
@@ -58,23 +58,23 @@ is_done Idle = true
 is_done (Waiting d) = false
 is_done (Ended d e) = true
 
-abbrev pub ends_dump : DumpSoFar → Bool
+abbrev pub ends_dump : OpenDump → Bool
 ends_dump s = is_done s.stream.state
 
 -- the dump waits in a new stream of these limits, and no item has come
-pub record IsBegun (b : Bounds) (d : Dump) (s : DumpSoFar) : Type 0 where
+pub record IsBegun (b : Bounds) (d : Dump) (s : OpenDump) : Type 0 where
   pub stream : s.stream ≡ record (new_standing b) { state = Waiting d }
   pub items : s.items ≡ 0
 
 -- how a dump ended that was followed: every item was an entry, none found no room, and no datagram behind its end was read
-abbrev pub ending_at : DumpSoFar → Ending
+abbrev pub ending_at : OpenDump → Ending
 ending_at s = record { entries = s.items; missed = 0; unfed = 0; standing = s.stream; complete = whole_of s.stream }
 
 module _ {S W B : Type 0} (left : S → Option (List ℕ)) (is_ended : S → Type 0) (failed_reads : S → ℕ) (reads_of : S → Option (List Read))
     (taken : W → Option (List ℕ)) (is_stalled : W → Type 0) (stalls failed_writes : W → ℕ) (heard : B → Option (List HeardLine)) (is_over : B → Type 0)
     (t : Report) (bounds : Bounds) (d : Dump) (from_old from_new : S) (to_old to_new : W) (g h : B) where
   -- what is told of the lines, from one state of the sink and of the dump to another
-  abbrev pub Told : DumpSoFar → DumpSoFar → W → W → Result Followed RunError → Type 0
+  abbrev pub Told : OpenDump → OpenDump → W → W → Result Followed RunError → Type 0
   Told a b v w = FollowsAll (line_at 0) Reads (given_text t bounds.shape.order) is_given ends_dump heard is_over left is_ended failed_reads reads_of taken is_stalled stalls failed_writes a b from_old from_new v w g h
 
   -- it could not be written which dump is read, and nothing else was done
@@ -86,8 +86,8 @@ module _ {S W B : Type 0} (left : S → Option (List ℕ)) (is_ended : S → Typ
   -- it was written; the following of the dump failed
   pub record NotFollowed (error : RunError) : Type 0 where
     pub mid : W
-    pub begun : DumpSoFar
-    pub last : DumpSoFar
+    pub begun : OpenDump
+    pub last : OpenDump
     pub front : Writes taken is_stalled stalls failed_writes {A = Unit {0}} (t.front d) to_old mid (Ok tt)
     pub start : IsBegun bounds d begun
     pub told : Told begun last mid to_new (Err error)
@@ -96,8 +96,8 @@ module _ {S W B : Type 0} (left : S → Option (List ℕ)) (is_ended : S → Typ
   pub record IsFollowed (result : Result DumpFollowed RunError) : Type 0 where
     pub mid : W
     pub late : W
-    pub begun : DumpSoFar
-    pub last : DumpSoFar
+    pub begun : OpenDump
+    pub last : OpenDump
     pub counts : Followed
     pub front : Writes taken is_stalled stalls failed_writes {A = Unit {0}} (t.front d) to_old mid (Ok tt)
     pub start : IsBegun bounds d begun

@@ -211,7 +211,7 @@ is_shown (Some only) k = same_family only k
 
 -- how it is told: a dump that doesn't begin; an entry that is new, that is told anew, with what it was, or that is gone; that a table was renewed, of so many
 -- entries; that one is stale; and, at the end, which table follows, and how it stands
-pub record Telling : Type 0 where
+pub record Progress : Type 0 where
   pub unbegun : Dump → List ℕ
   pub added : Order → Family → ℕ → Item → List ℕ
   pub changed : Order → Family → ℕ → Item → Item → List ℕ
@@ -235,7 +235,7 @@ of_shown only text =
     where_so (is_shown only Link) (text Link) ⨟ where_so (is_shown only Addr) (text Addr) ⨟ where_so (is_shown only Route) (text Route)
     ⨟ where_so (is_shown only Neigh) (text Neigh) ⨟ where_so (is_shown only Rule) (text Rule)
 
-module _ (t : Report) (r : Telling) (o : Order) where
+module _ (t : Report) (r : Progress) (o : Order) where
   -- what was made of a table, which holds this now
   abbrev pub effect_text : Family → Held Item → Effect Item → List ℕ
   effect_text k h (Added place) = where_some (r.added o k (place + 1)) (entry_at place h)
@@ -331,7 +331,7 @@ unfoldable pub standing_line : ℕ → ℕ → Option Stale → List ℕ
 standing_line entries missed why =
     codes "entries " ⨟ decimal entries ⨟ codes " missed " ⨟ decimal missed ⨟ codes " current " ⨟ current_text why ⨟ codes "\n"
 
-abbrev pub in_text : Telling
+abbrev pub in_text : Progress
 in_text = record {
   unbegun = unbegun_line;
   added = λ o k n x. change_line (codes "+ ") k n ++ item_text o x;

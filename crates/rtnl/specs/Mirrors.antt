@@ -1,7 +1,7 @@
 -- A recording that keeps a mirror: what is told of its lines one after another, and behind them.
 use Rattle.std.specs.Prelude.{◌≡◌, ◌⊎◌, ℕ, List, Option, Result, Ok, Err, IfOk}
 use Rattle.rtnl.specs.Followed.{FollowsAll, HeardLine}
-use Rattle.rtnl.specs.Mirroring.{IsUnheard, Passes, Telling, end_text, goes_on, is_current, is_passed, step_in, step_text}
+use Rattle.rtnl.specs.Mirroring.{IsUnheard, Passes, Progress, end_text, goes_on, is_current, is_passed, step_in, step_text}
 use Rattle.rtnl.specs.Runs.{Writes}
 use Rattle.rtnl.specs.Streams.{Read}
 use Rattle.rtnl.specs.Tabled.{Report}
@@ -10,7 +10,7 @@ use Rattle.rtnl.specs.declared.error.RunError.TheVariants.{Memory}
 use Rattle.rtnl.specs.declared.runs.mirror.MirrorFollowed.{MirrorFollowed}
 use Rattle.rtnl.specs.declared.runs.mirrored.MirrorSettings.{MirrorSettings}
 use Rattle.rtnl.specs.declared.runs.mirrored.MirrorSoFar.{MirrorSoFar}
-use Rattle.rtnl.specs.declared.runs.telling.Followed.{Followed}
+use Rattle.rtnl.specs.declared.runs.followed.Followed.{Followed}
 
 -- what is said of a recording of which this was counted, and this kept
 abbrev pub followed : MirrorSettings → MirrorSoFar → Followed → MirrorFollowed
@@ -18,7 +18,7 @@ followed s kept counts = record { counts = record counts { datagrams = kept.data
 
 module _ {S W B : Type 0} (left : S → Option (List ℕ)) (is_ended : S → Type 0) (failed_reads : S → ℕ) (reads_of : S → Option (List Read))
     (taken : W → Option (List ℕ)) (is_stalled : W → Type 0) (stalls failed_writes : W → ℕ) (heard : B → Option (List HeardLine)) (is_over : B → Type 0)
-    (t : Report) (r : Telling) (s : MirrorSettings) (from_old from_new : S) (to_old to_new : W) (g h : B) where
+    (t : Report) (r : Progress) (s : MirrorSettings) (from_old from_new : S) (to_old to_new : W) (g h : B) where
   -- what is told of the lines, from one state of the mirror to another, and what is written by then
   abbrev pub Told : MirrorSoFar → MirrorSoFar → W → Result Followed RunError → Type 0
   Told a b w =

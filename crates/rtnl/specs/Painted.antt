@@ -1,6 +1,6 @@
 -- The printed text in colours, for a terminal.
-use Rattle.std.specs.Prelude.{ℕ, ◌-◌, ◌==◌, Bool, true, false, not, if◌then◌else◌, IsTrue, List, [], ◌∷◌, codes, drop, length, map, nat_eq, take, take_while, Option}
-use Rattle.std.specs.List.{after_first, before_first, join_with_byte, list_all, position_or_len, prefix_len, starts_with}
+use Rattle.std.specs.Prelude.{◌≡◌, ◌⊎◌, ℕ, ◌-◌, ◌==◌, Bool, if◌then◌else◌, List, [], ◌∷◌, ◌++◌, codes, drop, length, map, nat_eq, take, take_while, Option}
+use Rattle.std.specs.List.{after_first, before_first, join_with_byte, position_or_len, prefix_len, starts_with}
 use Rattle.nl_attr.specs.declared.order.Order.{Order}
 use Rattle.nl_frame.specs.Limits.{Bounds}
 use Rattle.rtnl.specs.ByteRows.{escape, painted as in_colour, red}
@@ -52,19 +52,15 @@ painted text = join_with_byte 10 (map painted_line (lines_of text))
 
 -- ---- without the colours
 
--- what is left of a text, which may begin inside an escape: a byte 27 and what follows it up to an `m`
-abbrev pub unpainted_from : Bool → List ℕ → List ℕ
-unpainted_from is_inside [] = []
-unpainted_from false (byte ∷ text) = if byte == 27 then unpainted_from true text else byte ∷ unpainted_from false text
-unpainted_from true (byte ∷ text) = unpainted_from (not (byte == 109)) text
+-- what begins a colour, and what ends it
+abbrev pub IsEscape : List ℕ → Type 0
+IsEscape text = (text ≡ bold) ⊎ (text ≡ cyan) ⊎ (text ≡ red) ⊎ (text ≡ escape (codes "[0m"))
 
--- a text without its escapes
-abbrev pub unpainted : List ℕ → List ℕ
-unpainted text = unpainted_from false text
-
--- no byte of a text begins an escape
-abbrev pub HasNoEscape : List ℕ → Type 0
-HasNoEscape text = IsTrue (list_all (λ byte. not (byte == 27)) text)
+-- a text in colours is a plain one with escapes put in
+pub data Colours : List ℕ → List ℕ → Type 0 where
+  nothing : Colours [] []
+  byte : (b : ℕ) (coloured plain : List ℕ) → Colours coloured plain → Colours (b ∷ coloured) (b ∷ plain)
+  put_in : (piece coloured plain : List ℕ) → IsEscape piece → Colours coloured plain → Colours (piece ++ coloured) plain
 
 -- ---- a recording
 

@@ -7,8 +7,7 @@ ghost use Rattle.nl_frame.specs.Limits.{Bounds};
 ghost use Rattle.rtnl.specs.ByteRows.{Views, is_accepted, viewed_text};
 ghost use Rattle.rtnl.specs.Checked.{Checks, ChecksJson, Finding, Finds};
 ghost use Rattle.rtnl.specs.Lines.{line_at, line_fault_of};
-ghost use Rattle.rtnl.specs.Painted.{HasNoEscape, ShowsColoured, coloured_text, painted};
-ghost use Rattle.rtnl.specs.Painted.{unpainted};
+ghost use Rattle.rtnl.specs.Painted.{Colours, ShowsColoured, coloured_text, painted};
 ghost use Rattle.rtnl.specs.Shown.{Answer, Answers, Shows, ShowsJson};
 ghost use Rattle.rtnl.specs.Shown.{datagram_json, datagram_text, is_taken};
 ghost use Rattle.rtnl.specs.Followed.{TellsAsPrinted};
@@ -16,7 +15,7 @@ ghost use Rattle.rtnl.specs.declared.bytes.rows.RowFormat.{RowFormat};
 ghost use Rattle.rtnl.specs.Tabled.{HeadlineOfTables};
 ghost use Rattle.rtnl.specs.declared.error.Verdict.{Verdict};
 
-use crate::runs::telling::OnBadLine;
+use crate::runs::followed::OnBadLine;
 
 /// A datagram has one answer: its one layout, or its one refusal. A check finds one thing of it.
 #[tactic(auto, using(crate::proofs::Answers::some_answer, crate::proofs::Answers::same_answer, crate::proofs::Answers::same_finding))]
@@ -70,13 +69,12 @@ pub fn headline_of_tables()
     ensures { HeadlineOfTables }
 {}
 
-/// Colours change nothing else: no text that `run_show` writes of a datagram has an escape, and
-/// without its escapes what `run_show_coloured` writes is what `run_show` writes.
-#[tactic(auto, using(crate::proofs::Unpainted::unpainted_painted, crate::proofs::Escapes::shown_free, crate::proofs::Colours::shows_plain))]
+/// Colours change nothing else: a text in colours is that text with escapes put in, and what
+/// `run_show_coloured` writes is what `run_show` writes with escapes put in.
+#[tactic(auto, using(crate::proofs::Colours::painted_is, crate::proofs::Colours::shown_is))]
 pub fn colours_change_nothing()
-    ensures text { (text : List ℕ) → HasNoEscape text → unpainted (painted text) ≡ text }
-    ensures plain { (o : Order) (number : ℕ) (d : List ℕ) (a : Answer)
-        → HasNoEscape (datagram_text o number d a) }
+    ensures text { (text : List ℕ) → Colours (painted text) text }
     ensures shown { (b : Bounds) (ds : List (List ℕ)) (text : List ℕ) (v : Verdict)
-        → ShowsColoured b ds text v → Shows b ds (unpainted text) v }
+        → ShowsColoured b ds text v
+        → (plain : List ℕ) × Colours text plain × Shows b ds plain v }
 {}

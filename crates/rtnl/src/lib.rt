@@ -29,6 +29,7 @@ pub use recordings::unfinished::LONGEST_LINE;
 pub use runs::check::{run_check, run_check_json};
 pub use runs::follow::{run_follow, run_follow_bytes, run_follow_coloured, run_follow_json};
 pub use runs::follow_dump::{DumpFollowed, run_follow_dump, run_follow_dump_json};
+pub use runs::followed::{Followed, OnBadLine};
 pub use runs::mirror::{MirrorFollowed, run_mirror, run_mirror_json};
 pub use runs::mirrored::MirrorSettings;
 pub use runs::request::{run_request, run_request_ordered};
@@ -37,7 +38,6 @@ pub use runs::show::{
 };
 pub use runs::show_bytes::run_show_bytes;
 pub use runs::table::{run_table, run_table_json, run_table_with_seed};
-pub use runs::telling::{Followed, OnBadLine};
 pub use streams::calls::Broken;
 pub use streams::sink::{Sink, VecSink, WriteSink};
 pub use streams::source::{LONGEST_INPUT, LiveSource, ReadSource, SliceSource, Source};

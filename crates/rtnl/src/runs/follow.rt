@@ -8,10 +8,10 @@ ghost use Rattle.rtnl.specs.Shown.{Answers, datagram_json, datagram_text, is_tak
 
 use crate::bytes::rows::RowFormat;
 use crate::error::RunError;
-use crate::runs::following::follow;
+use crate::runs::follow_lines::follow;
+use crate::runs::followed::{Followed, OnBadLine};
 use crate::runs::show::{Show, ShowColoured, ShowJson};
 use crate::runs::show_bytes::ShowBytes;
-use crate::runs::telling::{Followed, OnBadLine};
 use crate::streams::sink::Sink;
 use crate::streams::source::LiveSource;
 use nl_frame::Limits;

@@ -8,11 +8,11 @@ ghost use Rattle.rtnl.specs.TabledJson.{in_json};
 
 use crate::ending::Ending;
 use crate::error::RunError;
-use crate::runs::dump_so_far::DumpSoFar;
-use crate::runs::following::follow;
+use crate::runs::follow_lines::follow;
+use crate::runs::followed::{Followed, OnBadLine};
+use crate::runs::open_dump::OpenDump;
+use crate::runs::per_line::{PerLine, Told, read_datagram_of};
 use crate::runs::report::{InJson, InText, ReportFormat};
-use crate::runs::teller::{Teller, Told, read_datagram_of};
-use crate::runs::telling::{Followed, OnBadLine};
 use crate::streams::sink::{Sink, give_all};
 use crate::streams::source::LiveSource;
 use nl_attr::Order;
@@ -43,18 +43,18 @@ fn is_over(state: State) -> bool
 
 /// A dump that begins under these limits. A new stream has no dump that waits and no last sequence
 /// number, so nothing is refused.
-fn begun(dump: Dump, limits: &Limits) -> DumpSoFar
+fn begun(dump: Dump, limits: &Limits) -> OpenDump
     ensures { IsBegun limits.now dump result }
 {
     let mut stream = Stream::new(*limits);
     let Ok(()) = stream.begin(dump) else {
         unreachable!()
     };
-    DumpSoFar { stream, items: 0 }
+    OpenDump { stream, items: 0 }
 }
 
 /// How a dump ended that was followed.
-fn ending_of(kept: &DumpSoFar) -> Ending
+fn ending_of(kept: &OpenDump) -> Ending
     ensures { result ≡ ending_at kept.now }
 {
     Ending {
@@ -94,12 +94,12 @@ struct TellDump<F> {
     report: PhantomData<F>,
 }
 
-impl<F: ReportFormat> Teller for TellDump<F> {
+impl<F: ReportFormat> PerLine for TellDump<F> {
     ghost use Rattle.std.specs.Prelude.{ℕ, List};
     ghost use Rattle.rtnl.specs.FollowedDump.{Given, Reads, ends_dump, given_text, is_given};
     ghost use Rattle.rtnl.specs.Lines.{line_at};
 
-    type Kept = DumpSoFar;
+    type Kept = OpenDump;
 
     ghost Said = { List ℕ };
 
@@ -118,7 +118,7 @@ impl<F: ReportFormat> Teller for TellDump<F> {
     fn tell(
         &self,
         alloc: Global,
-        kept: &mut DumpSoFar,
+        kept: &mut OpenDump,
         out: &mut Vec<u8>,
         bytes: &mut Vec<u8>,
         number: usize,
@@ -140,7 +140,7 @@ impl<F: ReportFormat> Teller for TellDump<F> {
                 false
             }
         };
-        *kept = DumpSoFar { stream, items };
+        *kept = OpenDump { stream, items };
         Ok(Some(Told {
             taken,
             number: number as u64,

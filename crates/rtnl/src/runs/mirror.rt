@@ -13,14 +13,14 @@ ghost use Rattle.rtnl.specs.Tabled as tabled;
 ghost use Rattle.rtnl.specs.TabledJson as tabled_json;
 
 use crate::error::RunError;
-use crate::runs::following::follow;
+use crate::runs::follow_lines::follow;
+use crate::runs::followed::{Followed, OnBadLine};
 use crate::runs::mirror_format::MirrorFormat;
 use crate::runs::mirrored::{MirrorSettings, MirrorSoFar};
 use crate::runs::mirroring::{hear_all, is_current, push_end, push_kinds, standing};
+use crate::runs::per_line::{PerLine, Told};
 use crate::runs::report::{InJson, InText};
 use crate::runs::steps::{Said, read_step};
-use crate::runs::teller::{Teller, Told};
-use crate::runs::telling::{Followed, OnBadLine};
 use crate::streams::sink::{Sink, give_all};
 use crate::streams::source::LiveSource;
 use nl_dump::Dump;
@@ -188,7 +188,7 @@ struct TellMirror<F> {
     report: PhantomData<F>,
 }
 
-impl<F: MirrorFormat> Teller for TellMirror<F> {
+impl<F: MirrorFormat> PerLine for TellMirror<F> {
     ghost use Rattle.rtnl.specs.Mirroring.{Passed, Passes, Step, goes_on, is_passed};
     ghost use Rattle.rtnl.specs.Mirroring.{step_in, step_text};
 

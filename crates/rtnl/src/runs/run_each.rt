@@ -9,8 +9,8 @@ ghost use Rattle.rtnl.specs.Said.{IsSaid};
 ghost use Rattle.rtnl.specs.Streams.{ConsumesAtMost, ConsumesMoreThan, IsRead, one_more};
 
 use crate::error::{RunError, Verdict};
+use crate::runs::output::Output;
 use crate::runs::per_datagram::PerDatagram;
-use crate::runs::so_far::SoFar;
 use crate::streams::calls::Broken;
 use crate::streams::sink::{Sink, give_parts};
 use crate::streams::source::{LONGEST_INPUT, Source};
@@ -23,7 +23,7 @@ fn say_input<S: Source, E: PerDatagram>(
     alloc: Global,
     source: &mut S,
     each: &E,
-) -> Result<SoFar, RunError>
+) -> Result<Output, RunError>
     ensures said { IfOk result (λ s. (input : List ℕ)
         × Consumes (S.remaining source.old) (S.remaining source.new) input
         × IsSaid (E.finds each.now) (E.text each.now) E.takes (datagrams input) s) }
@@ -40,7 +40,7 @@ fn say_input<S: Source, E: PerDatagram>(
     ensures bounded { ConsumesAtMost (fixed.LONGEST_INPUT + 1)
         (S.remaining source.old) (S.remaining source.new) }
 {
-    let mut so_far = SoFar::new(alloc)?;
+    let mut so_far = Output::new(alloc)?;
     let mut buffer = [0u8; 8192];
     let mut received = 0;
     while received <= LONGEST_INPUT {
@@ -79,7 +79,7 @@ pub(crate) fn run_each<S: Source, W: Sink, E: PerDatagram>(
     ensures bounded { ConsumesAtMost (fixed.LONGEST_INPUT + 1)
         (S.remaining source.old) (S.remaining source.new) }
 {
-    let SoFar {
+    let Output {
         bad_line,
         verdict,
         mut parts,

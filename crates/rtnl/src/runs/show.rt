@@ -243,8 +243,8 @@ pub fn run_show<S: Source, W: Sink>(
 }
 
 /// Shows each datagram as `run_show` does, in colours for a terminal: the line of a refusal red, the
-/// type of a message bold, the name of an attribute cyan. Without its escapes the text is what
-/// `run_show` writes (`laws::colours_change_nothing`).
+/// type of a message bold, the name of an attribute cyan. The text is what `run_show` writes, with
+/// escapes put in (`laws::colours_change_nothing`).
 ///
 /// It reads, writes and ends as `run_show` does.
 pub fn run_show_coloured<S: Source, W: Sink>(

@@ -6,7 +6,7 @@ ghost use Rattle.rtnl.specs.Mirroring.{ReadsStep, comment_says, ends_word, says_
 use crate::error::RunError;
 use crate::recordings::heading::{behind, heading_of};
 use crate::recordings::lines::{begins_comment, is_blank_byte};
-use crate::runs::teller::read_datagram_of;
+use crate::runs::per_line::read_datagram_of;
 use nl_dump::Dump;
 use std::alloc::Global;
 

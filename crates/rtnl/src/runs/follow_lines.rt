@@ -1,4 +1,4 @@
-//! Following a recording: each line is told of as it ends.
+//! Follows a recording: what each line says is printed as it ends.
 
 ghost use Rattle.std.specs.Prelude.{◌≡◌, ◌≤◌, List, [], Some, ℕ, Option, length, OnOk};
 ghost use Rattle.rtnl.specs.Followed.{Follows, FollowsAll, FollowsPiece, GoesOn, IsCounted};
@@ -7,8 +7,8 @@ ghost use Rattle.rtnl.specs.Followed as fixed;
 
 use crate::error::RunError;
 use crate::recordings::unfinished::{LONGEST_LINE, Unfinished};
-use crate::runs::teller::Teller;
-use crate::runs::telling::{Followed, OnBadLine, Telling, tell_bad, tell_line};
+use crate::runs::followed::{Followed, OnBadLine, Progress, tell_bad, tell_line};
+use crate::runs::per_line::PerLine;
 use crate::streams::calls::Broken;
 use crate::streams::sink::Sink;
 use crate::streams::source::LiveSource;
@@ -17,35 +17,35 @@ use std::alloc::Global;
 
 /// How far a recording is followed.
 #[derive(Drop)]
-struct Following {
+struct Follower {
     unfinished: Unfinished,
-    telling: Telling,
+    telling: Progress,
 }
 
-impl Following {
+impl Follower {
     ghost use Rattle.rtnl.specs.Followed.{none_followed};
 
     /// Nothing is followed yet.
-    fn new(alloc: Global) -> Following
+    fn new(alloc: Global) -> Follower
         ensures unfinished { result.unfinished ≡ Some [] }
         ensures counts { result.telling.counts ≡ none_followed }
     {
-        Following {
+        Follower {
             unfinished: Unfinished::new(alloc),
-            telling: Telling::new(alloc),
+            telling: Progress::new(alloc),
         }
     }
 }
 
 /// Tells of the line that ends behind this part, and answers whether the lines behind it are told.
 /// Of a line that came in one part nothing is copied.
-fn end_line<W: Sink, B: OnBadLine, E: Teller>(
+fn end_line<W: Sink, B: OnBadLine, E: PerLine>(
     alloc: Global,
     each: &E,
     kept: &mut E::Kept,
     sink: &mut W,
     bad_lines: &mut B,
-    following: &mut Following,
+    following: &mut Follower,
     part: &[u8],
 ) -> Result<bool, RunError>
     requires counted { IsCounted 1 following.old.telling.counts }
@@ -58,7 +58,7 @@ fn end_line<W: Sink, B: OnBadLine, E: Teller>(
         bad_lines.old bad_lines.new sink.old sink.new result }
     ensures cleared { OnOk result (following.new.unfinished ≡ Some []) }
 {
-    let Following {
+    let Follower {
         unfinished,
         telling,
     } = following;
@@ -76,13 +76,13 @@ fn end_line<W: Sink, B: OnBadLine, E: Teller>(
 
 /// Tells of the lines that end in a piece of the input, and keeps what is behind them. It answers
 /// whether following goes on.
-fn follow_piece<W: Sink, B: OnBadLine, E: Teller>(
+fn follow_piece<W: Sink, B: OnBadLine, E: PerLine>(
     alloc: Global,
     each: &E,
     kept: &mut E::Kept,
     sink: &mut W,
     bad_lines: &mut B,
-    following: &mut Following,
+    following: &mut Follower,
     piece: &[u8],
 ) -> Result<bool, RunError>
     requires counted { IsCounted (length piece.now) following.old.telling.counts }
@@ -119,7 +119,7 @@ const MOST_FOLLOWED: u64 = u64::MAX - 65_536;
 /// What is told of a line is written before the next read. No more is kept of the input than a
 /// piece and a line. After a read fault or the end of memory the texts of whole lines were written,
 /// after a write fault a prefix of that.
-pub(crate) fn follow<S: LiveSource<W>, W: Sink, B: OnBadLine, E: Teller>(
+pub(crate) fn follow<S: LiveSource<W>, W: Sink, B: OnBadLine, E: PerLine>(
     alloc: Global,
     source: &mut S,
     sink: &mut W,
@@ -133,7 +133,7 @@ pub(crate) fn follow<S: LiveSource<W>, W: Sink, B: OnBadLine, E: Teller>(
         W.contents W.is_stalled W.stall_count W.failure_count kept.old kept.new
         source.old source.new sink.old sink.new bad_lines.old bad_lines.new result }
 {
-    let mut following = Following::new(alloc);
+    let mut following = Follower::new(alloc);
     let mut buffer = [0u8; 8192];
     let mut received = 0;
     while received <= MOST_FOLLOWED {

@@ -1,4 +1,4 @@
-//! What is told of each line of a recording that is followed.
+//! What is counted of a recording that is followed, and what hears of its bad lines.
 
 ghost use Rattle.std.specs.Prelude.{◌≡◌, ◌↔◌, ◌∷◌, [], List, Option, Some, false};
 ghost use Rattle.std.specs.Option.{option_copied};
@@ -6,7 +6,7 @@ ghost use Rattle.rtnl.specs.Streams.{Gains};
 ghost use Rattle.rtnl.specs.Followed.{GoesOn, IsCounted, TellsLine, one_bad};
 
 use crate::error::RunError;
-use crate::runs::teller::Teller;
+use crate::runs::per_line::PerLine;
 use crate::streams::sink::{Sink, give_all};
 use std::alloc::Global;
 
@@ -53,20 +53,20 @@ pub trait OnBadLine {
 /// What was counted so far, and room that is used again for each line: for the bytes of its
 /// datagram, and for the text of what it says.
 #[derive(Drop)]
-pub(crate) struct Telling {
+pub(crate) struct Progress {
     pub(crate) counts: Followed,
     pub(crate) bytes: Vec<u8>,
     pub(crate) text: Vec<u8>,
 }
 
-impl Telling {
+impl Progress {
     ghost use Rattle.rtnl.specs.Followed.{none_followed};
 
     /// Nothing was counted.
-    pub(crate) fn new(alloc: Global) -> Telling
+    pub(crate) fn new(alloc: Global) -> Progress
         ensures { result.counts ≡ none_followed }
     {
-        Telling {
+        Progress {
             counts: Followed {
                 lines: 0,
                 datagrams: 0,
@@ -99,13 +99,13 @@ pub(crate) fn tell_bad<B: OnBadLine>(
 
 /// Tells of a line: writes the text of what it says, if it says anything, or says that it is bad.
 /// It answers whether the lines behind it are told.
-pub(crate) fn tell_line<W: Sink, B: OnBadLine, E: Teller>(
+pub(crate) fn tell_line<W: Sink, B: OnBadLine, E: PerLine>(
     alloc: Global,
     each: &E,
     kept: &mut E::Kept,
     sink: &mut W,
     bad_lines: &mut B,
-    telling: &mut Telling,
+    telling: &mut Progress,
     line: &[u8],
 ) -> Result<bool, RunError>
     requires counted { IsCounted 1 telling.old.counts }
@@ -115,7 +115,7 @@ pub(crate) fn tell_line<W: Sink, B: OnBadLine, E: Teller>(
         (Some line.now) kept.old kept.new telling.old.counts telling.new.counts
         bad_lines.old bad_lines.new sink.old sink.new result }
 {
-    let Telling {
+    let Progress {
         counts,
         bytes,
         text,

@@ -2,7 +2,7 @@ use Rattle.std.proofs.Common.{◌≡◌, ◌+◌, [], false, true, Err, Ok, arit
 use Rattle.std.specs.Option.{is_some}
 use Rattle.rtnl.specs.Lines.{Adds, line_at}
 use Rattle.rtnl.proofs.Said.{behind_bad, has_none, has_one, is_bad}
-use Rattle.rtnl.proofs.runs.so_far.SoFar.say_line.Goals as goal
+use Rattle.rtnl.proofs.runs.output.Output.say_line.Goals as goal
 
 pub returns-then-is_some-clause-said : goal.returns-then-is_some-clause-said
 returns-then-is_some-clause-said g c = λ done count said.

@@ -5,15 +5,15 @@ use Rattle.std.specs.Io.KnownBytes.{Consumes}
 use Rattle.rtnl.specs.Streams.{Gains}
 use Rattle.rtnl.proofs.Following.{follows_counted, follows_none, read_none}
 use Rattle.rtnl.proofs.FollowedPieces.{all_ended, all_failed, all_read, all_told, last_failed, read_failed}
-use Rattle.rtnl.proofs.runs.following.follow.Goals as goal
+use Rattle.rtnl.proofs.runs.follow_lines.follow.Goals as goal
 
 pub loop-received-init : goal.loop-received-init
 loop-received-init g c =
     record {
       input = [];
-      read = read_none (g.E.Teller.says c.args.each.now) (g.E.Teller.finds c.args.each.now) (g.E.Teller.text c.args.each.now) g.E.Teller.ends g.S.Source.remaining g.S.LiveSource.reads c.args.kept.now (g.W.Sink.contents c.args.sink.now) c.args.source.now;
+      read = read_none (g.E.PerLine.says c.args.each.now) (g.E.PerLine.finds c.args.each.now) (g.E.PerLine.text c.args.each.now) g.E.PerLine.ends g.S.Source.remaining g.S.LiveSource.reads c.args.kept.now (g.W.Sink.contents c.args.sink.now) c.args.source.now;
       size = refl;
-      follows = rw (c.new-following.ensures.unfinished, c.new-following.ensures.counts) (follows_none (g.E.Teller.says c.args.each.now) (g.E.Teller.finds c.args.each.now) (g.E.Teller.text c.args.each.now) g.E.Teller.takes g.E.Teller.ends g.B.OnBadLine.heard g.B.OnBadLine.is_ended c.args.kept.now c.args.bad_lines.now (g.W.Sink.contents c.args.sink.now));
+      follows = rw (c.new-following.ensures.unfinished, c.new-following.ensures.counts) (follows_none (g.E.PerLine.says c.args.each.now) (g.E.PerLine.finds c.args.each.now) (g.E.PerLine.text c.args.each.now) g.E.PerLine.takes g.E.PerLine.ends g.B.OnBadLine.heard g.B.OnBadLine.is_ended c.args.kept.now c.args.bad_lines.now (g.W.Sink.contents c.args.sink.now));
       going = c.requires.going;
       room = refl;
       sound = refl;
@@ -24,7 +24,7 @@ pub end_line-requires-clause-counted : goal.end_line-requires-clause-counted
 end_line-requires-clause-counted g c =
     let l = c.loop-received in
     let i = l.invariant in
-    follows_counted (g.E.Teller.says c.args.each.now) (g.E.Teller.finds c.args.each.now) (g.E.Teller.text c.args.each.now) g.E.Teller.takes g.E.Teller.ends g.B.OnBadLine.heard g.B.OnBadLine.is_ended i.input l.following.unfinished c.args.kept.now l.kept l.following.telling.counts
+    follows_counted (g.E.PerLine.says c.args.each.now) (g.E.PerLine.finds c.args.each.now) (g.E.PerLine.text c.args.each.now) g.E.PerLine.takes g.E.PerLine.ends g.B.OnBadLine.heard g.B.OnBadLine.is_ended i.input l.following.unfinished c.args.kept.now l.kept l.following.telling.counts
     c.args.bad_lines.now l.bad_lines (g.W.Sink.contents c.args.sink.now) (g.W.Sink.contents l.sink) 1 i.follows (omega (arith, i.size, c.loop-received-test.true))
 
 pub follow_piece-requires-clause-counted : goal.follow_piece-requires-clause-counted
@@ -32,7 +32,7 @@ follow_piece-requires-clause-counted g c =
     let l = c.loop-received in
     let i = l.invariant in
     let size : length (take c.in-Ok.count c.take_behind.new.buffer) ≤ 8192 = omega (arith, length-take c.in-Ok.count c.take_behind.new.buffer, c.in-Ok.ensures.fits, i.room) in
-    follows_counted (g.E.Teller.says c.args.each.now) (g.E.Teller.finds c.args.each.now) (g.E.Teller.text c.args.each.now) g.E.Teller.takes g.E.Teller.ends g.B.OnBadLine.heard g.B.OnBadLine.is_ended i.input l.following.unfinished c.args.kept.now l.kept l.following.telling.counts
+    follows_counted (g.E.PerLine.says c.args.each.now) (g.E.PerLine.finds c.args.each.now) (g.E.PerLine.text c.args.each.now) g.E.PerLine.takes g.E.PerLine.ends g.B.OnBadLine.heard g.B.OnBadLine.is_ended i.input l.following.unfinished c.args.kept.now l.kept l.following.telling.counts
     c.args.bad_lines.now l.bad_lines (g.W.Sink.contents c.args.sink.now) (g.W.Sink.contents l.sink) (length (take c.in-Ok.count c.take_behind.new.buffer)) i.follows (omega (arith, i.size, size, c.loop-received-test.true))
 
 pub returns-in-Ok-eq0 : goal.returns-in-Ok-eq0
@@ -43,7 +43,7 @@ returns-in-Ok-eq0 g c =
     let bytes : Consumes (g.S.Source.remaining l.source) (g.S.Source.remaining c.take_behind.new.self) (take 0 c.take_behind.new.buffer) = search rules in
     let seen : Gains (g.S.LiveSource.reads l.source) (g.S.LiveSource.reads c.take_behind.new.self) (record { written = g.W.Sink.contents l.sink; moved = take 0 c.take_behind.new.buffer } ∷ []) = search rules in
     let same : g.S.Source.failure_count c.take_behind.new.self ≡ g.S.Source.failure_count l.source = search rules in
-    all_told (g.E.Teller.says c.args.each.now) (g.E.Teller.finds c.args.each.now) (g.E.Teller.text c.args.each.now) g.E.Teller.takes g.E.Teller.ends g.B.OnBadLine.heard g.B.OnBadLine.is_ended g.S.Source.remaining g.S.Source.is_ended g.S.Source.failure_count g.S.LiveSource.reads g.W.Sink.contents g.W.Sink.is_stalled g.W.Sink.stall_count g.W.Sink.failure_count
+    all_told (g.E.PerLine.says c.args.each.now) (g.E.PerLine.finds c.args.each.now) (g.E.PerLine.text c.args.each.now) g.E.PerLine.takes g.E.PerLine.ends g.B.OnBadLine.heard g.B.OnBadLine.is_ended g.S.Source.remaining g.S.Source.is_ended g.S.Source.failure_count g.S.LiveSource.reads g.W.Sink.contents g.W.Sink.is_stalled g.W.Sink.stall_count g.W.Sink.failure_count
     c.args.source.now l.source c.take_behind.new.self c.args.sink.now l.sink c.end_line.new.sink c.args.kept.now l.kept c.end_line.new.kept c.args.bad_lines.now l.bad_lines c.end_line.new.bad_lines
     i.input (take 0 c.take_behind.new.buffer) i.read bytes seen i.sound same i.written l.following.unfinished l.following.telling.counts i.follows i.going
     refl c.in_ok-end_line-in-Ok-eq0.field-0 c.end_line.new.following.telling.counts tells (search rules) (search rules)
@@ -57,7 +57,7 @@ returns-in_err-end_line-in-Ok-eq0 g c =
     let seen : Gains (g.S.LiveSource.reads l.source) (g.S.LiveSource.reads c.take_behind.new.self) (record { written = g.W.Sink.contents l.sink; moved = take 0 c.take_behind.new.buffer } ∷ []) = search rules in
     let same : g.S.Source.failure_count c.take_behind.new.self ≡ g.S.Source.failure_count l.source = search rules in
     let error = err_from_is_err_and c.from_residual.result c.from_residual.ensures.1 in
-    rw (error.1, error.2) (last_failed (g.E.Teller.says c.args.each.now) (g.E.Teller.finds c.args.each.now) (g.E.Teller.text c.args.each.now) g.E.Teller.takes g.E.Teller.ends g.B.OnBadLine.heard g.B.OnBadLine.is_ended g.S.Source.remaining g.S.Source.is_ended g.S.Source.failure_count g.S.LiveSource.reads g.W.Sink.contents g.W.Sink.is_stalled g.W.Sink.stall_count g.W.Sink.failure_count
+    rw (error.1, error.2) (last_failed (g.E.PerLine.says c.args.each.now) (g.E.PerLine.finds c.args.each.now) (g.E.PerLine.text c.args.each.now) g.E.PerLine.takes g.E.PerLine.ends g.B.OnBadLine.heard g.B.OnBadLine.is_ended g.S.Source.remaining g.S.Source.is_ended g.S.Source.failure_count g.S.LiveSource.reads g.W.Sink.contents g.W.Sink.is_stalled g.W.Sink.stall_count g.W.Sink.failure_count
     c.args.source.now l.source c.take_behind.new.self c.args.sink.now l.sink c.end_line.new.sink c.args.kept.now l.kept c.end_line.new.kept c.args.bad_lines.now l.bad_lines c.end_line.new.bad_lines
     i.input (take 0 c.take_behind.new.buffer) i.read bytes seen i.sound same i.written l.following.unfinished l.following.telling.counts i.follows i.going
     refl c.end_line.new.following.telling.counts _ tells)
@@ -70,7 +70,7 @@ returns-in_err-follow_piece-in-Ok g c =
     let same : g.S.Source.failure_count c.take_behind.new.self ≡ g.S.Source.failure_count l.source = search rules in
     let ends = rw c.in_err-follow_piece-in-Ok.was at follows in
     let error = err_from_is_err_and c.from_residual-in_err-follow_piece-in-Ok.result c.from_residual-in_err-follow_piece-in-Ok.ensures.1 in
-    rw (error.1, error.2) (all_failed (g.E.Teller.says c.args.each.now) (g.E.Teller.finds c.args.each.now) (g.E.Teller.text c.args.each.now) g.E.Teller.takes g.E.Teller.ends g.B.OnBadLine.heard g.B.OnBadLine.is_ended g.S.Source.remaining g.S.Source.is_ended g.S.Source.failure_count g.S.LiveSource.reads g.W.Sink.contents g.W.Sink.is_stalled g.W.Sink.stall_count g.W.Sink.failure_count
+    rw (error.1, error.2) (all_failed (g.E.PerLine.says c.args.each.now) (g.E.PerLine.finds c.args.each.now) (g.E.PerLine.text c.args.each.now) g.E.PerLine.takes g.E.PerLine.ends g.B.OnBadLine.heard g.B.OnBadLine.is_ended g.S.Source.remaining g.S.Source.is_ended g.S.Source.failure_count g.S.LiveSource.reads g.W.Sink.contents g.W.Sink.is_stalled g.W.Sink.stall_count g.W.Sink.failure_count
     c.args.source.now l.source c.take_behind.new.self c.args.sink.now l.sink c.follow_piece.new.sink c.args.kept.now l.kept c.follow_piece.new.kept c.args.bad_lines.now l.bad_lines c.follow_piece.new.bad_lines
     i.input (take c.in-Ok.count c.take_behind.new.buffer) i.read c.in-Ok.ensures.bytes.0 c.in-Ok.ensures.seen i.sound same i.written l.following.unfinished l.following.telling.counts i.follows i.going
     c.follow_piece.new.following.unfinished c.follow_piece.new.following.telling.counts _ ends)
@@ -83,7 +83,7 @@ returns-then-not-branch g c =
     let same : g.S.Source.failure_count c.take_behind.new.self ≡ g.S.Source.failure_count l.source = search rules in
     let ended : c.follow_piece.result ≡ Ok false = search rules in
     let ends = rw ended at follows in
-    all_ended (g.E.Teller.says c.args.each.now) (g.E.Teller.finds c.args.each.now) (g.E.Teller.text c.args.each.now) g.E.Teller.takes g.E.Teller.ends g.B.OnBadLine.heard g.B.OnBadLine.is_ended g.S.Source.remaining g.S.Source.is_ended g.S.Source.failure_count g.S.LiveSource.reads g.W.Sink.contents g.W.Sink.is_stalled g.W.Sink.stall_count g.W.Sink.failure_count
+    all_ended (g.E.PerLine.says c.args.each.now) (g.E.PerLine.finds c.args.each.now) (g.E.PerLine.text c.args.each.now) g.E.PerLine.takes g.E.PerLine.ends g.B.OnBadLine.heard g.B.OnBadLine.is_ended g.S.Source.remaining g.S.Source.is_ended g.S.Source.failure_count g.S.LiveSource.reads g.W.Sink.contents g.W.Sink.is_stalled g.W.Sink.stall_count g.W.Sink.failure_count
     c.args.source.now l.source c.take_behind.new.self c.args.sink.now l.sink c.follow_piece.new.sink c.args.kept.now l.kept c.follow_piece.new.kept c.args.bad_lines.now l.bad_lines c.follow_piece.new.bad_lines
     i.input (take c.in-Ok.count c.take_behind.new.buffer) i.read c.in-Ok.ensures.bytes.0 c.in-Ok.ensures.seen i.sound same i.written l.following.unfinished l.following.telling.counts i.follows i.going
     c.follow_piece.new.following.unfinished c.follow_piece.new.following.telling.counts ends
@@ -99,7 +99,7 @@ loop-received-preserved g c =
     let goes = next.follows refl in
     record {
       input = i.input ++ (take c.in-Ok.count c.take_behind.new.buffer);
-      read = (all_read (g.E.Teller.says c.args.each.now) (g.E.Teller.finds c.args.each.now) (g.E.Teller.text c.args.each.now) g.E.Teller.takes g.E.Teller.ends g.B.OnBadLine.heard g.B.OnBadLine.is_ended g.S.Source.remaining g.S.Source.is_ended g.S.Source.failure_count g.S.LiveSource.reads g.W.Sink.contents g.W.Sink.is_stalled g.W.Sink.stall_count g.W.Sink.failure_count
+      read = (all_read (g.E.PerLine.says c.args.each.now) (g.E.PerLine.finds c.args.each.now) (g.E.PerLine.text c.args.each.now) g.E.PerLine.takes g.E.PerLine.ends g.B.OnBadLine.heard g.B.OnBadLine.is_ended g.S.Source.remaining g.S.Source.is_ended g.S.Source.failure_count g.S.LiveSource.reads g.W.Sink.contents g.W.Sink.is_stalled g.W.Sink.stall_count g.W.Sink.failure_count
           c.args.source.now l.source c.take_behind.new.self c.args.sink.now l.sink c.follow_piece.new.sink c.args.kept.now l.kept c.follow_piece.new.kept c.args.bad_lines.now l.bad_lines c.follow_piece.new.bad_lines
           i.input (take c.in-Ok.count c.take_behind.new.buffer) i.read c.in-Ok.ensures.bytes.0 c.in-Ok.ensures.seen i.sound same i.written l.following.unfinished l.following.telling.counts i.follows i.going).0;
       size = omega (arith, i.size, length-append i.input (take c.in-Ok.count c.take_behind.new.buffer), length-take c.in-Ok.count c.take_behind.new.buffer, c.in-Ok.ensures.fits);
@@ -114,6 +114,6 @@ pub returns-in-Err : goal.returns-in-Err
 returns-in-Err g c =
     let l = c.loop-received in
     let i = l.invariant in
-    read_failed (g.E.Teller.says c.args.each.now) (g.E.Teller.finds c.args.each.now) (g.E.Teller.text c.args.each.now) g.E.Teller.takes g.E.Teller.ends g.B.OnBadLine.heard g.B.OnBadLine.is_ended g.S.Source.remaining g.S.Source.is_ended g.S.Source.failure_count g.S.LiveSource.reads g.W.Sink.contents g.W.Sink.is_stalled g.W.Sink.stall_count g.W.Sink.failure_count
+    read_failed (g.E.PerLine.says c.args.each.now) (g.E.PerLine.finds c.args.each.now) (g.E.PerLine.text c.args.each.now) g.E.PerLine.takes g.E.PerLine.ends g.B.OnBadLine.heard g.B.OnBadLine.is_ended g.S.Source.remaining g.S.Source.is_ended g.S.Source.failure_count g.S.LiveSource.reads g.W.Sink.contents g.W.Sink.is_stalled g.W.Sink.stall_count g.W.Sink.failure_count
     c.args.source.now l.source c.take_behind.new.self c.args.sink.now l.sink c.args.kept.now l.kept c.args.bad_lines.now l.bad_lines
     i.input i.read (search rules) (search rules) i.sound (search rules) l.following.unfinished l.following.telling.counts i.follows i.going

@@ -21,7 +21,7 @@ pub(crate) struct Told {
 }
 
 /// What is told of the lines of a recording that is followed, one after another.
-pub(crate) trait Teller {
+pub(crate) trait PerLine {
     ghost use Rattle.std.specs.Prelude.{◌≡◌, ℕ, List, Bool, Option, Result, false};
     ghost use Rattle.rtnl.specs.Followed.{TellsSo};
 
@@ -82,7 +82,7 @@ pub(crate) fn read_datagram_of(
 }
 
 /// What says something of each datagram by itself keeps nothing, and tells of all.
-impl<E: PerDatagram> Teller for E {
+impl<E: PerDatagram> PerLine for E {
     ghost use Rattle.std.specs.Prelude.{ℕ, List};
     ghost use Rattle.rtnl.specs.Followed.{alone, never};
     ghost use Rattle.rtnl.specs.Lines.{line_at};

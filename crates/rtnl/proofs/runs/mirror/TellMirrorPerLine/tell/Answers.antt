@@ -1,7 +1,7 @@
 use Rattle.std.proofs.Common.{refl}
 use Rattle.rtnl.specs.Mirroring.{step_of}
 use Rattle.rtnl.proofs.Mirrors.{finds_step}
-use Rattle.rtnl.proofs.runs.mirror.TellMirrorTeller.tell.Goals as goal
+use Rattle.rtnl.proofs.runs.mirror.TellMirrorPerLine.tell.Goals as goal
 
 pub returns : goal.returns
 returns g c =

@@ -4,7 +4,7 @@ use Rattle.rtnl.specs.Lines.{lines_of}
 use Rattle.rtnl.specs.Said.{SaysInput}
 use Rattle.rtnl.proofs.Cuts.{first_line, last_line, line_parts}
 use Rattle.rtnl.proofs.Said.{line_said, part_kept}
-use Rattle.rtnl.proofs.runs.so_far.SoFar.say_piece.Goals as goal
+use Rattle.rtnl.proofs.runs.output.Output.say_piece.Goals as goal
 
 pub loop-end-preserved : goal.loop-end-preserved
 loop-end-preserved g c =

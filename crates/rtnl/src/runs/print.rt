@@ -1,4 +1,4 @@
-//! Saying what is found of datagrams while their recording is read.
+//! Prints what is found of datagrams while their recording is read.
 
 ghost use Rattle.std.specs.Prelude.{◌≡◌, ◌<◌, ◌+◌, ◌++◌, ◌∷◌, [], ℕ, List, length};
 ghost use Rattle.std.specs.Prelude.{None, OnOk, IfOk, IfErr};
@@ -9,8 +9,8 @@ ghost use Rattle.rtnl.specs.Said.{IsSaid, SaysInput};
 
 use crate::error::{RunError, Verdict};
 use crate::recordings::lines::read_line;
+use crate::runs::output::Output;
 use crate::runs::per_datagram::PerDatagram;
-use crate::runs::so_far::SoFar;
 use memchr::memchr;
 use std::alloc::{AllocError, Global};
 use std::mem;
@@ -32,14 +32,14 @@ fn end_part(alloc: Global, parts: &mut Vec<Vec<u8>>, part: &mut Vec<u8>) -> Resu
     Ok(())
 }
 
-impl SoFar {
+impl Output {
     /// Nothing was read.
-    pub(crate) fn new(alloc: Global) -> Result<SoFar, AllocError>
+    pub(crate) fn new(alloc: Global) -> Result<Output, AllocError>
         ensures { IfOk result (λ s. (s.bad_line ≡ None) × (s.verdict ≡ Verdict.Clean)
             × (s.parts.items ≡ []) × (s.part.items ≡ []) × (s.lines ≡ 0) × (s.datagrams ≡ 0)
             × (s.unfinished.items ≡ [])) }
     {
-        Ok(SoFar {
+        Ok(Output {
             bad_line: None,
             verdict: Verdict::Clean,
             parts: Vec::new(alloc),

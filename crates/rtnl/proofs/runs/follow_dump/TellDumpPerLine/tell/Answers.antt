@@ -5,8 +5,8 @@ use Rattle.rtnl.specs.FollowedDump.{is_done}
 use Rattle.rtnl.specs.Lines.{line_at}
 use Rattle.rtnl.specs.Tabled.{bodies_text}
 use Rattle.rtnl.proofs.FollowingDump.{gives_items, gives_refusal}
-use Rattle.rtnl.proofs.runs.follow_dump.TellDumpTeller.tell.Goals.{in-Ok+in_ok-push_items-in-Ok, in-Err+in_ok-push_refusal-in-Err}
-use Rattle.rtnl.proofs.runs.follow_dump.TellDumpTeller.tell.Goals as goal
+use Rattle.rtnl.proofs.runs.follow_dump.TellDumpPerLine.tell.Goals.{in-Ok+in_ok-push_items-in-Ok, in-Err+in_ok-push_refusal-in-Err}
+use Rattle.rtnl.proofs.runs.follow_dump.TellDumpPerLine.tell.Goals as goal
 
 pub returns : goal.returns
 returns g c =

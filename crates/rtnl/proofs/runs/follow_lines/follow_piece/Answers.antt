@@ -6,7 +6,7 @@ use Rattle.rtnl.specs.Lines.{lines_of}
 use Rattle.rtnl.proofs.Cuts.{first_line, last_line, line_parts}
 use Rattle.rtnl.proofs.Following.{goes_more, tells_counted}
 use Rattle.rtnl.proofs.FollowedPieces.{piece_ended, piece_failed, piece_kept, piece_lost, piece_more}
-use Rattle.rtnl.proofs.runs.following.follow_piece.Goals as goal
+use Rattle.rtnl.proofs.runs.follow_lines.follow_piece.Goals as goal
 
 pub returns-then-not-branch : goal.returns-then-not-branch
 returns-then-not-branch g c = λ before first unheard old follows.
@@ -21,7 +21,7 @@ returns-then-not-branch g c = λ before first unheard old follows.
     ap (λ p. i.front.0 ++ ((p ++ 10 ∷ []) ++ drop (k + 1) left)) c.split_at.ensures.front ∙ ap (λ x. i.front.0 ++ x) (line_parts left k c.in-Some.ensures.0 c.in-Some.ensures.1) ∙ i.front.1 in
     let ended : c.end_line.result ≡ Ok false = search rules in
     let tells = rw ended at c.end_line.ensures.tells in
-    piece_ended (g.E.Teller.says c.args.each.now) (g.E.Teller.finds c.args.each.now) (g.E.Teller.text c.args.each.now) g.E.Teller.takes g.E.Teller.ends g.B.OnBadLine.heard g.B.OnBadLine.is_ended g.W.Sink.contents g.W.Sink.is_stalled g.W.Sink.stall_count g.W.Sink.failure_count
+    piece_ended (g.E.PerLine.says c.args.each.now) (g.E.PerLine.finds c.args.each.now) (g.E.PerLine.text c.args.each.now) g.E.PerLine.takes g.E.PerLine.ends g.B.OnBadLine.heard g.B.OnBadLine.is_ended g.W.Sink.contents g.W.Sink.is_stalled g.W.Sink.stall_count g.W.Sink.failure_count
     before i.front.0 c.args.piece.now l.following.unfinished first l.kept l.following.telling.counts unheard l.bad_lines old c.args.sink.now l.sink h i.going i.sound part (drop (k + 1) left) one is
     c.end_line.new.kept c.end_line.new.following.telling.counts c.end_line.new.bad_lines c.end_line.new.sink c.end_line.new.following.unfinished tells
 
@@ -38,7 +38,7 @@ returns-in_err-end_line g c = λ before first unheard old follows.
     ap (λ p. i.front.0 ++ ((p ++ 10 ∷ []) ++ drop (k + 1) left)) c.split_at.ensures.front ∙ ap (λ x. i.front.0 ++ x) (line_parts left k c.in-Some.ensures.0 c.in-Some.ensures.1) ∙ i.front.1 in
     let error = err_from_is_err_and c.from_residual.result c.from_residual.ensures.1 in
     let tells = rw c.in_err-end_line.was at c.end_line.ensures.tells in
-    rw (error.1, error.2) (piece_failed (g.E.Teller.says c.args.each.now) (g.E.Teller.finds c.args.each.now) (g.E.Teller.text c.args.each.now) g.E.Teller.takes g.E.Teller.ends g.B.OnBadLine.heard g.B.OnBadLine.is_ended g.W.Sink.contents g.W.Sink.is_stalled g.W.Sink.stall_count g.W.Sink.failure_count
+    rw (error.1, error.2) (piece_failed (g.E.PerLine.says c.args.each.now) (g.E.PerLine.finds c.args.each.now) (g.E.PerLine.text c.args.each.now) g.E.PerLine.takes g.E.PerLine.ends g.B.OnBadLine.heard g.B.OnBadLine.is_ended g.W.Sink.contents g.W.Sink.is_stalled g.W.Sink.stall_count g.W.Sink.failure_count
     before i.front.0 c.args.piece.now l.following.unfinished first l.kept l.following.telling.counts unheard l.bad_lines old c.args.sink.now l.sink h i.going i.sound part (drop (k + 1) left) one is
     c.end_line.new.kept c.end_line.new.following.telling.counts c.end_line.new.bad_lines c.end_line.new.sink c.end_line.new.following.unfinished c.end_line.new.following.telling.counts _ tells)
 
@@ -66,15 +66,15 @@ loop-end-preserved g c =
         append_assoc i.front.0 (part ++ 10 ∷ []) behind ∙ ap (λ x. i.front.0 ++ ((part ++ 10 ∷ []) ++ x)) (sym new) ∙ is,
         λ before first unheard old follows.
             let h = i.front.2 before first unheard old follows in
-            rw cleared (piece_more (g.E.Teller.says c.args.each.now) (g.E.Teller.finds c.args.each.now) (g.E.Teller.text c.args.each.now) g.E.Teller.takes g.E.Teller.ends g.B.OnBadLine.heard g.B.OnBadLine.is_ended g.W.Sink.contents g.W.Sink.is_stalled g.W.Sink.stall_count g.W.Sink.failure_count
+            rw cleared (piece_more (g.E.PerLine.says c.args.each.now) (g.E.PerLine.finds c.args.each.now) (g.E.PerLine.text c.args.each.now) g.E.PerLine.takes g.E.PerLine.ends g.B.OnBadLine.heard g.B.OnBadLine.is_ended g.W.Sink.contents g.W.Sink.is_stalled g.W.Sink.stall_count g.W.Sink.failure_count
             before i.front.0 c.args.piece.now l.following.unfinished first l.kept l.following.telling.counts unheard l.bad_lines old c.args.sink.now l.sink h i.going i.sound part (drop (k + 1) left) one is
             c.end_line.new.kept c.end_line.new.following.telling.counts c.end_line.new.bad_lines c.end_line.new.sink tells.told).0,
       );
-      going = goes_more (g.E.Teller.says c.args.each.now) (g.E.Teller.finds c.args.each.now) (g.E.Teller.text c.args.each.now) g.E.Teller.takes g.E.Teller.ends g.B.OnBadLine.heard g.B.OnBadLine.is_ended
+      going = goes_more (g.E.PerLine.says c.args.each.now) (g.E.PerLine.finds c.args.each.now) (g.E.PerLine.text c.args.each.now) g.E.PerLine.takes g.E.PerLine.ends g.B.OnBadLine.heard g.B.OnBadLine.is_ended
           (with_part l.following.unfinished part) l.kept c.end_line.new.kept l.following.telling.counts c.end_line.new.following.telling.counts l.bad_lines c.end_line.new.bad_lines
-          (g.W.Sink.contents l.sink) (g.W.Sink.contents c.end_line.new.sink) (said_of (g.E.Teller.says c.args.each.now) (with_part l.following.unfinished part)) tells.told i.going;
-      counted = tells_counted (g.E.Teller.says c.args.each.now) (g.E.Teller.finds c.args.each.now) (g.E.Teller.text c.args.each.now) g.E.Teller.takes g.E.Teller.ends g.B.OnBadLine.heard g.B.OnBadLine.is_ended
-          (with_part l.following.unfinished part) (said_of (g.E.Teller.says c.args.each.now) (with_part l.following.unfinished part)) true l.kept c.end_line.new.kept l.following.telling.counts c.end_line.new.following.telling.counts
+          (g.W.Sink.contents l.sink) (g.W.Sink.contents c.end_line.new.sink) (said_of (g.E.PerLine.says c.args.each.now) (with_part l.following.unfinished part)) tells.told i.going;
+      counted = tells_counted (g.E.PerLine.says c.args.each.now) (g.E.PerLine.finds c.args.each.now) (g.E.PerLine.text c.args.each.now) g.E.PerLine.takes g.E.PerLine.ends g.B.OnBadLine.heard g.B.OnBadLine.is_ended
+          (with_part l.following.unfinished part) (said_of (g.E.PerLine.says c.args.each.now) (with_part l.following.unfinished part)) true l.kept c.end_line.new.kept l.following.telling.counts c.end_line.new.following.telling.counts
           l.bad_lines c.end_line.new.bad_lines (g.W.Sink.contents l.sink) (g.W.Sink.contents c.end_line.new.sink) (length behind) room tells.told;
       short = omega (arith, size, i.short);
       sound = (tells.sound.0 ∙ i.sound.0, tells.sound.1 ∙ i.sound.1);
@@ -88,7 +88,7 @@ returns-in_err-push g c = λ before first unheard old follows.
     let left = l.left.now in
     let one : lines_of left ≡ left ∷ [] = last_line left c.in_default.ensures in
     let error = err_from_is_err_and c.from_residual-in_err-push.result c.from_residual-in_err-push.ensures.1 in
-    rw (error.1, error.2) (piece_lost (g.E.Teller.says c.args.each.now) (g.E.Teller.finds c.args.each.now) (g.E.Teller.text c.args.each.now) g.E.Teller.takes g.E.Teller.ends g.B.OnBadLine.heard g.B.OnBadLine.is_ended g.W.Sink.contents g.W.Sink.is_stalled g.W.Sink.stall_count g.W.Sink.failure_count
+    rw (error.1, error.2) (piece_lost (g.E.PerLine.says c.args.each.now) (g.E.PerLine.finds c.args.each.now) (g.E.PerLine.text c.args.each.now) g.E.PerLine.takes g.E.PerLine.ends g.B.OnBadLine.heard g.B.OnBadLine.is_ended g.W.Sink.contents g.W.Sink.is_stalled g.W.Sink.stall_count g.W.Sink.failure_count
     before i.front.0 c.args.piece.now l.following.unfinished first l.kept l.following.telling.counts unheard l.bad_lines old c.args.sink.now l.sink h i.going i.sound left one i.front.1 c.push.new.self)
 
 pub returns : goal.returns
@@ -98,5 +98,5 @@ returns g c = λ before first unheard old follows.
     let h = i.front.2 before first unheard old follows in
     let left = l.left.now in
     let one : lines_of left ≡ left ∷ [] = last_line left c.in_default.ensures in
-    piece_kept (g.E.Teller.says c.args.each.now) (g.E.Teller.finds c.args.each.now) (g.E.Teller.text c.args.each.now) g.E.Teller.takes g.E.Teller.ends g.B.OnBadLine.heard g.B.OnBadLine.is_ended g.W.Sink.contents g.W.Sink.is_stalled g.W.Sink.stall_count g.W.Sink.failure_count
+    piece_kept (g.E.PerLine.says c.args.each.now) (g.E.PerLine.finds c.args.each.now) (g.E.PerLine.text c.args.each.now) g.E.PerLine.takes g.E.PerLine.ends g.B.OnBadLine.heard g.B.OnBadLine.is_ended g.W.Sink.contents g.W.Sink.is_stalled g.W.Sink.stall_count g.W.Sink.failure_count
     before i.front.0 c.args.piece.now l.following.unfinished first l.kept l.following.telling.counts unheard l.bad_lines old c.args.sink.now l.sink h i.going i.sound left one i.front.1 c.push.new.self (search rules)
