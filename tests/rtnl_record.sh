@@ -60,6 +60,7 @@ counts() {
 . tests/rtnl_record/captures.sh
 counts tests/rtnl_record/made.py
 counts tests/rtnl_record/answers.py
+counts tests/rtnl_record/requests.py
 counts tests/rtnl_record/drops.py
 counts tests/rtnl_record/asked.py
 counts tests/rtnl_record/slow.py
@@ -68,6 +69,7 @@ counts tests/rtnl_record/completions.py
 if [ "${1-}" = inside ]; then
   . tests/rtnl_record/live.sh
   counts unshare -n tests/rtnl_record/asked_live.py
+  counts unshare -n tests/rtnl_record/kinds_live.py
 else
   echo 'skipped: the live way, since no network namespace can be made here'
 fi

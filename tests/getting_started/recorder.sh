@@ -24,6 +24,9 @@ as_recorder is_formed "${files_of_recorder[@]}"
 run_page 'the page of rtnl-record' < <(page_as_text "$prefix/share/man/man1/rtnl-record.1")
 check 'commands of the page of rtnl-record' runs_all "$prefix/share/man/man1/rtnl-record.1"
 
+# All kinds that the help of dump names.
+kinds='addr addrlabel class fdb filter link mdb neigh neightbl netconf nexthop nsid qdisc route rule vlan'
+
 # options_of COMMAND: its options, in one line.
 options_of() { as_recorder helped "$1" | grep -e '^--' | tr '\n' ' ' | sed 's/ $//'; }
 
@@ -32,12 +35,19 @@ completed_recorder() {
   local shell=$1 command
   check "$shell: all commands of the recorder" completes "$shell" 'dump monitor pcap rtmon strace xxd' rtnl-record ''
   check "$shell: an option of the recorder" completes "$shell" --version rtnl-record --v
-  check "$shell: kinds of a dump" completes "$shell" 'addr link neigh route rule' rtnl-record dump ''
+  check "$shell: kinds of a dump" completes "$shell" "$kinds" rtnl-record dump ''
+  check "$shell: families" completes "$shell" 'bridge inet inet6 ip6mr ipmr mpls packet' rtnl-record dump --family ''
+  check "$shell: families by a letter" completes "$shell" 'inet inet6 ip6mr ipmr' rtnl-record dump link --family i
+  check "$shell: bits of the mask" completes "$shell" 'brvlan brvlan-compressed cfm mrp mst skip-stats vf' \
+    rtnl-record dump link --ext-mask ''
+  check "$shell: one more bit" completes "$shell" 'vf,mrp vf,mst' rtnl-record dump link --ext-mask vf,m
+  check "$shell: a device" completes "$shell" lo rtnl-record dump class --dev lo
   check "$shell: groups" completes "$shell" "$(groups_in_help | xargs)" rtnl-record monitor ''
   check "$shell: another group" completes "$shell" 'neigh' rtnl-record monitor link nei
-  check "$shell: kinds of the monitor's dumps" completes "$shell" 'addr link neigh route rule' \
+  check "$shell: kinds of the monitor's dumps" completes "$shell" "$kinds" \
     rtnl-record monitor --dump ''
   check "$shell: one more kind" completes "$shell" 'addr,route addr,rule' rtnl-record monitor --dump addr,r
+  check "$shell: devices of the monitor" completes "$shell" lo rtnl-record monitor --dev lo
   check "$shell: no kind of a file" completes "$shell" '' rtnl-record monitor --again no-such
   check "$shell: no number of the recorder" completes "$shell" '' rtnl-record dump --buffer ''
   for command in dump monitor pcap rtmon strace xxd; do
