@@ -26,13 +26,14 @@ for arguments in '' '--unknown' 'other' 'dum link' 'dump' 'dump links' 'dump lin
   'dump link --ext-mask' 'dump link --ext-mask=' 'dump link --ext-mask vf,' 'dump link --ext-mask vf,1' \
   'dump link --ext-mask 0x1' 'dump link --ext-mask -1' 'dump link --ext-mask 4294967296' 'dump link --proxy=1' \
   'dump class' 'dump filter' 'dump class --dev' 'dump qdisc --dev lo' 'dump link --dev lo' 'dump addr --proxy' \
-  'dump addr --ext-mask vf' 'dump mdb --family inet' 'dump nexthops' 'dump link --netns' 'dump link --time' 'monitor links' 'monitor LINK' 'monitor none' 'monitor link --family 2' \
+  'dump addr --ext-mask vf' 'dump mdb --family inet' 'dump nexthops' \
+  'dump link --netns' 'dump link --time' 'monitor links' 'monitor LINK' 'monitor none' 'monitor link --family 2' \
   'monitor --timeout 1' 'monitor --dump' 'monitor --dump links' 'monitor --dump=' 'monitor --dump link,' \
   'monitor --dump link,,addr' 'monitor --dump link --dump ,' 'monitor --dum link' 'monitor --again' \
-  'monitor --aga none' 'monitor --dump class' \
-  'monitor --dump link,filter' 'monitor --dev lo' 'monitor --dev lo --dump link' 'monitor --proxy' \
-  'monitor --ext-mask vf' 'dump link --again none' 'pcap' 'pcap one two' 'rtmon' 'rtmon one two' 'strace one two' \
-  'strace --unknown' 'xxd one two' 'xxd --cook' 'xxd --version' '--version=1' '--vers'; do
+  'monitor --aga none' 'monitor --dump class' 'monitor --dump link,filter' 'monitor --dev lo' \
+  'monitor --dev lo --dump link' 'monitor --proxy' 'monitor --ext-mask vf' 'dump link --again none' 'pcap' \
+  'pcap one two' 'rtmon' 'rtmon one two' 'strace one two' 'strace --unknown' \
+  'xxd one two' 'xxd --cook' 'xxd --version' '--version=1' '--vers'; do
   # shellcheck disable=SC2086
   usage $arguments
 done
@@ -54,8 +55,8 @@ check 'a class without its device' ends 2 '' 'rtnl-record: class needs --dev; se
 check 'an option of another kind' ends 2 '' 'rtnl-record: --proxy goes with neigh; see --help' record dump addr --proxy
 check 'a family by no word' ends 2 '' "rtnl-record: argument --family: 'can' is no address family; there are inet, \
 inet6, bridge, packet, mpls, ipmr, ip6mr; see --help" record dump addr --family can
-check 'a bit by no word' ends 2 '' "rtnl-record: argument --ext-mask: 'vx' is no bit of the mask; there are vf, brvlan, \
-brvlan-compressed, skip-stats, mrp, cfm, mst; see --help" record dump link --ext-mask vf,vx
+check 'a bit by no word' ends 2 '' "rtnl-record: argument --ext-mask: 'vx' is no bit of the mask; there are vf, \
+brvlan, brvlan-compressed, skip-stats, mrp, cfm, mst; see --help" record dump link --ext-mask vf,vx
 none='there is none of this name or index'
 for device in none 0 2147483647 4294967297 99999999999999999999 lolololololololo ''; do
   check "no such device: $device" ends 3 '' "rtnl-record: device $device: $none" record dump class --dev "$device"
