@@ -6,7 +6,8 @@ import socket
 import time
 from typing import Iterator, List, Optional
 
-from dump import KINDS, SLOW, WAIT, Dump
+from dump import SLOW, WAIT, Dump
+from kinds import KINDS, OF_DEVICE, Asked
 from output import Item, Loss, Stop, short, shown
 
 # How many seconds none may answer where the end may have been lost.
@@ -19,10 +20,11 @@ LONGEST_LINE = 64
 class Dumps:
     """Dumps of these kinds, one after another, since the kernel runs one at a time for a socket.
     An end may be lost where messages were dropped and nothing answers for a second. That kind is
-    dumped again. So it is where the kernel answers that the dump before still runs."""
+    dumped again. So it is where the kernel answers that the dump before still runs. Kinds of one
+    device are asked for of the one with this index, if any."""
 
-    def __init__(self, link: socket.socket, kinds: List[str]) -> None:
-        self.link, self.waiting = link, [*dict.fromkeys(kinds)]
+    def __init__(self, link: socket.socket, kinds: List[str], dev: int) -> None:
+        self.link, self.waiting, self.dev = link, [*dict.fromkeys(kinds)], dev
         self.running: Optional[Dump] = None
         self.seq, self.is_in_doubt, self.until = 0, False, 0.0
 
@@ -34,9 +36,10 @@ class Dumps:
         """Asks for the next one, where none runs."""
         if self.waiting and not self.running:
             self.seq += 1
-            self.running = Dump(self.link, self.waiting.pop(0), 0, self.seq)
+            kind = self.waiting.pop(0)
+            self.running = Dump(self.link, Asked(kind, dev=self.dev), self.seq)
             self.is_in_doubt = False
-            yield from self.running.ask()
+            yield from self.running.ask(kind)
             self.have_patience()
 
     def have_patience(self) -> None:
@@ -68,14 +71,15 @@ class Dumps:
             return
         self.running = None
         if dump.end is None and self.is_in_doubt:
-            self.waiting = [dump.kind, *(it for it in self.waiting if it != dump.kind)]
+            kind = dump.asked.kind
+            self.waiting = [kind, *(it for it in self.waiting if it != kind)]
             return
         losses = [*dump.losses()] if dump.end is not None else [SLOW]
-        yield from (Loss(f"dump of kind {dump.kind}: {it}") for it in losses)
+        yield from (Loss(f"dump of kind {dump.asked.kind}: {it}") for it in losses)
 
     def unfinished(self) -> Iterator[Item]:
         """What is missing where all ends."""
-        kinds = [self.running.kind] if self.running else []
+        kinds = [self.running.asked.kind] if self.running else []
         kinds += [it for it in self.waiting if it not in kinds]
         if kinds:
             yield Loss(f"no whole dump of kind {', '.join(kinds)} at the end")
@@ -115,7 +119,9 @@ class Again:
         self.rest = rest[:LONGEST_LINE]
         for line in lines:
             kind = line.decode(errors="replace")
-            if kind in KINDS:
+            if kind in OF_DEVICE and not dumps.dev:
+                yield Loss(f"{self.name}: {kind} needs --dev")
+            elif kind in KINDS:
                 dumps.add(kind)
             else:
                 yield Loss(f"{self.name}: '{shown(short(kind))}' is no kind; there are "

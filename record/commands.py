@@ -8,11 +8,13 @@ import again
 import dump
 import groups
 import hexdump
+import kinds
 import monitor
 import netlink
 import pcap
 import rtmon
 import strace
+from kinds import FAMILIES, KINDS, MASKS, OF_DEVICE, Asked
 from output import LONGEST, Damaged, Item, Note, Stop, Usage, put, report, shown, write
 
 VERSION = "0.3.0"
@@ -74,6 +76,29 @@ def number(least: int, most: int) -> Callable[[str], int]:
     return read
 
 
+def family(text: str) -> int:
+    """An address family by its word or its number."""
+    if text in FAMILIES:
+        return FAMILIES[text]
+    if text.isdecimal():
+        return number(0, 255)(text)
+    raise argparse.ArgumentTypeError(
+        f"'{text}' is no address family; there are {', '.join(FAMILIES)}")
+
+
+def ext_mask(text: str) -> int:
+    """Bits of IFLA_EXT_MASK, by their words or as one number."""
+    if text.isdecimal():
+        return number(0, (1 << 32) - 1)(text)
+    mask = 0
+    for it in text.split(","):
+        if it not in MASKS:
+            raise argparse.ArgumentTypeError(
+                f"'{it}' is no bit of the mask; there are {', '.join(MASKS)}")
+        mask |= MASKS[it]
+    return mask
+
+
 def group(text: str) -> str:
     if text not in groups.NUMBERS and text not in groups.WORDS:
         raise argparse.ArgumentTypeError(
@@ -81,34 +106,61 @@ def group(text: str) -> str:
     return text
 
 
-def kinds(text: str) -> List[str]:
+def listed(text: str) -> List[str]:
+    """Kinds with commas between them."""
     for it in text.split(","):
-        if it not in dump.KINDS:
-            raise argparse.ArgumentTypeError(
-                f"'{it}' is no kind; there are {', '.join(dump.KINDS)}")
+        if it not in KINDS:
+            raise argparse.ArgumentTypeError(f"'{it}' is no kind; there are {', '.join(KINDS)}")
     return text.split(",")
 
 
-def add_netns(parser: Parser) -> None:
+def add_where(parser: Parser) -> None:
+    parser.options.add_argument(
+        "--dev", metavar="DEV", help="device, by its name or its index, of which the kind is asked "
+        f"for: {', '.join(OF_DEVICE)}")
     parser.options.add_argument(
         "--netns", metavar="NAME", help="ask in this network namespace, as ip-netns names it")
 
 
 def add_dump(parser: Parser) -> None:
-    parser.arguments.add_argument("kind", metavar="KIND", choices=[*dump.KINDS],
-                                  help=f"what is asked for: {', '.join(dump.KINDS)}")
+    parser.arguments.add_argument("kind", metavar="KIND", choices=[*KINDS],
+                                  help=f"what is asked for: {', '.join(KINDS)}")
     parser.options.add_argument(
-        "--family", metavar="N", type=number(0, 255), default=0,
-        help="address family, 0 to 255 [default: 0, all of them]")
+        "--family", metavar="FAMILY", type=family,
+        help=f"address family, 0 to 255 or one of {', '.join(FAMILIES)} [default: 0, all of them]")
+    parser.options.add_argument(
+        "--ext-mask", metavar="MASK", type=ext_mask,
+        help=f"what else is asked of links, a number or words: {', '.join(MASKS)}")
+    parser.options.add_argument("--proxy", action="store_true", default=None,
+                                help="ask for the neighbours that the kernel answers for")
     parser.options.add_argument(
         "--buffer", metavar="N", type=number(1, LONGEST), default=LONGEST,
         help=f"size of the buffer for a datagram, 1 to {LONGEST} bytes [default: {LONGEST}]")
-    add_netns(parser)
+    add_where(parser)
+
+
+def check_options(asked: argparse.Namespace, names: List[str], options: List[str]) -> None:
+    """Each of the options that is given goes with one of these kinds, and those that need one have
+    it."""
+    for option in options:
+        takers = [name for name, kind in KINDS.items() if option in kind.options]
+        if getattr(asked, option) is not None and not {*takers} & {*names}:
+            raise Usage(f"--{option.replace('_', '-')} goes with {', '.join(takers)}; see --help")
+    for it in names:
+        if it in OF_DEVICE and asked.dev is None:
+            raise Usage(f"{it} needs --dev; see --help")
+
+
+def index_of(dev: Optional[str]) -> int:
+    return 0 if dev is None else kinds.index_of(dev)
 
 
 def dumped(asked: argparse.Namespace) -> Iterator[Item]:
+    check_options(asked, [asked.kind], ["family", "ext_mask", "proxy", "dev"])
     with netlink.opened(asked.netns) as link:
-        yield from dump.items(link, asked.kind, asked.family, asked.buffer)
+        what = Asked(asked.kind, asked.family or 0, asked.ext_mask or 0, bool(asked.proxy),
+                     index_of(asked.dev))
+        yield from dump.items(link, what, asked.buffer)
 
 
 def add_monitor(parser: Parser) -> None:
@@ -117,18 +169,22 @@ def add_monitor(parser: Parser) -> None:
                                   help=f"what is listened to [default: {groups.ALL}]: {words}")
     parser.options.add_argument("--time", action="store_true",
                                 help="print the time before each datagram, as a comment line")
-    parser.options.add_argument("--dump", metavar="KINDS", type=kinds, action="extend", default=[],
-                                help="ask for dumps of these kinds first, as link,route: "
-                                f"{', '.join(dump.KINDS)}")
+    parser.options.add_argument(
+        "--dump", metavar="KINDS", type=listed, action="extend", default=[],
+        help=f"ask for dumps of these kinds first, as link,route: {', '.join(KINDS)}")
     parser.options.add_argument("--again", metavar="PATH", help="read a kind on each line of this "
                                 "file, a named pipe, and ask for a dump of it again")
-    add_netns(parser)
+    add_where(parser)
 
 
 def monitored(asked: argparse.Namespace) -> Iterator[Item]:
+    # Whatever the file names.
+    check_options(asked, asked.dump, [] if asked.again else ["dev"])
     file = None if asked.again is None else again.Again(asked.again)
     with netlink.opened(asked.netns) as link:
-        yield from monitor.items(link, asked.groups or [groups.ALL], asked.time, asked.dump, file)
+        dev = index_of(asked.dev)
+        yield from monitor.items(link, asked.groups or [groups.ALL], asked.time, asked.dump, dev,
+                                 file)
 
 
 def add_file(parser: Parser) -> None:
@@ -171,7 +227,7 @@ def converted(items: Callable[[BinaryIO, argparse.Namespace], Iterator[Item]],
 
 
 COMMANDS = [
-    Command("dump", "ask the kernel for links, addresses, routes, neighbours or rules",
+    Command("dump", "ask the kernel for links, addresses, routes and the like",
             dump.__doc__, "rtnl-record dump link > links.hex", add_dump, dumped),
     Command("monitor", "record what the kernel notifies of, until an interrupt",
             monitor.__doc__, "rtnl-record monitor --time link address > changes.hex\n  mkfifo again\n"

@@ -7,12 +7,9 @@ import struct
 from typing import Iterator, Optional
 
 import netlink
-from netlink import HEADER
+from kinds import KINDS, Asked, request
 from output import Comment, Item, Loss, cut
 
-# The type of a request, and the size of the head that begins with the family.
-KINDS = {"link": (18, 16), "addr": (22, 8), "route": (26, 12), "neigh": (30, 12), "rule": (34, 12)}
-DUMP = 0x301  # NLM_F_REQUEST | NLM_F_DUMP
 INTERRUPTED = 0x10  # NLM_F_DUMP_INTR
 ERROR, DONE, OVERRUN = 2, 3, 4  # NLMSG_ERROR, NLMSG_DONE, NLMSG_OVERRUN
 SEQ = 1
@@ -26,15 +23,16 @@ class Dump:
     """A dump that a socket asks for, and what its answers say. Its end is the error that ended it,
     or 0 for none."""
 
-    def __init__(self, link: socket.socket, kind: str, family: int, seq: int) -> None:
-        self.link, self.kind, self.family, self.seq = link, kind, family, seq
+    def __init__(self, link: socket.socket, asked: Asked, seq: int) -> None:
+        self.link, self.asked, self.seq = link, asked, seq
         self.port: int = link.getsockname()[0]
         self.end: Optional[int] = None
         self.is_interrupted = False
 
-    def ask(self) -> Iterator[Item]:
-        yield Comment(f"seq {self.seq} port {self.port} kind {self.kind}")
-        self.link.sendto(request(self.kind, self.family, self.seq), (0, 0))
+    def ask(self, name: str) -> Iterator[Item]:
+        """Asks for it, behind a line that calls the kind so."""
+        yield Comment(f"seq {self.seq} port {self.port} kind {name}")
+        self.link.sendto(request(self.asked, self.seq), (0, 0))
 
     def take(self, data: bytes) -> bool:
         """Looks at a datagram. It answers whether the socket was meant, be it by this dump or by
@@ -62,17 +60,11 @@ class Dump:
             yield Loss("the kernel interrupted the dump: entries may be missing, or not agree")
 
 
-def request(kind: str, family: int, seq: int) -> bytes:
-    number, head = KINDS[kind]
-    body = bytes([family]).ljust(head, b"\0")
-    return HEADER.pack(HEADER.size + head, number, DUMP, seq, 0) + body
-
-
-def items(link: socket.socket, kind: str, family: int, size: int) -> Iterator[Item]:
+def items(link: socket.socket, asked: Asked, size: int) -> Iterator[Item]:
     """The answers, in a buffer of this size, and what is missing of them."""
-    dump, room, is_cut = Dump(link, kind, family, SEQ), bytearray(size), False
+    dump, room, is_cut = Dump(link, asked, SEQ), bytearray(size), False
     link.settimeout(WAIT)
-    yield from dump.ask()
+    yield from dump.ask(KINDS[asked.kind].read_as or asked.kind)
     while dump.end is None:
         try:
             found = netlink.received(link, room)

@@ -10,13 +10,20 @@ mpls_netconf ipv4_mroute_r ipv6_mroute_r nexthop brvlan mctp_ifaddr tunnel stats
 ipv6_mcaddr ipv6_acaddr
 """.split())
 NUMBERS: Dict[str, int] = {name: number for number, name in enumerate(NAMES, 1)}
-# Words for more than one group; those of ip-monitor, where a group has no such name.
+# Words for more than one group, and for kinds of dumps; those of ip-monitor and of bridge(8), where
+# a group has no such name.
 ALL = "all"
 WORDS: Dict[str, Tuple[str, ...]] = {
     ALL: NAMES,
     "address": ("ipv4_ifaddr", "ipv6_ifaddr"),
     "route": ("ipv4_route", "ipv6_route", "mpls_route"),
     "rule": ("ipv4_rule", "ipv6_rule"),
+    "netconf": ("ipv4_netconf", "ipv6_netconf", "mpls_netconf"),
+    "qdisc": ("tc",),
+    "class": ("tc",),
+    "filter": ("tc",),
+    "vlan": ("brvlan",),
+    "fdb": ("neigh",),
 }
 
 

@@ -96,16 +96,16 @@ def waited(interrupt: Interrupt, link: socket.socket, dumps: Dumps, again: Optio
         yield from dumps.end()
 
 
-def items(link: socket.socket, words: List[str], is_timed: bool, kinds: List[str],
+def items(link: socket.socket, words: List[str], is_timed: bool, kinds: List[str], dev: int,
           again: Optional[Again]) -> Iterator[Item]:
     """The notifications of the groups until an interrupt. Dumps of these kinds are asked for, and
-    of those that the file names."""
+    of those that the file names; where they are of one device, of the one with this index."""
     interrupt, room = Interrupt(), bytearray(LONGEST)
     link.setblocking(False)
     link.setsockopt(socket.SOL_SOCKET, socket.SO_RCVBUF, ROOM)
     yield from join(link, words)
     yield Comment(f"groups {' '.join(words)} port {link.getsockname()[0]}")
-    drops, dumps = Drops(), Dumps(link, kinds)
+    drops, dumps = Drops(), Dumps(link, kinds, dev)
     while drops.waiting or not (yield from waited(interrupt, link, dumps, again)):
         try:
             found = netlink.received(link, room)

@@ -2,9 +2,9 @@
 # Runs rtnl-record. Its arguments; the traces in tests/rtnl_record/, which strace wrote of small programs, where the
 # expected lines are cut from the bytes that it printed; captures of a live kernel in examples/, and what tools make
 # of them; captures that are made by hand, and changed at random; its completions, in shells at a terminal; and the
-# kernel itself, in a network namespace of its own, where the machine allows one, with what `ip` makes there. A part
-# that can't run says so and isn't counted. The last line is 'N passed, M failed', and the status is 1 where a case
-# failed.
+# kernel itself, in a network namespace of its own, where the machine allows one, with what `ip` makes there, and what
+# examples/rich/ does. A part that can't run says so and isn't counted. The last line is 'N passed, M failed', and the
+# status is 1 where a case failed.
 set -u
 cd "$(dirname "${BASH_SOURCE[0]}")/.." || exit 1
 
@@ -58,8 +58,10 @@ counts() {
 . tests/rtnl_record/arguments.sh
 . tests/rtnl_record/traces.sh
 . tests/rtnl_record/captures.sh
+. tests/rtnl_record/rich.sh
 counts tests/rtnl_record/made.py
 counts tests/rtnl_record/answers.py
+counts tests/rtnl_record/requests.py
 counts tests/rtnl_record/drops.py
 counts tests/rtnl_record/asked.py
 counts tests/rtnl_record/slow.py
@@ -67,7 +69,9 @@ counts tests/rtnl_record/fuzz.py
 counts tests/rtnl_record/completions.py
 if [ "${1-}" = inside ]; then
   . tests/rtnl_record/live.sh
+  check 'the rich machine' records_machine
   counts unshare -n tests/rtnl_record/asked_live.py
+  counts unshare -n tests/rtnl_record/kinds_live.py
 else
   echo 'skipped: the live way, since no network namespace can be made here'
 fi

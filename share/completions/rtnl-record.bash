@@ -1,8 +1,9 @@
 # Completion of the command rtnl-record in bash.
 
-# _rtnl_record_namespaces WORD SIGN: the network namespaces whose names begin with this word, quoted as
-# it is. Without the sign in front of the word a name that begins with - would be an option.
-_rtnl_record_namespaces() {
+# _rtnl_record_names WORD SIGN: those of its lines that begin with this word, quoted as it is: names
+# of devices, or of network namespaces, where a number may stand behind. Without the sign in front
+# of the word a name that begins with - would be an option.
+_rtnl_record_names() {
   local word=$1 sign=$2 name quoted
   while IFS= read -r name; do
     [[ $name =~ ^(.*)' (id: '[0-9]+')'$ ]] && name=${BASH_REMATCH[1]}
@@ -14,14 +15,22 @@ _rtnl_record_namespaces() {
     esac
     # Bash keeps the quote that was typed.
     [[ $quoted != "$word"* && $name != "$word"* ]] || COMPREPLY+=("${quoted#\'}")
-  done < <(ip netns list 2>/dev/null)
+  done
+}
+
+# _rtnl_record_listed WORD WORDS: one of the words, or one more behind a comma.
+_rtnl_record_listed() {
+  mapfile -t COMPREPLY < <(compgen -P "${1%"${1##*,}"}" -W "$2" -- "${1##*,}")
 }
 
 _rtnl_record() {
   local commands='dump monitor pcap rtmon strace xxd'
-  local kinds='link addr route neigh rule'
-  local groups='all address route rule link notify neigh tc ipv4_ifaddr ipv4_mroute
-    ipv4_route ipv4_rule
+  local kinds='link addr route neigh rule nexthop qdisc class filter netconf neightbl mdb vlan nsid
+    addrlabel fdb'
+  local families='inet inet6 bridge packet mpls ipmr ip6mr'
+  local masks='vf brvlan brvlan-compressed skip-stats mrp cfm mst'
+  local groups='all address route rule netconf qdisc class filter vlan fdb link notify neigh tc
+    ipv4_ifaddr ipv4_mroute ipv4_route ipv4_rule
     ipv6_ifaddr ipv6_mroute ipv6_route ipv6_ifinfo decnet_ifaddr nop2 decnet_route decnet_rule
     nop4 ipv6_prefix ipv6_rule nd_useropt phonet_ifaddr phonet_route dcb ipv4_netconf ipv6_netconf
     mdb mpls_route nsid mpls_netconf ipv4_mroute_r ipv6_mroute_r nexthop brvlan mctp_ifaddr tunnel
@@ -36,18 +45,26 @@ _rtnl_record() {
     1,*,*,-*) words='--help --version' ;;
     1,*) words=$commands ;;
     *,*,--netns,*)
-      _rtnl_record_namespaces "$word" "$sign"
+      _rtnl_record_names "$word" "$sign" < <(ip netns list 2>/dev/null)
       return
       ;;
-    # One kind, or one more behind a comma.
+    *,*,--dev,*)
+      _rtnl_record_names "$word" "$sign" < <(sed -n 's/^ *\([^:]*\):.*/\1/p' /proc/net/dev)
+      return
+      ;;
     *,*,--dump,*)
-      mapfile -t COMPREPLY < <(compgen -P "${word%"${word##*,}"}" -W "$kinds" -- "${word##*,}")
+      _rtnl_record_listed "$word" "$kinds"
+      return
+      ;;
+    *,*,--ext-mask,*)
+      _rtnl_record_listed "$word" "$masks"
       return
       ;;
     *,*,--again,*) compopt -o default 2>/dev/null ;;
-    *,*,--family,* | *,*,--buffer,*) ;;
-    *,dump,*,-*) words='--family --buffer --netns --help' ;;
-    *,monitor,*,-*) words='--time --dump --again --netns --help' ;;
+    *,*,--family,*) words=$families ;;
+    *,*,--buffer,*) ;;
+    *,dump,*,-*) words='--family --ext-mask --proxy --buffer --dev --netns --help' ;;
+    *,monitor,*,-*) words='--time --dump --again --dev --netns --help' ;;
     *,xxd,*,-*) words='--cooked --help' ;;
     *,*,*,-*) words=--help ;;
     *,dump,*) words=$kinds ;;

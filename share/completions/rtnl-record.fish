@@ -1,22 +1,34 @@
 # Completion of the command rtnl-record in fish.
 
-# The network namespaces. Behind a blank a name that begins with - would be an option. Fish takes what
-# is behind a tab for a description, and ~ for a home folder.
-function __rtnl_record_namespaces
-    set -l names (ip netns list 2>/dev/null | string replace -r ' \(id: \d+\)$' '')
-    string match -q -- '--netns=*' (commandline -ct); or set names (string match -v -- '-*' $names)
+# The names among the arguments. Behind a blank a name that begins with - would be an option. Fish
+# takes what is behind a tab for a description, and ~ for a home folder.
+function __rtnl_record_names
+    set -l names $argv
+    string match -q -- '--*=*' (commandline -ct); or set names (string match -v -- '-*' $names)
     string match -rv -- '^~|\t' $names
 end
 
-# The kinds, each behind those that are typed with commas between them.
-function __rtnl_record_kinds
-    set -l typed (commandline -ct | string replace -r '^(--dump=)?(.*,)?.*' '$2')
-    printf '%s\n' "$typed"{link,addr,route,neigh,rule}
+function __rtnl_record_namespaces
+    __rtnl_record_names (ip netns list 2>/dev/null | string replace -r ' \(id: \d+\)$' '')
+end
+
+function __rtnl_record_devices
+    __rtnl_record_names (sed -n 's/^ *\([^:]*\):.*/\1/p' /proc/net/dev)
+end
+
+# The arguments, each behind those that are typed with commas between them.
+function __rtnl_record_listed
+    set -l typed (commandline -ct | string replace -r '^(--[a-z-]+=)?(.*,)?.*' '$2')
+    printf '%s\n' "$typed"$argv
 end
 
 set -l commands dump monitor pcap rtmon strace xxd
-set -l groups all address route rule link notify neigh tc ipv4_ifaddr ipv4_mroute \
-    ipv4_route ipv4_rule \
+set -l kinds link addr route neigh rule nexthop qdisc class filter netconf neightbl mdb vlan nsid \
+    addrlabel fdb
+set -l families inet inet6 bridge packet mpls ipmr ip6mr
+set -l masks vf brvlan brvlan-compressed skip-stats mrp cfm mst
+set -l groups all address route rule netconf qdisc class filter vlan fdb link notify neigh tc \
+    ipv4_ifaddr ipv4_mroute ipv4_route ipv4_rule \
     ipv6_ifaddr ipv6_mroute ipv6_route ipv6_ifinfo decnet_ifaddr nop2 decnet_route decnet_rule \
     nop4 ipv6_prefix ipv6_rule nd_useropt phonet_ifaddr phonet_route dcb ipv4_netconf \
     ipv6_netconf mdb mpls_route nsid mpls_netconf ipv4_mroute_r ipv6_mroute_r nexthop brvlan \
@@ -39,14 +51,19 @@ complete -c rtnl-record -s h -l help -d 'Print help'
 complete -c rtnl-record -n $first -s V -l version -d 'Print version'
 
 complete -c rtnl-record -n $read -F
-complete -c rtnl-record -n $dump -a 'link addr route neigh rule'
-complete -c rtnl-record -n $dump -l family -x -d 'Address family of the request'
+complete -c rtnl-record -n $dump -a "$kinds"
+complete -c rtnl-record -n $dump -l family -x -a "$families" -d 'Address family of the request'
+complete -c rtnl-record -n $dump -l ext-mask -x -a "(__rtnl_record_listed $masks)" \
+    -d 'What else is asked of links'
+complete -c rtnl-record -n $dump -l proxy -d 'Ask for the neighbours that the kernel answers for'
 complete -c rtnl-record -n $dump -l buffer -x -d 'Size of the buffer for a datagram'
+complete -c rtnl-record -n $asking -l dev -x -a '(__rtnl_record_devices)' \
+    -d 'Device of a class or a filter'
 complete -c rtnl-record -n $asking -l netns -x -a '(__rtnl_record_namespaces)' \
     -d 'Network namespace'
 complete -c rtnl-record -n $monitor -a "$groups"
 complete -c rtnl-record -n $monitor -l time -d 'Print the time before each datagram'
-complete -c rtnl-record -n $monitor -l dump -x -a '(__rtnl_record_kinds)' \
+complete -c rtnl-record -n $monitor -l dump -x -a "(__rtnl_record_listed $kinds)" \
     -d 'Ask for dumps of these kinds first'
 complete -c rtnl-record -n $monitor -l again -r -F -d 'Read kinds here, and ask for them again'
 complete -c rtnl-record -n $dumped -l cooked -d 'The dumps are of packets of an nlmon device'

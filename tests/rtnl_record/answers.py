@@ -15,6 +15,7 @@ TESTS = os.path.dirname(os.path.dirname(os.path.realpath(__file__)))
 sys.path[:0] = [f"{TESTS}/../record", f"{TESTS}/helpers"]
 import dump
 from counting import counted
+from kinds import Asked
 from output import Item, Loss
 
 KERNEL, PORT, SEQ = 0, 4711, 1
@@ -114,7 +115,7 @@ def judged(case: Case) -> List[str]:
     """What is wrong with the request, with the lines, and with the loss, which is said once. A
     datagram of another sender is none of them."""
     link = Socket([it for data in case.datagrams for it in ((PORT, message(2)), (KERNEL, data))])
-    found: List[Item] = [*dump.items(link, "link", 2, case.size)]  # type: ignore[arg-type]
+    found: List[Item] = [*dump.items(link, Asked("link", 2), case.size)]  # type: ignore[arg-type]
     lines = [dump_line(it) for it in found if not isinstance(it, Loss)]
     losses = [str(it) for it in found if isinstance(it, Loss)]
     given = [(link.sent.hex(), link.to), lines, losses]

@@ -22,11 +22,18 @@ helps_all() {
 for arguments in '' '--unknown' 'other' 'dum link' 'dump' 'dump links' 'dump link addr' 'dump link --family' \
   'dump link --family -1' 'dump link --family 256' 'dump link --family +1' 'dump link --family 0x1' \
   'dump link --fam 2' 'dump link --buffer 0' 'dump link --buffer 1048577' 'dump link --buffer 1e3' \
+  'dump link --family inet,inet6' 'dump link --family INET' 'dump link --family' 'dump link --family can' \
+  'dump link --ext-mask' 'dump link --ext-mask=' 'dump link --ext-mask vf,' 'dump link --ext-mask vf,1' \
+  'dump link --ext-mask 0x1' 'dump link --ext-mask -1' 'dump link --ext-mask 4294967296' 'dump link --proxy=1' \
+  'dump class' 'dump filter' 'dump class --dev' 'dump qdisc --dev lo' 'dump link --dev lo' 'dump addr --proxy' \
+  'dump addr --ext-mask vf' 'dump mdb --family inet' 'dump nexthops' \
   'dump link --netns' 'dump link --time' 'monitor links' 'monitor LINK' 'monitor none' 'monitor link --family 2' \
   'monitor --timeout 1' 'monitor --dump' 'monitor --dump links' 'monitor --dump=' 'monitor --dump link,' \
   'monitor --dump link,,addr' 'monitor --dump link --dump ,' 'monitor --dum link' 'monitor --again' \
-  'monitor --aga none' 'dump link --again none' 'pcap' 'pcap one two' 'rtmon' 'rtmon one two' 'strace one two' \
-  'strace --unknown' 'xxd one two' 'xxd --cook' 'xxd --version' '--version=1' '--vers'; do
+  'monitor --aga none' 'monitor --dump class' 'monitor --dump link,filter' 'monitor --dev lo' \
+  'monitor --dev lo --dump link' 'monitor --proxy' 'monitor --ext-mask vf' 'dump link --again none' 'pcap' \
+  'pcap one two' 'rtmon' 'rtmon one two' 'strace one two' 'strace --unknown' \
+  'xxd one two' 'xxd --cook' 'xxd --version' '--version=1' '--vers'; do
   # shellcheck disable=SC2086
   usage $arguments
 done
@@ -44,6 +51,20 @@ for command in pcap rtmon strace xxd; do
   check "$command: closed input" ends 3 '' 'rtnl-record: standard input is closed' without_input "$command" -
   check "$command: closed output" ends 3 '' 'rtnl-record: standard output is closed' without_output "$command" -
 done
+check 'a class without its device' ends 2 '' 'rtnl-record: class needs --dev; see --help' record dump class
+check 'an option of another kind' ends 2 '' 'rtnl-record: --proxy goes with neigh; see --help' record dump addr --proxy
+check 'a family by no word' ends 2 '' "rtnl-record: argument --family: 'can' is no address family; there are inet, \
+inet6, bridge, packet, mpls, ipmr, ip6mr; see --help" record dump addr --family can
+check 'a bit by no word' ends 2 '' "rtnl-record: argument --ext-mask: 'vx' is no bit of the mask; there are vf, \
+brvlan, brvlan-compressed, skip-stats, mrp, cfm, mst; see --help" record dump link --ext-mask vf,vx
+none='there is none of this name or index'
+for device in none 0 2147483647 4294967297 99999999999999999999 lolololololololo ''; do
+  check "no such device: $device" ends 3 '' "rtnl-record: device $device: $none" record dump class --dev "$device"
+done
+check 'control characters in the name of a device' ends 3 '' "rtnl-record: device no\x1b[31m: $none" \
+  record dump class --dev $'no\e[31m'
+check 'no such device for a monitor' ends 3 '' "rtnl-record: device none: $none" \
+  record monitor --dump link,filter --dev none
 check 'no such pipe' ends 3 '' "rtnl-record: $folder/none: $read_errors" record monitor --again "$folder/none"
 check 'a folder for a pipe' ends 3 '' "rtnl-record: $folder: Is a directory" record monitor --again "$folder"
 check 'control characters in the name of a pipe' ends 3 '' "rtnl-record: no\\x1b[31m: $read_errors" \

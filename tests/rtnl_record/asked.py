@@ -25,7 +25,11 @@ from drops import END, FULL, NONE
 from output import Item, Loss, Note
 
 LINK, ROUTE = 18, 26  # RTM_GETLINK and RTM_GETROUTE
-OTHER = 4712
+NEXTHOP, NEIGH, CLASS, FILTER = 106, 30, 42, 46
+OTHER, DEVICE = 4712, 0x0403
+# The head of a request: family 7, AF_BRIDGE, and the index of a device.
+OF_BRIDGE = "07" + "00" * 11
+OF_DEVICE = bytes(4).hex() + struct.pack("=i", DEVICE).hex() + bytes(12).hex()
 
 
 class After(NamedTuple):
@@ -67,23 +71,27 @@ A1, A2, D1, D2, D3 = item(1), item(2), done(1), done(2), done(3)
 
 class Case(NamedTuple):
     """The kinds that are asked for first, what happens, and what is seen: a request by its
-    numbers, a datagram by its type and number, all else by its text."""
+    numbers and what else it says, a datagram by its type and number, all else by its text; and
+    the index of the device that --dev names."""
 
     name: str
     kinds: List[str]
     steps: List[object]
     seen: List[str]
+    dev: int = 0
 
 
-def asks(seq: int, kind: str, number: int) -> List[str]:
-    return [f"# seq {seq} port {PORT} kind {kind}", f"asks {number} under {seq}"]
+def asks(seq: int, kind: str, number: int, rest: str = "") -> List[str]:
+    words = f"asks {number} under {seq}" + f" with {rest}" * bool(rest)
+    return [f"# seq {seq} port {PORT} kind {kind}", words]
 
 
 FIRST, SECOND = asks(1, "link", LINK), asks(2, "route", ROUTE)
 LINK_AGAIN = asks(2, "link", LINK)
 BOTH, GONE = ["link", "route"], [drops.LINE, f"! {drops.SAID}"]
 LATE = "! dump of kind link: no datagram came within 5 seconds"
-KINDS = "is no kind; there are link, addr, route, neigh, rule"
+KINDS = ("is no kind; there are link, addr, route, neigh, rule, nexthop, qdisc, class, filter, "
+         "netconf, neightbl, mdb, vlan, nsid, addrlabel, fdb")
 CASES = [
     Case("none", [], [NEWS, SILENT], ["16/1", "waits for ever"]),
     Case("one", ["link"], [A1, D1, SILENT], [*FIRST, "16/1", "3/1", "waits for ever"]),
@@ -154,6 +162,15 @@ CASES = [
     Case("an empty line", [], [Told(b"\n")], [f"! PIPE: '' {KINDS}"]),
     Case("bytes that are no text", [], [Told(b"\xff\x1b[1m\n")],
          [f"! PIPE: '\ufffd\\x1b[1m' {KINDS}"]),
+    Case("neighbours of both sorts, and a further kind", ["neigh", "fdb"],
+         [D1, D2, Told(b"nexthop\n"), D3],
+         [*asks(1, "neigh", NEIGH), "3/1", *asks(2, "fdb", NEIGH, OF_BRIDGE), "3/2",
+          *asks(3, "nexthop", NEXTHOP), "3/3"]),
+    Case("kinds of a device, and of none", ["class", "link"], [D1, D2, Told(b"filter\n"), D3],
+         [*asks(1, "class", CLASS, OF_DEVICE), "3/1", *LINK_AGAIN, "3/2",
+          *asks(3, "filter", FILTER, OF_DEVICE), "3/3"], DEVICE),
+    Case("a kind of a device that is not named", ["link"], [Told(b"class\nroute\n"), D1, D2],
+         [*FIRST, "! PIPE: class needs --dev", "3/1", *SECOND, "3/2"]),
     Case("a line without end", [], [Told(b"x" * 50000), Told(b"\nlink\n"), D1],
          [f"! PIPE: '{'x' * 40}..' {KINDS}", *FIRST, "3/1"]),
 ]
@@ -168,8 +185,9 @@ class Socket(drops.Socket):
 
     def sendto(self, data: bytes, to: Tuple[int, int]) -> None:
         length, kind, flags, seq, port = struct.unpack_from("=IHHII", data)
-        is_dump = (length, flags, port, to) == (len(data), 0x301, 0, (0, 0)) and not any(data[16:])
-        self.seen.append(f"asks {kind} under {seq}" if is_dump else f"sends {data.hex()}")
+        is_dump = (length, flags, port, to) == (len(data), 0x301, 0, (0, 0))
+        rest = f" with {data[16:].hex()}" if any(data[16:]) else ""
+        self.seen.append(f"asks {kind} under {seq}{rest}" if is_dump else f"sends {data.hex()}")
 
 
 class Happening:
@@ -212,11 +230,12 @@ def sign_of(it: Item) -> str:
     return f"! {it}" if isinstance(it, Note) else f"# {it}"
 
 
-def seen(kinds: List[str], steps: List[object], again: Again) -> Iterator[str]:
+def seen(kinds: List[str], steps: List[object], again: Again, dev: int = 0) -> Iterator[str]:
     """What is seen in its turn, behind the line of the groups."""
     found: List[str] = []
     link = Socket(list(steps), found)
-    for it in monitor.items(link, ["link"], False, kinds, again):  # type: ignore[arg-type]
+    items = monitor.items(link, ["link"], False, kinds, dev, again)  # type: ignore[arg-type]
+    for it in items:
         found.append(sign_of(it).replace(again.name, "PIPE"))
         if isinstance(it, Note) and not isinstance(it, Loss):
             found.append("a note that is no loss")
@@ -232,7 +251,7 @@ def piped(case: Case, path: str) -> List[str]:
     os.mkfifo(path)
     again = Again(path)
     Happening.written = os.open(path, os.O_WRONLY)
-    found = [*seen(case.kinds, case.steps, again)]
+    found = [*seen(case.kinds, case.steps, again, case.dev)]
     os.close(Happening.written)
     os.close(again.file)
     os.remove(path)

@@ -296,7 +296,8 @@ def told(folder: str) -> Iterator[Tuple[str, List[str]]]:
     yield "two kinds, one twice", same((recorder.comments(), wanted))
     recorder.say("routes\n")
     said = (f"rtnl-record: {recorder.pipe}: 'routes' is no kind; there are link, addr, route, "
-            "neigh, rule\n")
+            "neigh, rule, nexthop, qdisc, class, filter, netconf, neightbl, mdb, vlan, nsid, "
+            "addrlabel, fdb\n")
     yield "a wrong name", [] if recorder.heard(said) else [recorder.said()]
     ticks = recorder.ticks()
     time.sleep(1)

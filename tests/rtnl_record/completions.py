@@ -1,7 +1,8 @@
 #!/usr/bin/env python3
 """Types `rtnl-record dump link --netns` with a tab in bash, zsh and fish, where the one network
 namespace that `ip` lists has a hostile name: the command that is entered then names just that one,
-and nothing that stands in the name was run. The kinds and the file of a monitor are completed, too.
+and nothing that stands in the name was run. So it is with the one device that there is. Kinds,
+address families, bits and the file of a monitor are completed, too.
 The last line is 'N passed, M failed', and the status is 1 where a case failed.
 """
 import os
@@ -29,16 +30,25 @@ NAMES = [
     "two words", "  blanks ", "it's", 'say "no"', "back\\slash", "a\\nb", "${HOME}", "$HOME", "~",
     "~root", "*", "[ab]?", "{a,b}", "a!b", "#a", "a=b", "a(b)", "a (id: b)", "ünder",
 ]
+# A device has no blank in its name.
+DEVICES = ["eth0.7", f"$({RUN})", f"a;{RUN};", f"$'{RUN}'", "it's", "$HOME", "~", "[ab]?"]
 # Fish would take what it has inserted for a home folder.
 LEFT_OUT = {"fish": ["~", "~root"]}
 # Such a name would be taken for an option, but behind the sign.
 DASHED = ["-dash", f"--$({RUN})"]
 # What is typed in front of the tab, and the rest of the name.
 QUOTED = [("'t", "two words"), ("'i", "it's"), ("'$", f"$({RUN})")]
+# What is typed behind a dump, and the words that come of it.
+DUMPED = [
+    ("nexth", ["nexthop"]), ("link --family mp", ["link", "--family", "mpls"]),
+    ("link --family=br", ["link", "--family=bridge"]), ("neigh --pr", ["neigh", "--proxy"]),
+    ("link --ext-mask sk", ["link", "--ext-mask", "skip-stats"]),
+    ("link --ext-mask=vf,ms", ["link", "--ext-mask=vf,mst"]),
+]
 # What is typed behind the monitor, and the words that come of it: kinds, and a file of the folder.
 MONITORED = [
-    ("--dump ne", ["--dump", "neigh"]), ("--dump=ru", ["--dump=rule"]),
-    ("--dump link,ne", ["--dump", "link,neigh"]), ("--dump=rule,ad", ["--dump=rule,addr"]),
+    ("--dump rou", ["--dump", "route"]), ("--dump=ru", ["--dump=rule"]),
+    ("--dump link,ro", ["--dump", "link,route"]), ("--dump=rule,ad", ["--dump=rule,addr"]),
     ("--again nam", ["--again", "names"]), ("--again=nam", ["--again=names"]),
 ]
 START = {
@@ -60,6 +70,8 @@ class Shell:
         self.name, self.folder = name, folder
         os.mkdir(f"{folder}/bin")
         self.program("ip", 'cat "$NAMES"')
+        self.program("sed", 'case $* in *" /proc/net/dev") cat "$DEVICES" ;; '
+                     '*) exec /bin/sed "$@" ;; esac')
         self.program("rtnl-record",
                      'printf "%s\\0" "$@" >"$ASKED.new" && mv "$ASKED.new" "$ASKED"')
         self.process, self.terminal = pty.fork()
@@ -76,6 +88,7 @@ class Shell:
     def surroundings(self) -> Dict[str, str]:
         return {"PATH": f"{self.folder}/bin:{os.environ['PATH']}", "HOME": self.folder,
                 "TERM": "dumb", "LC_ALL": "C.UTF-8", "NAMES": f"{self.folder}/names",
+                "DEVICES": f"{self.folder}/devices",
                 "ASKED": f"{self.folder}/asked"}
 
     def type(self, text: str) -> None:
@@ -102,9 +115,10 @@ class Shell:
 
     def judged(self, name: str, typed: str, words: List[str]) -> List[str]:
         """What is wrong with the words that come of this, typed with a tab."""
-        with open(f"{self.folder}/names", "w", encoding="utf-8") as file:
-            file.write(f"{name} (id: 7)\n")
-        wrong = self.compared(f"dump link --netns{typed}", words)
+        for place, line in (("names", f"{name} (id: 7)"), ("devices", name)):
+            with open(f"{self.folder}/{place}", "w", encoding="utf-8") as file:
+                file.write(f"{line}\n")
+        wrong = self.compared(f"dump {typed}", ["dump", *words])
         return wrong + (["it was run"] if os.path.exists(f"{self.folder}/PWNED") else [])
 
     def compared(self, typed: str, words: List[str]) -> List[str]:
@@ -121,17 +135,26 @@ class Shell:
 
 
 def cases(shell: Shell) -> Iterator[Tuple[str, List[str]]]:
-    front = ["dump", "link"]
-    for name in NAMES:
-        given = [] if name in LEFT_OUT.get(shell.name, []) else [name]
-        yield name, shell.judged(name, " ", [*front, "--netns", *given])
-    for name in DASHED:
-        yield f"{name} behind a blank", shell.judged(name, " ", [*front, "--netns"])
-        yield f"{name} behind the sign", shell.judged(name, "=", [*front, f"--netns={name}"])
-    for typed, name in QUOTED:
-        yield f"{typed} of {name}", shell.judged(name, f" {typed}", [*front, "--netns", name])
+    yield from named(shell, "link --netns", NAMES)
+    yield from named(shell, "class --dev", DEVICES)
+    for typed, words in DUMPED:
+        yield typed, shell.compared(f"dump {typed}", ["dump", *words])
     for typed, words in MONITORED:
         yield typed, shell.compared(f"monitor {typed}", ["monitor", *words])
+
+
+def named(shell: Shell, typed: str, names: List[str]) -> Iterator[Tuple[str, List[str]]]:
+    """Names behind an option, the last of these words."""
+    kind, option = typed.split()
+    for name in names:
+        given = [] if name in LEFT_OUT.get(shell.name, []) else [name]
+        yield f"{option} {name}", shell.judged(name, f"{typed} ", [kind, option, *given])
+    for name in DASHED:
+        yield f"{option} {name}", shell.judged(name, f"{typed} ", [kind, option])
+        yield f"{option}={name}", shell.judged(name, f"{typed}=", [kind, f"{option}={name}"])
+    for front, name in QUOTED:
+        if name in names:
+            yield f"{option} {front}", shell.judged(name, f"{typed} {front}", [kind, option, name])
 
 
 def main() -> int:

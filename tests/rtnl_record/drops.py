@@ -73,7 +73,7 @@ class Interrupt:
 
 def judged(steps: List[Step], expected: List[str]) -> List[str]:
     link = Socket(list(steps))
-    found: List[Item] = [*monitor.items(link, ["link"], False, [], None)]  # type: ignore[arg-type]
+    found: List[Item] = [*monitor.items(link, ["link"], False, [], 0, None)]  # type: ignore[arg-type]
     signs = [sign_of(it) for it in found if not isinstance(it, Note)][1:]
     said = [str(it) for it in found if isinstance(it, Loss)]
     wrong = [] if signs == expected else [f"{signs} for {expected}"]

@@ -34,6 +34,7 @@ import strace
 from answers import DONE, LINK, SEQ, Socket
 from case import Case
 from counting import counted, whole
+from kinds import Asked
 from output import LONGEST, Comment, Damaged, Item, Note
 
 SEED, CASE, SECONDS = 40, 1000, 5
@@ -87,7 +88,7 @@ def sorts() -> List[Sort]:
 
 def answers(file: BinaryIO) -> Iterator[Item]:
     """What is seen in an answer of the kernel."""
-    found = dump.Dump(Socket([]), "link", 0, SEQ)  # type: ignore[arg-type]
+    found = dump.Dump(Socket([]), Asked("link"), SEQ)  # type: ignore[arg-type]
     found.take(file.read())
     yield Comment(f"{found.end} {found.is_interrupted}")
 
