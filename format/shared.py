@@ -115,7 +115,7 @@ def groups(text: str, blocks: Blocks) -> str:
     return put_lines(r'(?<=tuple\("""\n).*?(?=\n"""\.split)', text, textwrap.fill(names, WIDTH))
 
 
-COMPLETED = "_rtnl _rtnl-record rtnl.bash rtnl.fish rtnl-record.bash rtnl-record.fish".split()
+COMPLETED = "_rtnl rtnl.bash rtnl.fish".split()
 FILES: Dict[str, Writer] = {
     **{f"share/completions/{it}": completions for it in COMPLETED},
     "include/rtnlc.h": header,
