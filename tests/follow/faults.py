@@ -6,6 +6,7 @@ import os
 import re
 import struct
 import subprocess
+import tempfile
 from itertools import islice
 
 import counting
@@ -63,13 +64,17 @@ class Faulty:
     def ran(self, command, fault=""):
         """The status, the output and the errors."""
         given = {**os.environ, "LD_PRELOAD": self.library, "FAULT": fault, "PIECE": str(PIECE)}
-        run = subprocess.run(
-            [PROGRAM, command, *self.form],
-            input=self.recording,
-            env=given if command == self.command else None,
-            capture_output=True,
-            text=True,
-        )
+        # A file, since what a read has of a pipe depends on who is faster.
+        with tempfile.TemporaryFile("w+") as recording:
+            recording.write(self.recording)
+            recording.seek(0)
+            run = subprocess.run(
+                [PROGRAM, command, *self.form],
+                stdin=recording,
+                env=given if command == self.command else None,
+                capture_output=True,
+                text=True,
+            )
         return run.returncode, run.stdout, run.stderr
 
     def is_as(self, fault, status, count, errors, more=""):
