@@ -130,8 +130,16 @@ def changed(edit: Edit, folder: str) -> Optional[Set[Function]]:
     return found
 
 
+def are_placed(edits: List[Edit], folder: str) -> bool:
+    """Whether these edits can be applied one after another."""
+    with contextlib.suppress(Misplaced):
+        return bool(applied(edits, folder))
+    return False
+
+
 def batches(edits: List[Edit], folder: str) -> List[List[Edit]]:
-    """The edits in as few parts as they need for no function to be changed twice in one."""
+    """The edits in as few parts as they need for no function to be changed twice in one, and for
+    none to put in what another looks for."""
     made: List[Tuple[List[Edit], Set[Function]]] = []
     alone = []
     for edit in edits:
@@ -139,7 +147,8 @@ def batches(edits: List[Edit], folder: str) -> List[List[Edit]]:
         if places is None:
             alone.append([edit])
             continue
-        part = next((it for it in made if not it[1] & places), None)
+        part = next((it for it in made
+                     if not it[1] & places and are_placed([*it[0], edit], folder)), None)
         if part is None:
             part = ([], set())
             made.append(part)
