@@ -226,9 +226,10 @@ class Trials:
         if not all(any(among(at, {it}) for at in every) for it in lost):
             return self.halves(edits, "changes what other functions are")
         found = {it.name for it, at in zip(edits, places) if all(among(it, lost) for it in at)}
-        for it in (it for it in edits if it.name not in found):
-            found |= self.refused([it])
-        return found
+        rest = [it for it in edits if it.name not in found]
+        if len(rest) == len(edits):
+            return self.halves(edits, "is not refused beside others")
+        return found | self.refused(rest) if rest else found
 
     def halves(self, edits: List[Edit], why: str) -> Set[str]:
         """Tries a part's halves, where it can't be judged whole."""
