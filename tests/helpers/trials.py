@@ -25,6 +25,9 @@ OF_CALLS = re.compile(r"(?:in `[^`]*`, of this cycle of calls: )?it \w+ (?:the b
 # in a cycle, whose proofs stand in one file, the goal's name begins with the function's.
 ANSWER = re.compile(r"(?:note: )?(?:\./)?proofs/(\S+)/\w+\.antt:\d+:\d+: error: `(\w+)")
 GOAL = re.compile(r"`(\w+)-[^`]*`")
+# Limits of the prover itself, which it meets wherever it checks the same: an edit is refused there.
+LIMITS = re.compile(r"antt ran out of (?:stack|the (?:steps|memory) that the check of one)"
+                    r"|(?:outgrew the memory limit|stopped at the step limit) \(")
 
 
 class Pair(NamedTuple):
@@ -58,7 +61,7 @@ class Misplaced(Exception):
 
 
 class Unread(Exception):
-    """What edits make can't be read by the front end: what it said."""
+    """A check of what edits make gives no verdict, as where it can't be read: what it said."""
 
 
 def edit_of(folder: str, name: str) -> Edit:
@@ -187,12 +190,15 @@ class Trials:
 
     def proves(self, command: List[str]) -> bool:
         """Whether the crate is proved as it stands, by this command."""
-        cwd = self.room if command == ["rt", "ci"] else self.folder
-        ran = subprocess.run(command, cwd=cwd, stdin=subprocess.DEVNULL, stdout=subprocess.PIPE,
-                             stderr=subprocess.STDOUT, text=True, errors="replace", check=False)
+        ran = self.ran(command, self.room if command == ["rt", "ci"] else self.folder)
         if ran.returncode:
             print(ran.stdout, end="", flush=True)
         return ran.returncode == 0
+
+    def ran(self, command: List[str], folder: str) -> "subprocess.CompletedProcess[str]":
+        return subprocess.run(command, cwd=folder, stdin=subprocess.DEVNULL,
+                              stdout=subprocess.PIPE, stderr=subprocess.STDOUT, text=True,
+                              errors="replace", check=False)
 
     def judged(self, edits: List[Edit]) -> Set[Function]:
         """What a check with these edits finds wrong, but for what only calls such a function."""
@@ -202,23 +208,27 @@ class Trials:
             for path, text in texts.items():
                 with open(f"{self.folder}/{path}", "w", encoding="utf-8") as file:
                     file.write(text)
-            ran = subprocess.run(["rt", "check"], cwd=self.folder, stdin=subprocess.DEVNULL,
-                                 stdout=subprocess.PIPE, stderr=subprocess.STDOUT, text=True,
-                                 errors="replace", check=False)
+            ran = self.ran(["rt", "check"], self.folder)
+            if ran.returncode < 0:
+                # Killed, most likely for memory.
+                ran = self.ran(["rt", "check", "--jobs", "1"], self.folder)
         finally:
             for path in texts:
                 shutil.copy(f"{self.source}/{path}", f"{self.folder}/{path}")
         lines = ran.stdout.splitlines()
+        lost = {*failures(lines)}
+        if not lost and LIMITS.search(ran.stdout):
+            return {Function("", "a limit of the prover")}
         if not any(it.startswith("logic=") for it in lines):
             raise Unread("\n".join(lines[:6]))
-        return {*failures(lines)}
+        return lost
 
     def refused(self, edits: List[Edit]) -> Set[str]:
         """Those of these edits, by name, that the prover refuses."""
         try:
             lost = self.judged(edits)
         except Unread as error:
-            return self.halves(edits, f"can't be read: {error}")
+            return self.halves(edits, f"has no verdict: {error}")
         if len(edits) == 1:
             return {edits[0].name} if lost else self.none(edits[0], "is still proved")
         places = [changed(it, self.source) or set() for it in edits]
