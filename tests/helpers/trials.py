@@ -1,7 +1,7 @@
-"""Tries the edits of a crate, many in one check. The prover judges each function by itself and says
-so in a line. So a check of a text with edits in several functions refuses those whose edit is
-wrong, and no other. An edit that isn't refused so, or changes something beside functions, is tried
-alone: then it is refused where any item is.
+"""Tries the edits of a crate, many in one check. The prover judges each function by itself, by its
+body and the contracts of what it calls, and says so in a line. So a check of a text with edits in
+the bodies of several functions refuses those whose edit is wrong. An edit that isn't refused so, or
+changes something beside bodies, is tried alone: then it is refused where any item is.
 """
 import contextlib
 import os
@@ -15,7 +15,7 @@ from crates import ROOT, Crates, below
 
 # The first line of a function that rt fmt laid out; its last one is a brace below its first word.
 HEAD = re.compile(r'( *)(?:pub(?:\(\w+\))? )?(?:const )?(?:unsafe )?(?:extern "C" )?fn (\w+)')
-IMPL = re.compile(r"impl(?:<[^>]*>)? (?:(\w+)\S* for )?(\w+)")
+IMPL = re.compile(r"impl(?:<([^>]*)>)? (?:(\w+)\S* for )?(\w+)")
 # What the prover says of an item, and the part of it that is said of what it calls.
 VERDICT = re.compile(r"(\w+) (\S+): (?:not proved|no proof)(?:[:;] (.*))?")
 OF_CALLS = re.compile(r"(?:in `[^`]*`, of this cycle of calls: )?it \w+ (?:the block )?`[^`]*`"
@@ -96,19 +96,33 @@ def applied(edits: List[Edit], folder: str) -> Texts:
     return texts
 
 
-def functions_of(text: str, module: str) -> Iterator[Tuple[Function, int, int]]:
-    """The functions of a text, with the offsets of the first character and behind the last."""
+def owner_of(line: str) -> str:
+    """What the functions of an impl are named by: its type, `Any` for any, and its trait."""
+    impl = IMPL.match(line)
+    if not impl:
+        return ""
+    any_type = impl[3] in re.split(r"\W+", impl[1] or "")
+    return f"{'Any' if any_type else impl[3]}{impl[2] or ''}"
+
+
+def bodies_of(text: str, module: str) -> Iterator[Tuple[Function, int, int]]:
+    """The bodies of a text's functions, from the brace that opens one to behind the last line."""
     at, begun, owner, head = 0, 0, module, None
     for line in text.splitlines(keepends=True):
         if line.startswith(("impl", "}")):
-            impl = IMPL.match(line)
-            owner = f"{impl[2]}{impl[1] or ''}" if impl else module
+            owner = owner_of(line) or module
         found = HEAD.match(line)
         if found:
-            head, begun = found, at
+            head, begun = found, 0
+        words = line.rstrip()
+        # The brace stands behind the head, or below its clauses.
+        if head and not begun and words.endswith("{") and (
+                found or words == f"{head[1]}{{" or words.startswith(f"{head[1]})")):
+            begun = at + len(words) - 1
         at += len(line)
-        if head and line.rstrip() in (f"{head[1]}}}", f"{head[1]}{{}}"):
-            yield Function(owner if head[1] else module, head[2]), begun, at
+        if head and words in (f"{head[1]}}}", f"{head[1]}{{}}"):
+            if begun:
+                yield Function(owner if head[1] else module, head[2]), begun, at
             head = None
 
 
@@ -119,14 +133,14 @@ def module_of(path: str) -> str:
 
 
 def changed(edit: Edit, folder: str) -> Optional[Set[Function]]:
-    """The functions that an edit changes; nothing where it changes something else too."""
+    """The functions whose bodies an edit changes; nothing where it changes something else too."""
     found = set()
     for path, old, _, _ in edit.pairs:
         with open(f"{folder}/{path}", encoding="utf-8") as text:
             whole = text.read()
         at = whole.find(old)
-        functions = functions_of(whole, module_of(path))
-        inside = [it for it, begin, end in functions if begin <= at < end]
+        bodies = bodies_of(whole, module_of(path))
+        inside = [it for it, begin, end in bodies if begin <= at < end]
         if at < 0 or not path.startswith("src/") or not inside:
             return None
         found.add(inside[0])
@@ -232,9 +246,6 @@ class Trials:
         if len(edits) == 1:
             return {edits[0].name} if lost else self.none(edits[0], "is still proved")
         places = [changed(it, self.source) or set() for it in edits]
-        every = set().union(*places)
-        if not all(any(among(at, {it}) for at in every) for it in lost):
-            return self.halves(edits, "changes what other functions are")
         found = {it.name for it, at in zip(edits, places) if all(among(it, lost) for it in at)}
         rest = [it for it in edits if it.name not in found]
         if len(rest) == len(edits):
