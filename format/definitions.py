@@ -111,5 +111,6 @@ FILES: Dict[str, Writer] = {
     "crates/rtnl/specs/Further.antt": further,
     "crates/rtnl/specs/NamedBits.antt": bits,
     "crates/rtnl/specs/Kernel.antt": kernel,
+    "crates/rtnl/specs/Structs.antt": rattle.structs,
     "crates/rtnl/specs/Types.antt": rattle.types,
 }

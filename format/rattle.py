@@ -116,15 +116,9 @@ def form(text: str, blocks: Blocks) -> str:
     return put_lines(r"(?:^ {12}\d+ => Form::[^\n]+,\n)+", text, lines)
 
 
-def head(struct: str) -> Writer:
-    """How many bytes the head of a family has."""
-    place = re.compile(r"(?:const SIZE: usize|ghost SIZE) = (?:\{ )?(?P<number>\d+)")
-    return lambda text, blocks: numbered(place, text, lambda it: int(blocks[struct].said["size"]))
-
-
 def structs(text: str, blocks: Blocks) -> str:
     """How many bytes each field has of the structs whose bytes are shown."""
-    parts = re.split(r"((?:const|fn) \w+)", text)
+    parts = re.split(r"((?:const|fn|pub) \w+)", text)
     for at in range(1, len(parts), 2):
         struct = blocks.get(parts[at].split()[1].lower().replace("_", "-"))
         if struct and struct.sort == "struct":
@@ -133,13 +127,11 @@ def structs(text: str, blocks: Blocks) -> str:
 
 
 def sized(text: str, sizes: Dict[str, int]) -> str:
-    field = re.compile(r'\("(?P<name>\w+)", (?P<number>\d+), ')
+    field = re.compile(r'\((?:codes )?"(?P<name>\w+)", (?P<number>\d+), ')
     return numbered(field, text, lambda it: sizes[it["name"]])
 
 
-HEADS = "ifinfomsg", "ifaddrmsg", "rtmsg", "ndmsg", "fib_rule_hdr"
 FILES: Dict[str, Writer] = {
-    **{f"crates/nl_route/src/{it}.rt": head(it.replace("_", "-")) for it in HEADS},
     "crates/nl_route/src/family.rt": family,
     "crates/nl_frame/src/form.rt": form,
     "crates/rtnl/src/names/families.rt": attributes,

@@ -15,6 +15,7 @@ sys.dont_write_bytecode = True
 HERE = os.path.dirname(os.path.realpath(__file__))
 sys.path[:0] = [HERE]
 import definitions
+import heads
 import packages
 import page
 import rattle
@@ -23,7 +24,7 @@ from named import Blocks, Writer, constants
 from rows import read
 
 ROOT = os.path.dirname(HERE)
-PARTS = page, packages, rattle, definitions, shared
+PARTS = page, packages, rattle, heads, definitions, shared
 # The files of crates/ that may have constants, and how these look.
 CONSTANTS = {"src/**/*.rt": rattle.CONSTANT, "specs/*.antt": definitions.CONSTANT}
 

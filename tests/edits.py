@@ -2,7 +2,7 @@
 """Tries the edits crates/NAME/edits/*.edit: each turns the meaning of a function, and the prover
 must refuse it. A file has a line 'file: src/lib.rt' and pairs of lines 'old: TEXT' and 'new: TEXT',
 each TEXT one line; the old one stands in that file once. Edits of different functions are tried in
-one check (helpers/trials.py).
+one check (helpers/trials.py), and up to three crates side by side.
 
   tests/edits.py         tries the edits of each crate whose line in tests/edits.lock is another
   tests/edits.py NAME..  tries those of these crates, whatever the lock says
@@ -16,8 +16,8 @@ The lock has a line for each crate: its name, how many edits it has, and a sum o
 depends on (docs/GATE.md says why): the kit; HANDLES; what crates.txt says of the crate and those
 below; its text, definitions, proofs and edits; of each crate below it the types and contracts, as
 the kit writes them into a built library, in the files that have a part in its interface; and the
-definitions and lemmas that these name, or that one of them names. So the libraries are built first,
-by rt ci or rt lib.
+definitions and lemmas that these name, or that one of them names. Lines of comments are left out.
+So the libraries are built first, by rt ci or rt lib.
 
 The last line is 'N passed, M failed'. The status is 1 where an edit was not refused or can't be
 applied, or the lock is not one, and 2 where this is called wrongly.
@@ -29,6 +29,7 @@ import re
 import subprocess
 import sys
 import tempfile
+from concurrent.futures import ThreadPoolExecutor
 from typing import Dict, Iterator, List, NamedTuple, Optional, Set, Tuple
 
 sys.dont_write_bytecode = True
@@ -42,6 +43,10 @@ LOCK = "tests/edits.lock"
 # A definition or a lemma where a text names it, in a file of the crate's folder specs/ or proofs/.
 NAMED = re.compile(r"\b(\w+)(?:\.|::)(specs|proofs)((?:(?:\.|::)\w+)+)")
 SUM = re.compile(r"[0-9a-f]{64}")
+# How many crates are tried at once: a check of a large one takes four gigabytes.
+MOST_AT_ONCE = 3
+# What a line of a comment begins with, which no proof reads, by the end of a file's name.
+COMMENT = {".rt": "//", ".antt": "--"}
 
 
 class Row(NamedTuple):
@@ -93,9 +98,15 @@ def reached(texts: List[str]) -> List[str]:
     while waiting:
         for it in {*cited(waiting.pop())} - found:
             found.add(it)
-            with open(f"{ROOT}/crates/{it}.antt", encoding="utf-8") as text:
-                waiting.append(text.read())
+            waiting.append(without_comments(f"{ROOT}/crates/{it}.antt"))
     return sorted(found)
+
+
+def without_comments(file: str) -> str:
+    """The text of a file but for its lines of comments."""
+    comment = COMMENT.get(os.path.splitext(file)[1])
+    with open(file, encoding="utf-8") as text:
+        return "".join(it for it in text if not comment or not it.lstrip().startswith(comment))
 
 
 def sum_of(crates: Crates, name: str) -> str:
@@ -109,12 +120,10 @@ def sum_of(crates: Crates, name: str) -> str:
         read += contracts(it)
     texts = []
     for path, file in read:
-        with open(file, encoding="utf-8") as text:
-            texts.append(text.read())
+        texts.append(without_comments(file))
         made.update(repr((path, texts[-1])).encode())
     for it in reached(texts):
-        with open(f"{ROOT}/crates/{it}.antt", encoding="utf-8") as text:
-            made.update(repr((it, text.read())).encode())
+        made.update(repr((it, without_comments(f"{ROOT}/crates/{it}.antt"))).encode())
     return made.hexdigest()
 
 
@@ -147,20 +156,21 @@ def write_lock(rows: Lock) -> None:
     os.replace(f"{ROOT}/{LOCK}.new", f"{ROOT}/{LOCK}")
 
 
-def tried(crates: Crates, name: str, given: argparse.Namespace) -> Tuple[int, List[str]]:
-    """Tries a crate's edits: in how many checks, and what failed."""
+def tried(crates: Crates, name: str, given: argparse.Namespace) -> List[str]:
+    """Tries a crate's edits, and returns what failed."""
+    print(f"trying the {len(edits_of(name))} edits of {name}", flush=True)
     command = ["rt", "check"] if given.over_checks else ["rt", "ci"]
     placed = [it for it in edits_of(name) if not misplaced(name, it)]
     edits = [edit_of(f"{ROOT}/crates/{name}", it) for it in placed]
     with tempfile.TemporaryDirectory(prefix="rtnl-edits-") as room:
         trials = Trials(crates, name, room)
         if not trials.proves(command):
-            return 0, [f"{' '.join(command)} does not prove {name}"]
+            return [f"{' '.join(command)} does not prove {name}"]
         good = set()
         for part in [[it] for it in edits] if given.singly else batches(edits, trials.source):
             good |= trials.refused(part)
-    lost = (it for it in edits_of(name) if it not in good)
-    return trials.checks, [f"crates/{name}/edits/{it} was not refused" for it in lost]
+    print(f"{name}: {len(good)} are refused, in {trials.checks} checks", flush=True)
+    return [f"crates/{name}/edits/{it} was not refused" for it in edits_of(name) if it not in good]
 
 
 def judge(crates: Crates, given: argparse.Namespace,
@@ -168,17 +178,16 @@ def judge(crates: Crates, given: argparse.Namespace,
     """Tries the edits of the crates with these sums: lines for the lock, and what failed."""
     rows: Lock = {}
     failed = []
-    for name, made in sums.items():
-        count = len(edits_of(name))
-        print(f"trying the {count} edits of {name}", flush=True)
-        checks, lost = tried(crates, name, given)
-        if checks:
-            print(f"{count - len(lost)} are refused, in {checks} checks", flush=True)
-        failed += lost
-        if sum_of(crates, name) != made:
-            failed.append(f"{name} was changed while its edits were tried: run this again")
-        elif not lost:
-            rows[name] = Row(count, made)
+    # The upper crates take longest.
+    names = [*sums][::-1]
+    with ThreadPoolExecutor(min(len(os.sched_getaffinity(0)), MOST_AT_ONCE)) as lanes:
+        answers = lanes.map(lambda it: tried(crates, it, given), names)
+        for name, lost in zip(names, answers):
+            failed += lost
+            if sum_of(crates, name) != sums[name]:
+                failed.append(f"{name} was changed while its edits were tried: run this again")
+            elif not lost:
+                rows[name] = Row(len(edits_of(name)), sums[name])
     return rows, failed
 
 

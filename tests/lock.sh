@@ -158,20 +158,20 @@ cp "$folder/edit" "$edit"
 # beside NAME TEXT: an edit that puts this text into the upper function, beside that of the lower.
 beside() { printf 'file: src/lib.rt\nold: at_most_ten(a) * TIMES\nnew: %s\n' "$2" >"$high/edits/$1.edit"; }
 beside thrice 'at_most_ten(a) * 3'
-check 'edits of two functions, in one check' says 0 '2 are refused, in 1 checks' '2 passed, 0 failed' -- high
+check 'edits of two functions, in one check' says 0 'high: 2 are refused, in 1 checks' '2 passed, 0 failed' -- high
 beside fourfold 'at_most_ten(a) * 4'
-check 'two edits of one function, in two' says 0 '3 are refused, in 2 checks' '3 passed, 0 failed' -- high
-check 'each by itself' says 0 '3 are refused, in 3 checks' '3 passed, 0 failed' -- high --singly
+check 'two edits of one function, in two' says 0 'high: 3 are refused, in 2 checks' '3 passed, 0 failed' -- high
+check 'each by itself' says 0 'high: 3 are refused, in 3 checks' '3 passed, 0 failed' -- high --singly
 rm "$high/edits/thrice.edit"
 beside fourfold 'at_most_ten(a) * 1'
 check 'one that is not refused beside one that is' says 1 'high/fourfold.edit is still proved' \
-  'FAILED crates/high/edits/fourfold.edit was not refused' '1 are refused, in 2 checks' -- high
+  'FAILED crates/high/edits/fourfold.edit was not refused' 'high: 1 are refused, in 2 checks' -- high
 beside fourfold 'at_most_ten(b) * 2'
 check 'one that is not read beside one that is refused' says 1 \
-  'FAILED crates/high/edits/fourfold.edit was not refused' '1 are refused, in 3 checks' -- high
+  'FAILED crates/high/edits/fourfold.edit was not refused' 'high: 1 are refused, in 3 checks' -- high
 rm "$high/edits/fourfold.edit"
 printf 'file: src/lib.rt\nold: u32 = 2;\nnew: u32 = 3;\n' >"$high/edits/thrice.edit"
-check 'one outside functions is tried alone' says 0 '2 are refused, in 2 checks' '2 passed, 0 failed' -- high
+check 'one outside functions is tried alone' says 0 'high: 2 are refused, in 2 checks' '2 passed, 0 failed' -- high
 rm "$high/edits/thrice.edit"
 
 # A body, a contract in a private file and a proof below are others, in the same public contracts: the edit stands by
@@ -183,10 +183,12 @@ check 'a body and a proof below' proves
 check 'a body and a proof below: the edit is not tried' says 0 "$stands" '1 passed, 0 failed' --
 check 'a body and a proof below: the edit is refused' says 0 "$tried" '1 passed, 0 failed' -- --all
 
-# A text of the crate itself is another.
+# A comment of the crate itself is another, and then a text of it.
 sed -i 's/^\/\/\/ A number of at most ten/\/\/\/ At most ten/' "$high/src/lib.rt"
+check 'a comment of the crate' says 0 "$stands" '1 passed, 0 failed' --
+sed -i 's/u32 = 2;/u32 = 1 + 1;/' "$high/src/lib.rt"
 check 'a text of the crate' says 0 "$tried" 'tests/edits.lock has other sums: tests/edits.py --update writes it' --
-sed -i 's/^\/\/\/ At most ten/\/\/\/ A number of at most ten/' "$high/src/lib.rt"
+sed -i 's/u32 = 1 + 1;/u32 = 2;/' "$high/src/lib.rt"
 
 # A contract below is another, by which the edit does no harm.
 sed -i 's/{ result ≤ b }/{ result ≤ 9 }/; s/^    if b < a .*/    a.min(b).min(9)/' "$low/src/lib.rt"

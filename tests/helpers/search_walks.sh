@@ -87,7 +87,7 @@ same 'lengths and types of attributes and next hops are read by the walkers alon
 crates/nl_attr/src/order.rt 3
 crates/nl_attr/src/views.rt 1
 crates/nl_attr/src/walk/mod.rt 2
-crates/nl_dump/src/sifting.rt 1
+crates/nl_dump/src/unread.rt 1
 crates/nl_frame/src/front.rt 1
 crates/nl_frame/src/header.rt 2
 crates/nl_route/src/ifinfomsg.rt 1
@@ -147,7 +147,7 @@ crates/nl_frame/src/taping.rt 1'
 
 same 'a datagram is scanned by the calls that are made for it, and in no reading' \
   "$(counts '\b(scan_datagram|tape_datagram|scan_messages|tape_(messages?|ordered|little|big|ample|front|frame|body|object))(::)?(<[^(]*>)?\(')" \
-  'crates/nl_dump/src/straining.rt 1
+  'crates/nl_dump/src/events.rt 1
 crates/nl_frame/src/scanning.rt 4
 crates/nl_frame/src/taping.rt 24
 crates/rtnl/src/bytes/tape.rt 1
@@ -161,8 +161,7 @@ visits += taped.counts.visits;'
 same 'the item at a place is sought by those who ask for one, and in no walk' \
   "$(counts '\b(attr_at|hop_at|message_at)\(')" \
   'crates/nl_attr/src/walk/cursors.rt 2
-crates/nl_dump/src/sifting.rt 1
-crates/nl_frame/src/building/copying.rt 2
+crates/nl_dump/src/unread.rt 1
 crates/nl_frame/src/front.rt 1
 crates/rtnl_c/src/cursors.rt 3
 crates/rtnl_cli/src/kinds.rt 1'
@@ -181,9 +180,9 @@ same 'calls that answer a tally' "$(counts '-> Tally<')" \
   'crates/nl_attr/src/fault.rt 2
 crates/nl_attr/src/reading.rt 2
 crates/nl_attr/src/scanning.rt 1
-crates/nl_dump/src/picking.rt 1
-crates/nl_dump/src/reading.rt 1
-crates/nl_dump/src/straining.rt 1
+crates/nl_dump/src/events.rt 1
+crates/nl_dump/src/items.rt 1
+crates/nl_dump/src/tables.rt 1
 crates/nl_frame/src/body.rt 3
 crates/nl_frame/src/reading.rt 3
 crates/nl_frame/src/scanning.rt 1
@@ -205,8 +204,7 @@ same 'each reading calls the one below it once' \
     grep -v rtnl_bench)" \
   'crates/nl_attr/src/reading.rt 4
 crates/nl_attr/src/stack/mod.rt 1
-crates/nl_dump/src/picking.rt 1
-crates/nl_dump/src/reading.rt 1
+crates/nl_dump/src/items.rt 1
 crates/nl_frame/src/canonical.rt 1
 crates/nl_frame/src/reading.rt 6
 crates/nl_mirror/src/mirror.rt 1
@@ -214,22 +212,31 @@ crates/nl_route/src/object.rt 4
 crates/rtnl/src/runs/mirror.rt 1
 crates/rtnl/src/runs/show.rt 2'
 
-same 'each family is read by one arm' "$(counts 'read_body_ordered \$')" 'crates/nl_route/src/family.rt 5'
+same 'all families are read by one arm of a macro' "$(counts 'read_body_ordered \$')" \
+  'crates/nl_route/src/family.rt 1'
 
 same 'a datagram is checked by a check alone' "$(counts '\bis_canonical\(')" \
   'crates/nl_frame/src/canonical.rt 1
 crates/rtnl/src/runs/check.rt 2
 crates/rtnl_c/src/check.rt 1'
 
-same 'a session adds the visits of each datagram that it takes, and nothing else' \
-  "$(lines 'self\.visits [-+*]?=|[^_a-z]take\($' crates/nl_dump/src/session.rt | sed 's/^[^:]*: *//')" \
-  'let Tally { result, visits } = take(
-self.visits += visits;'
+same 'a session hands on the visits of each datagram that it takes or refuses' \
+  "$(lines 'visits [-+*]?= |standing\.(take|refuse)\(|[^_a-z](read|read_items)\(' \
+    crates/nl_dump/src/session.rt | sed 's/^[^:]*: *//')" \
+  'let Tally { result, visits } = self.tables.read(self.alloc, limits, &dump, bytes);
+self.standing.take(dump, count, visits, &taken);
+self.standing.refuse(count, visits);'
+
+same 'the items of a datagram are read for a table once' \
+  "$(counts '[^_a-z]read_items\(')" \
+  'crates/nl_dump/src/items.rt 1
+crates/nl_dump/src/stream.rt 1
+crates/nl_dump/src/tables.rt 1'
 
 same 'a stream hands on the visits of each datagram that it takes or refuses, by either call' \
-  "$(lines 'visits [-+*]?= |standing\.(take|refuse)\(|[^_a-z](strain|read_items)\(' \
+  "$(lines 'visits [-+*]?= |standing\.(take|refuse)\(|[^_a-z](read_events|read_items)\(' \
     crates/nl_dump/src/stream.rt | sed 's/^[^:]*: *//')" \
-  'let Tally { result, visits } = strain(&self.standing.limits, &dump, bytes, out);
+  'let Tally { result, visits } = read_events(&self.standing.limits, &dump, bytes, out);
 self.standing.take(dump, count, visits, &taken);
 self.standing.refuse(count, visits);
 let Tally { result, visits } = read_items(alloc, &self.standing.limits, &dump, bytes);

@@ -22,7 +22,6 @@ pub mod Extents
 pub mod Means
 pub mod Writing
 pub mod Fitted
-pub mod Comparing
 pub mod Fronts
 pub mod Putting
 pub mod Taping

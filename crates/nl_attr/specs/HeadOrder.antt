@@ -1,4 +1,5 @@
--- The heads of a region in the order in which a scan comes to them, up to the fault that ends it, and the event of each.
+-- The headers of a region in the order in which a scan visits them, up to the first error; and the
+-- event of each.
 use Rattle.std.specs.Prelude.{◌≡◌, ◌<◌, ◌⊎◌, ◌+◌, ◌-◌, ◌%◌, ℕ, false, List, ◌++◌, length, take, drop, Option, Some, None}
 use Rattle.nl_attr.specs.Fixed.{NUMBERS, SORT_BYTES, SORT_LIST, SORT_HOPS, SORT_NEXT_HOP}
 use Rattle.nl_attr.specs.declared.fault.Fault.{Fault}
@@ -15,66 +16,68 @@ use Rattle.nl_attr.specs.Heads.{Sort, attr_head, hop_head, Head, content_at, uns
 use Rattle.nl_attr.specs.Grammar.{TrailOf, unless}
 use Rattle.nl_attr.specs.Grammar as grammar
 
--- ---- the heads in their order
+-- ---- the headers in their order
 
--- the heads of a region, and the fault behind them
+-- headers in the order of a scan, and the error that ends it
 abbrev pub Trail : Type 0
 Trail = TrailOf Head
 
 module _ (S : Shape) where
-  -- the heads of the region that begins with this one, and the fault that ends them
+  -- the trail of the region that begins with this header
   abbrev pub trail_of : Head → Trail
   trail_of = grammar.trail_of (heads S)
 
-  -- how many bytes the items of these heads occupy
+  -- how many bytes the items of these headers occupy
   abbrev pub visits_of : List Head → ℕ
   visits_of = grammar.visits_of (heads S)
 
-  -- a head, where its length is sound
+  -- the header alone, where its length is valid; else nothing
   abbrev pub counted : Head → List Head
   counted h = unless (unsound S h) h
 
-  -- what ends the heads: no head of the region breaks a rule, or this is the first fault
+  -- why a trail ends: no header of the region breaks a rule, or this is the first error
   abbrev pub IsEnd : Head → Option (ℕ × Reason) → Type 0
   IsEnd = grammar.IsEnd (heads S)
 
-  -- a head comes before that end: any head where there is no fault, else each before the fault, and the one there where its length is sound
+  -- A scan visits this header before that end. Without an error it visits each; else each before
+  -- the error, and the broken one too where its length is valid.
   abbrev pub ComesBefore : Option (ℕ × Reason) → Head → Type 0
   ComesBefore None h = Unit {0}
   ComesBefore (Some f) h = (h.place < f.0) ⊎ ((h.place ≡ f.0) × IsSound S h)
 
--- a fault as it is answered
+-- the error of a trail, as the code answers it
 abbrev pub fault_of : Option (ℕ × Reason) → Option Fault
 fault_of None = None
 fault_of (Some f) = Some (record { place = f.0; reason = f.1 })
 
 -- ---- their events
 
--- the sort of an attribute that holds this
+-- `Event::sort` of an attribute with this content
 abbrev pub sort_of : Content → ℕ
 sort_of content.Bytes = SORT_BYTES
 sort_of (content.List c) = SORT_LIST
 sort_of content.Hops = SORT_HOPS
 
--- the event of an attribute's head: its place, its level, its type and flags, the sort of what it holds, and how many bytes that has
+-- the event of an attribute: its offset, level, type and flags, its sort, and its payload's length
 abbrev pub attr_event : ℕ → ℕ → ℕ → AttrFlags → ℕ → ℕ → Event
 attr_event place l n flags sort len = record { place = place; len = len; number = n; level = l; sort = sort; nested = flags.nested; net = flags.net }
 
--- the event of a next hop's head: its place, its level, and how many bytes its attributes have
+-- the event of a next hop: its offset, its level, and how many bytes its attributes have
 abbrev pub hop_event : ℕ → ℕ → ℕ → Event
 hop_event place l len = record { place = place; len = len; number = 0; level = l; sort = SORT_NEXT_HOP; nested = false; net = false }
 
--- the event of a head, by its sort
+-- the event of a header of this kind
 abbrev pub event_at : Order → Sort → Head → Event
 event_at o attr_head h =
     let k = kind_of o h.left in
     attr_event h.place h.level (k % NUMBERS) (flags_of k) (sort_of (content_at o h.ctx h.left)) (length (payload_of o 4 2 h.left))
 event_at o hop_head h = hop_event h.place h.level (length (payload_of o 8 2 h.left))
 
--- the event of the head of an attribute or of a next hop
+-- the event of a header
 abbrev pub event_of : Order → Head → Event
 event_of o h = event_at o h.sort h
 
--- a buffer into which events are put from place n on, as far as it goes: what stood before them, as many of them as fit, and what stood behind them
+-- a buffer after events were put from index n on: what stood before them, as many of them as fit,
+-- and what stood behind them
 abbrev pub put_from : ℕ → List Event → List Event → List Event
 put_from n es old = take n old ++ (take (length old - n) es ++ drop (n + length es) old)

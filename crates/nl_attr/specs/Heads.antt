@@ -1,4 +1,5 @@
--- The heads of attributes and of next hops: which stand where, and what each breaks.
+-- The headers of attributes and of next hops: their fields, the rules that each must keep, and
+-- which stand where in a region.
 use Rattle.std.specs.Prelude.{◌≡◌, ◌≤◌, ◌+◌, ◌%◌, ℕ, nat_lt, if◌then◌else◌, List, drop, Option, Some, None}
 use Rattle.nl_attr.specs.Fixed.{LONGEST_CONTAINER, NUMBERS}
 use Rattle.nl_attr.specs.declared.fault.Reason.{Reason}
@@ -15,12 +16,13 @@ use Rattle.nl_attr.specs.Numbers.{len_of, kind_of, span_of}
 use Rattle.nl_attr.specs.Walk.{flags_of, broken_length, payload_of}
 use Rattle.nl_attr.specs.Tree.{holds_of}
 
--- the head of an attribute, rtattr of 4 bytes, or of a next hop, rtnexthop of 8
+-- the kind of a header: that of an attribute, rtattr of 4 bytes, or of a next hop, rtnexthop of 8
 pub data Sort : Type 0 where
   attr_head : Sort
   hop_head : Sort
 
--- a head at a place, with the bytes from there to the end of its region
+-- a header: its offset, its kind, its context, its nesting level, and the bytes from there to the
+-- end of its region
 pub record Head : Type 0 where
   pub place : ℕ
   pub sort : Sort
@@ -28,83 +30,86 @@ pub record Head : Type 0 where
   pub level : ℕ
   pub left : List ℕ
 
--- how many bytes a head of this sort has
+-- the size of a header of this kind, in bytes
 abbrev pub least : Sort → ℕ
 least attr_head = 4
 least hop_head = 8
 
--- the levels that a container opens
+-- how many levels a nested attribute opens
 abbrev pub opens : Content → ℕ
 opens content.Bytes = 0
 opens (content.List c) = 1
 opens content.Hops = 2
 
--- within a depth a region of such heads may stand at this level: each next hop opens one more
+-- a region of such headers may stand at this level, within this depth limit: the attributes of a
+-- next hop lie one level further down
 abbrev pub MayStand : ℕ → Sort → ℕ → Type 0
 MayStand depth attr_head l = l ≤ depth
 MayStand depth hop_head l = l + 1 ≤ depth
 
--- what the attribute at the front holds, by its context, its number and its flags
+-- what the attribute at the front holds, by its context, its type and its flags
 abbrev pub content_at : Order → Ctx → List ℕ → Content
 content_at o ctx left = holds_of ctx (kind_of o left % NUMBERS) (flags_of (kind_of o left))
 
--- the first rule where it is broken, else the second
+-- the first of two rules, where it is broken; else the second
 abbrev pub or_else : Option Reason → Option Reason → Option Reason
 or_else None s = s
 or_else (Some r) s = Some r
 
--- the first head of the region that a payload is, where the attribute holds one
+-- the first header in a payload, where the attribute holds attributes or next hops
 abbrev pub inner_in : Content → ℕ → ℕ → List ℕ → Option Head
 inner_in content.Bytes place l payload = None
 inner_in (content.List c) place l payload = Some (record { place = place; sort = attr_head; ctx = c; level = l; left = payload })
 inner_in content.Hops place l payload = Some (record { place = place; sort = hop_head; ctx = Route; level = l; left = payload })
 
--- the head at which a region begins
+-- the first header of a region of attributes
 abbrev pub start_of : Ctx → ℕ → ℕ → List ℕ → Head
 start_of ctx l place left = record { place = place; sort = attr_head; ctx = ctx; level = l; left = left }
 
 module _ (S : Shape) where
-  -- the rules of containers, in their order
+  -- the rules of nested attributes, in their order
   abbrev pub broken_container : ℕ → Content → ℕ → Option Reason
   broken_container l content.Bytes len = None
   broken_container l (content.List c) len = if nat_lt LONGEST_CONTAINER len then Some TooLong else (if nat_lt S.depth (l + 1) then Some TooDeep else None)
   broken_container l content.Hops len = if nat_lt LONGEST_CONTAINER len then Some TooLong else (if nat_lt S.depth (l + 2) then Some TooDeep else None)
 
-  -- the first rule that the head at the front of a region breaks
+  -- the first rule that the header at the front of these bytes breaks
   abbrev pub broken_in : Ctx → ℕ → Sort → List ℕ → Option Reason
   broken_in ctx l hop_head left = broken_length S.order 8 2 left
   broken_in ctx l attr_head left = or_else (broken_length S.order 4 2 left) (broken_container l (content_at S.order ctx left) (len_of S.order 2 left))
 
-  -- the first rule that a head breaks
+  -- the first rule that a header breaks
   abbrev pub broken : Head → Option Reason
   broken h = broken_in h.ctx h.level h.sort h.left
 
-  -- how many bytes the item of a head occupies, its padding as far as present
+  -- how many bytes the attribute or next hop of a header occupies, with its padding as far as
+  -- present
   abbrev pub span_at : Head → ℕ
   span_at h = span_of S.order 2 h.left
 
-  -- the rule of its length that a head breaks
+  -- the rule of lengths that a header breaks: Cut or BadLength
   abbrev pub unsound : Head → Option Reason
   unsound h = broken_length S.order (least h.sort) 2 h.left
 
-  -- its length is there and within bounds
+  -- the header is whole, and its length field is valid
   abbrev pub IsSound : Head → Type 0
   IsSound h = unsound h ≡ None
 
-  -- the head behind an item and its padding
+  -- the header behind the item of this one, and behind its padding
   abbrev pub follower : Head → Head
   follower h = record h { place = h.place + span_at h; left = drop (span_at h) h.left }
 
-  -- the first head of the region in the item at the front, where there is one
+  -- the first header nested in the item at the front, where it holds headers
   abbrev pub inner_at : Sort → ℕ → Ctx → ℕ → List ℕ → Option Head
   inner_at attr_head place ctx l left = inner_in (content_at S.order ctx left) (place + 4) (l + 1) (payload_of S.order 4 2 left)
   inner_at hop_head place ctx l left = inner_in (content.List Route) (place + 8) (l + 1) (payload_of S.order 8 2 left)
 
-  -- the first head inside an item, where it holds heads
+  -- the first header nested in the item of this one, where it holds headers
   abbrev pub inner_of : Head → Option Head
   inner_of h = inner_at h.sort h.place h.ctx h.level h.left
 
-  -- the heads of attributes and of next hops: what leads on, and what a walk counts, is a head whose length is sound
+  -- The grammar of attributes and next hops. A walk counts each header whose length is valid, and
+  -- can go on behind it.
   unfoldable pub heads : Grammar Head
   heads = record {
     place = λ h. h.place;
@@ -117,14 +122,14 @@ module _ (S : Shape) where
     inner = inner_of;
   }
 
-  -- the heads that stand in the region that begins with the first
+  -- the second header stands in the region that begins with the first
   abbrev pub HeadAt : Head → Head → Type 0
   HeadAt = grammar.HeadAt heads
 
-  -- a head at this place breaks a rule, and none that comes before it
+  -- a header at this offset breaks this rule, which is the first that it breaks
   abbrev pub FaultAt : Head → ℕ → Reason → Type 0
   FaultAt = grammar.FaultAt heads
 
-  -- no fault is at an earlier place
+  -- and no header at an earlier offset breaks any
   abbrev pub IsFirstFault : Head → ℕ → Reason → Type 0
   IsFirstFault = grammar.IsFirstFault heads

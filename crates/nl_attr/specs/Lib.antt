@@ -23,7 +23,6 @@ pub mod Written
 pub mod Proper
 pub mod Measured
 pub mod Writes
-pub mod Compared
 pub mod Broken
 pub mod HeadOrder
 pub mod Taped

@@ -144,7 +144,7 @@ region_at walk kept base level ctx = record { walk = walk; list = kept; base = b
 
 -- ---- where open regions lie
 
--- an open region: its place and level in the datagram, and what is left of it
+-- where an open region lies: its offset (base) and level in the datagram, and what is left of it
 pub record Spot : Type 0 where
   pub sort : Sort
   pub base : ℕ
@@ -194,11 +194,12 @@ pub record IsIn (S : Shape) (r : Room) (s : Spot) : Type 0 where
   pub inside : s.base + spot_end s ≤ r.to
   pub limits : IsWithinLimits S s
 
--- in the item that was read last: one level down, and before the place that its region has come to
+-- inside the item that was read last: one level down, and before the offset that the region has
+-- come to
 abbrev pub room_in : Spot → Room
 room_in s = record { level = s.level + 1; to = s.base + s.region.place }
 
--- the region of attributes in an entry of the stack
+-- where the region of attributes of a stack entry lies
 abbrev pub outer_spot : Outer → Spot
 outer_spot (outer.List w) = list_spot w.region
 outer_spot (outer.Hops w h) = list_spot w.region
@@ -262,7 +263,7 @@ NextMoves S s most (Ok (next.Opens f r)) = (outer_spot f ≡ s) × Holds S f × 
 NextMoves S s most (Ok (next.Goes r)) = (list_spot r ≡ s) × (next_work (next.Goes r) ≤ most)
 NextMoves S s most (Err e) = Unit {0}
 
--- a region lies where the entry says that waits for it
+-- a region lies where the stack entry that waits for it says
 pub record LiesUnder (S : Shape) (f : Outer) (r : ListRegion) : Type 0 where
   pub limits : IsWithinLimits S (outer_spot f)
   pub holds : Holds S f

@@ -1,4 +1,4 @@
--- Which lists can be written, and why others can't.
+-- Which attribute lists can be written (`IsProper`), and the error for any other (`IsRefused`).
 use Rattle.std.specs.Prelude.{◌<◌, ◌≤◌, ◌+◌, ◌⊎◌, ℕ, FitsSigned}
 use Rattle.std.specs.Int.{w32}
 use Rattle.nl_attr.specs.declared.fault.WriteError.{WriteError}
@@ -12,14 +12,14 @@ use Rattle.nl_attr.specs.Tree.{Val, bytes, list, hops, Items, no_items, item, Ho
 use Rattle.nl_attr.specs.Written.{val_len, items_len, hops_len}
 
 abbrev mutual
-  -- a value of another kind than its attribute holds, or one with such a value in it
+  -- a value that isn't what its attribute holds, or that has such a value inside
   pub IsMismatchedVal : Val → Content → Type 0
   IsMismatchedVal (bytes bs) content.Bytes = ⊥
   IsMismatchedVal (list is) (content.List c) = IsMismatched is c
   IsMismatchedVal (hops hs) content.Hops = IsMismatchedHops hs
   IsMismatchedVal v c = Unit {0}
 
-  -- some number has more than 14 bits, or some value is of another kind than its attribute holds
+  -- some type is 16,384 or more, or some value isn't what its attribute holds
   pub IsMismatched : Items → Ctx → Type 0
   IsMismatched no_items ctx = ⊥
   IsMismatched (item n flags v more) ctx = (NUMBERS ≤ n) ⊎ (IsMismatchedVal v (holds_of ctx n flags) ⊎ IsMismatched more ctx)
@@ -29,13 +29,13 @@ abbrev mutual
   IsMismatchedHops (hop flags count index attrs more) = IsMismatched attrs Route ⊎ IsMismatchedHops more
 
 abbrev mutual
-  -- a value that opens a level above the depth D, of an attribute at level l
+  -- a value that opens a level beyond the depth limit D, of an attribute at level l
   pub IsDeepVal : Val → ℕ → ℕ → Type 0
   IsDeepVal (bytes bs) l D = ⊥
   IsDeepVal (list is) l D = (D < l + 1) ⊎ IsDeep is (l + 1) D
   IsDeepVal (hops hs) l D = (D < l + 2) ⊎ IsDeepHops hs (l + 1) D
 
-  -- some container of a list at level l opens a level above the depth D
+  -- some nested attribute of a list at level l opens a level beyond the depth limit D
   pub IsDeep : Items → ℕ → ℕ → Type 0
   IsDeep no_items l D = ⊥
   IsDeep (item n flags v more) l D = IsDeepVal v l D ⊎ IsDeep more l D
@@ -72,20 +72,21 @@ abbrev mutual
 abbrev pub IsLong : Items → Type 0
 IsLong is = IsLongRegion (items_len is) ⊎ HasLong is
 
--- a list that can be written at level l where containers may open D levels
+-- a list that can be written, at level l under the depth limit D
 pub record IsProper (is : Items) (ctx : Ctx) (l D : ℕ) : Type 0 where
   pub matched : IsMismatched is ctx → ⊥
   pub shallow : IsDeep is l D → ⊥
   pub short : IsLong is → ⊥
 
--- the refusals of a writing in their order, each where none before it applies, and memory where none of them does
+-- the errors of a writing, in their order: each applies where none before it does, and Memory
+-- where none of the others does
 abbrev pub Refusal : Type 0 → Type 0 → Type 0 → WriteError → Type 0
 Refusal Mismatched Deep Long Mismatch = Mismatched
 Refusal Mismatched Deep Long TooDeep = (Mismatched → ⊥) × Deep
 Refusal Mismatched Deep Long TooLong = (Mismatched → ⊥) × (Deep → ⊥) × Long
 Refusal Mismatched Deep Long Memory = (Mismatched → ⊥) × (Deep → ⊥) × (Long → ⊥)
 
--- why a list is not written where containers may open D levels
+-- the error of writing a list under the depth limit D
 abbrev pub IsRefused : Items → Ctx → ℕ → WriteError → Type 0
 IsRefused is ctx D = Refusal (IsMismatched is ctx) (IsDeep is 0 D) (IsLong is)
 
@@ -96,7 +97,7 @@ abbrev mutual
   IsRangedVal (list is) = IsRanged is
   IsRangedVal (hops hs) = IsRangedHops hs
 
-  -- each index of an interface has 32 bits, as every one of the program has
+  -- each index of an interface has 32 bits, as those of values in memory have
   pub IsRanged : Items → Type 0
   IsRanged no_items = Unit {0}
   IsRanged (item n flags v more) = IsRangedVal v × IsRanged more
@@ -112,7 +113,7 @@ abbrev mutual
   IsSizedVal (list is) = IsSized is
   IsSizedVal (hops hs) = IsSizedHops hs
 
-  -- each number has 14 bits, and each length 16
+  -- each type has 14 bits, and each length 16, so that they fit their fields
   pub IsSized : Items → Type 0
   IsSized no_items = Unit {0}
   IsSized (item n flags v more) = (n < NUMBERS) × (4 + val_len v ≤ LONGEST_ITEM) × IsSizedVal v × IsSized more

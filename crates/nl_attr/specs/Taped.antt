@@ -1,4 +1,6 @@
--- What a scan of a region puts and counts, head by head and at its end.
+-- What a scan of a region puts into its buffer, and what it counts: after one header, after a run
+-- of attributes that hold bytes, and at its end. Only `HasRoom`, `IsTaped` and `found` are cited
+-- by public clauses.
 use Rattle.std.specs.Prelude.{◌≡◌, ◌≢◌, ◌≤◌, ◌<◌, ◌+◌, ◌-◌, ◌*◌, ◌%◌, ◌^◌, ℕ, List, [], ◌∷◌, length, map, drop, Option, Some, None, IfSome}
 use Rattle.nl_attr.specs.declared.events.Event.{Event}
 use Rattle.nl_attr.specs.declared.events.Room.{Room}
@@ -26,13 +28,13 @@ use Rattle.nl_attr.specs.Heads.{hop_head, Head, MayStand, start_of, broken, foll
 use Rattle.nl_attr.specs.Region.{head_of}
 use Rattle.nl_attr.specs.HeadOrder.{trail_of, event_of, put_from, counted, visits_of, fault_of}
 
--- the head with which a region of next hops begins
+-- the first header of a region of next hops
 abbrev pub hops_start : ℕ → ℕ → List ℕ → Head
 hops_start l place left = record { place = place; sort = hop_head; ctx = Route; level = l; left = left }
 
 -- ---- what stands at the front of a region
 
--- the attribute of this head, whose event says that it holds bytes
+-- an AttrFront of the program is the attribute with this header; its event says SORT_BYTES
 pub record IsAttrFront (o : Order) (h : Head) (a : AttrFront) : Type 0 where
   pub event : a.event ≡ record (event_of o h) { sort = SORT_BYTES }
   pub flags : a.flags ≡ flags_of (kind_of o h.left)
@@ -40,7 +42,7 @@ pub record IsAttrFront (o : Order) (h : Head) (a : AttrFront) : Type 0 where
   pub payload : a.payload.now ≡ payload_of o 4 2 h.left
   pub rest : head_of a.rest ≡ start_of h.ctx h.level (h.place + span_of o 2 h.left) (drop (span_of o 2 h.left) h.left)
 
--- the next hop of this head
+-- a HopFront of the program is the next hop with this header
 pub record IsHopFront (o : Order) (h : Head) (f : HopFront) : Type 0 where
   pub event : f.event ≡ event_of o h
   pub span : f.span ≡ span_of o 2 h.left
@@ -49,12 +51,15 @@ pub record IsHopFront (o : Order) (h : Head) (f : HopFront) : Type 0 where
 
 -- ---- room
 
--- of a buffer of so many places, where the next event is put at place `count` and so many bytes are left
+-- a buffer of so many entries has this room, where the next event goes to index `count` and so
+-- many bytes are left to scan
 abbrev pub HasRoom : Room → ℕ → ℕ → ℕ → Type 0
 HasRoom Ample count left places = 4 * count + left < 4 * places + 4
 HasRoom Unknown count left places = Unit {0}
 
--- the region that this head begins may be scanned: it may stand at its level, it ends within bounds, and so do its events, the next of which is put at this place of a buffer of so many
+-- What a scan assumes of the region that begins with this header: its level is within the depth
+-- limit, and its length, its end and its events are within bounds. `next` is the index of the next
+-- event, and `places` the length of the buffer.
 pub record MayScan (depth : ℕ) (kind : Room) (next places : ℕ) (start : Head) : Type 0 where
   pub level : MayStand depth start.sort start.level
   pub size : length start.left ≤ LONGEST_REGION
@@ -64,49 +69,53 @@ pub record MayScan (depth : ℕ) (kind : Room) (next places : ℕ) (start : Head
 
 -- ---- attributes that hold bytes
 
--- in both contexts every attribute holds the same
+-- in both contexts each type of attribute holds the same
 abbrev pub IsLike : Ctx → Ctx → Type 0
 IsLike c k = (n : ℕ) (f : AttrFlags) → holds_of c n f ≡ holds_of k n f
 
--- the item of this head has no head in it
+-- no header is nested in the item of this one
 abbrev pub HoldsNone : Shape → Head → Type 0
 HoldsNone S h = IfSome (inner_of S h) (λ k. k.left ≡ [])
 
--- these heads stand one behind the other, each sound and with no head in it, from the first head up to the last, which is not one of them
+-- these headers stand one behind another from the first one on, up to the last one, which is not
+-- among them; each is valid and has no other nested in it
 abbrev pub Passes : Shape → Head → List Head → Head → Type 0
 Passes S h [] g = h ≡ g
 Passes S h (k ∷ ks) g = (k ≡ h) × (h.left ≢ []) × (broken S h ≡ None) × HoldsNone S h × Passes S (follower S h) ks g
 
--- the head where so many bytes are left of its region
+-- the header further on in the same region, where these bytes are left
 abbrev pub head_with : Head → List ℕ → Head
 head_with h left = record h { place = h.place + (length h.left - length left); left = left }
 
--- attributes that hold bytes were passed, their events stand in the buffer from place `count` on, and this is left
+-- the result of the loop over leaves: it passed attributes, their events stand in the buffer from
+-- index `count` on, and `left` is left of the region
 pub record IsPassing (S : Shape) (h : Head) (count : ℕ) (old : List Event) (left : List ℕ) (n : ℕ) (new : List Event) : Type 0 where
   pub passed : List Head
   pub passes : Passes S h passed (head_with h left)
   pub counted : n ≡ count + length passed
   pub events : new ≡ put_from count (map (event_of S.order) passed) old
 
--- an attribute of this type, with so many bytes behind its head, is a list without a byte, and may stand at this level
+-- an attribute with this type field and a payload of len bytes is an empty nested attribute list,
+-- and may stand at this level
 abbrev pub IsEmptyList : Ctx → ℕ → ℕ → ℕ → ℕ → Type 0
 IsEmptyList c kind len l depth = (len ≡ 0) × (l + 1 ≤ depth) × ((k : Ctx) × (holds_of c (kind % NUMBERS) (flags_of kind) ≡ content.List k))
 
 -- ---- one step
 
--- these heads are added to what was counted, and their events to the buffer
+-- these headers are added to the counts, and their events to the buffer
 pub record Adds (S : Shape) (hs : List Head) (before after : Counts) (old new : List Event) : Type 0 where
   pub count : after.count ≡ before.count + length hs
   pub visits : after.visits ≡ before.visits + visits_of S hs
   pub events : new ≡ put_from before.count (map (event_of S.order) hs) old
 
--- heads that hold none are passed and added, and the last is what is left
+-- headers with none nested in them are passed and added, up to the header g, which is not
 pub record Skips (S : Shape) (h g : Head) (before after : Counts) (old new : List Event) : Type 0 where
   pub passed : List Head
   pub passes : Passes S h passed g
   pub adds : Adds S passed before after old new
 
--- where the head leads, that it is added where its length is sound, and what is left then
+-- The result of one step at a header: what it came to, what is left then, and the header is added
+-- where its length is valid.
 abbrev pub LeadsTo : Shape → Head → Counts → Counts → List Event → List Event → Head → Lead → Type 0
 LeadsTo S h before after old new rest lead.Ends = (h.left ≡ []) × (after ≡ before) × (new ≡ old)
 LeadsTo S h before after old new rest (lead.Fails r) = (h.left ≢ []) × (rest ≡ h) × (broken S h ≡ Some r) × Adds S (counted S h) before after old new
@@ -115,17 +124,18 @@ LeadsTo S h before after old new rest (lead.Opens inner) =
     (h.left ≢ []) × (broken S h ≡ None) × (inner_of S h ≡ Some (head_of inner)) × (rest ≡ follower S h)
     × Adds S (h ∷ []) before after old new
 
--- the same of a step
+-- the same of an Advance of the program
 abbrev pub Leads : Shape → Head → Counts → Counts → List Event → List Event → Advance → Type 0
 Leads S h before after old new s = LeadsTo S h before after old new (head_of s.rest) s.lead
 
 -- ---- a whole scan
 
--- what a scan found: the head of a fault, or none, and its counts
+-- the result of a scan: its broken header, if any, and its counts
 abbrev pub found : Option BrokenHead → Counts → Taped
 found b c = record { broken = b; count = c.count; visits = c.visits }
 
--- The events of the heads of the region up to its first fault stand in the buffer from place `count` on, and are counted. The head that is answered is that fault's.
+-- The result of a whole scan. The events of the region's headers up to its first error stand in
+-- the buffer from index `count` on, and are counted. The broken header is that of the error.
 pub record IsTaped (S : Shape) (start : Head) (count : ℕ) (old new : List Event) (t : Taped) : Type 0 where
   pub fault : fault_in t.broken ≡ fault_of (trail_of S start).1
   pub head : IfSome t.broken (λ b. IsBrokenHead S start b)

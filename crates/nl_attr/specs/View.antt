@@ -1,4 +1,5 @@
--- The tree that a value of the program stands for.
+-- The tree that a value of the program stands for: `Items` for a vector of `Attr`, `Val` for a
+-- `Value`, `HopItems` for a vector of `Hop`. Clauses speak of these trees.
 use Rattle.std.specs.Prelude.{List, [], ◌∷◌, map}
 use Rattle.nl_attr.specs.declared.tree.Value.{Value, fold-Value}
 use Rattle.nl_attr.specs.declared.tree.Value.TheOpen.{Value-F, Attr-F, Hop-F}
@@ -7,11 +8,11 @@ use Rattle.nl_attr.specs.declared.tree.Attr.{Attr}
 use Rattle.nl_attr.specs.declared.tree.Hop.{Hop}
 use Rattle.nl_attr.specs.Tree.{Val, bytes, list, hops, Items, no_items, item, HopItems, no_hops, hop}
 
--- the items with these before them
+-- an attribute, as the function that puts it in front of others
 abbrev pub Front : Type 0
 Front = Items → Items
 
--- the same of next hops
+-- a next hop, as the function that puts it in front of others
 abbrev pub HopFront : Type 0
 HopFront = HopItems → HopItems
 

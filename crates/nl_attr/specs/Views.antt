@@ -1,4 +1,5 @@
--- The first attribute of a number, and what its bytes are as a number or a text.
+-- The specification of views.rt: the first attribute of a type, and its payload as a number or a
+-- text. View.antt is something else: the tree that a value of the program stands for.
 use Rattle.std.specs.Prelude.{ℕ, ◌==◌, nat_lt, if◌then◌else◌, List, length, Option, Some, None}
 use Rattle.std.specs.List.{before_first}
 use Rattle.nl_attr.specs.declared.order.Order.{Order}
@@ -8,17 +9,17 @@ use Rattle.nl_attr.specs.Numbers.{number_of}
 use Rattle.nl_attr.specs.Tree.{Val, bytes, list, hops, Items, no_items, item}
 use Rattle.nl_attr.specs.View.{value_view}
 
--- one attribute without where it lies in memory
+-- an attribute, as clauses see it
 pub record Entry : Type 0 where
   pub number : ℕ
   pub flags : AttrFlags
   pub value : Val
 
--- an attribute of the program, as clauses see it
+-- the attribute that a value of the program stands for
 abbrev pub entry_of : Attr → Entry
 entry_of a = record { number = a.number; flags = a.flags; value = value_view a.value }
 
--- the first attribute of a number, and no other
+-- the first attribute of this type in a list, if there is one
 abbrev pub first_of : Items → ℕ → Option Entry
 first_of no_items number = None
 first_of (item n flags v more) number = if n == number then Some (record { number = n; flags = flags; value = v }) else first_of more number

@@ -15,29 +15,30 @@ use Rattle.nl_attr.specs.declared.order.Order.{Order}
 use Rattle.nl_attr.specs.Layout.{IsPiece}
 use Rattle.nl_attr.specs.Numbers.{number_of, len_of, kind_of, span_of}
 
--- bytes from a place on, to the end of their region, and the order of the numbers in them
+-- a position in a region: an offset, the bytes from there to the end, and their byte order
 pub record Region : Type 0 where
   pub order : Order
   pub place : ℕ
   pub left : List ℕ
 
 module _ (o : Order) where
-  -- the rules of a head of h bytes whose length field has w, in their order
+  -- the first rule of lengths that the header at the front breaks; it has h bytes, and begins with
+  -- a length field of w bytes
   abbrev pub broken_length : ℕ → ℕ → List ℕ → Option Reason
   broken_length h w left =
       if nat_lt (length left) h then Some Cut
       else (if nat_lt (len_of o w left) h || nat_lt (length left) (len_of o w left) then Some BadLength else None)
 
-  -- such a head stands at the front and its length is within bounds, or what it breaks
+  -- the header at the front, as the code answers it: its valid length field, or the rule it breaks
   abbrev pub HeadIs : ℕ → ℕ → List ℕ → Result ℕ Reason → Type 0
   HeadIs h w left (Ok len) = (broken_length h w left ≡ None) × (h ≤ length left) × (len ≡ len_of o w left) × (h ≤ len) × (len ≤ length left)
   HeadIs h w left (Err r) = broken_length h w left ≡ Some r
 
-  -- the signed number in the four bytes from place 4 on
+  -- rtnh_ifindex of the next hop at the front: the signed number in its bytes 4 to 7
   abbrev pub ifindex_of : List ℕ → ℤ
   ifindex_of left = cast_signed w32 (number_of o 4 (drop 4 left))
 
-  -- the bytes of an item behind its head of h bytes
+  -- the payload of the item at the front, behind its header of h bytes
   abbrev pub payload_of : ℕ → ℕ → List ℕ → List ℕ
   payload_of h w left = drop h (take (len_of o w left) left)
 
@@ -45,7 +46,7 @@ module _ (o : Order) where
 abbrev pub flags_of : ℕ → AttrFlags
 flags_of kind = record { nested = kind / NLA_F_NESTED == 1; net = kind / NLA_F_NET_BYTEORDER % 2 == 1 }
 
--- the part is the attribute at the front
+-- a Part of the program is the attribute at the front
 pub record IsPart (p : Part) (r : Region) : Type 0 where
   pub number : p.number ≡ kind_of r.order r.left % NUMBERS
   pub flags : p.flags ≡ flags_of (kind_of r.order r.left)
@@ -53,15 +54,15 @@ pub record IsPart (p : Part) (r : Region) : Type 0 where
   pub span : p.span ≡ span_of r.order 2 r.left
   pub payload : p.payload.now ≡ payload_of r.order 4 2 r.left
 
--- behind the item at the front and its padding
+-- the position behind the item at the front and its padding
 abbrev pub after : Region → Region
 after r = record r { place = r.place + span_of r.order 2 r.left; left = drop (span_of r.order 2 r.left) r.left }
 
--- at the end, as after a fault
+-- the position of a walk after an error: nothing is left
 abbrev pub ended : Region → Region
 ended r = record r { left = [] }
 
--- the part is the next hop at the front
+-- a HopPart of the program is the next hop at the front
 pub record IsHopPart (p : HopPart) (r : Region) : Type 0 where
   pub flags : p.flags ≡ slice_index r.left 2
   pub hops : p.hops ≡ slice_index r.left 3
@@ -70,20 +71,23 @@ pub record IsHopPart (p : HopPart) (r : Region) : Type 0 where
   pub span : p.span ≡ span_of r.order 2 r.left
   pub rest : p.rest.now ≡ payload_of r.order 8 2 r.left
 
--- a walk over items whose heads have h bytes, of which a part says what Is says
+-- A walk over items with headers of h bytes. It yields values of type P, and `Is` says that such a
+-- value is the item at the front.
 module _ {P : Type 0} (h : ℕ) (Is : P → Region → Type 0) where
-  -- one call: nothing is left, or the item at the front, or what is wrong there, and nothing after it
+  -- one step: nothing is left; or the item at the front; or the rule that its header breaks, and
+  -- then nothing is left
   abbrev pub Gives : Region → Option (Result P Fault) → Region → Type 0
   Gives old None new = (old.left ≡ []) × (new ≡ old)
   Gives old (Some (Ok p)) new = (old.left ≢ []) × HeadIs old.order h 2 old.left (Ok (len_of old.order 2 old.left)) × Is p old × (new ≡ after old)
   Gives old (Some (Err f)) new = (old.left ≢ []) × HeadIs old.order h 2 old.left (Err f.reason) × (f.place ≡ old.place) × (new ≡ ended old)
 
-  -- a look at the front: the item there, or the rule that its head breaks
+  -- the answer of reading the front: the item there, or the rule that its header breaks
   abbrev pub IsInFront : Region → Result P Fault → Type 0
   IsInFront r (Ok p) = HeadIs r.order h 2 r.left (Ok (len_of r.order 2 r.left)) × Is p r
   IsInFront r (Err f) = HeadIs r.order h 2 r.left (Err f.reason) × (f.place ≡ r.place)
 
-  -- what stands at a place of these bytes: nothing at their end or behind it, else the item there, or the rule that its head breaks
+  -- the answer of reading at an offset of these bytes: nothing from their end on; else the item
+  -- there, or the rule that its header breaks
   abbrev pub StandsAt : Order → List ℕ → ℕ → Option (Result P Fault) → Type 0
   StandsAt o bytes place None = length bytes ≤ place
   StandsAt o bytes place (Some (Ok p)) =
@@ -91,16 +95,17 @@ module _ {P : Type 0} (h : ℕ) (Is : P → Region → Type 0) where
       × Is p (record { order = o; place = place; left = drop place bytes })
   StandsAt o bytes place (Some (Err f)) = (place < length bytes) × (broken_length o h 2 (drop place bytes) ≡ Some f.reason) × (f.place ≡ place)
 
--- one call of a walk over attributes
+-- one step of a walk over attributes
 abbrev pub GivesPart : Region → Option (Result Part Fault) → Region → Type 0
 GivesPart = Gives 4 IsPart
 
--- one call of a walk over next hops
+-- one step of a walk over next hops
 abbrev pub GivesHop : Region → Option (Result HopPart Fault) → Region → Type 0
 GivesHop = Gives 8 IsHopPart
 
 module _ {P : Type 0} (h : ℕ) (Is : P → Region → Type 0) (o : Order) where
-  -- the parts are the pieces from this place on, then the end, or the fault of a region without a piece at its front
+  -- All that a walk yields from this offset on: the pieces of the bytes, in order. It ends with
+  -- the bytes, or with the error of a front that is no piece.
   abbrev pub IsWalk : ℕ → List ℕ → List (Result P Fault) → Type 0
   IsWalk place left [] = left ≡ []
   IsWalk place left (Ok p ∷ ps) =
@@ -108,7 +113,7 @@ module _ {P : Type 0} (h : ℕ) (Is : P → Region → Type 0) (o : Order) where
       × IsWalk (place + length item + length pad) rest ps
   IsWalk place left (Err f ∷ ps) = (left ≢ []) × (f.place ≡ place) × (broken_length o h 2 left ≡ Some f.reason) × (ps ≡ [])
 
--- the bytes that the items occupy
+-- how many bytes the items that a walk yielded occupy
 abbrev pub spans_of : {P : Type 0} → (P → ℕ) → List (Result P Fault) → ℕ
 spans_of span [] = 0
 spans_of span (Ok p ∷ ps) = span p + spans_of span ps
@@ -120,7 +125,7 @@ pub record LiesIn (bytes : List ℕ) (h place span : ℕ) (payload : List ℕ) :
   pub holds : h + length payload ≤ span
   pub part : payload ≡ take (length payload) (drop (place + h) bytes)
 
--- each item that was handed out lies so
+-- each item that a walk yielded has this property
 abbrev pub EachLies : {P : Type 0} → (P → Type 0) → List (Result P Fault) → Type 0
 EachLies Lies [] = Unit {0}
 EachLies Lies (Ok p ∷ ps) = Lies p × EachLies Lies ps
@@ -130,12 +135,12 @@ EachLies Lies (Err f ∷ ps) = EachLies Lies ps
 pub record IsWalkOver {P : Type 0} (h : ℕ) (Is : P → Region → Type 0) (place_of spanned : P → ℕ) (payload : P → List ℕ)
     (o : Order) (bytes : List ℕ) (w : Region) : Type 0 where
   pub start : w ≡ record { order = o; place = 0; left = bytes }
-  -- what comes is the pieces of the bytes in their order, then the fault of what is no piece
+  -- drained, it yields the pieces of the bytes in order, and then the error of what is no piece
   pub walk : (parts : List (Result P Fault)) → Drains (Gives h Is) w parts → IsWalk h Is o 0 bytes parts
   -- they lie in the bytes, and so do their payloads
   pub inside : (parts : List (Result P Fault)) (rest : Region) → Yields (Gives h Is) w parts rest
       → EachLies (λ p. LiesIn bytes h (place_of p) (spanned p) (payload p)) parts
-  -- where the walk stands then is the sum of their spans
+  -- its offset at any time is the sum of the spans that it has yielded
   pub seen : (parts : List (Result P Fault)) (rest : Region) → Yields (Gives h Is) w parts rest → rest.place ≡ spans_of spanned parts
 
 -- a walk over the attributes of these bytes
@@ -146,7 +151,7 @@ IsAttrsOver = IsWalkOver 4 IsPart (λ p. p.place) (λ p. p.span) (λ p. p.payloa
 abbrev pub IsHopsOver : Order → List ℕ → Region → Type 0
 IsHopsOver = IsWalkOver 8 IsHopPart (λ p. p.place) (λ p. p.span) (λ p. p.rest.now)
 
--- the bytes that one item occupies, if there is one
+-- how many bytes one step's item occupies; 0 where the step yields none
 abbrev pub span_given : {P : Type 0} → (P → ℕ) → Option (Result P Fault) → ℕ
 span_given span None = 0
 span_given span (Some (Ok p)) = span p

@@ -1,4 +1,7 @@
-//! Lists appended to bytes that have room for them.
+//! Appending an attribute list to a vector that has room for it already.
+//!
+//! No function here fails or allocates: `measuring` has computed the length, and has checked that
+//! the list can be written.
 
 ghost use Rattle.std.specs.Prelude.{◌≡◌, ◌≤◌, ◌<◌, ◌+◌, ◌-◌, ◌++◌, ◌∷◌, length};
 ghost use Rattle.std.specs.Prelude.{take, drop, vec_len, vec_capacity, FitsSigned};
@@ -17,7 +20,7 @@ use crate::order::Order;
 use crate::tree::{Attr, AttrFlags, Hop, NLA_F_NESTED, NLA_F_NET_BYTEORDER, Value};
 use crate::walk::align4;
 
-/// Appends bytes for which there is room. It takes no memory.
+/// Appends bytes to a vector that has room for them. It takes no memory.
 pub fn append_bytes(out: &mut Vec<u8>, bytes: &[u8])
     requires { vec_len out.old + length bytes.now ≤ vec_capacity out.old }
     ensures items { out.new.items ≡ out.old.items ++ bytes.now }
@@ -27,7 +30,7 @@ pub fn append_bytes(out: &mut Vec<u8>, bytes: &[u8])
     let _done = out.extend_from_slice(bytes);
 }
 
-/// The type field of an attribute.
+/// The type field of an attribute, `rta_type`: its type with its two flag bits.
 pub(crate) fn kind_field(number: u16, flags: AttrFlags) -> u16
     requires { number < fixed.NUMBERS }
     ensures { result ≡ kind_number number flags }
@@ -37,7 +40,7 @@ pub(crate) fn kind_field(number: u16, flags: AttrFlags) -> u16
     number + net + nested
 }
 
-/// Appends the head of an attribute, its length still 0.
+/// Appends the header of an attribute, with 0 for its length. `close_item` sets the length.
 fn put_attr_head(out: &mut Vec<u8>, order: Order, number: u16, flags: AttrFlags)
     requires number { number < fixed.NUMBERS }
     requires space { vec_len out.old + 4 ≤ vec_capacity out.old }
@@ -51,7 +54,7 @@ fn put_attr_head(out: &mut Vec<u8>, order: Order, number: u16, flags: AttrFlags)
     append_bytes(out, &kind);
 }
 
-/// Appends the head of a next hop, its length still 0.
+/// Appends the header of a next hop, with 0 for its length. `close_item` sets the length.
 fn put_hop_head(out: &mut Vec<u8>, order: Order, flags: u8, hops: u8, ifindex: &i32)
     requires { vec_len out.old + 8 ≤ vec_capacity out.old }
     ensures items { out.new.items
@@ -65,7 +68,8 @@ fn put_hop_head(out: &mut Vec<u8>, order: Order, flags: u8, hops: u8, ifindex: &
     append_bytes(out, &index);
 }
 
-/// Writes the length of the item that begins at `start` into its first two bytes, and pads it.
+/// Ends the attribute or next hop that begins at `start`: writes its length into its first two
+/// bytes, and pads it with zeros to a multiple of 4.
 #[tactic(auto, using(crate::proofs::Lemmas::Lengths::closing))]
 fn close_item(out: &mut Vec<u8>, order: Order, start: usize)
     requires begun { start + 2 ≤ vec_len out.old }
@@ -82,6 +86,7 @@ fn close_item(out: &mut Vec<u8>, order: Order, start: usize)
     let _done = out.resize(start + align4(len as u32) as usize, 0);
 }
 
+/// Appends the value of an attribute: its bytes, its attributes or its next hops.
 #[cycle(appending)]
 fn append_value(value: &Value, order: Order, out: &mut Vec<u8>)
     requires sized { IsSizedVal (value_view value.now) }
@@ -97,6 +102,7 @@ fn append_value(value: &Value, order: Order, out: &mut Vec<u8>)
     }
 }
 
+/// Appends an attribute: its header, its value and its padding.
 #[cycle(appending)]
 fn append_attr(attr: &Attr, order: Order, out: &mut Vec<u8>)
     requires number { attr.now.number < fixed.NUMBERS }
@@ -115,10 +121,11 @@ fn append_attr(attr: &Attr, order: Order, out: &mut Vec<u8>)
     close_item(out, order, start);
 }
 
-/// Appends a list, each attribute with its padding, numbers in this order. It takes no memory: the
-/// list has been measured, and there is room for its length.
+/// Appends an attribute list in this byte order, each attribute with its padding. It takes no
+/// memory: `measure` has accepted the list, and `out` has room for its length.
 ///
-/// The length of a container is filled in once its last byte stands, so nothing is measured again.
+/// The length of a nested attribute is written once its last byte is, so nothing is measured
+/// again.
 #[cycle(appending)]
 pub fn append_list(attrs: &[Attr], order: Order, out: &mut Vec<u8>)
     requires sized { IsSized (attrs_view attrs.now) }
@@ -126,7 +133,7 @@ pub fn append_list(attrs: &[Attr], order: Order, out: &mut Vec<u8>)
     ensures items { out.new.items ≡ out.old.items ++ written order (attrs_view attrs.now) }
     ensures len { vec_len out.new ≡ vec_len out.old + items_len (attrs_view attrs.now) }
     ensures room { vec_capacity out.old ≤ vec_capacity out.new }
-    // What a list of the program holds is in the range of its types.
+    // Each number of a list in memory is in the range of its Rust type.
     ensures ranged { IsRanged (attrs_view attrs.now) }
 {
     for attr in attrs {
@@ -134,6 +141,7 @@ pub fn append_list(attrs: &[Attr], order: Order, out: &mut Vec<u8>)
     }
 }
 
+/// Appends a next hop: its header, its attributes and its padding.
 #[cycle(appending)]
 fn append_hop(hop: &Hop, order: Order, out: &mut Vec<u8>)
     requires short { 8 + items_len (attrs_view (out-Hop hop.now).attrs.items) ≤ fixed.LONGEST_ITEM }
@@ -153,6 +161,7 @@ fn append_hop(hop: &Hop, order: Order, out: &mut Vec<u8>)
     close_item(out, order, start);
 }
 
+/// Appends next hops, one behind another.
 #[cycle(appending)]
 fn append_hops(hops: &[Hop], order: Order, out: &mut Vec<u8>)
     requires sized { IsSizedHops (hops_view hops.now) }

@@ -1,4 +1,4 @@
-//! The head that breaks a rule, at which a scan ends.
+//! The broken header at which a scan ends, with what an error message needs of it.
 
 ghost use Rattle.std.specs.Prelude.{◌≡◌, ◌≤◌, length};
 ghost use Rattle.nl_attr.specs.Fixed as fixed;
@@ -13,38 +13,40 @@ use crate::region::{OpenRegion, Parts};
 use crate::tree::NUMBERS;
 use crate::walk::kind_at;
 
-/// What kind of head it is.
+/// The kind of a header.
 #[derive(Clone, Copy, Debug, PartialEq, Eq, Hash)]
 pub enum HeadKind {
     /// The header of a message, `nlmsghdr` of netlink(7): 16 bytes.
     Message,
-    /// The head of an attribute, `rtattr` of rtnetlink(7): 4 bytes.
+    /// The header of an attribute, `rtattr` of rtnetlink(7): 4 bytes.
     Attribute,
-    /// The head of a next hop, `rtnexthop`: 8 bytes.
+    /// The header of a next hop, `rtnexthop` of linux/rtnetlink.h: 8 bytes.
     NextHop,
 }
 
-/// A head that breaks a rule.
+/// A header that breaks a rule.
 #[derive(Clone, Copy, Debug, PartialEq, Eq, Hash)]
 pub struct BrokenHead {
-    /// Its place, and the rule.
+    /// Its offset, and the rule.
     pub fault: Fault,
+    /// Its kind.
     pub kind: HeadKind,
-    /// How many levels of attributes it lies in: 0 for a message and for the attributes of its
-    /// body. A list in an attribute is a level, next hops are one, and their attributes the next.
+    /// Its nesting level: 0 for a message, and for the attributes of its body. A nested list is
+    /// one level further down. So are next hops, and their attributes are two.
     pub level: u8,
-    /// The type of a message, or that of an attribute without its two flag bits; none of a next
-    /// hop, and where fewer bytes are left than the head has.
+    /// The type of a message, or that of an attribute without its two flag bits. `None` for a next
+    /// hop, and for a truncated header.
     pub number: Option<u16>,
-    /// The length that it says, in bytes; none where fewer bytes are left than it has.
+    /// The value of its length field, in bytes, which counts the header too. `None` for a
+    /// truncated header.
     pub len: Option<u32>,
-    /// How many bytes there are from its place to the end of its region: of the datagram for a
-    /// message.
+    /// How many bytes there are from its offset to the end of its region. A message's region is
+    /// the datagram.
     pub left: u32,
 }
 
 impl Parts {
-    /// How many bytes each head has.
+    /// The size of the headers in such a region, in bytes.
     fn head_size(self) -> usize
         ensures { result ≡ least (sort_in self) }
     {
@@ -54,7 +56,7 @@ impl Parts {
         }
     }
 
-    /// What kind of head each has.
+    /// The kind of the headers in such a region.
     fn head_kind(self) -> HeadKind
         ensures { result ≡ head_kind (sort_in self) }
     {
@@ -64,7 +66,8 @@ impl Parts {
         }
     }
 
-    /// The type that the head at the front says.
+    /// The type of the attribute at the front of `left`, without its flag bits. `None` for a next
+    /// hop, and for a truncated header.
     fn number_at(self, left: &[u8], order: Order) -> Option<u16>
         ensures { result ≡ number_said order (sort_in self) left.now }
     {
@@ -82,8 +85,10 @@ impl Parts {
 }
 
 impl OpenRegion<'_> {
-    /// The head at the front, which breaks this rule. A scan comes here once: a function of its own
-    /// keeps the registers of its loop free.
+    /// Describes the header at the front, which breaks the rule `reason`.
+    ///
+    /// A scan calls this once, at its end. It isn't inlined: that keeps registers free in the
+    /// loop.
     #[inline(never)]
     pub(crate) fn broken(self, reason: Reason, shape: Shape) -> BrokenHead
         requires { length self.left.now ≤ fixed.LONGEST_REGION }

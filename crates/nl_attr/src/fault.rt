@@ -1,4 +1,6 @@
-//! What reading and writing refuse, and what they answer beside their results.
+//! The errors of reading and writing, and `Tally`, a result with the number of bytes visited.
+//!
+//! Each error has a number, its `code`, which is its number in the C library too.
 
 ghost use Rattle.std.specs.Prelude.{◌≡◌, IsOkAnd, IsErrAnd, MatchResult, Ok, Err};
 ghost use Rattle.std.specs.Result.{ForErr, ForOk};
@@ -6,22 +8,22 @@ ghost use Rattle.std.specs.Result.{ForErr, ForOk};
 use std::alloc::{AllocError, AllocFailed};
 use thiserror::Error;
 
-/// The rule that a head breaks.
+/// The rule that a header breaks: a message's, an attribute's or a next hop's.
 #[derive(Clone, Copy, Debug, PartialEq, Eq, Hash, Error)]
 pub enum Reason {
-    /// Fewer bytes are left in the region than a head has.
+    /// Truncated: fewer bytes are left in the region than a header has.
     #[error("cut")]
     Cut,
-    /// The length field is below the head's size, or above the bytes that are left.
+    /// The length field is less than the header's size, or more than the bytes that are left.
     #[error("bad length")]
     BadLength,
-    /// The payload of a message is shorter than the head of its type.
+    /// The payload of a message is shorter than the family header of its type, as `ifinfomsg`.
     #[error("short body")]
     ShortBody,
-    /// A container has more than 65,532 bytes, so its aligned length would not fit its field.
+    /// A nested attribute has more than 65,532 bytes, so its aligned length doesn't fit its field.
     #[error("too long")]
     TooLong,
-    /// A container opens a level above the depth limit.
+    /// A nested attribute opens a level beyond the depth limit.
     #[error("too deep")]
     TooDeep,
 }
@@ -29,7 +31,7 @@ pub enum Reason {
 impl Reason {
     ghost use Rattle.nl_attr.specs.Codes.{reason_code};
 
-    /// The number of this refusal: 1 to 5, in the order of the variants.
+    /// The error's number: 1 to 5, in the order of the variants.
     pub fn code(self) -> u8
         ensures { result ≡ reason_code self }
     {
@@ -43,19 +45,20 @@ impl Reason {
     }
 }
 
-/// A broken rule, and the place of the head that breaks it: an offset in bytes from where reading
-/// began, plus the base that was handed in.
+/// A header that breaks a rule: the rule, and the header's offset.
 #[derive(Clone, Copy, Debug, PartialEq, Eq, Hash, Error)]
 #[error("{reason} at {place}")]
 pub struct Fault {
+    /// The offset of the header, in bytes from where reading began, plus the `base` of the call.
     pub place: u32,
+    /// The rule.
     pub reason: Reason,
 }
 
 impl Fault {
     ghost use Rattle.nl_attr.specs.Codes.{fault_code};
 
-    /// The number of its reason.
+    /// The error's number: that of its reason.
     pub fn code(self) -> u8
         ensures { result ≡ fault_code self }
     {
@@ -63,13 +66,13 @@ impl Fault {
     }
 }
 
-/// Why a list of attributes was not read.
+/// The error of a reading.
 #[derive(Clone, Copy, Debug, PartialEq, Eq, Hash, Error)]
 pub enum ListError {
-    /// The first fault of the region.
+    /// A header breaks a rule. It is the first one that does.
     #[error("{0}")]
     Layout(Fault),
-    /// A growth was refused. It comes in place of whatever would come later.
+    /// An allocation failed. What stands behind the attribute that was read then isn't validated.
     #[error("out of memory")]
     Memory,
 }
@@ -77,7 +80,7 @@ pub enum ListError {
 impl ListError {
     ghost use Rattle.nl_attr.specs.Codes.{list_code};
 
-    /// The number of this refusal: that of the fault's reason, or 13.
+    /// The error's number: that of the broken rule, or 13 for memory.
     pub fn code(self) -> u8
         ensures { result ≡ list_code self }
     {
@@ -108,20 +111,20 @@ impl<T: Drop> From<AllocFailed<T>> for ListError {
     }
 }
 
-/// Why a list of attributes was not written.
+/// The error of a writing. Of several that apply it is the first, in the order of the variants.
 #[derive(Clone, Copy, Debug, PartialEq, Eq, Hash, Error)]
 pub enum WriteError {
-    /// The number of an attribute is 16,384 or more, or its value is of another kind than its
-    /// context, number and flags say.
+    /// An attribute's type is 16,384 or more. Or its value isn't what its context, type and flags
+    /// say that it holds: bytes, attributes or next hops.
     #[error("mismatch")]
     Mismatch,
-    /// A container opens a level above the depth limit.
+    /// A nested attribute opens a level beyond the depth limit.
     #[error("too deep")]
     TooDeep,
     /// An attribute or a next hop has more than 65,535 bytes, or a region more than 1,048,576.
     #[error("too long")]
     TooLong,
-    /// A growth was refused. It comes after all others.
+    /// An allocation failed. All other rules hold.
     #[error("out of memory")]
     Memory,
 }
@@ -129,7 +132,7 @@ pub enum WriteError {
 impl WriteError {
     ghost use Rattle.nl_attr.specs.Codes.{write_code};
 
-    /// The number of this refusal: 11, 5, 4 or 13, in the order of the variants.
+    /// The error's number: 11, 5, 4 or 13, in the order of the variants.
     pub fn code(self) -> u8
         ensures { result ≡ write_code self }
     {
@@ -152,13 +155,13 @@ impl From<AllocError> for WriteError {
     }
 }
 
-/// A limit out of its range.
+/// The error for a limit out of its range.
 #[derive(Clone, Copy, Debug, PartialEq, Eq, Hash, Error)]
 #[error("a limit out of its range")]
 pub struct LimitFault;
 
 impl LimitFault {
-    /// The number of this refusal: 12.
+    /// The error's number: 12.
     pub fn code(self) -> u8
         ensures { result ≡ 12 }
     {
@@ -166,22 +169,25 @@ impl LimitFault {
     }
 }
 
-/// A name that is none of those that can stand there.
+/// The error of parsing a name: it is none of the known ones.
 #[derive(Clone, Copy, Debug, PartialEq, Eq, Hash, Error)]
 #[error("unknown name")]
 pub struct UnknownName;
 
-/// What a call answers, and how many attribute bytes it visited: the spans of the attributes and
-/// next hops that walkers handed out, on a refusal too. It can't be let go: it is taken apart, or
-/// ended by `into_result`, so that no visits are lost without a word.
+/// A call's result, and how many bytes it visited.
+///
+/// A value of this type can't be dropped, so that no caller forgets to count visits. Take it
+/// apart, or call `into_result`.
 #[derive(Debug, PartialEq, Eq)]
 pub struct Tally<T, E> {
     pub result: Result<T, E>,
+    /// The sum of the spans, in bytes, of the attributes and next hops that were visited: those up
+    /// to the error, where there is one.
     pub visits: u64,
 }
 
 impl<T, E> Tally<T, E> {
-    /// The answer alone, for callers that count no visits.
+    /// The result alone, for callers that don't count visits.
     pub fn into_result(self) -> Result<T, E>
         ensures { result ≡ self.result }
     {
@@ -189,7 +195,7 @@ impl<T, E> Tally<T, E> {
         result
     }
 
-    /// What was read, made into something else, with the same visits. A refusal stays as it is.
+    /// Applies `make` to the value, as `Result::map` does. The visits stay the same.
     pub fn map<U, F: FnOnce(T) -> U>(self, make: F) -> Tally<U, E>
         requires { ForOk self.result (F.pre make) }
         ensures cases { MatchResult self.result
@@ -203,7 +209,7 @@ impl<T, E> Tally<T, E> {
         }
     }
 
-    /// The refusal made into another one, with the same visits. What was read stays as it is.
+    /// Applies `make` to the error, as `Result::map_err` does. The visits stay the same.
     pub fn map_err<O, F: FnOnce(E) -> O>(self, make: F) -> Tally<T, O>
         requires { ForErr self.result (F.pre make) }
         ensures cases { MatchResult self.result (λ x. result.result ≡ Ok x)

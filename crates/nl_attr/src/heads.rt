@@ -1,4 +1,4 @@
-//! The bytes of the heads of attributes and next hops.
+//! Encodes the headers of attributes and of next hops.
 
 ghost use Rattle.std.specs.Prelude.{◌≡◌, ◌<◌, ◌∷◌, ◌++◌};
 ghost use Rattle.std.specs.Int.{w32, cast_unsigned};
@@ -10,8 +10,8 @@ use crate::appending::kind_field;
 use crate::order::Order;
 use crate::tree::AttrFlags;
 
-/// The head of an attribute, `rtattr`: its length in bytes, and its number with its two flag bits,
-/// each in this order.
+/// The four bytes of an attribute's header, `rtattr`: `rta_len`, and `rta_type` with its two flag
+/// bits, in this byte order. `len` counts the header and the payload, in bytes.
 pub fn attr_head(len: u16, number: u16, flags: AttrFlags, order: Order) -> [u8; 4]
     requires { number < fixed.NUMBERS }
     ensures { result ≡ num len 2 order ++ num (kind_number number flags) 2 order }
@@ -22,8 +22,8 @@ pub fn attr_head(len: u16, number: u16, flags: AttrFlags, order: Order) -> [u8; 
     head
 }
 
-/// The head of a next hop, `rtnexthop`: its length in bytes, its flags, its hops, and the index of
-/// its interface; the two numbers in this order.
+/// The eight bytes of a next hop's header, `rtnexthop`: `rtnh_len`, `rtnh_flags`, `rtnh_hops` and
+/// `rtnh_ifindex`, in this byte order. `len` counts the header and the attributes, in bytes.
 pub fn hop_head(len: u16, flags: u8, hops: u8, ifindex: i32, order: Order) -> [u8; 8]
     ensures { result
         ≡ num len 2 order ++ (flags ∷ hops ∷ num (cast_unsigned w32 ifindex) 4 order) }

@@ -1,4 +1,5 @@
-//! Laws over the definitions alone: each contract is a law, and each body is empty.
+//! Theorems about the definitions in `specs/` alone. Each function's contract states one, and its
+//! body is empty.
 
 ghost use Rattle.std.specs.Prelude.{◌≡◌, ◌≤◌, ◌<◌, ◌+◌, ◌-◌, ◌*◌, ◌^◌, ◌↔◌};
 ghost use Rattle.std.specs.Prelude.{◌++◌, drop, ℕ, ℤ, List, length, FitsSigned};
@@ -51,7 +52,7 @@ pub fn constants_are_fixed()
         × (SORT_NEXT_HOP ≡ fixed.SORT_NEXT_HOP) }
 {}
 
-/// Bytes are the form of the number that is read of them, and of no other number of so many bytes.
+/// Bytes are the encoding of the number that they decode to, and of no other number of that size.
 #[tactic(auto, using(crate::proofs::Lemmas::Numbers::number_laws))]
 pub fn one_number()
     ensures below { (o : Order) (bytes : List ℕ)
@@ -64,7 +65,7 @@ pub fn one_number()
         → m < 256 ^ w → n < 256 ^ w → num m w o ≡ num n w o → m ≡ n }
 {}
 
-/// Four bytes are the two's complement of exactly one number.
+/// Four bytes are the two's complement encoding of exactly one number.
 #[tactic(auto, using(crate::proofs::Lemmas::Numbers::one_signed))]
 pub fn one_signed_number()
     ensures { (o : Order) (bytes : List ℕ) → AreBytes bytes
@@ -72,65 +73,65 @@ pub fn one_signed_number()
         × ((y : ℤ) → FitsSigned w32 y → num (cast_unsigned w32 y) 4 o ≡ bytes → y ≡ z) }
 {}
 
-/// At most one list fits a region.
+/// At most one attribute list fits the bytes of a region.
 pub fn one_list()
     ensures { (s : Shape) (ctx : Ctx) (l : ℕ) (bytes : List ℕ) (is js : Items)
         → Fits s is bytes ctx l → Fits s js bytes ctx l → is ≡ js }
 {}
 
-/// A list fits a region exactly where no head in it has a fault.
+/// A list fits the bytes of a region exactly where no header in it breaks a rule.
 pub fn fits_or_fault()
     ensures { (s : Shape) (ctx : Ctx) (l place : ℕ) (bytes : List ℕ)
         → AreBytes bytes → ((is : Items) × Fits s is bytes ctx l)
         ↔ ((p : ℕ) (r : Reason) → FaultAt s (start_of ctx l place bytes) p r → ⊥) }
 {}
 
-/// At most one fault is the first of a region.
+/// A region has at most one first error.
 pub fn one_first_fault()
     ensures { (s : Shape) (start : Head) (p q : ℕ) (r t : Reason)
         → IsFirstFault s start p r → IsFirstFault s start q t → (p ≡ q) × (r ≡ t) }
 {}
 
-/// At most one head of a region breaks a rule at a place: what a scan answers of it has no other
-/// reading.
+/// At most one header breaks a rule at an offset of a region. So the offset of an error says which
+/// header is meant.
 pub fn one_head_at_fault()
     ensures { (s : Shape) (start : Head) (b c : BrokenHead) → IsBrokenHead s start b
         → IsBrokenHead s start c → b.fault.place ≡ c.fault.place → b ≡ c }
 {}
 
-/// The visits of a region, up to any place, are no more than its length once for each level that is
-/// left.
+/// The visits of a region up to any offset are bounded: by its length, times the number of levels
+/// from its own to the depth limit, both counted.
 pub fn visits_are_bounded()
     ensures { (s : Shape) (ctx : Ctx) (l place : ℕ) (bytes : List ℕ) (q total : ℕ) → l ≤ s.depth
         → Visits s (start_of ctx l place bytes) q total → total ≤ (s.depth - l + 1) * length bytes }
 {}
 
-/// The visits up to a place, behind faults too, have a sum, and one alone.
+/// The visits up to an offset have exactly one sum, also where a header before it breaks a rule.
 pub fn one_sum()
     ensures some { (s : Shape) (start : Head) (q : ℕ) → (total : ℕ) × Visits s start q total }
     ensures only { (s : Shape) (start : Head) (q a b : ℕ)
         → Visits s start q a → Visits s start q b → a ≡ b }
 {}
 
-/// The heads to which a scan of a region comes are those that stand in it, each once, in the order
-/// of their places: all of them where none breaks a rule, else those up to the first that does.
+/// A scan visits the headers of a region each once, in the order of their offsets. It visits all
+/// of them where none breaks a rule, else those up to the first that does.
 pub fn heads_in_order()
-    // Each stands in the region, and its length is within bounds.
+    // Each visited header stands in the region, and its length is within bounds.
     ensures each { (s : Shape) (start : Head)
         → All (λ h. HeadAt s start h × IsSound s h) (trail_of s start).0 }
-    // Their places rise.
+    // Their offsets rise.
     ensures order { (s : Shape) (start : Head)
         → IsStrictlyIncreasing (map (λ h. h.place) (trail_of s start).0) }
-    // They end where no head breaks a rule, or at the first fault.
+    // They end at the first error, or where no header breaks a rule.
     ensures end { (s : Shape) (start : Head) → IsEnd s start (trail_of s start).1 }
-    // All heads before that end are among them, and no other is.
+    // All headers before that end are among them, and no other is.
     ensures all { (s : Shape) (start h : Head) → Contains (trail_of s start).0 h
         ↔ (HeadAt s start h × ComesBefore s (trail_of s start).1 h) }
 {}
 
-/// Where a list fits a region, the events of a scan are those of the list: for each attribute and
-/// next hop, in order, its place, level, type, flags, sort and length. A length is rounded up
-/// where heads stand inside, since the padding behind the last of them may be absent.
+/// Where a list fits a region, the events of a scan are those of the list. Each attribute and next
+/// hop has one, in order: its offset, level, type, flags, sort and length. The length of a nested
+/// attribute is rounded up, since the padding behind its last attribute may be missing.
 #[tactic(auto, using(crate::proofs::Lemmas::Listed::list_events))]
 pub fn heads_of_list()
     ensures { (s : Shape) (ctx : Ctx) (l place : ℕ) (bytes : List ℕ) (is : Items)
@@ -139,7 +140,7 @@ pub fn heads_of_list()
         ≡ items_events place l is }
 {}
 
-/// A list is written as many bytes in either order.
+/// A list is written as equally many bytes in either byte order.
 #[tactic(auto, using(crate::proofs::Lemmas::Lengths::lengths))]
 pub fn written_length()
     ensures { (o : Order) (is : Items) → length (written o is) ≡ items_len is }
@@ -152,7 +153,8 @@ pub fn written_fits()
         → IsProper is ctx l s.depth → IsRanged is → Fits s is (written s.order is) ctx l }
 {}
 
-/// A list that fits a region can be written, and is as long as the region with its last padding.
+/// A list that fits a region can be written. Its written length is the region's, with the last
+/// padding whole.
 pub fn fitting_is_proper()
     ensures proper { (s : Shape) (ctx : Ctx) (l : ℕ) (bytes : List ℕ) (is : Items)
         → Fits s is bytes ctx l → length bytes ≤ fixed.LONGEST_REGION → IsProper is ctx l s.depth }

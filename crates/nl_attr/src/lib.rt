@@ -1,10 +1,22 @@
-//! Attributes of netlink messages (netlink(7), rtnetlink(7)): walkers, trees, reading and writing,
-//! and the laws of regions.
+//! The attributes of netlink messages (netlink(7), rtnetlink(7)): `rtattr`, and the next hops,
+//! `rtnexthop`, inside `RTA_MULTIPATH`.
+//!
+//! A *region* is the bytes in which attributes, or next hops, stand one after another: the payload
+//! of a message behind its family's header, or the payload of a nested attribute.
+//!
+//! - `walk` goes over one region and takes no memory: `Attrs`, `HopParts`, `attr_at`, `hop_at`.
+//! - `reading` and `stack` read a region, with all that is nested in it, into a `tree` of `Attr`.
+//! - `scanning` and `taping` validate a region and take no memory. `taping` also indexes it: one
+//!   `Event` for each header (`events`), and a `BrokenHead` for the first error (`broken`).
+//! - `writing` measures an attribute list (`measuring`), and then appends it (`appending`).
+//!   `heads` encodes single headers.
+//! - `views` looks up an attribute of a list by its type. `payload` holds an attribute's bytes.
+//! - `limits`, `order`, `fault` and `region` have the types that the others share.
+//! - `laws` states theorems about the definitions in `specs/`. It has no code.
 #![tactic(auto)]
 
 mod appending;
 mod broken;
-mod comparing;
 mod events;
 mod fault;
 mod heads;
@@ -25,7 +37,6 @@ mod writing;
 
 pub use appending::{append_bytes, append_list};
 pub use broken::{BrokenHead, HeadKind};
-pub use comparing::{begins_with, begins_with_bytes, begins_with_zeros};
 pub use events::{Event, Room, SORT_BYTES, SORT_HOPS, SORT_LIST, SORT_MESSAGE, SORT_NEXT_HOP};
 pub use fault::{Fault, LimitFault, ListError, Reason, Tally, UnknownName, WriteError};
 pub use heads::{attr_head, hop_head};

@@ -1,4 +1,4 @@
-//! How deep attributes may nest, and what they are read by.
+//! The limits on attributes: lengths, offsets and nesting depth; and the options of a reading.
 
 ghost use Rattle.std.specs.Prelude.{◌≡◌, ◌≤◌};
 ghost use Rattle.std.specs.Result.{OkIff};
@@ -8,27 +8,31 @@ use crate::fault::LimitFault;
 use crate::order::Order;
 use std::marker::Model;
 
-/// The most bytes of a region, and of a datagram.
+/// The greatest length of a region, and of a datagram, in bytes: 1 MiB.
 pub const LONGEST_REGION: usize = 1_048_576;
 
-/// The most bytes of an attribute or a next hop: its length field has 16 bits.
+/// The greatest length of an attribute or a next hop, in bytes: `rta_len` and `rtnh_len` have 16
+/// bits.
 pub const LONGEST_ITEM: usize = 65_535;
 
-/// The most bytes of an attribute that holds attributes or next hops: a length field of 16 bits
-/// that is a multiple of 4 (`RTA_ALIGN`).
+/// The greatest length of an attribute that holds attributes or next hops, in bytes. It is the
+/// greatest multiple of 4 (`RTA_ALIGN`) that the 16 bits of a length field can say.
 pub const LONGEST_CONTAINER: usize = 65_532;
 
-/// The farthest place at which a region ends: two of the longest datagrams behind the first byte.
+/// The greatest offset at which a region may end, in bytes: twice the longest datagram. So an
+/// offset, with the base that a caller adds, always fits a `u32`.
 pub const FARTHEST_END: u32 = 2_097_152;
 
-/// The most levels that a depth limit allows.
+/// The greatest depth limit, in levels.
 pub const MOST_LEVELS: u8 = 32;
 
-/// The most bytes that reading a region visits: the longest region once for each level below the
-/// greatest depth, and once more.
+/// The most bytes that one reading visits: `LONGEST_REGION` times `MOST_LEVELS` + 1. Each byte is
+/// visited once at every level that it lies in.
 pub const MOST_VISITS: u64 = 34_603_008;
 
-/// How many levels containers may open below a message's attributes: 0 to 32.
+/// The depth limit: how many levels nested attributes may open below a message's own, 0 to 32.
+///
+/// A nested attribute list opens one level, and next hops open two.
 #[derive(Clone, Copy, Debug, PartialEq, Eq, Hash)]
 pub struct Depth {
     levels: u8,
@@ -48,7 +52,7 @@ impl Model for Depth {
 }
 
 impl Depth {
-    /// So many levels, or `LimitFault` above 32.
+    /// A limit of `levels` levels. The error is `LimitFault`, for more than 32.
     pub fn new(levels: u8) -> Result<Depth, LimitFault>
         ensures { OkIff result (levels ≤ fixed.MOST_LEVELS) levels }
     {
@@ -58,14 +62,14 @@ impl Depth {
         Ok(Depth { levels })
     }
 
-    /// Eight levels, what the limits of a reader are where nothing else is said.
+    /// The default limit: eight levels.
     pub fn standard() -> Depth
         ensures { result ≡ fixed.STANDARD_LEVELS }
     {
         Depth { levels: 8 }
     }
 
-    /// How many levels.
+    /// The number of levels.
     pub fn get(self) -> u8
         ensures value { result ≡ self }
         ensures limit { result ≤ fixed.MOST_LEVELS }
@@ -82,7 +86,7 @@ impl Default for Depth {
     }
 }
 
-/// What attributes are read by: the order of their numbers, and how deep they may nest.
+/// The options of a reading: the byte order of numbers, and the depth limit.
 #[derive(Clone, Copy, Debug, PartialEq, Eq)]
 pub(crate) struct Shape {
     order: Order,

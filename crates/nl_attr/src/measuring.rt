@@ -1,4 +1,4 @@
-//! How long lists are when they are written, and whether they may be.
+//! Computing how many bytes an attribute list is written as, and whether it can be written.
 
 ghost use Rattle.std.specs.Prelude.{◌≡◌, ◌≤◌, ◌↔◌, Some, IsTrue, IfSome};
 ghost use Rattle.nl_attr.specs.Fixed as fixed;
@@ -14,16 +14,18 @@ use crate::limits::{Depth, LONGEST_ITEM, LONGEST_REGION};
 use crate::tree::{Attr, Content, Ctx, Hop, NUMBERS, Value, holds};
 use crate::walk::align4;
 
-/// What a list comes to when it is written.
+/// The measured size of an attribute list: its length as written, and whether it nests too deep.
 #[derive(Clone, Copy, Debug, PartialEq, Eq, Hash)]
 pub struct Extent {
-    /// Whether a container opens a level above the depth limit.
+    /// Whether a nested attribute opens a level beyond the depth limit.
     pub deep: bool,
-    /// How many bytes are written; none where an item or a region is too long.
+    /// The length in bytes, with all padding. `None` where an attribute, a next hop or a region is
+    /// too long.
     pub len: Option<usize>,
 }
 
-/// The written length of an item, from those of its head and its payload.
+/// The length in bytes of an attribute or a next hop with its padding, from the length of its
+/// header and that of its payload. `None` where either is too long.
 fn item_size(head: usize, payload: Option<usize>) -> Option<usize>
     requires { head ≤ 8 }
     ensures { result ≡ item_len head payload }
@@ -35,7 +37,7 @@ fn item_size(head: usize, payload: Option<usize>) -> Option<usize>
     Some(align4((head + len) as u32) as usize)
 }
 
-/// The extent of an item with its head.
+/// The extent of an attribute or a next hop, from its header's length and its payload's extent.
 fn item_extent(head: usize, inner: Extent) -> Extent
     requires { head ≤ 8 }
     ensures { result ≡ record { deep = inner.deep; len = item_len head inner.len } }
@@ -47,7 +49,7 @@ fn item_extent(head: usize, inner: Extent) -> Extent
 }
 
 impl Extent {
-    /// What two parts of a region come to together; no length above 1,048,576 bytes.
+    /// The extent of two parts of a region together. Its `len` is `None` above 1,048,576 bytes.
     pub fn and(self, other: Extent) -> Extent
         ensures { Some result ≡ join (Some self) (Some other) }
     {
@@ -64,8 +66,8 @@ impl Extent {
         }
     }
 
-    /// The length of what was measured, or the first refusal that applies: `Mismatch` where
-    /// nothing was measured, `TooDeep`, or `TooLong`.
+    /// The length in bytes of what `measure` answered. The error is the first that applies:
+    /// `Mismatch` where it answered `None`, then `TooDeep`, then `TooLong`.
     pub fn length(measured: Option<Extent>) -> Result<usize, WriteError>
         ensures { result ≡ length_of measured }
     {
@@ -77,8 +79,8 @@ impl Extent {
     }
 }
 
-/// What the value of an attribute comes to, where containers may open `room` more levels; none
-/// where something is of the wrong kind.
+/// The extent of an attribute's value, where nested attributes may open `room` more levels. `None`
+/// where the value, or one inside it, isn't what its attribute holds.
 #[cycle(measuring)]
 fn measure_value(value: &Value, content: Content, room: u8) -> Option<Extent>
     ensures { result ≡ extent_of_val (value_view value.now) content room }
@@ -106,6 +108,7 @@ fn measure_value(value: &Value, content: Content, room: u8) -> Option<Extent>
     }
 }
 
+/// The extent of an attribute, as `measure_value`. `None` also for a type of 16,384 or more.
 #[cycle(measuring)]
 fn measure_attr(attr: &Attr, ctx: Ctx, room: u8) -> Option<Extent>
     ensures { (more : Items)
@@ -119,6 +122,7 @@ fn measure_attr(attr: &Attr, ctx: Ctx, room: u8) -> Option<Extent>
     Some(item_extent(4, inner))
 }
 
+/// The extent of an attribute list, as `measure_attr` for each.
 #[cycle(measuring)]
 fn measure_list(attrs: &[Attr], ctx: Ctx, room: u8) -> Option<Extent>
     ensures { result ≡ extent_of (attrs_view attrs.now) ctx room }
@@ -133,6 +137,7 @@ fn measure_list(attrs: &[Attr], ctx: Ctx, room: u8) -> Option<Extent>
     Some(all)
 }
 
+/// The extent of a next hop, whose attributes lie one level further down.
 #[cycle(measuring)]
 fn measure_hop(hop: &Hop, room: u8) -> Option<Extent>
     ensures { (more : HopItems)
@@ -142,6 +147,7 @@ fn measure_hop(hop: &Hop, room: u8) -> Option<Extent>
     Some(item_extent(8, inner))
 }
 
+/// The extent of next hops, as `measure_hop` for each.
 #[cycle(measuring)]
 fn measure_hops(hops: &[Hop], room: u8) -> Option<Extent>
     ensures { result ≡ extent_of_hops (hops_view hops.now) room }
@@ -156,12 +162,12 @@ fn measure_hops(hops: &[Hop], room: u8) -> Option<Extent>
     Some(all)
 }
 
-/// What a list of this context comes to when it is written; none where an attribute has a number of
-/// 16,384 or more, or a value of another kind than its context, number and flags say.
+/// Measures an attribute list of this context. `None` where an attribute's type is 16,384 or more,
+/// or where its value isn't what its context, type and flags say that it holds.
 ///
-/// So a caller that writes the list behind bytes of its own decides every refusal in one walk,
-/// before any memory is taken: first none, then `deep`, then no `len`. Where there is a `len`,
-/// `append_list` may be called with room for so many bytes.
+/// A caller that writes the list behind bytes of its own so learns of every error in one pass,
+/// before it takes any memory. It tests for `None` first, then `deep`, then `len`. `append_list`
+/// may be called where there is a `len`, with room for so many bytes.
 pub fn measure(attrs: &[Attr], ctx: Ctx, depth: Depth) -> Option<Extent>
     ensures mismatch { (result ≡ None) ↔ IsMismatched (attrs_view attrs.now) ctx }
     ensures deep { IfSome result (λ e. IsTrue e.deep ↔ IsDeep (attrs_view attrs.now) 0 depth) }

@@ -1,4 +1,4 @@
-//! The bytes of an attribute that holds neither a list nor next hops.
+//! `Payload`: the bytes of an attribute that holds neither attributes nor next hops.
 
 ghost use Rattle.std.specs.Prelude.{◌≡◌, ◌≤◌, ◌<◌, ◌==◌, ◌↔◌, nat_eq};
 ghost use Rattle.std.specs.Prelude.{length, take, IsTrue, IsOk, IfOk, IfErr};
@@ -9,17 +9,17 @@ use std::alloc::{AllocError, AllocFailed, Global};
 use std::fmt;
 use std::marker::Model;
 
-/// How many bytes lie in the value itself.
+/// The most bytes that are stored in the value itself, not on the heap.
 pub(crate) const INLINE: usize = 23;
 
-/// Bytes, of which up to 23 lie in the value itself, so that numbers, addresses and short names
-/// take no memory.
+/// A byte string. Up to 23 bytes are stored in the value itself, so that numbers, addresses and
+/// short names take no memory.
 #[derive(Drop)]
 pub struct Payload {
     store: Store,
 }
 
-/// Where the bytes lie: at the front of a buffer, or in a vector.
+/// Where the bytes are stored: at the front of a buffer of fixed size, or in a vector.
 #[derive(Drop)]
 enum Store {
     Inline(u8, [u8; INLINE]),
@@ -39,7 +39,7 @@ impl Model for Payload {
 }
 
 impl Payload {
-    /// A copy of these bytes. It takes memory only for more than 23.
+    /// Copies these bytes. It takes memory only for more than 23. The error is for memory.
     pub fn from_slice(alloc: Global, bytes: &[u8]) -> Result<Payload, AllocError>
         ensures value { IfOk result (λ p. p ≡ bytes.now) }
         ensures inline { length bytes.now ≤ INLINE → IsOk result }
@@ -52,7 +52,7 @@ impl Payload {
         }
     }
 
-    /// A copy of at most 23 bytes, which takes no memory.
+    /// Copies at most 23 bytes. It takes no memory.
     fn short(bytes: &[u8]) -> Payload
         requires { length bytes.now ≤ INLINE }
         ensures { result ≡ bytes.now }
@@ -64,7 +64,7 @@ impl Payload {
         Payload { store }
     }
 
-    /// The first bytes of a buffer.
+    /// The first `len` bytes of a buffer.
     #[inline(always)]
     pub(crate) fn front_of(buffer: [u8; INLINE], len: u8) -> Payload
         requires { len ≤ INLINE }
@@ -74,7 +74,7 @@ impl Payload {
         Payload { store }
     }
 
-    /// The bytes of a vector, where they stay. It takes no memory.
+    /// Takes over a vector's bytes without copying them. It takes no memory.
     pub fn from_vec(bytes: Vec<u8>) -> Payload
         ensures { result ≡ bytes.items }
     {
@@ -82,8 +82,8 @@ impl Payload {
         Payload { store }
     }
 
-    /// The bytes as a vector: the one in which they lie, else a copy of at most 23, which takes
-    /// memory. Where there is none, the payload comes back.
+    /// Turns the payload into a vector. Bytes that are stored in the value itself are copied,
+    /// which takes memory. The error is for memory, and gives the payload back.
     pub fn into_vec(self, alloc: Global) -> Result<Vec<u8>, AllocFailed<Payload>>
         ensures value { IfOk result (λ v. v.items ≡ self) }
         ensures long { INLINE < length self → IsOk result }
@@ -111,7 +111,7 @@ impl Payload {
         }
     }
 
-    /// Whether it is these bytes.
+    /// Whether its bytes are equal to these.
     #[inline]
     pub fn is(&self, bytes: &[u8]) -> bool
         ensures { IsTrue result ↔ self.now ≡ bytes.now }
@@ -119,7 +119,7 @@ impl Payload {
         self.as_slice() == bytes
     }
 
-    /// How many bytes.
+    /// The number of bytes.
     #[inline]
     pub fn len(&self) -> usize
         ensures { result ≡ length self.now }
@@ -127,7 +127,7 @@ impl Payload {
         self.as_slice().len()
     }
 
-    /// Whether there is no byte.
+    /// Whether it has no byte.
     #[inline]
     pub fn is_empty(&self) -> bool
         ensures { result ≡ (length self.now == 0) }

@@ -1,4 +1,4 @@
-//! Reading a region of attributes.
+//! Reading a region of attributes into a tree: the public calls. The loop itself is in `stack`.
 
 ghost use Rattle.std.specs.Prelude.{◌≤◌, ◌+◌, length};
 ghost use Rattle.nl_attr.specs.Fixed as fixed;
@@ -12,12 +12,16 @@ use crate::stack::read_region;
 use crate::tree::{Attr, Ctx};
 use std::alloc::Global;
 
-/// The attributes of a region whose numbers have their lowest byte first, and how many bytes were
-/// visited.
+/// Reads a region of attributes in little-endian byte order, with all that is nested in them.
 ///
-/// `base` is the place of the first byte, `level` that of the region. It refuses at the first
-/// fault: cut, bad length, too long, too deep; or for memory. The region may be followed by no
-/// byte, and padding may hold anything; that of the last item may be cut short.
+/// `base` is the offset of the first byte, which offsets in errors count from. `ctx` says what the
+/// types of the attributes mean. `level` is the region's nesting level, 0 for a message's own.
+///
+/// The error is the first header that breaks a rule: `Cut`, `BadLength`, `TooLong` or `TooDeep`.
+/// Or it is `ListError::Memory`, where an allocation fails.
+///
+/// Attributes must fill the region to its end. Padding may hold any bytes, and the padding behind
+/// the last attribute may be missing or short.
 pub fn read_list(
     alloc: Global,
     bytes: &[u8],
@@ -34,7 +38,7 @@ pub fn read_list(
     read_list_ordered(alloc, bytes, base, ctx, level, depth, Order::Little)
 }
 
-/// The attributes of a region whose numbers are in this order, else as `read_list`.
+/// Reads a region of attributes in this byte order. All else is as in `read_list`.
 #[tactic(auto, using(crate::proofs::Lemmas::Reads::reads_list))]
 pub fn read_list_ordered(
     alloc: Global,

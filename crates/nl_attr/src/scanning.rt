@@ -1,4 +1,4 @@
-//! Scanning a region of attributes: reading that keeps nothing.
+//! Validating a region of attributes: a scan checks every header and keeps nothing.
 
 ghost use Rattle.std.specs.Prelude.{◌≤◌, ◌+◌, ◌-◌, ◌*◌, length, IfOk, IfErr};
 ghost use Rattle.nl_attr.specs.Broken.{fault_in};
@@ -18,7 +18,7 @@ use crate::order::Order;
 use crate::taping::tape_list;
 use crate::tree::Ctx;
 
-/// The answer of a scan that ended at this head, or at none.
+/// The result of a scan that ended at this broken header, or at the region's end.
 fn answer(broken: Option<BrokenHead>) -> Result<(), Fault>
     ensures { Ends (fault_in broken) result }
 {
@@ -28,11 +28,12 @@ fn answer(broken: Option<BrokenHead>) -> Result<(), Fault>
     }
 }
 
-/// Whether a region of attributes is accepted by `read_list_ordered`, and how many bytes were
-/// visited. Nothing of it is kept, and no memory is taken.
+/// Validates a region of attributes: `read_list_ordered` accepts it exactly where this does. It
+/// takes no memory.
 ///
-/// `base` is the place of the first byte, `level` that of the region, `order` that of its numbers.
-/// It refuses at the first fault: cut, bad length, too long or too deep.
+/// `base` is the offset of the first byte, `level` the region's nesting level, and `order` the
+/// byte order. The error is the first header that breaks a rule: `Cut`, `BadLength`, `TooLong` or
+/// `TooDeep`.
 pub fn scan_list_ordered(
     bytes: &[u8],
     base: u32,
@@ -44,19 +45,19 @@ pub fn scan_list_ordered(
     requires level { level ≤ depth }
     requires size { length bytes.now ≤ fixed.LONGEST_REGION }
     requires place { base + length bytes.now ≤ fixed.FARTHEST_END }
-    // Whether it is accepted, the fault and the visits are those of a reading from left to right.
+    // The result and the visits are those of a reading from left to right.
     ensures outcome { Scans result
         (items_of_region (shape_of order depth) ctx level base bytes.now) }
     // Where it is accepted some list fits the region.
     ensures fits { IfOk result.result
         (λ _. (is : Items) × Fits (shape_of order depth) is bytes.now ctx level) }
-    // A fault is the one at the least place.
+    // An error is the one at the least offset.
     ensures first { IfErr result.result (λ f. IsFirstFault (shape_of order depth)
         (start_of ctx level base bytes.now) f.place f.reason) }
     // Then no list fits.
     ensures none { IfErr result.result
         (λ _. (is : Items) → Fits (shape_of order depth) is bytes.now ctx level → ⊥) }
-    // The visits are those of all heads, or of those up to the fault.
+    // The visits are those of all headers, or of the headers up to the error.
     ensures visits { SeesUpTo (shape_of order depth) (start_of ctx level base bytes.now)
         (base + length bytes.now) result.result result.visits }
     ensures bound { result.visits ≤ (depth - level + 1) * length bytes.now }

@@ -1,4 +1,4 @@
-//! The first attribute of a number, and what an attribute's bytes say.
+//! Looking up an attribute by its type, and decoding its payload as a number or a text.
 
 ghost use Rattle.std.specs.Prelude.{◌≡◌, ◌==◌};
 ghost use Rattle.std.specs.List.{position, position_or_len};
@@ -9,7 +9,7 @@ ghost use Rattle.nl_attr.specs.Views.{entry_of, first_of, bytes_in, number_in, t
 use crate::order::Order;
 use crate::tree::{Attr, Value};
 
-/// The first attribute of a number, where there is one. It takes no memory.
+/// The first attribute of this type in a list. `None` where the list has none.
 pub fn find(attrs: &[Attr], number: u16) -> Option<&Attr>
     ensures { option_map (λ a. entry_of a.now) result ≡ first_of (attrs_view attrs.now) number }
 {
@@ -21,14 +21,14 @@ pub fn find(attrs: &[Attr], number: u16) -> Option<&Attr>
     None
 }
 
-/// The place of the first zero byte.
+/// The index of the first zero byte.
 fn zero_at(bytes: &[u8]) -> Option<usize>
     ensures { result ≡ position (λ b. b == 0) bytes.now }
 {
     bytes.iter().position(|b| *b == 0)
 }
 
-/// How many bytes stand before the first zero byte.
+/// The length of the text at the front: up to the first zero byte, or all bytes without one.
 #[tactic(auto, using(crate::proofs::Lemmas::Texts::or_all))]
 fn text_len(bytes: &[u8]) -> usize
     ensures { result ≡ position_or_len (λ b. b == 0) bytes.now }
@@ -37,7 +37,7 @@ fn text_len(bytes: &[u8]) -> usize
 }
 
 impl Attr {
-    /// All bytes, where it holds neither a list nor next hops.
+    /// The payload. `None` for an attribute that holds attributes or next hops.
     pub fn bytes(&self) -> Option<&[u8]>
         ensures { option_copied result ≡ bytes_in (value_view self.now.value) }
     {
@@ -47,7 +47,8 @@ impl Attr {
         }
     }
 
-    /// The bytes before the first zero byte, or all; none where it holds no bytes.
+    /// The payload up to its first zero byte, or all of it where it has none. `None` for an
+    /// attribute that holds attributes or next hops.
     pub fn text(&self) -> Option<&[u8]>
         ensures { option_copied result ≡ text_in (value_view self.now.value) }
     {
@@ -60,7 +61,7 @@ impl Attr {
         }
     }
 
-    /// The first byte; none where it holds fewer, or no bytes.
+    /// The first byte of the payload. `None` where the payload is shorter, or isn't bytes.
     pub fn u8_value(&self) -> Option<u8>
         ensures { result ≡ number_in Order.Little 1 (value_view self.now.value) }
     {
@@ -70,16 +71,18 @@ impl Attr {
         }
     }
 
-    /// The number in the first two bytes, the lowest first; none where it holds fewer, or no bytes.
+    /// The first two bytes of the payload as a little-endian number. `None` where the payload is
+    /// shorter, or isn't bytes.
     ///
-    /// For what was read in the other order, call `u16_value_ordered`.
+    /// For messages of the other byte order call `u16_value_ordered`.
     pub fn u16_value(&self) -> Option<u16>
         ensures { result ≡ number_in Order.Little 2 (value_view self.now.value) }
     {
         self.u16_value_ordered(Order::Little)
     }
 
-    /// The number in the first two bytes in this order; none where it holds fewer, or no bytes.
+    /// The first two bytes of the payload as a number in this byte order. `None` where the payload
+    /// is shorter, or isn't bytes.
     pub fn u16_value_ordered(&self, order: Order) -> Option<u16>
         ensures { result ≡ number_in order 2 (value_view self.now.value) }
     {
@@ -89,17 +92,18 @@ impl Attr {
         }
     }
 
-    /// The number in the first four bytes, the lowest first; none where it holds fewer, or no
-    /// bytes.
+    /// The first four bytes of the payload as a little-endian number. `None` where the payload is
+    /// shorter, or isn't bytes.
     ///
-    /// For what was read in the other order, call `u32_value_ordered`.
+    /// For messages of the other byte order call `u32_value_ordered`.
     pub fn u32_value(&self) -> Option<u32>
         ensures { result ≡ number_in Order.Little 4 (value_view self.now.value) }
     {
         self.u32_value_ordered(Order::Little)
     }
 
-    /// The number in the first four bytes in this order; none where it holds fewer, or no bytes.
+    /// The first four bytes of the payload as a number in this byte order. `None` where the
+    /// payload is shorter, or isn't bytes.
     pub fn u32_value_ordered(&self, order: Order) -> Option<u32>
         ensures { result ≡ number_in order 4 (value_view self.now.value) }
     {
@@ -109,8 +113,8 @@ impl Attr {
         }
     }
 
-    /// The number in the first two bytes in network order, the highest first, whatever the order of
-    /// other numbers; none where it holds fewer, or no bytes.
+    /// The first two bytes of the payload as a number in network byte order, as ports have it in
+    /// messages of either order. `None` where the payload is shorter, or isn't bytes.
     pub fn be16_value(&self) -> Option<u16>
         ensures { result ≡ number_in Order.Big 2 (value_view self.now.value) }
     {

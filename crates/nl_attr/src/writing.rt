@@ -1,4 +1,5 @@
-//! Writing a region of attributes.
+//! Writing an attribute list as bytes: the public calls. They measure the list, reserve memory for
+//! it, and then append it.
 
 ghost use Rattle.std.specs.Prelude.{◌≡◌, ◌↔◌, ◌⊎◌, IfSome};
 ghost use Rattle.nl_attr.specs.Shape.{shape_of};
@@ -14,8 +15,8 @@ use crate::measuring::{Extent, measure};
 use crate::order::Order;
 use crate::tree::{Attr, Ctx};
 
-/// How many bytes a list is written as, in either order. None where a value is of another kind than
-/// its attribute holds, or an item or a region is too long; how deep it is says nothing here.
+/// How many bytes an attribute list is written as, in either byte order. `None` where `write_list`
+/// would answer `Mismatch` or `TooLong`. The nesting depth isn't checked.
 pub fn list_len(attrs: &[Attr], ctx: Ctx) -> Option<u32>
     ensures none { (result ≡ None)
         ↔ (IsMismatched (attrs_view attrs.now) ctx ⊎ IsLong (attrs_view attrs.now)) }
@@ -25,14 +26,17 @@ pub fn list_len(attrs: &[Attr], ctx: Ctx) -> Option<u32>
     Some(len as u32)
 }
 
-/// Appends a list, numbers with their lowest byte first: each attribute with its padding of zeros,
-/// the last one too.
+/// Appends an attribute list to `out`, in little-endian byte order. Each attribute is padded with
+/// zeros, the last one too.
 ///
-/// It refuses, in this order: `Mismatch` for an attribute whose number is 16,384 or more or whose
-/// value is of another kind than its context, number and flags say; `TooDeep` for a container that
-/// opens a level above the depth; `TooLong` for an item of more than 65,535 bytes or a region of
-/// more than 1,048,576; `Memory` where there is no room and none is given. After a refusal `out`
-/// holds what it held.
+/// After an error `out` holds what it held before. The error is the first of these that applies:
+///
+/// - `Mismatch`: an attribute's type is 16,384 or more, or its value isn't what its context, type
+///   and flags say that it holds.
+/// - `TooDeep`: a nested attribute opens a level beyond `depth`.
+/// - `TooLong`: an attribute or a next hop has more than 65,535 bytes, or a region more than
+///   1,048,576.
+/// - `Memory`: `out` has no room, and an allocation failed.
 pub fn write_list(
     attrs: &[Attr],
     ctx: Ctx,
@@ -45,7 +49,7 @@ pub fn write_list(
     write_list_ordered(attrs, ctx, depth, out, Order::Little)
 }
 
-/// Appends a list, numbers in this order, else as `write_list`.
+/// Appends an attribute list in this byte order. All else is as in `write_list`.
 pub fn write_list_ordered(
     attrs: &[Attr],
     ctx: Ctx,

@@ -1,40 +1,17 @@
 -- The items of a datagram that is read, from its messages to what the stream becomes.
-use Rattle.std.proofs.Common.{◌≡◌, ◌↔◌, ℕ, ◌+◌, ◌*◌, ◌<◌, ◌≤◌, Bool, true, false, cond, if◌then◌else◌, List, [], ◌∷◌, ◌++◌, length, map, filter_map, take, drop, get_or, set, Option, Some, None, is_some, Result, Ok, Err, refl, sym, ap, ◌∙◌, subst, arith}
-use Rattle.std.specs.List.{filter, SwappedAt}
-use Rattle.std.proofs.lemmas.List.{append-nil, length-map, length-set, map-append, take_more, take_all, drop_more, take-set-le, drop-set-lt, length-take}
-use Rattle.std.proofs.lemmas.List.Elements.{filter-append}
+use Rattle.nl_dump.proofs.Common.{◌≡◌, ◌↔◌, ℕ, ◌+◌, ◌*◌, ◌<◌, ◌≤◌, Bool, true, false, cond, if◌then◌else◌, List, [], ◌∷◌, ◌++◌, length, map, filter_map, take, drop, get_or, set, Option, Some, None, is_some, Result, Ok, Err, refl, sym, ap, ◌∙◌, subst, arith, filter, SwappedAt, filter-append, AreBytes, IsFirstFault, whole, Bounds, AreLimits, MessageVal, IfFault, VisitsUpTo, the_list, within, Dump, End, Waiting, FeedError, Counts, Standing, item_in, end_in, end_of, up_to_end, one_if, Picks, AreCounts, is_marked, role_of, role_for, Item, item_messages, MessagesBringItems, StreamRead, IsReadAnswered, EveryRead, judge, IsPossible, refused_by}
+use Rattle.std.proofs.lemmas.List.{append-nil, length-set, map-append, take_more, take_all, drop_more, take-set-le, drop-set-lt}
 use Rattle.std.proofs.lemmas.List.Sums.{count_by-le-length, length-filter}
-use Rattle.nl_attr.specs.Numbers.{AreBytes}
 use Rattle.nl_frame.specs.declared.reading.ReadError.{ReadError}
 use Rattle.nl_frame.specs.declared.reading.ReadError.TheVariants as read
-use Rattle.nl_frame.specs.Heads.{IsFirstFault, whole}
-use Rattle.nl_frame.specs.Limits.{Bounds, AreLimits}
-use Rattle.nl_frame.specs.Message.{MessageVal}
-use Rattle.nl_frame.specs.Outcomes.{IfFault, VisitsUpTo}
-use Rattle.nl_frame.proofs.ProperLayouts.{the_list}
-use Rattle.nl_frame.proofs.Within.{within}
-use Rattle.nl_dump.specs.declared.dump.Dump.{Dump}
-use Rattle.nl_dump.specs.declared.dump.End.{End}
 use Rattle.nl_dump.specs.declared.dump.ItemsRead.{ItemsRead}
-use Rattle.nl_dump.specs.declared.dump.State.TheVariants.{Waiting}
-use Rattle.nl_dump.specs.declared.errors.FeedError.{FeedError}
 use Rattle.nl_dump.specs.declared.errors.FeedError.TheVariants as feed
-use Rattle.nl_dump.specs.declared.picking.Picked.{Picked}
-use Rattle.nl_dump.specs.declared.sifting.Sifted.{Sifted}
-use Rattle.nl_dump.specs.declared.standing.Standing.{Standing}
-use Rattle.nl_dump.specs.Answer.{item_in, end_in, end_of, up_to_end, one_if}
 use Rattle.nl_dump.specs.Codes.{read_error}
-use Rattle.nl_dump.specs.Inside.{Picks, Sieved, is_marked, role_of, role_for, taken_by}
-use Rattle.nl_dump.specs.Items.{Item}
-use Rattle.nl_dump.specs.Reading.{item_messages, MessagesBringItems, StreamRead, IsReadAnswered, EveryRead}
-use Rattle.nl_dump.specs.Sifting.{judge, none_sifted}
-use Rattle.nl_dump.specs.Standing.{IsPossible}
-use Rattle.nl_dump.specs.Streams.{refused_by}
-use Rattle.nl_dump.proofs.Counting.{none_summed, up_to_end-more, up_to_end-behind, up_to_end-one}
+use Rattle.nl_dump.proofs.Counting.{up_to_end-more, up_to_end-behind, up_to_end-one}
 use Rattle.nl_dump.proofs.Courses.{end_no_item}
 use Rattle.nl_dump.proofs.Feeding.{waits}
-use Rattle.nl_dump.proofs.Streaming.{can, few_found, stays, streams}
-use Rattle.nl_dump.proofs.Walked.{judge_sieved}
+use Rattle.nl_dump.proofs.Streaming.{can, stays}
+use Rattle.nl_dump.proofs.Walked.{judge_counts}
 
 -- ---- the messages that are items
 
@@ -62,12 +39,12 @@ module _ (d : Dump) (ms : List MessageVal) (m : MessageVal) where
       ∙ filter-append (λ m. is_some (item_in d m)) (up_to_end d ms) (up_to_end d (m ∷ []))
       ∙ ap (λ l. item_messages d ms ++ filter (λ m. is_some (item_in d m)) l) (up_to_end-one d m)
 
-  module _ (s : Sifted) (so : Sieved d ms s) where
-    abbrev judged : Sifted
+  module _ (s : Counts) (so : AreCounts d ms s) where
+    abbrev judged : Counts
     judged = judge s.end (role_for d m) (is_marked m.flags) s
 
     -- it is kept where it is an item before the end, and counted then
-    abbrev IsKept : Sifted → Type 0
+    abbrev IsKept : Counts → Type 0
     IsKept t = (item_messages d (ms ++ m ∷ []) ≡ item_messages d ms ++ cond t.keeps (m ∷ []) []) × (t.items ≡ s.items + one_if t.keeps)
 
     pub kept_so : IsKept judged
@@ -85,18 +62,15 @@ module _ (d : Dump) (ms : List MessageVal) (m : MessageVal) where
 -- ---- messages, picked in place
 
 -- Of the first `at` of the messages that were there, those that are items stand at the front; from there on they are as they were.
-pub record IsPicking {X : Type 0} (view : X → MessageVal) (d : Dump) (old new : List X) (at : ℕ) (s : Sifted) : Type 0 where
-  pub sieved : Sieved d (map view (take at old)) s
+pub record IsPicking {X : Type 0} (view : X → MessageVal) (d : Dump) (old new : List X) (at : ℕ) (s : Counts) : Type 0 where
+  pub counts : AreCounts d (map view (take at old)) s
   pub front : map view (take s.items new) ≡ item_messages d (map view (take at old))
   pub rest : drop at new ≡ drop at old
   pub low : s.items ≤ at
   pub long : length new ≡ length old
 
 module _ {X : Type 0} (view : X → MessageVal) (d : Dump) (old : List X) where
-  pub picks_none : IsPicking view d old old 0 none_sifted
-  picks_none = record { sieved = record { items = refl; sums = none_summed d }; front = refl; rest = refl; low = omega arith; long = refl }
-
-  module _ (new : List X) (at : ℕ) (s : Sifted) (x : X) (is : IsPicking view d old new at s) (here : at < length new) (x_is : x ≡ get_or new at x) where
+  module _ (new : List X) (at : ℕ) (s : Counts) (x : X) (is : IsPicking view d old new at s) (here : at < length new) (x_is : x ≡ get_or new at x) where
     m : MessageVal
     m = view x
 
@@ -108,40 +82,34 @@ module _ {X : Type 0} (view : X → MessageVal) (d : Dump) (old : List X) where
         let read : get_or old at x ≡ x = sym (ap (λ l. get_or l 0 x) both) in
         ap (map view) (take_more old at x (omega (arith, is.long)) ∙ ap (λ y. take at old ++ y ∷ []) read) ∙ map-append view (take at old) (x ∷ [])
 
-    module _ (t : Sifted) (t_is : t ≡ judge s.end (role_for d (view x)) (is_marked (view x).flags) s) where
-      sieves : Sieved d (map view (take (at + 1) old)) t
-      sieves = subst (λ l. Sieved d l t) (sym more) (subst (Sieved d (map view (take at old) ++ view x ∷ [])) (sym t_is) (judge_sieved d (map view (take at old)) (view x) s is.sieved))
+    module _ (t : Counts) (t_is : t ≡ judge s.end (role_for d (view x)) (is_marked (view x).flags) s) where
+      counted : AreCounts d (map view (take (at + 1) old)) t
+      counted = subst (λ l. AreCounts d l t) (sym more) (subst (AreCounts d (map view (take at old) ++ view x ∷ [])) (sym t_is) (judge_counts d (map view (take at old)) (view x) s is.counts))
 
-      keeps : IsKept d (map view (take at old)) (view x) s is.sieved t
-      keeps = subst (IsKept d (map view (take at old)) (view x) s is.sieved) (sym t_is) (kept_so d (map view (take at old)) (view x) s is.sieved)
+      keeps : IsKept d (map view (take at old)) (view x) s is.counts t
+      keeps = subst (IsKept d (map view (take at old)) (view x) s is.counts) (sym t_is) (kept_so d (map view (take at old)) (view x) s is.counts)
 
       -- it is no item
       pub picks_other : t.keeps ≡ false → IsPicking view d old new (at + 1) t
       picks_other out =
           let same : t.items ≡ s.items = keeps.1 ∙ ap (λ b. s.items + one_if b) out ∙ omega arith in
           record {
-            sieved = sieves;
+            counts = counted;
             front = ap (λ n. map view (take n new)) same ∙ is.front ∙ sym (append-nil (item_messages d (map view (take at old)))) ∙ ap (λ b. item_messages d (map view (take at old)) ++ cond b (view x ∷ []) []) (sym out) ∙ sym keeps.0 ∙ ap (item_messages d) (sym more);
             rest = ap (drop 1) both;
             low = omega (arith, same, is.low);
             long = is.long;
           }
 
-      -- it is one, and changes places with what stands behind the items
-      pub picks_item : (zs : List X) → t.keeps ≡ true → SwappedAt new zs s.items at → IsPicking view d old zs (at + 1) t
-      picks_item zs kept swapped =
+      -- it is one, and stands behind the items
+      picks_kept : (zs : List X) → t.keeps ≡ true → get_or zs s.items x ≡ x → length zs ≡ length new → take s.items zs ≡ take s.items new → drop (at + 1) zs ≡ drop (at + 1) new → IsPicking view d old zs (at + 1) t
+      picks_kept zs kept there long front rest =
           let k = s.items in
           let low : k ≤ at = is.low in
-          let sets = swapped.3 x in
           let next : t.items ≡ k + 1 = keeps.1 ∙ ap (λ b. k + one_if b) kept in
-          let mid = set new k (get_or new at x) in
-          let there : get_or zs k x ≡ x = swapped.0 x ∙ sym x_is in
-          let long : length zs ≡ length new = ap length sets ∙ length-set mid at (get_or new k x) ∙ length-set new k (get_or new at x) in
-          let front : take k zs ≡ take k new = ap (take k) sets ∙ take-set-le k mid at (get_or new k x) low ∙ take-set-le k new k (get_or new at x) (omega arith) in
-          let rest : drop (at + 1) zs ≡ drop (at + 1) new = ap (drop (at + 1)) sets ∙ drop-set-lt (at + 1) mid at (get_or new k x) (omega arith) ∙ drop-set-lt (at + 1) new k (get_or new at x) (omega arith) in
           let taken : take (k + 1) zs ≡ take k new ++ x ∷ [] = take_more zs k x (omega arith) ∙ (λ i. front i ++ there i ∷ []) in
           record {
-            sieved = sieves;
+            counts = counted;
             front = ap (λ n. map view (take n zs)) next ∙ ap (map view) taken ∙ map-append view (take k new) (x ∷ []) ∙ ap (λ l. l ++ view x ∷ []) is.front
                 ∙ ap (λ b. item_messages d (map view (take at old)) ++ cond b (view x ∷ []) []) (sym kept) ∙ sym keeps.0 ∙ ap (item_messages d) (sym more);
             rest = rest ∙ ap (drop 1) both;
@@ -149,18 +117,24 @@ module _ {X : Type 0} (view : X → MessageVal) (d : Dump) (old : List X) where
             long = long ∙ is.long;
           }
 
-  -- so few were found
-  pub few_picked : (new : List X) (at : ℕ) (s : Sifted) → IsPicking view d old new at s → (s.items ≤ length old) × (s.ignored ≤ length old)
-  few_picked new at s is =
-      let few = few_found d (map view (take at old)) s is.sieved in
-      let all : length (map view (take at old)) ≤ length old = omega (arith, length-map (take at old) view, length-take at old) in
-      (omega (arith, few.0, all), omega (arith, few.1, all))
+      pub picks_here : t.keeps ≡ true → s.items ≡ at → IsPicking view d old new (at + 1) t
+      picks_here kept here = picks_kept new kept (ap (λ k. get_or new k x) here ∙ sym x_is) refl refl refl
+
+      -- it changes places with what stands there
+      pub picks_item : (zs : List X) → t.keeps ≡ true → SwappedAt new zs s.items at → IsPicking view d old zs (at + 1) t
+      picks_item zs kept swapped =
+          let k = s.items in
+          let sets = swapped.3 x in
+          let mid = set new k (get_or new at x) in
+          picks_kept zs kept (swapped.0 x ∙ sym x_is) (ap length sets ∙ length-set mid at (get_or new k x) ∙ length-set new k (get_or new at x))
+          (ap (take k) sets ∙ take-set-le k mid at (get_or new k x) is.low ∙ take-set-le k new k (get_or new at x) (omega arith))
+          (ap (drop (at + 1)) sets ∙ drop-set-lt (at + 1) mid at (get_or new k x) (omega arith) ∙ drop-set-lt (at + 1) new k (get_or new at x) (omega (arith, is.low)))
 
   -- all are picked
-  pub picked : (new : List X) (at : ℕ) (s : Sifted) → IsPicking view d old new at s → length old ≤ at → Sieved d (map view old) s × (map view (take s.items new) ≡ item_messages d (map view old))
+  pub picked : (new : List X) (at : ℕ) (s : Counts) → IsPicking view d old new at s → length old ≤ at → AreCounts d (map view old) s × (map view (take s.items new) ≡ item_messages d (map view old))
   picked new at s is all =
       let whole : take at old ≡ old = take_all at old all in
-      (subst (λ l. Sieved d (map view l) s) whole is.sieved, is.front ∙ ap (λ l. item_messages d (map view l)) whole)
+      (subst (λ l. AreCounts d (map view l) s) whole is.counts, is.front ∙ ap (λ l. item_messages d (map view l)) whole)
 
 -- a refused reading
 pub picks_err : {X : Type 0} (b : Bounds) (d : Dump) (bytes : List ℕ) (r : Result X ReadError) (e : ReadError) (v : ℕ) → r ≡ Err e → (r ≡ Err read.TooLarge) ↔ (b.datagram < length bytes)
@@ -172,11 +146,6 @@ picks_err b d bytes r read.Memory v is large first visits = within r b.datagram 
 -- ---- what the stream becomes
 
 module _ (s : Standing) (bytes : List ℕ) (d : Dump) (state : s.state ≡ Waiting d) (total : s.received + length bytes ≤ s.limits.total) where
-  pub read_ok : (p : Picked) (n : ℕ) → Picks s.limits d bytes (Ok p) n → StreamRead s bytes (Ok (record { items = p.items; progress = p.taken.progress })) (taken_by s d (length bytes) n p.taken)
-  read_ok p n h =
-      let g = h.1 in
-      (can s bytes d state total h.0, (d, g.0, n, streams s bytes d state total p.taken n g.0 g.1 g.2 g.3, g.3.0, g.4))
-
   pub read_err : (e : FeedError) (n : ℕ) → n ≤ (s.limits.shape.depth + 1) * length bytes → Picks s.limits d bytes (Err e) n → StreamRead s bytes (Err e) (refused_by s (length bytes) n)
   read_err feed.TooLarge n low h = (waits s.state d state, total, h.0, λ i. refused_by s (length bytes) (h.1 i))
   read_err (feed.Layout f) n low h = (can s bytes d state total h.0, h.1, (n, h.2, refl))

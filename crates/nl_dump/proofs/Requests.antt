@@ -1,24 +1,15 @@
 -- The bytes of a request.
 use Rattle.std.proofs.Common.{◌≡◌, ℕ, zero, suc, ◌+◌, ◌-◌, ◌≤◌, List, [], ◌∷◌, ◌++◌, length, take, drop, set, get_or, replicate, refl, sym, ap, ◌∙◌, arith, take_at, append-nil, append_assoc, length-append, length-drop, length-set}
-use Rattle.std.proofs.lemmas.List.{length-take-le, set-append_right}
+use Rattle.nl_dump.proofs.Common.{length-take-le, set-append_right, drop-cons, Order, aligned, Family, head_size, zeros, is_family, header_fields, Dump}
 use Rattle.std.proofs.lemmas.List.Edits.{paste_all}
 use Rattle.std.proofs.lemmas.Slice.{put_mid-paste}
 use Rattle.std.proofs.Math.ListN.{drop_of_length-le}
-use Rattle.std.proofs.Math.Seq.{drop-cons}
 use borrow.Rule.Slice.PartMut.{put_mid}
-use Rattle.nl_attr.specs.declared.order.Order.{Order}
-use Rattle.nl_attr.specs.Numbers.{aligned}
-use Rattle.nl_route.specs.declared.family.Family.{Family}
 use Rattle.nl_route.specs.declared.family.Family.TheVariants.{Link}
-use Rattle.nl_route.specs.Families.{head_size}
 use Rattle.nl_route.specs.Fields as fields
-use Rattle.nl_route.specs.Fields.{zeros}
-use Rattle.nl_route.proofs.Families.{is_family}
 use Rattle.nl_route.proofs.Fields.{length-zeros, length-written}
-use Rattle.nl_frame.specs.Header.{header_fields}
 use Rattle.nl_frame.specs.Written.{body_len, header_for, message_item}
 use Rattle.nl_frame.proofs.WrittenLayouts.{length-message}
-use Rattle.nl_dump.specs.declared.dump.Dump.{Dump}
 use Rattle.nl_dump.specs.Request.{request_message, request_of}
 
 least_head : (g : Family) → 1 ≤ head_size g

@@ -1,47 +1,18 @@
 -- One datagram of a stream, from what a scan finds of it to what the stream becomes.
-use Rattle.std.proofs.Common.{◌≡◌, ◌↔◌, ℕ, ◌+◌, ◌*◌, ◌-◌, ◌<◌, ◌≤◌, ◌||◌, Bool, true, false, cond, ℤ, pos, List, [], ◌∷◌, ◌++◌, length, take, drop, Option, Some, None, is_some, Result, Ok, Err, IfOk, IfErr, refl, sym, ap, ◌∙◌, subst, arith, length-append}
+use Rattle.nl_dump.proofs.Common.{◌≡◌, ◌↔◌, ℕ, ◌+◌, ◌*◌, ◌-◌, ◌<◌, ◌≤◌, ◌||◌, Bool, true, false, cond, ℤ, pos, List, [], ◌∷◌, ◌++◌, length, take, drop, Option, Some, None, is_some, Result, Ok, Err, IfOk, IfErr, refl, sym, ap, ◌∙◌, subst, arith, length-append, take_all, take-append_seam, mul-add, AreBytes, Event, Shape, put_from, IsFirstFault, Visits, whole, Layout, Bounds, AreLimits, BodyVal, error, done, MessageVal, IfFault, VisitsUpTo, the_list, within, Dump, End, Error, Waiting, Taken, Counts, Standing, belongs, body_end, end_in, end_of, or_later, state_by, no_counts, counts_of, kept, IsRealEnd, IsReached, IsPossible, CanLook, all_events, IsSummaryOf, AreCounts, ReadsEvents, scan_refusal, is_room, taken_by, taken_of, IsStreamed, StreamFed, StaysAnswer, IsStreamAnswered, EveryStreamed, refused_by}
 use Rattle.std.specs.Ordering.{int_eq}
-use Rattle.std.proofs.lemmas.List.{take_all}
-use Rattle.std.proofs.Math.Seq.{take-append_seam}
-use native.Mathlib.Nat.{mul-add}
-use Rattle.nl_attr.specs.Numbers.{AreBytes}
-use Rattle.nl_attr.specs.declared.events.Event.{Event}
-use Rattle.nl_attr.specs.Shape.{Shape}
-use Rattle.nl_attr.specs.HeadOrder.{put_from}
 use Rattle.nl_frame.specs.declared.scanning.ScanError.{ScanError}
 use Rattle.nl_frame.specs.declared.scanning.ScanError.TheVariants as scan
-use Rattle.nl_frame.specs.Heads.{IsFirstFault, Visits, whole}
-use Rattle.nl_frame.specs.Layout.{Layout}
-use Rattle.nl_frame.specs.Limits.{Bounds, AreLimits}
-use Rattle.nl_frame.specs.Message.{BodyVal, error, done, MessageVal}
-use Rattle.nl_frame.specs.Outcomes.{IfFault, VisitsUpTo}
 use Rattle.nl_frame.specs.Taped.{as_read}
 use Rattle.nl_frame.specs.HeadOrder.{events_of}
-use Rattle.nl_frame.proofs.ProperLayouts.{the_list}
-use Rattle.nl_frame.proofs.Within.{within}
-use Rattle.nl_dump.specs.declared.dump.Dump.{Dump}
-use Rattle.nl_dump.specs.declared.dump.End.{End}
-use Rattle.nl_dump.specs.declared.dump.End.TheVariants.{Error}
 use Rattle.nl_dump.specs.declared.dump.State.{State}
-use Rattle.nl_dump.specs.declared.dump.State.TheVariants.{Waiting}
 use Rattle.nl_dump.specs.declared.dump.Streamed.{Streamed}
 use Rattle.nl_dump.specs.declared.errors.StreamError.{StreamError}
 use Rattle.nl_dump.specs.declared.errors.StreamError.TheVariants.{NotWaiting, Total, TooLarge, Layout as Fault, Room}
-use Rattle.nl_dump.specs.declared.putting.Taken.{Taken}
-use Rattle.nl_dump.specs.declared.sifting.Sifted.{Sifted}
-use Rattle.nl_dump.specs.declared.standing.Standing.{Standing}
-use Rattle.nl_dump.specs.declared.straining.Strained.{Strained}
-use Rattle.nl_dump.specs.Answer.{belongs, body_end, end_in, end_of, or_later, state_by}
 use Rattle.nl_dump.specs.Handed.{item_events}
-use Rattle.nl_dump.specs.Sifting.{none_sifted, sifted, kept}
-use Rattle.nl_dump.specs.Standing.{IsRealEnd, IsReached, IsPossible}
-use Rattle.nl_dump.specs.Steps.{CanLook}
-use Rattle.nl_dump.specs.Inside.{all_events, IsSummaryOf, Sieved, Strains, scan_refusal, is_room, taken_by, taken_of}
-use Rattle.nl_dump.specs.Steps.{IsStreamed}
-use Rattle.nl_dump.specs.Streams.{StreamFed, StaysAnswer, IsStreamAnswered, EveryStreamed, refused_by}
 use Rattle.nl_dump.proofs.Feeding.{waits}
-use Rattle.nl_dump.proofs.Sieve.{sifted-events}
-use Rattle.nl_dump.proofs.Walked.{look, sieved}
+use Rattle.nl_dump.proofs.Sieve.{counts-events}
+use Rattle.nl_dump.proofs.Walked.{look, counts_all}
 
 -- each message has a byte or more
 pub messages_few : (S : Shape) (ms : List MessageVal) (d : List ℕ) → Layout S ms d → length ms ≤ length d
@@ -59,7 +30,7 @@ taken_back es old h =
     less n = omega arith
 
 -- what was found of all messages is their summary
-pub summary : (d : Dump) (ms : List MessageVal) (s : Sifted) → Sieved d ms s → IsSummaryOf d ms (taken_of s)
+pub summary : (d : Dump) (ms : List MessageVal) (s : Counts) → AreCounts d ms s → IsSummaryOf d ms (taken_of s)
 summary d ms s so = (
   (so.items, omega (arith, so.sums.ignored_is), ap is_some so.sums.end_is),
   so.sums.interrupted_is,
@@ -67,27 +38,27 @@ summary d ms s so = (
 )
 
 -- no more items or others than messages
-pub few_found : (d : Dump) (ms : List MessageVal) (s : Sifted) → Sieved d ms s → (s.items ≤ length ms) × (s.ignored ≤ length ms)
+pub few_found : (d : Dump) (ms : List MessageVal) (s : Counts) → AreCounts d ms s → (s.items ≤ length ms) × (s.ignored ≤ length ms)
 few_found d ms s so = (omega (arith, so.items, so.sums.ignored_is), omega (arith, so.sums.ignored_is))
 
 -- ---- what is left in the buffer
 
 module _ (b : Bounds) (d : Dump) (bytes : List ℕ) (old : List Event) where
   -- what a scan found, and what was sifted of it
-  pub record IsSifted (s : Sifted) (visits : ℕ) (new : List Event) : Type 0 where
+  pub record IsSifted (s : Counts) (visits : ℕ) (new : List Event) : Type 0 where
     pub within : length bytes ≤ b.datagram
     pub messages : List MessageVal
     pub layout : Layout b.shape messages bytes
     pub visited : Visits b.shape (whole bytes) (length bytes) visits
-    pub sieved : Sieved d messages s
+    pub counts : AreCounts d messages s
     pub room : length (all_events b d bytes old) ≤ length old
     pub events : new ≡ put_from 0 (item_events b.shape d messages bytes) (put_from 0 (all_events b d bytes old) old)
     pub count : s.events ≡ length (item_events b.shape d messages bytes)
 
-  pub is_sifted : (r : Result (Unit {0}) ScanError) (n visits : ℕ) (s : Sifted) (mid new : List Event) → r ≡ Ok tt → (r ≡ Err scan.TooLarge) ↔ (b.datagram < length bytes)
+  pub is_sifted : (r : Result (Unit {0}) ScanError) (n visits : ℕ) (s : Counts) (mid new : List Event) → r ≡ Ok tt → (r ≡ Err scan.TooLarge) ↔ (b.datagram < length bytes)
       → IfOk r (λ _. (ms : List MessageVal) × Layout b.shape ms bytes) → VisitsUpTo b.shape bytes (as_read r) visits → (length bytes ≤ b.datagram → n ≡ length (events_of b.shape (whole bytes)))
       → (length bytes ≤ b.datagram → mid ≡ put_from 0 (events_of b.shape (whole bytes)) old) → length mid ≡ length old → n ≤ length mid
-      → s ≡ sifted (look b.shape d bytes) none_sifted (take n mid) → new ≡ put_from 0 (kept (look b.shape d bytes) none_sifted (take n mid)) mid → IsSifted s visits new
+      → s ≡ counts_of (look b.shape d bytes) no_counts (take n mid) → new ≡ put_from 0 (kept (look b.shape d bytes) no_counts (take n mid)) mid → IsSifted s visits new
   is_sifted r n visits s mid new is large fits visited counts put len room found events =
       let fit = subst (λ r. IfOk r (λ _. (ms : List MessageVal) × Layout b.shape ms bytes)) is fits in
       let es = events_of b.shape (whole bytes) in
@@ -95,48 +66,48 @@ module _ (b : Bounds) (d : Dump) (bytes : List ℕ) (old : List Event) where
       let many : n ≡ length es = counts low in
       let enough : length es ≤ length old = omega (arith, many, len, room) in
       let all : take n mid ≡ es = ap (λ k. take k mid) many ∙ ap (take (length es)) (put low) ∙ taken_back es old enough in
-      let so = sieved b.shape d bytes fit.0 fit.1 in
-      let here : s ≡ sifted (look b.shape d bytes) none_sifted es = found ∙ ap (sifted (look b.shape d bytes) none_sifted) all in
+      let so = counts_all b.shape d bytes fit.0 fit.1 in
+      let here : s ≡ counts_of (look b.shape d bytes) no_counts es = found ∙ ap (counts_of (look b.shape d bytes) no_counts) all in
       record {
         within = low;
         messages = fit.0;
         layout = fit.1;
         visited = subst (λ r. VisitsUpTo b.shape bytes (as_read r) visits) is visited;
-        sieved = subst (Sieved d fit.0) (sym here) so.0;
+        counts = subst (AreCounts d fit.0) (sym here) so.0;
         room = enough;
-        events = events ∙ ap (λ l. put_from 0 (kept (look b.shape d bytes) none_sifted l) mid) all ∙ ap (λ l. put_from 0 l mid) so.1 ∙ ap (put_from 0 (item_events b.shape d fit.0 bytes)) (put low);
-        count = ap (λ (x : Sifted). x.events) here ∙ sifted-events (look b.shape d bytes) none_sifted es ∙ omega (arith, ap (length {A = Event}) so.1);
+        events = events ∙ ap (λ l. put_from 0 (kept (look b.shape d bytes) no_counts l) mid) all ∙ ap (λ l. put_from 0 l mid) so.1 ∙ ap (put_from 0 (item_events b.shape d fit.0 bytes)) (put low);
+        count = ap (λ (x : Counts). x.events) here ∙ counts-events (look b.shape d bytes) no_counts es ∙ omega (arith, ap (length {A = Event}) so.1);
       }
 
-  module _ (s : Sifted) (visits : ℕ) (new : List Event) (is : IsSifted s visits new) where
+  module _ (s : Counts) (visits : ℕ) (new : List Event) (is : IsSifted s visits new) where
     -- no more items or others than bytes
     pub few_items : s.items ≤ length bytes
-    few_items = omega (arith, (few_found d is.messages s is.sieved).0, messages_few b.shape is.messages bytes is.layout)
+    few_items = omega (arith, (few_found d is.messages s is.counts).0, messages_few b.shape is.messages bytes is.layout)
 
     pub few_ignored : s.ignored ≤ length bytes
-    few_ignored = omega (arith, (few_found d is.messages s is.sieved).1, messages_few b.shape is.messages bytes is.layout)
+    few_ignored = omega (arith, (few_found d is.messages s is.counts).1, messages_few b.shape is.messages bytes is.layout)
 
-    pub strains_ok : Strains b d bytes old (Ok (record { taken = taken_of s; events = s.events })) visits new
-    strains_ok = (
+    pub reads_ok : ReadsEvents b d bytes old (Ok (record { taken = taken_of s; events = s.events })) visits new
+    reads_ok = (
       is.within,
       (
         is.messages,
         is.layout,
         is.visited,
-        summary d is.messages s is.sieved,
+        summary d is.messages s is.counts,
         is.room,
         is.events,
         is.count,
       ),
     )
 
-  pub strains_err : (r : Result (Unit {0}) ScanError) (e : ScanError) (visits : ℕ) (new : List Event) → r ≡ Err e → (r ≡ Err scan.TooLarge) ↔ (b.datagram < length bytes)
+  pub reads_err : (r : Result (Unit {0}) ScanError) (e : ScanError) (visits : ℕ) (new : List Event) → r ≡ Err e → (r ≡ Err scan.TooLarge) ↔ (b.datagram < length bytes)
       → IfErr (as_read r) (λ e. IfFault e (λ f. IsFirstFault b.shape (whole bytes) f.place f.reason)) → VisitsUpTo b.shape bytes (as_read r) visits
-      → (b.datagram < length bytes → new ≡ old) → (length bytes ≤ b.datagram → new ≡ put_from 0 (events_of b.shape (whole bytes)) old) → Strains b d bytes old (Err (scan_refusal e)) visits new
-  strains_err r scan.TooLarge visits new is large first visited untouched put =
+      → (b.datagram < length bytes → new ≡ old) → (length bytes ≤ b.datagram → new ≡ put_from 0 (events_of b.shape (whole bytes)) old) → ReadsEvents b d bytes old (Err (scan_refusal e)) visits new
+  reads_err r scan.TooLarge visits new is large first visited untouched put =
       let low = large.0 is in
       (low, subst (λ r. VisitsUpTo b.shape bytes (as_read r) visits) is visited, untouched low)
-  strains_err r (scan.Layout f) visits new is large first visited untouched put =
+  reads_err r (scan.Layout f) visits new is large first visited untouched put =
       let low : length bytes ≤ b.datagram = within r b.datagram (length bytes) large (λ e. let k = is in cc) in (
         low,
         subst (λ r. IfErr (as_read r) (λ e. IfFault e (λ f. IsFirstFault b.shape (whole bytes) f.place f.reason))) is first,
@@ -223,22 +194,7 @@ module _ (s : Standing) (bytes : List ℕ) (d : Dump) (state : s.state ≡ Waiti
         reached_waiting x e = subst (λ x. IsReached x (refused_by s (length bytes) n)) (sym e) tt
 
   module _ (old : List Event) where
-    pub fed_ok : (t : Strained) (n : ℕ) (new : List Event) → Strains s.limits d bytes old (Ok t) n new
-        → StreamFed s bytes old (Ok (record { progress = t.taken.progress; events = t.events })) (taken_by s d (length bytes) n t.taken) new
-    fed_ok t n new h =
-        let g = h.1 in (
-          can h.0,
-          (
-            d,
-            g.0,
-            n,
-            streams t.taken n g.0 g.1 g.2 g.3,
-            g.3.0,
-            record { room = g.4; events = g.5; count = g.6 },
-          ),
-        )
-
-    pub fed_err : (e : StreamError) (n : ℕ) (new : List Event) → is_room e ≡ false → Strains s.limits d bytes old (Err e) n new
+    pub fed_err : (e : StreamError) (n : ℕ) (new : List Event) → is_room e ≡ false → ReadsEvents s.limits d bytes old (Err e) n new
         → StreamFed s bytes old (Err e) (refused_by s (length bytes) n) new
     fed_err TooLarge n new r h = (waits s.state d state, total, h.0, λ i. refused_by s (length bytes) (h.1 i), h.2)
     fed_err (Fault f) n new r h = (can h.0, h.1, (n, h.2, refl), h.3)

@@ -1,39 +1,17 @@
 -- The keys of a session's entries tell them apart, since their numbers come from bytes.
-use Rattle.std.proofs.Common.{◌≡◌, ℕ, ◌&&◌, ◌==◌, Bool, true, false, cond, List, [], ◌∷◌, ◌++◌, drop, reverse, Option, Some, None, Ok, Err, refl, sym, ap, ◌∙◌, subst, inl, inr}
-use Rattle.std.specs.Prelude.{find, filter_map, option_map, bytes_eq, is_some, ◌↔◌}
-use Rattle.std.specs.List.{AllByRecursion, Contains}
-use Rattle.std.proofs.lemmas.List.Elements.{All-contains, All-from_recursion}
+use Rattle.nl_dump.proofs.Common.{◌≡◌, ℕ, ◌&&◌, ◌==◌, Bool, true, false, cond, List, [], ◌∷◌, ◌++◌, drop, reverse, Option, Some, None, Ok, Err, refl, sym, ap, ◌∙◌, subst, inl, inr, find, filter_map, option_map, bytes_eq, is_some, ◌↔◌, AllByRecursion, Contains, All-contains, All-from_recursion, reverse-append, Order, Shape, AreBytes, Family, New, AreRanged, AnyHead, row, fields_of, head_size, type_of, one_or_other, BodyOf, Layout, BodyVal, object, MessageVal, layout_ranged, Content, last_with, kept_keys, table_of, Dump, Item, item_fields, item_key, body_item, family_item, belongs, end_in, item_in, up_to_end, items_of, View, table_at, Call, begins, feeds, abandons, Course, goes_on, with_messages, with_damage, given_up, Dumps, items_at}
 use Rattle.std.proofs.lemmas.Slice.Eq.{bytes_eq-Decides}
-use Rattle.std.proofs.lemmas.List.{reverse-append}
-use Rattle.nl_attr.specs.declared.order.Order.{Order}
-use Rattle.nl_attr.specs.Shape.{Shape}
-use Rattle.nl_attr.specs.Numbers.{AreBytes}
 use Rattle.nl_attr.specs.Tree.{Items}
 use Rattle.nl_attr.proofs.Lemmas.Numbers.{bytes_drop}
 use Rattle.nl_attr.proofs.Lemmas.Pieces.{piece_bytes}
-use Rattle.nl_route.specs.declared.family.Family.{Family}
-use Rattle.nl_route.specs.declared.family.Verb.TheVariants.{New}
-use Rattle.nl_route.specs.Fields.{AreRanged}
-use Rattle.nl_route.specs.Families.{AnyHead, row, fields_of, head_size, type_of}
-use Rattle.nl_route.proofs.Families.{one_or_other}
-use Rattle.nl_frame.specs.Layout.{BodyOf, Layout}
 use Rattle.nl_frame.specs.Form.{form_of}
-use Rattle.nl_frame.specs.Message.{BodyVal, object, MessageVal}
 use Rattle.nl_frame.specs.Proper.{IsRanged, IsRangedBody}
-use Rattle.nl_frame.proofs.ProperLayouts.{layout_ranged}
 use Rattle.nl_table.specs.Keys.{AreKeyFields, TellApart}
-use Rattle.nl_table.specs.Content.{Content}
 use Rattle.nl_table.specs.Families.{key_fields}
-use Rattle.nl_table.specs.Whole.{last_with, kept_keys, table_of}
 use Rattle.nl_table.proofs.Leaves.{HasLeaves, fitting_leaves}
 use Rattle.nl_table.proofs.KeyFields.{key_fits}
 use Rattle.nl_table.proofs.Telling.{apart}
-use Rattle.nl_dump.specs.declared.dump.Dump.{Dump}
 use Rattle.nl_dump.specs.declared.errors.FeedError.TheVariants as feed
-use Rattle.nl_dump.specs.Items.{Item, item_fields, item_key, body_item, family_item}
-use Rattle.nl_dump.specs.Answer.{belongs, end_in, item_in, up_to_end, items_of}
-use Rattle.nl_dump.specs.View.{View, table_at}
-use Rattle.nl_dump.specs.Whole.{Call, begins, feeds, abandons, Course, goes_on, with_messages, with_damage, given_up, Dumps, items_at}
 use Rattle.nl_dump.specs.Headline.{FeedBytes, EntriesTellApart}
 use Rattle.nl_dump.proofs.Courses.{calls_end}
 

@@ -1,37 +1,18 @@
 -- A stream and a session that are asked the same answer the same.
-use Rattle.std.proofs.Common.{◌≡◌, ℕ, Bool, true, false, List, [], ◌∷◌, length, Result, Ok, Err, refl, sym, ap, ◌∙◌, subst, arith, rules}
+use Rattle.nl_dump.proofs.Common.{◌≡◌, ℕ, Bool, true, false, List, [], ◌∷◌, length, Result, Ok, Err, refl, sym, ap, ◌∙◌, subst, arith, rules, Event, Shape, IsFirstFault, Visits, whole, Layout, Bounds, MessageVal, one_first_fault, one_sum, Dump, Abandoned, Progress, Waiting, Ended, FeedError, Standing, StreamRead, standing_of, Began, Fed, Abandons, IsStreamed, IsProgressOf, StreamBegan, StreamFed, StreamAbandons, refused_by, View, Call, begins, feeds, abandons, Step, Calls}
 use Rattle.std.specs.Global.{Vec}
-use Rattle.nl_attr.specs.declared.events.Event.{Event}
 use Rattle.nl_attr.specs.declared.fault.Fault.{Fault}
-use Rattle.nl_attr.specs.Shape.{Shape}
-use Rattle.nl_frame.specs.Heads.{IsFirstFault, Visits, whole}
-use Rattle.nl_frame.specs.Layout.{Layout}
-use Rattle.nl_frame.specs.Limits.{Bounds}
-use Rattle.nl_frame.specs.Message.{MessageVal}
 use Rattle.nl_frame.proofs.Firsts.{ok_sound, one_layout}
 use Rattle.nl_frame.proofs.Layouts.{messages_fit}
-use Rattle.nl_frame.proofs.Scan.{one_first_fault, one_sum}
-use Rattle.nl_dump.specs.declared.dump.Dump.{Dump}
-use Rattle.nl_dump.specs.declared.dump.End.TheVariants.{Abandoned}
 use Rattle.nl_dump.specs.declared.dump.ItemsRead.{ItemsRead}
-use Rattle.nl_dump.specs.declared.dump.Progress.{Progress}
-use Rattle.nl_dump.specs.declared.dump.State.TheVariants.{Waiting, Ended}
 use Rattle.nl_dump.specs.declared.dump.Streamed.{Streamed}
 use Rattle.nl_dump.specs.declared.errors.BeginError.{BeginError}
 use Rattle.nl_dump.specs.declared.errors.BeginError.TheVariants as begin
-use Rattle.nl_dump.specs.declared.errors.FeedError.{FeedError}
 use Rattle.nl_dump.specs.declared.errors.FeedError.TheVariants as feed
 use Rattle.nl_dump.specs.declared.errors.NotWaiting.{NotWaiting}
 use Rattle.nl_dump.specs.declared.errors.StreamError.{StreamError}
 use Rattle.nl_dump.specs.declared.errors.StreamError.TheVariants as stream
-use Rattle.nl_dump.specs.declared.standing.Standing.{Standing}
-use Rattle.nl_dump.specs.Reading.{StreamRead}
-use Rattle.nl_dump.specs.Standing.{standing_of}
-use Rattle.nl_dump.specs.Steps.{Began, Fed, Abandons, IsStreamed, IsProgressOf}
-use Rattle.nl_dump.specs.Streams.{StreamBegan, StreamFed, StreamAbandons, refused_by}
 use Rattle.nl_dump.specs.Twins.{StreamCall, stream_begins, stream_feeds, stream_reads, stream_abandons, StreamStep, lacked, lacked_by, either, with_first, Beside, BeginsWithMemory, FeedsWithMemory, ReadsWithMemory, AsksTheSame, AnswersTheSame, begun, fed, progress_read, StreamIsSession}
-use Rattle.nl_dump.specs.View.{View}
-use Rattle.nl_dump.specs.Whole.{Call, begins, feeds, abandons, Step, Calls}
 use Rattle.nl_dump.proofs.Feeding.{waits}
 
 -- ---- a feed

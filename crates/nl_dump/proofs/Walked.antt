@@ -1,19 +1,14 @@
 -- What is sifted of a datagram's events is what its messages are to the dump.
-use Rattle.std.proofs.Common.{◌≡◌, ◌+◌, ◌==◌, false, cond, List, [], ◌∷◌, ◌++◌, length, map, filter_map, Option, Some, None, is_some, refl, ap, ◌∙◌, arith, ◌≢◌, ℕ, ◌&&◌, ◌≤◌, Bool, true, pos, drop, Result, Ok, sym, subst, append_assoc, length-append}
+use Rattle.nl_dump.proofs.Common.{◌≡◌, ◌+◌, ◌==◌, false, cond, List, [], ◌∷◌, ◌++◌, length, map, filter_map, Option, Some, None, is_some, refl, ap, ◌∙◌, arith, ◌≢◌, ℕ, ◌&&◌, ◌≤◌, Bool, true, pos, drop, Result, Ok, sym, subst, append_assoc, length-append, Event, SORT_MESSAGE, Order, Shape, sort_of, event_at, inner, Rest, behind, region_of, whole, header, MessageVal, BodyVal, error, done, object, header_of, BodyOf, Layout, trail_ends, trail_goes, Dump, End, Done, Error, Found, Counts, Item, body_item, item_in, up_to_end, belongs, body_end, end_in, items_of, AreCounts, is_marked, role_of, role_for, form_end, unbroken, role_by, left_at, found_in, found_at, no_counts, judge, counted, step, counts_of, keeping, kept, Family, New, type_of, row, family_of, is_family}
 use Rattle.std.proofs.lemmas.Bool.{le-ltb, lt-ltb, eq-eqb, eqb-true}
 use Rattle.std.proofs.lemmas.List.{append-nil, drop-drop, length-drop, map-append}
 use Rattle.std.specs.Ordering.{int_eq}
-use Rattle.nl_attr.specs.declared.events.Event.{Event}
-use Rattle.nl_attr.specs.Fixed.{SORT_MESSAGE}
-use Rattle.nl_attr.specs.declared.order.Order.{Order}
 use Rattle.nl_attr.specs.declared.tree.Content.{Content}
 use Rattle.nl_attr.specs.declared.tree.Content.TheVariants as content
 use Rattle.nl_attr.specs.declared.fault.Fault.{Fault}
 use Rattle.nl_attr.specs.declared.fault.Reason.{Reason}
-use Rattle.nl_attr.specs.Shape.{Shape}
 use Rattle.nl_attr.specs.Scanned.{without}
 use Rattle.nl_attr.specs.Heads.{Head, Sort, attr_head, hop_head, content_at}
-use Rattle.nl_attr.specs.HeadOrder.{sort_of, event_at}
 use Rattle.nl_attr.specs.HeadOrder as regions
 use Rattle.nl_attr.specs.Reading.{Outcome}
 use Rattle.nl_attr.specs.Grammar.{and_on}
@@ -21,39 +16,21 @@ use Rattle.nl_attr.proofs.Lemmas.Fitting.{ReadAs}
 use Rattle.nl_attr.proofs.Lemmas.First as region
 use Rattle.nl_attr.proofs.Lemmas.Reading.{sound_within}
 use Rattle.nl_attr.proofs.Lemmas.Grammars.{front}
-use Rattle.nl_frame.specs.Heads.{inner, Rest, behind, region_of, whole, header}
-use Rattle.nl_frame.specs.Message.{MessageVal, BodyVal, error, done, object}
 use Rattle.nl_frame.specs.HeadOrder.{event_of, region_trail, Trail, events_of, trail_of, visits_of}
-use Rattle.nl_frame.specs.Header.{header_of}
 use Rattle.nl_frame.specs.declared.form.Form.{Form}
 use Rattle.nl_frame.specs.declared.form.Form.TheVariants as form
 use Rattle.nl_frame.specs.declared.header.Header.{Header}
 use Rattle.nl_frame.specs.Form.{form_of, form_for}
 use Rattle.nl_frame.specs.Front.{form_at, payload_at, span_at}
-use Rattle.nl_frame.specs.Layout.{BodyOf, Layout}
 use Rattle.nl_frame.specs.Reading.{signed_of, body_at}
 use Rattle.nl_frame.proofs.Layouts.{body_fit, IsMessage, header_in, message_is, messages_fit, some_of}
 use Rattle.nl_frame.proofs.Firsts.{reads}
-use Rattle.nl_frame.proofs.Scan.{trail_ends, trail_goes}
-use Rattle.nl_dump.specs.declared.dump.Dump.{Dump}
-use Rattle.nl_dump.specs.declared.dump.End.{End}
-use Rattle.nl_dump.specs.declared.dump.End.TheVariants.{Done, Error}
 use Rattle.nl_dump.specs.declared.role.Role.{Role}
 use Rattle.nl_dump.specs.declared.role.Role.TheVariants.{Item as Brings, Other}
-use Rattle.nl_dump.specs.declared.sifting.Found.{Found}
-use Rattle.nl_dump.specs.declared.sifting.Sifted.{Sifted}
-use Rattle.nl_dump.specs.Items.{Item, body_item}
-use Rattle.nl_dump.specs.Answer.{item_in, up_to_end, belongs, body_end, end_in, items_of}
 use Rattle.nl_dump.specs.Handed.{message_events, events_among, item_events, headers_in, OneHeaderForEachItem}
-use Rattle.nl_dump.specs.Inside.{Sieved, is_marked, role_of, role_for}
-use Rattle.nl_dump.specs.Sifting.{form_end, unbroken, role_by, left_at, found_in, found_at, none_sifted, judge, counted, step, sifted, keeping, kept}
 use Rattle.nl_dump.proofs.Counting.{more_behind, more_end, more_item, more_other, none_summed}
 use Rattle.nl_dump.proofs.Courses.{end_no_item}
-use Rattle.nl_dump.proofs.Sieve.{sifted-append, kept-append}
-use Rattle.nl_route.specs.declared.family.Family.{Family}
-use Rattle.nl_route.specs.declared.family.Verb.TheVariants.{New}
-use Rattle.nl_route.specs.Families.{type_of, row, family_of}
-use Rattle.nl_route.proofs.Families.{is_family}
+use Rattle.nl_dump.proofs.Sieve.{counts-append, kept-append}
 
 headers-append : (es fs : List Event) → headers_in (es ++ fs) ≡ headers_in es + headers_in fs
 headers-append [] fs = omega arith
@@ -166,11 +143,11 @@ found_so S d m left it rest is b =
 
 -- ---- what was found of messages
 
-module _ (d : Dump) (ms : List MessageVal) (m : MessageVal) (s : Sifted) (so : Sieved d ms s) where
-  pub judge_sieved : Sieved d (ms ++ m ∷ []) (judge s.end (role_for d m) (is_marked m.flags) s)
-  judge_sieved = by s.end refl
+module _ (d : Dump) (ms : List MessageVal) (m : MessageVal) (s : Counts) (so : AreCounts d ms s) where
+  pub judge_counts : AreCounts d (ms ++ m ∷ []) (judge s.end (role_for d m) (is_marked m.flags) s)
+  judge_counts = by s.end refl
     where
-      apart : (x : Option End) (y : Option Item) → end_in d m ≡ x → item_in d m ≡ y → s.end ≡ None → Sieved d (ms ++ m ∷ []) (judge None (role_of x (is_some y)) (is_marked m.flags) s)
+      apart : (x : Option End) (y : Option Item) → end_in d m ≡ x → item_in d m ≡ y → s.end ≡ None → AreCounts d (ms ++ m ∷ []) (judge None (role_of x (is_some y)) (is_marked m.flags) s)
       apart (Some f) y e i h =
           let t = more_end d ms m s.ignored s.interrupted s.end so.sums h f (end_no_item d m (ap is_some e)) e in
           record { items = so.items ∙ ap length (sym t.0); sums = t.1 }
@@ -181,7 +158,7 @@ module _ (d : Dump) (ms : List MessageVal) (m : MessageVal) (s : Sifted) (so : S
           let t = more_other d ms m s.ignored s.interrupted s.end so.sums h i e in
           record { items = so.items ∙ ap length (sym t.0); sums = t.1 }
 
-      by : (o : Option End) → s.end ≡ o → Sieved d (ms ++ m ∷ []) (judge o (role_for d m) (is_marked m.flags) s)
+      by : (o : Option End) → s.end ≡ o → AreCounts d (ms ++ m ∷ []) (judge o (role_for d m) (is_marked m.flags) s)
       by (Some f) e =
           let t = more_behind d ms m s.ignored s.interrupted s.end so.sums (ap is_some e) in
           record { items = so.items ∙ ap length (sym t.0); sums = t.1 }
@@ -195,22 +172,22 @@ nothing false = refl
 
 module _ (find : Event → Found) where
   -- as before, but for the count of events
-  abbrev pub Same : Sifted → Sifted → Type 0
+  abbrev pub Same : Counts → Counts → Type 0
   Same s t = t ≡ record s { events = t.events }
 
-  same_sieved : (d : Dump) (ms : List MessageVal) (s t : Sifted) → Same s t → Sieved d ms s → Sieved d ms t
-  same_sieved d ms s t a so = subst (Sieved d ms) (sym a) (record { items = so.items; sums = so.sums })
+  same_counts : (d : Dump) (ms : List MessageVal) (s t : Counts) → Same s t → AreCounts d ms s → AreCounts d ms t
+  same_counts d ms s t a so = subst (AreCounts d ms) (sym a) (record { items = so.items; sums = so.sums })
 
   module _ (o : Order) where
-    inner_step : (s : Sifted) (h : Head) → step find s (event_of o (inner h)) ≡ counted s
+    inner_step : (s : Counts) (h : Head) → step find s (event_of o (inner h)) ≡ counted s
     inner_step s h = let e = event_of o (inner h) in ap (λ b. counted (cond b (judge s.end (find e).role (find e).marked s) s)) (inner_sort o h.sort h)
 
-    inner_same : (hs : List Head) (s : Sifted) → Same s (sifted find s (map (event_of o) (map inner hs)))
+    inner_same : (hs : List Head) (s : Counts) → Same s (counts_of find s (map (event_of o) (map inner hs)))
     inner_same [] s = refl
-    inner_same (h ∷ hs) s = subst (λ t. Same s (sifted find t (map (event_of o) (map inner hs)))) (sym (inner_step s h)) (inner_same hs (counted s))
+    inner_same (h ∷ hs) s = subst (λ t. Same s (counts_of find t (map (event_of o) (map inner hs)))) (sym (inner_step s h)) (inner_same hs (counted s))
 
     -- they are kept as their message is
-    inner_kept : (hs : List Head) (s : Sifted) → kept find s (map (event_of o) (map inner hs)) ≡ cond s.keeps (map (event_of o) (map inner hs)) []
+    inner_kept : (hs : List Head) (s : Counts) → kept find s (map (event_of o) (map inner hs)) ≡ cond s.keeps (map (event_of o) (map inner hs)) []
     inner_kept [] s = nothing s.keeps
     inner_kept (h ∷ hs) s =
         ap (λ t. keeping t.keeps (event_of o (inner h)) (kept find t (map (event_of o) (map inner hs)))) (inner_step s h)
@@ -220,11 +197,11 @@ module _ (find : Event → Found) where
         by true = refl
         by false = refl
 
-    region_same : (S : Shape) (x : Option Head) (s : Sifted) → Same s (sifted find s (map (event_of o) (region_trail S x).0))
+    region_same : (S : Shape) (x : Option Head) (s : Counts) → Same s (counts_of find s (map (event_of o) (region_trail S x).0))
     region_same S None s = inner_same [] s
     region_same S (Some h) s = inner_same (regions.trail_of S h).0 s
 
-    region_kept : (S : Shape) (x : Option Head) (s : Sifted) → kept find s (map (event_of o) (region_trail S x).0) ≡ cond s.keeps (map (event_of o) (region_trail S x).0) []
+    region_kept : (S : Shape) (x : Option Head) (s : Counts) → kept find s (map (event_of o) (region_trail S x).0) ≡ cond s.keeps (map (event_of o) (region_trail S x).0) []
     region_kept S None s = inner_kept [] s
     region_kept S (Some h) s = inner_kept (regions.trail_of S h).0 s
 
@@ -240,7 +217,7 @@ module _ (S : Shape) (d : Dump) (bytes : List ℕ) where
   look = found_at S.order d bytes
 
   -- which events of a message and of those behind it are kept
-  kept_so : (ns : List MessageVal) (m : MessageVal) (r : Rest) (marked : Bool) (s : Sifted) (x : Option End) (y : Option Item) → end_in d m ≡ x → item_in d m ≡ y → (ks : List Event)
+  kept_so : (ns : List MessageVal) (m : MessageVal) (r : Rest) (marked : Bool) (s : Counts) (x : Option End) (y : Option Item) → end_in d m ≡ x → item_in d m ≡ y → (ks : List Event)
       → ks ≡ cond (is_some (judge s.end (role_of x (is_some y)) marked s).end) [] (events_among S d (up_to_end d ns) (behind S r))
       → cond (judge s.end (role_of x (is_some y)) marked s).keeps (message_events S r ++ ks) ks ≡ cond (is_some s.end) [] (events_among S d (cond (is_some x) (m ∷ []) (m ∷ up_to_end d ns)) r)
   kept_so ns m r marked s x y e i ks is = by s.end refl x y e i is
@@ -254,11 +231,11 @@ module _ (S : Shape) (d : Dump) (bytes : List ℕ) where
       by None h None None e i is = rw i (is ∙ ap (λ (o : Option End). cond (is_some o) [] (events_among S d (up_to_end d ns) (behind S r))) h)
 
   -- what is found and kept of the messages that are left, behind those that were
-  walked : (ns ms : List MessageVal) (r : Rest) (s : Sifted) → Layout S ns r.left → r.left ≡ drop r.place bytes → (trail_of S r).1 ≡ None → Sieved d ms s
-      → Sieved d (ms ++ ns) (sifted look s (events_of S r)) × (kept look s (events_of S r) ≡ cond (is_some s.end) [] (events_among S d (up_to_end d ns) r))
+  walked : (ns ms : List MessageVal) (r : Rest) (s : Counts) → Layout S ns r.left → r.left ≡ drop r.place bytes → (trail_of S r).1 ≡ None → AreCounts d ms s
+      → AreCounts d (ms ++ ns) (counts_of look s (events_of S r)) × (kept look s (events_of S r) ≡ cond (is_some s.end) [] (events_among S d (up_to_end d ns) r))
   walked [] ms r s f at ends so =
       let none : events_of S r ≡ [] = ap (λ (t : Trail). map (event_of S.order) t.0) (trail_ends S r f) in (
-        subst (λ es. Sieved d (ms ++ []) (sifted look s es)) (sym none) (subst (λ l. Sieved d l s) (sym (append-nil ms)) so),
+        subst (λ es. AreCounts d (ms ++ []) (counts_of look s es)) (sym none) (subst (λ l. AreCounts d l s) (sym (append-nil ms)) so),
         ap (kept look s) none ∙ nothing (is_some s.end),
       )
   walked (m ∷ ns) ms r s f at ends so =
@@ -281,19 +258,19 @@ module _ (S : Shape) (d : Dump) (bytes : List ℕ) where
       let judged = judge s.end (role_for d m) (is_marked m.flags) s in
       let one : step look s head ≡ counted judged = ap (λ (x : Found). counted (judge s.end x.role x.marked s)) found in
       let t = counted judged in
-      let u = sifted look t es in
+      let u = counts_of look t es in
       let same : Same look t u = region_same look S.order S (region_of S r) t in
-      let so' : Sieved d (ms ++ m ∷ []) u = same_sieved look d (ms ++ m ∷ []) t u same (same_sieved look d (ms ++ m ∷ []) judged t refl (judge_sieved d ms m s so)) in
+      let so' : AreCounts d (ms ++ m ∷ []) u = same_counts look d (ms ++ m ∷ []) t u same (same_counts look d (ms ++ m ∷ []) judged t refl (judge_counts d ms m s so)) in
       let at' : next.left ≡ drop next.place bytes = ap (drop (span_at S.order r.left)) at ∙ drop-drop (span_at S.order r.left) r.place bytes in
       let more = walked ns (ms ++ m ∷ []) next u (subst (Layout S ns) (sym is.cut.rest_is) f.6) at' both.0 so' in
-      let after : sifted look s (events_of S r) ≡ sifted look u fs = ap (sifted look s) all ∙ ap (λ x. sifted look x (es ++ fs)) one ∙ sifted-append look t es fs in
+      let after : counts_of look s (events_of S r) ≡ counts_of look u fs = ap (counts_of look s) all ∙ ap (λ x. counts_of look x (es ++ fs)) one ∙ counts-append look t es fs in
       let ks = kept look u fs in
       let keep : kept look s (events_of S r) ≡ keeping judged.keeps head (cond judged.keeps es [] ++ ks) =
-      ap (kept look s) all ∙ ap (λ (x : Sifted). keeping x.keeps head (kept look x (es ++ fs))) one
+      ap (kept look s) all ∙ ap (λ (x : Counts). keeping x.keeps head (kept look x (es ++ fs))) one
       ∙ ap (keeping judged.keeps head) (kept-append look t es fs ∙ ap (λ l. l ++ ks) (region_kept look S.order S (region_of S r) t)) in (
-        subst (λ l. Sieved d l (sifted look s (events_of S r))) (append_assoc ms (m ∷ []) ns) (subst (Sieved d ((ms ++ m ∷ []) ++ ns)) (sym after) more.0),
+        subst (λ l. AreCounts d l (counts_of look s (events_of S r))) (append_assoc ms (m ∷ []) ns) (subst (AreCounts d ((ms ++ m ∷ []) ++ ns)) (sym after) more.0),
         keep ∙ joined judged.keeps head es ks
-            ∙ kept_so ns m r (is_marked m.flags) s (end_in d m) (item_in d m) refl refl ks (more.1 ∙ ap (λ (o : Option End). cond (is_some o) [] (events_among S d (up_to_end d ns) next)) (ap (λ (x : Sifted). x.end) same)),
+            ∙ kept_so ns m r (is_marked m.flags) s (end_in d m) (item_in d m) refl refl ks (more.1 ∙ ap (λ (o : Option End). cond (is_some o) [] (events_among S d (up_to_end d ns) next)) (ap (λ (x : Counts). x.end) same)),
       )
     where
       joined : (b : Bool) (e : Event) (es ks : List Event) → keeping b e (cond b es [] ++ ks) ≡ cond b ((e ∷ es) ++ ks) ks
@@ -311,5 +288,5 @@ module _ (S : Shape) (d : Dump) (bytes : List ℕ) where
       by (Some g) v n e = absurd (let x : ◌≡◌ {A = Result (Unit {0}) Fault} (Ok tt) (region.end_of (Some g)) = ap (λ (p : Outcome (Unit {0})). p.0) e in cc)
 
   -- what is found of the events of a datagram of these messages, and which of them are kept
-  pub sieved : (ms : List MessageVal) → Layout S ms bytes → Sieved d ms (sifted look none_sifted (events_of S (whole bytes))) × (kept look none_sifted (events_of S (whole bytes)) ≡ item_events S d ms bytes)
-  sieved ms f = walked ms [] (whole bytes) none_sifted f refl (no_fault ms f) (record { items = refl; sums = none_summed d })
+  pub counts_all : (ms : List MessageVal) → Layout S ms bytes → AreCounts d ms (counts_of look no_counts (events_of S (whole bytes))) × (kept look no_counts (events_of S (whole bytes)) ≡ item_events S d ms bytes)
+  counts_all ms f = walked ms [] (whole bytes) no_counts f refl (no_fault ms f) (record { items = refl; sums = none_summed d })

@@ -1,4 +1,4 @@
--- What a stream is at any time, and what no stream can be.
+-- The state of a stream, and which states no stream can have.
 use Rattle.std.specs.Prelude.{◌≡◌, ◌≢◌, ◌≤◌, ◌+◌, ◌*◌, false, not, ◌&&◌, Bool, pos}
 use Rattle.nl_frame.specs.Limits.{Bounds, AreLimits}
 use Rattle.nl_dump.specs.declared.dump.End.{End}
@@ -19,7 +19,7 @@ IsReached Idle s = (s.ignored ≡ 0) × (s.visits ≡ 0) × (s.received ≡ 0) �
 IsReached (Waiting d) s = Unit {0}
 IsReached (Ended d e) s = IsRealEnd e
 
--- a stream can be so
+-- a stream can have this state
 pub record IsPossible (s : Standing) : Type 0 where
   pub limits : AreLimits s.limits
   pub visits : s.visits ≤ (s.limits.shape.depth + 1) * s.received

@@ -34,15 +34,15 @@ abbrev pub StreamAbandons : Standing → Result (Unit {0}) IsNotWaiting → Stan
 StreamAbandons before (Ok u) after = (d : Dump) × (before.state ≡ Waiting d) × (after ≡ record before { state = Ended d Abandoned })
 StreamAbandons before (Err e) after = (IsWaiting before.state → ⊥) × (after ≡ before)
 
--- a datagram of so many bytes, of which so many were visited, is refused: the dump's answer stays
+-- after a datagram of n bytes was refused, with so many visits: the dump's answer stays
 abbrev pub refused_by : Standing → ℕ → ℕ → Standing
 refused_by s n visits = record s { damaged = true; received = s.received + n; visits = s.visits + visits }
 
--- the events of the datagram's heads stand in the buffer, as far as it goes
+-- the events of the datagram's headers stand in the buffer, as far as it has room
 abbrev pub AllPut : Standing → List ℕ → List Event → List Event → Type 0
 AllPut s bytes old new = new ≡ put_from 0 (events_of s.limits.shape (whole bytes)) old
 
--- the buffer has room for the events of all heads of the datagram; at its front stand those of the items of these messages, and so many are answered
+-- there is room for all events; the items' are at the front of the buffer, and are counted
 pub record AreHanded (d : Dump) (bytes : List ℕ) (ms : List MessageVal) (s : Standing) (old new : List Event) (answer : ℕ) : Type 0 where
   pub room : length (events_of s.limits.shape (whole bytes)) ≤ length old
   pub events : new ≡ put_from 0 (item_events s.limits.shape d ms bytes) (put_from 0 (events_of s.limits.shape (whole bytes)) old)

@@ -1,4 +1,4 @@
--- A stream beside a session: the same calls have the same answers and come to the same, memory and tables aside.
+-- A stream and a session given the same calls: they answer the same, memory and tables aside.
 use Rattle.std.specs.Prelude.{◌≡◌, ℕ, Bool, true, false, List, [], ◌∷◌, Result, Ok, Err}
 use Rattle.std.specs.Global.{Vec}
 use Rattle.nl_attr.specs.declared.events.Event.{Event}
@@ -53,7 +53,7 @@ lacked (stream_feeds bytes old r new) = lacked_by r
 lacked (stream_reads bytes r) = false
 lacked (stream_abandons r) = false
 
--- one of two statements
+-- the first statement or the second
 abbrev pub either : Bool → Type 0 → Type 0 → Type 0
 either true A B = A
 either false A B = B
@@ -68,7 +68,7 @@ abbrev pub Beside : (StreamCall → Call → Type 0) → List StreamCall → Lis
 Beside R [] cs = cs ≡ []
 Beside R (t ∷ ts) cs = either (lacked t) (Beside R ts cs) (with_first (R t) (Beside R ts) cs)
 
--- it was refused no memory
+-- no allocation failed
 abbrev pub BeginsWithMemory : Result (Vec ℕ) BeginError → Type 0
 BeginsWithMemory (Err begin.Memory) = ⊥
 BeginsWithMemory r = Unit {0}
@@ -122,7 +122,7 @@ AnswersTheSame (stream_reads bytes q) (feeds other r) = progress_read q ≡ r
 AnswersTheSame (stream_abandons q) (abandons r) = q ≡ r
 AnswersTheSame s c = ⊥
 
--- whatever the calls, a stream and a session that were asked the same have answered the same, and stand where the other does
+-- a stream and a session that were asked the same answered the same, and have the same state
 abbrev pub StreamIsSession : Type 0
 StreamIsSession = (b : Bounds) (cs : List Call) (v : View) (ts : List StreamCall) (s : Standing) → Calls b cs v → StreamCalls b ts s
     → Beside AsksTheSame ts cs → Beside AnswersTheSame ts cs × (s ≡ standing_of v)

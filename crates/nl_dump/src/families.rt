@@ -1,4 +1,4 @@
-//! The entries of the families, as they come in messages.
+//! Which entry a message's body is, for each family.
 
 ghost use Rattle.std.specs.Prelude.{◌≡◌, is_some, refl};
 ghost use Rattle.nl_frame.specs.View.{body_view};
@@ -9,7 +9,7 @@ use nl_frame::Body;
 use nl_route::{Addr, Family, Link, Neigh, Route, Rule};
 use nl_table::Entry;
 
-/// Whether a body is an entry of this kind.
+/// Whether a body is an entry of this family.
 pub fn is_of(kind: Family, body: &Body) -> bool
     ensures { result ≡ is_some (body_item kind (body_view body.now)) }
 {
@@ -22,7 +22,7 @@ pub fn is_of(kind: Family, body: &Body) -> bool
     }
 }
 
-/// An entry that comes in messages.
+/// An entry that is the body of a message: `Link`, `Addr`, `Route`, `Neigh` or `Rule`.
 pub trait FromBody: Entry + Drop {
     ghost use Rattle.std.specs.Prelude.{◌≡◌, option_map};
     ghost use Rattle.nl_attr.specs.declared.order.Order.{Order};
@@ -34,11 +34,11 @@ pub trait FromBody: Entry + Drop {
 
     ghost item: { Self → Item };
 
-    /// The entry that a body is.
+    /// The entry that a body is. `None` for a body of another type.
     fn from_body(body: Body) -> Option<Self>
         ensures { option_map item result ≡ body_item family (body_view body) };
 
-    // Its key is that of what it stands for.
+    // Its key is the one that the definitions give its value.
     ghost keyed: { (o : Order) (x : Self) → Self.key_of o x ≡ item_key o (item x) };
 }
 

@@ -1,21 +1,23 @@
-//! What a stream is, as plain values, and what a datagram makes of it.
+//! The state, limits and counts of a stream, or of a session, and how calls change them.
 
 ghost use Rattle.std.specs.Prelude.{◌≡◌, ◌<◌, ◌≤◌, ◌+◌, ◌^◌, true};
 ghost use Rattle.std.specs.Bool.{MatchBool};
-ghost use Rattle.nl_dump.specs.Inside.{taken_by};
-ghost use Rattle.nl_dump.specs.Streams.{refused_by};
+ghost use Rattle.nl_dump.specs.Answer.{state_by};
+ghost use Rattle.nl_dump.specs.Inside.{MayBegin, taken_by, begun_by};
+ghost use Rattle.nl_dump.specs.Standing.{new_standing};
+ghost use Rattle.nl_dump.specs.Streams.{StreamAbandons, refused_by};
 
-use crate::dump::{Dump, State};
-use crate::putting::Taken;
-use crate::session::state_after;
-use crate::sorting::is_interrupted;
+use crate::counts::{Taken, is_interrupted};
+use crate::dump::{Dump, End, State};
+use crate::errors::{BeginError, NotWaiting};
 use nl_frame::Limits;
 
-/// What a stream is at any time, as plain values, which can be kept anywhere.
+/// The whole of a stream as plain values, which can be stored anywhere. `Stream::restore` makes a
+/// stream of it again.
 #[derive(Clone, Copy, Debug, PartialEq, Eq, Hash)]
 pub struct Standing {
     pub limits: Limits,
-    /// Where the last dump stands.
+    /// The state of the last dump.
     pub state: State,
     /// How many messages of the last dump were neither items nor its end.
     pub ignored: u64,
@@ -29,8 +31,67 @@ pub struct Standing {
     pub interrupted: bool,
 }
 
+/// The state of a dump after a datagram that ended it, or that didn't.
+fn state_after(dump: Dump, end: Option<End>) -> State
+    ensures { result ≡ state_by dump end }
+{
+    match end {
+        None => State::Waiting(dump),
+        Some(end) => State::Ended(dump, end),
+    }
+}
+
 impl Standing {
-    /// Whether a datagram of so many bytes is above the total limit: then the dump is damaged.
+    /// The standing without a dump: all counts are 0.
+    pub(crate) fn new(limits: Limits) -> Standing
+        ensures { result ≡ new_standing limits }
+    {
+        Standing {
+            limits,
+            state: State::Idle,
+            ignored: 0,
+            visits: 0,
+            received: 0,
+            damaged: false,
+            interrupted: false,
+        }
+    }
+
+    /// Whether a dump of this sequence number may begin: none waits, and the last had another. Or
+    /// the error.
+    pub(crate) fn may_begin(&self, seq: u32) -> Result<(), BeginError>
+        ensures { MayBegin self.now.state seq result }
+    {
+        match self.state {
+            State::Waiting(_) => Err(BeginError::Busy),
+            State::Ended(last, _) if last.seq == seq => Err(BeginError::SameSeq),
+            State::Idle | State::Ended(_, _) => Ok(()),
+        }
+    }
+
+    /// Begins a dump.
+    pub(crate) fn begin(&mut self, dump: Dump)
+        ensures { self.new ≡ begun_by self.old dump }
+    {
+        self.state = State::Waiting(dump);
+        self.ignored = 0;
+        self.damaged = false;
+        self.interrupted = false;
+    }
+
+    /// Ends the dump that waits, as abandoned. Where none waits it fails, with no change.
+    pub(crate) fn abandon(&mut self) -> Result<(), NotWaiting>
+        ensures { StreamAbandons self.old result self.new }
+    {
+        let State::Waiting(dump) = self.state else {
+            return Err(NotWaiting);
+        };
+        self.state = State::Ended(dump, End::Abandoned);
+        Ok(())
+    }
+
+    /// Whether a datagram of `count` bytes would go above the total limit. If so, the dump is
+    /// damaged now.
     pub(crate) fn exceeds_total(&mut self, count: u64) -> bool
         requires { self.old.received ≤ self.old.limits.total }
         ensures { MatchBool result
@@ -45,7 +106,8 @@ impl Standing {
         false
     }
 
-    /// Takes a datagram of so many bytes into the dump, of which so many were visited.
+    /// Counts a datagram of `count` bytes that was taken into the dump, of which `visits` were
+    /// visited.
     pub(crate) fn take(&mut self, dump: Dump, count: u64, visits: u64, taken: &Taken)
         requires received { self.old.received + count < 2 ^ 64 }
         requires visits { self.old.visits + visits < 2 ^ 64 }
@@ -59,7 +121,7 @@ impl Standing {
         self.state = state_after(dump, taken.end);
     }
 
-    /// Refuses a datagram of so many bytes, of which so many were visited.
+    /// Counts a datagram of `count` bytes that was refused, of which `visits` were visited.
     pub(crate) fn refuse(&mut self, count: u64, visits: u64)
         requires received { self.old.received + count < 2 ^ 64 }
         requires visits { self.old.visits + visits < 2 ^ 64 }

@@ -1,4 +1,4 @@
-//! A stream: one dump after another, in constant space.
+//! A stream: it reads one dump after another in constant space, and hands the items out.
 
 ghost use Rattle.std.specs.Prelude.{◌≡◌, Decides, ◌≤◌, length, IfOk};
 ghost use Rattle.std.specs.Result.{OkIff};
@@ -8,9 +8,9 @@ ghost use Rattle.nl_dump.specs.Reading.{StreamRead, EveryRead};
 
 use crate::dump::{Dump, End, ItemsRead, State, Streamed};
 use crate::errors::{BeginError, FeedError, Impossible, NotWaiting, StreamError};
-use crate::picking::{Picked, read_items};
+use crate::events::{PickedEvents, lacks_room, read_events};
+use crate::items::{PickedItems, read_items};
 use crate::standing::Standing;
-use crate::straining::{Strained, lacks_room, strain};
 use nl_attr::{Event, Tally};
 use nl_frame::Limits;
 use std::alloc::Global;
@@ -19,10 +19,10 @@ use std::marker::Model;
 /// One dump after another (netlink(7), `NLM_F_DUMP`; RFC 3549, section 2.3.2.2), as a plain value
 /// that keeps nothing of a datagram.
 ///
-/// It begins a dump and is handed the datagrams that answer it, each by one of two calls: `feed`
-/// leaves the events of the dump's items in a buffer and takes no memory, and `read` hands the
-/// items out as messages. Its limits hold over its whole life, as those of a `Session` do; the
-/// limit on entries says nothing here.
+/// The caller sends the request (`Dump::put_request`), and hands the answers in by one of two
+/// calls. `feed` leaves the events of the dump's items in a buffer, and takes no memory. `read`
+/// answers the items as messages. The limits hold over the stream's whole life. That on entries
+/// isn't used.
 #[derive(Clone, Copy, Debug, PartialEq, Eq, Hash)]
 pub struct Stream {
     standing: Standing,
@@ -41,8 +41,8 @@ impl Model for Stream {
     ghost inverse = { λ v. record { standing = v } };
 }
 
-/// Whether a stream comes to such a state: before the first dump with nothing taken, and at the end
-/// of a dump by a real end.
+/// Whether calls can lead to this state: before the first dump nothing was taken, and no dump has
+/// ended by an ERROR with code 0.
 fn is_reached(standing: &Standing) -> bool
     ensures { Decides result (IsReached standing.now.state standing.now) }
 {
@@ -61,76 +61,59 @@ fn is_reached(standing: &Standing) -> bool
 }
 
 impl Stream {
-    /// A stream of these limits with no dump, whose counts are 0.
+    /// A stream of these limits without a dump, with counts of 0.
     pub fn new(limits: Limits) -> Stream
         ensures new { result ≡ new_standing limits }
         ensures possible { IsPossible result }
     {
-        // The limits are within their ranges.
+        // This makes the ranges of the limits known to the prover.
         let _total = limits.total();
         Stream {
-            standing: Standing {
-                limits,
-                state: State::Idle,
-                ignored: 0,
-                visits: 0,
-                received: 0,
-                damaged: false,
-                interrupted: false,
-            },
+            standing: Standing::new(limits),
         }
     }
 
-    /// Begins a dump: `ignored`, `damaged` and `interrupted` begin anew; `visits` and `received`
-    /// stay. `port` is the port id that answers must carry.
+    /// Begins a dump: `ignored`, `damaged` and `interrupted` begin anew, `visits` and `received`
+    /// stay. The dump's `port` is the port id that answers must carry.
     ///
-    /// It refuses, with the stream unchanged: `Busy` where a dump waits; `SameSeq` for the sequence
-    /// number of the last dump; and nothing else.
+    /// After an error the stream is as it was: `Busy` where a dump waits for answers; `SameSeq`
+    /// for the sequence number of the last dump. `Memory` doesn't occur.
     pub fn begin(&mut self, dump: Dump) -> Result<(), BeginError>
         ensures step { StreamBegan self.old dump result self.new }
         ensures possible { IsPossible self.new }
     {
-        match self.standing.state {
-            State::Waiting(_) => return Err(BeginError::Busy),
-            State::Ended(last, _) => {
-                if last.seq == dump.seq {
-                    return Err(BeginError::SameSeq);
-                }
-            }
-            State::Idle => {}
-        }
-        self.standing.state = State::Waiting(dump);
-        self.standing.ignored = 0;
-        self.standing.damaged = false;
-        self.standing.interrupted = false;
+        self.standing.may_begin(dump.seq)?;
+        self.standing.begin(dump);
         Ok(())
     }
 
-    /// Takes a datagram into the dump that waits, and leaves the events of the items at the front
-    /// of `out`: of each item the event of its message's header, and behind it those of the heads
-    /// in it, as `tape_datagram` has them. It answers how many messages were items, how many were
-    /// ignored, whether one of them ended the dump, and how many events those of the items are. What
-    /// stands behind them in `out` is of no use.
+    /// Takes a datagram that answers the dump, and leaves the events of its items at the front of
+    /// `out`: for each item that of its message's header, and then those of its attributes and
+    /// next hops, as `tape_datagram` makes them. What is behind them in `out` means nothing, as
+    /// all of it after an error.
     ///
-    /// It refuses, in this order: `NotWaiting` where no dump waits; `Total` for a datagram that
-    /// takes the stream above its total limit; `TooLarge` for one above the datagram limit; `Layout`
-    /// with the first fault over all heads; `Room` with the number of all heads where `out` has room
-    /// for fewer events. `NotWaiting` and `Room` leave the stream as it was, so the same datagram
-    /// can be fed again with more room. After the others the state, `ignored` and `interrupted` are
-    /// as before, and `damaged` is set; all but `Total` raise `received` by the length and `visits`
-    /// by what was visited. What stands in `out` after a refusal is of no use.
+    /// It answers how many messages were items, how many were ignored, whether the dump ended, and
+    /// the number of events. The error is the first of these that applies. After any of them the
+    /// state, `ignored` and `interrupted` are as before.
+    ///
+    /// - `NotWaiting`: no dump waits for answers. Nothing has changed.
+    /// - `Total`: the stream would be above its total limit. `damaged` is set.
+    /// - `TooLarge`, `Layout`: as of `read_datagram`. `damaged` is set, `received` grows by the
+    ///   datagram's length, and `visits` by the bytes visited.
+    /// - `Room`: `out` has fewer entries than the datagram has headers. The stream is as it was, so
+    ///   the same datagram can be fed again with more room.
     #[tactic(auto, using(crate::proofs::Streaming::every))]
     pub fn feed(&mut self, bytes: &[u8], out: &mut [Event]) -> Result<Streamed, StreamError>
         ensures step { StreamFed self.old bytes.now out.old result self.new out.new }
         ensures possible { IsPossible self.new }
-        // Each datagram is refused at its first fault, with no change of the dump's answer, or
-        // yields the one list of its layout, which is written and read again.
+        // Each datagram is refused at its first error, with the dump's answer unchanged. Or it
+        // gives the one list of its layout, which is written and read again.
         ensures every { EveryStreamed self.old bytes.now out.old result self.new }
     {
         self.feed_step(bytes, out)
     }
 
-    /// The same, by its step.
+    /// `feed`, with a contract that says what one call changes.
     fn feed_step(&mut self, bytes: &[u8], out: &mut [Event]) -> Result<Streamed, StreamError>
         ensures step { StreamFed self.old bytes.now out.old result self.new out.new }
         ensures possible { IsPossible self.new }
@@ -143,9 +126,9 @@ impl Stream {
         if self.standing.exceeds_total(count) {
             return Err(StreamError::Total);
         }
-        let Tally { result, visits } = strain(&self.standing.limits, &dump, bytes, out);
+        let Tally { result, visits } = read_events(&self.standing.limits, &dump, bytes, out);
         match result {
-            Ok(Strained { taken, events }) => {
+            Ok(PickedEvents { taken, events }) => {
                 self.standing.take(dump, count, visits, &taken);
                 Ok(Streamed {
                     progress: taken.progress,
@@ -162,32 +145,27 @@ impl Stream {
         }
     }
 
-    /// Takes a datagram into the dump that waits, as `feed` does, and hands its items out as
-    /// messages in their order. It answers also how many messages were items, how many were
-    /// ignored, and whether one of them ended the dump. Each attribute byte is visited once a
-    /// level.
+    /// Takes a datagram that answers the dump, and answers its items as messages, in order, with
+    /// the counts that `feed` answers. Each attribute byte is visited once for each level that it
+    /// is in.
     ///
-    /// It refuses, in this order: `NotWaiting` where no dump waits; `Total` for a datagram that
-    /// takes the stream above its total limit; `TooLarge` for one above the datagram limit;
-    /// `Layout` with the first fault over all heads; `Memory` where a growth is refused, which
-    /// comes in place of whatever would come later. `NotWaiting` leaves the stream as it was.
-    /// After the others the state, `ignored` and `interrupted` are as before, and `damaged` is
-    /// set; all but `Total` raise `received` by the length and `visits` by what was visited.
-    ///
-    /// It takes memory for the messages of this datagram, by `alloc`; the stream keeps none of it.
+    /// It takes memory for these messages, by `alloc`, and the stream keeps none of it. The error
+    /// is the first of these that applies, and changes what it changes in `feed`: `NotWaiting`,
+    /// `Total`, `TooLarge`, `Layout`, or `Memory` where an allocation fails, which counts as
+    /// `Layout` does.
     #[tactic(auto, using(crate::proofs::Handing::every))]
     pub fn read(&mut self, alloc: Global, bytes: &[u8]) -> Result<ItemsRead, FeedError>
         ensures step { StreamRead self.old bytes.now result self.new }
         ensures possible { IsPossible self.new }
-        // Each datagram is refused at its first fault, with no change of the dump's answer, or
-        // yields the one list of its layout, which is written and read again.
+        // Each datagram is refused at its first error, with the dump's answer unchanged. Or it
+        // gives the one list of its layout, which is written and read again.
         ensures every { EveryRead self.old bytes.now result self.new }
         ensures few { IfOk result (λ read. length read.items.items ≤ length bytes.now) }
     {
         self.read_step(alloc, bytes)
     }
 
-    /// The same, by its step.
+    /// `read`, with a contract that says what one call changes.
     fn read_step(&mut self, alloc: Global, bytes: &[u8]) -> Result<ItemsRead, FeedError>
         ensures step { StreamRead self.old bytes.now result self.new }
         ensures possible { IsPossible self.new }
@@ -203,7 +181,7 @@ impl Stream {
         }
         let Tally { result, visits } = read_items(alloc, &self.standing.limits, &dump, bytes);
         match result {
-            Ok(Picked { items, taken }) => {
+            Ok(PickedItems { items, taken }) => {
                 self.standing.take(dump, count, visits, &taken);
                 Ok(ItemsRead {
                     items,
@@ -217,22 +195,18 @@ impl Stream {
         }
     }
 
-    /// Ends the dump that waits, as abandoned. It refuses, with the stream unchanged, where none
-    /// waits.
+    /// Ends the dump that waits, as `End::Abandoned`. Where none waits it fails, and nothing has
+    /// changed.
     pub fn abandon(&mut self) -> Result<(), NotWaiting>
         ensures step { StreamAbandons self.old result self.new }
         ensures possible { IsPossible self.new }
     {
-        let State::Waiting(dump) = self.standing.state else {
-            return Err(NotWaiting);
-        };
-        self.standing.state = State::Ended(dump, End::Abandoned);
-        Ok(())
+        self.standing.abandon()
     }
 
-    /// The stream that stands so, or `Impossible` where none can: a count is above what the limits
-    /// and what was received allow, something was taken before the first dump, or an ERROR with
-    /// code 0 is the end.
+    /// Makes a stream of its `standing`. `Impossible` where no stream can have it: a count is
+    /// above what the limits and `received` allow, something was taken before the first dump, or a
+    /// dump has ended by an ERROR with code 0.
     pub fn restore(standing: Standing) -> Result<Stream, Impossible>
         ensures { OkIff result (IsPossible standing) standing }
     {
@@ -248,7 +222,7 @@ impl Stream {
         Ok(Stream { standing })
     }
 
-    /// All that it is.
+    /// The whole of the stream, as plain values.
     pub fn standing(&self) -> Standing
         ensures standing { result ≡ self.now }
         ensures possible { IsPossible self.now }
@@ -256,23 +230,23 @@ impl Stream {
         self.standing
     }
 
-    /// Where the last dump stands.
+    /// The state of the last dump.
     pub fn state(&self) -> State
         ensures { result ≡ self.now.state }
     {
         self.standing.state
     }
 
-    /// How many bytes of attributes and next hops were visited since the stream was new, those of
-    /// refused datagrams too: at most `depth + 1` times those received.
+    /// How many bytes of attributes and next hops were visited since `new`, in refused datagrams
+    /// too. It is at most `depth + 1` times those received.
     pub fn visits(&self) -> u64
         ensures { result ≡ self.now.visits }
     {
         self.standing.visits
     }
 
-    /// How many bytes of datagrams were received since the stream was new, those of refused ones
-    /// too, but for `NotWaiting`, `Total` and `Room`: at most the total limit.
+    /// How many bytes of datagrams were received since `new`, with those refused but for
+    /// `NotWaiting`, `Total` and `Room`. It is at most the total limit.
     pub fn received(&self) -> u64
         ensures { result ≡ self.now.received }
     {

@@ -1,29 +1,8 @@
 -- That no call is refused of those that put what can be written, where there is room for it.
-use Rattle.std.proofs.Common.{◌≡◌, ◌≢◌, ℕ, ℤ, suc, ◌+◌, ◌-◌, ◌<◌, ◌≤◌, List, [], ◌∷◌, ◌++◌, length, drop, Option, None, Result, Ok, refl, sym, ap, subst, ◌∙◌, arith, inl, inr, length-append, length-drop}
-use Rattle.std.specs.Prelude.{FitsSigned}
-use Rattle.std.specs.Int.{w32}
-use Rattle.std.proofs.lemmas.Bool.{lt-ltb, le-ltb}
-use Rattle.nl_attr.specs.Fixed.{NUMBERS, LONGEST_ITEM, LONGEST_CONTAINER}
-use Rattle.nl_attr.specs.declared.tree.AttrFlags.{AttrFlags}
-use Rattle.nl_attr.specs.declared.tree.Ctx.{Ctx}
-use Rattle.nl_attr.specs.declared.tree.Ctx.TheVariants.{Route}
-use Rattle.nl_attr.specs.declared.tree.Content.{Content}
+use Rattle.nl_frame.proofs.Common.{◌≡◌, ◌≢◌, ℕ, ℤ, suc, ◌+◌, ◌-◌, ◌<◌, ◌≤◌, List, [], ◌∷◌, ◌++◌, length, drop, Option, None, Result, Ok, refl, sym, ap, subst, ◌∙◌, arith, inl, inr, length-append, length-drop, FitsSigned, w32, lt-ltb, le-ltb, NUMBERS, LONGEST_ITEM, LONGEST_CONTAINER, AttrFlags, Ctx, Route, Content, aligned, Val, bytes, list, hops, Items, no_items, item, HopItems, no_hops, hop, holds_of, with_padding, attr_item, written_val, val_len, items_len, hops_len, IsMismatchedVal, IsMismatchedHops, IsDeepHops, HasLongHops, IsRangedHops, length-padded_attr, length-val, items_whole, hops_whole, Bounds, BuildError, OpenHead, MessageVal, Built, order_of, grown, opened, ended, settled, or_next, lacks, top, held, held_in, bytes_refusal, open_refusal, hop_refusal, hop_refusal_in, close_refusal, levels_in, content_or_bytes, attr_begun, hop_begun, length_from, Begun, attribute, next_hop, Layer, Draft, and_item, and_hop, content_at, content_in, content_behind, none_of, begun_bytes, laid, Holds, Call, put, open_attr, open_hop, close, IsCall, called, put_by, run, calls_of_val, calls_of_items, calls_of_hops}
 use Rattle.nl_attr.specs.declared.tree.Content.TheVariants as content
-use Rattle.nl_attr.specs.Numbers.{aligned}
-use Rattle.nl_attr.specs.Tree.{Val, bytes, list, hops, Items, no_items, item, HopItems, no_hops, hop, holds_of}
-use Rattle.nl_attr.specs.Written.{with_padding, attr_item, written_val, val_len, items_len, hops_len}
-use Rattle.nl_attr.specs.Proper.{IsMismatchedVal, IsMismatchedHops, IsDeepHops, HasLongHops, IsRangedHops}
 use Rattle.nl_attr.specs.Proper as attrs
-use Rattle.nl_attr.proofs.Lemmas.Lengths.{length-padded_attr, length-val}
-use Rattle.nl_attr.proofs.Lemmas.Writing.{items_whole, hops_whole}
-use Rattle.nl_frame.specs.Limits.{Bounds}
-use Rattle.nl_frame.specs.declared.building.refusal.BuildError.{BuildError}
-use Rattle.nl_frame.specs.declared.building.OpenHead.{OpenHead}
-use Rattle.nl_frame.specs.Message.{MessageVal}
-use Rattle.nl_frame.specs.Building.{Built, order_of, grown, opened, ended, settled, or_next, lacks, top, held, held_in, bytes_refusal, open_refusal, hop_refusal, hop_refusal_in, close_refusal, levels_in, content_or_bytes, attr_begun, hop_begun, length_from}
-use Rattle.nl_frame.specs.Draft.{Begun, attribute, next_hop, Layer, Draft, and_item, and_hop, content_at, content_in, content_behind, none_of, begun_bytes, laid, Holds}
 use Rattle.nl_frame.specs.Draft as draft
-use Rattle.nl_frame.specs.Calls.{Call, put, open_attr, open_hop, close, IsCall, called, put_by, run, calls_of_val, calls_of_items, calls_of_hops}
 use Rattle.nl_frame.proofs.Opens.{has_room, room_for, lacks_less, drop_twice}
 use Rattle.nl_frame.proofs.Puts.{IsItem}
 use Rattle.nl_frame.proofs.Begins.{attr_length, hop_length, length-heads}

@@ -1,35 +1,10 @@
 -- What a builder holds behind a head that opens.
-use Rattle.std.proofs.Common.{◌≡◌, ◌≢◌, ℕ, ℤ, ◌+◌, ◌<◌, ◌≤◌, ◌^◌, List, [], ◌∷◌, ◌++◌, length, true, Option, None, Result, Ok, Err, refl, sym, ap, subst, ◌∙◌, arith, inl, inr, append-nil, length-append}
-use Rattle.std.specs.Prelude.{FitsSigned}
-use Rattle.std.specs.Int.{w32, cast_unsigned}
-use Rattle.nl_attr.specs.declared.order.Order.{Order}
-use Rattle.nl_attr.specs.declared.tree.AttrFlags.{AttrFlags}
-use Rattle.nl_attr.specs.declared.tree.Ctx.TheVariants.{Route}
-use Rattle.nl_attr.specs.declared.tree.Content.{Content}
+use Rattle.nl_frame.proofs.Common.{◌≡◌, ◌≢◌, ℕ, ℤ, ◌+◌, ◌<◌, ◌≤◌, ◌^◌, List, [], ◌∷◌, ◌++◌, length, true, Option, None, Result, Ok, Err, refl, sym, ap, subst, ◌∙◌, arith, inl, inr, append-nil, length-append, FitsSigned, w32, cast_unsigned, Order, AttrFlags, Route, Content, num, kind_number, holds_of, length-num, written_val, IsMismatchedVal, IsRangedVal, Family, AnyHead, head_size, family_of, fields_of, context_of, AreRanged, length-written, one_or_other, size_of_head, Bounds, Form, BuildError, OpenHead, MessageVal, form_of, header_fields, Begun, message, attribute, next_hop, Layer, Draft, content_at, content_in, content_behind, none_of, begun_bytes, laid, heads_of, IsDeepIn, HasLongIn, MayBegin, Holds}
 use Rattle.nl_attr.specs.declared.tree.Content.TheVariants as content
-use Rattle.nl_attr.specs.Numbers.{num}
-use Rattle.nl_attr.specs.Layout.{kind_number}
-use Rattle.nl_attr.specs.Tree.{holds_of}
-use Rattle.nl_attr.proofs.Lemmas.Numbers.{length-num}
-use Rattle.nl_attr.specs.Written.{written_val}
-use Rattle.nl_attr.specs.Proper.{IsMismatchedVal, IsRangedVal}
-use Rattle.nl_route.specs.declared.family.Family.{Family}
-use Rattle.nl_route.specs.Families.{AnyHead, head_size, family_of, fields_of, context_of}
-use Rattle.nl_route.specs.Fields.{AreRanged}
 use Rattle.nl_route.specs.Fields as fields
-use Rattle.nl_route.proofs.Fields.{length-written}
-use Rattle.nl_route.proofs.Families.{one_or_other, size_of_head}
-use Rattle.nl_frame.specs.Limits.{Bounds}
-use Rattle.nl_frame.specs.declared.form.Form.{Form}
 use Rattle.nl_frame.specs.declared.form.Form.TheVariants as form
-use Rattle.nl_frame.specs.declared.building.refusal.BuildError.{BuildError}
 use Rattle.nl_frame.specs.declared.building.refusal.BuildError.TheVariants.{NothingOpen}
-use Rattle.nl_frame.specs.declared.building.OpenHead.{OpenHead}
-use Rattle.nl_frame.specs.Message.{MessageVal}
-use Rattle.nl_frame.specs.Form.{form_of}
-use Rattle.nl_frame.specs.Header.{header_fields}
 use Rattle.nl_frame.specs.Building.{Built, order_of, opened, or_next, settled, open_hop, lacks, top, held, open_refusal, levels_in, attr_begun, hop_begun, header_begun, message_begun, hop_refusal, hop_refusal_in, begin, begin_refusal, has_head}
-use Rattle.nl_frame.specs.Draft.{Begun, message, attribute, next_hop, Layer, Draft, content_at, content_in, content_behind, none_of, begun_bytes, laid, heads_of, IsDeepIn, HasLongIn, MayBegin, IsLayer, Holds}
 use Rattle.nl_frame.specs.Draft as draft
 use Rattle.nl_frame.proofs.Opens.{has_room, begin_allowed}
 use Rattle.nl_frame.proofs.Puts.{neither, is_held}

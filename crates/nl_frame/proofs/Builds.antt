@@ -1,34 +1,9 @@
 -- That the calls which put messages that can be written build their bytes, where there is room for them.
-use Rattle.std.proofs.Common.{◌≡◌, ℕ, ◌+◌, ◌<◌, ◌≤◌, ◌^◌, true, false, Bool, List, [], ◌∷◌, ◌++◌, length, drop, Option, Some, None, refl, sym, ap, subst, ◌∙◌, arith, inl, inr, append-nil, append_assoc, length-append}
-use Rattle.std.proofs.lemmas.Bool.{le-ltb, eq-eqb}
-use Rattle.nl_attr.specs.Fixed.{LONGEST_REGION}
-use Rattle.nl_attr.specs.declared.order.Order.{Order}
+use Rattle.nl_frame.proofs.Common.{◌≡◌, ℕ, ◌+◌, ◌<◌, ◌≤◌, ◌^◌, true, false, Bool, List, [], ◌∷◌, ◌++◌, length, drop, Option, Some, None, refl, sym, ap, subst, ◌∙◌, arith, inl, inr, append-nil, append_assoc, length-append, le-ltb, eq-eqb, LONGEST_REGION, Order, aligned, list, Items, no_items, with_padding, items_len, length-padded, items_whole, Family, AnyHead, row, head_size, context_of, family_of, fields_of, AreRanged, length-written, is_family, Bounds, AreLimits, Form, BuildError, OpenHead, form_of, header_fields, BodyVal, noop, error, done, overrun, object, get, other, MessageVal, body_len, body_written, written, written_len, IsMismatchedBody, IsMismatched, IsDeepBody, IsDeep, IsLongBody, HasLong, IsProper, IsRangedBody, IsRanged, Built, nothing_built, order_of, grown, opened, ended, lacks, first_refusal, begin_refusal, end_refusal, has_head, is_no_body, body_refusal, message_refusal, message_begun, header_begun, header_whole, message, Layer, nothing_put, begin, end, put_message, called, run, calls_of_items, calls_of_body, calls_of}
 use Rattle.nl_attr.specs.declared.tree.Content.TheVariants as content
-use Rattle.nl_attr.specs.Numbers.{aligned}
-use Rattle.nl_attr.specs.Tree.{list, Items, no_items}
-use Rattle.nl_attr.specs.Written.{with_padding, items_len}
-use Rattle.nl_attr.proofs.Lemmas.Lengths.{length-padded}
-use Rattle.nl_attr.proofs.Lemmas.Writing.{items_whole}
-use Rattle.nl_route.specs.declared.family.Family.{Family}
-use Rattle.nl_route.specs.Families.{AnyHead, row, head_size, context_of, family_of, fields_of}
-use Rattle.nl_route.specs.Fields.{AreRanged}
 use Rattle.nl_route.specs.Fields as fields
-use Rattle.nl_route.proofs.Fields.{length-written}
-use Rattle.nl_route.proofs.Families.{is_family}
-use Rattle.nl_frame.specs.Limits.{Bounds, AreLimits}
-use Rattle.nl_frame.specs.declared.form.Form.{Form}
 use Rattle.nl_frame.specs.declared.form.Form.TheVariants as form
-use Rattle.nl_frame.specs.declared.building.refusal.BuildError.{BuildError}
-use Rattle.nl_frame.specs.declared.building.OpenHead.{OpenHead}
-use Rattle.nl_frame.specs.Form.{form_of}
-use Rattle.nl_frame.specs.Header.{header_fields}
-use Rattle.nl_frame.specs.Message.{BodyVal, noop, error, done, overrun, object, get, other, MessageVal}
-use Rattle.nl_frame.specs.Written.{body_len, body_written, written, written_len}
-use Rattle.nl_frame.specs.Proper.{IsMismatchedBody, IsMismatched, IsDeepBody, IsDeep, IsLongBody, HasLong, IsProper, IsRangedBody, IsRanged}
-use Rattle.nl_frame.specs.Building.{Built, nothing_built, order_of, grown, opened, ended, lacks, first_refusal, begin_refusal, end_refusal, has_head, is_no_body, body_refusal, message_refusal, message_begun, header_begun, header_whole}
-use Rattle.nl_frame.specs.Draft.{message, Layer, Draft, nothing_put, Holds}
 use Rattle.nl_frame.specs.Draft as draft
-use Rattle.nl_frame.specs.Calls.{begin, end, put_message, called, run, calls_of_items, calls_of_body, calls_of}
 use Rattle.nl_frame.proofs.Opens.{has_room, room_for, lacks_less}
 use Rattle.nl_frame.proofs.Begins.{message_length}
 use Rattle.nl_frame.proofs.WrittenLayouts.{length-body, same_form, written_length}

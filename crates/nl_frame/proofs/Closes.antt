@@ -1,30 +1,8 @@
 -- What a builder holds where the innermost head is closed.
-use Rattle.std.proofs.Common.{◌≡◌, ◌≢◌, ℕ, ℤ, suc, ◌+◌, ◌-◌, ◌%◌, ◌≤◌, List, [], ◌∷◌, ◌++◌, length, take, drop, replicate, None, refl, sym, ap, subst, ◌∙◌, arith, inl, inr, append_assoc, append-nil, length-append}
-use Rattle.std.specs.Prelude.{FitsSigned}
-use Rattle.std.specs.Int.{w32, cast_unsigned}
-use Rattle.std.specs.List.{splice}
-use Rattle.std.proofs.lemmas.List.{take_at, drop_at}
-use Rattle.nl_attr.specs.Fixed.{LONGEST_ITEM, LONGEST_CONTAINER}
-use Rattle.nl_attr.specs.declared.order.Order.{Order}
-use Rattle.nl_attr.specs.declared.tree.Ctx.TheVariants.{Route}
-use Rattle.nl_attr.specs.declared.tree.Content.{Content}
+use Rattle.nl_frame.proofs.Common.{◌≡◌, ◌≢◌, ℕ, ℤ, suc, ◌+◌, ◌-◌, ◌%◌, ◌≤◌, List, [], ◌∷◌, ◌++◌, length, take, drop, replicate, None, refl, sym, ap, subst, ◌∙◌, arith, inl, inr, append_assoc, append-nil, length-append, FitsSigned, w32, cast_unsigned, splice, take_at, drop_at, LONGEST_ITEM, LONGEST_CONTAINER, Order, Route, Content, aligned, num, Val, bytes, list, hops, Items, with_padding, val_len, items_whole, hops_whole, AttrFlags, kind_number, holds_of, length-num, length-attr, length-hop, length-val, length-items, Bounds, OpenHead, MessageVal, Built, order_of, levels_in, ended, head_ended, length_from, attr_begun, hop_begun, or_next, close_refusal, Layer, Draft, attribute, content_at, content_in, begun_bytes, laid, heads_of, layers_and_item, val_and_item, val_and_hop, layers_and_hop, layers_and, layers_closed, message, next_hop, Begun, IsDeepIn, HasLongIn, Holds}
 use Rattle.nl_attr.specs.declared.tree.Content.TheVariants as content
-use Rattle.nl_attr.specs.Numbers.{aligned, num}
-use Rattle.nl_attr.specs.Tree.{Val, bytes, list, hops, Items}
-use Rattle.nl_attr.specs.Written.{with_padding, val_len}
 use Rattle.nl_attr.specs.Proper.{IsMismatchedVal, IsMismatched, IsDeepVal, IsDeep, HasLongVal, HasLong, IsRangedVal, IsRanged}
-use Rattle.nl_attr.proofs.Lemmas.Writing.{items_whole, hops_whole}
-use Rattle.nl_attr.specs.declared.tree.AttrFlags.{AttrFlags}
-use Rattle.nl_attr.specs.Layout.{kind_number}
-use Rattle.nl_attr.specs.Tree.{holds_of}
 use Rattle.nl_attr.specs.Written.{attr_item, hop_item, written_val, written, items_len}
-use Rattle.nl_attr.proofs.Lemmas.Numbers.{length-num}
-use Rattle.nl_attr.proofs.Lemmas.Lengths.{length-attr, length-hop, length-val, length-items}
-use Rattle.nl_frame.specs.Limits.{Bounds}
-use Rattle.nl_frame.specs.declared.building.OpenHead.{OpenHead}
-use Rattle.nl_frame.specs.Message.{MessageVal}
-use Rattle.nl_frame.specs.Building.{Built, order_of, levels_in, ended, head_ended, length_from, attr_begun, hop_begun, or_next, close_refusal}
-use Rattle.nl_frame.specs.Draft.{Layer, Draft, attribute, content_at, content_in, begun_bytes, laid, heads_of, layers_and_item, val_and_item, val_and_hop, layers_and_hop, layers_and, layers_closed, message, next_hop, Begun, IsDeepIn, HasLongIn, Holds}
 use Rattle.nl_frame.specs.Draft as draft
 use Rattle.nl_frame.proofs.Puts.{IsItem, layer_and_item, laid_more, val_written, neither}
 use Rattle.nl_frame.proofs.Snocs.{hop_written, hop_matched, hop_shallow, hop_short, hop_ranged}

@@ -1,31 +1,9 @@
 -- What a builder holds where a message ends, and what it hands out.
-use Rattle.std.proofs.Common.{◌≡◌, ℕ, ◌+◌, ◌≤◌, List, [], ◌∷◌, ◌++◌, length, reverse, None, refl, sym, ap, subst, ◌∙◌, arith, inl, inr, append_assoc, length-append}
-use Rattle.nl_attr.specs.Fixed.{LONGEST_REGION}
-use Rattle.nl_attr.specs.declared.order.Order.{Order}
-use Rattle.nl_attr.specs.Numbers.{num}
-use Rattle.nl_attr.specs.Tree.{Val, bytes, list, hops, Items}
-use Rattle.nl_attr.specs.Written.{with_padding, items_len}
+use Rattle.nl_frame.proofs.Common.{◌≡◌, ℕ, ◌+◌, ◌≤◌, List, [], ◌∷◌, ◌++◌, length, None, refl, sym, ap, subst, ◌∙◌, arith, inl, inr, append_assoc, length-append, LONGEST_REGION, Order, num, Val, bytes, list, hops, Items, items_len, length-num, length-items, items_whole, Field, number, AnyHead, head_size, context_of, family_of, fields_of, length-written, is_family, size_of_head, Bounds, Layout, object, MessageVal, IsTheList, message_item, written, written_len, form_of, IsMismatchedBody, IsLongBody, IsLong, IsProper, Built, order_of, ended, or_next, end_refusal, finish, finish_refusal, Begun, message, attribute, next_hop, Layer, Draft, heads_of, laid, messages_in, message_in, Holds}
 use Rattle.nl_attr.specs.Written as attrs
 use Rattle.nl_attr.specs.Proper as proper
-use Rattle.nl_attr.proofs.Lemmas.Numbers.{length-num}
-use Rattle.nl_attr.proofs.Lemmas.Lengths.{length-items}
-use Rattle.nl_attr.proofs.Lemmas.Writing.{items_whole}
-use Rattle.nl_route.specs.Fields.{Field, number}
 use Rattle.nl_route.specs.Fields as fields
-use Rattle.nl_route.specs.Families.{AnyHead, head_size, context_of, family_of, fields_of}
-use Rattle.nl_route.proofs.Fields.{length-written}
-use Rattle.nl_route.proofs.Families.{is_family, size_of_head}
-use Rattle.nl_frame.specs.Limits.{Bounds}
-use Rattle.nl_frame.specs.declared.building.OpenHead.{OpenHead}
-use Rattle.nl_frame.specs.Layout.{Layout}
-use Rattle.nl_frame.specs.Message.{object, MessageVal}
-use Rattle.nl_frame.specs.OneList.{IsTheList}
-use Rattle.nl_frame.specs.Written.{message_item, written, written_len}
 use Rattle.nl_frame.specs.declared.form.Form.TheVariants as form
-use Rattle.nl_frame.specs.Form.{form_of}
-use Rattle.nl_frame.specs.Proper.{IsMismatchedBody, IsLongBody, IsLong, IsProper}
-use Rattle.nl_frame.specs.Building.{Built, order_of, ended, or_next, end_refusal, finish, finish_refusal}
-use Rattle.nl_frame.specs.Draft.{Begun, message, attribute, next_hop, Layer, Draft, heads_of, laid, messages_in, message_in, Holds}
 use Rattle.nl_frame.specs.Draft as draft
 use Rattle.nl_frame.proofs.Firsts.{one_layout}
 use Rattle.nl_frame.proofs.WrittenLayouts.{length-message, written_length, written_has_layout}
@@ -108,11 +86,6 @@ end_holds {L} b new d e made h = subst (λ (x : Built). Holds L x (draft.end d))
 no_layers : (o : Order) (ms : List MessageVal) (xs : List Layer) → finish_refusal (heads_of o ms xs) ≡ None → xs ≡ []
 no_layers o ms [] e = refl
 no_layers o ms (x ∷ xs) e = absurd (cc)
-
--- where there is no refusal and no open head, it is
-pub none_open : (b : Built) (hs : List OpenHead) → b.refusal ≡ None → reverse hs ≡ b.heads → length hs ≡ 0 → finish b ≡ None
-none_open b [] e f g = rw (e, sym f) refl
-none_open b (h ∷ hs) e f g = absurd (omega (arith, g))
 
 at_bounds : {L : Bounds} (b : Built) (d : Draft) → finish b ≡ None → Holds L b d → (b.front ≡ written (order_of b) d.ended) × IsTheList b.bounds b.front d.ended
 at_bounds b d e h =

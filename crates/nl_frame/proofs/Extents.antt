@@ -1,16 +1,7 @@
 -- What is measured of messages, one after the other.
-use Rattle.std.proofs.Common.{◌≡◌, ℕ, ◌+◌, ◌≤◌, Bool, true, false, cond, ltb, ◌||◌, List, [], ◌∷◌, Option, Some, None, IfSome, refl, ap, ◌∙◌, subst, arith, inl, inr}
-use Rattle.std.proofs.lemmas.Bool.{ltb-true, ltb-false}
-use Rattle.std.specs.Prelude.{◌⊎◌, ◌↔◌, IsTrue}
-use Rattle.nl_attr.specs.Fixed.{LONGEST_REGION}
+use Rattle.nl_frame.proofs.Common.{◌≡◌, ℕ, ◌+◌, ◌≤◌, Bool, true, false, cond, ltb, ◌||◌, List, [], ◌∷◌, Option, Some, None, IfSome, refl, ap, ◌∙◌, subst, arith, inl, inr, ltb-true, ltb-false, ◌⊎◌, ◌↔◌, IsTrue, LONGEST_REGION, aligned, form_of, BodyVal, MessageVal, written_len, IsMismatchedBody, IsMismatched, IsDeepBody, IsDeep, HasLong, IsLong, IsBodyLen, IsMessageLen, IsSized, IsLen}
 use Rattle.nl_attr.specs.declared.measuring.Extent.{Extent}
-use Rattle.nl_attr.specs.Numbers.{aligned}
 use Rattle.nl_attr.specs.Measured.{region_len, empty_extent, join}
-use Rattle.nl_frame.specs.Form.{form_of}
-use Rattle.nl_frame.specs.Message.{BodyVal, MessageVal}
-use Rattle.nl_frame.specs.Written.{written_len}
-use Rattle.nl_frame.specs.Proper.{IsMismatchedBody, IsMismatched, IsDeepBody, IsDeep, HasLong, IsLong}
-use Rattle.nl_frame.specs.Measured.{IsBodyLen, IsMessageLen, IsSized, IsLen}
 
 -- what is measured of whole, where rest is left
 abbrev pub IsPart : List MessageVal → List MessageVal → Option ℕ → Type 0

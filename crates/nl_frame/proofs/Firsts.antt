@@ -1,29 +1,12 @@
 -- What is read ends at the first fault, or there is none, and the visits are those of the heads up to there.
-use Rattle.std.proofs.Common.{◌≡◌, ◌≢◌, ℕ, zero, suc, ◌+◌, ◌≤◌, ◌↔◌, List, [], ◌∷◌, length, drop, map, Option, Some, None, Result, Ok, Err, refl, sym, ap, subst, ◌∙◌, arith}
-use Rattle.std.proofs.lemmas.List.{nil_from_length}
-use Rattle.nl_attr.specs.declared.fault.Reason.{Reason}
-use Rattle.nl_attr.specs.declared.fault.Fault.{Fault}
-use Rattle.nl_attr.specs.Shape.{Shape}
-use Rattle.nl_attr.specs.Numbers.{AreBytes}
+use Rattle.nl_frame.proofs.Common.{◌≡◌, ◌≢◌, ℕ, zero, suc, ◌+◌, ◌≤◌, ◌↔◌, List, [], ◌∷◌, length, drop, map, Option, Some, None, Result, Ok, Err, refl, sym, ap, subst, ◌∙◌, arith, nil_from_length, Reason, Fault, Shape, AreBytes, Head, Outcome, front, or_else_none, head_size, context_of, Form, header_of, MessageVal, form_at, payload_at, broken_frame, broken_message, Layout, message_of, message_at, body_at, messages_of, Trail, region_trail, trail_of}
 use Rattle.nl_attr.specs.Grammar.{and_on, visits_of}
-use Rattle.nl_attr.specs.Heads.{Head}
 use Rattle.nl_attr.specs.Heads as region
-use Rattle.nl_attr.specs.Reading.{Outcome}
 use Rattle.nl_attr.specs.Scanned.{without}
 use Rattle.nl_attr.proofs.Lemmas.First.{Agrees, map_agrees, then_agrees, agrees_so, end_of}
 use Rattle.nl_attr.proofs.Lemmas.First as regions
-use Rattle.nl_attr.proofs.Lemmas.Grammars.{front}
-use Rattle.nl_attr.proofs.Lemmas.Reading.{or_else_none}
-use Rattle.nl_route.specs.Families.{head_size, context_of}
-use Rattle.nl_frame.specs.declared.form.Form.{Form}
 use Rattle.nl_frame.specs.declared.form.Form.TheVariants as form
-use Rattle.nl_frame.specs.Header.{header_of}
-use Rattle.nl_frame.specs.Message.{MessageVal}
-use Rattle.nl_frame.specs.Front.{form_at, payload_at, broken_frame, broken_message}
-use Rattle.nl_frame.specs.Layout.{Layout}
-use Rattle.nl_frame.specs.Reading.{message_of, message_at, body_at, messages_of}
 use Rattle.nl_frame.specs.Heads.{header, inner, Rest, behind, region_in, region_of, heads, FaultAt, IsFirstFault, Visits, whole}
-use Rattle.nl_frame.specs.HeadOrder.{Trail, region_trail, trail_of}
 use Rattle.nl_frame.proofs.Layouts.{messages_fit, messages_sound}
 use Rattle.nl_frame.proofs.Scan.{fills, laws, trail_ends, trail_stops, trail_goes}
 use Rattle.nl_frame.proofs.Steps.{messages_none, messages_cut, messages_step}

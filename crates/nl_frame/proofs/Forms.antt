@@ -1,14 +1,10 @@
 -- What a message's type says of its body, type by type.
-use Rattle.std.proofs.Common.{◌≡◌, ℕ, ◌≤◌, Bool, true, false, ◌&&◌, ◌==◌, if◌then◌else◌, ltb, List, [], ◌∷◌, map, get_or, None, refl, sym, ap, ◌∙◌, inl, inr, arith}
-use Rattle.std.specs.List.{list_all, range_with_len}
-use Rattle.std.proofs.lemmas.Bool.{cases_lt, ne_eqb, ltb-true}
+use Rattle.nl_frame.proofs.Common.{◌≡◌, ℕ, ◌≤◌, Bool, true, false, ◌&&◌, ◌==◌, if◌then◌else◌, ltb, List, [], ◌∷◌, map, get_or, None, refl, sym, ap, ◌∙◌, inl, inr, arith, list_all, range_with_len, cases_lt, ne_eqb, ltb-true, Form, form_for, form_of}
 use Rattle.std.proofs.lemmas.List.FromFn.{get_or-map-range_with_len}
 use Rattle.nl_route.specs.Types.{types, under, route_type}
 use Rattle.nl_route.specs.declared.family.RouteType.{RouteType}
 use Rattle.nl_route.specs.declared.family.Family.TheVariants.{Link, Addr, Route, Neigh, Rule}
-use Rattle.nl_frame.specs.declared.form.Form.{Form}
 use Rattle.nl_frame.specs.declared.form.Form.TheVariants.{Noop, Error, Done, Overrun, Object, Get, Other}
-use Rattle.nl_frame.specs.Form.{form_for, form_of}
 
 -- the forms of a type of its own
 abbrev pub forms : List (ℕ × Form)

@@ -1,23 +1,13 @@
 -- The message at the front of bytes.
-use Rattle.std.proofs.Common.{◌≡◌, ℕ, ◌+◌, ◌-◌, ◌*◌, ◌^◌, ◌<◌, ◌≤◌, min, cond, ltb, Bool, true, false, List, length, take, drop, Option, Some, None, Ok, refl, ap, subst, ◌∙◌, arith, length-drop}
-use Rattle.std.proofs.lemmas.Bool.{le-ltb, lt-ltb, ltb-false}
-use Rattle.std.proofs.lemmas.List.{take_all}
+use Rattle.nl_frame.proofs.Common.{◌≡◌, ℕ, ◌+◌, ◌-◌, ◌*◌, ◌^◌, ◌<◌, ◌≤◌, min, cond, ltb, Bool, true, false, List, length, take, drop, Option, Some, None, Ok, refl, ap, subst, ◌∙◌, arith, length-drop, le-ltb, lt-ltb, ltb-false, take_all, take_rest, LONGEST_REGION, Order, Reason, Shape, aligned, len_of, or_else, IsWithin, span_at_least, payload_is, payload_length, Frame, Form, header_of, form_of, least_body, form_at, span_at, payload_at, broken_frame, broken_message, IsFrame}
 use Rattle.std.proofs.Math.Nat.{mul-le-mul_left}
-use Rattle.nl_attr.specs.Fixed.{LONGEST_REGION}
-use Rattle.nl_attr.specs.declared.order.Order.{Order}
-use Rattle.nl_attr.specs.declared.fault.Reason.{Reason}
 use Rattle.nl_attr.specs.declared.fault.Reason.TheVariants.{ShortBody}
-use Rattle.nl_attr.specs.Shape.{Shape}
-use Rattle.nl_attr.specs.Numbers.{aligned, len_of}
 use Rattle.nl_attr.specs.Walk.{HeadIs}
-use Rattle.nl_attr.specs.Heads.{or_else}
-use Rattle.nl_attr.proofs.Lemmas.Reading.{IsWithin, span_at_least, payload_is, payload_length}
 use Rattle.nl_attr.proofs.Lemmas.Scan.{span_within}
-use Rattle.nl_frame.specs.declared.front.Frame.{Frame}
-use Rattle.nl_frame.specs.declared.form.Form.{Form}
-use Rattle.nl_frame.specs.Header.{header_of}
-use Rattle.nl_frame.specs.Form.{form_of, least_body}
-use Rattle.nl_frame.specs.Front.{form_at, span_at, payload_at, broken_frame, broken_message, IsFrame}
+
+-- how many bytes lie behind so many
+pub length-from : (n : ℕ) (bytes : List ℕ) → length (take (length bytes - n) (drop n bytes)) ≡ length bytes - n
+length-from n bytes = ap (length {A = ℕ}) (take_rest bytes n) ∙ length-drop n bytes
 
 pub sound_of : (a : Option Reason) (n m : ℕ) → a ≡ None → m ≤ n → or_else a (cond (ltb n m) (Some ShortBody) None) ≡ None
 sound_of a n m e h = rw (e, le-ltb n m h) refl

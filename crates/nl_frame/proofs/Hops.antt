@@ -1,19 +1,7 @@
 -- A next hop that is put whole.
-use Rattle.std.proofs.Common.{◌≡◌, ℕ, ℤ, ◌+◌, ◌-◌, ◌≤◌, nat_lt, if◌then◌else◌, List, [], ◌∷◌, ◌++◌, length, drop, Option, Some, None, Result, Ok, refl, sym, ap, ◌∙◌, arith, append_assoc, length-append}
-use Rattle.std.specs.Int.{w32, cast_unsigned}
-use Rattle.std.specs.List.{splice}
-use Rattle.nl_attr.specs.Fixed.{LONGEST_ITEM, LONGEST_CONTAINER}
-use Rattle.nl_attr.specs.Numbers.{aligned, num}
-use Rattle.nl_attr.specs.Tree.{bytes}
-use Rattle.nl_attr.specs.Written.{with_padding, attr_item}
-use Rattle.nl_attr.specs.declared.tree.Ctx.TheVariants.{Route}
-use Rattle.nl_attr.specs.declared.tree.Content.{Content}
+use Rattle.nl_frame.proofs.Common.{◌≡◌, ℕ, ℤ, ◌+◌, ◌-◌, ◌≤◌, nat_lt, if◌then◌else◌, List, [], ◌∷◌, ◌++◌, length, drop, Option, Some, None, Result, Ok, refl, sym, ap, ◌∙◌, arith, append_assoc, length-append, w32, cast_unsigned, splice, LONGEST_ITEM, LONGEST_CONTAINER, aligned, num, bytes, with_padding, attr_item, Route, Content, length-num, length-padded_attr, OpenHead, BuildError}
 use Rattle.nl_attr.specs.declared.tree.Content.TheVariants as content
-use Rattle.nl_attr.proofs.Lemmas.Numbers.{length-num}
-use Rattle.nl_attr.proofs.Lemmas.Lengths.{length-padded_attr}
-use Rattle.nl_frame.specs.declared.building.OpenHead.{OpenHead}
-use Rattle.nl_frame.specs.declared.building.refusal.BuildError.{BuildError}
-use Rattle.nl_frame.specs.Building.{Built, bytes_refusal, close_refusal, ended, grown, held, held_in, hop_begun, hop_refusal, hop_refusal_in, lacks, length_from, no_flags, opened, open_hop, or_next, order_of, put, put_hop, settled, top}
+use Rattle.nl_frame.specs.Building.{Built, bytes_refusal, close_refusal, ended, grown, held_in, hop_begun, hop_refusal, hop_refusal_in, lacks, length_from, no_flags, opened, open_hop, or_next, order_of, put, put_hop, settled, top}
 use Rattle.nl_frame.specs.Building as building
 use Rattle.nl_frame.specs.declared.building.refusal.BuildError.TheVariants.{NothingOpen, TooLong}
 use Rattle.std.specs.Option.{option_map}

@@ -1,17 +1,6 @@
 -- What a builder's parts keep of a call that is made over what they are but for the heads around the innermost.
-use Rattle.std.proofs.Common.{◌≡◌, ◌≤◌, ℕ, ℤ, List, [], ◌∷◌, Option, Some, None, Result, Ok, Err, refl, sym, ap, subst, ◌∙◌, arith}
-use Rattle.std.specs.Prelude.{FitsSigned, OnOk, OnErr}
-use Rattle.std.specs.Int.{w32}
-use Rattle.nl_frame.specs.declared.building.OpenHead.{OpenHead}
-use Rattle.nl_frame.specs.declared.building.top.BuilderTop.{BuilderTop}
-use Rattle.nl_frame.specs.declared.building.refusal.BuildError.{BuildError}
-use Rattle.nl_frame.specs.Building.{Built, AreOpen, answer, no_flags, put_hop}
-use Rattle.nl_frame.specs.Calls.{Call, IsCall, called, close, open_hop, put, put_by}
-use Rattle.nl_frame.specs.Draft.{Draft, Holds}
+use Rattle.nl_frame.proofs.Common.{◌≡◌, ◌≤◌, ℕ, ℤ, List, [], ◌∷◌, Option, Some, None, Result, Ok, Err, refl, sym, ap, subst, ◌∙◌, arith, FitsSigned, OnOk, OnErr, w32, OpenHead, BuilderTop, BuildError, Built, AreOpen, answer, no_flags, put_hop, Call, IsCall, called, close, open_hop, put, put_by, Draft, Holds, Bounds, Parts, AreParts, over, AreWithin, Opens, heads_after, left, left_with, parts_with, refusal_of, top_of}
 use Rattle.nl_frame.specs.Draft as draft
-use Rattle.nl_frame.specs.Limits.{Bounds}
-use Rattle.nl_frame.specs.Parts.{Parts, AreParts, over}
-use Rattle.nl_frame.specs.Tops.{AreWithin, Opens, heads_after, left, left_with, parts_with, refusal_of, top_of}
 use Rattle.nl_frame.proofs.Running.{called_holds, runs_hold}
 
 -- a call that leaves no refusal puts what it puts
@@ -35,12 +24,6 @@ if_opened (Err f) P e x = absurd (cc)
 
 module _ (p : Parts) (t u : BuilderTop) (v : t ≡ top_of p) where
   -- ---- of a call that puts something
-
-  pub put_limit : (new : List ℕ) → u ≡ record t { len = u.len; refusal = u.refusal } → AreWithin u new → u.len ≤ p.bounds.datagram
-  put_limit new rest fits = omega (arith, fits.1, ap (λ (x : BuilderTop). x.limits.datagram) rest, ap (λ (x : BuilderTop). x.limits.datagram) v)
-
-  pub put_grows : t.len ≤ u.len → p.len ≤ u.len
-  put_grows le = omega (arith, le, ap (λ (x : BuilderTop). x.len) v)
 
   pub put_over : (q : Parts) (out new : List ℕ) (f : Built → Built) → u ≡ record t { len = u.len; refusal = u.refusal } → q ≡ record p { len = u.len; refusal = u.refusal }
       → over (parts_with u p.heads) new ≡ f (over (parts_with t p.heads) out) → over q new ≡ f (over p out)

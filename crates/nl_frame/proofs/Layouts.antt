@@ -1,37 +1,11 @@
 -- What is read of a payload is its body, and nothing else is; and the layout of a datagram is what is read of it.
-use Rattle.std.proofs.Common.{◌≡◌, ℕ, ◌+◌, ◌≤◌, ℤ, List, [], ◌∷◌, length, take, drop, Some, None, Ok, refl, sym, ap, subst, ◌∙◌, arith, inl, inr, ◌-◌, ◌≢◌, zero, suc, Option}
-use Rattle.std.proofs.lemmas.Bool.{le-ltb, lt-ltb, cases_lt}
-use Rattle.std.proofs.lemmas.List.{length-take, take-take, drop-take, drop-drop, nil_from_length}
-use Rattle.std.specs.Prelude.{slice_index}
-use Rattle.nl_attr.specs.declared.order.Order.{Order}
-use Rattle.nl_attr.specs.declared.fault.Reason.{Reason}
-use Rattle.nl_attr.specs.Shape.{Shape}
-use Rattle.nl_attr.specs.Numbers.{AreBytes, number_of, len_of}
-use Rattle.nl_attr.specs.Tree.{Items}
-use Rattle.nl_attr.specs.Layout.{Fits, IsPiece}
-use Rattle.nl_attr.specs.Reading.{Outcome, map_value, items_of_region}
-use Rattle.nl_attr.proofs.Lemmas.Fitting.{ReadAs, items_fit, then_read, map_read, along, IsCut, cut_piece}
+use Rattle.nl_frame.proofs.Common.{◌≡◌, ℕ, ◌+◌, ◌≤◌, ℤ, List, [], ◌∷◌, length, take, drop, Some, None, Ok, refl, sym, ap, subst, ◌∙◌, arith, inl, inr, ◌-◌, ◌≢◌, zero, suc, Option, le-ltb, lt-ltb, cases_lt, length-take, take-take, drop-take, drop-drop, nil_from_length, slice_index, Order, Reason, Shape, AreBytes, number_of, len_of, Items, Fits, IsPiece, Outcome, map_value, items_of_region, ReadAs, items_fit, then_read, map_read, along, IsCut, cut_piece, bytes_drop, bytes_take, number_take, piece_at, one_result, sound_within, rest_shorter, or_else_none, signed, AreFields, Field, value_at, signed_at, any_only, any_fields, head_size, context_of, AnyHead, family_of, head_of, Header, Form, Family, header_fields, header_of, least_body, form_of, form_at, span_at, payload_at, broken_frame, broken_message, BodyVal, noop, error, done, overrun, object, get, other, MessageVal, BodyOf, Layout, w32, cast_signed}
 use Rattle.nl_attr.proofs.Lemmas.Sound.{items_sound, map_ok, same_ok, then_ok}
-use Rattle.nl_attr.proofs.Lemmas.Numbers.{bytes_drop, bytes_take, number_take}
-use Rattle.nl_attr.proofs.Lemmas.Pieces.{piece_at}
-use Rattle.nl_attr.proofs.Lemmas.Reading.{one_result, sound_within, rest_shorter, or_else_none}
-use Rattle.nl_route.specs.Fields.{signed, AreFields, Field}
-use Rattle.nl_route.proofs.Known.{fields_of_read, read_of_fields, IsKnown, value_at, signed_at}
-use Rattle.nl_route.proofs.Families.{any_only, any_fields}
-use Rattle.nl_route.specs.Families.{head_size, context_of, AnyHead, family_of, head_of}
-use Rattle.nl_frame.specs.declared.header.Header.{Header}
-use Rattle.nl_frame.specs.declared.form.Form.{Form}
+use Rattle.nl_route.proofs.Known.{fields_of_read, read_of_fields, IsKnown}
 use Rattle.nl_frame.specs.declared.form.Form.TheVariants as form
-use Rattle.nl_route.specs.declared.family.Family.{Family}
-use Rattle.nl_frame.specs.Header.{header_fields, header_of}
-use Rattle.nl_frame.specs.Form.{least_body, form_of}
-use Rattle.nl_frame.specs.Front.{form_at, span_at, payload_at, broken_frame, broken_message}
-use Rattle.nl_frame.specs.Message.{BodyVal, noop, error, done, overrun, object, get, other, MessageVal}
-use Rattle.nl_frame.specs.Layout.{BodyOf, Layout}
 use Rattle.nl_frame.specs.Reading.{signed_of, done_at, body_at, message_of, message_at, unless, messages_at, messages_of}
 use Rattle.nl_frame.proofs.Steps.{messages_step, messages_none}
 use Rattle.nl_frame.proofs.Fronts.{sound_of, long_of}
-use Rattle.std.specs.Int.{w32, cast_signed}
 
 -- ---- what is read of the fixed fields at the front of a message or a body
 

@@ -1,3 +1,4 @@
+mod Common
 mod Forms
 pub mod Extents
 pub mod Firsts
@@ -26,5 +27,3 @@ mod Rooms
 pub mod Trees
 mod Accepted
 mod Builds
-mod Copied
-mod Copying

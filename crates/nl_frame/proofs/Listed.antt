@@ -1,26 +1,9 @@
 -- The events of the heads of a datagram are those of the messages that are its layout.
-use Rattle.std.proofs.Common.{◌≡◌, ◌≢◌, ℕ, ◌+◌, List, [], ◌∷◌, ◌++◌, length, map, drop, Option, Some, None, refl, sym, ap, subst, ◌∙◌, arith}
-use Rattle.nl_attr.specs.declared.events.Event.{Event}
-use Rattle.nl_attr.specs.Shape.{Shape}
-use Rattle.nl_attr.specs.Numbers.{aligned}
-use Rattle.nl_attr.specs.Heads.{Head}
+use Rattle.nl_frame.proofs.Common.{◌≡◌, ◌≢◌, ℕ, ◌+◌, List, [], ◌∷◌, ◌++◌, length, map, drop, Option, Some, None, refl, sym, ap, subst, ◌∙◌, arith, Event, Shape, aligned, Head, and_on, next_span, sound_within, head_size, context_of, family_of, Header, Form, form_of, span_at, payload_at, broken_message, header, Rest, behind, region_in, region_of, whole, BodyOf, Layout, BodyVal, done, object, MessageVal, body_len, region_trail, trail_of, header_event, event_of, events_of}
 use Rattle.nl_attr.specs.Listed.{rounded}
-use Rattle.nl_attr.specs.Grammar.{and_on}
 use Rattle.nl_attr.specs.HeadOrder as region
-use Rattle.nl_attr.proofs.Lemmas.Fitting.{next_span}
 use Rattle.nl_attr.proofs.Lemmas.Listed.{AreEvents, events_on, events_one, items_listed}
-use Rattle.nl_attr.proofs.Lemmas.Reading.{sound_within}
-use Rattle.nl_route.specs.Families.{head_size, context_of, family_of}
-use Rattle.nl_frame.specs.declared.header.Header.{Header}
-use Rattle.nl_frame.specs.declared.form.Form.{Form}
-use Rattle.nl_frame.specs.Form.{form_of}
-use Rattle.nl_frame.specs.Front.{span_at, payload_at, broken_message}
-use Rattle.nl_frame.specs.Heads.{header, Rest, behind, region_in, region_of, whole}
-use Rattle.nl_frame.specs.Layout.{BodyOf, Layout}
 use Rattle.nl_frame.specs.Listed.{body_events, messages_events}
-use Rattle.nl_frame.specs.Message.{BodyVal, done, object, MessageVal}
-use Rattle.nl_frame.specs.Written.{body_len}
-use Rattle.nl_frame.specs.HeadOrder.{region_trail, trail_of, header_event, event_of, events_of}
 use Rattle.nl_frame.proofs.Layouts.{body_fit, message_is, some_of}
 use Rattle.nl_frame.proofs.ProperLayouts.{body_len_is, payload_in}
 use Rattle.nl_frame.proofs.Tapes.{region_events}

@@ -1,24 +1,9 @@
 -- Heads that are open, and what changes in a slice.
-use Rattle.std.proofs.Common.{◌≡◌, ℕ, zero, suc, ◌+◌, ◌-◌, ◌≤◌, List, [], ◌∷◌, ◌++◌, length, take, drop, replicate, refl, sym, ap, subst, ◌∙◌, arith, Bool, true, false, Option, Some, None, append_assoc, length-append, length-drop}
-use Rattle.std.specs.List.{splice}
-use Rattle.std.proofs.lemmas.List.{length-take, take_at, drop_at, take-append-le, drop-append-le, take-append-drop, take-replicate}
+use Rattle.nl_frame.proofs.Common.{◌≡◌, ℕ, zero, suc, ◌+◌, ◌-◌, ◌≤◌, List, [], ◌∷◌, ◌++◌, length, take, drop, replicate, refl, sym, ap, subst, ◌∙◌, arith, Bool, true, false, Option, Some, None, append_assoc, length-append, length-drop, splice, length-take, take_at, drop_at, take-append-le, drop-append-le, take-append-drop, take-replicate, Order, AttrFlags, aligned, num, kind_number, with_padding, attr_item, length-attr, Family, AnyHead, head_size, family_of, fields_of, context_of, Content, form_of, BuildError, OpenHead, any_head}
 use Rattle.std.proofs.Math.Seq.{drop-nil}
-use Rattle.nl_attr.specs.declared.order.Order.{Order}
-use Rattle.nl_attr.specs.declared.tree.AttrFlags.{AttrFlags}
-use Rattle.nl_attr.specs.Numbers.{aligned, num}
-use Rattle.nl_attr.specs.Layout.{kind_number}
-use Rattle.nl_attr.specs.Written.{with_padding, attr_item}
-use Rattle.nl_attr.proofs.Lemmas.Lengths.{length-attr}
-use Rattle.nl_route.specs.declared.family.Family.{Family}
-use Rattle.nl_route.specs.Families.{AnyHead, head_size, family_of, fields_of, context_of}
 use Rattle.nl_route.specs.Fields as fields
-use Rattle.nl_attr.specs.declared.tree.Content.{Content}
 use Rattle.nl_attr.specs.declared.tree.Content.TheVariants as content
-use Rattle.nl_frame.specs.Form.{form_of}
-use Rattle.nl_frame.specs.declared.building.refusal.BuildError.{BuildError}
-use Rattle.nl_frame.specs.declared.building.OpenHead.{OpenHead}
 use Rattle.nl_frame.specs.declared.building.head.FamilyHead.{FamilyHead}
-use Rattle.nl_frame.specs.AnyHeads.{any_head}
 use Rattle.nl_frame.specs.Building.{Built, AreOpen, lacks, grown, opened, or_next, begin, begin_refusal, first_refusal, message_begun, header_begun, order_of, settled, has_head}
 
 -- heads among some bytes are among more

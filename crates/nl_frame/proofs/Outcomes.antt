@@ -1,24 +1,12 @@
 -- What the exact outcome of a reading and the answer of a scan say in the words of the layout.
-use Rattle.std.proofs.Common.{◌≡◌, ◌≤◌, ℕ, List, length, map, Result, Ok, Err, IfOk, IfErr, sym, subst, arith, ◌<◌, ◌+◌, ◌*◌, ◌↔◌, Option, Some, None, IfSome, refl, ap, ◌∙◌}
-use Rattle.std.proofs.lemmas.List.{length-map}
+use Rattle.nl_frame.proofs.Common.{◌≡◌, ◌≤◌, ℕ, List, length, map, Result, Ok, Err, IfOk, IfErr, sym, subst, arith, ◌<◌, ◌+◌, ◌*◌, ◌↔◌, Option, Some, None, IfSome, refl, ap, ◌∙◌, length-map, IsErrAnd, MatchResult, Fault, Reason, Event, BrokenHead, Taped, Shape, AreBytes, IsOutcome, Outcome, read_result, message_view, MessageVal, IsFirstFault, whole, events_of, event_of, trail_of, visits_of, Layout, Bounds, messages_of, IsBrokenHead, IsTaped, Ends, HasEnd, IfBroken, as_read}
 use Rattle.std.specs.Global.{Vec}
-use Rattle.std.specs.Prelude.{IsErrAnd, MatchResult}
-use Rattle.nl_attr.specs.declared.fault.Fault.{Fault}
 use Rattle.nl_attr.specs.declared.fault.ListError.{ListError}
 use Rattle.nl_attr.specs.declared.fault.ListError.TheVariants as unlisted
-use Rattle.nl_attr.specs.declared.fault.Reason.{Reason}
 use Rattle.nl_attr.specs.declared.fault.Tally.{Tally}
-use Rattle.nl_attr.specs.declared.events.Event.{Event}
-use Rattle.nl_attr.specs.declared.broken.BrokenHead.{BrokenHead}
-use Rattle.nl_attr.specs.declared.taping.Taped.{Taped}
-use Rattle.nl_attr.specs.Shape.{Shape}
 use Rattle.nl_attr.specs.Scanned.{without}
-use Rattle.nl_attr.specs.Numbers.{AreBytes}
-use Rattle.nl_attr.specs.Outcomes.{IsOutcome}
 use Rattle.nl_attr.specs.Broken.{fault_in}
-use Rattle.nl_attr.specs.Reading.{Outcome}
 use Rattle.nl_attr.specs.HeadOrder.{fault_of}
-use Rattle.nl_attr.proofs.Lemmas.Fitting.{read_result}
 use Rattle.nl_attr.proofs.Lemmas.First.{end_of}
 use Rattle.nl_attr.proofs.Lemmas.Scanned.{was_ok, was_err}
 use Rattle.nl_frame.specs.declared.body.Message.{Message}
@@ -26,18 +14,9 @@ use Rattle.nl_frame.specs.declared.reading.ReadError.{ReadError}
 use Rattle.nl_frame.specs.declared.reading.ReadError.TheVariants as read
 use Rattle.nl_frame.specs.declared.scanning.ScanError.{ScanError}
 use Rattle.nl_frame.specs.declared.scanning.ScanError.TheVariants.{TooLarge, Layout as Fails}
-use Rattle.nl_frame.specs.View.{message_view}
-use Rattle.nl_frame.specs.Message.{MessageVal}
-use Rattle.nl_frame.specs.Heads.{IsFirstFault, whole}
-use Rattle.nl_frame.specs.HeadOrder.{events_of, event_of, trail_of, visits_of}
 use Rattle.nl_frame.specs.Kept.{kept}
-use Rattle.nl_frame.specs.Layout.{Layout}
-use Rattle.nl_frame.specs.Limits.{Bounds}
 use Rattle.nl_frame.specs.Outcomes.{IfFault, VisitsUpTo, read_error}
-use Rattle.nl_frame.specs.Reading.{messages_of}
-use Rattle.nl_frame.specs.Broken.{IsBrokenHead}
 use Rattle.nl_frame.specs.Scans.{ScansDatagram}
-use Rattle.nl_frame.specs.Taped.{IsTaped, Ends, HasEnd, IfBroken, as_read}
 use Rattle.nl_frame.proofs.Firsts.{err_first, err_visits, ok_visits, reads}
 use Rattle.nl_frame.proofs.Layouts.{messages_fit, messages_sound}
 use Rattle.nl_frame.proofs.ProperLayouts.{layout_kept}

@@ -1,30 +1,8 @@
 -- Messages that are a layout can be written, are sized, are as long as the datagram with its last padding, keep no more bytes than it has, and are its one list.
-use Rattle.std.proofs.Common.{◌≡◌, ℕ, ◌+◌, ◌%◌, ◌≤◌, List, [], ◌∷◌, length, take, drop, Some, None, refl, sym, ap, subst, ◌∙◌, arith, inl, inr, length-drop}
+use Rattle.nl_frame.proofs.Common.{◌≡◌, ℕ, ◌+◌, ◌%◌, ◌≤◌, List, [], ◌∷◌, length, take, drop, Some, None, refl, sym, ap, subst, ◌∙◌, arith, inl, inr, length-drop, LONGEST_REGION, Order, Shape, aligned, AreBytes, IsPiece, bytes_drop, apart, two_parts, piece_bytes, list_is_sized, signed, fields_are_ranged, is_family, head_size, context_of, family_of, fields_of, Form, header_fields, form_of, BodyVal, error, done, object, get, MessageVal, BodyOf, Layout, Bounds, AreLimits, body_len, written_len, written, IsMismatchedBody, IsMismatched, IsDeepBody, IsDeep, IsLongBody, HasLong, IsProper, IsRangedBody, IsRanged, IsSized, IsSizedBody, IsTheList}
 use Rattle.std.proofs.Math.Logic.{⊎_elim}
-use Rattle.nl_attr.specs.Fixed.{LONGEST_REGION}
-use Rattle.nl_attr.specs.declared.order.Order.{Order}
-use Rattle.nl_attr.specs.Shape.{Shape}
-use Rattle.nl_attr.specs.Numbers.{aligned, AreBytes}
-use Rattle.nl_attr.specs.Layout.{IsPiece}
 use Rattle.nl_attr.proofs.Lemmas.Fitted.{IsAllowed, items_allowed, fitted_is_proper, fitted_len}
-use Rattle.nl_attr.proofs.Lemmas.Numbers.{bytes_drop}
-use Rattle.nl_attr.proofs.Lemmas.Pieces.{apart, two_parts, piece_bytes}
-use Rattle.nl_attr.proofs.Lemmas.Writing.{list_is_sized}
-use Rattle.nl_route.specs.Fields.{signed}
-use Rattle.nl_route.proofs.Fields.{fields_are_ranged}
-use Rattle.nl_route.proofs.Families.{is_family}
-use Rattle.nl_route.specs.Families.{head_size, context_of, family_of, fields_of}
-use Rattle.nl_frame.specs.declared.form.Form.{Form}
-use Rattle.nl_frame.specs.Header.{header_fields}
-use Rattle.nl_frame.specs.Form.{form_of}
-use Rattle.nl_frame.specs.Message.{BodyVal, error, done, object, get, MessageVal}
-use Rattle.nl_frame.specs.Layout.{BodyOf, Layout}
-use Rattle.nl_frame.specs.Limits.{Bounds, AreLimits}
-use Rattle.nl_frame.specs.Written.{body_len, written_len, written}
-use Rattle.nl_frame.specs.Proper.{IsMismatchedBody, IsMismatched, IsDeepBody, IsDeep, IsLongBody, HasLong, IsProper, IsRangedBody, IsRanged}
-use Rattle.nl_frame.specs.Measured.{IsSized, IsSizedBody}
 use Rattle.nl_frame.specs.Kept.{body_kept, kept}
-use Rattle.nl_frame.specs.OneList.{IsTheList}
 use Rattle.nl_frame.proofs.Firsts.{one_layout}
 use Rattle.nl_frame.proofs.WrittenLayouts.{written_has_layout}
 

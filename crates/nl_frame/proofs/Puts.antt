@@ -1,22 +1,6 @@
 -- What each call of a builder puts.
-use Rattle.std.proofs.Common.{◌≡◌, ℕ, ◌+◌, ◌<◌, ◌≤◌, List, [], ◌∷◌, ◌++◌, length, Option, Some, None, Result, Ok, Err, refl, sym, ap, subst, ◌∙◌, arith, append_assoc, length-append}
-use Rattle.nl_attr.specs.Fixed.{NUMBERS, LONGEST_ITEM}
-use Rattle.nl_attr.specs.declared.order.Order.{Order}
-use Rattle.nl_attr.specs.declared.tree.AttrFlags.{AttrFlags}
-use Rattle.nl_attr.specs.declared.tree.Ctx.{Ctx}
-use Rattle.nl_attr.specs.declared.tree.Content.{Content}
+use Rattle.nl_frame.proofs.Common.{◌≡◌, ℕ, ◌+◌, ◌<◌, ◌≤◌, List, [], ◌∷◌, ◌++◌, length, Option, Some, None, Result, Ok, Err, refl, sym, ap, subst, ◌∙◌, arith, append_assoc, length-append, NUMBERS, LONGEST_ITEM, Order, AttrFlags, Ctx, Content, aligned, Val, bytes, list, hops, holds_of, with_padding, attr_item, written_val, val_len, IsMismatchedVal, IsDeepVal, IsLongItem, HasLongVal, IsRangedVal, length-padded_attr, Bounds, BuildError, OpenHead, MessageVal, Built, order_of, grown, or_next, lacks, top, held, held_in, bytes_refusal, Layer, Draft, content_at, val_and_item, begun_bytes, laid, IsDeepIn, HasLongIn, IsLayer, Holds}
 use Rattle.nl_attr.specs.declared.tree.Content.TheVariants as content
-use Rattle.nl_attr.specs.Numbers.{aligned}
-use Rattle.nl_attr.specs.Tree.{Val, bytes, list, hops, holds_of}
-use Rattle.nl_attr.specs.Written.{with_padding, attr_item, written_val, val_len}
-use Rattle.nl_attr.specs.Proper.{IsMismatchedVal, IsDeepVal, IsLongItem, HasLongVal, IsRangedVal}
-use Rattle.nl_attr.proofs.Lemmas.Lengths.{length-padded_attr}
-use Rattle.nl_frame.specs.Limits.{Bounds}
-use Rattle.nl_frame.specs.declared.building.refusal.BuildError.{BuildError}
-use Rattle.nl_frame.specs.declared.building.OpenHead.{OpenHead}
-use Rattle.nl_frame.specs.Message.{MessageVal}
-use Rattle.nl_frame.specs.Building.{Built, order_of, grown, or_next, lacks, top, held, held_in, bytes_refusal}
-use Rattle.nl_frame.specs.Draft.{Begun, Layer, Draft, content_at, val_and_item, layers_and_item, begun_bytes, laid, heads_of, IsDeepIn, HasLongIn, IsLayer, AreLayers, Holds}
 use Rattle.nl_frame.specs.Draft as draft
 use Rattle.nl_frame.proofs.Opens.{has_room}
 use Rattle.nl_frame.proofs.Snocs.{item_written, item_matched, item_shallow, item_short, item_ranged}

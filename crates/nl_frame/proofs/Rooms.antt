@@ -1,24 +1,6 @@
 -- That a builder keeps within its slice, and leaves what is behind the accepted bytes.
-use Rattle.std.proofs.Common.{◌≡◌, ℕ, ◌+◌, ◌-◌, ◌≤◌, List, [], ◌∷◌, ◌++◌, length, drop, Option, Some, None, refl, sym, ap, subst, ◌∙◌, arith, length-append, length-drop}
-use Rattle.std.specs.List.{AllByRecursion}
-use Rattle.nl_attr.specs.declared.order.Order.{Order}
-use Rattle.nl_attr.specs.Numbers.{aligned, num}
-use Rattle.nl_attr.specs.Tree.{bytes}
-use Rattle.nl_attr.specs.Written.{with_padding, attr_item, written_val}
-use Rattle.nl_attr.proofs.Lemmas.Lengths.{length-padded, length-padded_attr}
-use Rattle.nl_attr.proofs.Lemmas.Numbers.{length-num}
+use Rattle.nl_frame.proofs.Common.{◌≡◌, ℕ, ◌+◌, ◌-◌, ◌≤◌, List, [], ◌∷◌, ◌++◌, length, drop, Option, Some, None, refl, sym, ap, subst, ◌∙◌, arith, length-append, length-drop, AllByRecursion, Order, aligned, num, bytes, with_padding, attr_item, written_val, length-padded, length-padded_attr, length-num, family_of, length-written, header_fields, body_written, Bounds, BuildError, OpenHead, MessageVal, Built, order_of, settled, lacks, held, top, attr_begun, hop_begun, message_begun, header_begun, header_whole, ended, head_ended, length_from, Begun, message, attribute, next_hop, Layer, Draft, begun_bytes, laid, heads_of, Holds, Call, begin, put, open_attr, open_hop, close, end, put_message, IsCall, called, put_by, run, KeepsRoom}
 use Rattle.nl_route.specs.Fields as fields
-use Rattle.nl_route.specs.Families.{family_of}
-use Rattle.nl_route.proofs.Fields.{length-written}
-use Rattle.nl_frame.specs.Header.{header_fields}
-use Rattle.nl_frame.specs.Written.{body_written}
-use Rattle.nl_frame.specs.Limits.{Bounds}
-use Rattle.nl_frame.specs.declared.building.refusal.BuildError.{BuildError}
-use Rattle.nl_frame.specs.declared.building.OpenHead.{OpenHead}
-use Rattle.nl_frame.specs.Message.{MessageVal}
-use Rattle.nl_frame.specs.Building.{Built, order_of, settled, lacks, held, top, attr_begun, hop_begun, message_begun, header_begun, header_whole, ended, head_ended, length_from}
-use Rattle.nl_frame.specs.Draft.{Begun, message, attribute, next_hop, Layer, Draft, begun_bytes, laid, heads_of, Holds}
-use Rattle.nl_frame.specs.Calls.{Call, begin, put, open_attr, open_hop, close, end, put_message, IsCall, called, put_by, run, KeepsRoom}
 use Rattle.nl_frame.proofs.Opens.{has_room, begin_allowed, drop_twice, length-over}
 use Rattle.nl_frame.proofs.Puts.{neither, has_bytes}
 use Rattle.nl_frame.proofs.Begins.{opens_at, hop_may, attr_length, hop_length, message_length}

@@ -1,15 +1,5 @@
 -- What all calls of a builder make together.
-use Rattle.std.proofs.Common.{◌≡◌, ℕ, List, [], ◌∷◌, Option, Some, None, Result, Ok, Err, refl, sym, ap, ◌∙◌}
-use Rattle.std.specs.List.{AllByRecursion}
-use Rattle.nl_attr.specs.Numbers.{num}
-use Rattle.nl_attr.specs.declared.tree.Content.{Content}
-use Rattle.nl_frame.specs.Limits.{Bounds}
-use Rattle.nl_frame.specs.declared.building.refusal.BuildError.{BuildError}
-use Rattle.nl_frame.specs.declared.building.OpenHead.{OpenHead}
-use Rattle.nl_frame.specs.Building.{Built, order_of, settled, or_next, open_refusal, content_or_bytes, ended, head_ended, length_from}
-use Rattle.nl_frame.specs.Draft.{Draft, Holds}
-use Rattle.nl_frame.specs.Written.{body_written}
-use Rattle.nl_frame.specs.Calls.{Call, begin, put, open_attr, open_hop, close, end, put_message, IsCall, called, put_by, run, put_by_all}
+use Rattle.nl_frame.proofs.Common.{◌≡◌, ℕ, List, [], ◌∷◌, Option, Some, None, Result, Ok, Err, refl, sym, ap, ◌∙◌, AllByRecursion, num, Content, Bounds, BuildError, OpenHead, Built, order_of, settled, or_next, open_refusal, content_or_bytes, ended, head_ended, length_from, Draft, Holds, body_written, Call, begin, put, open_attr, open_hop, close, end, put_message, IsCall, called, put_by, run, put_by_all}
 use Rattle.nl_frame.proofs.Puts.{neither, put_holds}
 use Rattle.nl_frame.proofs.Begins.{goes_on, open_holds, hop_holds, begin_holds}
 use Rattle.nl_frame.proofs.Closes.{close_holds}

@@ -1,28 +1,14 @@
 -- The heads of datagrams: where those behind a message and in it stand, and the order in which a scan comes to them.
-use Rattle.std.proofs.Common.{◌≡◌, ℕ, ◌+◌, ◌*◌, ◌<◌, ◌≤◌, List, length, drop, Option, Some, None, refl, sym, subst, arith, length-drop, ◌≢◌, zero, suc, [], ◌∷◌, map, ap, ◌∙◌}
+use Rattle.nl_frame.proofs.Common.{◌≡◌, ℕ, ◌+◌, ◌*◌, ◌<◌, ◌≤◌, List, length, drop, Option, Some, None, refl, sym, subst, arith, length-drop, ◌≢◌, zero, suc, [], ◌∷◌, map, ap, ◌∙◌, length-map, map-append, Reason, Ctx, BrokenHead, Shape, Head, start_of, IsLawful, Costs, front, weigh, walk_bound, or_else_none, sound_within, span_at_least, payload_length, head_size, context_of, Form, least_body, form_at, span_at, payload_at, broken_frame, broken_body, broken_message, IsBrokenHead, facts_of, Trail, region_trail, trail_of, event_of, events_of}
 use Rattle.std.proofs.Math.Nat.{mul-le-mul_left}
-use Rattle.std.proofs.lemmas.List.{length-map, map-append}
-use Rattle.nl_attr.specs.declared.fault.Reason.{Reason}
-use Rattle.nl_attr.specs.declared.tree.Ctx.{Ctx}
-use Rattle.nl_attr.specs.declared.broken.BrokenHead.{BrokenHead}
-use Rattle.nl_attr.specs.Shape.{Shape}
-use Rattle.nl_attr.specs.Heads.{Head, start_of}
 use Rattle.nl_attr.specs.Heads as region
 use Rattle.nl_attr.specs.Grammar.{TrailOf, and_on, inner_trail, unless, trail_turn, trail_at}
 use Rattle.nl_attr.specs.Grammar as grammar
-use Rattle.nl_attr.proofs.Lemmas.Grammars.{IsLawful, Costs, front, weigh, walk_bound}
 use Rattle.nl_attr.proofs.Lemmas.Grammars as grammars
-use Rattle.nl_attr.proofs.Lemmas.Reading.{or_else_none, sound_within, span_at_least, payload_length}
 use Rattle.nl_attr.proofs.Lemmas.Scan.{room, span_within, visits_cost, few_cost}
 use Rattle.nl_attr.proofs.Lemmas.Scan as regions
-use Rattle.nl_route.specs.Families.{head_size, context_of}
-use Rattle.nl_frame.specs.declared.form.Form.{Form}
 use Rattle.nl_frame.specs.declared.form.Form.TheVariants as form
-use Rattle.nl_frame.specs.Form.{least_body}
-use Rattle.nl_frame.specs.Front.{form_at, span_at, payload_at, broken_frame, broken_body, broken_message}
-use Rattle.nl_frame.specs.Broken.{IsBrokenHead, facts_of}
 use Rattle.nl_frame.specs.Heads.{AnyHead, header, inner, Rest, behind, region_in, region_of, some_inner, broken, unsound, uncounted, inner_of, heads, follower, place_of, left_of, IsFirstFault, Visits, whole}
-use Rattle.nl_frame.specs.HeadOrder.{Trail, region_trail, trail_of, event_of, events_of}
 use Rattle.nl_frame.proofs.Fronts.{long_of}
 
 -- ---- the region of a message

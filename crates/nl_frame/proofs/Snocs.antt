@@ -1,22 +1,7 @@
 -- One more attribute, next hop or message behind others: what they are written as, and that they can be written.
-use Rattle.std.proofs.Common.{◌≡◌, ℕ, ℤ, ◌+◌, ◌≤◌, List, [], ◌∷◌, ◌++◌, sym, ap, ◌∙◌, inl, inr, append_assoc, append-nil}
-use Rattle.std.specs.Prelude.{FitsSigned}
-use Rattle.std.specs.Int.{w32}
-use Rattle.nl_attr.specs.Fixed.{NUMBERS}
-use Rattle.nl_attr.specs.declared.order.Order.{Order}
-use Rattle.nl_attr.specs.declared.tree.AttrFlags.{AttrFlags}
-use Rattle.nl_attr.specs.declared.tree.Ctx.{Ctx}
-use Rattle.nl_attr.specs.declared.tree.Ctx.TheVariants.{Route}
-use Rattle.nl_attr.specs.Tree.{Val, Items, no_items, item, HopItems, no_hops, hop, holds_of}
-use Rattle.nl_attr.specs.Written.{with_padding, attr_item, hop_item, written_val, val_len, items_len}
+use Rattle.nl_frame.proofs.Common.{◌≡◌, ℕ, ℤ, ◌+◌, ◌≤◌, List, [], ◌∷◌, ◌++◌, sym, ap, ◌∙◌, inl, inr, append_assoc, append-nil, FitsSigned, w32, NUMBERS, Order, AttrFlags, Ctx, Route, Val, Items, no_items, item, HopItems, no_hops, hop, holds_of, with_padding, attr_item, hop_item, written_val, val_len, items_len, IsMismatchedVal, IsMismatchedHops, IsDeepVal, IsDeepHops, IsLongItem, IsLongRegion, HasLongVal, HasLongHops, IsRangedVal, IsRangedHops, form_of, MessageVal, message_item, written, IsMismatchedBody, IsMismatched, IsDeepBody, IsDeep, IsLongBody, HasLong, IsRanged, and_item, and_hop}
 use Rattle.nl_attr.specs.Written as attrs
-use Rattle.nl_attr.specs.Proper.{IsMismatchedVal, IsMismatchedHops, IsDeepVal, IsDeepHops, IsLongItem, IsLongRegion, HasLongVal, HasLongHops, IsRangedVal, IsRangedHops}
 use Rattle.nl_attr.specs.Proper as proper
-use Rattle.nl_frame.specs.Form.{form_of}
-use Rattle.nl_frame.specs.Message.{MessageVal}
-use Rattle.nl_frame.specs.Written.{message_item, written}
-use Rattle.nl_frame.specs.Proper.{IsMismatchedBody, IsMismatched, IsDeepBody, IsDeep, IsLongBody, HasLong, IsRanged}
-use Rattle.nl_frame.specs.Draft.{and_item, and_hop}
 
 -- ---- an attribute
 

@@ -1,20 +1,8 @@
 -- Reading a datagram message by message, whatever number bounds them.
-use Rattle.std.proofs.Common.{◌≡◌, ◌≢◌, ℕ, zero, suc, ◌+◌, ◌*◌, ◌≤◌, true, false, eqb, List, [], ◌∷◌, ◌++◌, length, drop, Option, Some, None, Ok, Err, refl, sym, ap, ◌∙◌, arith, append_assoc}
-use Rattle.std.proofs.lemmas.Bool.{eqb-true}
+use Rattle.nl_frame.proofs.Common.{◌≡◌, ◌≢◌, ℕ, zero, suc, ◌+◌, ◌*◌, ◌≤◌, true, false, eqb, List, [], ◌∷◌, ◌++◌, length, drop, Option, Some, None, Ok, Err, refl, sym, ap, ◌∙◌, arith, append_assoc, eqb-true, Order, Reason, Shape, Outcome, and_then, map_value, more_visits, IsOutcome, IsWithin, sound_within, rest_shorter, or_else_none, and_then_both, Form, Frame, Header, MessageVal, span_at, broken_message, IsFrame}
 use Rattle.std.proofs.lemmas.List.{append-nil, nil_from_length}
 use Rattle.nl_attr.specs.declared.fault.ListError.{ListError}
 use Rattle.nl_attr.specs.declared.fault.ListError.TheVariants.{Layout, Memory}
-use Rattle.nl_attr.specs.declared.order.Order.{Order}
-use Rattle.nl_attr.specs.declared.fault.Reason.{Reason}
-use Rattle.nl_attr.specs.Shape.{Shape}
-use Rattle.nl_attr.specs.Reading.{Outcome, and_then, map_value, more_visits}
-use Rattle.nl_attr.specs.Outcomes.{IsOutcome}
-use Rattle.nl_attr.proofs.Lemmas.Reading.{IsWithin, sound_within, rest_shorter, or_else_none, and_then_both}
-use Rattle.nl_frame.specs.declared.form.Form.{Form}
-use Rattle.nl_frame.specs.declared.front.Frame.{Frame}
-use Rattle.nl_frame.specs.declared.header.Header.{Header}
-use Rattle.nl_frame.specs.Message.{MessageVal}
-use Rattle.nl_frame.specs.Front.{span_at, broken_message, IsFrame}
 use Rattle.nl_frame.specs.Reading.{message_of, body_at, message_at, unless, messages_at, messages_of}
 use Rattle.nl_frame.proofs.Fronts.{Reaches, reaches_on}
 

@@ -1,29 +1,13 @@
 -- The loop that scans the messages of a datagram.
-use Rattle.std.proofs.Common.{◌≡◌, ◌≢◌, ℕ, ◌+◌, ◌*◌, ◌≤◌, List, [], ◌∷◌, ◌++◌, length, map, slice_set, Option, Some, None, refl, sym, ap, subst, ◌∙◌, IfSome, arith, length-append}
+use Rattle.nl_frame.proofs.Common.{◌≡◌, ◌≢◌, ℕ, ◌+◌, ◌*◌, ◌≤◌, List, [], ◌∷◌, ◌++◌, length, map, slice_set, Option, Some, None, refl, sym, ap, subst, ◌∙◌, IfSome, arith, length-append, Event, Fault, Reason, BrokenHead, Taped, Shape, Head, and_on, first, next, inside, front, front_front, weigh-append, behind_then, inside_then, put_none, put_on, put_one, or_else_none, Frame, broken_message, IsFrame, IsBrokenHead, IsBrokenIn, message_facts, IsTaped, IsFrameTaped, Trail, region_trail, trail_of, visits_of, event_of, header_event}
 use Rattle.std.proofs.lemmas.List.{append-nil, length-map, map-append}
-use Rattle.nl_attr.specs.declared.events.Event.{Event}
-use Rattle.nl_attr.specs.declared.fault.Fault.{Fault}
-use Rattle.nl_attr.specs.declared.fault.Reason.{Reason}
-use Rattle.nl_attr.specs.declared.broken.BrokenHead.{BrokenHead}
-use Rattle.nl_attr.specs.declared.taping.Taped.{Taped}
 use Rattle.nl_attr.specs.Broken.{fault_in}
-use Rattle.nl_attr.specs.Shape.{Shape}
-use Rattle.nl_attr.specs.Heads.{Head}
-use Rattle.nl_attr.specs.Grammar.{and_on, first, next, inside}
 use Rattle.nl_attr.specs.Grammar as grammar
 use Rattle.nl_attr.specs.HeadOrder.{fault_of, put_from}
 use Rattle.nl_attr.specs.HeadOrder as region
 use Rattle.nl_attr.specs.Heads as regions
 use Rattle.nl_attr.specs.Taped as taped_regions
-use Rattle.nl_attr.proofs.Lemmas.Grammars.{front, front_front, weigh-append, behind_then, inside_then}
-use Rattle.nl_attr.proofs.Lemmas.Putting.{put_none, put_on, put_one}
-use Rattle.nl_attr.proofs.Lemmas.Reading.{or_else_none}
-use Rattle.nl_frame.specs.declared.front.Frame.{Frame}
-use Rattle.nl_frame.specs.Front.{broken_message, IsFrame}
-use Rattle.nl_frame.specs.Broken.{IsBrokenHead, IsBrokenIn, message_facts}
 use Rattle.nl_frame.specs.Heads.{AnyHead, header, inner, Rest, HeadAt, some_inner, behind, region_in, region_of, heads, whole}
-use Rattle.nl_frame.specs.Taped.{IsTaped, IsFrameTaped}
-use Rattle.nl_frame.specs.HeadOrder.{Trail, region_trail, trail_of, visits_of, event_of, header_event}
 use Rattle.nl_frame.proofs.Fronts.{Reaches, reaches_on}
 use Rattle.nl_frame.proofs.Firsts.{any_visits}
 use Rattle.nl_frame.proofs.Scan.{laws, trail_ends, trail_stops, trail_goes}

@@ -1,15 +1,7 @@
 -- A builder's calls behind its innermost head, whatever is open around it.
-use Rattle.std.proofs.Common.{◌≡◌, ℕ, ◌+◌, ◌≤◌, List, [], ◌∷◌, ◌++◌, length, take, drop, Option, Some, None, Result, Ok, Err, refl, sym, ap, ◌∙◌, arith, length-append, length-drop}
-use Rattle.std.proofs.lemmas.List.{length-take, take-take, take_at}
-use Rattle.nl_attr.specs.declared.tree.AttrFlags.{AttrFlags}
-use Rattle.nl_attr.specs.declared.tree.Content.{Content}
+use Rattle.nl_frame.proofs.Common.{◌≡◌, ℕ, ◌+◌, ◌≤◌, List, [], ◌∷◌, ◌++◌, length, take, drop, Option, Some, None, Result, Ok, Err, refl, sym, ap, ◌∙◌, arith, length-append, length-drop, length-take, take-take, take_at, AttrFlags, Content, OpenHead, BuilderTop, BuildError, over, AreWithin, HasOpened, parts_with}
 use Rattle.nl_attr.specs.declared.tree.Content.TheVariants as content
-use Rattle.nl_frame.specs.declared.building.OpenHead.{OpenHead}
-use Rattle.nl_frame.specs.declared.building.top.BuilderTop.{BuilderTop}
-use Rattle.nl_frame.specs.declared.building.refusal.BuildError.{BuildError}
 use Rattle.nl_frame.specs.Building.{Built, AreOpen, attr_begun, bytes_refusal, content_or_bytes, grown, held, hop_refusal, hop_refusal_in, lacks, levels_in, open_attr, open_refusal, opened, or_next, order_of, settled, top}
-use Rattle.nl_frame.specs.Parts.{over}
-use Rattle.nl_frame.specs.Tops.{AreWithin, HasOpened, parts_with}
 use Rattle.nl_frame.proofs.Opens.{are_open_more, drop_twice, has_room, room_for}
 
 -- there is room for what is left of some bytes behind the first of them

@@ -1,19 +1,7 @@
 -- What is put with the calls that put a tree.
-use Rattle.std.proofs.Common.{◌≡◌, ℕ, ℤ, List, [], ◌∷◌, ◌++◌, refl, sym, ap, ◌∙◌, inl, inr, append_assoc, append-nil}
-use Rattle.nl_attr.specs.declared.tree.AttrFlags.{AttrFlags}
-use Rattle.nl_attr.specs.declared.tree.Ctx.{Ctx}
-use Rattle.nl_attr.specs.declared.tree.Ctx.TheVariants.{Route}
-use Rattle.nl_attr.specs.declared.tree.Content.{Content}
+use Rattle.nl_frame.proofs.Common.{◌≡◌, ℕ, ℤ, List, [], ◌∷◌, ◌++◌, refl, sym, ap, ◌∙◌, inl, inr, append_assoc, append-nil, AttrFlags, Ctx, Route, Content, Val, bytes, list, hops, Items, no_items, item, HopItems, no_hops, hop, holds_of, IsMismatchedVal, IsMismatchedHops, context_of, family_of, form_of, BodyVal, noop, error, done, overrun, object, get, other, MessageVal, IsMismatchedBody, IsMismatched, Begun, message, attribute, next_hop, Layer, Draft, and_item, and_hop, content_at, content_in, content_behind, none_of, Call, close, end, put_by, put_by_all, calls_of_val, calls_of_items, calls_of_hops, calls_of_body, calls_of}
 use Rattle.nl_attr.specs.declared.tree.Content.TheVariants as content
-use Rattle.nl_attr.specs.Tree.{Val, bytes, list, hops, Items, no_items, item, HopItems, no_hops, hop, holds_of}
-use Rattle.nl_attr.specs.Proper.{IsMismatchedVal, IsMismatchedHops}
 use Rattle.nl_attr.specs.Proper as attrs
-use Rattle.nl_route.specs.Families.{context_of, family_of}
-use Rattle.nl_frame.specs.Form.{form_of}
-use Rattle.nl_frame.specs.Message.{BodyVal, noop, error, done, overrun, object, get, other, MessageVal}
-use Rattle.nl_frame.specs.Proper.{IsMismatchedBody, IsMismatched}
-use Rattle.nl_frame.specs.Draft.{Begun, message, attribute, next_hop, Layer, Draft, and_item, and_hop, content_at, content_in, content_behind, none_of}
-use Rattle.nl_frame.specs.Calls.{Call, close, end, put_by, put_by_all, calls_of_val, calls_of_items, calls_of_hops, calls_of_body, calls_of}
 
 -- the draft of these messages and open heads
 abbrev pub of : List MessageVal → List Layer → Draft

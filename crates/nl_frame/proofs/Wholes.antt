@@ -1,31 +1,8 @@
 -- What a builder holds where a whole message is put.
-use Rattle.std.proofs.Common.{◌≡◌, ℕ, ◌+◌, ◌<◌, ◌≤◌, ◌^◌, Bool, true, false, List, [], ◌∷◌, ◌++◌, length, take, drop, Option, Some, None, Ok, refl, sym, ap, subst, ◌∙◌, arith, inl, length-append}
-use Rattle.std.proofs.lemmas.List.{take-append-drop}
-use Rattle.nl_attr.specs.Fixed.{LONGEST_REGION}
-use Rattle.nl_attr.specs.declared.order.Order.{Order}
-use Rattle.nl_attr.specs.Shape.{Shape}
-use Rattle.nl_attr.specs.Numbers.{aligned, AreBytes}
-use Rattle.nl_attr.specs.Written.{with_padding}
-use Rattle.nl_attr.proofs.Lemmas.Lengths.{length-padded}
-use Rattle.nl_attr.proofs.Lemmas.Reading.{one_result}
-use Rattle.nl_route.specs.Fields.{Field, byte, number, signed, pad, AreFields}
+use Rattle.nl_frame.proofs.Common.{◌≡◌, ℕ, ◌+◌, ◌<◌, ◌≤◌, ◌^◌, Bool, true, false, List, [], ◌∷◌, ◌++◌, length, take, drop, Option, Some, None, Ok, refl, sym, ap, subst, ◌∙◌, arith, inl, length-append, take-append-drop, LONGEST_REGION, Order, Shape, aligned, AreBytes, with_padding, length-padded, one_result, Field, byte, number, signed, pad, AreFields, length-written, Form, BuildError, OpenHead, form_of, least_body, header_fields, BodyOf, Bounds, BodyVal, noop, error, done, overrun, object, get, other, MessageVal, IsTheBody, body_at, body_written, message_item, written, IsMismatchedBody, IsDeepBody, IsLongBody, IsRanged, Layer, Draft, Holds}
 use Rattle.nl_route.specs.Fields as fields
-use Rattle.nl_route.proofs.Fields.{length-written}
-use Rattle.nl_frame.specs.declared.form.Form.{Form}
 use Rattle.nl_frame.specs.declared.form.Form.TheVariants as form
-use Rattle.nl_frame.specs.declared.building.refusal.BuildError.{BuildError}
-use Rattle.nl_frame.specs.declared.building.OpenHead.{OpenHead}
-use Rattle.nl_frame.specs.Form.{form_of, least_body}
-use Rattle.nl_frame.specs.Header.{header_fields}
-use Rattle.nl_frame.specs.Layout.{BodyOf}
-use Rattle.nl_frame.specs.Limits.{Bounds}
-use Rattle.nl_frame.specs.Message.{BodyVal, noop, error, done, overrun, object, get, other, MessageVal}
-use Rattle.nl_frame.specs.OneList.{IsTheBody}
-use Rattle.nl_frame.specs.Reading.{body_at}
-use Rattle.nl_frame.specs.Written.{body_written, message_item, written}
-use Rattle.nl_frame.specs.Proper.{IsMismatchedBody, IsDeepBody, IsLongBody, IsRanged}
 use Rattle.nl_frame.specs.Building.{Built, order_of, grown, or_next, lacks, is_no_body, body_refusal, message_refusal, header_whole, put_message}
-use Rattle.nl_frame.specs.Draft.{Layer, Draft, Holds}
 use Rattle.nl_frame.specs.Draft as draft
 use Rattle.nl_frame.proofs.Layouts.{body_fit, body_sound}
 use Rattle.nl_frame.proofs.ProperLayouts.{body_allowed}

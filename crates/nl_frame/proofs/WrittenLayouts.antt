@@ -1,32 +1,10 @@
 -- How many bytes messages are written as, and that they are the layout of these bytes.
-use Rattle.std.proofs.Common.{◌≡◌, ◌≢◌, ℕ, ◌+◌, ◌-◌, ◌<◌, ◌≤◌, List, [], ◌∷◌, ◌++◌, length, take, drop, replicate, Some, None, refl, sym, ap, subst, ◌∙◌, arith, inl, inr, append_assoc, length-append}
-use Rattle.std.proofs.lemmas.Bool.{cases_eq}
-use Rattle.std.proofs.lemmas.List.{take_at, drop_at}
-use Rattle.nl_attr.specs.Fixed.{LONGEST_REGION}
-use Rattle.nl_attr.specs.declared.order.Order.{Order}
-use Rattle.nl_attr.specs.Shape.{Shape}
-use Rattle.nl_attr.specs.Numbers.{aligned, num}
-use Rattle.nl_attr.specs.Layout.{Fits}
-use Rattle.nl_attr.specs.Written.{with_padding, items_len}
+use Rattle.nl_frame.proofs.Common.{◌≡◌, ◌≢◌, ℕ, ◌+◌, ◌-◌, ◌<◌, ◌≤◌, List, [], ◌∷◌, ◌++◌, length, take, drop, replicate, Some, None, refl, sym, ap, subst, ◌∙◌, arith, inl, inr, append_assoc, length-append, cases_eq, take_at, drop_at, LONGEST_REGION, Order, Shape, aligned, num, Fits, with_padding, items_len, length-padded, length-items, made, written_fits, Field, number, signed, AreFields, AreRanged, size_of, length-written, written_has_fields, is_family, size_of_head, head_size, context_of, type_of, family_of, fields_of, Form, header_fields, form_for, form_of, BodyVal, error, done, object, get, MessageVal, BodyOf, Layout, body_len, header_for, body_written, message_item, written, written_len, IsMismatchedBody, IsMismatched, IsDeepBody, IsDeep, IsLongBody, HasLong, IsProper, IsRangedBody, IsRanged}
 use Rattle.nl_attr.specs.Written as attrs
-use Rattle.nl_attr.proofs.Lemmas.Lengths.{length-padded, length-items}
-use Rattle.nl_attr.proofs.Lemmas.Pieces.{made}
-use Rattle.nl_attr.proofs.Lemmas.Writing.{written_fits}
-use Rattle.nl_route.specs.Fields.{Field, number, signed, AreFields, AreRanged}
 use Rattle.nl_route.specs.Fields as fields
-use Rattle.nl_route.proofs.Fields.{size_of, length-written, written_has_fields}
-use Rattle.nl_route.proofs.Families.{is_family, size_of_head}
 use Rattle.nl_route.specs.declared.family.Verb.TheVariants.{New}
 use Rattle.nl_route.specs.Types.{route_type}
-use Rattle.nl_route.specs.Families.{head_size, context_of, type_of, family_of, fields_of}
-use Rattle.nl_frame.specs.declared.form.Form.{Form}
 use Rattle.nl_frame.specs.declared.form.Form.TheVariants as form
-use Rattle.nl_frame.specs.Header.{header_fields}
-use Rattle.nl_frame.specs.Form.{form_for, form_of}
-use Rattle.nl_frame.specs.Message.{BodyVal, error, done, object, get, MessageVal}
-use Rattle.nl_frame.specs.Layout.{BodyOf, Layout}
-use Rattle.nl_frame.specs.Written.{body_len, header_for, body_written, message_item, written, written_len}
-use Rattle.nl_frame.specs.Proper.{IsMismatchedBody, IsMismatched, IsDeepBody, IsDeep, IsLongBody, HasLong, IsProper, IsRangedBody, IsRanged}
 
 -- ---- lengths
 

@@ -1,4 +1,4 @@
--- What a builder of datagrams has built, and what each call makes of it.
+-- The state of a builder, and what each call makes of it. An open header has no length yet.
 use Rattle.std.specs.Prelude.{◌+◌, ◌-◌, ◌≤◌, ℕ, ℤ, Bool, true, false, nat_lt, if◌then◌else◌, List, [], ◌∷◌, ◌++◌, length, drop, Option, Some, None, Result, Ok, Err}
 use Rattle.std.specs.Int.{w32, cast_unsigned}
 use Rattle.std.specs.List.{splice}
@@ -25,109 +25,109 @@ use Rattle.nl_frame.specs.Header.{header_fields}
 use Rattle.nl_frame.specs.Form.{form_of, least_body}
 use Rattle.nl_frame.specs.Limits.{Bounds}
 
--- what is built
+-- the state of a builder
 pub record Built : Type 0 where
   pub bounds : Bounds
   -- the bytes that are accepted, and those of the slice behind them
   pub front : List ℕ
   pub free : List ℕ
-  -- the heads whose length isn't set yet, the innermost first
+  -- the open headers, the innermost first
   pub heads : List OpenHead
-  -- the first refusal
+  -- the first error, if there was one
   pub refusal : Option BuildError
 
--- nothing is built
+-- a builder that has built nothing, in a slice of these bytes
 abbrev pub nothing_built : Bounds → List ℕ → Built
 nothing_built bounds free = record { bounds = bounds; front = []; free = free; heads = []; refusal = None }
 
--- the order of its numbers
+-- the byte order of its numbers
 abbrev pub order_of : Built → Order
 order_of b = b.bounds.shape.order
 
--- ---- what a call does that isn't refused
+-- ---- what a call does that doesn't fail
 
--- so many bytes are accepted
+-- these bytes are appended
 abbrev pub grown : Built → List ℕ → Built
 grown b bs = record b { front = b.front ++ bs; free = drop (length bs) b.free }
 
--- a head is open, behind which this stands
+-- a header of these bytes is opened, behind which this content belongs
 abbrev pub opened : Built → Content → List ℕ → Built
 opened b c head = record (grown b head) { heads = record { start = length b.front; content = c } ∷ b.heads }
 
--- the innermost head has its length, in these bytes
+-- the innermost header gets these bytes as its length, and is closed
 abbrev pub head_ended : Built → List OpenHead → List ℕ → Built
 head_ended b [] field = b
 head_ended b (h ∷ hs) field = record b { front = splice b.front h.start (h.start + length field) field; heads = hs }
 
--- how many bytes there are from the innermost head on
+-- how many bytes there are from the innermost open header on
 abbrev pub length_from : Built → List OpenHead → ℕ
 length_from b [] = 0
 length_from b (h ∷ hs) = length b.front - h.start
 
--- the innermost head has its length, in w bytes
+-- the innermost header gets its length, in w bytes, and is closed
 abbrev pub ended : Built → ℕ → Built
 ended b w = head_ended b b.heads (num (length_from b b.heads) w (order_of b))
 
--- ---- why a call is refused
+-- ---- the error of a call, if any
 
--- the second where there is no first
+-- the first error, or else the second
 abbrev pub or_next : Option BuildError → Option BuildError → Option BuildError
 or_next None e = e
 or_next (Some f) e = Some f
 
--- so many bytes have no room, in the slice or in the datagram
+-- of so many bytes that have no room in the slice, or in the datagram limit
 abbrev pub lacks : Built → ℕ → Option BuildError
 lacks b n =
     if nat_lt (length b.free) n then Some NoRoom
     else (if nat_lt b.bounds.datagram (length b.front + n) then Some TooLarge else None)
 
--- the innermost head
+-- the innermost open header
 abbrev pub top : List OpenHead → Option OpenHead
 top [] = None
 top (h ∷ hs) = Some h
 
--- what an attribute holds where this stands, or why none stands there
+-- what an attribute of this type holds inside this content; or the error
 abbrev pub held_in : Content → ℕ → AttrFlags → Result Content BuildError
 held_in (content.List c) n f = if nat_lt n NUMBERS then Ok (holds_of c n f) else Err Mismatch
 held_in c n f = Err Mismatch
 
--- the same behind the innermost head
+-- the same behind the innermost open header
 abbrev pub held : Option OpenHead → ℕ → AttrFlags → Result Content BuildError
 held None n f = Err NothingOpen
 held (Some h) n f = held_in h.content n f
 
--- so many bytes of an attribute that holds this
+-- of putting so many bytes for an attribute that holds this
 abbrev pub bytes_refusal : Built → Result Content BuildError → ℕ → Option BuildError
 bytes_refusal b (Err e) n = Some e
 bytes_refusal b (Ok content.Bytes) n = if nat_lt LONGEST_ITEM (4 + n) then Some TooLong else lacks b (aligned (4 + n))
 bytes_refusal b (Ok c) n = Some Mismatch
 
--- how many levels are inside what stands behind a head
+-- how many levels further down this content reaches
 abbrev pub levels_in : Content → ℕ
 levels_in content.Hops = 1
 levels_in c = 0
 
--- an attribute opens that holds this, inside so many heads
+-- of opening an attribute that holds this, inside so many open headers
 abbrev pub open_refusal_in : Built → ℕ → Result Content BuildError → Option BuildError
 open_refusal_in b n (Err e) = Some e
 open_refusal_in b n (Ok content.Bytes) = Some Mismatch
 open_refusal_in b n (Ok c) = if nat_lt b.bounds.shape.depth (n + levels_in c) then Some TooDeep else lacks b 4
 
--- the same inside those that are open
+-- the same inside the open headers of the builder
 abbrev pub open_refusal : Built → Result Content BuildError → Option BuildError
 open_refusal b held = open_refusal_in b (length b.heads) held
 
--- a next hop opens where this stands
+-- of opening a next hop inside this content
 abbrev pub hop_refusal_in : Built → Content → Option BuildError
 hop_refusal_in b content.Hops = lacks b 8
 hop_refusal_in b c = Some Mismatch
 
--- the same behind the innermost head
+-- the same behind the innermost open header
 abbrev pub hop_refusal : Built → Option OpenHead → Option BuildError
 hop_refusal b None = Some NothingOpen
 hop_refusal b (Some h) = hop_refusal_in b h.content
 
--- an attribute or a next hop is closed
+-- of closing an attribute or a next hop
 abbrev pub close_refusal : Built → Option BuildError
 close_refusal b =
     if nat_lt (length b.heads) 2 then Some NothingOpen
@@ -139,63 +139,63 @@ end_refusal [] = Some NothingOpen
 end_refusal (h ∷ []) = None
 end_refusal (h ∷ k ∷ hs) = Some StillOpen
 
--- a body of this form begins with a head of the family
+-- a body of this form begins with the header of this family
 abbrev pub has_head : Form → Family → Bool
 has_head (form.Object g) h = same_family g h
 has_head f h = false
 
--- a message begins with a head of this family, which its type has or not
+-- of beginning a message with the header of this family, which its type has or not
 abbrev pub first_refusal : Built → List OpenHead → Bool → Family → Option BuildError
 first_refusal b [] has g = if has then lacks b (16 + head_size g) else Some Mismatch
 first_refusal b (h ∷ hs) has g = Some StillOpen
 
--- a message of this type begins, with a head of this family
+-- of beginning a message of this type with the header of this family
 abbrev pub begin_refusal : Built → List OpenHead → ℕ → Family → Option BuildError
 begin_refusal b hs kind g = first_refusal b hs (has_head (form_of kind) g) g
 
--- so many bytes are no whole body of this form, or one that begins with a head of a family
+-- so many bytes are too short for a body of this form, or the form has a family's header
 abbrev pub is_no_body : Form → ℕ → Bool
 is_no_body (form.Object g) n = true
 is_no_body f n = nat_lt n (least_body f)
 
--- a message is put whose body is so many bytes, which are other than its type has or not
+-- of putting a whole message of so many bytes of body, which its type can't have or can
 abbrev pub body_refusal : Built → List OpenHead → Bool → ℕ → Option BuildError
 body_refusal b [] other n = if other then Some Mismatch else (if nat_lt LONGEST_REGION (16 + n) then Some TooLong else lacks b (aligned (16 + n)))
 body_refusal b (h ∷ hs) other n = Some StillOpen
 
--- a message of this type is put, whose body is so many bytes
+-- of putting a whole message of this type with a body of so many bytes
 abbrev pub message_refusal : Built → List OpenHead → ℕ → ℕ → Option BuildError
 message_refusal b hs kind n = body_refusal b hs (is_no_body (form_of kind) n) n
 
--- the datagram is taken
+-- of handing the datagram out
 abbrev pub finish_refusal : List OpenHead → Option BuildError
 finish_refusal [] = None
 finish_refusal (h ∷ hs) = Some StillOpen
 
 -- ---- what each call makes of it
 
--- a refusal sticks, and nothing else changes
+-- a call that fails keeps its error, and changes nothing else
 abbrev pub settled : Built → Option BuildError → Built → Built
 settled b None next = next
 settled b (Some e) next = record b { refusal = Some e }
 
--- what each call answers
+-- the answer of each call
 abbrev pub answer : Option BuildError → Result (Unit {0}) BuildError
 answer None = Ok tt
 answer (Some e) = Err e
 
--- an attribute of bytes
+-- an attribute with these bytes as its payload
 abbrev pub put : Built → ℕ → AttrFlags → List ℕ → Built
 put b n f bs =
     settled b (or_next b.refusal (bytes_refusal b (held (top b.heads) n f) (length bs)))
     (grown b (with_padding (attr_item (order_of b) n f bs)))
 
--- what an attribute holds, where one stands
+-- what an attribute holds, or bytes where that is an error
 abbrev pub content_or_bytes : Result Content BuildError → Content
 content_or_bytes (Ok c) = c
 content_or_bytes (Err e) = content.Bytes
 
--- the head of an attribute whose length isn't set yet
+-- the header of an attribute, with 0 for its length
 abbrev pub attr_begun : Order → ℕ → AttrFlags → List ℕ
 attr_begun o n f = num 0 2 o ++ num (kind_number n f) 2 o
 
@@ -205,7 +205,7 @@ open_attr b n f =
     let c = held (top b.heads) n f in
     settled b (or_next b.refusal (open_refusal b c)) (opened b (content_or_bytes c) (attr_begun (order_of b) n f))
 
--- the head of a next hop whose length isn't set yet
+-- the header of a next hop, with 0 for its length
 abbrev pub hop_begun : Order → ℕ → ℕ → ℤ → List ℕ
 hop_begun o f c i = num 0 2 o ++ (f ∷ c ∷ num (cast_unsigned w32 i) 4 o)
 
@@ -217,11 +217,11 @@ open_hop b f c i = settled b (or_next b.refusal (hop_refusal b (top b.heads))) (
 abbrev pub close : Built → Built
 close b = settled b (or_next b.refusal (close_refusal b)) (ended b 2)
 
--- the header of a message whose length isn't set yet
+-- the header of a message, with 0 for its length
 abbrev pub header_begun : ℕ → ℕ → ℕ → ℕ → Header
 header_begun kind flags seq port = record { len = 0; kind = kind; flags = flags; seq = seq; port = port }
 
--- that header, and the family's head
+-- the bytes of that header and of the family's
 abbrev pub message_begun : Order → Header → AnyHead → List ℕ
 message_begun o header head = fields.written o (header_fields header) ++ fields.written o (fields_of head)
 
@@ -235,7 +235,7 @@ begin b kind flags seq port head =
 abbrev pub header_whole : ℕ → ℕ → ℕ → ℕ → ℕ → Header
 header_whole kind flags seq port n = record { len = 16 + n; kind = kind; flags = flags; seq = seq; port = port }
 
--- a message of these bytes
+-- a whole message with these bytes as its body
 abbrev pub put_message : Built → ℕ → ℕ → ℕ → ℕ → List ℕ → Built
 put_message b kind flags seq port bs =
     settled b (or_next b.refusal (message_refusal b b.heads kind (length bs)))
@@ -253,13 +253,13 @@ no_flags = record { nested = false; net = false }
 abbrev pub put_hop : Built → ℕ → ℕ → ℤ → ℕ → List ℕ → Built
 put_hop b f c i n bs = close (put (open_hop b f c i) n no_flags bs)
 
--- why what is built isn't handed out, if it isn't
+-- the error of handing the datagram out, if any
 abbrev pub finish : Built → Option BuildError
 finish b = or_next b.refusal (finish_refusal b.heads)
 
 -- ---- what holds of each builder
 
--- each head is among the accepted bytes, and no deeper than D levels allow
+-- each open header lies in the accepted bytes, and the depth limit D allows it
 abbrev pub AreOpen : ℕ → ℕ → List OpenHead → Type 0
 AreOpen D len [] = Unit {0}
 AreOpen D len (h ∷ hs) = (h.start + 4 ≤ len) × (length hs + levels_in h.content ≤ D) × AreOpen D len hs

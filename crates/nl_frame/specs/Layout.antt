@@ -1,4 +1,4 @@
--- The layout of a datagram.
+-- The layout of a datagram: which messages its bytes are (netlink(7), rtnetlink(7)).
 use Rattle.std.specs.Prelude.{◌≡◌, ◌<◌, ◌≤◌, ℕ, List, [], ◌∷◌, length, take, drop, Some, None}
 use Rattle.nl_attr.specs.Shape.{Shape}
 use Rattle.nl_attr.specs.Layout.{IsPiece}
@@ -12,7 +12,7 @@ use Rattle.nl_frame.specs.Form.{form_of}
 use Rattle.nl_frame.specs.Message.{BodyVal, noop, error, done, overrun, object, get, other, MessageVal}
 
 module _ (S : Shape) where
-  -- the payload of a message of this form is this body
+  -- a payload of this form is the encoding of this body
   abbrev pub BodyOf : BodyVal → Form → List ℕ → Type 0
   BodyOf (noop bs) f payload = (f ≡ form.Noop) × (payload ≡ bs)
   BodyOf (error code h tail) f payload =
@@ -25,7 +25,7 @@ module _ (S : Shape) where
   BodyOf (get n tail) f payload = (f ≡ form.Get) × (payload ≡ n ∷ tail)
   BodyOf (other bs) f payload = (f ≡ form.Other) × (payload ≡ bs)
 
-  -- the datagram is the messages, each a piece that begins with its header and goes on with its body
+  -- the datagram is the encoding of these messages: of each its header, body and padding
   abbrev pub Layout : List MessageVal → List ℕ → Type 0
   Layout [] d = d ≡ []
   Layout (m ∷ ms) d =

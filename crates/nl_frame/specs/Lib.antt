@@ -40,5 +40,4 @@ pub mod AnyHeads
 pub mod Draft
 pub mod Calls
 pub mod Parts
-pub mod Copies
 pub mod Tops

@@ -1,5 +1,5 @@
 -- A builder's parts but for its slice, and a message whose head is in bytes.
-use Rattle.std.specs.Prelude.{◌+◌, ◌≤◌, ◌==◌, ℕ, if◌then◌else◌, List, [], ◌∷◌, length, take, drop, Option, Some, None}
+use Rattle.std.specs.Prelude.{◌≤◌, ◌==◌, ℕ, if◌then◌else◌, List, [], ◌∷◌, length, take, drop, Option, Some, None}
 use Rattle.nl_attr.specs.declared.order.Order.{Order}
 use Rattle.nl_route.specs.Families.{AnyHead, head_of, head_size}
 use Rattle.nl_frame.specs.declared.building.OpenHead.{OpenHead}
@@ -9,7 +9,7 @@ use Rattle.nl_frame.specs.declared.form.Form.{Form}
 use Rattle.nl_frame.specs.declared.form.Form.TheVariants as form
 use Rattle.nl_frame.specs.Form.{form_of}
 use Rattle.nl_frame.specs.Limits.{Bounds, AreLimits}
-use Rattle.nl_frame.specs.Building.{Built, AreOpen, begin, levels_in, or_next, order_of, settled}
+use Rattle.nl_frame.specs.Building.{Built, AreOpen, begin, or_next, order_of, settled}
 
 -- ---- a builder's parts
 
@@ -24,21 +24,9 @@ pub record Parts : Type 0 where
 abbrev pub over : Parts → List ℕ → Built
 over p out = record { bounds = p.bounds; front = take p.len out; free = drop p.len out; heads = p.heads; refusal = p.refusal }
 
--- so many bytes are accepted, and no head is open
-abbrev pub resumed : Bounds → ℕ → Option BuildError → Parts
-resumed bounds len refusal = record { bounds = bounds; len = len; heads = []; refusal = refusal }
-
 -- of a builder that has accepted nothing
 abbrev pub new_parts : Bounds → Parts
-new_parts bounds = resumed bounds 0 None
-
--- one more head is open
-abbrev pub reopened : Parts → OpenHead → Parts
-reopened p h = record p { heads = h ∷ p.heads }
-
--- a head may be open inside those that are
-abbrev pub MayReopen : Parts → OpenHead → Type 0
-MayReopen p h = (h.start + 4 ≤ p.len) × (length p.heads + levels_in h.content ≤ p.bounds.shape.depth)
+new_parts bounds = record { bounds = bounds; len = 0; heads = []; refusal = None }
 
 -- what holds of the parts of each builder
 abbrev pub AreParts : Parts → Type 0

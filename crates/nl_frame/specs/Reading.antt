@@ -1,4 +1,4 @@
--- Reading a datagram from left to right, with the first fault that is met and the bytes visited until then.
+-- Reading a datagram from left to right: messages or the first error, and the bytes visited.
 use Rattle.std.specs.Prelude.{◌+◌, ℕ, ℤ, zero, suc, nat_lt, if◌then◌else◌, List, [], ◌∷◌, length, take, drop, slice_index, Option, Some, None, Ok, Err}
 use Rattle.std.specs.Int.{w32, cast_signed}
 use Rattle.nl_attr.specs.declared.order.Order.{Order}
@@ -15,7 +15,7 @@ use Rattle.nl_frame.specs.Header.{header_of}
 use Rattle.nl_frame.specs.Message.{BodyVal, noop, error, done, overrun, object, get, other, MessageVal}
 use Rattle.nl_frame.specs.Front.{span_at, payload_at, form_at, broken_message}
 
--- the signed number in the first four bytes
+-- the signed number in the first four bytes, in two's complement
 abbrev pub signed_of : Order → List ℕ → ℤ
 signed_of o bytes = cast_signed w32 (number_of o 4 bytes)
 
@@ -23,7 +23,7 @@ signed_of o bytes = cast_signed w32 (number_of o 4 bytes)
 abbrev pub done_at : Order → List ℕ → BodyVal
 done_at o payload = if nat_lt (length payload) 4 then done None payload else done (Some (signed_of o payload)) (drop 4 payload)
 
--- the body in this payload, of a form that begins with no head of a family
+-- the body in this payload, where its form has no family header
 abbrev pub plain_body : Order → Form → List ℕ → BodyVal
 plain_body o form.Noop payload = noop payload
 plain_body o form.Error payload = error (signed_of o payload) (header_of o (drop 4 payload)) (drop 20 payload)
@@ -32,11 +32,11 @@ plain_body o form.Overrun payload = overrun payload
 plain_body o form.Get payload = get (slice_index payload 0) (drop 1 payload)
 plain_body o f payload = other payload
 
--- a header's message with this body
+-- the message with this header and body
 abbrev pub message_of : Header → BodyVal → MessageVal
 message_of h body = record { kind = h.kind; flags = h.flags; seq = h.seq; port = h.port; body = body }
 
--- a broken head takes no visits
+-- the error where a header breaks a rule, without visits; else the outcome that is handed in
 abbrev pub unless : {A : Type 0} → ℕ → Option Reason → Outcome A → Outcome A
 unless place None o = o
 unless place (Some r) o = (Err (record { place = place; reason = r }), 0)
@@ -47,16 +47,16 @@ module _ (S : Shape) where
       map_value (object (head_of S.order g (take (head_size g) payload)))
       (items_of_region S (context_of g) 0 (place + head_size g) (drop (head_size g) payload))
 
-  -- the body in the payload at a place, when it is long enough for its form
+  -- the body in the payload at an offset, where that is long enough for its form
   abbrev pub body_at : Form → ℕ → List ℕ → Outcome BodyVal
   body_at (form.Object g) place payload = object_body_at g place payload
   body_at f place payload = (Ok (plain_body S.order f payload), 0)
 
-  -- the message at the front of what is left, when its head breaks no rule
+  -- the message at the front of what is left, where its header breaks no rule
   abbrev pub message_at : ℕ → List ℕ → Outcome MessageVal
   message_at place left = map_value (message_of (header_of S.order left)) (body_at (form_at S.order left) (place + 16) (payload_at S.order left))
 
-  -- The number bounds the messages. The length of the datagram is enough.
+  -- The messages from an offset on, at most so many. The datagram's length is enough.
   unfoldable pub messages_at : ℕ → ℕ → List ℕ → Outcome (List MessageVal)
   messages_at zero place left = (Ok [], 0)
   messages_at (suc n) place [] = (Ok [], 0)
@@ -65,6 +65,6 @@ module _ (S : Shape) where
       (and_then (message_at place (b ∷ bs)) (λ m. map_value (λ ms. m ∷ ms)
       (messages_at n (place + span_at S.order (b ∷ bs)) (drop (span_at S.order (b ∷ bs)) (b ∷ bs)))))
 
-  -- all that is left
+  -- the messages in all that is left
   abbrev pub messages_of : ℕ → List ℕ → Outcome (List MessageVal)
   messages_of place left = messages_at (length left) place left

@@ -1,4 +1,6 @@
-//! Messages appended to bytes that have room for them.
+//! Appending messages to a vector that has room for them already. No function here fails or
+//! allocates: `measuring` has computed the length, and has checked that the messages can be
+//! written.
 
 ghost use Rattle.std.specs.Prelude.{◌≡◌, ◌≤◌, ◌<◌, ◌+◌, ◌-◌, ◌++◌, ◌∷◌, [], length};
 ghost use Rattle.std.specs.Prelude.{map, take, drop, vec_len, vec_capacity, FitsSigned};
@@ -20,7 +22,7 @@ use crate::header::Header;
 use nl_attr::{Order, align4, append_bytes};
 use nl_route::match_object;
 
-/// Appends a signed number.
+/// Appends a signed number of four bytes, in two's complement.
 fn append_signed(out: &mut Vec<u8>, order: Order, number: i32)
     requires { vec_len out.old + 4 ≤ vec_capacity out.old }
     ensures items { out.new.items ≡ out.old.items ++ fields.written order (signed number ∷ []) }
@@ -31,7 +33,8 @@ fn append_signed(out: &mut Vec<u8>, order: Order, number: i32)
     append_bytes(out, &order.i32_bytes(number));
 }
 
-/// Appends the body of an ERROR message.
+/// Appends the body of an ERROR message, `nlmsgerr` of netlink(7): the code, the header that is
+/// answered, and what stands behind it.
 fn append_error(out: &mut Vec<u8>, order: Order, code: i32, answered: Header, tail: &[u8])
     requires { vec_len out.old + (20 + length tail.now) ≤ vec_capacity out.old }
     ensures items { out.new.items
@@ -45,7 +48,7 @@ fn append_error(out: &mut Vec<u8>, order: Order, code: i32, answered: Header, ta
     append_bytes(out, tail);
 }
 
-/// Appends the body of a DONE message.
+/// Appends the body of a DONE message: its status, where it has one, and what stands behind it.
 fn append_done(out: &mut Vec<u8>, order: Order, status: Option<i32>, tail: &[u8])
     requires { vec_len out.old + body_len (done status tail.now) ≤ vec_capacity out.old }
     ensures items { out.new.items ≡ out.old.items ++ body_written order (done status tail.now) }
@@ -62,7 +65,8 @@ fn append_done(out: &mut Vec<u8>, order: Order, status: Option<i32>, tail: &[u8]
     }
 }
 
-/// Appends the body of a GET message.
+/// Appends the body of a GET message: its address family, `rtgen_family`, and what stands behind
+/// it.
 fn append_get(out: &mut Vec<u8>, family: u8, tail: &[u8])
     requires { vec_len out.old + (1 + length tail.now) ≤ vec_capacity out.old }
     ensures items { out.new.items ≡ out.old.items ++ (family ∷ tail.now) }
@@ -97,8 +101,8 @@ fn append_body(body: &Body, order: Order, out: &mut Vec<u8>)
     })
 }
 
-/// Writes the length of the message that begins at `start` into its first four bytes, and pads it
-/// (`NLMSG_ALIGN`).
+/// Ends the message that begins at `start`: writes its length into its first four bytes, and pads
+/// it with zeros (`NLMSG_ALIGN`).
 fn close_message(out: &mut Vec<u8>, order: Order, start: usize)
     requires begun { start + 4 ≤ vec_len out.old }
     requires short { vec_len out.old - start ≤ fixed.LONGEST_REGION + 16 }
@@ -113,7 +117,7 @@ fn close_message(out: &mut Vec<u8>, order: Order, start: usize)
     let _done = out.resize(start + align4(len as u32) as usize, 0);
 }
 
-/// Appends a message with its padding.
+/// Appends a message: its header, its body and its padding.
 fn append_message(message: &Message, order: Order, out: &mut Vec<u8>)
     requires sized { IsSizedBody (body_view message.now.body) }
     requires short { body_len (body_view message.now.body) ≤ fixed.LONGEST_REGION }
@@ -139,15 +143,15 @@ fn append_message(message: &Message, order: Order, out: &mut Vec<u8>)
     close_message(out, order, start);
 }
 
-/// Appends messages, each with its padding, numbers in this order. It takes no memory: the messages
-/// have been measured, and there is room for their length.
+/// Appends messages in this byte order, each with its padding. It takes no memory:
+/// `measure_messages` has accepted them, and `out` has room for their length.
 pub(crate) fn append_messages(messages: &[Message], order: Order, out: &mut Vec<u8>)
     requires sized { IsSized (map message_view messages.now) }
     requires short { written_len (map message_view messages.now) ≤ fixed.LONGEST_REGION }
     requires space { vec_len out.old + written_len (map message_view messages.now)
         ≤ vec_capacity out.old }
     ensures items { out.new.items ≡ out.old.items ++ written order (map message_view messages.now) }
-    // What messages of the program hold is in the range of its types.
+    // Each number of a message in memory is in the range of its Rust type.
     ensures ranged { IsRanged (map message_view messages.now) }
 {
     for message in messages {

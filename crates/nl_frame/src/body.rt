@@ -1,4 +1,4 @@
-//! What a message holds.
+//! Messages in memory, and how the body of one is read.
 
 ghost use Rattle.std.specs.Prelude.{◌≡◌, ◌≤◌, ◌+◌, ◌*◌, length, drop};
 ghost use Rattle.std.specs.Prelude.{slice_index, IfSome, MatchOption};
@@ -18,39 +18,42 @@ use nl_attr::{ListError, Order, Tally};
 use nl_route::{Addr, Family, Link, Neigh, Route, Rule, read_object};
 use std::alloc::Global;
 
-/// What a message holds, by its type (netlink(7), rtnetlink(7)).
+/// The body of a message, by its type (netlink(7), rtnetlink(7)). A `tail` is the bytes behind the
+/// fields that are decoded.
 #[derive(Debug, Drop, PartialEq, Eq)]
 pub enum Body {
-    /// The payload.
+    /// NLMSG_NOOP: its payload.
     Noop(Vec<u8>),
-    /// The code, 0 for an acknowledgement; the header that it answers; the rest.
+    /// NLMSG_ERROR: its code, a negative errno or 0 for an acknowledgement; the header that it
+    /// answers; and the rest.
     Error {
         code: i32,
         answered: Header,
         tail: Vec<u8>,
     },
-    /// The status, none exactly where the payload has fewer than 4 bytes; the rest.
+    /// NLMSG_DONE: its status, `None` exactly where the payload has fewer than 4 bytes; and the
+    /// rest.
     Done {
         status: Option<i32>,
         tail: Vec<u8>,
     },
-    /// The payload.
+    /// NLMSG_OVERRUN: its payload.
     Overrun(Vec<u8>),
     Link(Link),
     Addr(Addr),
     Route(Route),
     Neigh(Neigh),
     Rule(Rule),
-    /// The family byte of a request, and the rest as it stands.
+    /// GET of any family: its address family, `rtgen_family`, and the rest as it stands.
     Get {
         family: u8,
         tail: Vec<u8>,
     },
-    /// The payload of any other type.
+    /// Any other type: its payload.
     Other(Vec<u8>),
 }
 
-/// A message: the fields of its header but for its length, and its body.
+/// A message: the fields of `nlmsghdr` but for the length, and the body. `port` is `nlmsg_pid`.
 #[derive(Debug, Drop, PartialEq, Eq)]
 pub struct Message {
     pub kind: u16,
@@ -60,7 +63,7 @@ pub struct Message {
     pub body: Body,
 }
 
-/// A value that takes no visits, or the end of memory.
+/// The result for a body without attributes, which visits no bytes. `None` is `Memory`.
 fn plain<T: Drop>(value: Option<T>) -> Tally<T, ListError>
     ensures none { result.visits ≡ 0 }
     ensures value { MatchOption value (result.result ≡ Err ListError.Memory)
@@ -78,7 +81,7 @@ fn plain<T: Drop>(value: Option<T>) -> Tally<T, ListError>
     }
 }
 
-/// The body of a DONE message.
+/// Reads the body of a DONE message. `None` where an allocation fails.
 fn read_done(alloc: Global, bytes: &[u8], order: Order) -> Option<Body>
     ensures { IfSome result (λ b. body_view b ≡ done_at order bytes.now) }
 {
@@ -94,7 +97,7 @@ fn read_done(alloc: Global, bytes: &[u8], order: Order) -> Option<Body>
     })
 }
 
-/// The body of an ERROR message.
+/// Reads the body of an ERROR message. `None` where an allocation fails.
 fn read_error(alloc: Global, bytes: &[u8], order: Order) -> Option<Body>
     requires { 20 ≤ length bytes.now }
     ensures { IfSome result (λ b. body_view b ≡ error (signed_of order bytes.now)
@@ -107,7 +110,7 @@ fn read_error(alloc: Global, bytes: &[u8], order: Order) -> Option<Body>
     })
 }
 
-/// The body of a GET message.
+/// Reads the body of a GET message. `None` where an allocation fails.
 fn read_get(alloc: Global, bytes: &[u8]) -> Option<Body>
     requires { 1 ≤ length bytes.now }
     ensures { IfSome result (λ b. body_view b ≡ get (slice_index bytes.now 0) (drop 1 bytes.now)) }
@@ -118,7 +121,7 @@ fn read_get(alloc: Global, bytes: &[u8]) -> Option<Body>
     })
 }
 
-/// The body of a family's message.
+/// Reads the body of a family's message: its header and its attributes.
 fn read_object(
     alloc: Global,
     bytes: &[u8],
@@ -139,7 +142,7 @@ fn read_object(
 }
 
 impl Body {
-    /// The body of this form in the payload at a place.
+    /// Reads the body of this form in a payload whose first byte has this offset.
     pub(crate) fn read(
         alloc: Global,
         bytes: &[u8],

@@ -1,4 +1,4 @@
-//! The header that breaks a rule, at which a scan ends.
+//! Describes the message header that breaks a rule, at which a scan ends.
 
 ghost use Rattle.std.specs.Prelude.{◌≡◌, ◌≤◌, length};
 ghost use Rattle.nl_attr.specs.Fixed as fixed;
@@ -7,8 +7,8 @@ ghost use Rattle.nl_frame.specs.Broken.{message_facts};
 use crate::header::Header;
 use nl_attr::{BrokenHead, Fault, HeadKind, Order, Reason};
 
-/// The header at the front, which breaks this rule. A scan comes here once: a function of its own
-/// keeps the registers of its loop free.
+/// Describes the header at the front, which breaks the rule `reason`. A scan calls this once, at
+/// its end. It isn't inlined: that keeps registers free in the loop.
 #[inline(never)]
 pub(crate) fn header_at_fault(left: &[u8], place: u32, reason: Reason, order: Order) -> BrokenHead
     requires { length left.now ≤ fixed.LONGEST_REGION }

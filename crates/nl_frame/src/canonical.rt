@@ -1,4 +1,4 @@
-//! Whether a datagram is written as its messages are.
+//! Whether a datagram is exactly what its messages are written as.
 
 ghost use Rattle.std.specs.Prelude.{◌≡◌, ◌<◌, ◌↔◌, IsTrue, length, List, IfOk, IfErr, Err};
 ghost use Rattle.nl_frame.specs.Message.{MessageVal};
@@ -13,26 +13,26 @@ use crate::reading::{ReadError, read_datagram};
 use nl_attr::align4;
 use std::alloc::Global;
 
-/// Whether a datagram is canonical: written as its messages are, every padding whole and of zeros,
-/// and every byte of a head that is not kept zero.
+/// Whether a datagram is canonical: exactly the bytes that `write_datagram` writes its messages
+/// as. All padding is there and is zeros, and so are header bytes that aren't kept.
 ///
-/// It refuses as `read_datagram` does. What was read is written into a second datagram, which is
-/// compared with the first.
+/// The errors are those of `read_datagram`. What was read is written into a second datagram and
+/// compared, so `Memory` may also be for that.
 #[tactic(auto, using(crate::proofs::ProperLayouts::proper))]
 pub fn is_canonical(alloc: Global, bytes: &[u8], limits: &Limits) -> Result<bool, ReadError>
     ensures large { result ≡ Err ReadError.TooLarge ↔ limits.now.datagram < length bytes.now }
-    // The datagram has a layout, and is canonical exactly where it is what that is written as.
+    // The datagram has a layout, and is canonical exactly where writing that gives the datagram.
     ensures canonical { IfOk result
         (λ canonical. (ms : List MessageVal) × Layout limits.now.shape ms bytes.now
         × (IsTrue canonical ↔ written limits.now.shape.order ms ≡ bytes.now)) }
-    // A fault is the one at the least place.
+    // An error of a header is the one of least offset.
     ensures first { IfErr result
         (λ e. IfFault e (λ f. IsFirstFault limits.now.shape (whole bytes.now) f.place f.reason)) }
     // Then no list of messages is the layout.
     ensures none { IfErr result
         (λ e. IfFault e (λ _. (ms : List MessageVal) → Layout limits.now.shape ms bytes.now → ⊥)) }
 {
-    // A datagram within the limit is within the longest, so its messages can be written.
+    // This makes the range of the limit known to the prover: what was read can be written.
     let _limit = limits.datagram();
     let messages = read_datagram(alloc, bytes, limits).into_result()?;
     // The padding of the last message may be cut short.

@@ -1,29 +1,28 @@
-//! What a message's type says of its body.
+//! What a message type says of the body's layout.
 
 ghost use Rattle.std.specs.Prelude.{◌≡◌};
 ghost use Rattle.nl_frame.specs.Form.{form_of, least_body};
 
 use nl_route::Family;
 
-/// What a message's body is made of.
+/// The layout of a body: which fields of fixed size it begins with, if any.
 #[derive(Clone, Copy, Debug, PartialEq, Eq, Hash)]
 pub enum Form {
     Noop,
     Error,
     Done,
     Overrun,
-    /// NEW, DEL and SET of a family: its head and attributes.
+    /// NEW, DEL and SET of a family: its header, as `ifinfomsg`, and attributes.
     Object(Family),
-    /// GET of a family: one byte that names the family, and the rest.
+    /// GET of a family: one byte, the address family, and the rest.
     Get,
     /// Any other type: bytes.
     Other,
 }
 
 impl Form {
-    /// The form of this type, which alone chooses it, whatever the message's family. The types of
-    /// families are those of linux/rtnetlink.h, RTM_NEWLINK and on: an arm for each, so that one
-    /// jump leads to it.
+    /// The form of the body of this message type. Types are those of linux/netlink.h and, from
+    /// RTM_NEWLINK on, of linux/rtnetlink.h. Each type has an arm, so that one jump leads to it.
     #[tactic(auto, using(crate::proofs::Forms::agree))]
     #[inline(always)]
     pub fn of(kind: u16) -> Form
@@ -54,7 +53,7 @@ impl Form {
         }
     }
 
-    /// The fewest bytes that such a body has.
+    /// The least length of such a body, in bytes: a shorter one breaks the rule `ShortBody`.
     pub fn least(self) -> usize
         ensures { result ≡ least_body self }
     {

@@ -1,4 +1,4 @@
-//! The message at the front of bytes, and the one at a place of a datagram.
+//! Finds the message at the front of bytes, or at an offset of a datagram, without reading it.
 
 ghost use Rattle.std.specs.Prelude.{◌≡◌, ◌≤◌, length, min, Ok};
 ghost use Rattle.nl_attr.specs.Fixed as fixed;
@@ -10,22 +10,23 @@ use crate::form::Form;
 use crate::header::Header;
 use nl_attr::{Fault, Order, Reason, align4};
 
-/// A message as it lies in its datagram.
+/// A message as it lies in its datagram: its header is decoded, its body is not.
 #[derive(Clone, Copy, Debug)]
 pub struct Frame<'a> {
-    /// Its header, whose length is within the datagram and at least 16.
+    /// Its header. The length in it is at least 16, and within the datagram.
     pub header: Header,
-    /// The form of its body, by the type in the header.
+    /// The form of its body, by its type.
     pub form: Form,
-    /// How many bytes it occupies: header, payload, and the padding as far as present.
+    /// How many bytes it occupies: header, payload, and the padding as far as it is there.
     pub span: u32,
-    /// The bytes of its body, at least as many as the form wants.
+    /// The bytes of its body, at least `form.least()` many.
     pub payload: &'a [u8],
     /// The bytes behind the message and its padding, to the end of the datagram.
     pub rest: &'a [u8],
 }
 
-/// The length that the header at the front says, where it is within bounds.
+/// The length field of the header at the front, in bytes. Or the rule that breaks: `Cut` or
+/// `BadLength`.
 pub(crate) fn frame_len(left: &[u8], order: Order) -> Result<usize, Reason>
     ensures { HeadIs order 16 4 left.now result }
 {
@@ -39,7 +40,7 @@ pub(crate) fn frame_len(left: &[u8], order: Order) -> Result<usize, Reason>
     Ok(len)
 }
 
-/// How many bytes a message of this length occupies: with its padding, as far as present.
+/// How many bytes a message of this length occupies, its padding as far as it is there.
 pub(crate) fn frame_span(left: &[u8], len: usize) -> u32
     requires len { len ≤ length left.now }
     requires size { length left.now ≤ fixed.LONGEST_REGION }
@@ -57,7 +58,7 @@ pub(crate) fn front_form(left: &[u8], order: Order) -> Form
     Form::of(order.read_u16(&left[4..]))
 }
 
-/// The message of `len` bytes at the front, with a body of this form; or that its body is short.
+/// The message of `len` bytes at the front, with a body of this form. Or `ShortBody`.
 #[inline(always)]
 pub(crate) fn front_of(
     left: &[u8],
@@ -85,7 +86,7 @@ pub(crate) fn front_of(
     })
 }
 
-/// The message at the front, or the first rule that its head breaks.
+/// The message at the front. Or the first rule that its header breaks.
 #[inline(always)]
 pub(crate) fn front(left: &[u8], order: Order) -> Result<Frame<'_>, Reason>
     requires { length left.now ≤ fixed.LONGEST_REGION }
@@ -95,13 +96,12 @@ pub(crate) fn front(left: &[u8], order: Order) -> Result<Frame<'_>, Reason>
     front_of(left, len, front_form(left, order), order)
 }
 
-/// The message whose header stands at a place of a datagram; none where the place is at the
-/// datagram's end or behind it; the fault where no whole message stands there. It takes no memory,
-/// and looks at no byte before the place.
+/// The message whose header is at this offset of a datagram. `None` where the datagram has no byte
+/// there, and a `Fault` where no whole message is. It takes no memory, and reads no byte before.
 ///
-/// Places count from the datagram's start, also that of the fault. The next message stands at the
-/// place plus the span. Of the body only its least length is looked at, and whether messages from
-/// the datagram's start on come to the place is not asked.
+/// Offsets count from the datagram's start, also in a `Fault`. The next message is at the offset
+/// plus `span`. Only the least length of the body is checked. That a walk from the datagram's
+/// start comes to the offset is not.
 pub fn message_at(bytes: &[u8], place: u32, order: Order) -> Option<Result<Frame<'_>, Fault>>
     requires { length bytes.now ≤ fixed.LONGEST_REGION }
     ensures { StandsAt order bytes.now place result }

@@ -6,8 +6,8 @@ ghost use Rattle.nl_frame.specs.Header.{header_of, header_fields};
 
 use nl_attr::{Order, append_bytes};
 
-/// The header of a message, 16 bytes: the length of header and payload in bytes (the padding behind
-/// them not counted), the type, the flags, the sequence number, and the port id.
+/// A message's header, `nlmsghdr`: 16 bytes. `len` counts header and payload in bytes, without
+/// padding. The others are type, flags, sequence number and port id, `nlmsg_pid`.
 #[derive(Clone, Copy, Debug, PartialEq, Eq, Hash)]
 pub struct Header {
     pub len: u32,
@@ -18,7 +18,7 @@ pub struct Header {
 }
 
 impl Header {
-    /// The header in the first 16 bytes.
+    /// Decodes the header in the first 16 bytes.
     pub(crate) fn read(bytes: &[u8], order: Order) -> Header
         requires { 16 ≤ length bytes.now }
         ensures { result ≡ header_of order bytes.now }
@@ -32,8 +32,7 @@ impl Header {
         }
     }
 
-    /// The 16 bytes of the header, as `struct nlmsghdr` of netlink(7) lies in a datagram: its fields
-    /// one behind the other, each number in this order.
+    /// Encodes the header in this byte order.
     pub fn bytes(self, order: Order) -> [u8; 16]
         ensures { result ≡ written order (header_fields self) }
     {

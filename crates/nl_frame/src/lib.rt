@@ -1,4 +1,16 @@
 //! Netlink datagrams: messages, their headers and their bodies (netlink(7), rtnetlink(7)).
+//!
+//! A *body* is the payload of a message, behind `nlmsghdr`. The `Form` of a body is what the
+//! message type says of it, and a `Frame` is one message as it lies in a datagram, unread.
+//!
+//! - `reading` reads a datagram into `Message`s. `body` has their types, `form` and `front` their
+//!   layout, and `header` has `nlmsghdr`.
+//! - `scanning` and `taping` validate a datagram, and `taping` also indexes its headers
+//!   (`broken`).
+//! - `writing` measures messages (`measuring`), and then appends them (`appending`). `canonical`
+//!   says whether a datagram is what its messages are written as.
+//! - `building` writes a datagram into a slice, call by call, without messages in memory.
+//! - `limits` has the limits of them all. `laws` states theorems, and has no code.
 #![tactic(auto)]
 
 mod appending;
@@ -19,8 +31,7 @@ mod writing;
 
 pub use body::{Body, Message};
 pub use building::{
-    BuildError, Builder, BuilderParts, BuilderTop, FamilyHead, NoBuilder, OpenHead, PutMessage,
-    levels_inside,
+    BuildError, Builder, BuilderTop, FamilyHead, OpenHead, PutMessage, levels_inside,
 };
 pub use canonical::is_canonical;
 pub use form::Form;

@@ -1,4 +1,4 @@
-//! How much is read, and in which byte order.
+//! The limits of reading, writing and building, and their byte order.
 
 ghost use Rattle.std.specs.Prelude.{◌≡◌};
 ghost use Rattle.std.specs.Result.{OkIff};
@@ -8,14 +8,14 @@ ghost use Rattle.nl_frame.specs.Limits.{AreLimits, bounds_of, standard_bounds};
 use nl_attr::{Depth, LONGEST_REGION, LimitFault, Order};
 use std::marker::Model;
 
-/// The greatest total of a session's datagrams that any limits allow, in bytes.
+/// The greatest total limit, in bytes: 2^40.
 const GREATEST_TOTAL: u64 = 1_099_511_627_776;
 
-/// The most entries of a table that any limits allow.
+/// The greatest limit on a table's entries.
 const MOST_ENTRIES: u32 = 65_536;
 
-/// How deep containers nest, how many bytes a datagram and a session's datagrams have, how many
-/// entries a table has, all at most; and the byte order of numbers.
+/// The limits: the nesting depth of attributes; the bytes of one datagram, and of all datagrams of
+/// a session; the entries of a table. With them goes the byte order of numbers.
 #[derive(Clone, Copy, Debug, PartialEq, Eq, Hash)]
 pub struct Limits {
     order: Order,
@@ -44,9 +44,9 @@ impl Model for Limits {
 }
 
 impl Limits {
-    /// These limits, with little-endian numbers; or `LimitFault` where one is out of its range:
-    /// a depth of 0 to 32 levels, a datagram of a multiple of 4 from 16 to 1,048,576 bytes, a total
-    /// of 0 to 2^40 bytes, 0 to 65,536 entries.
+    /// These limits, little-endian. `LimitFault` where one is out of its range: a depth of 0 to 32
+    /// levels, a datagram of 16 to 1,048,576 bytes and a multiple of 4, a total of 0 to 2^40
+    /// bytes, 0 to 65,536 entries.
     pub fn new(depth: u8, datagram: u32, total: u64, entries: u32) -> Result<Limits, LimitFault>
         ensures { OkIff result (AreLimits (bounds_of Order.Little depth datagram total entries))
             (bounds_of Order.Little depth datagram total entries) }
@@ -69,7 +69,7 @@ impl Limits {
         })
     }
 
-    /// Depth 8, a datagram of 65,536 bytes, a total of 2^30, 4,096 entries, little-endian numbers.
+    /// Depth 8, a datagram of 65,536 bytes, a total of 2^30 bytes, 4,096 entries, little-endian.
     pub fn standard() -> Limits
         ensures { result ≡ standard_bounds }
     {
@@ -82,10 +82,9 @@ impl Limits {
         }
     }
 
-    /// The same limits with numbers in this order: those of heads, lengths and types. A payload is
-    /// bytes and has no order of its own, so the numbers in what was read under these limits are
-    /// read by the views that take the order, as `link.mtu_ordered(limits.order())`; the
-    /// plain views take the lowest byte first.
+    /// The same limits in this byte order, which is that of headers. A payload is kept as bytes.
+    /// To decode a number in it, call the view that takes the byte order, as
+    /// `link.mtu_ordered(limits.order())`: the plain views are little-endian.
     #[must_use]
     pub fn with_order(self, order: Order) -> Limits
         ensures { result ≡ record self { shape = shape_of order self.shape.depth } }
@@ -100,7 +99,7 @@ impl Limits {
         self.order
     }
 
-    /// How many levels containers may open.
+    /// How many levels nested attributes may open.
     pub fn depth(&self) -> Depth
         ensures value { result ≡ self.now.shape.depth }
         ensures limits { AreLimits self.now }

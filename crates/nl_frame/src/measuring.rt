@@ -1,4 +1,4 @@
-//! How long messages are when they are written, and whether they may be.
+//! Measures messages for writing: their length, and whether they are too deep or too long.
 
 ghost use Rattle.std.specs.Prelude.{◌≡◌, ◌≤◌, ◌+◌, ◌↔◌, IsTrue, IfSome, map};
 ghost use Rattle.nl_attr.specs.Fixed as fixed;
@@ -13,7 +13,7 @@ use crate::form::Form;
 use nl_attr::{Depth, Extent, LONGEST_REGION, align4};
 use nl_route::match_object;
 
-/// Bytes behind so many others, without attributes.
+/// The extent of a body without attributes: `head` bytes of fields, and `tail` bytes behind.
 fn plain(head: usize, tail: usize) -> Extent
     requires { head ≤ 20 }
     ensures deep { IsTrue result.deep → ⊥ }
@@ -27,7 +27,8 @@ fn plain(head: usize, tail: usize) -> Extent
     Extent { deep: false, len }
 }
 
-/// The body of a DONE message; none where it has four bytes or more but no status.
+/// Measures the body of a DONE message. `None` where it has no status, but four bytes or more:
+/// those would be read as one.
 fn measure_done(status: &Option<i32>, tail: &[u8]) -> Option<Extent>
     ensures mismatch { (result ≡ None) ↔ IsMismatchedBody (done status.now tail.now) Form.Done }
     ensures deep { IfSome result (λ e. IsTrue e.deep → ⊥) }
@@ -45,8 +46,8 @@ fn measure_done(status: &Option<i32>, tail: &[u8]) -> Option<Extent>
     }
 }
 
-/// A body in a message of this form; none where it is of another form, a DONE without status has
-/// four bytes or more, or an attribute's value is of the wrong kind.
+/// Measures a body in a message whose type has this form. `None` where the body is of another
+/// form, or is a `Mismatch` in itself.
 fn measure_body(body: &Body, form: Form, depth: Depth) -> Option<Extent>
     ensures mismatch { (result ≡ None) ↔ IsMismatchedBody (body_view body.now) form }
     ensures deep { IfSome result (λ e. IsTrue e.deep ↔ IsDeepBody (body_view body.now) depth) }
@@ -69,7 +70,7 @@ fn measure_body(body: &Body, form: Form, depth: Depth) -> Option<Extent>
     })
 }
 
-/// A message with its header and its padding.
+/// Measures a message, its header and its padding included. `None` is `Mismatch`.
 #[tactic(auto, using(crate::proofs::Extents::message_len))]
 fn measure_message(message: &Message, depth: Depth) -> Option<Extent>
     ensures mismatch { (result ≡ None)
@@ -89,8 +90,8 @@ fn measure_message(message: &Message, depth: Depth) -> Option<Extent>
     })
 }
 
-/// What messages come to when they are written; none where a body isn't of its message's type, or a
-/// value in it is of another kind than its attribute holds.
+/// Measures messages for writing. `None` is the error `Mismatch` of `write_datagram`. Else `deep`
+/// says whether they are `TooDeep`, and no `len` that they are `TooLong`.
 pub(crate) fn measure_messages(messages: &[Message], depth: Depth) -> Option<Extent>
     ensures mismatch { (result ≡ None) ↔ IsMismatched (map message_view messages.now) }
     ensures deep { IfSome result

@@ -1,4 +1,4 @@
-//! Reading a datagram.
+//! Reading a datagram into messages in memory.
 
 ghost use Rattle.std.specs.Prelude.{◌≡◌, ◌≤◌, ◌<◌, ◌+◌, ◌*◌, ◌↔◌, ◌++◌, ◌∷◌, []};
 ghost use Rattle.std.specs.Prelude.{IsTrue, length, map, List, IfOk, IfErr, Err};
@@ -20,22 +20,22 @@ use nl_attr::{Fault, ListError, Order, Tally};
 use std::alloc::{AllocError, AllocFailed, Global};
 use thiserror::Error;
 
-/// Why a datagram was not read.
+/// The error of reading a datagram.
 #[derive(Clone, Copy, Debug, PartialEq, Eq, Hash, Error)]
 pub enum ReadError {
-    /// The datagram is above the datagram limit; nothing of it was looked at.
+    /// The datagram is longer than the datagram limit. No byte of it was read.
     #[error("too large")]
     TooLarge,
-    /// The first fault of the datagram.
+    /// A header breaks a rule. It is the first one that does.
     #[error("{0}")]
     Layout(Fault),
-    /// A growth was refused. It comes in place of whatever would come later.
+    /// An allocation failed. What stands behind it in the datagram isn't validated then.
     #[error("out of memory")]
     Memory,
 }
 
 impl ReadError {
-    /// The number of this refusal: that of the fault's reason, 6 for too large, 13 for memory.
+    /// The error's number: that of the broken rule, 6 for `TooLarge`, or 13 for `Memory`.
     pub fn code(self) -> u8
         ensures { result ≡ read_code self }
     {
@@ -74,7 +74,7 @@ impl<T: Drop> From<AllocFailed<T>> for ReadError {
     }
 }
 
-/// The message in a frame.
+/// Reads the body of a frame, and makes the message.
 fn read_message(
     alloc: Global,
     frame: &Frame,
@@ -104,15 +104,15 @@ fn read_message(
     })
 }
 
-/// Adds a message, where there is memory.
+/// Adds a message to a list. False where an allocation fails.
 fn keep(list: &mut Vec<Message>, message: Message) -> bool
     ensures { IsTrue result → list.new.items ≡ list.old.items ++ message ∷ [] }
 {
     list.push(message).is_ok()
 }
 
-/// How many messages there are where all are as long as the first says that it is: so they mostly
-/// are in a dump.
+/// A guess of how many messages there are: as many as there would be if all were as long as the
+/// first. In a dump they mostly are.
 fn first_room(bytes: &[u8], order: Order) -> usize
     ensures { 16 * result ≤ length bytes.now }
 {
@@ -122,14 +122,14 @@ fn first_room(bytes: &[u8], order: Order) -> usize
     }
 }
 
-/// The messages of a datagram.
+/// Reads the messages of a datagram that is within its limit.
 fn read_messages(alloc: Global, bytes: &[u8], limits: &Limits) -> Tally<Vec<Message>, ListError>
     requires { length bytes.now ≤ fixed.LONGEST_REGION }
     ensures outcome { HasOutcome
         (λ v. map message_view v.items) result (messages_of limits.now.shape 0 bytes.now) }
     ensures bound { result.visits ≤ (limits.now.shape.depth + 1) * length bytes.now }
 {
-    // The depth is at most 32, so the visits fit their number.
+    // This makes the range of the depth known to the prover, so that `visits` can't overflow.
     let _limit = limits.depth();
     let order = limits.order();
     let mut list = match Vec::with_capacity(alloc, first_room(bytes, order)) {
@@ -189,11 +189,11 @@ ghost use Rattle.nl_frame.specs.Outcomes.{IfFault, VisitsUpTo};
 ghost use Rattle.nl_frame.specs.Kept.{kept};
 ghost use Rattle.nl_frame.specs.Heads.{IsFirstFault, whole};
 
-/// The messages of a datagram, and how many attribute bytes were visited.
+/// Reads a datagram into its messages, and counts the bytes of attributes and next hops visited.
 ///
-/// It refuses a datagram above the datagram limit, then at the first fault over all heads, whatever
-/// later parts hold; or for memory. Padding may hold anything, and that of the last message may be
-/// cut short.
+/// The error is `TooLarge` above the datagram limit; else `Layout`, the first header that breaks a
+/// rule; or `Memory` where an allocation fails before that. Padding may hold any bytes, and that
+/// of the last message may be missing or short.
 pub fn read_datagram(alloc: Global, bytes: &[u8], limits: &Limits) -> Tally<Vec<Message>, ReadError>
     ensures large { result.result ≡ Err ReadError.TooLarge
         ↔ limits.now.datagram < length bytes.now }
@@ -203,16 +203,16 @@ pub fn read_datagram(alloc: Global, bytes: &[u8], limits: &Limits) -> Tally<Vec<
     // No other list is.
     ensures only { IfOk result.result (λ v. (ms : List MessageVal)
         → Layout limits.now.shape ms bytes.now → ms ≡ map message_view v.items) }
-    // A fault is the one at the least place.
+    // An error of a header is the one of least offset.
     ensures first { IfErr result.result
         (λ e. IfFault e (λ f. IsFirstFault limits.now.shape (whole bytes.now) f.place f.reason)) }
-    // Then no list is the layout.
+    // Then no list of messages is the layout.
     ensures none { IfErr result.result
         (λ e. IfFault e (λ _. (ms : List MessageVal) → Layout limits.now.shape ms bytes.now → ⊥)) }
-    // The visits are those of all heads, or of those up to the fault.
+    // The visits are those of all headers, or of those up to the error.
     ensures visits { VisitsUpTo limits.now.shape bytes.now result.result result.visits }
     ensures bound { result.visits ≤ (limits.now.shape.depth + 1) * length bytes.now }
-    // What is read keeps no more bytes than the datagram has.
+    // What is read holds no more bytes than the datagram has.
     ensures kept { IfOk result.result (λ v. kept (map message_view v.items) ≤ length bytes.now) }
 {
     if bytes.len() > limits.datagram() as usize {

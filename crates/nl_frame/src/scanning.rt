@@ -1,4 +1,5 @@
-//! Scanning a datagram: reading that keeps nothing and takes no memory.
+//! Scanning a datagram: validating it as `reading` does, without keeping anything or taking
+//! memory. These are the public calls, and the loop is in `taping`.
 
 ghost use Rattle.std.specs.Prelude.{◌≡◌, ◌≤◌, ◌<◌, ◌*◌, length};
 ghost use Rattle.nl_attr.specs.HeadOrder.{put_from};
@@ -13,19 +14,19 @@ use crate::taping::{scan_messages, tape_messages};
 use nl_attr::{BrokenHead, Event, Tally};
 use thiserror::Error;
 
-/// Why a scan refuses a datagram: as `read_datagram` does, but never for memory.
+/// The error of scanning a datagram: that of `read_datagram`, but never for memory.
 #[derive(Clone, Copy, Debug, PartialEq, Eq, Hash, Error)]
 pub enum ScanError {
-    /// The datagram is above the datagram limit; nothing of it was looked at.
+    /// The datagram is longer than the datagram limit. No byte of it was read.
     #[error("too large")]
     TooLarge,
-    /// The head that breaks a rule at the first fault of the datagram.
+    /// A header breaks a rule. It is the first one that does.
     #[error("{}", .0.fault)]
     Layout(BrokenHead),
 }
 
 impl ScanError {
-    /// The number of this refusal: that of the fault's reason, or 6 for too large.
+    /// The error's number: that of the broken rule, or 6 for `TooLarge`.
     pub fn code(self) -> u8
         ensures { result ≡ read_code (read_refusal self) }
     {
@@ -36,15 +37,15 @@ impl ScanError {
     }
 }
 
-/// What a scan finds that counts the heads.
+/// The result of `tape_datagram`.
 pub struct Counted {
-    /// What was found, and how many attribute bytes were visited.
+    /// Whether the datagram is accepted, and how many bytes were visited.
     pub scan: Tally<(), ScanError>,
-    /// How many heads there are: all, or those up to the first fault.
+    /// How many headers there are: all of them, or those up to the first error.
     pub count: usize,
 }
 
-/// The answer of a scan that ended at this head, or at none.
+/// The result of a scan that ended at this header, or that found none broken.
 fn answer(broken: Option<BrokenHead>) -> Result<(), ScanError>
     ensures { Ends broken result }
 {
@@ -54,26 +55,25 @@ fn answer(broken: Option<BrokenHead>) -> Result<(), ScanError>
     }
 }
 
-/// Scans a datagram, as `read_datagram` reads it, and puts the event of each head into `out`, in
-/// the order of their places and as far as `out` goes: each message's header, and behind it the
-/// heads of its attributes and next hops. It takes no memory.
+/// Scans a datagram, and puts one event for each header into `out`, in the order of their offsets,
+/// as far as `out` has room: each message's, and behind it those in its body. It takes no memory.
 ///
-/// It answers how many heads there are, which may be more than `out` has room for but is at most a
-/// quarter of the datagram's bytes, and how many attribute bytes were visited. It refuses as
-/// `read_datagram` does, but never for memory: nothing is put or counted where the datagram is
-/// above the datagram limit; at the first fault the heads up to it have been counted and their
-/// events put, that of a container which is too long or too deep among them.
+/// It also counts the headers, at most a quarter of the datagram's bytes, and the bytes visited.
+/// The count may be more than `out` has room for. The errors are those of `read_datagram`, but
+/// never `Memory`. After `TooLarge` nothing is counted, and `out` is as it was. After `Layout` the
+/// events up to the broken header are in `out`. Its own is, too, where a nested attribute is too
+/// long or too deep.
 #[inline(always)]
 pub fn tape_datagram(bytes: &[u8], limits: &Limits, out: &mut [Event]) -> Counted
     ensures scans { ScansDatagram limits.now bytes.now result.scan }
     ensures untouched { limits.now.datagram < length bytes.now
         → (result.count ≡ 0) × (out.new ≡ out.old) }
-    // The events of the heads up to the fault stand in the buffer, and the rest is as it was.
+    // The events of the headers up to the error stand in the buffer, and the rest is as it was.
     ensures events { length bytes.now ≤ limits.now.datagram
         → out.new ≡ put_from 0 (events_of limits.now.shape (whole bytes.now)) out.old }
     ensures count { length bytes.now ≤ limits.now.datagram
         → result.count ≡ length (events_of limits.now.shape (whole bytes.now)) }
-    // A head has at least four bytes that are no other head's.
+    // A header has at least four bytes that are no other header's.
     ensures quarter { 4 * result.count ≤ length bytes.now }
 {
     if bytes.len() > limits.datagram() as usize {
@@ -95,10 +95,9 @@ pub fn tape_datagram(bytes: &[u8], limits: &Limits, out: &mut [Event]) -> Counte
     }
 }
 
-/// Whether a datagram is accepted by `read_datagram`, and how many attribute bytes were visited.
-/// Nothing of it is kept, and no memory is taken.
-///
-/// It refuses a datagram above the datagram limit, then at the first fault over all heads.
+/// Whether `read_datagram` would accept a datagram, and how many bytes it would visit. It keeps
+/// nothing, and takes no memory. The error is `TooLarge` above the datagram limit; else `Layout`,
+/// the first header that breaks a rule.
 #[inline(always)]
 pub fn scan_datagram(bytes: &[u8], limits: &Limits) -> Tally<(), ScanError>
     ensures { ScansDatagram limits.now bytes.now result }

@@ -1,5 +1,5 @@
-//! Scanning the messages of a datagram in one pass, which takes no memory and no call stack: each
-//! head is checked, and its event is put into a buffer.
+//! The loop of a scan: one pass over the messages of a datagram, without memory or recursion. Each
+//! header is checked, and its event is put into a buffer.
 
 ghost use Rattle.std.specs.Prelude.{◌≡◌, ◌≤◌, ◌+◌, ◌*◌, [], length, None, Ok, IfSome};
 ghost use Rattle.nl_attr.specs.Fixed as fixed;
@@ -20,17 +20,17 @@ use crate::front::{Frame, frame_len, front_form, front_of};
 use nl_attr::{
     BrokenHead, Counts, Depth, Event, Order, Reason, Room, SORT_MESSAGE, Taped, tape_attrs_in,
 };
-use nl_route::Family;
+use nl_route::{Family, families};
 
-/// A message that was gone past.
+/// A message that the loop has scanned.
 #[derive(Clone, Copy)]
 struct TapedFrame<'a> {
     frame: Frame<'a>,
-    /// What was counted in it.
+    /// The visits, and the buffer's count behind it.
     counts: Counts,
 }
 
-/// The event of a message's header.
+/// Makes the event of a message's header.
 #[inline(always)]
 fn event_of(frame: &Frame, place: u32) -> Event
     requires { length frame.now.payload.now ≤ fixed.LONGEST_REGION }
@@ -48,7 +48,7 @@ fn event_of(frame: &Frame, place: u32) -> Event
     }
 }
 
-/// The attributes of a family's body.
+/// Scans the attributes of a family's body.
 #[inline(always)]
 fn tape_object(
     broken: &mut Option<BrokenHead>,
@@ -93,7 +93,7 @@ fn tape_object(
     )
 }
 
-/// The heads in a body of this form.
+/// Scans a body of this form: the attributes and next hops in it, where it is a family's.
 #[inline(always)]
 fn tape_body(
     broken: &mut Option<BrokenHead>,
@@ -134,7 +134,7 @@ fn tape_body(
     }
 }
 
-/// A message, and the heads in it.
+/// Puts the event of a message's header, and scans the message's body.
 #[inline(always)]
 fn tape_frame(
     broken: &mut Option<BrokenHead>,
@@ -174,7 +174,7 @@ fn tape_frame(
     )
 }
 
-/// The message of `len` bytes at the front, whose body has this form, and the heads in it.
+/// Scans the message of `len` bytes at the front, whose body has this form.
 #[inline(always)]
 fn tape_front<'a>(
     broken: &mut Option<BrokenHead>,
@@ -205,38 +205,23 @@ fn tape_front<'a>(
 
 /// A match over a form, with an arm for each family, in which the form is a constant.
 macro_rules! match_form {
-    ($value:expr, $form:ident => $then:expr) => {
+    (($value:expr, $form:ident => $then:expr) [$($Family:ident)+]) => {
         match $value {
-            Form::Object(Family::Link) => {
-                let $form = Form::Object(Family::Link);
+            $(Form::Object(Family::$Family) => {
+                let $form = Form::Object(Family::$Family);
                 $then
-            }
-            Form::Object(Family::Addr) => {
-                let $form = Form::Object(Family::Addr);
-                $then
-            }
-            Form::Object(Family::Route) => {
-                let $form = Form::Object(Family::Route);
-                $then
-            }
-            Form::Object(Family::Neigh) => {
-                let $form = Form::Object(Family::Neigh);
-                $then
-            }
-            Form::Object(Family::Rule) => {
-                let $form = Form::Object(Family::Rule);
-                $then
-            }
+            })+
             $form => $then,
         }
     };
+    ($($arguments:tt)+) => { families!([match_form] ($($arguments)+)) };
 }
 
-/// The message at the front, and the heads in it. Its form is asked for once: in the arm of a
-/// family the size of its head and the context of its attributes are constants.
+/// Scans the message at the front. Its form is found once: in the arm of a family the size of its
+/// header and the context of its attributes are constants.
 ///
-/// `inline(always)` would be dropped from so long a function. By `LOOP` each loop has one of its
-/// own, which is inlined in it since it's called from nowhere else.
+/// `inline(always)` would be dropped from so long a function. So each loop has an instance of its
+/// own, by `LOOP`, which is inlined since nothing else calls it.
 fn tape_message<'a, const LOOP: u8>(
     broken: &mut Option<BrokenHead>,
     left: &'a [u8],
@@ -261,7 +246,7 @@ fn tape_message<'a, const LOOP: u8>(
     })
 }
 
-/// The loops over messages: one for each caller of `tape_ordered`.
+/// The values of `LOOP`: one for each caller of `tape_ordered`.
 const BIG: u8 = 0;
 
 const LITTLE: u8 = 1;
@@ -270,8 +255,8 @@ const AMPLE: u8 = 2;
 
 const SCAN: u8 = 3;
 
-/// The messages of a datagram, in an order that the caller writes as a constant. Each caller names
-/// a loop of its own, for `tape_message`.
+/// Scans the messages of a datagram, in a byte order that is a constant in the caller. Each caller
+/// has a `LOOP` of its own, for `tape_message`.
 #[inline(always)]
 fn tape_ordered<const LOOP: u8>(
     bytes: &[u8],
@@ -288,7 +273,7 @@ fn tape_ordered<const LOOP: u8>(
         (IsBrokenHead (shape_of order depth) (whole bytes.now)) }
     ensures bound { result.visits ≤ (depth + 1) * length bytes.now }
 {
-    // The depth is at most 32, so the visits fit their number.
+    // This makes the range of the depth known to the prover, so that `visits` can't overflow.
     let _limit = depth.get();
     let mut broken = None;
     let mut count = 0;
@@ -335,8 +320,7 @@ fn tape_ordered<const LOOP: u8>(
     }
 }
 
-/// The messages of a datagram in the big order: a function of its own keeps the registers of the
-/// other loop free.
+/// The big-endian loop. It isn't inlined: that keeps registers free in the other loops.
 #[inline(never)]
 fn tape_big(bytes: &[u8], depth: Depth, out: &mut [Event]) -> Taped
     requires { length bytes.now ≤ fixed.LONGEST_REGION }
@@ -349,8 +333,7 @@ fn tape_big(bytes: &[u8], depth: Depth, out: &mut [Event]) -> Taped
     tape_ordered::<BIG>(bytes, depth, Order::Big, Room::Unknown, out)
 }
 
-/// The messages of a datagram in the little order, into a buffer that may end before the last
-/// event.
+/// The little-endian loop, with a buffer that may be too short.
 #[inline(never)]
 fn tape_little(bytes: &[u8], depth: Depth, out: &mut [Event]) -> Taped
     requires { length bytes.now ≤ fixed.LONGEST_REGION }
@@ -363,8 +346,8 @@ fn tape_little(bytes: &[u8], depth: Depth, out: &mut [Event]) -> Taped
     tape_ordered::<LITTLE>(bytes, depth, Order::Little, Room::Unknown, out)
 }
 
-/// The messages of a datagram in the little order, into a buffer with room for all events: in a
-/// function of its own the loop has all registers.
+/// The little-endian loop, with a buffer that has room for all events. It isn't inlined: so the
+/// loop has all registers.
 #[inline(never)]
 fn tape_ample(bytes: &[u8], depth: Depth, out: &mut [Event]) -> Taped
     requires size { length bytes.now ≤ fixed.LONGEST_REGION }
@@ -378,8 +361,8 @@ fn tape_ample(bytes: &[u8], depth: Depth, out: &mut [Event]) -> Taped
     tape_ordered::<AMPLE>(bytes, depth, Order::Little, Room::Ample, out)
 }
 
-/// The messages of a datagram, by a loop for each order, and for the little one by another where
-/// the buffer has room for all events.
+/// Scans the messages of a datagram, and puts their events into `out`. It chooses the loop by the
+/// byte order and the buffer's room.
 #[inline(always)]
 pub(crate) fn tape_messages(bytes: &[u8], depth: Depth, order: Order, out: &mut [Event]) -> Taped
     requires { length bytes.now ≤ fixed.LONGEST_REGION }
@@ -401,8 +384,8 @@ pub(crate) fn tape_messages(bytes: &[u8], depth: Depth, order: Order, out: &mut 
     }
 }
 
-/// The messages of a datagram, of which no event is put: the buffer of no events is made here, so
-/// that the loops show no trace of it.
+/// Scans the messages of a datagram, and puts no event. The empty buffer is made here, so that the
+/// compiler drops all use of it from the loops.
 pub(crate) fn scan_messages(bytes: &[u8], depth: Depth, order: Order) -> Taped
     requires { length bytes.now ≤ fixed.LONGEST_REGION }
     ensures taped { IsTaped (shape_of order depth) (trail_of (shape_of order depth)

@@ -1,4 +1,4 @@
-//! Writing a datagram.
+//! Writing messages as a datagram.
 
 ghost use Rattle.std.specs.Prelude.{◌≡◌, ◌↔◌, Err, IfOk, map};
 ghost use Rattle.nl_frame.specs.View.{message_view};
@@ -16,31 +16,31 @@ use nl_attr::Extent;
 use std::alloc::{AllocError, Global};
 use thiserror::Error;
 
-/// Why messages were not written. The first that applies is answered, in the order of the variants,
-/// each over all messages.
+/// The error of writing messages. Of several that apply it is the first, in the order of the
+/// variants, each looked for in all messages.
 #[derive(Clone, Copy, Debug, PartialEq, Eq, Hash, Error)]
 pub enum WriteError {
-    /// A body isn't of its message's type, or a value in it is of another kind than its attribute
-    /// holds.
+    /// A body isn't one of its message's type. Or an attribute's type is 16,384 or more, or its
+    /// value isn't what its context, type and flags say that it holds.
     #[error("mismatch")]
     Mismatch,
-    /// A container opens a level above the depth limit.
+    /// A nested attribute opens a level beyond the depth limit.
     #[error("too deep")]
     TooDeep,
     /// An attribute or a next hop has more than 65,535 bytes, or a region or the datagram more than
     /// 1,048,576.
     #[error("too long")]
     TooLong,
-    /// The datagram would be above the datagram limit.
+    /// The datagram would be longer than the datagram limit.
     #[error("too large")]
     TooLarge,
-    /// The growth was refused.
+    /// An allocation failed. All other rules hold.
     #[error("out of memory")]
     Memory,
 }
 
 impl WriteError {
-    /// The number of this refusal: 11, 5, 4, 6 or 13, in the order of the variants.
+    /// The error's number: 11, 5, 4, 6 or 13, in the order of the variants.
     pub fn code(self) -> u8
         ensures { result ≡ write_code self }
     {
@@ -75,18 +75,20 @@ impl From<AllocError> for WriteError {
     }
 }
 
-/// The datagram of these messages, each with its padding of zeros to a multiple of four bytes
-/// (`NLMSG_ALIGN` of netlink(7)), the last one too; the numbers of heads, lengths and types in the
-/// order of the limits. Payloads stay the bytes that they are: messages that were read in the other
-/// order are written with heads in this one and the numbers in their payloads in that one.
+/// Writes messages as a datagram, each padded with zeros to a multiple of four bytes
+/// (`NLMSG_ALIGN` of netlink(7)), the last one too. Headers are in the byte order of the limits.
+/// Payloads are copied: numbers in them stay in the byte order that they were read in.
 ///
-/// It refuses, in this order: `Mismatch` for a body that isn't of its message's type, a DONE
-/// without status that has four bytes or more, and an attribute whose number is 16,384 or more or
-/// whose value is of another kind than its context, number and flags say; `TooDeep` for a container
-/// that opens a level above the depth limit; `TooLong` for an attribute or a next hop of more than
-/// 65,535 bytes, or a region or a datagram of more than 1,048,576; `TooLarge` for a datagram above
-/// the datagram limit; `Memory` where the one growth, which comes after all that, is refused. Of
-/// the limits, it reads the order, the depth and the size of a datagram.
+/// Of the limits, it uses the byte order, the depth and the datagram limit. The error is the first
+/// of these that applies:
+///
+/// - `Mismatch`: a body isn't one of its message's type, a DONE has no status but four bytes or
+///   more, or an attribute is one of `nl_attr::WriteError::Mismatch`.
+/// - `TooDeep`: a nested attribute opens a level beyond the depth limit.
+/// - `TooLong`: an attribute or a next hop has more than 65,535 bytes, or a region or the datagram
+///   more than 1,048,576.
+/// - `TooLarge`: the datagram would be longer than the datagram limit.
+/// - `Memory`: the one allocation, which comes after all that, failed.
 pub fn write_datagram(
     alloc: Global,
     messages: &[Message],
@@ -103,9 +105,9 @@ pub fn write_datagram(
     // Otherwise they are written, unless memory runs out.
     ensures written { IfOk result
         (λ v. v.items ≡ written limits.now.shape.order (map message_view messages.now)) }
-    // What messages of the program hold is in the range of its types.
+    // Each number of a message in memory is in the range of its Rust type.
     ensures ranged { IfOk result (λ v. IsRanged (map message_view messages.now)) }
-    // They are the layout of what is written: it is read as them again.
+    // The messages are the layout of what is written: it is read as them again.
     ensures again { IfOk result
         (λ v. Layout limits.now.shape (map message_view messages.now) v.items) }
 {

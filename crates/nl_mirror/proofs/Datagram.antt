@@ -1,15 +1,6 @@
 -- What is heard, of one message after another.
-use Rattle.std.proofs.Common.{◌≡◌, ◌<◌, ◌≤◌, ◌==◌, nat_lt, ℕ, ◌&&◌, not, Bool, true, false, cond, List, [], ◌∷◌, ◌++◌, length, None, refl, sym, ap, ◌∙◌, subst, arith}
+use Rattle.nl_mirror.proofs.Common.{◌≡◌, ◌<◌, ◌≤◌, ◌==◌, nat_lt, ℕ, ◌&&◌, not, Bool, true, false, cond, List, [], ◌∷◌, ◌++◌, length, None, refl, sym, ap, ◌∙◌, subst, arith, length-append, Order, Item, tell, Replicated, settled, Event, begins, brings, ends, tells, overflows, loses, fails, Moves, MovesAll, Events, mirror_key, Heard, Follows}
 use Rattle.std.proofs.lemmas.Bool.{eqb-false, ltb-false, ltb-true}
-use Rattle.std.proofs.lemmas.List.{length-append}
-use Rattle.nl_attr.specs.declared.order.Order.{Order}
-use Rattle.nl_dump.specs.Items.{Item}
-use Rattle.nl_mirror.specs.Changes.{tell}
-use Rattle.nl_mirror.specs.Replicated.{Replicated, settled}
-use Rattle.nl_mirror.specs.Past.{Event, begins, brings, ends, tells, overflows, loses, fails, Moves, MovesAll, Events}
-use Rattle.nl_mirror.specs.Told.{mirror_key}
-use Rattle.nl_mirror.specs.Notes.{Heard}
-use Rattle.nl_mirror.specs.Hearing.{Follows}
 use Rattle.nl_mirror.specs.Datagrams.{onto, all_heard, RunOf, RunsEndInMirror, RunsKeepLimits}
 use Rattle.nl_mirror.proofs.Pasts.{events_end, events_hold}
 

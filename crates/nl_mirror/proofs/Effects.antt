@@ -1,30 +1,13 @@
 -- What changes make of a table, as it is answered.
-use Rattle.std.proofs.Common.{◌≡◌, ◌==◌, ◌&&◌, ℕ, nat_lt, Bool, true, false, cond, Option, Some, None, is_some, unwrap_or, option_map, position, length, bytes_eq, List, ◌∷◌, map, Result, Ok, Err, refl, sym, ap, ◌∙◌, true≢false, arith}
-use Rattle.std.specs.Prelude.{IfErr, IfOk}
+use Rattle.nl_mirror.proofs.Common.{◌≡◌, ◌==◌, ◌&&◌, ℕ, nat_lt, Bool, true, false, cond, Option, Some, None, is_some, unwrap_or, option_map, position, length, bytes_eq, List, ◌∷◌, map, Result, Ok, Err, refl, sym, ap, ◌∙◌, true≢false, arith, IfErr, IfOk, length-map, position_or_len, keys_of, lookup, Item, Content, Exchanges, Change, Now, Gone, Short, Stale, Held, of_now, of_gone, exchanged_effect, effect, effect_in, effect_of, effect_seen, by_doubt, MovesAll, Replicated, is_full, change_seen, held_seen, replica_seen, shortage, key_by, mirror_key}
 use Rattle.std.proofs.lemmas.Bool.{ltb-false, ltb-true}
-use Rattle.std.proofs.lemmas.List.{length-map}
 use Rattle.std.proofs.lemmas.Map.Made.{keys_of-map_values, lookup-map_values}
-use Rattle.std.specs.List.{position_or_len}
-use Rattle.std.specs.Map.{keys_of, lookup}
-use Rattle.nl_dump.specs.Items.{Item}
-use Rattle.nl_table.specs.Content.{Content, Exchanges, Removed as IsRemoved}
 use Rattle.nl_table.specs.declared.put.Exchanged.{Exchanged}
 use Rattle.nl_table.specs.declared.put.Exchanged.TheVariants.{Replaced, Added, Missed}
 use Rattle.nl_table.proofs.Maps.{held-lookup}
-use Rattle.nl_mirror.specs.declared.change.Change.{Change}
-use Rattle.nl_mirror.specs.declared.change.Change.TheVariants.{Now, Gone}
 use Rattle.nl_mirror.specs.declared.effect.Effect.{Effect}
 use Rattle.nl_mirror.specs.declared.effect.Effect.TheVariants as effects
-use Rattle.nl_mirror.specs.declared.short.Short.{Short}
 use Rattle.nl_mirror.specs.declared.short.Short.TheVariants as short
-use Rattle.nl_mirror.specs.declared.stale.Stale.{Stale}
-use Rattle.nl_mirror.specs.Changes.{Held}
-use Rattle.nl_mirror.specs.Effects.{of_now, of_gone, exchanged_effect, removed_effect, effect, effect_in, effect_of, effect_seen}
-use Rattle.nl_mirror.specs.Past.{by_doubt, MovesAll}
-use Rattle.nl_mirror.specs.Replicated.{Replicated, is_full}
-use Rattle.nl_mirror.specs.Seen.{change_seen, held_seen, replica_seen}
-use Rattle.nl_mirror.specs.Short.{shortage}
-use Rattle.nl_mirror.specs.Told.{key_by, mirror_key}
 use Rattle.nl_mirror.proofs.Lifting.{full_seen}
 use Rattle.nl_mirror.proofs.Hearings.{no_waiting}
 
@@ -72,14 +55,6 @@ module _ {T : Type 0} (k : List ℕ) (before : Content T) where
       full : (b : Bool) → nat_lt (length before.entries) before.limit ≡ b → nothing ≡ cond b (effects.Added (length before.entries)) nothing
       full false e = refl
       full true e = let no : ⊥ = omega (arith, ltb-true (length before.entries) before.limit e, s.0.1) in absurd no
-
-  -- a removal says what a DEL makes of it
-  pub removal_is : (r : Option (ℕ × T)) (after : Content T) → IsRemoved before k r after
-      → removed_effect r ≡ of_gone (lookup (bytes_eq k) before.entries) (position_or_len (bytes_eq k) (keys_of before.entries))
-  removal_is (Some p) after s =
-      ap (λ (j : ℕ). effects.Removed j p.1) (place_is (bytes_eq k) (keys_of before.entries) p.0 (sym s.0))
-      ∙ ap (λ o. of_gone o (position_or_len (bytes_eq k) (keys_of before.entries))) s.1
-  removal_is None after s = ap (λ o. of_gone o (position_or_len (bytes_eq k) (keys_of before.entries))) s.1
 
 -- what a change makes of a table is seen through what its entries stand for
 module _ {S T : Type 0} (f : S → T) where

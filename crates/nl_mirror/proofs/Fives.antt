@@ -1,7 +1,5 @@
 -- What five followers hear, each for itself.
-use Rattle.std.proofs.Common.{◌≡◌, ℕ, Option, Bool, true, false, cond, Some, None, List, [], ◌∷◌, ◌++◌, is_some, Result, Ok, Err, refl, sym, ap, ◌∙◌, subst, true≢false, ◌≢◌, ◌⊎◌, inl, inr}
-use Rattle.std.specs.Prelude.{⊤, IfErr, IfOk, OnOk}
-use Rattle.nl_route.specs.declared.family.Family.{Family}
+use Rattle.nl_mirror.proofs.Common.{◌≡◌, ℕ, Option, Bool, true, false, cond, Some, None, List, [], ◌∷◌, ◌++◌, is_some, Result, Ok, Err, refl, sym, ap, ◌∙◌, subst, true≢false, ◌≢◌, ◌⊎◌, inl, inr, ⊤, IfErr, IfOk, OnOk, Family, BodyVal, done, object, MessageVal, body_end, Item, body_item, family_item, item_of, Short, FindsNoRoom, effect_heard, update_effect, Event, AllButShort, ShortOf, Heard, hears, Following, Follows, in_items, IsHeardBy, Mirrored, Settings, follower_at, is_own, IsShort, IsUpdate, IsOverheard, IsOwnHeard, OthersHear, OneHears, EachHearsBy, HearsEach}
 use Rattle.nl_route.specs.declared.family.Family.TheVariants.{Link, Addr, Route, Neigh, Rule}
 use Rattle.nl_route.specs.declared.object.Object.{Object}
 use Rattle.nl_route.specs.Families.{AnyHead, row, same_family}
@@ -14,19 +12,9 @@ use Rattle.nl_frame.specs.declared.reading.ReadError.TheVariants as unread
 use Rattle.nl_frame.specs.Outcomes.{IfFault}
 use Rattle.nl_frame.specs.Layout.{Layout}
 use Rattle.nl_frame.specs.Limits.{Bounds}
-use Rattle.nl_frame.specs.Message.{BodyVal, done, object, MessageVal}
-use Rattle.nl_dump.specs.Answer.{body_end}
 use Rattle.nl_dump.specs.declared.dump.End.{End}
-use Rattle.nl_dump.specs.Items.{Item, body_item, family_item, item_of}
 use Rattle.nl_mirror.specs.declared.effect.Update.{Update}
-use Rattle.nl_mirror.specs.declared.short.Short.{Short}
 use Rattle.nl_mirror.specs.declared.short.Short.TheVariants as short
-use Rattle.nl_mirror.specs.Effects.{FindsNoRoom, effect_heard, update_effect}
-use Rattle.nl_mirror.specs.Past.{Event}
-use Rattle.nl_mirror.specs.Short.{AllButShort, ShortOf}
-use Rattle.nl_mirror.specs.Notes.{Heard, hears}
-use Rattle.nl_mirror.specs.Hearing.{Following, Follows, in_items, IsHeardBy}
-use Rattle.nl_mirror.specs.Five.{Mirrored, Settings, follower_at, is_own, IsShort, IsUpdate, IsOverheard, IsOwnHeard, OthersHear, OneHears, EachHearsBy, HearsEach}
 use Rattle.nl_mirror.proofs.Hearings.{all_same, no_waiting}
 
 -- an object's family is that of its head

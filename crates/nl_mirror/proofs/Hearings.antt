@@ -1,23 +1,9 @@
 -- What is heard, of one message.
-use Rattle.std.proofs.Common.{◌≡◌, ℕ, ◌||◌, Bool, true, false, List, [], ◌∷◌, ◌++◌, map, Option, Some, None, is_some, Result, Ok, Err, inl, inr, refl, sym, ap, subst, true≢false}
-use Rattle.std.specs.Prelude.{OnOk, OnErr, IfErr}
-use Rattle.nl_route.specs.declared.family.Family.{Family}
-use Rattle.nl_frame.specs.Message.{MessageVal}
+use Rattle.nl_mirror.proofs.Common.{◌≡◌, ℕ, ◌||◌, Bool, true, false, List, [], ◌∷◌, ◌++◌, map, Option, Some, None, is_some, Result, Ok, Err, inl, inr, refl, sym, ap, subst, true≢false, OnOk, OnErr, IfErr, Family, MessageVal, Item, Change, Short, Stale, Replicated, Event, brings, ends, tells, overflows, loses, fails, beginning, beginning_with, by_doubt, Moves, MovesAll, change_seen, replica_seen, event_seen, AllButShort, shortage, key_by, mirror_key, Heard, asks, renewal, note_in, doubt_of, by_note, beside, ends_whole, lost_by, ending, within, Follows, in_items, IsHeardBy, IsHeardShort}
 use Rattle.nl_dump.specs.declared.dump.Dump.{Dump}
 use Rattle.nl_dump.specs.declared.dump.End.{End}
-use Rattle.nl_dump.specs.Items.{Item}
-use Rattle.nl_mirror.specs.declared.change.Change.{Change}
-use Rattle.nl_mirror.specs.declared.short.Short.{Short}
 use Rattle.nl_mirror.specs.declared.short.Short.TheVariants as short
-use Rattle.nl_mirror.specs.declared.stale.Stale.{Stale}
 use Rattle.nl_mirror.specs.declared.stale.Stale.TheVariants.{Memory}
-use Rattle.nl_mirror.specs.Replicated.{Replicated}
-use Rattle.nl_mirror.specs.Past.{Event, brings, ends, tells, overflows, loses, fails, beginning, beginning_with, by_doubt, Moves, MovesAll}
-use Rattle.nl_mirror.specs.Seen.{change_seen, replica_seen, event_seen}
-use Rattle.nl_mirror.specs.Short.{AllButShort, shortage}
-use Rattle.nl_mirror.specs.Told.{key_by, mirror_key}
-use Rattle.nl_mirror.specs.Notes.{Heard, asks, renewal, note_in, doubt_of, by_note, beside, ends_whole, lost_by, ending, within}
-use Rattle.nl_mirror.specs.Hearing.{Follows, in_items, IsHeardAs, IsHeardBy, IsHeardShort}
 use Rattle.nl_mirror.proofs.Lifting.{moves_seen}
 
 -- memory isn't room
@@ -79,13 +65,6 @@ module _ {T : Type 0} (item : T → Item) where
         by (Ok x) ok err = (refl, refl, and_doubt m (tells c) d n ok)
         by (Err short.Memory) ok err = (_, (_, _, refl, inr (inl refl), all_same short.Memory (by_doubt d)), (refl, refl, and_doubt m (loses Memory) d n err))
         by (Err short.Waiting) ok err = (_, (_, _, refl, inr refl, all_same short.Waiting (by_doubt d)), (refl, refl, and_doubt m overflows d n err))
-
-    -- no change is told
-    pub silent_beside : {A : Type 0} (r : Result A Short) (v : MessageVal) (d : Option Stale) → None ≡ note_in kind asked v → d ≡ doubt_of kind v
-        → MovesAll (key_by item m.order) m (by_doubt d) n → IsHeardAs before (beside kind before.listening v) after
-    silent_beside r v d e q s =
-        subst (λ (o : Option Stale). IsHeardAs before (record { events = by_note (note_in kind asked v) ++ by_doubt o; after = before.listening }) after) q
-        (subst (λ (o : Option (Change Item)). IsHeardAs before (record { events = by_note o ++ by_doubt d; after = before.listening }) after) e (refl, refl, doubted m d n s))
 
     -- the dump that runs ended
     pub ended : {A : Type 0} (r : Result A Short) (e : End) (now w : Bool) (d : Option Stale) → w ≡ ends_whole now e → d ≡ lost_by e
@@ -151,9 +130,3 @@ module _ {T : Type 0} (item : T → Item) where
               (_, _, refl, inr (inl refl), all_same short.Memory (beginning_with loss)),
               (refl, refl, subst (λ es. MovesAll (mirror_key m.order) (replica_seen item m) (fails ∷ es) (replica_seen item n)) (loss_seen loss) (all_seen m (fails ∷ beginning_with loss) n err.1)),
             )
-
--- what is heard of the end, as a message that says so
-pub within_end : {A : Type 0} (r : Result A Short) (f g : Follows) (now : Bool) (x : End) (e : Option End) (i : Option Item) (marked : Bool) → now ≡ (f.listening.interrupted || marked) → e ≡ Some x
-    → IsHeardBy r f (ending x now f.listening) g → IsHeardBy r f (within e i marked f.listening) g
-within_end r f g now x e i marked p q s =
-    subst (λ (o : Option End). IsHeardBy r f (within o i marked f.listening) g) (sym q) (subst (λ b. IsHeardBy r f (ending x b f.listening) g) p s)

@@ -1,3 +1,4 @@
+mod Common
 mod Lookups
 mod Pasts
 mod OneMore

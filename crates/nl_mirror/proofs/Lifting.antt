@@ -1,20 +1,9 @@
 -- What is told to a replica is told to what its entries stand for.
-use Rattle.std.proofs.Common.{◌≡◌, ◌==◌, ℕ, ◌&&◌, not, Bool, true, false, cond, nat_lt, min, Option, Some, None, position, arith, ◌+◌, ◌-◌, ◌^◌, List, [], ◌∷◌, ◌++◌, map, length, bytes_eq, refl, sym, ap, ◌∙◌}
-use Rattle.std.specs.List.{list_any}
-use Rattle.std.specs.Map.{keys_of, set_value}
-use Rattle.std.specs.List.{swap_remove}
+use Rattle.nl_mirror.proofs.Common.{◌≡◌, ◌==◌, ℕ, ◌&&◌, not, Bool, true, false, cond, nat_lt, min, Option, Some, None, position, arith, ◌+◌, ◌-◌, ◌^◌, List, [], ◌∷◌, ◌++◌, map, length, bytes_eq, refl, sym, ap, ◌∙◌, list_any, keys_of, set_value, swap_remove, map-append, length-map, holds_key, Change, Now, Gone, Held, put, tell, tell_all, Replicated, is_full, settled, Event, begins, brings, ends, tells, overflows, loses, fails, Moves, change_seen, held_seen, replica_seen, event_seen}
 use Rattle.std.specs.Option.{option_map_or}
 use Rattle.indexmap.specs.IndexMap.{swap_remove_entry}
 use Rattle.indexmap.proofs.SetLemmas.{map-swap_remove}
-use Rattle.std.proofs.lemmas.List.{map-append, length-map}
 use Rattle.std.proofs.lemmas.Map.Made.{keys_of-map_values}
-use Rattle.nl_table.specs.Content.{holds_key}
-use Rattle.nl_mirror.specs.declared.change.Change.{Change}
-use Rattle.nl_mirror.specs.declared.change.Change.TheVariants.{Now, Gone}
-use Rattle.nl_mirror.specs.Changes.{Held, put, tell, tell_all}
-use Rattle.nl_mirror.specs.Replicated.{Replicated, is_full, settled}
-use Rattle.nl_mirror.specs.Past.{Event, begins, brings, ends, tells, overflows, loses, fails, Moves}
-use Rattle.nl_mirror.specs.Seen.{change_seen, held_seen, replica_seen, event_seen}
 
 module _ {S T : Type 0} (f : S → T) where
   set_seen : (test : List ℕ → Bool) (es : List (List ℕ × S)) (v : S)

@@ -1,7 +1,6 @@
 -- What a table that changes were told to has under a key.
-use Rattle.std.proofs.Common.{◌≡◌, ℕ, ◌+◌, ◌-◌, ◌^◌, Bool, true, false, cond, min, nat_lt, List, [], ◌∷◌, ◌++◌, map, take, zero, suc, length, bytes_eq, Option, Some, None, IsSome, position, slice_get, get_or, ◌<◌, refl, sym, ap, ◌∙◌, subst, arith}
+use Rattle.nl_mirror.proofs.Common.{◌≡◌, ℕ, ◌+◌, ◌-◌, ◌^◌, Bool, true, false, cond, min, nat_lt, List, [], ◌∷◌, ◌++◌, map, take, zero, suc, length, bytes_eq, Option, Some, None, IsSome, position, slice_get, get_or, ◌<◌, refl, sym, ap, ◌∙◌, subst, arith, keys_of, set_value, lookup, map-append, holds_key, Change, Now, Gone, Held, nothing, put, tell, tell_all}
 use Rattle.std.specs.List.{list_any, IsDistinct}
-use Rattle.std.specs.Map.{keys_of, set_value, lookup}
 use Rattle.std.proofs.lemmas.Option.{slice_get-get_or}
 use Rattle.indexmap.specs.IndexMap.{swap_remove_entry}
 use Rattle.indexmap.proofs.MapLemmas.{Found-position, swap_remove_entry-found, swap_remove_entry-missing}
@@ -9,21 +8,13 @@ use Rattle.indexmap.proofs.RemoveLemmas.{none_out, swap_out}
 use Rattle.std.proofs.lemmas.Grind.{common_steps}
 use Rattle.std.proofs.lemmas.Map.{lookup-set_value, keys-set_value}
 use Rattle.std.proofs.lemmas.Map.Keys.{IsDistinct-push}
-use Rattle.std.proofs.lemmas.List.{map-append}
 use Rattle.std.proofs.lemmas.Cmp.{nat_list_eq_equiv}
 use Rattle.std.proofs.lemmas.Slice.Eq.{bytes_eq-Decides}
-use Rattle.nl_table.specs.Content.{holds_key}
 use Rattle.nl_table.proofs.FirstKeys.{bytes_eq-sym}
 use Rattle.nl_table.proofs.Maps.{held-lookup}
-use Rattle.nl_mirror.specs.declared.change.Change.{Change}
-use Rattle.nl_mirror.specs.declared.change.Change.TheVariants.{Now, Gone}
-use Rattle.nl_mirror.specs.Changes.{Held, nothing, put, tell, tell_all}
 use Rattle.nl_mirror.specs.Converging.{last_told, Converges}
 
 module _ {T : Type 0} where
-  Distinct : List (List ℕ × T) → Type 0
-  Distinct es = IsDistinct bytes_eq (keys_of es)
-
   lookup_pushed : (k q : List ℕ) (v : T) (es : List (List ℕ × T)) → list_any (bytes_eq k) (keys_of es) ≡ false
       → lookup (bytes_eq q) (es ++ (k, v) ∷ []) ≡ cond (bytes_eq q k) (Some v) (lookup (bytes_eq q) es)
   lookup_pushed k q v [] n = refl

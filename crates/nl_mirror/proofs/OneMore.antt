@@ -1,9 +1,5 @@
 -- A table, as one change after another is told.
-use Rattle.std.proofs.Common.{◌≡◌, ℕ, List, [], ◌∷◌, ◌++◌, sym, ap, ◌∙◌}
-use Rattle.nl_attr.specs.declared.order.Order.{Order}
-use Rattle.nl_table.specs.Content.{Content}
-use Rattle.nl_mirror.specs.declared.change.Change.{Change}
-use Rattle.nl_mirror.specs.Changes.{Held, held_of, tell, tell_all, SameLimits}
+use Rattle.nl_mirror.proofs.Common.{◌≡◌, ℕ, List, [], ◌∷◌, ◌++◌, sym, ap, ◌∙◌, Order, Content, Change, Held, held_of, tell, tell_all, SameLimits}
 use Rattle.nl_mirror.proofs.Pasts.{tell_all-append}
 
 -- one more is told

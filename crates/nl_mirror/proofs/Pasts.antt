@@ -1,14 +1,7 @@
 -- A replica stays what its events make it.
-use Rattle.std.proofs.Common.{◌≡◌, ℕ, ◌&&◌, not, Bool, true, false, cond, List, [], ◌∷◌, ◌++◌, Option, Some, None, is_some, ◌==◌, refl, sym, ap, ◌∙◌, subst, true≢false, arith}
+use Rattle.nl_mirror.proofs.Common.{◌≡◌, ℕ, ◌&&◌, not, Bool, true, false, cond, List, [], ◌∷◌, ◌++◌, Option, Some, None, is_some, ◌==◌, refl, sym, ap, ◌∙◌, subst, true≢false, arith, Order, Change, Now, Stale, Held, nothing, put, tell, tell_all, Replicated, new_replica, first_of, stale_of, begun, with_loss, renewed, settled, Event, begins, brings, ends, tells, overflows, loses, fails, Past, with_event, past, Moves, Events, EventsEndInMirror}
 use Rattle.std.proofs.lemmas.Grind.{common_steps}
-use Rattle.nl_attr.specs.declared.order.Order.{Order}
-use Rattle.nl_mirror.specs.declared.change.Change.{Change}
-use Rattle.nl_mirror.specs.declared.change.Change.TheVariants.{Now}
-use Rattle.nl_mirror.specs.declared.stale.Stale.{Stale}
 use Rattle.nl_mirror.specs.declared.stale.Stale.TheVariants.{Full, Waiting}
-use Rattle.nl_mirror.specs.Changes.{Held, nothing, put, tell, tell_all}
-use Rattle.nl_mirror.specs.Replicated.{Replicated, new_replica, first_of, stale_of, begun, with_loss, renewed, settled}
-use Rattle.nl_mirror.specs.Past.{Event, begins, brings, ends, tells, overflows, loses, fails, Past, with_event, past, Moves, Events, EventsEndInMirror}
 
 -- nothing isn't something
 none_is_some : {A : Type 0} {x : A} → None ≡ Some x → ⊥

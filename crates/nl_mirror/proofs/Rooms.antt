@@ -1,18 +1,9 @@
 -- What finds no room isn't taken.
-use Rattle.std.proofs.Common.{◌≡◌, Bool, true, false, cond, List, ◌++◌, Option, Some, None, Ok, Err, refl, sym, ap, ◌∙◌, true≢false}
-use Rattle.nl_frame.specs.Message.{MessageVal}
+use Rattle.nl_mirror.proofs.Common.{◌≡◌, Bool, true, false, cond, List, ◌++◌, Option, Some, None, Ok, Err, refl, sym, ap, ◌∙◌, true≢false, MessageVal, belongs, item_in, end_in, Item, Change, Event, Listening, Heard, note_in, by_note, beside, marks, within, hears, hears_while, FindsNoRoom, effect_of, effect_beside, effect_while, Follows, IsHeardAs, FullIsSaid, follower_at}
 use Rattle.nl_dump.specs.declared.dump.Dump.{Dump}
-use Rattle.nl_dump.specs.Answer.{belongs, item_in, end_in}
-use Rattle.nl_dump.specs.Items.{Item}
-use Rattle.nl_mirror.specs.declared.change.Change.{Change}
 use Rattle.nl_mirror.specs.declared.effect.Effect.{Effect}
 use Rattle.nl_mirror.specs.declared.effect.Effect.TheVariants.{Added, Changed, Removed, Waits, Nothing}
 use Rattle.nl_mirror.specs.declared.short.Short.TheVariants as short
-use Rattle.nl_mirror.specs.Past.{Event}
-use Rattle.nl_mirror.specs.Notes.{Listening, Heard, note_in, by_note, beside, marks, within, hears, hears_while}
-use Rattle.nl_mirror.specs.Effects.{FindsNoRoom, effect_of, effect_beside, effect_while}
-use Rattle.nl_mirror.specs.Hearing.{Follows, IsHeardAs}
-use Rattle.nl_mirror.specs.Five.{FullIsSaid, follower_at}
 
 -- what waits
 abbrev waits : {T : Type 0} → Effect T → Bool

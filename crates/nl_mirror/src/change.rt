@@ -1,10 +1,11 @@
-//! What is told of an entry.
+//! `Change`: what one message says of an entry.
 
-/// What is told of an entry: as it is now, or that it is gone. Which entry it is, its key says.
+/// What one message says of an entry: its new content, or that it was deleted. Its key says which
+/// entry is meant.
 #[derive(Drop)]
 pub enum Change<T: Drop> {
-    /// It is so now: an item of a dump, or an `RTM_NEW` message.
+    /// The entry is this now: an item of a dump, or an `RTM_NEW` message.
     Now(T),
-    /// It is gone: an `RTM_DEL` message.
+    /// The entry was deleted: an `RTM_DEL` message.
     Gone(T),
 }

@@ -1,37 +1,37 @@
-//! What a change makes of a table.
+//! What a message did to the tables: the answers of `Mirror::hear` and `Mirror::feed`.
 
 use nl_route::{Addr, Link, Neigh, Route, Rule};
 
-/// What a change makes of a table. A place is counted as `Table::get` counts it.
+/// What a change did to a table. Each index is one of `Table::get`.
 #[derive(Drop)]
 pub enum Effect<T: Drop> {
-    /// The entry is new, and stands last, at this place.
+    /// A new entry was added, and is the last one, at this index.
     Added(u32),
-    /// The entry at this place was told anew; this is the one that was there before.
+    /// The entry at this index was replaced. This is the old one, which may be equal to the new.
     Changed(u32, T),
-    /// This entry is gone. At this place, which was its own, the last entry stands now.
+    /// This entry was removed. It was at this index, where the last entry stands now.
     Removed(u32, T),
-    /// A dump of the table runs: the change waits for its end.
+    /// A dump of the table is running: the change is kept, and applied when the dump has ended.
     Waits,
-    /// The table is as it was. Nothing was told of an entry; or what is gone was not held; or
-    /// there was no place for what is new.
+    /// The table is as it was. The message said nothing of an entry, or deleted one that the table
+    /// doesn't have, or the table was full.
     Nothing,
 }
 
-/// What a message makes of the tables: of that of its body's kind, or `Other` where the body is
-/// of none.
+/// What a message did to the table of its body's family.
 #[derive(Drop)]
 pub enum Update {
-    /// Of the links.
+    /// To the links.
     Link(Effect<Link>),
-    /// Of the addresses.
+    /// To the addresses.
     Addr(Effect<Addr>),
-    /// Of the routes.
+    /// To the routes.
     Route(Effect<Route>),
-    /// Of the neighbours.
+    /// To the neighbours.
     Neigh(Effect<Neigh>),
-    /// Of the rules.
+    /// To the rules.
     Rule(Effect<Rule>),
-    /// Its body is of no kind: it may have ended a dump, or said that something was lost.
+    /// The body is of no family, as of `NLMSG_DONE` or `NLMSG_OVERRUN`. The message may have
+    /// ended a dump, or made tables stale.
     Other,
 }

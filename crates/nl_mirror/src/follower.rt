@@ -1,4 +1,4 @@
-//! One kind, followed message by message.
+//! `Follower`: the table of one family, and which messages are the answers of its dump.
 
 ghost use Rattle.std.specs.Prelude.{◌≡◌, ◌||◌, is_some, false, true, IfErr, IfOk, None, Some};
 ghost use Rattle.nl_frame.specs.View.{body_view, message_view};
@@ -30,7 +30,8 @@ use nl_table::{Seed, Table};
 use std::alloc::{AllocError, Global};
 use std::marker::Model;
 
-/// Whether a dump ended whole: by DONE with no failure, and without an interruption.
+/// Whether a dump is complete at its end: `NLMSG_DONE` with no error, and no interruption
+/// (`NLM_F_DUMP_INTR`).
 fn ends_whole(interrupted: bool, end: End) -> bool
     ensures { result ≡ is_whole_end interrupted end }
 {
@@ -40,7 +41,8 @@ fn ends_whole(interrupted: bool, end: End) -> bool
     }
 }
 
-/// Why a table is stale after the end of a dump, if it is.
+/// Why the end of a dump makes its table stale, or `None`: `NLMSG_OVERRUN` does, since the kernel
+/// dropped messages.
 fn lost_by(end: End) -> Option<Stale>
     ensures { result ≡ loss_by end }
 {
@@ -50,34 +52,37 @@ fn lost_by(end: End) -> Option<Stale>
     }
 }
 
-/// Why a table is stale as a dump of it begins that asks for this address family, if it is.
+/// Why the begin of a dump makes its table stale, or `None`. It does where the dump asks for
+/// another address family, `now`, than the dump before it.
 fn renewal(before: u8, now: u8) -> Option<Stale>
     ensures { result ≡ loss_of before now }
 {
     (before != now).then_some(Stale::NeverDumped)
 }
 
-/// Whether a message carries the numbers of a dump.
+/// Whether a message is an answer of this dump: it has the dump's sequence number and port id.
 fn belongs(dump: &Dump, message: &Message) -> bool
     ensures { result ≡ has_numbers dump.now (message_view message.now) }
 {
     message.seq == dump.seq && message.port == dump.port
 }
 
-/// Whether the dump is interrupted now.
+/// Whether the dump is interrupted, by an answer before or by this one.
 fn is_interrupted(before: bool, now: bool) -> bool
     ensures { result ≡ (before || now) }
 {
     before || now
 }
 
-/// The replica of a kind's table, and what it knows of the dump that runs.
+/// The replica of one family's table, and the dump that is running.
 #[derive(Drop)]
 pub(crate) struct Follower<T: OfFamily> {
     replica: Replica<T>,
     kind: Family,
     dump: Option<Dump>,
+    // Whether an answer of the running dump had `NLM_F_DUMP_INTR`.
     interrupted: bool,
+    // The address family that the last dump asked for.
     asked: u8,
 }
 
@@ -98,8 +103,8 @@ impl<T: OfFamily> Model for Follower<T> {
 }
 
 impl<T: OfFamily> Follower<T> {
-    /// A follower of this kind, whose table has at most so many entries, with at most so many
-    /// changes that wait for a dump's end. It has heard nothing.
+    /// A follower of this family, with an empty table of at most `limit` entries. At most
+    /// `waiting` changes are kept while a dump runs.
     ///
     /// The error is for memory.
     pub(crate) fn new(
@@ -126,7 +131,7 @@ impl<T: OfFamily> Follower<T> {
         })
     }
 
-    /// Hears a message that belongs to no dump.
+    /// Takes a message that is no answer of the running dump: a notification.
     fn hear_beside(&mut self, message: Message) -> Result<Effect<T>, Short>
         ensures heard { IsHeardBy result (in_items T.item self.old)
             (beside self.old.kind self.old.listening (message_view message))
@@ -149,7 +154,7 @@ impl<T: OfFamily> Follower<T> {
         }
     }
 
-    /// The dump that runs has ended.
+    /// Ends the running dump.
     fn hear_end(&mut self, end: End, interrupted: bool) -> Result<(), Short>
         requires { is_some self.old.listening.dump ≡ true }
         ensures heard { IsHeardBy result (in_items T.item self.old)
@@ -161,7 +166,7 @@ impl<T: OfFamily> Follower<T> {
             .end_in_doubt(ends_whole(interrupted, end), lost_by(end))
     }
 
-    /// Hears a message that carries the numbers of the dump that runs.
+    /// Takes an answer of the running dump: an item, its end, or anything else, which is ignored.
     fn hear_within(&mut self, dump: Dump, message: Message) -> Result<(), Short>
         requires dump { self.old.listening.dump ≡ Some dump }
         requires kind { dump.kind ≡ T.family }
@@ -181,7 +186,8 @@ impl<T: OfFamily> Follower<T> {
         }
     }
 
-    /// Hears a message: an item or the end of the dump that runs, or what is told beside it.
+    /// Takes a message whose body is of this family: an answer of the running dump, or a
+    /// notification. After an error the table is stale.
     pub(crate) fn hear(&mut self, message: Message) -> Result<Update, Short>
         ensures heard { IsHeardBy result (in_items T.item self.old)
             (hears self.old.kind self.old.listening (message_view message))
@@ -205,7 +211,8 @@ impl<T: OfFamily> Follower<T> {
         }
     }
 
-    /// Hears a message whose body isn't of this kind.
+    /// Takes a message whose body is of another family, or of none. It may end the running dump,
+    /// or make the table stale.
     #[tactic(auto, using(crate::proofs::Fives::end_of_no_kind))]
     fn hear_other(&mut self, message: &Message) -> Result<(), Short>
         requires { body_item self.old.kind (body_view message.now.body) ≡ None }
@@ -229,7 +236,8 @@ impl<T: OfFamily> Follower<T> {
         Ok(())
     }
 
-    /// Hears a message, unless its body is of this kind.
+    /// Takes a message as `hear_other` does. It does nothing where the body is of this family,
+    /// since `hear` takes those.
     pub(crate) fn overhear(&mut self, message: &Message) -> Result<(), Short>
         ensures heard { IsOverheard T.family result (in_items T.item self.old)
             (message_view message.now) (in_items T.item self.new) }
@@ -243,15 +251,15 @@ impl<T: OfFamily> Follower<T> {
         self.hear_other(message)
     }
 
-    /// Something is lost, for this reason.
+    /// Makes the table stale, for this reason.
     pub(crate) fn lose(&mut self, why: Stale)
         ensures { IsLost why (in_items T.item self.old) (in_items T.item self.new) }
     {
         self.replica.lose(why);
     }
 
-    /// A dump begins: its request was sent. One that ran is given up. Where it asks for another
-    /// address family than the one before, the table is stale.
+    /// Begins a dump, whose request was sent. A dump that is running is given up. The table
+    /// becomes stale where the new dump asks for another address family than the one before it.
     pub(crate) fn begin(&mut self, dump: Dump) -> Result<(), Short>
         requires { dump.kind ≡ T.family }
         ensures heard { IsHeardBy result (in_items T.item self.old) (asks self.old.listening dump)
@@ -265,14 +273,14 @@ impl<T: OfFamily> Follower<T> {
         self.replica.begin(loss)
     }
 
-    /// The dump that runs.
+    /// The running dump, if any.
     pub(crate) fn dump(&self) -> Option<Dump>
         ensures { result ≡ self.now.listening.dump }
     {
         self.dump
     }
 
-    /// The table. While a dump runs it is as it was when the dump began.
+    /// The table. While a dump is running it is as it was when the dump began.
     pub(crate) fn table(&self) -> &Table<T>
         ensures table { held_of result.now ≡ self.now.replica.table }
         ensures limit { result.now.limit ≡ self.now.replica.limit }
@@ -281,7 +289,7 @@ impl<T: OfFamily> Follower<T> {
         self.replica.table()
     }
 
-    /// Why the table may differ from the kernel's; `None` where it doesn't.
+    /// Why the table may differ from the kernel's. `None` where it is current.
     pub(crate) fn stale(&self) -> Option<Stale>
         ensures { result ≡ stale_of self.now.replica }
     {

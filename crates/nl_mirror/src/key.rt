@@ -1,4 +1,4 @@
-//! The key that a mirror knows an entry by.
+//! The key of an entry in a mirror's table.
 
 ghost use Rattle.std.specs.Prelude.{◌≡◌, IfOk};
 ghost use Rattle.nl_route.specs.declared.family.Family.TheVariants as families;
@@ -12,13 +12,13 @@ use nl_route::{Neigh, NeighHead};
 use nl_table::CompactKey;
 use std::alloc::{AllocError, Global};
 
-/// AF_BRIDGE of linux/socket.h.
+/// `AF_BRIDGE` of linux/socket.h.
 pub(crate) const AF_BRIDGE: u8 = 7;
 
-/// NTF_SELF of linux/neighbour.h.
+/// `NTF_SELF` of linux/neighbour.h.
 const SELF: u8 = 2;
 
-/// The key that a table of a session has for an entry.
+/// The key of an entry in a session's table (`Entry::key_ordered`). The error is for memory.
 pub(crate) fn own_key<T: FromBody>(
     alloc: Global,
     order: Order,
@@ -31,15 +31,19 @@ pub(crate) fn own_key<T: FromBody>(
     Ok(key)
 }
 
-/// Whether this is the head of an entry of a bridge's own forwarding table.
+/// Whether a neighbour with this header is an entry of a bridge's forwarding table: `AF_BRIDGE`
+/// without `NTF_SELF`.
 fn is_forwarding(head: &NeighHead) -> bool
     ensures { result ≡ is_forwarding head.now }
 {
     head.family == AF_BRIDGE && head.flags & SELF == 0
 }
 
-/// The head that a neighbour is known by. Where an address that a bridge learnt moves to another
-/// port, the kernel tells the new port alone: so of a forwarding entry its bridge counts.
+/// The header from which a mirror makes a neighbour's key. It is the neighbour's own, but for a
+/// bridge's forwarding entry, where the bridge's index takes the place of the port's.
+///
+/// The kernel notifies of the new port alone where an address that the bridge has learnt moves.
+/// With the port in the key the old entry would stay.
 pub(crate) fn known_head(neigh: &Neigh, order: Order) -> NeighHead
     ensures { result ≡ known_head order families.Neigh neigh.now.head (attrs_in neigh.now) }
 {

@@ -1,9 +1,21 @@
-//! The tables of the kernel, kept current by its dumps and its notifications.
+//! Tables that follow the kernel's, by its dumps and its notifications (rtnetlink(7)).
 //!
-//! A program asks for a dump once, and then applies the notifications of the multicast groups,
-//! until some of them are lost. `Mirror` keeps a table of each kind between the two, and says of
-//! each whether it is current, or why it can't be trusted. Nothing is sent or received here:
-//! datagrams are handed in.
+//! A program asks for a dump once, and then applies the notifications of the multicast groups.
+//! That works until the kernel drops some of them (`ENOBUFS`). `Mirror` keeps a table of each
+//! family, and says of each whether it is current, or why it may not be. It opens no socket: the
+//! program hands datagrams in.
+//!
+//! The layers, from the outside in:
+//!
+//! - `mirror`: `Mirror`, which hands each message to the five followers.
+//! - `follower`: one family. It tells the answers of its dump from notifications.
+//! - `notes`: what one message says of a family's entries: a `Change`, or a doubt, a reason for
+//!   which the table may have become wrong.
+//! - `replica`: one table. It keeps changes back while a dump runs, and applies them afterwards.
+//! - `telling`: one change, applied to a table.
+//!
+//! `effect` has what a caller is told of each message, `stale` and `short` the reasons for which a
+//! table isn't current, and `key` the key of an entry.
 #![tactic(auto)]
 
 mod change;

@@ -1,4 +1,4 @@
-//! The mirror of all kinds.
+//! `Mirror`: the tables of all five families.
 
 ghost use Rattle.std.specs.Prelude.{◌≡◌, ◌<◌, ◌≤◌, ◌+◌, ◌*◌, ◌↔◌, Err, IfErr, IfOk, OnOk, false};
 ghost use Rattle.std.specs.Prelude.{◌++◌, ◌∷◌, [], OnErr, length, map, vec_capacity, vec_len};
@@ -27,15 +27,16 @@ use nl_table::{Seed, Table};
 use std::alloc::{AllocError, Global};
 use std::marker::Model;
 
-/// A bounded table of each kind, kept as the kernel has it (rtnetlink(7)).
+/// A table of each family, of limited size, that follows the kernel's (rtnetlink(7)).
 ///
-/// It is fed all datagrams of a socket: the answers of dumps and the notifications of the
-/// multicast groups. What is told while a dump runs waits until its end. `stale` says of each table
-/// whether it can be trusted.
+/// Feed it all datagrams of a socket: the answers of dumps, and the notifications of the
+/// multicast groups. Changes that come while a dump is running are kept, and applied at its end.
+/// `stale` says of each table whether it is current.
 #[derive(Drop)]
 pub struct Mirror {
     alloc: Global,
     limits: Limits,
+    // The sequence number of the last dump that was begun.
     last: Option<u32>,
     links: Follower<Link>,
     addrs: Follower<Addr>,
@@ -64,7 +65,7 @@ impl Model for Mirror {
     } };
 }
 
-/// Whether a dump had this sequence number, or a later one.
+/// Whether a dump before had this sequence number, or a greater one.
 fn is_used(last: Option<u32>, number: u32) -> bool
     ensures { result ≡ has_passed last number }
 {
@@ -74,7 +75,7 @@ fn is_used(last: Option<u32>, number: u32) -> bool
     }
 }
 
-/// The first of two shortages, if there is one; else what the second answers.
+/// The error of `first`, where it is one; else `second`.
 fn both<T: Drop>(first: Result<(), Short>, second: Result<T, Short>) -> Result<T, Short>
     ensures first { IfErr first (λ e. result ≡ Err e) }
     ensures second { OnOk first (result ≡ second) }
@@ -85,7 +86,7 @@ fn both<T: Drop>(first: Result<(), Short>, second: Result<T, Short>) -> Result<T
     }
 }
 
-/// Appends an answer, for which there is room.
+/// Appends an answer to a vector that has room for it.
 fn append(answers: &mut Vec<Result<Update, Short>>, answer: Result<Update, Short>)
     requires { vec_len answers.old < vec_capacity answers.old }
     ensures items { answers.new.items ≡ answers.old.items ++ answer ∷ [] }
@@ -99,8 +100,9 @@ fn append(answers: &mut Vec<Result<Update, Short>>, answer: Result<Update, Short
 }
 
 impl Mirror {
-    /// A mirror of these limits, where at most `waiting` changes of a kind wait for a dump's end.
-    /// Its tables hash under this seed. All are empty, and were never dumped.
+    /// A mirror with these limits and empty tables, which are stale until their first dump. At
+    /// most `waiting` changes of each family are kept while a dump runs. `seed` is that of the
+    /// tables.
     ///
     /// The error is for memory.
     pub fn new(
@@ -125,13 +127,14 @@ impl Mirror {
         })
     }
 
-    /// A dump begins: its request was sent. Its answers are fed as all else. One of the same kind
-    /// that runs is given up. Where it asks for another address family than the one before, the
-    /// table is stale until it has ended whole.
+    /// Begins a dump. Call this when its request is sent, and then feed its answers as all other
+    /// datagrams. A running dump of the same family is given up. Where the new one asks for
+    /// another address family, the table is stale until it is complete.
     ///
-    /// Its sequence number must be above those of all dumps before, so that none is ended by the
-    /// answers of another: else it is refused, and nothing has changed. The other error is for
-    /// memory, with which what waited for the other's end is lost; the dump begins all the same.
+    /// The sequence number must be greater than those of all dumps before, so that the answers of
+    /// one don't end another. Else the error is `BeginError::Number`, and nothing has changed.
+    /// The other error, `Short`, is for memory: the dump began, but changes that were kept are
+    /// lost.
     pub fn begin(&mut self, dump: Dump) -> Result<(), BeginError>
         ensures { Began dump result self.old self.new }
     {
@@ -145,7 +148,7 @@ impl Mirror {
         }
     }
 
-    /// A dump begins in the table of its kind.
+    /// Begins a dump in the follower of its family.
     fn begin_in(&mut self, dump: Dump) -> Result<(), Short>
         ensures begins { BeginsIn dump result self.old self.new }
         ensures memory { IfErr result (λ e. e ≡ short.Memory) }
@@ -159,25 +162,24 @@ impl Mirror {
         }
     }
 
-    /// Something was lost: the kernel dropped messages for this socket, as ENOBUFS says. All
-    /// tables are stale.
+    /// Says that the kernel dropped messages for this socket: `recv` failed with `ENOBUFS`. All
+    /// tables become stale.
     pub fn lost(&mut self)
         ensures { EachLoses stale.Lost self.old self.new }
     {
         self.lose(Stale::Lost);
     }
 
-    /// A datagram was refused with this error, and nothing of it is heard. All tables are stale.
+    /// Says that `read_datagram` rejected a datagram with this error. All tables become stale.
     ///
-    /// It is for who reads datagrams by `read_datagram` and hands their messages in; `feed` does
-    /// it itself.
+    /// It is for callers that read datagrams themselves and call `hear`. `feed` does it itself.
     pub fn refused(&mut self, error: ReadError)
         ensures { EachLoses (reason_of error) self.old self.new }
     {
         self.lose(refusal(error));
     }
 
-    /// Something of all tables is lost, for this reason.
+    /// Makes all tables stale, for this reason.
     fn lose(&mut self, why: Stale)
         ensures { EachLoses why self.old self.new }
     {
@@ -188,7 +190,7 @@ impl Mirror {
         self.rules.lose(why);
     }
 
-    /// Each follower but that of the message's own kind hears it.
+    /// Hands a message to each follower but that of its own family.
     fn overhear(&mut self, message: &Message) -> Result<(), Short>
         ensures heard { OthersHear result self.old (message_view message.now) self.new }
         ensures memory { IfErr result (λ e. e ≡ short.Memory) }
@@ -203,7 +205,7 @@ impl Mirror {
         both(links, both(addrs, both(routes, both(neighs, rules))))
     }
 
-    /// The follower of the message's own kind hears it, if there is one.
+    /// Hands a message to the follower of its own family, if it has one.
     fn hear_own(&mut self, message: Message) -> Result<Update, Short>
         ensures heard { OneHears result self.old (message_view message) self.new }
         ensures update { IfOk result (IsUpdate self.old (message_view message)) }
@@ -219,12 +221,12 @@ impl Mirror {
         }
     }
 
-    /// Takes the next message of a datagram that `read_datagram` gave: each table takes what it
-    /// tells of it, and what it is to the dump of it that runs. The answer is what it makes of the
-    /// table of its kind: its place is right until the next message is taken.
+    /// Applies one message, as `read_datagram` read it: a notification, or an answer of a running
+    /// dump. Messages must come in the order of the datagram. The answer is what it did to the
+    /// table of its family. The index in it holds until the next message.
     ///
-    /// Where there is too little memory for what it tells, or too little room for what waits, the
-    /// answer says so, and the table that something is missing of is stale.
+    /// The error is for too little memory, or too little room for changes that wait. The table
+    /// that the change is missing from is then stale.
     pub fn hear(&mut self, message: Message) -> Result<Update, Short>
         ensures heard { EachHearsBy result self.old (message_view message) self.new }
         ensures update { IfOk result (IsUpdate self.old (message_view message)) }
@@ -233,8 +235,8 @@ impl Mirror {
         both(others, self.hear_own(message))
     }
 
-    /// Each follower hears messages, one after another. Where there is no memory for the answers
-    /// none is heard.
+    /// Applies messages in order, as `hear` does, and answers an update or an error for each. The
+    /// error is for memory for the answers, and no message has been applied then.
     fn hear_each(
         &mut self,
         messages: Vec<Message>,
@@ -251,14 +253,14 @@ impl Mirror {
         Ok(answers)
     }
 
-    /// Takes a datagram: each table takes what its messages tell of it, and what they are to the
-    /// dump of it that runs. Of each message it answers what that makes of the table of its kind.
-    /// Beside the answer is how many attribute bytes were visited.
+    /// Reads a datagram, and applies its messages in order. For each message it answers what that
+    /// did to the table of its family, and beside all of them how many bytes were visited.
     ///
-    /// It is refused as `read_datagram` refuses it, or where there is no memory for the answers:
-    /// all tables are stale then, and nothing else has changed. Where there is too little memory
-    /// for what a message tells, or too little room for what waits, its answer says so, the table
-    /// that something is missing of is stale, and the other messages were heard.
+    /// The error is that of `read_datagram`, or `Memory` where there is none for the answers. All
+    /// tables are stale then, and no message has been applied.
+    ///
+    /// The answer for one message may be an error too, as for `hear`. The other messages have been
+    /// applied then.
     pub fn feed(&mut self, bytes: &[u8]) -> Tally<Vec<Result<Update, Short>>, ReadError>
         ensures fed { Fed self.old bytes.now result.result self.new }
         ensures large { result.result ≡ Err unread.TooLarge
@@ -292,8 +294,7 @@ impl Mirror {
         }
     }
 
-    /// The links. While a dump of them runs they are as they were when it began; so are the other
-    /// tables.
+    /// The links. While a dump of a family is running, its table is as it was when the dump began.
     pub fn links(&self) -> &Table<Link>
         ensures table { held_of result.now ≡ self.now.links.replica.table }
         ensures limit { result.now.limit ≡ self.now.links.replica.limit }
@@ -338,7 +339,7 @@ impl Mirror {
         self.rules.table()
     }
 
-    /// Why the table of a kind may differ from the kernel's; `None` where it is current.
+    /// Why the table of a family may differ from the kernel's. `None` where it is current.
     pub fn stale(&self, kind: Family) -> Option<Stale>
         ensures { result ≡ stale_of (follower_at kind self.now).replica }
     {
@@ -351,7 +352,7 @@ impl Mirror {
         }
     }
 
-    /// The dump of this kind that runs.
+    /// The running dump of this family, if any.
     pub fn dump(&self, kind: Family) -> Option<Dump>
         ensures { result ≡ (follower_at kind self.now).listening.dump }
     {
@@ -365,7 +366,7 @@ impl Mirror {
     }
 }
 
-/// The reason that tables have after a refusal.
+/// The reason for which tables are stale after an error of `read_datagram`.
 fn refusal(error: ReadError) -> Stale
     ensures { result ≡ reason_of error }
 {

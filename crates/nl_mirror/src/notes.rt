@@ -1,4 +1,5 @@
-//! What a message tells of a family's entries.
+//! What one message says of a family's table: a change of an entry, or a doubt, which is a reason
+//! for which the table may have become wrong.
 
 ghost use Rattle.std.specs.Prelude.{◌≡◌, ◌==◌, ◌&&◌, ◌||◌, not, bit_and, option_map, Some};
 ghost use Rattle.nl_route.specs.declared.family.Family.TheVariants as families;
@@ -21,33 +22,33 @@ use nl_route::{Addr, Family, Link, Neigh, Route, Rule, Verb};
 use nl_table::CompactKey;
 use std::alloc::{AllocError, Global};
 
-/// `NLM_F_MULTI`: a part of a dump's answer.
+/// `NLM_F_MULTI` of netlink(7), which the answers of dumps have.
 const MULTI: u16 = 2;
 
-/// RTM_F_CLONED of linux/rtnetlink.h.
+/// `RTM_F_CLONED` of linux/rtnetlink.h.
 const CLONED: u32 = 0x200;
 
-/// An entry whose head has a family byte.
+/// What the mirror needs of an entry of each family.
 pub trait OfFamily: FromBody {
     ghost use Rattle.std.specs.Prelude.{◌≡◌, IfOk, Some};
     ghost use Rattle.nl_mirror.specs.Effects.{effect_seen, update_effect};
     ghost use Rattle.nl_mirror.specs.Notes.{item_cloned, item_family};
     ghost use Rattle.nl_mirror.specs.Told.{mirror_key};
 
-    /// The family byte.
+    /// The address family in its header, as `ifa_family` or `rtm_family`.
     fn family_byte(&self) -> u8
         ensures { result ≡ item_family (Self.item self.now) };
 
-    /// Whether it is a route that answers a look-up (RTM_F_CLONED), and so is in no table.
+    /// Whether it is a route that answers a look-up (`RTM_F_CLONED`), and so is in no table.
     fn is_cloned(&self) -> bool
         ensures { result ≡ item_cloned (Self.item self.now) };
 
-    /// What is made of the table of this kind.
+    /// The update with this effect, of the entry's family.
     fn update(effect: Effect<Self>) -> Update
         ensures { update_effect result ≡ Some (Self.family, effect_seen Self.item effect) };
 
-    /// Its key in a mirror, where the numbers in its attributes are in this byte order. A
-    /// forwarding entry has the index of its bridge in its head meanwhile.
+    /// Its key in a mirror. `order` is the byte order of the numbers in its attributes. The call
+    /// changes the header of a bridge's forwarding entry for a moment, and then restores it.
     ///
     /// The error is for memory.
     fn mirror_key(&mut self, alloc: Global, order: Order) -> Result<CompactKey, AllocError>
@@ -164,21 +165,24 @@ impl OfFamily for Rule {
     }
 }
 
-/// Whether a dump that asks for this address family covers a head of that one.
+/// Whether a dump that asks for the address family `asked` includes entries of the family `has`.
+///
+/// It includes those of the same family. Where it asks for 0, `AF_UNSPEC`, it includes all others
+/// too, but for `AF_BRIDGE`. For links 0 includes no others.
 pub(crate) fn covers(kind: Family, asked: u8, has: u8) -> bool
     ensures { result ≡ is_covered kind asked has }
 {
     asked == has || asked == 0 && !matches!(kind, Family::Link) && has != AF_BRIDGE
 }
 
-/// Whether a message is a part of a dump's answer.
+/// Whether a message is an answer of some dump (`NLM_F_MULTI`), and so is no notification.
 pub(crate) fn is_part(flags: u16) -> bool
     ensures { result ≡ has_part flags }
 {
     flags & MULTI != 0
 }
 
-/// The entry that a body is, where a dump that asks for this address family covers it.
+/// The entry that a body holds, where a dump that asks for the address family `asked` includes it.
 fn covered<T: OfFamily>(kind: Family, asked: u8, body: Body) -> Option<T>
     requires { kind ≡ T.family }
     ensures { option_map T.item result ≡ if_covered kind asked (body_item kind (body_view body)) }
@@ -191,8 +195,8 @@ fn covered<T: OfFamily>(kind: Family, asked: u8, body: Body) -> Option<T>
     }
 }
 
-/// What a message tells of the entries of a family, of whose dump the last asked for this address
-/// family.
+/// The change that a notification makes to the table of family `kind`, or `None`. `asked` is the
+/// address family that the last dump asked for: entries of others are left out.
 pub(crate) fn note_of<T: OfFamily>(kind: Family, asked: u8, message: Message) -> Option<Change<T>>
     requires { kind ≡ T.family }
     ensures { option_map (change_seen T.item) result ≡ note_in kind asked (message_view message) }
@@ -209,18 +213,22 @@ pub(crate) fn note_of<T: OfFamily>(kind: Family, asked: u8, message: Message) ->
     None
 }
 
-/// IFF_UP of linux/if.h.
+/// `IFF_UP` of linux/if.h.
 const UP: u32 = 1;
 
-/// `NLM_F_REPLACE` and `NLM_F_APPEND`.
+/// `NLM_F_REPLACE` and `NLM_F_APPEND` of netlink(7).
 const REPLACE_OR_APPEND: u16 = 0x900;
 
-/// AF_INET and AF_INET6 of linux/socket.h.
+/// `AF_INET` of linux/socket.h.
 const AF_INET: u8 = 2;
 
+/// `AF_INET6` of linux/socket.h.
 const AF_INET6: u8 = 10;
 
-/// What a message leaves open of routes.
+/// Why a notification makes the table of routes stale, or `None`.
+///
+/// - `Silent`: a link went down or was deleted, or an IPv4 address was deleted.
+/// - `Unnamed`: a route was replaced or appended, or an IPv6 route was deleted.
 fn leaves_open(message: &Message) -> Option<Stale>
     ensures { result ≡ body_open (message_view message.now) (body_view message.now.body) }
 {
@@ -242,7 +250,8 @@ fn leaves_open(message: &Message) -> Option<Stale>
     }
 }
 
-/// Why the table of a family is stale after a message, if it is.
+/// Why a message makes the table of family `kind` stale, or `None`. `NLMSG_OVERRUN` does so for
+/// each family, and some notifications do so for routes.
 pub(crate) fn doubt_of(kind: Family, message: &Message) -> Option<Stale>
     ensures { result ≡ doubt_in kind (message_view message.now) }
 {

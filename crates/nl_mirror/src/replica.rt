@@ -1,4 +1,4 @@
-//! A replica of one table of the kernel.
+//! `Replica`: one table, and what is kept while a dump of it runs.
 
 ghost use Rattle.std.specs.Prelude.{◌≡◌, true, false, ◌∷◌, IfOk, OnOk, IfErr, OnErr};
 ghost use Rattle.nl_mirror.specs.Changes.{held_of, nothing};
@@ -23,22 +23,31 @@ use nl_table::{Seed, Table};
 use std::alloc::{AllocError, Global};
 use std::marker::Model;
 
-/// A table that follows the kernel's: a dump, and all that is told since it began.
+/// A table that follows the kernel's: the items of a dump, with all changes since it began.
 ///
-/// What is told while a dump runs waits, and is told to the dump's table when the dump has ended:
-/// so it doesn't matter where among the dump's answers it came. Until then the table is as it was
-/// when the dump began. Where something is lost, the table is stale until the next dump that is
-/// whole and during which nothing is lost.
+/// Changes that come while a dump is running are kept. When the dump has ended, they are applied
+/// to the table that it filled. So it doesn't matter where among the dump's answers they came.
+/// Until then the table is as it was when the dump began.
+///
+/// Where something is lost the table is stale, until the next dump that is complete and during
+/// which nothing is lost.
 #[derive(Drop)]
 pub(crate) struct Replica<T: OfFamily> {
     alloc: Global,
     seed: Seed,
+    // What a caller sees.
     table: Table<T>,
+    // What the running dump fills.
     coming: Table<T>,
+    // The changes that are kept since the running dump began.
     since: Vec<Change<T>>,
+    // The most of them.
     waiting: u32,
+    // Whether a dump is running.
     dumps: bool,
+    // Whether something was lost since the last dump began.
     lost: bool,
+    // Why `table` is stale, the first reason; none where it is current.
     why: Option<Stale>,
 }
 
@@ -65,7 +74,7 @@ impl<T: OfFamily> Model for Replica<T> {
         × (length m.since.items ≤ m.waiting) };
 }
 
-/// The first reason stays.
+/// The reason for which a table is stale after a further one: the first stays.
 fn first_of(first: Option<Stale>, later: Stale) -> Stale
     ensures { result ≡ first_of first later }
 {
@@ -73,8 +82,8 @@ fn first_of(first: Option<Stale>, later: Stale) -> Stale
 }
 
 impl<T: OfFamily> Replica<T> {
-    /// A replica of at most so many entries, and at most so many changes that wait for a dump's
-    /// end, whose numbers are in this byte order. It holds nothing, and was never dumped.
+    /// An empty replica of at most `limit` entries in this byte order. At most `waiting` changes
+    /// are kept while a dump runs. It is stale until its first dump.
     ///
     /// The error is for memory.
     pub(crate) fn new(
@@ -99,10 +108,10 @@ impl<T: OfFamily> Replica<T> {
         })
     }
 
-    /// A dump begins: its request was sent. One that runs is given up, and where `loss` says so
-    /// something of the table is lost.
+    /// Begins a dump, whose request was sent. A running one is given up. The table becomes stale
+    /// for the reason `loss`, if any.
     ///
-    /// The error is for memory: what waited for the other's end is lost.
+    /// The error is for memory: changes that were kept are lost, and the dump has begun.
     pub(crate) fn begin(&mut self, loss: Option<Stale>) -> Result<(), Short>
         ensures ok { OnOk result (MovesAll (key_by T.item self.old.order) self.old
             (beginning self.old.dumps loss) self.new) }
@@ -122,7 +131,7 @@ impl<T: OfFamily> Replica<T> {
         given_up
     }
 
-    /// Something is lost: the table is stale, for this reason if it wasn't.
+    /// Makes the table stale. The reason is `why`, unless it is stale already.
     pub(crate) fn lose(&mut self, why: Stale)
         ensures { Moves (key_by T.item self.old.order) self.old (loses why) self.new }
     {
@@ -130,7 +139,8 @@ impl<T: OfFamily> Replica<T> {
         self.why = Some(first_of(self.why, why));
     }
 
-    /// An item of the dump that runs. Where there is no memory it is lost.
+    /// Adds an item of the running dump. The error is for memory: the item is lost, and the table
+    /// stale.
     pub(crate) fn item(&mut self, entry: T) -> Result<(), Short>
         requires { self.old.dumps ≡ true }
         ensures ok { OnOk result (Moves (key_by T.item self.old.order) self.old (brings entry)
@@ -148,8 +158,8 @@ impl<T: OfFamily> Replica<T> {
         }
     }
 
-    /// Keeps a change until the dump that runs has ended. It is refused exactly where as many wait
-    /// as may, or where there is no memory.
+    /// Keeps a change until the running dump has ended. The error is `Waiting` where the limit is
+    /// reached, or `Memory`, and the replica is as it was.
     fn keep(&mut self, change: Change<T>) -> Result<Effect<T>, Short>
         requires { self.old.dumps ≡ true }
         ensures ok { OnOk result (Moves (key_by T.item self.old.order) self.old (tells change)
@@ -166,8 +176,8 @@ impl<T: OfFamily> Replica<T> {
         Ok(Effect::Waits)
     }
 
-    /// A notification. It is told to the table, or waits while a dump runs. Where there is no
-    /// memory, or as many wait as may, it is lost.
+    /// Applies the change of a notification to the table, or keeps it while a dump is running.
+    /// After an error the change is lost, and the table stale.
     pub(crate) fn change(&mut self, change: Change<T>) -> Result<Effect<T>, Short>
         ensures ok { OnOk result (Moves (key_by T.item self.old.order) self.old (tells change)
             self.new) }
@@ -191,7 +201,7 @@ impl<T: OfFamily> Replica<T> {
         }
     }
 
-    /// Something is lost where a message leaves something open.
+    /// Makes the table stale for this reason, if any.
     pub(crate) fn doubt(&mut self, doubt: Option<Stale>)
         ensures doubt { MovesAll (key_by T.item self.old.order) self.old (by_doubt doubt) self.new }
         ensures dumps { self.new.dumps ≡ self.old.dumps }
@@ -201,7 +211,8 @@ impl<T: OfFamily> Replica<T> {
         }
     }
 
-    /// A notification, as `change`, and with it something is lost where it leaves something open.
+    /// Takes a change as `change` does, and then makes the table stale for the reason `doubt`, if
+    /// any.
     pub(crate) fn change_in_doubt(
         &mut self,
         change: Change<T>,
@@ -221,12 +232,12 @@ impl<T: OfFamily> Replica<T> {
         told
     }
 
-    /// Lets what a dump's own table holds go, and the room for it too: no second table is held
-    /// until the next dump.
+    /// Drops what a dump has filled, and its memory too: between dumps there is only one table.
     fn empty_coming(&mut self)
         ensures { self.new ≡ record self.old { coming = nothing } }
     {
-        // An empty table takes no memory, so none is refused. Were it, the room would stay.
+        // An empty table takes no memory, so this doesn't fail. If it did, the memory would be
+        // kept.
         match Table::with_seed(
             self.alloc,
             self.table.limit(),
@@ -238,9 +249,11 @@ impl<T: OfFamily> Replica<T> {
         }
     }
 
-    /// The dump that runs has ended. Where it was whole and nothing was lost since it began, its
-    /// table takes the place of the other; then what waits is told. Where there is no memory for
-    /// that, the table is stale.
+    /// Ends the running dump. Where it is complete (`whole`) and nothing was lost since it began,
+    /// what it filled replaces the table. In any case the changes that were kept are applied
+    /// then.
+    ///
+    /// The error is for memory: some of these changes are lost, and the table is stale.
     pub(crate) fn end(&mut self, whole: bool) -> Result<(), Short>
         requires { self.old.dumps ≡ true }
         ensures ok { OnOk result (Moves (key_by T.item self.old.order) self.old (ends whole)
@@ -265,8 +278,8 @@ impl<T: OfFamily> Replica<T> {
         }
     }
 
-    /// The dump that runs has ended, as `end`, and with it something is lost where its end says
-    /// so.
+    /// Ends the running dump as `end` does, and then makes the table stale for the reason
+    /// `doubt`, if any.
     pub(crate) fn end_in_doubt(&mut self, whole: bool, doubt: Option<Stale>) -> Result<(), Short>
         requires { self.old.dumps ≡ true }
         ensures ok { OnOk result (MovesAll (key_by T.item self.old.order) self.old
@@ -281,7 +294,7 @@ impl<T: OfFamily> Replica<T> {
         ended
     }
 
-    /// The table. While a dump runs it is as it was when the dump began.
+    /// The table. While a dump is running it is as it was when the dump began.
     pub(crate) fn table(&self) -> &Table<T>
         ensures table { held_of result.now ≡ self.now.table }
         ensures limit { result.now.limit ≡ self.now.limit }
@@ -290,7 +303,7 @@ impl<T: OfFamily> Replica<T> {
         &self.table
     }
 
-    /// Why the table may differ from the kernel's; `None` where it doesn't.
+    /// Why the table may differ from the kernel's. `None` where it is current.
     pub(crate) fn stale(&self) -> Option<Stale>
         ensures { result ≡ stale_of self.now }
     {

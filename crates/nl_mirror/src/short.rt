@@ -1,4 +1,4 @@
-//! What can be short.
+//! `Short`: the error of a mirror's calls, for too little memory or room.
 
 ghost use Rattle.std.specs.Prelude.{◌≡◌};
 ghost use Rattle.nl_mirror.specs.Short.{reason};
@@ -7,20 +7,20 @@ use crate::stale::Stale;
 use std::alloc::{AllocError, AllocFailed};
 use thiserror::Error;
 
-/// What there was too little of for all that was heard. The rest was heard, and the table is
-/// stale.
+/// What there was too little of to apply a message. The table is stale then. All else that the
+/// message says has been applied.
 #[derive(Clone, Copy, Debug, PartialEq, Eq, Error)]
 pub enum Short {
     /// Memory.
     #[error("out of memory")]
     Memory,
-    /// Room for changes that wait until the end of a dump.
+    /// Room for changes that wait for the end of a dump: the limit `waiting` of `Mirror::new`.
     #[error("too many changes wait")]
     Waiting,
 }
 
 impl Short {
-    /// The reason that the table has then.
+    /// The reason for which the table is stale then.
     pub(crate) fn reason(self) -> Stale
         ensures { result ≡ reason self }
     {

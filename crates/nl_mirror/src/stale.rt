@@ -1,27 +1,28 @@
-//! Why a table can't be trusted.
+//! `Stale`: the reasons for which a table may differ from the kernel's.
 
 ghost use Rattle.std.specs.Prelude.{◌≡◌};
 ghost use Rattle.nl_mirror.specs.Names.{stale_name};
 
-/// Why a table may differ from the kernel's, until its next whole dump.
+/// Why a table may differ from the kernel's. It stays so until its next complete dump.
 #[derive(Clone, Copy, Debug, PartialEq, Eq)]
 pub enum Stale {
-    /// No dump of it was whole yet.
+    /// No dump of it has been complete yet.
     NeverDumped,
-    /// The kernel dropped messages: ENOBUFS, or NLMSG_OVERRUN.
+    /// The kernel dropped messages: `ENOBUFS` of the socket, or `NLMSG_OVERRUN`.
     Lost,
-    /// A datagram was refused.
+    /// A datagram was rejected as malformed, or was too large.
     Refused,
-    /// There was no memory for what was heard.
+    /// There was too little memory to apply a message.
     Memory,
-    /// More changes came while a dump ran than may wait for its end.
+    /// More changes came while a dump was running than may wait for its end.
     Waiting,
-    /// The kernel takes routes of IPv4 away without a notification: with a link that goes down, and
-    /// with an address of IPv4.
+    /// Of routes: a link went down or was deleted, or an IPv4 address was deleted. The kernel then
+    /// deletes IPv4 routes without a notification.
     Silent,
-    /// A route was replaced, joined or taken from others, and the message doesn't say which.
+    /// Of routes: one was replaced or appended, or an IPv6 route was deleted. The message doesn't
+    /// say which routes of the table that concerns.
     Unnamed,
-    /// The table had no place for an entry.
+    /// The table was full, and missed an entry.
     Full,
 }
 

@@ -1,4 +1,4 @@
-//! Changes, told to a table.
+//! Applying changes to a table.
 
 ghost use Rattle.std.specs.Prelude.{◌≡◌, IfErr, IfOk, OnOk, OnErr};
 ghost use Rattle.nl_mirror.specs.Changes.{held_of, put, tell, tell_all, SameLimits};
@@ -14,7 +14,7 @@ use crate::short::Short;
 use nl_table::{Exchanged, Table};
 use std::alloc::{AllocError, Global};
 
-/// What an exchange makes of a table.
+/// The effect of a `Table::exchange`.
 fn effect_of_exchange<T: Drop>(exchanged: Exchanged<T>) -> Effect<T>
     ensures { result ≡ exchanged_effect exchanged }
 {
@@ -25,7 +25,7 @@ fn effect_of_exchange<T: Drop>(exchanged: Exchanged<T>) -> Effect<T>
     }
 }
 
-/// What a removal makes of a table.
+/// The effect of a `Table::remove`.
 fn effect_of_removal<T: Drop>(removed: Option<(u32, T)>) -> Effect<T>
     ensures { result ≡ removed_effect removed }
 {
@@ -35,8 +35,7 @@ fn effect_of_removal<T: Drop>(removed: Option<(u32, T)>) -> Effect<T>
     }
 }
 
-/// Puts an entry under its key. It is refused only where there is no memory, and leaves the table
-/// then as it was.
+/// Puts an entry under its key. The error is for memory, and the table then holds what it held.
 pub(crate) fn put_now<T: OfFamily>(
     alloc: Global,
     table: &mut Table<T>,
@@ -54,8 +53,7 @@ pub(crate) fn put_now<T: OfFamily>(
     Ok(effect_of_exchange(exchanged))
 }
 
-/// Tells a change. It is refused only where there is no memory, and leaves the table then as it
-/// was.
+/// Applies a change. The error is for memory, and the table then holds what it held.
 pub(crate) fn tell<T: OfFamily>(
     alloc: Global,
     table: &mut Table<T>,
@@ -79,7 +77,7 @@ pub(crate) fn tell<T: OfFamily>(
     }
 }
 
-/// Tells a change as `tell`, and lets the entry before it go.
+/// Applies a change as `tell` does, and drops the effect with its old entry.
 fn tell_silently<T: OfFamily>(
     alloc: Global,
     table: &mut Table<T>,
@@ -95,7 +93,7 @@ fn tell_silently<T: OfFamily>(
     }
 }
 
-/// Tells changes, one after another, up to the first that is refused.
+/// Applies changes in order. It stops at the first error, with the changes before it applied.
 pub(crate) fn tell_all<T: OfFamily>(
     alloc: Global,
     table: &mut Table<T>,

@@ -1,22 +1,15 @@
 -- The parts of each request may stand where they are put.
-use Rattle.std.proofs.Common.{◌≡◌, ℕ, ◌<◌, nat_lt, if◌then◌else◌, Bool, true, false, List, [], ◌∷◌, ◌++◌, length, map, Option, Some, None, Ok, refl, sym, ap, subst, ◌∙◌, inl, inr, Bor, lit<}
+use Rattle.nl_request.proofs.Common.{◌≡◌, ℕ, ◌<◌, nat_lt, if◌then◌else◌, Bool, true, false, List, [], ◌∷◌, ◌++◌, length, map, Option, Some, None, Ok, refl, sym, ap, subst, ◌∙◌, inl, inr, Bor, lit<, NUMBERS, RTA_METRICS, Order, bytes, holds_of, IsMismatchedVal, IsMismatchedHops, IsRangedHops, Built, held, no_flags, top, put, open_attr, close, called, run, calls_of_items, before, not_refused, Part, bytes_part, text_part, number_part, items_of, calls_of_part, IFLA_INFO_DATA, info_part, link_parts, metric_part, metrics_part, hops_of, hops_part, route_parts}
 use Rattle.std.specs.List.{AllByRecursion}
-use Rattle.nl_attr.specs.Fixed.{NUMBERS, RTA_METRICS}
-use Rattle.nl_attr.specs.declared.order.Order.{Order}
 use Rattle.nl_attr.specs.declared.tree.AttrFlags.{AttrFlags}
 use Rattle.nl_attr.specs.declared.tree.Ctx.{Ctx}
 use Rattle.nl_attr.specs.declared.tree.Ctx.TheVariants as ctx
 use Rattle.nl_attr.specs.declared.tree.Content.{Content}
 use Rattle.nl_attr.specs.declared.tree.Content.TheVariants as content
 use Rattle.nl_attr.specs.Numbers.{num}
-use Rattle.nl_attr.specs.Tree.{bytes, holds_of}
-use Rattle.nl_attr.specs.Proper.{IsMismatchedVal, IsMismatchedHops, IsRangedHops}
 use Rattle.nl_frame.specs.declared.building.OpenHead.{OpenHead}
-use Rattle.nl_frame.specs.Building.{Built, held, no_flags, top}
 use Rattle.nl_frame.specs.Building as building
-use Rattle.nl_frame.specs.Calls.{put, open_attr, close, called, run, calls_of_items}
 use Rattle.nl_frame.proofs.Puts.{neither, is_held, has_bytes}
-use Rattle.nl_frame.proofs.Running.{before, not_refused}
 use Rattle.nl_route.specs.Link.{IFLA_INFO_KIND}
 use Rattle.nl_request.specs.declared.prefix.Prefix.{Prefix}
 use Rattle.nl_request.specs.declared.link.LinkRequest.{LinkRequest}
@@ -28,13 +21,10 @@ use Rattle.nl_request.specs.declared.route.Metric.{Metric}
 use Rattle.nl_request.specs.declared.route.NextHop.{NextHop}
 use Rattle.nl_request.specs.declared.neigh.NeighRequest.{NeighRequest}
 use Rattle.nl_request.specs.declared.rule.RuleRequest.{RuleRequest}
-use Rattle.nl_request.specs.Parts.{Part, bytes_part, text_part, number_part, items_of, calls_of_part}
 use Rattle.nl_request.specs.Prefixes.{prefix_part}
 use Rattle.nl_request.specs.Tables.{table_part}
 use Rattle.nl_request.specs.Gateways.{gateway_bytes, gateway_part}
-use Rattle.nl_request.specs.Link.{IFLA_INFO_DATA, info_part, link_parts}
 use Rattle.nl_request.specs.Addr.{own_part, lifetimes_part, addr_parts}
-use Rattle.nl_request.specs.Route.{metric_part, metrics_part, hops_of, hops_part, route_parts}
 use Rattle.nl_request.specs.Neigh.{neigh_parts}
 use Rattle.nl_request.specs.Rule.{rule_parts}
 use Rattle.nl_request.proofs.Puts.{IsPart, AreParts, matched, ranged}

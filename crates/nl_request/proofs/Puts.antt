@@ -1,15 +1,11 @@
 -- A request that is put: what was put holds its message.
-use Rattle.std.proofs.Common.{◌≡◌, ℕ, ◌<◌, List, [], ◌∷◌, ◌++◌, Option, Some, None, Result, Ok, Err, OnOk, refl, sym, ap, subst, ◌∙◌, inl, inr, arith, append-nil}
+use Rattle.nl_request.proofs.Common.{◌≡◌, ℕ, ◌<◌, List, [], ◌∷◌, ◌++◌, Option, Some, None, Result, Ok, Err, OnOk, refl, sym, ap, subst, ◌∙◌, inl, inr, arith, append-nil, NUMBERS, Val, bytes, list, hops, Items, no_items, item, HopItems, no_hops, hop, holds_of, IsMismatchedVal, IsRangedVal, IsRanged, IsRangedHops, AnyHead, context_of, family_of, Built, answer, no_flags, Call, close, end, IsCall, put_by_all, run, calls_of_val, calls_of_items, calls_of_hops, calls_of_body, with_message, and_message, before, runs_hold, Part, items_of, request}
 use Rattle.std.specs.List.{AllByRecursion}
-use Rattle.nl_attr.specs.Fixed.{NUMBERS}
 use Rattle.nl_attr.specs.declared.tree.AttrFlags.{AttrFlags}
 use Rattle.nl_attr.specs.declared.tree.Ctx.{Ctx}
-use Rattle.nl_attr.specs.Tree.{Val, bytes, list, hops, Items, no_items, item, HopItems, no_hops, hop, holds_of}
-use Rattle.nl_attr.specs.Proper.{IsMismatchedVal, IsRangedVal, IsRanged, IsRangedHops}
 use Rattle.nl_attr.specs.Proper as attrs
 use Rattle.nl_route.specs.declared.family.Family.{Family}
 use Rattle.nl_route.specs.declared.family.Verb.TheVariants.{New, Del}
-use Rattle.nl_route.specs.Families.{AnyHead, context_of, family_of}
 use Rattle.nl_route.proofs.Families.{type_says}
 use Rattle.nl_frame.specs.declared.building.refusal.BuildError.{BuildError}
 use Rattle.nl_frame.specs.declared.form.Form.TheVariants as form
@@ -17,17 +13,13 @@ use Rattle.nl_frame.specs.Form.{form_of, form_for}
 use Rattle.nl_frame.specs.Limits.{Bounds}
 use Rattle.nl_frame.specs.Message.{MessageVal}
 use Rattle.nl_frame.specs.Proper.{IsMismatched}
-use Rattle.nl_frame.specs.Building.{Built, answer, no_flags}
 use Rattle.nl_frame.specs.Building as building
 use Rattle.nl_frame.specs.Draft.{Draft, Holds, message}
 use Rattle.nl_frame.specs.Draft as draft
-use Rattle.nl_frame.specs.Calls.{Call, close, end, IsCall, put_by_all, run, calls_of_val, calls_of_items, calls_of_hops, calls_of_body, with_message, and_message}
-use Rattle.nl_frame.proofs.Running.{before, runs_hold}
 use Rattle.nl_frame.proofs.Trees.{calls_put}
 use Rattle.nl_request.specs.declared.operation.Operation.{Operation}
 use Rattle.nl_request.specs.declared.operation.Operation.TheVariants.{Add, Replace, Change, Append, Prepend, Set, Delete}
 use Rattle.nl_request.specs.Operations.{flags_of, type_of}
-use Rattle.nl_request.specs.Parts.{Part, items_of, request}
 
 -- ---- the numbers of the calls are in the ranges of their types
 

@@ -1,18 +1,11 @@
 -- The lists of a route: its metrics and its next hops.
-use Rattle.std.proofs.Common.{◌≡◌, ℕ, ◌+◌, ◌<◌, ◌==◌, false, List, [], ◌∷◌, ◌++◌, length, get_or, drop, map, sym, subst, ap, ◌∙◌, FitsSigned}
+use Rattle.nl_request.proofs.Common.{◌≡◌, ℕ, ◌+◌, ◌<◌, ◌==◌, false, List, [], ◌∷◌, ◌++◌, length, get_or, drop, map, sym, subst, ap, ◌∙◌, FitsSigned, IsRanged, IsRangedHops, RTA_METRICS, RTA_MULTIPATH, Order, Built, no_flags, open_attr, close, run, calls_of_items, calls_of_hops, items_of, calls_of_part, metric_part, metrics_part, hops_of, hops_part}
 use Rattle.std.specs.Int.{w32}
-use Rattle.nl_attr.specs.Proper.{IsRanged, IsRangedHops}
 use Rattle.std.proofs.lemmas.List.{drop_more}
-use Rattle.nl_attr.specs.Fixed.{RTA_METRICS, RTA_MULTIPATH}
-use Rattle.nl_attr.specs.declared.order.Order.{Order}
-use Rattle.nl_frame.specs.Building.{Built, no_flags}
 use Rattle.nl_frame.specs.Building as building
-use Rattle.nl_frame.specs.Calls.{open_attr, close, run, calls_of_items, calls_of_hops}
 use Rattle.nl_request.specs.declared.route.Metric.{Metric}
 use Rattle.nl_request.specs.declared.route.NextHop.{NextHop}
-use Rattle.nl_request.specs.Parts.{items_of, calls_of_part}
 use Rattle.nl_request.specs.Gateways.{gateway_bytes, gateway_part}
-use Rattle.nl_request.specs.Route.{metric_part, metrics_part, hops_of, hops_part}
 use Rattle.nl_request.proofs.Runs.{run_both}
 
 module _ (b closed : Built) where

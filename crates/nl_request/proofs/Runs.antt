@@ -1,14 +1,9 @@
 -- What the calls of a request's parts make, one after another.
-use Rattle.std.proofs.Common.{◌≡◌, ℕ, List, [], ◌∷◌, ◌++◌, Some, None, refl, sym, ap, ◌∙◌, append_assoc}
-use Rattle.nl_route.specs.Families.{AnyHead, family_of}
-use Rattle.nl_frame.specs.Building.{Built, no_flags}
+use Rattle.nl_request.proofs.Common.{◌≡◌, ℕ, List, [], ◌∷◌, ◌++◌, Some, None, refl, sym, ap, ◌∙◌, append_assoc, AnyHead, family_of, Built, no_flags, sticks, Call, open_attr, close, end, called, run, calls_of_items, calls_of_val, with_message, Part, items_of, calls_of_part, request}
 use Rattle.nl_frame.specs.declared.building.refusal.BuildError.{BuildError}
-use Rattle.nl_frame.proofs.Running.{sticks}
 use Rattle.nl_frame.specs.Building as building
-use Rattle.nl_frame.specs.Calls.{Call, open_attr, close, end, called, run, calls_of_items, calls_of_val, with_message}
 use Rattle.nl_request.specs.declared.operation.Operation.{Operation}
 use Rattle.nl_request.specs.Operations.{flags_of, type_of}
-use Rattle.nl_request.specs.Parts.{Part, items_of, calls_of_part, request}
 
 -- calls behind others
 pub run_both : (b : Built) (xs ys : List Call) → run b (xs ++ ys) ≡ run (run b xs) ys

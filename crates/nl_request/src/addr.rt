@@ -1,4 +1,4 @@
-//! Requests of addresses: `ip address`.
+//! Requests that change addresses, as `ip address` does (linux/if_addr.h).
 
 ghost use Rattle.std.specs.Prelude.{◌≡◌, ◌≤◌, ◌++◌, Some, OnOk, length};
 ghost use Rattle.nl_attr.specs.Numbers.{num};
@@ -15,49 +15,54 @@ use crate::asked::Asked;
 use crate::operation::Operation;
 use crate::parts::{put_bytes, put_text};
 use nl_attr::{NO_FLAGS, Order};
-use nl_frame::{BuildError, Builder, BuilderParts, Family, FamilyHead, PutMessage};
+use nl_frame::{BuildError, Builder, Family, FamilyHead, PutMessage};
 use nl_route::{AddrHead, IFA_ADDRESS, IFA_BROADCAST, IFA_FLAGS, IFA_LABEL, IFA_LOCAL};
 
-/// The lifetimes of an address.
+/// The attribute of an address's lifetimes, `ifa_cacheinfo` (linux/if_addr.h).
 const IFA_CACHEINFO: u16 = 6;
 
-/// A request of an address: it is added, changed or deleted.
+/// A request to add, change or delete an address.
 ///
 /// The operations are `Add`, `Replace`, `Change` and `Delete`.
 #[derive(Clone, Copy, Debug, Default)]
 pub struct AddrRequest<'a> {
     /// `ifa_family`: 2 for IPv4, 10 for IPv6.
     pub family: u8,
-    /// `ifa_prefixlen`: how many bits of the address are the network's; of the other end's address,
-    /// where there is one.
+    /// `ifa_prefixlen`: the prefix length of the address, in bits; or that of `peer`, where it is
+    /// set.
     pub prefix_length: u8,
     /// `ifa_scope`: where the address is valid, an `RT_SCOPE` number.
     pub scope: u8,
     /// `ifa_index`: the index of the interface.
     pub index: u32,
-    /// The `IFA_F` bits: in the head's byte up to 255, all of them in `IFA_FLAGS` above.
+    /// The `IFA_F` bits: in `ifa_flags` up to 255, and in `IFA_FLAGS` above.
     pub flags: u32,
-    /// The address of the interface, in network order: four bytes for IPv4, 16 for IPv6.
+    /// `IFA_LOCAL`: the address of the interface, in network byte order; 4 bytes for IPv4, 16 for
+    /// IPv6.
     pub local: &'a [u8],
-    /// The address of the other end, on a point-to-point link.
+    /// `IFA_ADDRESS`: the address of the other end of a point-to-point link, in network byte
+    /// order.
     pub peer: Option<&'a [u8]>,
-    /// The broadcast address.
+    /// `IFA_BROADCAST`: the broadcast address, in network byte order.
     pub broadcast: Option<&'a [u8]>,
-    /// The label, without a zero byte.
+    /// `IFA_LABEL`: the label, without a zero byte.
     pub label: Option<&'a [u8]>,
-    /// How long it is valid, and how long preferred.
+    /// `IFA_CACHEINFO`: how long the address is valid, and how long preferred.
     pub lifetimes: Option<Lifetimes>,
 }
 
-/// How long an address is valid and preferred, in seconds; 2^32 - 1 for ever.
+/// How long an address is preferred and valid, in seconds; 2^32 - 1 is for ever.
 #[derive(Clone, Copy, Debug, PartialEq, Eq, Hash)]
 pub struct Lifetimes {
+    /// `ifa_prefered`, in seconds.
     pub preferred: u32,
+    /// `ifa_valid`, in seconds.
     pub valid: u32,
 }
 
 impl Lifetimes {
-    /// The bytes of `ifa_cacheinfo` with these lifetimes, whose two times the kernel sets.
+    /// The bytes of `ifa_cacheinfo` with these lifetimes. Its two time stamps are 0: the kernel
+    /// sets them.
     fn bytes(self, order: Order) -> [u8; 16]
         ensures { result ≡ num self.preferred 4 order ++ num self.valid 4 order
             ++ num 0 4 order ++ num 0 4 order }
@@ -71,49 +76,44 @@ impl Lifetimes {
     }
 }
 
-/// Puts the flags of an address, where they don't fit the byte of its head.
-fn put_flags(parts: &mut BuilderParts, out: &mut [u8], flags: u32, order: Order)
-    requires fits { parts.old.len ≤ length out.old }
-    ensures built { over parts.new out.new
-        ≡ run (over parts.old out.old) (calls_of_part (flags_part order flags)) }
-    ensures fits { parts.new.len ≤ length out.new }
+/// Writes `IFA_FLAGS`, where the flags are above 255 and don't fit the header.
+fn put_flags(builder: &mut Builder, out: &mut [u8], flags: u32, order: Order)
+    requires fits { builder.old.len ≤ length out.old }
+    ensures built { over builder.new out.new
+        ≡ run (over builder.old out.old) (calls_of_part (flags_part order flags)) }
+    ensures fits { builder.new.len ≤ length out.new }
 {
     if flags >= 256 {
-        let _ = parts.put_bytes(out, IFA_FLAGS, NO_FLAGS, &order.u32_bytes(flags));
+        let _ = builder.put_u32(out, IFA_FLAGS, NO_FLAGS, flags, order);
     }
 }
 
-/// Puts the local address once more, where there is no other end.
-fn put_own(parts: &mut BuilderParts, out: &mut [u8], local: &[u8], peer: Option<&[u8]>)
-    requires fits { parts.old.len ≤ length out.old }
-    ensures built { over parts.new out.new
-        ≡ run (over parts.old out.old) (calls_of_part (own_part local.now peer.entry)) }
-    ensures fits { parts.new.len ≤ length out.new }
+/// Writes the local address again as `IFA_ADDRESS`, where there is no peer.
+fn put_own(builder: &mut Builder, out: &mut [u8], local: &[u8], peer: Option<&[u8]>)
+    requires fits { builder.old.len ≤ length out.old }
+    ensures built { over builder.new out.new
+        ≡ run (over builder.old out.old) (calls_of_part (own_part local.now peer.entry)) }
+    ensures fits { builder.new.len ≤ length out.new }
 {
     if peer.is_none() {
-        let _ = parts.put_bytes(out, IFA_ADDRESS, NO_FLAGS, local);
+        let _ = builder.put_bytes(out, IFA_ADDRESS, NO_FLAGS, local);
     }
 }
 
-/// Puts the lifetimes, where there are some.
-fn put_lifetimes(
-    parts: &mut BuilderParts,
-    out: &mut [u8],
-    lifetimes: Option<Lifetimes>,
-    order: Order,
-)
-    requires fits { parts.old.len ≤ length out.old }
-    ensures built { over parts.new out.new
-        ≡ run (over parts.old out.old) (calls_of_part (lifetimes_part order lifetimes)) }
-    ensures fits { parts.new.len ≤ length out.new }
+/// Writes `IFA_CACHEINFO`, if any.
+fn put_lifetimes(builder: &mut Builder, out: &mut [u8], lifetimes: Option<Lifetimes>, order: Order)
+    requires fits { builder.old.len ≤ length out.old }
+    ensures built { over builder.new out.new
+        ≡ run (over builder.old out.old) (calls_of_part (lifetimes_part order lifetimes)) }
+    ensures fits { builder.new.len ≤ length out.new }
 {
     if let Some(lifetimes) = lifetimes {
-        let _ = parts.put_bytes(out, IFA_CACHEINFO, NO_FLAGS, &lifetimes.bytes(order));
+        let _ = builder.put_bytes(out, IFA_CACHEINFO, NO_FLAGS, &lifetimes.bytes(order));
     }
 }
 
 impl AddrRequest<'_> {
-    /// The head of its message.
+    /// The header of its message, `ifaddrmsg`.
     fn head(&self) -> AddrHead
         ensures { result ≡ addr_head self.now }
     {
@@ -130,72 +130,51 @@ impl AddrRequest<'_> {
         }
     }
 
-    /// Puts the message of this request by a builder's parts into their slice, with this sequence
-    /// number and port id 0: `IFA_LOCAL`, `IFA_BROADCAST`, `IFA_LABEL`, `IFA_FLAGS`, `IFA_ADDRESS`
-    /// and `IFA_CACHEINFO`, as far as they are there. `IFA_ADDRESS` is the local address again;
-    /// that of the other end, where there is one, stands behind `IFA_LOCAL`.
+    /// Writes the message of this request into `out`, the slice of `builder`.
+    /// `seq` is its sequence number, and its port id is 0.
     ///
-    /// It refuses as the builder does, whose first refusal sticks: where a message is open, where
-    /// an attribute is too long, and where the slice or the datagram limit has no room.
-    pub fn put_over(
-        &self,
-        operation: Operation,
-        seq: u32,
-        parts: &mut BuilderParts,
-        out: &mut [u8],
-    ) -> Result<(), BuildError>
-        requires fits { parts.old.len ≤ length out.old }
-        ensures built { over parts.new out.new ≡ with_message (over parts.old out.old)
-            (addr_message self.now operation seq (order_of (over parts.old out.old))) }
-        ensures answer { result ≡ answer parts.new.refusal }
-        // What was put is held, and this message behind it.
-        ensures puts { OnOk result ((d : Draft) (L : Bounds) → Holds L (over parts.old out.old) d
-            → Holds L (over parts.new out.new) (and_message d
-            (addr_message self.now operation seq (order_of (over parts.old out.old))))) }
-        ensures fits { parts.new.len ≤ length out.new }
-    {
-        let order = parts.limits().order();
-        let kind = operation.type_of(Family::Addr);
-        let head = FamilyHead::Addr(self.head());
-        let _ = parts.begin(out, kind, operation.flags(), seq, 0, &head);
-        let _ = parts.put_bytes(out, IFA_LOCAL, NO_FLAGS, self.local);
-        let _ = put_bytes(parts, out, IFA_ADDRESS, self.peer);
-        let _ = put_bytes(parts, out, IFA_BROADCAST, self.broadcast);
-        let _ = put_text(parts, out, IFA_LABEL, self.label);
-        put_flags(parts, out, self.flags, order);
-        put_own(parts, out, self.local, self.peer);
-        put_lifetimes(parts, out, self.lifetimes, order);
-        parts.end(out)
-    }
-
-    /// Puts the message of this request into the builder, with this sequence number and port id 0:
-    /// the same one, and it refuses the same, as `put_over`.
+    /// The attributes are `IFA_LOCAL`, `IFA_BROADCAST`, `IFA_LABEL`, `IFA_FLAGS`, `IFA_ADDRESS`
+    /// and `IFA_CACHEINFO`, those that are set. `IFA_ADDRESS` is the local address again; that of
+    /// a peer stands directly behind `IFA_LOCAL`.
+    ///
+    /// The error is the builder's: a message is open, an attribute is too long, or there is no
+    /// room in the slice or below the datagram limit. The builder keeps its first error.
     pub fn put(
         &self,
         operation: Operation,
         seq: u32,
-        builder: &mut Builder<'_>,
+        builder: &mut Builder,
+        out: &mut [u8],
     ) -> Result<(), BuildError>
-        ensures built { builder.new ≡ with_message builder.old
-            (addr_message self.now operation seq (order_of builder.old)) }
+        requires fits { builder.old.len ≤ length out.old }
+        ensures built { over builder.new out.new ≡ with_message (over builder.old out.old)
+            (addr_message self.now operation seq (order_of (over builder.old out.old))) }
         ensures answer { result ≡ answer builder.new.refusal }
-        // What was put is held, and this message behind it.
-        ensures puts { OnOk result ((d : Draft) (L : Bounds) → Holds L builder.old d
-            → Holds L builder.new (and_message d
-            (addr_message self.now operation seq (order_of builder.old)))) }
+        // The builder holds what it held, and this message behind it.
+        ensures puts { OnOk result ((d : Draft) (L : Bounds) → Holds L (over builder.old out.old) d
+            → Holds L (over builder.new out.new) (and_message d
+            (addr_message self.now operation seq (order_of (over builder.old out.old))))) }
+        ensures fits { builder.new.len ≤ length out.new }
     {
-        builder.put(&Asked {
-            request: self,
-            operation,
-            seq,
-        })
+        let order = builder.order();
+        let kind = operation.type_of(Family::Addr);
+        let head = FamilyHead::Addr(self.head());
+        let _ = builder.begin(out, kind, operation.flags(), seq, 0, &head);
+        let _ = builder.put_bytes(out, IFA_LOCAL, NO_FLAGS, self.local);
+        let _ = put_bytes(builder, out, IFA_ADDRESS, self.peer);
+        let _ = put_bytes(builder, out, IFA_BROADCAST, self.broadcast);
+        let _ = put_text(builder, out, IFA_LABEL, self.label);
+        put_flags(builder, out, self.flags, order);
+        put_own(builder, out, self.local, self.peer);
+        put_lifetimes(builder, out, self.lifetimes, order);
+        builder.end(out)
     }
 }
 
 impl PutMessage for Asked<'_, AddrRequest<'_>> {
     ghost message = { λ a. addr_message a.request.now a.operation a.seq };
 
-    fn put_over(&self, parts: &mut BuilderParts, out: &mut [u8]) -> Result<(), BuildError> {
-        self.request.put_over(self.operation, self.seq, parts, out)
+    fn put(&self, builder: &mut Builder, out: &mut [u8]) -> Result<(), BuildError> {
+        self.request.put(self.operation, self.seq, builder, out)
     }
 }

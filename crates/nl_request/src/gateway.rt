@@ -1,14 +1,15 @@
-//! The gateway of a next hop.
+//! `Gateway`: the address of a next hop's gateway.
 
 ghost use Rattle.std.specs.Prelude.{◌≡◌, ◌<◌, length, MatchOption, []};
 ghost use Rattle.nl_request.specs.Gateways.{gateway_bytes};
 
-/// How many bytes an address of a gateway has at most.
+/// The greatest length of a gateway's address, in bytes: that of IPv6.
 const LONGEST_ADDRESS: usize = 16;
 
-/// The address of a gateway, in network order, or none: up to 16 bytes. By default it is none.
+/// The address of a gateway, up to 16 bytes in network byte order, or no address, which is the
+/// default.
 ///
-/// It is laid out as in C. A length above 16, which C may have written, counts as 16.
+/// It has the layout of a C struct. A length above 16, which C may have written, counts as 16.
 #[repr(C)]
 #[derive(Clone, Copy, Debug)]
 pub struct Gateway {
@@ -17,8 +18,8 @@ pub struct Gateway {
 }
 
 impl Gateway {
-    /// The gateway with this address: four bytes for IPv4, 16 for IPv6, no byte for none. `None`
-    /// above 16 bytes.
+    /// The gateway with this address: 4 bytes for IPv4, 16 for IPv6, or 0 for no gateway. `None`
+    /// for more than 16 bytes.
     pub fn new(address: &[u8]) -> Option<Gateway>
         ensures { MatchOption result (16 < length address.now)
             (λ gateway. gateway_bytes gateway ≡ address.now) }
@@ -35,7 +36,7 @@ impl Gateway {
         })
     }
 
-    /// The bytes of its address; no byte where there is none.
+    /// The address; empty where there is no gateway.
     pub fn address(&self) -> &[u8]
         ensures { result.now ≡ gateway_bytes self.now }
     {
@@ -44,7 +45,7 @@ impl Gateway {
     }
 }
 
-/// There is no gateway.
+/// No gateway.
 impl Default for Gateway {
     ghost is_default = { λ gateway. gateway_bytes gateway ≡ [] };
 

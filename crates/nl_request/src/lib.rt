@@ -1,13 +1,19 @@
-//! Requests that change links, addresses, routes, neighbours and rules (rtnetlink(7)), in the
-//! words of ip(8).
+//! Requests that change links, addresses, routes, neighbours and rules (rtnetlink(7)), with the
+//! operations of ip(8).
 //!
-//! Each is a plain struct of the fields that a program sets. It puts itself into a builder of
-//! `nl_frame` as one message, whose attributes, their order and their bytes are those that ip(8)
-//! sends. It takes no memory. A struct holds borrowed bytes, and what isn't there is `None`.
+//! A request is a plain struct of the fields that a program sets. Its `put` writes it into a
+//! builder of `nl_frame` as one message. The attributes, their order and their bytes are those
+//! that ip(8) sends. No memory is taken. A struct borrows its bytes, and a field that isn't set
+//! is `None`.
 //!
-//! Nothing is sent here, and nothing is looked up: an interface is its index, an address its bytes
-//! in network order. What the kernel would refuse, as an address of another length than its
-//! family's, is put as it is.
+//! Nothing is sent here, and nothing is looked up: an interface is its index, and an address is
+//! its bytes in network byte order. Values aren't validated. What the kernel would refuse, as an
+//! address of a wrong length, is written as it is.
+//!
+//! - `link`, `addr`, `route`, `neigh` and `rule` each have the request of one family.
+//! - `operation` is what a request asks for, and `asked` a request with its operation.
+//! - `prefix`, `gateway` and `table` are fields that several requests have.
+//! - `parts` writes optional attributes.
 #![tactic(auto)]
 
 mod addr;

@@ -1,36 +1,37 @@
-//! What a request asks for: its message type and its flags.
+//! `Operation`: what a request asks for, which decides its message type and its flags.
 
 ghost use Rattle.std.specs.Prelude.{◌≡◌};
 ghost use Rattle.nl_request.specs.Operations.{flags_of, type_of};
 
 use nl_route::{Family, Verb};
 
-/// What a request asks for, as the words of ip(8) have it. Each is answered by the kernel, with an
-/// error or with an acknowledgement.
+/// What a request asks for, named as by ip(8). The kernel answers each with `NLMSG_ERROR`: an
+/// error, or 0 as the acknowledgement.
 #[derive(Clone, Copy, Debug, PartialEq, Eq, Hash)]
 pub enum Operation {
-    /// It is made, and refused where it is there: NEW with `NLM_F_CREATE` and `NLM_F_EXCL`.
+    /// Creates the object; an error where it exists: `RTM_NEW` with `NLM_F_CREATE` and
+    /// `NLM_F_EXCL`.
     Add,
-    /// It is made, or takes the place of the one that is there: NEW with `NLM_F_CREATE` and
+    /// Creates the object, or replaces the existing one: `RTM_NEW` with `NLM_F_CREATE` and
     /// `NLM_F_REPLACE`.
     Replace,
-    /// It takes the place of the one that is there: NEW with `NLM_F_REPLACE`. Where none is, routes
-    /// and neighbours are refused, and an address is made. Links are changed by `Set`.
+    /// Replaces the existing object: `RTM_NEW` with `NLM_F_REPLACE`. Where there is none, it is an
+    /// error for routes and neighbours, and an address is created. For links use `Set`.
     Change,
-    /// It is made, behind those that are there: NEW with `NLM_F_CREATE` and `NLM_F_APPEND`. Of
-    /// routes.
+    /// Creates a route behind the existing ones, or an entry of a bridge: `RTM_NEW` with
+    /// `NLM_F_CREATE` and `NLM_F_APPEND`.
     Append,
-    /// It is made, before those that are there: NEW with `NLM_F_CREATE`. Of routes.
+    /// Creates a route before the existing ones: `RTM_NEW` with `NLM_F_CREATE`.
     Prepend,
-    /// Fields of the one that is there are set, and it is refused where none is: NEW with no
-    /// further flag. Of links.
+    /// Sets fields of an existing link; an error where there is none: `RTM_NEW` with no further
+    /// flag.
     Set,
-    /// It is taken away: DEL with no further flag.
+    /// Deletes the object: `RTM_DEL` with no further flag.
     Delete,
 }
 
 impl Operation {
-    /// The flags of its messages: `NLM_F_REQUEST` and `NLM_F_ACK`, and those of the operation
+    /// `nlmsg_flags` of its messages: `NLM_F_REQUEST`, `NLM_F_ACK`, and the flags named above
     /// (netlink(7)).
     #[inline]
     pub fn flags(self) -> u16
@@ -46,7 +47,7 @@ impl Operation {
         }
     }
 
-    /// The type of its messages, of this family.
+    /// `nlmsg_type` of its messages for this family: `RTM_NEW` or `RTM_DEL` of it.
     #[inline]
     pub fn type_of(self, family: Family) -> u16
         ensures { result ≡ type_of self family }

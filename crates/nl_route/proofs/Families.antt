@@ -11,29 +11,29 @@ use Rattle.nl_route.specs.declared.family.Verb.TheVariants.{New, Del, Get, Set}
 use Rattle.nl_route.specs.Fields.{AreFields}
 use Rattle.nl_route.specs.Types.{says, route_type}
 use Rattle.nl_route.specs.Families.{row, same_family, head_size, has_verb, type_of, AnyHead, any, family_of, fields_of, head_of}
-use Rattle.nl_route.specs.Link.{link_fields, link_of}
-use Rattle.nl_route.specs.Addr.{addr_fields, addr_of}
-use Rattle.nl_route.specs.Route.{route_fields, route_of}
-use Rattle.nl_route.specs.Neigh.{neigh_fields, neigh_of}
-use Rattle.nl_route.specs.Rule.{rule_fields, rule_of}
+use Rattle.nl_route.specs.Link.{link_fields, link_with, link_of}
+use Rattle.nl_route.specs.Addr.{addr_fields, addr_with, addr_of}
+use Rattle.nl_route.specs.Route.{route_fields, route_with, route_of}
+use Rattle.nl_route.specs.Neigh.{neigh_fields, neigh_with, neigh_of}
+use Rattle.nl_route.specs.Rule.{rule_fields, rule_with, rule_of}
 use Rattle.nl_route.proofs.Fields.{size_of}
-use Rattle.nl_route.proofs.Known.{IsKnown, value_at, signed_at, fields_of_read, read_of_fields, head_written}
+use Rattle.nl_route.proofs.Known.{IsKnown, fields_of_read, read_of_fields, head_written}
 
 -- each head is known by its fields
 pub link_known : IsKnown 16 link_fields link_of
-link_known = record { is = λ o v bytes. refl; made = λ fs. record { family = value_at fs 0; hardware = value_at fs 2; index = signed_at fs 3; flags = value_at fs 4; change = value_at fs 5 }; back = λ v. refl; size_is = λ v. refl }
+link_known = record { is = λ o v bytes. refl; made = link_with; back = λ v. refl; size_is = λ v. refl }
 
 pub addr_known : IsKnown 8 addr_fields addr_of
-addr_known = record { is = λ o v bytes. refl; made = λ fs. record { family = value_at fs 0; prefixlen = value_at fs 1; flags = value_at fs 2; scope = value_at fs 3; index = value_at fs 4 }; back = λ v. refl; size_is = λ v. refl }
+addr_known = record { is = λ o v bytes. refl; made = addr_with; back = λ v. refl; size_is = λ v. refl }
 
 pub route_known : IsKnown 12 route_fields route_of
-route_known = record { is = λ o v bytes. refl; made = λ fs. record { family = value_at fs 0; dst_len = value_at fs 1; src_len = value_at fs 2; tos = value_at fs 3; table = value_at fs 4; protocol = value_at fs 5; scope = value_at fs 6; sort = value_at fs 7; flags = value_at fs 8 }; back = λ v. refl; size_is = λ v. refl }
+route_known = record { is = λ o v bytes. refl; made = route_with; back = λ v. refl; size_is = λ v. refl }
 
 pub neigh_known : IsKnown 12 neigh_fields neigh_of
-neigh_known = record { is = λ o v bytes. refl; made = λ fs. record { family = value_at fs 0; ifindex = signed_at fs 3; state = value_at fs 4; flags = value_at fs 5; sort = value_at fs 6 }; back = λ v. refl; size_is = λ v. refl }
+neigh_known = record { is = λ o v bytes. refl; made = neigh_with; back = λ v. refl; size_is = λ v. refl }
 
 pub rule_known : IsKnown 12 rule_fields rule_of
-rule_known = record { is = λ o v bytes. refl; made = λ fs. record { family = value_at fs 0; dst_len = value_at fs 1; src_len = value_at fs 2; tos = value_at fs 3; table = value_at fs 4; action = value_at fs 7; flags = value_at fs 8 }; back = λ v. refl; size_is = λ v. refl }
+rule_known = record { is = λ o v bytes. refl; made = rule_with; back = λ v. refl; size_is = λ v. refl }
 
 -- what is written of a head, whatever the family
 pub ruleset heads = (head_written, link_known, addr_known, route_known, neigh_known, rule_known)

@@ -10,7 +10,7 @@ use Rattle.std.proofs.Math.Seq.{drop-cons, drop-append_seam}
 use Rattle.nl_attr.specs.declared.order.Order.{Order}
 use Rattle.nl_attr.specs.Numbers.{AreBytes, num, number_of}
 use Rattle.nl_attr.proofs.Lemmas.Numbers.{bytes_drop, length-num, front_is, front_below, number_of-num}
-use Rattle.nl_route.specs.Fields.{Field, byte, number, signed, pad, AreFields, AreRanged, zeros, written}
+use Rattle.nl_route.specs.Fields.{Field, byte, number, signed, pad, AreFields, AreRanged, zeros, written, read_at}
 
 abbrev pub width : Field → ℕ
 width (byte n) = 1
@@ -21,14 +21,6 @@ width (pad w) = w
 abbrev pub size_of : List Field → ℕ
 size_of [] = 0
 size_of (f ∷ fs) = width f + size_of fs
-
--- fields of the same kinds, read of the bytes from a place on
-abbrev pub read_at : Order → List Field → ℕ → List ℕ → List Field
-read_at o [] place bytes = []
-read_at o (byte n ∷ fs) place bytes = byte (get_or bytes place 0) ∷ read_at o fs (place + 1) bytes
-read_at o (number w n ∷ fs) place bytes = number w (number_of o w (drop place bytes)) ∷ read_at o fs (place + w) bytes
-read_at o (signed z ∷ fs) place bytes = signed (cast_signed w32 (number_of o 4 (drop place bytes))) ∷ read_at o fs (place + 4) bytes
-read_at o (pad w ∷ fs) place bytes = pad w ∷ read_at o fs (place + w) bytes
 
 -- ---- bytes have the fields that are read of them
 

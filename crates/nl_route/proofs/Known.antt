@@ -1,10 +1,9 @@
 -- Heads that are known by their fields.
-use Rattle.std.proofs.Common.{◌≡◌, ℕ, ℤ, zero, suc, List, [], ◌∷◌, length, sym, ap, subst, ◌∙◌, arith}
-use Rattle.std.specs.Prelude.{pos}
+use Rattle.std.proofs.Common.{◌≡◌, ℕ, List, [], length, sym, ap, subst, ◌∙◌, arith}
 use Rattle.nl_attr.specs.declared.order.Order.{Order}
 use Rattle.nl_attr.specs.Numbers.{AreBytes}
-use Rattle.nl_route.specs.Fields.{Field, byte, number, signed, pad, AreFields, AreRanged, IsHeadOf, IsWrittenHead, written}
-use Rattle.nl_route.proofs.Fields.{size_of, read_at, read_sound, read_only, DoFit, read_written}
+use Rattle.nl_route.specs.Fields.{Field, AreFields, AreRanged, IsHeadOf, IsWrittenHead, written, read_at}
+use Rattle.nl_route.proofs.Fields.{size_of, read_sound, read_only, DoFit, read_written}
 
 -- what is read of bytes has the fields that are read of them, and a head is made of its fields, of so many bytes
 pub record IsKnown {H : Type 0} (size : ℕ) (fields : H → List Field) (of : Order → List ℕ → H) : Type 0 where
@@ -40,24 +39,3 @@ module _ {H : Type 0} {size : ℕ} {fields : H → List Field} {of : Order → L
 
   pub head_written : (o : Order) (v : H) (image : List ℕ) → DoFit (fields v) → AreRanged (fields v) → image ≡ written o (fields v) → IsWrittenHead of fields o v image
   head_written o v image fit ranged e = record { bytes = e; back = ap (of o) e ∙ read_of_written o v fit; ranged = ranged }
-
--- the field at a place, as the number or the signed number that it holds
-abbrev pub value_in : Field → ℕ
-value_in (byte n) = n
-value_in (number w n) = n
-value_in (signed z) = 0
-value_in (pad w) = 0
-
-abbrev pub signed_in : Field → ℤ
-signed_in (signed z) = z
-signed_in f = pos 0
-
-abbrev pub value_at : List Field → ℕ → ℕ
-value_at [] i = 0
-value_at (f ∷ fs) zero = value_in f
-value_at (f ∷ fs) (suc i) = value_at fs i
-
-abbrev pub signed_at : List Field → ℕ → ℤ
-signed_at [] i = pos 0
-signed_at (f ∷ fs) zero = signed_in f
-signed_at (f ∷ fs) (suc i) = signed_at fs i

@@ -1,8 +1,8 @@
 -- The fields of a head, one after the other.
-use Rattle.std.specs.Prelude.{◌≡◌, ◌<◌, ◌≤◌, ◌^◌, ℕ, ℤ, zero, suc, List, [], ◌∷◌, ◌++◌, length, take, drop, FitsSigned}
-use Rattle.std.specs.Int.{w32, cast_unsigned}
+use Rattle.std.specs.Prelude.{◌≡◌, ◌<◌, ◌≤◌, ◌^◌, ◌+◌, ℕ, ℤ, zero, suc, pos, List, [], ◌∷◌, ◌++◌, length, take, drop, slice_index, FitsSigned}
+use Rattle.std.specs.Int.{w32, cast_signed, cast_unsigned}
 use Rattle.nl_attr.specs.declared.order.Order.{Order}
-use Rattle.nl_attr.specs.Numbers.{num}
+use Rattle.nl_attr.specs.Numbers.{num, number_of}
 
 -- one byte, a number of so many bytes, a signed number of four, or so many bytes that are not kept
 pub data Field : Type 0 where
@@ -39,6 +39,40 @@ AreRanged (byte n ∷ fs) = (n < 256) × AreRanged fs
 AreRanged (number w n ∷ fs) = (n < 256 ^ w) × AreRanged fs
 AreRanged (signed z ∷ fs) = FitsSigned w32 z × AreRanged fs
 AreRanged (pad w ∷ fs) = AreRanged fs
+
+-- fields of the same kinds, with what the bytes hold from a place on
+abbrev pub read_at : Order → List Field → ℕ → List ℕ → List Field
+read_at o [] place bytes = []
+read_at o (byte n ∷ fs) place bytes = byte (slice_index bytes place) ∷ read_at o fs (place + 1) bytes
+read_at o (number w n ∷ fs) place bytes = number w (number_of o w (drop place bytes)) ∷ read_at o fs (place + w) bytes
+read_at o (signed z ∷ fs) place bytes = signed (cast_signed w32 (number_of o 4 (drop place bytes))) ∷ read_at o fs (place + 4) bytes
+read_at o (pad w ∷ fs) place bytes = pad w ∷ read_at o fs (place + w) bytes
+
+-- what a field holds, as a number or a signed number, and zero where it holds none
+abbrev pub value_in : Field → ℕ
+value_in (byte n) = n
+value_in (number w n) = n
+value_in (signed z) = 0
+value_in (pad w) = 0
+
+abbrev pub signed_in : Field → ℤ
+signed_in (signed z) = z
+signed_in f = pos 0
+
+-- what the field of a place holds
+abbrev pub value_at : List Field → ℕ → ℕ
+value_at [] i = 0
+value_at (f ∷ fs) zero = value_in f
+value_at (f ∷ fs) (suc i) = value_at fs i
+
+abbrev pub signed_at : List Field → ℕ → ℤ
+signed_at [] i = pos 0
+signed_at (f ∷ fs) zero = signed_in f
+signed_at (f ∷ fs) (suc i) = signed_at fs i
+
+-- what is read of bytes: the head whose fields are those of a head with what the bytes hold
+abbrev pub read_as : {H : Type 0} → (H → List Field) → (List Field → H) → Order → List ℕ → H
+read_as fields head_with o bytes = head_with (read_at o (fields (head_with [])) 0 bytes)
 
 -- a head that is read of these bytes
 pub record IsHeadOf {H : Type 0} (of : Order → List ℕ → H) (fields_of : H → List Field) (o : Order) (bytes : List ℕ) (h : H) : Type 0 where

@@ -1,24 +1,20 @@
 -- A neighbour: its head, ndmsg of linux/neighbour.h, and the numbers of its attributes.
-use Rattle.std.specs.Prelude.{ℕ, List, [], ◌∷◌, drop, slice_index}
-use Rattle.std.specs.Int.{w32, cast_signed}
+use Rattle.std.specs.Prelude.{ℕ, List, [], ◌∷◌}
 use Rattle.nl_attr.specs.declared.order.Order.{Order}
-use Rattle.nl_attr.specs.Numbers.{number_of}
 use Rattle.nl_route.specs.declared.ndmsg.NeighHead.{NeighHead}
-use Rattle.nl_route.specs.Fields.{Field, byte, number, signed, pad}
+use Rattle.nl_route.specs.Fields.{Field, byte, number, signed, pad, value_at, signed_at, read_as}
 
 -- the fields of ndmsg, 12 bytes
 abbrev pub neigh_fields : NeighHead → List Field
 neigh_fields h = byte h.family ∷ pad 1 ∷ pad 2 ∷ signed h.ifindex ∷ number 2 h.state ∷ byte h.flags ∷ byte h.sort ∷ []
 
+-- a head of these fields
+abbrev pub neigh_with : List Field → NeighHead
+neigh_with fs = record { family = value_at fs 0; ifindex = signed_at fs 3; state = value_at fs 4; flags = value_at fs 5; sort = value_at fs 6 }
+
 -- what is read of the bytes of ndmsg
 abbrev pub neigh_of : Order → List ℕ → NeighHead
-neigh_of o bytes = record {
-  family = slice_index bytes 0;
-  ifindex = cast_signed w32 (number_of o 4 (drop 4 bytes));
-  state = number_of o 2 (drop 8 bytes);
-  flags = slice_index bytes 10;
-  sort = slice_index bytes 11;
-}
+neigh_of = read_as neigh_fields neigh_with
 
 -- ---- the numbers of its attributes, of linux/neighbour.h
 

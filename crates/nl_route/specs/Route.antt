@@ -1,29 +1,20 @@
 -- A route: its head, rtmsg of linux/rtnetlink.h, and the numbers of its attributes.
-use Rattle.std.specs.Prelude.{ℕ, List, [], ◌∷◌, drop, slice_index}
+use Rattle.std.specs.Prelude.{ℕ, List, [], ◌∷◌}
 use Rattle.nl_attr.specs.declared.order.Order.{Order}
-use Rattle.nl_attr.specs.Numbers.{number_of}
 use Rattle.nl_route.specs.declared.rtmsg.RouteHead.{RouteHead}
-use Rattle.nl_route.specs.Fields.{Field, byte, number}
+use Rattle.nl_route.specs.Fields.{Field, byte, number, value_at, read_as}
 
 -- the fields of rtmsg, 12 bytes
 abbrev pub route_fields : RouteHead → List Field
-route_fields h =
-    byte h.family ∷ byte h.dst_len ∷ byte h.src_len ∷ byte h.tos ∷ byte h.table
-    ∷ byte h.protocol ∷ byte h.scope ∷ byte h.sort ∷ number 4 h.flags ∷ []
+route_fields h = byte h.family ∷ byte h.dst_len ∷ byte h.src_len ∷ byte h.tos ∷ byte h.table ∷ byte h.protocol ∷ byte h.scope ∷ byte h.sort ∷ number 4 h.flags ∷ []
+
+-- a head of these fields
+abbrev pub route_with : List Field → RouteHead
+route_with fs = record { family = value_at fs 0; dst_len = value_at fs 1; src_len = value_at fs 2; tos = value_at fs 3; table = value_at fs 4; protocol = value_at fs 5; scope = value_at fs 6; sort = value_at fs 7; flags = value_at fs 8 }
 
 -- what is read of the bytes of rtmsg
 abbrev pub route_of : Order → List ℕ → RouteHead
-route_of o bytes = record {
-  family = slice_index bytes 0;
-  dst_len = slice_index bytes 1;
-  src_len = slice_index bytes 2;
-  tos = slice_index bytes 3;
-  table = slice_index bytes 4;
-  protocol = slice_index bytes 5;
-  scope = slice_index bytes 6;
-  sort = slice_index bytes 7;
-  flags = number_of o 4 (drop 8 bytes);
-}
+route_of = read_as route_fields route_with
 
 -- ---- the numbers of its attributes, of linux/rtnetlink.h
 

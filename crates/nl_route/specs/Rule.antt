@@ -1,25 +1,20 @@
 -- A routing rule: its head, fib_rule_hdr of linux/fib_rules.h, and the numbers of its attributes.
-use Rattle.std.specs.Prelude.{ℕ, List, [], ◌∷◌, drop, slice_index}
+use Rattle.std.specs.Prelude.{ℕ, List, [], ◌∷◌}
 use Rattle.nl_attr.specs.declared.order.Order.{Order}
-use Rattle.nl_attr.specs.Numbers.{number_of}
 use Rattle.nl_route.specs.declared.fib_rule_hdr.RuleHead.{RuleHead}
-use Rattle.nl_route.specs.Fields.{Field, byte, number, pad}
+use Rattle.nl_route.specs.Fields.{Field, byte, number, pad, value_at, read_as}
 
 -- the fields of fib_rule_hdr, 12 bytes
 abbrev pub rule_fields : RuleHead → List Field
 rule_fields h = byte h.family ∷ byte h.dst_len ∷ byte h.src_len ∷ byte h.tos ∷ byte h.table ∷ pad 1 ∷ pad 1 ∷ byte h.action ∷ number 4 h.flags ∷ []
 
+-- a head of these fields
+abbrev pub rule_with : List Field → RuleHead
+rule_with fs = record { family = value_at fs 0; dst_len = value_at fs 1; src_len = value_at fs 2; tos = value_at fs 3; table = value_at fs 4; action = value_at fs 7; flags = value_at fs 8 }
+
 -- what is read of the bytes of fib_rule_hdr
 abbrev pub rule_of : Order → List ℕ → RuleHead
-rule_of o bytes = record {
-  family = slice_index bytes 0;
-  dst_len = slice_index bytes 1;
-  src_len = slice_index bytes 2;
-  tos = slice_index bytes 3;
-  table = slice_index bytes 4;
-  action = slice_index bytes 7;
-  flags = number_of o 4 (drop 8 bytes);
-}
+rule_of = read_as rule_fields rule_with
 
 -- ---- the numbers of its attributes, of linux/fib_rules.h
 

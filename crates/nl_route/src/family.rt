@@ -1,4 +1,4 @@
-//! The families, in one table.
+//! The families, one row for each, and what a message type says of family and verb.
 
 ghost use Rattle.std.specs.Prelude.{◌≡◌, Some, IsTrue};
 ghost use Rattle.std.specs.Fmt.{padded};
@@ -18,7 +18,7 @@ use nl_attr::{Ctx, UnknownName};
 use std::fmt;
 use std::str::FromStr;
 
-/// The families whose bodies have heads.
+/// The kind of object that a message describes. Not an address family, as `AF_INET`.
 #[derive(Clone, Copy, Debug, PartialEq, Eq, Hash)]
 pub enum Family {
     Link,
@@ -28,8 +28,8 @@ pub enum Family {
     Rule,
 }
 
-/// What a message asks for, of its family's objects. The types of a family stand one after another
-/// in this order.
+/// What a message does to an object of its family. A family's message types, as `RTM_NEWLINK` to
+/// `RTM_SETLINK`, are consecutive numbers in this order.
 #[derive(Clone, Copy, Debug, PartialEq, Eq, Hash)]
 pub enum Verb {
     New,
@@ -38,25 +38,25 @@ pub enum Verb {
     Set,
 }
 
-/// What the message type of a family says.
+/// A message type of a family, as `RTM_NEWLINK`, taken apart.
 #[derive(Clone, Copy, Debug, PartialEq, Eq, Hash)]
 pub struct RouteType {
     pub family: Family,
     pub verb: Verb,
 }
 
-/// What holds of a family.
+/// The row of a family in the table.
 #[derive(Clone, Copy, Debug, PartialEq, Eq)]
 pub struct Row {
-    /// How many bytes its head has.
+    /// The size of its header, in bytes.
     pub head_size: usize,
     /// The context of its attributes.
     pub context: Ctx,
-    /// The message type of its NEW.
+    /// Its first message type, as `RTM_NEWLINK`.
     pub new_type: u16,
-    /// Whether it has a SET, whose type is the third after that of NEW.
+    /// Whether it has a SET message, whose type is `new_type + 3`.
     pub has_set: bool,
-    /// Its name, as it is printed and stands on the command line.
+    /// Its name in text and on the command line, as `link`.
     pub name: &'static str,
 }
 
@@ -79,7 +79,7 @@ impl Row {
 }
 
 impl Verb {
-    /// What the first of four types asks for, and so on.
+    /// The verb at this index, 0 to 3, among a family's four message types.
     fn at(place: u16) -> Verb
         ensures { result ≡ verb_at place }
     {
@@ -91,7 +91,7 @@ impl Verb {
         }
     }
 
-    /// Its place among the four.
+    /// Its index among them.
     fn place(self) -> u16
         ensures { result ≡ place_of self }
     {
@@ -114,7 +114,7 @@ impl Family {
         Family::Rule,
     ];
 
-    /// The family of the four types from four times this number on.
+    /// The family whose four message types begin at `4 * number`. `None` where there is none.
     fn at(number: u16) -> Option<Family>
         ensures { result ≡ family_of_fourth number }
     {
@@ -128,7 +128,7 @@ impl Family {
         }
     }
 
-    /// What holds of this family.
+    /// The row of this family.
     #[tactic(auto, unfolding(crate::specs::Types::route_type))]
     pub fn row(self) -> Row
         ensures size { result.head_size ≡ head_size self }
@@ -146,7 +146,8 @@ impl Family {
         }
     }
 
-    /// Whether this family has a message type that asks for this: all have but SET.
+    /// Whether this family has a message type of this verb. Only SET is one that a family may
+    /// lack.
     pub fn has(self, verb: Verb) -> bool
         ensures { result ≡ has_verb self verb }
     {
@@ -156,11 +157,11 @@ impl Family {
         }
     }
 
-    /// The message type of this family that asks for this, where it has one.
+    /// The message type of this family and verb. It means nothing where `has` is false.
     #[tactic(auto, using(crate::proofs::Families::type_says))]
     pub fn type_of(self, verb: Verb) -> u16
         ensures number { result ≡ type_of self verb }
-        // It says so.
+        // Where the family has the verb, `RouteType::of` takes the type apart again.
         ensures says { IsTrue (has_verb self verb) → route_type result ≡ Some (says verb self) }
     {
         self.row().new_type + verb.place()
@@ -177,7 +178,7 @@ impl fmt::Display for Family {
     }
 }
 
-/// Reads the name of a family.
+/// Parses the name of a family, as `link`. Any other text is `UnknownName`.
 impl FromStr for Family {
     type Err = UnknownName;
 
@@ -194,7 +195,7 @@ impl FromStr for Family {
 }
 
 impl RouteType {
-    /// What this message type says; none where it is no family's.
+    /// Takes a message type apart. `None` where no family has it.
     #[tactic(auto, using(crate::proofs::Types::agree))]
     pub fn of(kind: u16) -> Option<RouteType>
         ensures { result ≡ route_type kind }
@@ -209,33 +210,41 @@ impl RouteType {
     }
 }
 
-/// A match over a value whose type has a variant for each family, named as the family is, and
-/// others: one arm for whichever family's body it holds, and arms for the others.
+/// Calls another macro with its arguments and the list of all families, so that a match over the
+/// families needn't name them.
 #[macro_export]
-macro_rules! match_object {
-    ($value:expr, $Type:ident, $object:ident => $then:expr, { $($others:tt)* }) => {
-        match $value {
-            $Type::Link($object) => $then,
-            $Type::Addr($object) => $then,
-            $Type::Route($object) => $then,
-            $Type::Neigh($object) => $then,
-            $Type::Rule($object) => $then,
-            $($others)*
-        }
+macro_rules! families {
+    ([$($macro:tt)+] $arguments:tt) => {
+        $($macro)+!($arguments [Link Addr Route Neigh Rule])
     };
 }
 
-/// The body of a family that is not known before, read by `read_body_ordered`, in the variant of its
-/// family.
+/// Matches over an enum that has a variant for each family, named as the family is, and others.
+/// `$then` is the arm of each family, with its body as `$object`. `$others` are the other arms.
 #[macro_export]
-macro_rules! read_object {
-    ($family:expr, $Type:ident, $arguments:tt) => {
-        match $family {
-            $crate::Family::Link => $crate::Link::read_body_ordered $arguments.map($Type::Link),
-            $crate::Family::Addr => $crate::Addr::read_body_ordered $arguments.map($Type::Addr),
-            $crate::Family::Route => $crate::Route::read_body_ordered $arguments.map($Type::Route),
-            $crate::Family::Neigh => $crate::Neigh::read_body_ordered $arguments.map($Type::Neigh),
-            $crate::Family::Rule => $crate::Rule::read_body_ordered $arguments.map($Type::Rule),
+macro_rules! match_object {
+    (
+        ($value:expr, $Type:ident, $object:ident => $then:expr, { $($others:tt)* })
+        [$($Family:ident)+]
+    ) => {
+        match $value {
+            $($Type::$Family($object) => $then,)+
+            $($others)*
         }
     };
+    ($($arguments:tt)+) => { $crate::families!([$crate::match_object] ($($arguments)+)) };
+}
+
+/// Reads the body of a family that is only known at run time, by `read_body_ordered`. It answers
+/// the variant of `$Type` that is named as the family is.
+#[macro_export]
+macro_rules! read_object {
+    (($family:expr, $Type:ident, $arguments:tt) [$($Family:ident)+]) => {
+        match $family {
+            $($crate::Family::$Family => {
+                $crate::$Family::read_body_ordered $arguments.map($Type::$Family)
+            })+
+        }
+    };
+    ($($arguments:tt)+) => { $crate::families!([$crate::read_object] ($($arguments)+)) };
 }

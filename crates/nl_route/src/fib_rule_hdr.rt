@@ -1,4 +1,4 @@
-//! Routing rules: the head `fib_rule_hdr` and the attributes `FRA` of linux/fib_rules.h.
+//! Routing rules: their header `fib_rule_hdr`, and their `FRA` attributes (linux/fib_rules.h).
 
 ghost use Rattle.std.specs.Prelude.{◌≡◌, unwrap_or};
 ghost use Rattle.std.specs.Option.{option_copied};
@@ -11,7 +11,7 @@ use crate::family::Family;
 use crate::head::Head;
 use crate::object::Object;
 use crate::views::{bytes_of, text_of, u32_view};
-use nl_attr::{Ctx, Order, append_bytes, begins_with_bytes};
+use nl_attr::{Ctx, Order, append_bytes};
 
 /// A rule's destination.
 pub const FRA_DST: u16 = 1;
@@ -32,8 +32,8 @@ pub const FRA_FWMASK: u16 = 16;
 /// The name of the output interface.
 pub const FRA_OIFNAME: u16 = 17;
 
-/// The head of a routing rule, `fib_rule_hdr`: 12 bytes, of which the sixth and seventh are not
-/// kept.
+/// The header of a rule message, `fib_rule_hdr` of linux/fib_rules.h: 12 bytes. The sixth and
+/// seventh are reserved and not kept.
 #[derive(Clone, Copy, Debug, PartialEq, Eq, Hash)]
 pub struct RuleHead {
     /// `family`: 2 for IPv4, 10 for IPv6.
@@ -44,7 +44,7 @@ pub struct RuleHead {
     pub src_len: u8,
     /// `tos`: the type of service.
     pub tos: u8,
-    /// `table`: the routing table, where its number fits a byte.
+    /// `table`: the routing table, an `RT_TABLE` number below 256.
     pub table: u8,
     /// `action`: what is done with a packet, an `FR_ACT` number.
     pub action: u8,
@@ -52,21 +52,21 @@ pub struct RuleHead {
     pub flags: u32,
 }
 
-/// A routing rule: its head, and the attributes behind it.
+/// A routing rule: its header, and the attributes behind it.
 ///
-/// Each view takes the first attribute of its number, and no other. It is `None` where there is
-/// none, where its value is a list or next hops, and where it has too few bytes for a number.
+/// Each view decodes the first attribute of its type. It is `None` where there is no such
+/// attribute, where it holds attributes or next hops, and where it is too short for a number.
 pub type Rule = Object<RuleHead>;
 
 impl RuleHead {
-    /// The head in these bytes, the lowest byte of a number first.
+    /// Decodes the header in little-endian byte order.
     pub fn read(bytes: &[u8; 12]) -> Self
         ensures { IsHeadOf rule_of rule_fields Order.Little bytes.now result }
     {
         RuleHead::read_ordered(bytes, Order::Little)
     }
 
-    /// The head in these bytes, its numbers in this order.
+    /// Decodes the header in this byte order.
     pub fn read_ordered(bytes: &[u8; 12], order: Order) -> Self
         ensures { IsHeadOf rule_of rule_fields order bytes.now result }
     {
@@ -81,7 +81,7 @@ impl RuleHead {
         }
     }
 
-    /// The same head, so that clauses know its numbers to be in the ranges of their types.
+    /// The same header. By this its contract says that its numbers are in range.
     fn ranged(self) -> Self
         ensures same { result ≡ self }
         ensures ranged { AreRanged (rule_fields self) }
@@ -89,35 +89,27 @@ impl RuleHead {
         self
     }
 
-    /// The bytes of the head, the lowest byte of a number first; what is not kept is zero.
+    /// Encodes the header in little-endian byte order. Bytes that aren't kept are zeros.
     pub fn write(&self) -> [u8; 12]
         ensures { IsWrittenHead rule_of rule_fields Order.Little self.now result }
     {
         self.write_ordered(Order::Little)
     }
 
-    /// The bytes of the head, its numbers in this order; what is not kept is zero.
+    /// Encodes the header in this byte order. Bytes that aren't kept are zeros.
     #[tactic(auto, using(crate::proofs::Families::heads))]
     pub fn write_ordered(&self, order: Order) -> [u8; 12]
         ensures { IsWrittenHead rule_of rule_fields order self.now result }
     {
-        let RuleHead {
-            family,
-            dst_len,
-            src_len,
-            tos,
-            table,
-            action,
-            flags,
-        } = self.ranged();
+        let head = self.ranged();
         let mut bytes = [0; 12];
-        bytes[0] = family;
-        bytes[1] = dst_len;
-        bytes[2] = src_len;
-        bytes[3] = tos;
-        bytes[4] = table;
-        bytes[7] = action;
-        bytes[8..].copy_from_slice(&order.u32_bytes(flags));
+        bytes[0] = head.family;
+        bytes[1] = head.dst_len;
+        bytes[2] = head.src_len;
+        bytes[3] = head.tos;
+        bytes[4] = head.table;
+        bytes[7] = head.action;
+        bytes[8..].copy_from_slice(&order.u32_bytes(head.flags));
         bytes
     }
 }
@@ -126,7 +118,6 @@ impl Head for RuleHead {
     ghost use Rattle.std.proofs.Common.{lit≤};
     ghost use Rattle.nl_route.specs.declared.family.Family.TheVariants as family;
     ghost use Rattle.nl_attr.specs.declared.tree.Ctx.TheVariants.{Rule};
-    ghost use Rattle.nl_route.specs.Rule.{rule_fields, rule_of};
 
     const SIZE: usize = 12;
 
@@ -159,10 +150,6 @@ impl Head for RuleHead {
     fn put_front(&self, order: Order, out: &mut Vec<u8>) {
         append_bytes(out, &self.write_ordered(order));
     }
-
-    fn begins_with_front(&self, order: Order, bytes: &[u8]) -> Option<usize> {
-        begins_with_bytes(&self.write_ordered(order), bytes)
-    }
 }
 
 impl Rule {
@@ -194,74 +181,74 @@ impl Rule {
         text_of(&self.attrs, FRA_OIFNAME)
     }
 
-    /// The rule that is gone to, `FRA_GOTO`, its lowest byte first.
+    /// The priority of the rule to go on with, `FRA_GOTO`, in little-endian byte order.
     ///
-    /// For a body that was read in the other order, call `target_ordered`.
+    /// For a body that was read in big-endian byte order, call `target_ordered`.
     pub fn target(&self) -> Option<u32>
         ensures { result ≡ number_view Order.Little 4 fixed.FRA_GOTO (attrs_in self.now) }
     {
         self.target_ordered(Order::Little)
     }
 
-    /// The rule that is gone to, `FRA_GOTO`, its bytes in this order.
+    /// The priority of the rule to go on with, `FRA_GOTO`, in this byte order.
     pub fn target_ordered(&self, order: Order) -> Option<u32>
         ensures { result ≡ number_view order 4 fixed.FRA_GOTO (attrs_in self.now) }
     {
         u32_view(&self.attrs, FRA_GOTO, order)
     }
 
-    /// The place among rules, `FRA_PRIORITY`, its lowest byte first.
+    /// The priority, `FRA_PRIORITY`, in little-endian byte order: rules apply from the lowest on.
     ///
-    /// For a body that was read in the other order, call `priority_ordered`.
+    /// For a body that was read in big-endian byte order, call `priority_ordered`.
     pub fn priority(&self) -> Option<u32>
         ensures { result ≡ number_view Order.Little 4 fixed.FRA_PRIORITY (attrs_in self.now) }
     {
         self.priority_ordered(Order::Little)
     }
 
-    /// The place among rules, `FRA_PRIORITY`, its bytes in this order.
+    /// The priority, `FRA_PRIORITY`, in this byte order.
     pub fn priority_ordered(&self, order: Order) -> Option<u32>
         ensures { result ≡ number_view order 4 fixed.FRA_PRIORITY (attrs_in self.now) }
     {
         u32_view(&self.attrs, FRA_PRIORITY, order)
     }
 
-    /// The mark of packets, `FRA_FWMARK`, its lowest byte first.
+    /// The firewall mark, `FRA_FWMARK`, in little-endian byte order.
     ///
-    /// For a body that was read in the other order, call `fwmark_ordered`.
+    /// For a body that was read in big-endian byte order, call `fwmark_ordered`.
     pub fn fwmark(&self) -> Option<u32>
         ensures { result ≡ number_view Order.Little 4 fixed.FRA_FWMARK (attrs_in self.now) }
     {
         self.fwmark_ordered(Order::Little)
     }
 
-    /// The mark of packets, `FRA_FWMARK`, its bytes in this order.
+    /// The firewall mark, `FRA_FWMARK`, in this byte order.
     pub fn fwmark_ordered(&self, order: Order) -> Option<u32>
         ensures { result ≡ number_view order 4 fixed.FRA_FWMARK (attrs_in self.now) }
     {
         u32_view(&self.attrs, FRA_FWMARK, order)
     }
 
-    /// The bits of the mark that count, `FRA_FWMASK`, its lowest byte first.
+    /// The mask of the firewall mark, `FRA_FWMASK`, in little-endian byte order.
     ///
-    /// For a body that was read in the other order, call `fwmask_ordered`.
+    /// For a body that was read in big-endian byte order, call `fwmask_ordered`.
     pub fn fwmask(&self) -> Option<u32>
         ensures { result ≡ number_view Order.Little 4 fixed.FRA_FWMASK (attrs_in self.now) }
     {
         self.fwmask_ordered(Order::Little)
     }
 
-    /// The bits of the mark that count, `FRA_FWMASK`, its bytes in this order.
+    /// The mask of the firewall mark, `FRA_FWMASK`, in this byte order.
     pub fn fwmask_ordered(&self, order: Order) -> Option<u32>
         ensures { result ≡ number_view order 4 fixed.FRA_FWMASK (attrs_in self.now) }
     {
         u32_view(&self.attrs, FRA_FWMASK, order)
     }
 
-    /// The routing table: `FRA_TABLE`, its lowest byte first, or the head's where there is no such
-    /// number.
+    /// The routing table: `FRA_TABLE`, in little-endian byte order, or the header's where it has
+    /// no number.
     ///
-    /// For a body that was read in the other order, call `table_id_ordered`.
+    /// For a body that was read in big-endian byte order, call `table_id_ordered`.
     pub fn table_id(&self) -> u32
         ensures { result ≡ unwrap_or
             (number_view Order.Little 4 fixed.FRA_TABLE (attrs_in self.now)) self.now.head.table }
@@ -269,8 +256,7 @@ impl Rule {
         self.table_id_ordered(Order::Little)
     }
 
-    /// The routing table: `FRA_TABLE`, its bytes in this order, or the head's where there is no
-    /// such number.
+    /// The routing table: `FRA_TABLE`, in this byte order, or the header's where it has no number.
     pub fn table_id_ordered(&self, order: Order) -> u32
         ensures { result ≡ unwrap_or
             (number_view order 4 fixed.FRA_TABLE (attrs_in self.now)) self.now.head.table }

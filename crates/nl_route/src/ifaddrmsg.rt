@@ -1,4 +1,4 @@
-//! Addresses: the head `ifaddrmsg` and the attributes `IFA` of linux/if_addr.h.
+//! Addresses: their header `ifaddrmsg`, and their `IFA` attributes (linux/if_addr.h).
 
 ghost use Rattle.std.specs.Prelude.{◌≡◌, unwrap_or};
 ghost use Rattle.std.specs.Option.{option_copied};
@@ -11,7 +11,7 @@ use crate::family::Family;
 use crate::head::Head;
 use crate::object::Object;
 use crate::views::{bytes_of, text_of, u32_view};
-use nl_attr::{Ctx, Order, append_bytes, begins_with_bytes};
+use nl_attr::{Ctx, Order, append_bytes};
 
 /// The address, or the peer's on a point-to-point link.
 pub const IFA_ADDRESS: u16 = 1;
@@ -21,10 +21,10 @@ pub const IFA_LOCAL: u16 = 2;
 pub const IFA_LABEL: u16 = 3;
 /// The broadcast address.
 pub const IFA_BROADCAST: u16 = 4;
-/// The flags of an address, all 32.
+/// The flags of an address, all 32 bits.
 pub const IFA_FLAGS: u16 = 8;
 
-/// The head of an address, `ifaddrmsg`: 8 bytes.
+/// The header of an address message, `ifaddrmsg` of rtnetlink(7): 8 bytes.
 #[derive(Clone, Copy, Debug, PartialEq, Eq, Hash)]
 pub struct AddrHead {
     /// `ifa_family`: 2 for IPv4, 10 for IPv6.
@@ -39,21 +39,21 @@ pub struct AddrHead {
     pub index: u32,
 }
 
-/// An address: its head, and the attributes behind it.
+/// An address: its header, and the attributes behind it.
 ///
-/// Each view takes the first attribute of its number, and no other. It is `None` where there is
-/// none, where its value is a list or next hops, and where it has too few bytes for a number.
+/// Each view decodes the first attribute of its type. It is `None` where there is no such
+/// attribute, where it holds attributes or next hops, and where it is too short for a number.
 pub type Addr = Object<AddrHead>;
 
 impl AddrHead {
-    /// The head in these bytes, the lowest byte of a number first.
+    /// Decodes the header in little-endian byte order.
     pub fn read(bytes: &[u8; 8]) -> Self
         ensures { IsHeadOf addr_of addr_fields Order.Little bytes.now result }
     {
         AddrHead::read_ordered(bytes, Order::Little)
     }
 
-    /// The head in these bytes, its numbers in this order.
+    /// Decodes the header in this byte order.
     pub fn read_ordered(bytes: &[u8; 8], order: Order) -> Self
         ensures { IsHeadOf addr_of addr_fields order bytes.now result }
     {
@@ -66,7 +66,7 @@ impl AddrHead {
         }
     }
 
-    /// The same head, so that clauses know its numbers to be in the ranges of their types.
+    /// The same header. By this its contract says that its numbers are in range.
     fn ranged(self) -> Self
         ensures same { result ≡ self }
         ensures ranged { AreRanged (addr_fields self) }
@@ -74,31 +74,25 @@ impl AddrHead {
         self
     }
 
-    /// The bytes of the head, the lowest byte of a number first.
+    /// Encodes the header in little-endian byte order.
     pub fn write(&self) -> [u8; 8]
         ensures { IsWrittenHead addr_of addr_fields Order.Little self.now result }
     {
         self.write_ordered(Order::Little)
     }
 
-    /// The bytes of the head, its numbers in this order.
+    /// Encodes the header in this byte order.
     #[tactic(auto, using(crate::proofs::Families::heads))]
     pub fn write_ordered(&self, order: Order) -> [u8; 8]
         ensures { IsWrittenHead addr_of addr_fields order self.now result }
     {
-        let AddrHead {
-            family,
-            prefixlen,
-            flags,
-            scope,
-            index,
-        } = self.ranged();
+        let head = self.ranged();
         let mut bytes = [0; 8];
-        bytes[0] = family;
-        bytes[1] = prefixlen;
-        bytes[2] = flags;
-        bytes[3] = scope;
-        bytes[4..].copy_from_slice(&order.u32_bytes(index));
+        bytes[0] = head.family;
+        bytes[1] = head.prefixlen;
+        bytes[2] = head.flags;
+        bytes[3] = head.scope;
+        bytes[4..].copy_from_slice(&order.u32_bytes(head.index));
         bytes
     }
 }
@@ -107,7 +101,6 @@ impl Head for AddrHead {
     ghost use Rattle.std.proofs.Common.{lit≤};
     ghost use Rattle.nl_route.specs.declared.family.Family.TheVariants as family;
     ghost use Rattle.nl_attr.specs.declared.tree.Ctx.TheVariants.{Addr};
-    ghost use Rattle.nl_route.specs.Addr.{addr_fields, addr_of};
 
     const SIZE: usize = 8;
 
@@ -140,10 +133,6 @@ impl Head for AddrHead {
     fn put_front(&self, order: Order, out: &mut Vec<u8>) {
         append_bytes(out, &self.write_ordered(order));
     }
-
-    fn begins_with_front(&self, order: Order, bytes: &[u8]) -> Option<usize> {
-        begins_with_bytes(&self.write_ordered(order), bytes)
-    }
 }
 
 impl Addr {
@@ -175,9 +164,9 @@ impl Addr {
         bytes_of(&self.attrs, IFA_BROADCAST)
     }
 
-    /// All flags: `IFA_FLAGS`, its lowest byte first, or the head's where there is no such number.
+    /// All flags: `IFA_FLAGS`, in little-endian byte order, or `ifa_flags` where it has no number.
     ///
-    /// For a body that was read in the other order, call `flags_full_ordered`.
+    /// For a body that was read in big-endian byte order, call `flags_full_ordered`.
     pub fn flags_full(&self) -> u32
         ensures { result ≡ unwrap_or
             (number_view Order.Little 4 fixed.IFA_FLAGS (attrs_in self.now)) self.now.head.flags }
@@ -185,8 +174,7 @@ impl Addr {
         self.flags_full_ordered(Order::Little)
     }
 
-    /// All flags: `IFA_FLAGS`, its bytes in this order, or the head's where there is no such
-    /// number.
+    /// All flags: `IFA_FLAGS`, in this byte order, or `ifa_flags` where it has no number.
     pub fn flags_full_ordered(&self, order: Order) -> u32
         ensures { result ≡ unwrap_or
             (number_view order 4 fixed.IFA_FLAGS (attrs_in self.now)) self.now.head.flags }

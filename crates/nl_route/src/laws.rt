@@ -1,4 +1,5 @@
-//! Laws over the definitions alone: each contract is a law, and each body is empty.
+//! Theorems about the definitions in `specs/` alone. Each function's contract states one, and its
+//! body is empty.
 
 ghost use Rattle.std.specs.Prelude.{◌≡◌};
 ghost use Rattle.nl_route.specs.Addr as addr;
@@ -18,7 +19,7 @@ use crate::rtmsg::{
     RTA_DST, RTA_GATEWAY, RTA_IIF, RTA_OIF, RTA_PREFSRC, RTA_PRIORITY, RTA_SRC, RTA_TABLE,
 };
 
-/// The constants of the code are the numbers that the definitions name.
+/// The attribute types of the code, as `IFLA_MTU`, are the numbers that the definitions have.
 pub fn constants_are_fixed()
     ensures links { (IFLA_IFNAME ≡ link.IFLA_IFNAME)
         × (IFLA_MTU ≡ link.IFLA_MTU)

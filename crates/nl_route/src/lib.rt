@@ -1,12 +1,16 @@
-//! The families of rtnetlink: links, addresses, routes, neighbours and rules; their message types,
-//! heads, bodies and views.
+//! The families of rtnetlink(7): links, addresses, routes, neighbours and routing rules. A family
+//! here is a kind of object, and not an address family as `AF_INET`.
 //!
-//! A body is a head of the family's own, a C struct of the kernel's headers, and then a region of
-//! attributes. One file for each family has its head, its body's name and its views;
-//! `family` has the table of them all.
+//! The body of a family's message is a header of its own, a C struct of the kernel's headers, and
+//! then attributes. `Object` is such a body.
+//!
+//! - `ifinfomsg` (links), `ifaddrmsg` (addresses), `rtmsg` (routes), `ndmsg` (neighbours) and
+//!   `fib_rule_hdr` (rules) each have the header of one family, and views of its attributes.
+//! - `family` has the table of the families, and their message types.
+//! - `head` is the trait of their headers, `object` reads a body, `writing` writes one.
+//! - `views` looks up attributes for the views. `laws` states theorems, and has no code.
 #![tactic(auto)]
 
-mod comparing;
 mod family;
 mod fib_rule_hdr;
 mod head;

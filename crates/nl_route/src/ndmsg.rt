@@ -1,4 +1,4 @@
-//! Neighbours: the head `ndmsg` and the attributes `NDA` of linux/neighbour.h.
+//! Neighbours: their header `ndmsg`, and their `NDA` attributes (linux/neighbour.h).
 
 ghost use Rattle.std.specs.Prelude.{◌≡◌};
 ghost use Rattle.std.specs.Option.{option_copied};
@@ -11,7 +11,7 @@ use crate::family::Family;
 use crate::head::Head;
 use crate::object::Object;
 use crate::views::{bytes_of, u16_view, u32_view};
-use nl_attr::{Ctx, Order, append_bytes, begins_with_bytes};
+use nl_attr::{Ctx, Order, append_bytes};
 
 /// A neighbour's network address.
 pub const NDA_DST: u16 = 1;
@@ -23,10 +23,11 @@ pub const NDA_VLAN: u16 = 5;
 pub const NDA_PORT: u16 = 6;
 /// The VXLAN network identifier.
 pub const NDA_VNI: u16 = 7;
-/// The bridge of a forwarding entry.
+/// The index of the bridge that a forwarding entry is of.
 pub const NDA_MASTER: u16 = 9;
 
-/// The head of a neighbour, `ndmsg`: 12 bytes, of which the second to fourth are not kept.
+/// The header of a neighbour message, `ndmsg` of rtnetlink(7): 12 bytes. The second to fourth,
+/// padding, are not kept.
 #[derive(Clone, Copy, Debug, PartialEq, Eq, Hash)]
 pub struct NeighHead {
     /// `ndm_family`: 2 for IPv4, 7 for an entry of a bridge, 10 for IPv6.
@@ -37,25 +38,25 @@ pub struct NeighHead {
     pub state: u16,
     /// `ndm_flags`: the `NTF` bits.
     pub flags: u8,
-    /// `ndm_type`: the sort of neighbour, an `RTN` number.
+    /// `ndm_type`: the type of the neighbour's address, an `RTN` number.
     pub sort: u8,
 }
 
-/// A neighbour: its head, and the attributes behind it.
+/// A neighbour: its header, and the attributes behind it.
 ///
-/// Each view takes the first attribute of its number, and no other. It is `None` where there is
-/// none, where its value is a list or next hops, and where it has too few bytes for a number.
+/// Each view decodes the first attribute of its type. It is `None` where there is no such
+/// attribute, where it holds attributes or next hops, and where it is too short for a number.
 pub type Neigh = Object<NeighHead>;
 
 impl NeighHead {
-    /// The head in these bytes, the lowest byte of a number first.
+    /// Decodes the header in little-endian byte order.
     pub fn read(bytes: &[u8; 12]) -> Self
         ensures { IsHeadOf neigh_of neigh_fields Order.Little bytes.now result }
     {
         NeighHead::read_ordered(bytes, Order::Little)
     }
 
-    /// The head in these bytes, its numbers in this order.
+    /// Decodes the header in this byte order.
     pub fn read_ordered(bytes: &[u8; 12], order: Order) -> Self
         ensures { IsHeadOf neigh_of neigh_fields order bytes.now result }
     {
@@ -68,7 +69,7 @@ impl NeighHead {
         }
     }
 
-    /// The same head, so that clauses know its numbers to be in the ranges of their types.
+    /// The same header. By this its contract says that its numbers are in range.
     fn ranged(self) -> Self
         ensures same { result ≡ self }
         ensures ranged { AreRanged (neigh_fields self) }
@@ -76,31 +77,25 @@ impl NeighHead {
         self
     }
 
-    /// The bytes of the head, the lowest byte of a number first; what is not kept is zero.
+    /// Encodes the header in little-endian byte order. Bytes that aren't kept are zeros.
     pub fn write(&self) -> [u8; 12]
         ensures { IsWrittenHead neigh_of neigh_fields Order.Little self.now result }
     {
         self.write_ordered(Order::Little)
     }
 
-    /// The bytes of the head, its numbers in this order; what is not kept is zero.
+    /// Encodes the header in this byte order. Bytes that aren't kept are zeros.
     #[tactic(auto, using(crate::proofs::Families::heads))]
     pub fn write_ordered(&self, order: Order) -> [u8; 12]
         ensures { IsWrittenHead neigh_of neigh_fields order self.now result }
     {
-        let NeighHead {
-            family,
-            ifindex,
-            state,
-            flags,
-            sort,
-        } = self.ranged();
+        let head = self.ranged();
         let mut bytes = [0; 12];
-        bytes[0] = family;
-        bytes[4..8].copy_from_slice(&order.i32_bytes(ifindex));
-        bytes[8..10].copy_from_slice(&order.u16_bytes(state));
-        bytes[10] = flags;
-        bytes[11] = sort;
+        bytes[0] = head.family;
+        bytes[4..8].copy_from_slice(&order.i32_bytes(head.ifindex));
+        bytes[8..10].copy_from_slice(&order.u16_bytes(head.state));
+        bytes[10] = head.flags;
+        bytes[11] = head.sort;
         bytes
     }
 }
@@ -109,7 +104,6 @@ impl Head for NeighHead {
     ghost use Rattle.std.proofs.Common.{lit≤};
     ghost use Rattle.nl_route.specs.declared.family.Family.TheVariants as family;
     ghost use Rattle.nl_attr.specs.declared.tree.Ctx.TheVariants.{Neigh};
-    ghost use Rattle.nl_route.specs.Neigh.{neigh_fields, neigh_of};
 
     const SIZE: usize = 12;
 
@@ -142,10 +136,6 @@ impl Head for NeighHead {
     fn put_front(&self, order: Order, out: &mut Vec<u8>) {
         append_bytes(out, &self.write_ordered(order));
     }
-
-    fn begins_with_front(&self, order: Order, bytes: &[u8]) -> Option<usize> {
-        begins_with_bytes(&self.write_ordered(order), bytes)
-    }
 }
 
 impl Neigh {
@@ -163,64 +153,62 @@ impl Neigh {
         bytes_of(&self.attrs, NDA_LLADDR)
     }
 
-    /// The NDA_VLAN of a bridge's entry, `NDA_VLAN`, its lowest byte first.
+    /// The VLAN of a bridge's entry, `NDA_VLAN`, in little-endian byte order.
     ///
-    /// For a body that was read in the other order, call `vlan_ordered`.
+    /// For a body that was read in big-endian byte order, call `vlan_ordered`.
     pub fn vlan(&self) -> Option<u16>
         ensures { result ≡ number_view Order.Little 2 fixed.NDA_VLAN (attrs_in self.now) }
     {
         self.vlan_ordered(Order::Little)
     }
 
-    /// The NDA_VLAN of a bridge's entry, `NDA_VLAN`, its bytes in this order.
+    /// The VLAN of a bridge's entry, `NDA_VLAN`, in this byte order.
     pub fn vlan_ordered(&self, order: Order) -> Option<u16>
         ensures { result ≡ number_view order 2 fixed.NDA_VLAN (attrs_in self.now) }
     {
         u16_view(&self.attrs, NDA_VLAN, order)
     }
 
-    /// The VXLAN network identifier, `NDA_VNI`, its lowest byte first.
+    /// The VXLAN network identifier, `NDA_VNI`, in little-endian byte order.
     ///
-    /// For a body that was read in the other order, call `vni_ordered`.
+    /// For a body that was read in big-endian byte order, call `vni_ordered`.
     pub fn vni(&self) -> Option<u32>
         ensures { result ≡ number_view Order.Little 4 fixed.NDA_VNI (attrs_in self.now) }
     {
         self.vni_ordered(Order::Little)
     }
 
-    /// The VXLAN network identifier, `NDA_VNI`, its bytes in this order.
+    /// The VXLAN network identifier, `NDA_VNI`, in this byte order.
     pub fn vni_ordered(&self, order: Order) -> Option<u32>
         ensures { result ≡ number_view order 4 fixed.NDA_VNI (attrs_in self.now) }
     {
         u32_view(&self.attrs, NDA_VNI, order)
     }
 
-    /// The index of the bridge that a forwarding entry is of, `NDA_MASTER`, its lowest byte first.
+    /// The index of the bridge of a forwarding entry, `NDA_MASTER`, in little-endian byte order.
     ///
-    /// For a body that was read in the other order, call `master_ordered`.
+    /// For a body that was read in big-endian byte order, call `master_ordered`.
     pub fn master(&self) -> Option<u32>
         ensures { result ≡ number_view Order.Little 4 fixed.NDA_MASTER (attrs_in self.now) }
     {
         self.master_ordered(Order::Little)
     }
 
-    /// The index of the bridge that a forwarding entry is of, `NDA_MASTER`, its bytes in this
-    /// order.
+    /// The index of the bridge of a forwarding entry, `NDA_MASTER`, in this byte order.
     pub fn master_ordered(&self, order: Order) -> Option<u32>
         ensures { result ≡ number_view order 4 fixed.NDA_MASTER (attrs_in self.now) }
     {
         u32_view(&self.attrs, NDA_MASTER, order)
     }
 
-    /// The UDP port of a VXLAN entry, `NDA_PORT`: in network order, whatever the order of other
-    /// numbers.
+    /// The UDP port of a VXLAN entry, `NDA_PORT`: always in network byte order.
     pub fn port(&self) -> Option<u16>
         ensures { result ≡ number_view Order.Big 2 fixed.NDA_PORT (attrs_in self.now) }
     {
         u16_view(&self.attrs, NDA_PORT, Order::Big)
     }
 
-    /// The state, the head's `NUD` bits.
+    /// The state, `ndm_state`: the `NUD` bits.
     pub fn state(&self) -> u16
         ensures { result ≡ self.now.head.state }
     {

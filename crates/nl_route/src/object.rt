@@ -1,4 +1,4 @@
-//! The body of a family's message, whatever the family.
+//! The body of a message of any family, and how it is read.
 
 ghost use Rattle.std.specs.Prelude.{◌≡◌, ◌≤◌, ◌+◌, length};
 ghost use Rattle.nl_attr.specs.Fixed as fixed;
@@ -10,7 +10,7 @@ use crate::head::Head;
 use nl_attr::{Attr, Depth, ListError, Order, Tally, read_list_ordered};
 use std::alloc::Global;
 
-/// The body of a family's message: its head, and the attributes behind it.
+/// The body of a family's message: its header, and the attributes behind it.
 #[derive(Debug, Drop, PartialEq, Eq)]
 pub struct Object<H> {
     pub head: H,
@@ -25,11 +25,10 @@ impl<H: Head> Object<H> {
         H::family()
     }
 
-    /// The body in these bytes, the lowest byte of a number first, and how many bytes of attributes
-    /// were visited.
+    /// Reads a body in little-endian byte order, with all that is nested in its attributes.
     ///
-    /// `base` is the place of the first byte. It refuses where `read_list` refuses the attributes;
-    /// the bytes of the head have no fault.
+    /// `base` is the offset of the first byte, which offsets in errors count from. Any bytes are a
+    /// header, so the errors are those of `nl_attr::read_list` for the attributes.
     pub fn read_body(alloc: Global, bytes: &[u8], base: u32, depth: Depth) -> Tally<Self, ListError>
         requires head { H.SIZE ≤ length bytes.now }
         requires size { length bytes.now ≤ fixed.LONGEST_REGION }
@@ -40,7 +39,7 @@ impl<H: Head> Object<H> {
         Self::read_body_ordered(alloc, bytes, base, depth, Order::Little)
     }
 
-    /// The body in these bytes, its numbers in this order, else as `read_body`.
+    /// Reads a body in this byte order. All else is as in `read_body`.
     pub fn read_body_ordered(
         alloc: Global,
         bytes: &[u8],

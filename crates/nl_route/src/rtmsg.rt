@@ -1,4 +1,4 @@
-//! Routes: the head `rtmsg` and the attributes `RTA` of linux/rtnetlink.h.
+//! Routes: their header `rtmsg`, and their `RTA` attributes (linux/rtnetlink.h).
 
 ghost use Rattle.std.specs.Prelude.{◌≡◌, unwrap_or};
 ghost use Rattle.std.specs.Option.{option_copied};
@@ -14,7 +14,7 @@ use crate::family::Family;
 use crate::head::Head;
 use crate::object::Object;
 use crate::views::{bytes_of, hops_of, list_of, u32_view};
-use nl_attr::{Attr, Ctx, Hop, Order, RTA_METRICS, RTA_MULTIPATH, append_bytes, begins_with_bytes};
+use nl_attr::{Attr, Ctx, Hop, Order, RTA_METRICS, RTA_MULTIPATH, append_bytes};
 
 /// A route's destination.
 pub const RTA_DST: u16 = 1;
@@ -33,7 +33,7 @@ pub const RTA_PREFSRC: u16 = 7;
 /// The routing table, all 32 bits.
 pub const RTA_TABLE: u16 = 15;
 
-/// The head of a route, `rtmsg`: 12 bytes.
+/// The header of a route message, `rtmsg` of rtnetlink(7): 12 bytes.
 #[derive(Clone, Copy, Debug, PartialEq, Eq, Hash)]
 pub struct RouteHead {
     /// `rtm_family`: 2 for IPv4, 10 for IPv6.
@@ -44,33 +44,33 @@ pub struct RouteHead {
     pub src_len: u8,
     /// `rtm_tos`: the type of service.
     pub tos: u8,
-    /// `rtm_table`: the routing table, where its number fits a byte.
+    /// `rtm_table`: the routing table, an `RT_TABLE` number below 256.
     pub table: u8,
     /// `rtm_protocol`: who made the route, an `RTPROT` number.
     pub protocol: u8,
     /// `rtm_scope`: how far the destination is, an `RT_SCOPE` number.
     pub scope: u8,
-    /// `rtm_type`: the sort of route, an `RTN` number.
+    /// `rtm_type`: the type of the route, an `RTN` number.
     pub sort: u8,
     /// `rtm_flags`: the `RTM_F` bits.
     pub flags: u32,
 }
 
-/// A route: its head, and the attributes behind it.
+/// A route: its header, and the attributes behind it.
 ///
-/// Each view takes the first attribute of its number, and no other. It is `None` where there is
-/// none, where its value is a list or next hops, and where it has too few bytes for a number.
+/// Each view decodes the first attribute of its type. It is `None` where there is no such
+/// attribute, where it holds attributes or next hops, and where it is too short for a number.
 pub type Route = Object<RouteHead>;
 
 impl RouteHead {
-    /// The head in these bytes, the lowest byte of a number first.
+    /// Decodes the header in little-endian byte order.
     pub fn read(bytes: &[u8; 12]) -> Self
         ensures { IsHeadOf route_of route_fields Order.Little bytes.now result }
     {
         RouteHead::read_ordered(bytes, Order::Little)
     }
 
-    /// The head in these bytes, its numbers in this order.
+    /// Decodes the header in this byte order.
     pub fn read_ordered(bytes: &[u8; 12], order: Order) -> Self
         ensures { IsHeadOf route_of route_fields order bytes.now result }
     {
@@ -87,7 +87,7 @@ impl RouteHead {
         }
     }
 
-    /// The same head, so that clauses know its numbers to be in the ranges of their types.
+    /// The same header. By this its contract says that its numbers are in range.
     fn ranged(self) -> Self
         ensures same { result ≡ self }
         ensures ranged { AreRanged (route_fields self) }
@@ -95,39 +95,29 @@ impl RouteHead {
         self
     }
 
-    /// The bytes of the head, the lowest byte of a number first.
+    /// Encodes the header in little-endian byte order.
     pub fn write(&self) -> [u8; 12]
         ensures { IsWrittenHead route_of route_fields Order.Little self.now result }
     {
         self.write_ordered(Order::Little)
     }
 
-    /// The bytes of the head, its numbers in this order.
+    /// Encodes the header in this byte order.
     #[tactic(auto, using(crate::proofs::Families::heads))]
     pub fn write_ordered(&self, order: Order) -> [u8; 12]
         ensures { IsWrittenHead route_of route_fields order self.now result }
     {
-        let RouteHead {
-            family,
-            dst_len,
-            src_len,
-            tos,
-            table,
-            protocol,
-            scope,
-            sort,
-            flags,
-        } = self.ranged();
+        let head = self.ranged();
         let mut bytes = [0; 12];
-        bytes[0] = family;
-        bytes[1] = dst_len;
-        bytes[2] = src_len;
-        bytes[3] = tos;
-        bytes[4] = table;
-        bytes[5] = protocol;
-        bytes[6] = scope;
-        bytes[7] = sort;
-        bytes[8..].copy_from_slice(&order.u32_bytes(flags));
+        bytes[0] = head.family;
+        bytes[1] = head.dst_len;
+        bytes[2] = head.src_len;
+        bytes[3] = head.tos;
+        bytes[4] = head.table;
+        bytes[5] = head.protocol;
+        bytes[6] = head.scope;
+        bytes[7] = head.sort;
+        bytes[8..].copy_from_slice(&order.u32_bytes(head.flags));
         bytes
     }
 }
@@ -136,7 +126,6 @@ impl Head for RouteHead {
     ghost use Rattle.std.proofs.Common.{lit≤};
     ghost use Rattle.nl_route.specs.declared.family.Family.TheVariants as family;
     ghost use Rattle.nl_attr.specs.declared.tree.Ctx.TheVariants.{Route};
-    ghost use Rattle.nl_route.specs.Route.{route_fields, route_of};
 
     const SIZE: usize = 12;
 
@@ -168,10 +157,6 @@ impl Head for RouteHead {
 
     fn put_front(&self, order: Order, out: &mut Vec<u8>) {
         append_bytes(out, &self.write_ordered(order));
-    }
-
-    fn begins_with_front(&self, order: Order, bytes: &[u8]) -> Option<usize> {
-        begins_with_bytes(&self.write_ordered(order), bytes)
     }
 }
 
@@ -207,16 +192,16 @@ impl Route {
         bytes_of(&self.attrs, RTA_PREFSRC)
     }
 
-    /// The index of the output interface, `RTA_OIF`, its lowest byte first.
+    /// The index of the output interface, `RTA_OIF`, in little-endian byte order.
     ///
-    /// For a body that was read in the other order, call `oif_ordered`.
+    /// For a body that was read in big-endian byte order, call `oif_ordered`.
     pub fn oif(&self) -> Option<u32>
         ensures { result ≡ number_view Order.Little 4 fixed.RTA_OIF (attrs_in self.now) }
     {
         self.oif_ordered(Order::Little)
     }
 
-    /// The index of the output interface, `RTA_OIF`, its bytes in this order.
+    /// The index of the output interface, `RTA_OIF`, in this byte order.
     #[inline(always)]
     pub fn oif_ordered(&self, order: Order) -> Option<u32>
         ensures { result ≡ number_view order 4 fixed.RTA_OIF (attrs_in self.now) }
@@ -224,32 +209,32 @@ impl Route {
         u32_view(&self.attrs, RTA_OIF, order)
     }
 
-    /// The index of the input interface, `RTA_IIF`, its lowest byte first.
+    /// The index of the input interface, `RTA_IIF`, in little-endian byte order.
     ///
-    /// For a body that was read in the other order, call `iif_ordered`.
+    /// For a body that was read in big-endian byte order, call `iif_ordered`.
     pub fn iif(&self) -> Option<u32>
         ensures { result ≡ number_view Order.Little 4 fixed.RTA_IIF (attrs_in self.now) }
     {
         self.iif_ordered(Order::Little)
     }
 
-    /// The index of the input interface, `RTA_IIF`, its bytes in this order.
+    /// The index of the input interface, `RTA_IIF`, in this byte order.
     pub fn iif_ordered(&self, order: Order) -> Option<u32>
         ensures { result ≡ number_view order 4 fixed.RTA_IIF (attrs_in self.now) }
     {
         u32_view(&self.attrs, RTA_IIF, order)
     }
 
-    /// The priority of the route, `RTA_PRIORITY`, its lowest byte first.
+    /// The priority of the route, `RTA_PRIORITY`, in little-endian byte order.
     ///
-    /// For a body that was read in the other order, call `priority_ordered`.
+    /// For a body that was read in big-endian byte order, call `priority_ordered`.
     pub fn priority(&self) -> Option<u32>
         ensures { result ≡ number_view Order.Little 4 fixed.RTA_PRIORITY (attrs_in self.now) }
     {
         self.priority_ordered(Order::Little)
     }
 
-    /// The priority of the route, `RTA_PRIORITY`, its bytes in this order.
+    /// The priority of the route, `RTA_PRIORITY`, in this byte order.
     #[inline(always)]
     pub fn priority_ordered(&self, order: Order) -> Option<u32>
         ensures { result ≡ number_view order 4 fixed.RTA_PRIORITY (attrs_in self.now) }
@@ -257,10 +242,10 @@ impl Route {
         u32_view(&self.attrs, RTA_PRIORITY, order)
     }
 
-    /// The routing table: `RTA_TABLE`, its lowest byte first, or the head's where there is no such
+    /// The routing table: `RTA_TABLE`, in little-endian byte order, or `rtm_table` where it has no
     /// number.
     ///
-    /// For a body that was read in the other order, call `table_id_ordered`.
+    /// For a body that was read in big-endian byte order, call `table_id_ordered`.
     pub fn table_id(&self) -> u32
         ensures { result ≡ unwrap_or
             (number_view Order.Little 4 fixed.RTA_TABLE (attrs_in self.now)) self.now.head.table }
@@ -268,8 +253,7 @@ impl Route {
         self.table_id_ordered(Order::Little)
     }
 
-    /// The routing table: `RTA_TABLE`, its bytes in this order, or the head's where there is no
-    /// such number.
+    /// The routing table: `RTA_TABLE`, in this byte order, or `rtm_table` where it has no number.
     #[inline(always)]
     pub fn table_id_ordered(&self, order: Order) -> u32
         ensures { result ≡ unwrap_or
@@ -278,14 +262,14 @@ impl Route {
         u32_view(&self.attrs, RTA_TABLE, order).unwrap_or(u32::from(self.head.table))
     }
 
-    /// The metrics: the list of `RTA_METRICS`, empty where there is none.
+    /// The metrics: the attributes in `RTA_METRICS`, or none.
     pub fn metrics(&self) -> &[Attr]
         ensures { attrs_view result.now ≡ items_view attr_fixed.RTA_METRICS (attrs_in self.now) }
     {
         list_of(&self.attrs, RTA_METRICS)
     }
 
-    /// The next hops of `RTA_MULTIPATH`, empty where there are none.
+    /// The next hops in `RTA_MULTIPATH`, or none.
     pub fn hops(&self) -> &[Hop]
         ensures { hops_view result.now
             ≡ hop_items_view attr_fixed.RTA_MULTIPATH (attrs_in self.now) }

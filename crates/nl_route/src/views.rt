@@ -1,4 +1,5 @@
-//! What the first attribute of a number says, whatever the family.
+//! Looks up the first attribute of a type in a list, and decodes its payload. `None` where there
+//! is no such attribute, or it holds something else.
 
 ghost use Rattle.std.specs.Prelude.{◌≡◌};
 ghost use Rattle.std.specs.Option.{option_copied};
@@ -8,21 +9,21 @@ ghost use Rattle.nl_route.specs.Views.{items_view, hop_items_view};
 
 use nl_attr::{Attr, Hop, Order, Value, find};
 
-/// The first byte.
+/// The first byte of the payload.
 pub(crate) fn u8_view(attrs: &[Attr], number: u16) -> Option<u8>
     ensures { result ≡ number_view Order.Little 1 number (attrs_view attrs.now) }
 {
     find(attrs, number)?.u8_value()
 }
 
-/// The number in the first two bytes.
+/// The number in the first two bytes of the payload, in this byte order.
 pub(crate) fn u16_view(attrs: &[Attr], number: u16, order: Order) -> Option<u16>
     ensures { result ≡ number_view order 2 number (attrs_view attrs.now) }
 {
     find(attrs, number)?.u16_value_ordered(order)
 }
 
-/// The number in the first four bytes.
+/// The number in the first four bytes of the payload, in this byte order.
 #[inline(always)]
 pub(crate) fn u32_view(attrs: &[Attr], number: u16, order: Order) -> Option<u32>
     ensures { result ≡ number_view order 4 number (attrs_view attrs.now) }
@@ -30,14 +31,14 @@ pub(crate) fn u32_view(attrs: &[Attr], number: u16, order: Order) -> Option<u32>
     find(attrs, number)?.u32_value_ordered(order)
 }
 
-/// The bytes before the first zero byte, or all.
+/// The payload up to its first zero byte, or all of it where there is none.
 pub(crate) fn text_of(attrs: &[Attr], number: u16) -> Option<&[u8]>
     ensures { option_copied result ≡ text_view number (attrs_view attrs.now) }
 {
     find(attrs, number)?.text()
 }
 
-/// All bytes.
+/// The whole payload.
 #[inline(always)]
 pub(crate) fn bytes_of(attrs: &[Attr], number: u16) -> Option<&[u8]>
     ensures { option_copied result ≡ bytes_view number (attrs_view attrs.now) }
@@ -45,7 +46,7 @@ pub(crate) fn bytes_of(attrs: &[Attr], number: u16) -> Option<&[u8]>
     find(attrs, number)?.bytes()
 }
 
-/// The list that it holds, empty where there is none.
+/// The attributes nested in it, or none.
 pub(crate) fn list_of(attrs: &[Attr], number: u16) -> &[Attr]
     ensures { attrs_view result.now ≡ items_view number (attrs_view attrs.now) }
 {
@@ -60,7 +61,7 @@ pub(crate) fn list_of(attrs: &[Attr], number: u16) -> &[Attr]
     }
 }
 
-/// The next hops that it holds, empty where there are none.
+/// The next hops in it, or none.
 pub(crate) fn hops_of(attrs: &[Attr], number: u16) -> &[Hop]
     ensures { hops_view result.now ≡ hop_items_view number (attrs_view attrs.now) }
 {

@@ -1,4 +1,4 @@
-//! Writing the body of a family's message, whatever the family.
+//! Writing the body of a message of any family: its length, and its bytes.
 
 ghost use Rattle.std.specs.Prelude.{◌≡◌, ◌≤◌, ◌+◌, ◌++◌, ◌↔◌, ◌⊎◌, IsTrue};
 ghost use Rattle.std.specs.Prelude.{IfSome, vec_len, vec_capacity};
@@ -15,9 +15,8 @@ use crate::object::Object;
 use nl_attr::{Depth, Extent, Order, WriteError, append_list, measure};
 
 impl<H: Head> Object<H> {
-    /// How many bytes the body is written as, in either order. None where a value is of another
-    /// kind than its attribute holds, or an item or the region of the attributes is too long; how
-    /// deep they are says nothing here.
+    /// How many bytes the body is written as, in either byte order. `None` where `write_body`
+    /// would answer `Mismatch` or `TooLong`. The nesting depth isn't checked.
     pub fn body_len(&self) -> Option<u32>
         ensures none { (result ≡ None) ↔ (IsMismatched (attrs_in self.now) H.ctx
             ⊎ IsLong (attrs_in self.now)) }
@@ -28,12 +27,12 @@ impl<H: Head> Object<H> {
         Some(len as u32)
     }
 
-    /// What the body comes to when it is written, its head too; none where an attribute has a
-    /// number of 16,384 or more, or a value of another kind than its context, number and flags say.
+    /// Measures the body and its header for writing. `None` is the error `Mismatch` of
+    /// `write_body`. Else `deep` says whether it is `TooDeep`, and no `len` that it is `TooLong`,
+    /// in this order.
     ///
-    /// So a caller that writes the body behind bytes of its own decides every refusal in one walk,
-    /// before any memory is taken: first none, then `deep`, then no `len`. Where there is a `len`,
-    /// `append_body` may be called with room for so many bytes.
+    /// So a caller that writes the body behind bytes of its own finds every error in one walk,
+    /// before it takes memory. Where there is a `len`, `append_body` needs room for so many bytes.
     pub fn measure(&self, depth: Depth) -> Option<Extent>
         ensures mismatch { (result ≡ None) ↔ IsMismatched (attrs_in self.now) H.ctx }
         ensures deep { IfSome result
@@ -43,10 +42,10 @@ impl<H: Head> Object<H> {
         ensures len { IfSome result (λ e. IfSome e.len
             (λ n. n ≡ H.SIZE + items_len (attrs_in self.now))) }
         ensures limit { IfSome result (λ e. IfSome e.len (λ n. n ≤ H.SIZE + fixed.LONGEST_REGION)) }
-        // Then it may be appended.
+        // Where there is a length, the body may be appended.
         ensures sized { IfSome result
             (λ e. IfSome e.len (λ n. IsSized (attrs_in self.now))) }
-        // No head has more than 64 bytes.
+        // No header has more than 64 bytes.
         ensures small { H.SIZE ≤ 64 }
     {
         let inner = measure(&self.attrs, H::context(), depth)?;
@@ -60,8 +59,8 @@ impl<H: Head> Object<H> {
         })
     }
 
-    /// Appends the body, numbers in this order. It takes no memory: the body has been measured, and
-    /// there is room for its length.
+    /// Appends the body in this byte order. It takes no memory: `measure` has accepted the body,
+    /// and `out` has room for its length.
     pub fn append_body(&self, order: Order, out: &mut Vec<u8>)
         requires sized { IsSized (attrs_in self.now) }
         requires space { vec_len out.old
@@ -71,7 +70,7 @@ impl<H: Head> Object<H> {
         ensures len { vec_len out.new
             ≡ vec_len out.old + (H.SIZE + items_len (attrs_in self.now)) }
         ensures room { vec_capacity out.old ≤ vec_capacity out.new }
-        // What a body of the program holds is in the range of its types.
+        // Each number of a body in memory is in the range of its Rust type.
         ensures ranged { AreRanged (H.fields self.now.head)
             × IsRanged (attrs_in self.now) }
     {
@@ -79,14 +78,16 @@ impl<H: Head> Object<H> {
         append_list(&self.attrs, order, out);
     }
 
-    /// Appends the body, numbers with their lowest byte first: the head, and each attribute with
-    /// its padding of zeros.
+    /// Appends the body to `out` in little-endian byte order, each attribute padded with zeros.
+    /// After an error `out` holds what it held before. The error is the first of these that
+    /// applies:
     ///
-    /// It refuses, in this order: `Mismatch` for an attribute whose number is 16,384 or more or
-    /// whose value is of another kind than its context, number and flags say; `TooDeep` for a
-    /// container that opens a level above the depth; `TooLong` for an item of more than 65,535
-    /// bytes or a region of more than 1,048,576; `Memory` where there is no room and none is given.
-    /// After a refusal `out` holds what it held.
+    /// - `Mismatch`: an attribute's type is 16,384 or more, or its value isn't what its context,
+    ///   type and flags say that it holds.
+    /// - `TooDeep`: a nested attribute opens a level beyond `depth`.
+    /// - `TooLong`: an attribute or a next hop has more than 65,535 bytes, or a region more than
+    ///   1,048,576.
+    /// - `Memory`: `out` has no room, and an allocation failed.
     pub fn write_body(&self, depth: Depth, out: &mut Vec<u8>) -> Result<(), WriteError>
         ensures { WritesBody (shape_of Order.Little depth) H.SIZE (H.fields self.now.head)
             H.ctx (attrs_in self.now) out.old out.new result }
@@ -94,7 +95,7 @@ impl<H: Head> Object<H> {
         self.write_body_ordered(depth, out, Order::Little)
     }
 
-    /// Appends the body, numbers in this order, else as `write_body`.
+    /// Appends the body in this byte order. All else is as in `write_body`.
     pub fn write_body_ordered(
         &self,
         depth: Depth,

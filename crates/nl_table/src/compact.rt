@@ -1,4 +1,4 @@
-//! The key of an entry, as a table keeps it.
+//! `CompactKey`: a key as a table stores it.
 
 ghost use Rattle.std.specs.Prelude.{◌≡◌, ◌∷◌, [], length, OnOk, nat_eq};
 ghost use Rattle.std.specs.Cmp.Lexicographic.{pointwise, bytes_decides, nat_list_eq_equiv};
@@ -13,16 +13,16 @@ use std::alloc::{AllocError, Global};
 use std::hash::{Hash, Hasher};
 use std::marker::Model;
 
-/// How many bytes lie in the value itself. The key of a route of IPv6 has at most 68.
+/// The most bytes that are stored in the value itself. The key of an IPv6 route has at most 68.
 const INLINE: usize = 70;
 
-/// The bytes of a key, of which up to 70 lie in the value itself, so that most keys take no memory.
+/// A key. Up to 70 bytes are stored in the value itself, so that most keys take no memory.
 #[derive(Drop)]
 pub struct CompactKey {
     store: Store,
 }
 
-/// Where the bytes lie: at the front of a buffer, or in a vector.
+/// Where the bytes are stored: at the front of a buffer of fixed size, or in a vector.
 #[derive(Drop)]
 enum Store {
     Short(ShortKey),
@@ -39,7 +39,7 @@ impl Model for CompactKey {
 }
 
 impl CompactKey {
-    /// No byte.
+    /// A key without a byte, for `fill`.
     #[inline(always)]
     pub fn empty() -> CompactKey
         ensures { result ≡ [] }
@@ -49,7 +49,7 @@ impl CompactKey {
         }
     }
 
-    /// The bytes of a vector, where they stay. It takes no memory.
+    /// Takes over a vector's bytes without copying them. It takes no memory.
     pub fn from_vec(bytes: Vec<u8>) -> CompactKey
         ensures { result ≡ bytes.items }
     {
@@ -58,10 +58,11 @@ impl CompactKey {
         }
     }
 
-    /// Makes the key of an entry where no byte is yet, the numbers in the entry's attributes being
-    /// in this byte order.
+    /// Writes the key of an entry into an empty `CompactKey`. `order` is the byte order of the
+    /// numbers in the entry's attributes.
     ///
-    /// It takes memory for more than 70 bytes, and is refused only where there is none.
+    /// It takes memory for more than 70 bytes. The error is for memory, and the key must not be
+    /// used then: it may hold part of the bytes.
     #[inline(always)]
     pub fn fill<T: Entry>(
         &mut self,
@@ -80,7 +81,7 @@ impl CompactKey {
         self.fill_long(alloc, order, entry)
     }
 
-    /// Makes the key of an entry, as `fill`, in a vector.
+    /// Writes the key of an entry into a vector, as `fill` does for a long one.
     #[inline(never)]
     fn fill_long<T: Entry>(
         &mut self,
@@ -106,7 +107,7 @@ impl CompactKey {
     }
 }
 
-/// The bytes of a key while it is made, as far as they fit.
+/// A key of at most 70 bytes, in a buffer of fixed size. As a `KeyBuffer` it fails beyond that.
 #[derive(Drop)]
 pub(crate) struct ShortKey {
     buffer: [u8; INLINE],
@@ -124,7 +125,7 @@ impl Model for ShortKey {
 }
 
 impl ShortKey {
-    /// No byte.
+    /// A key without a byte.
     #[inline(always)]
     pub(crate) fn empty() -> ShortKey
         ensures { result ≡ [] }
@@ -173,7 +174,7 @@ impl PartialEq for CompactKey {
 
     ghost laws = { partial_equiv_from_equiv nat_list_eq_equiv };
 
-    // A call, since most keys of a table are new, and then none are compared.
+    // It isn't inlined: most keys that are put are new, and are compared with no other.
     #[inline(never)]
     fn eq(&self, other: &CompactKey) -> bool {
         self.as_slice() == other.as_slice()
@@ -184,7 +185,7 @@ impl Eq for CompactKey {
     ghost laws = { nat_list_eq_equiv };
 }
 
-// All bytes are one write, of which a hasher takes many at a time.
+// All bytes are written in one call, of which a hasher takes many at a time.
 impl Hash for CompactKey {
     ghost hash_input = { λ k. k ∷ [] };
 
@@ -195,7 +196,7 @@ impl Hash for CompactKey {
     }
 }
 
-/// The bytes of a key that is looked for.
+/// A borrowed key to look up.
 #[derive(Clone, Copy)]
 pub(crate) struct Sought<'a> {
     pub(crate) bytes: &'a [u8],

@@ -1,4 +1,4 @@
-//! The entries of a table, one after another.
+//! The iterator over the entries of a table.
 
 ghost use Rattle.std.specs.Prelude.{◌≡◌, ⊤};
 ghost use Rattle.std.specs.Iterator.{YieldsFirstBy, YieldsLastBy, item_count};
@@ -10,7 +10,7 @@ use std::alloc::AllocError;
 use std::iter::FusedIterator;
 use std::marker::Model;
 
-/// The entries of a table with their keys, seen as the list of those that are left.
+/// An iterator over the entries of a table with their keys, in the order of `Table::get`.
 #[derive(Drop)]
 #[must_use = "iterators are lazy and do nothing unless consumed"]
 pub struct Iter<'a, T> {

@@ -1,4 +1,4 @@
-//! The keys under which tables hash.
+//! `Seed`: the secret of a table's hash.
 
 ghost use Rattle.std.specs.Prelude.{◌≡◌, take, drop};
 ghost use Rattle.core.specs.Int.{w64, from_le_bytes};
@@ -7,11 +7,11 @@ use core::hash::keyed_hasher;
 use std::fmt;
 use std::hash::{BuildHasher, DefaultHasher};
 
-/// The two keys by which a table hashes the keys of its entries (SipHash 1-3).
+/// The 128-bit key of SipHash 1-3, by which a table hashes the keys of its entries.
 ///
-/// Who chooses the entries of a table and knows its seed can make keys that collide, each of which
-/// is then compared with all of them. So a seed is random, and no peer knows it. What a table
-/// holds, and in which order, is the same under each.
+/// Somebody who chooses entries and knows the seed can make keys that collide. Each put then
+/// compares its key with all of them. So a seed should be random, and known to no peer. It doesn't
+/// change what a table holds, or in which order.
 #[derive(Clone, Copy)]
 pub struct Seed {
     pub key0: u64,
@@ -19,10 +19,11 @@ pub struct Seed {
 }
 
 impl Seed {
-    /// The seed of a table that is given none, which everybody knows.
+    /// The seed of a table that is given none. It is public, and protects from no collisions.
     pub const KNOWN: Seed = Seed { key0: 0, key1: 0 };
 
-    /// The seed of these bytes, the lowest byte of each key first.
+    /// The seed of these bytes: `key0` from the first eight, `key1` from the others,
+    /// little-endian.
     pub fn from_bytes(bytes: [u8; 16]) -> Seed
         ensures first { result.key0 ≡ from_le_bytes w64 (take 8 bytes) }
         ensures second { result.key1 ≡ from_le_bytes w64 (drop 8 bytes) }
@@ -47,7 +48,7 @@ impl BuildHasher for Seed {
     }
 }
 
-// A seed isn't shown.
+// A seed is secret, so its keys aren't printed.
 impl fmt::Debug for Seed {
     fn fmt<W: fmt::Write>(&self, f: &mut fmt::Formatter<W>) -> fmt::Result {
         f.debug_struct("Seed").finish_non_exhaustive()

@@ -1,9 +1,12 @@
 -- Rows of bytes, one after another.
-use Rattle.std.proofs.Common.{◌≡◌, ◌<◌, ◌≤◌, ◌+◌, ℕ, List, [], ◌∷◌, ◌++◌, length, min, replicate, Bool, true, false, Option, Some, None, Ok, Err, is_some, not, refl, sym, ap, subst, ◌∙◌, arith, append_assoc}
+use Rattle.std.proofs.Common.{◌≡◌, ◌<◌, ◌≤◌, ◌+◌, ◌==◌, if◌then◌else◌, ℕ, zero, suc, List, [], ◌∷◌, ◌++◌, length, take, drop, min, replicate, Bool, true, false, Option, Some, None, Ok, Err, is_some, not, refl, sym, ap, subst, ◌∙◌, arith, append_assoc}
 use Rattle.std.specs.List.{flat_map}
-use Rattle.std.proofs.lemmas.List.{append-nil}
+use Rattle.std.proofs.lemmas.Bool.Decides.{nat_tests}
+use Rattle.std.proofs.lemmas.List.{append-nil, length-take-le, nil_from_length, take-append-drop}
 use Rattle.std.proofs.lemmas.Grind.{flat_map-append}
+use Rattle.nl_attr.specs.declared.events.Event.{Event}
 use Rattle.nl_attr.specs.declared.fault.Reason.{Reason}
+use Rattle.nl_attr.specs.declared.order.Order.{Order}
 use Rattle.nl_attr.specs.Shape.{Shape}
 use Rattle.nl_attr.proofs.Lemmas.Grammars.{head_lies}
 use Rattle.nl_frame.specs.declared.reading.ReadError.{ReadError}
@@ -15,10 +18,75 @@ use Rattle.nl_frame.specs.Limits.{Bounds}
 use Rattle.rtnl.specs.declared.bytes.rows.RowFormat.{RowFormat}
 use Rattle.rtnl.specs.declared.bytes.rows.RowFormat.TheVariants.{Text, Coloured, Json}
 use Rattle.rtnl.specs.Shown.{Answer, Answers, Refuses, is_taken, refusal_text}
-use Rattle.rtnl.specs.Tape.{IsAboutItsHead, IsRefusalOf, refusal_line}
-use Rattle.rtnl.specs.ByteRows.{IsAtByte, refused_at, AreRows, ByteRow, HasRows, BytePart, Viewed, Views, answer_line, ending, is_accepted, opening, row_printed, viewed_text}
+use Rattle.rtnl.specs.Tape.{AreEvents, IsAboutItsHead, IsRefusalOf, refusal_line}
+use Rattle.rtnl.specs.ByteParts.{BytePart, Label, Mark, contexts_after, marks_of, parts_by, refused_marks, size_in, unread}
+use Rattle.rtnl.specs.ByteRows.{IsAtByte, refused_at, AreParts, AreRows, AreRowsOf, ByteRow, Viewed, Views, answer_line, ending, is_accepted, opening, row_printed, viewed_text}
 use Rattle.rtnl.specs.ByteViews.{AddsAllRows, AddsPart, AddsRows, refusal_ending}
 use Rattle.rtnl.proofs.Showing.{one_more}
+
+-- ---- the parts of bytes
+
+module _ {X : Type 0} (a b : X) where
+  if_none : (n : ℕ) → n ≡ 0 → (if n == 0 then a else b) ≡ a
+  if_none n e = grind (arith, nat_tests)
+
+  if_some : (n : ℕ) → 0 < n → (if n == 0 then a else b) ≡ b
+  if_some n less = grind (arith, nat_tests)
+
+module _ (place : ℕ) (d : List ℕ) (refusal : Option ScanError) where
+  -- the part of the first bytes, with these words
+  abbrev pub front : ℕ → Label → BytePart
+  front n label = record { place = place; bytes = take n d; label = label; refusal = refusal }
+
+  module _ (m : Mark) (marks : List Mark) (n : ℕ) (is : n ≡ size_in place d m) where
+    by_size : parts_by place d refusal (m ∷ marks) ≡ (if n == 0 then parts_by place d refusal marks else front n m.label ∷ parts_by (place + n) (drop n d) None marks)
+    by_size = subst (λ (k : ℕ). parts_by place d refusal (m ∷ marks) ≡ (if k == 0 then parts_by place d refusal marks else front k m.label ∷ parts_by (place + k) (drop k d) None marks)) (sym is) refl
+
+    -- a mark that has none of them
+    pub passes : n ≡ 0 → parts_by place d refusal (m ∷ marks) ≡ parts_by place d refusal marks
+    passes e = by_size ∙ if_none (parts_by place d refusal marks) (front n m.label ∷ parts_by (place + n) (drop n d) None marks) n e
+
+    -- one that has some
+    pub takes : 0 < n → parts_by place d refusal (m ∷ marks) ≡ front n m.label ∷ parts_by (place + n) (drop n d) None marks
+    takes some = by_size ∙ if_some (parts_by place d refusal marks) (front n m.label ∷ parts_by (place + n) (drop n d) None marks) n some
+
+  -- what is left
+  pub leaves : 0 < length d → parts_by place d refusal [] ≡ record { place = place; bytes = d; label = unread; refusal = refusal } ∷ []
+  leaves some = if_some [] (record { place = place; bytes = d; label = unread; refusal = refusal } ∷ []) (length d) some
+
+  pub leaves_none : length d ≡ 0 → parts_by place d refusal [] ≡ []
+  leaves_none e = if_none [] (record { place = place; bytes = d; label = unread; refusal = refusal } ∷ []) (length d) e
+
+  -- the first bytes and the others
+  cut : (n : ℕ) (label : Label) (parts : List BytePart) → n ≤ length d → 0 < n → AreParts (place + n) (drop n d) None parts → AreParts place d refusal (front n label ∷ parts)
+  cut n label parts within some others =
+      let size : length (take n d) ≡ n = length-take-le n d within in (
+        refl,
+        refl,
+        subst (λ (k : ℕ). 0 < k) (sym size) some,
+        drop n d,
+        sym (take-append-drop n d),
+        subst (λ (k : ℕ). AreParts (place + k) (drop n d) None parts) (sym size) others,
+      )
+
+  sized : (n : ℕ) (label : Label) (none parts : List BytePart) → n ≤ length d → AreParts place d refusal none → AreParts (place + n) (drop n d) None parts
+      → AreParts place d refusal (if n == 0 then none else front n label ∷ parts)
+  sized zero label none parts within all others = all
+  sized (suc n) label none parts within all others =
+      subst (AreParts place d refusal) (sym (if_some none (front (suc n) label ∷ parts) (suc n) (omega arith))) (cut (suc n) label parts within (omega arith) others)
+
+  left_over : AreParts place d refusal (parts_by place d refusal [])
+  left_over = by_length (length d) refl where
+    by_length : (n : ℕ) → length d ≡ n → AreParts place d refusal (parts_by place d refusal [])
+    by_length zero e = subst (AreParts place d refusal) (sym (leaves_none e)) (nil_from_length d e)
+    by_length (suc n) e = subst (AreParts place d refusal) (sym (leaves (omega arith))) (refl, refl, omega arith, [], sym (append-nil d), refl)
+
+-- they have each of them, once and in order
+are_parts : (place : ℕ) (d : List ℕ) (refusal : Option ScanError) (marks : List Mark) → AreParts place d refusal (parts_by place d refusal marks)
+are_parts place d refusal [] = left_over place d refusal
+are_parts place d refusal (m ∷ marks) =
+    let n = size_in place d m in
+    sized place d refusal n m.label (parts_by place d refusal marks) (parts_by (place + n) (drop n d) None marks) (omega arith) (are_parts place d refusal marks) (are_parts (place + n) (drop n d) None marks)
 
 -- so many blanks
 pub one_blank : (n : ℕ) (out : List ℕ) → (out ++ 32 ∷ []) ++ replicate n 32 ≡ out ++ 32 ∷ replicate n 32
@@ -51,41 +119,67 @@ module _ (print : ByteRow → List ℕ) where
 
   -- ---- the rows of parts
 
-  -- however the text goes on with rows of what is left, with them it has rows of all
-  abbrev pub AreLeft : ℕ → List ℕ → Option ScanError → List ℕ → ℕ → List ℕ → Option ScanError → List ℕ → Type 0
-  AreLeft start d refusal old place rest here out = (new : List ℕ) → AddsRows print place rest here out new → AddsRows print start d refusal old new
+  -- a text goes on with the rows of parts
+  abbrev pub AddsParts : List BytePart → List ℕ → List ℕ → Type 0
+  AddsParts parts old new = (rows : List ByteRow) × AreRowsOf parts rows × (new ≡ old ++ flat_map print rows)
 
-  module _ (start : ℕ) (d : List ℕ) (refusal : Option ScanError) (old : List ℕ) where
-    module _ (place : ℕ) (rest : List ℕ) (here : Option ScanError) (out : List ℕ) (now : AreLeft start d refusal old place rest here out) where
-      -- one part
-      pub one_part : (p : BytePart) (others next : List ℕ) → p.place ≡ place → p.refusal ≡ here → 0 < length p.bytes → rest ≡ p.bytes ++ others → AddsPart print p out next
-          → AreLeft start d refusal old (place + length p.bytes) others None next
-      one_part p others next at why some e adds = λ new goes.
-          let mine = adds.0 in
-          let more = goes.0 in
-          let parts = p ∷ goes.1.0 in
-          let has : HasRows place rest here (mine ++ more) = (parts, (at, why, some, others, e, goes.1.1), (mine, more, refl, adds.1, goes.1.2)) in
-          let text : new ≡ out ++ flat_map print (mine ++ more) =
-          goes.2 ∙ ap (λ (t : List ℕ). t ++ flat_map print more) adds.2 ∙ append_assoc out (flat_map print mine) (flat_map print more)
-          ∙ ap (λ (t : List ℕ). out ++ t) (sym (flat_map-append print mine more)) in
-          now new (mine ++ more, has, text)
+  -- however the text goes on with rows of the parts that are left, with them it has rows of all
+  abbrev pub AreLeft : List BytePart → List ℕ → List BytePart → List ℕ → Type 0
+  AreLeft all old left out = (new : List ℕ) → AddsParts left out new → AddsParts all old new
 
-      -- nothing is left
-      pub none_left : rest ≡ [] → AddsRows print start d refusal old out
-      none_left e = now out ([], ([], e, refl), sym (append-nil out))
+  -- no row is written yet
+  pub none_written : (all : List BytePart) (old : List ℕ) → AreLeft all old all old
+  none_written all old = λ new goes. goes
 
-      -- the last part
-      pub last_part : (p : BytePart) (next : List ℕ) → p.place ≡ place → p.refusal ≡ here → 0 < length p.bytes → rest ≡ p.bytes → AddsPart print p out next
-          → AddsRows print start d refusal old next
-      last_part p next at why some e adds =
-          one_part p [] next at why some (e ∙ sym (append-nil p.bytes)) adds next ([], ([], refl, refl), sym (append-nil next))
+  module _ (all : List BytePart) (old : List ℕ) where
+    -- one part
+    pub one_part : (left others : List BytePart) (out : List ℕ) → AreLeft all old left out → (p : BytePart) (next : List ℕ) → left ≡ p ∷ others → AddsPart print p out next
+        → AreLeft all old others next
+    one_part left others out now p next e adds = λ new goes.
+        let mine = adds.0 in
+        let more = goes.0 in
+        let text : new ≡ out ++ flat_map print (mine ++ more) =
+        goes.2 ∙ ap (λ (t : List ℕ). t ++ flat_map print more) adds.2 ∙ append_assoc out (flat_map print mine) (flat_map print more)
+        ∙ ap (λ (t : List ℕ). out ++ t) (sym (flat_map-append print mine more)) in
+        let goes_on : AddsParts (p ∷ others) out new = (mine ++ more, (mine, more, refl, adds.1, goes.1), text) in
+        now new (subst (λ (ps : List BytePart). AddsParts ps out new) (sym e) goes_on)
+
+    module _ (place : ℕ) (d : List ℕ) (here : Option ScanError) (left : List Mark) (out : List ℕ) (now : AreLeft all old (parts_by place d here left) out) (m : Mark) (marks : List Mark) (is : left ≡ m ∷ marks) (n : ℕ) (size : n ≡ size_in place d m) where
+      -- a mark that has none of the bytes
+      pub no_part : n ≡ 0 → AreLeft all old (parts_by place d here marks) out
+      no_part e = subst (λ (ps : List BytePart). AreLeft all old ps out) (ap (parts_by place d here) is ∙ passes place d here m marks n size e) now
+
+      -- the part of one that has some
+      pub next_part : (some : 0 < n) (bytes others next : List ℕ) → bytes ≡ take n d → others ≡ drop n d
+          → AddsPart print (record { place = place; bytes = bytes; label = m.label; refusal = here }) out next → AreLeft all old (parts_by (place + n) others None marks) next
+      next_part some bytes others next first rest adds =
+          let whole : parts_by place d here left ≡ record { place = place; bytes = take n d; label = m.label; refusal = here } ∷ parts_by (place + n) (drop n d) None marks =
+          ap (parts_by place d here) is ∙ takes place d here m marks n size some in
+          let added = subst (λ (t : List ℕ). AddsPart print (record { place = place; bytes = t; label = m.label; refusal = here }) out next) first adds in
+          subst (λ (t : List ℕ). AreLeft all old (parts_by (place + n) t None marks) next) (sym rest)
+          (one_part (parts_by place d here left) (parts_by (place + n) (drop n d) None marks) out now (record { place = place; bytes = take n d; label = m.label; refusal = here }) next whole added)
+
+    -- nothing is left
+    pub none_left : (left : List BytePart) (out : List ℕ) → AreLeft all old left out → left ≡ [] → AddsParts all old out
+    none_left left out now e = now out (subst (λ (ps : List BytePart). AddsParts ps out out) (sym e) ([], refl, sym (append-nil out)))
+
+    -- the last part
+    pub last_part : (left : List BytePart) (out : List ℕ) → AreLeft all old left out → (p : BytePart) (next : List ℕ) → left ≡ p ∷ [] → AddsPart print p out next
+        → AddsParts all old next
+    last_part left out now p next e adds = none_left [] next (one_part left [] out now p next e adds) refl
+
+  -- the parts of bytes have each of them
+  pub has_rows : (place : ℕ) (d : List ℕ) (refusal : Option ScanError) (marks : List Mark) (old new : List ℕ) → AddsParts (parts_by place d refusal marks) old new
+      → AddsRows print place d refusal marks old new
+  has_rows place d refusal marks old new adds = (adds.0, (are_parts place d refusal marks, adds.1), adds.2)
 
   -- ---- the rows of a datagram
 
   -- of one that is refused: those before the place, and those from there on
-  pub both : (d before behind old mid new : List ℕ) (e : ScanError) → d ≡ before ++ behind → length before ≡ min (refused_at e) (length d)
-      → AddsRows print 0 before None old mid → AddsRows print (length before) behind (Some e) mid new → AddsAllRows print d (Some e) old new
-  both d before behind old mid new e whole at one two =
+  pub both : (o : Order) (es : List Event) (d before behind old mid new : List ℕ) (e : ScanError) → d ≡ before ++ behind → length before ≡ min (refused_at e) (length d)
+      → AddsRows print 0 before None (marks_of o d es) old mid → AddsRows print (length before) behind (Some e) (refused_marks (contexts_after [] es) e) mid new
+      → AddsAllRows print o d es (Some e) old new
+  both o es d before behind old mid new e whole at one two =
       let rows = one.0 ++ two.0 in
       let text = two.2 ∙ ap (λ (t : List ℕ). t ++ flat_map print two.0) one.2 ∙ append_assoc old (flat_map print one.0) (flat_map print two.0)
       ∙ ap (λ (t : List ℕ). old ++ t) (sym (flat_map-append print one.0 two.0)) in
@@ -127,15 +221,16 @@ is_at_byte b d (Err r) (Some (Fails h)) is i =
     omega (arith, at)
 
 -- its line, its rows, and the line of its refusal
-pub shows : (f : RowFormat) (b : Bounds) (n : ℕ) (d old one two new : List ℕ) (refusal : Option ScanError) (taken : Bool) → one ≡ old ++ opening f n d
-    → AddsAllRows (row_printed f b.shape.order n) d refusal one two → new ≡ two ++ refusal_ending f refusal → is_some refusal ≡ not taken → IsAboutItsHead b d refusal
+pub shows : (f : RowFormat) (b : Bounds) (n : ℕ) (d old one two new : List ℕ) (es : List Event) (refusal : Option ScanError) (taken : Bool) → one ≡ old ++ opening f n d
+    → AddsAllRows (row_printed f b.shape.order n) b.shape.order d es refusal one two → new ≡ two ++ refusal_ending f refusal → is_some refusal ≡ not taken
+    → AreEvents b d es → IsAboutItsHead b d refusal
     → (a : Answer) × Answers b d a × IsRefusalOf a refusal → (found : Viewed) × Views b d found × (new ≡ old ++ viewed_text f b.shape.order n d found) × (taken ≡ is_accepted found)
-shows f b n d old one two new refusal taken line adds end is head x =
+shows f b n d old one two new es refusal taken line adds end is events head x =
     let front = opening f n d in
     let rows = flat_map (row_printed f b.shape.order n) adds.0 in
     let last = ending f x.0 in (
-      record { rows = adds.0; answer = x.0; refusal = refusal },
-      (adds.1, x.1, x.2, head, is_at_byte b d x.0 refusal x.1 x.2),
+      record { events = es; rows = adds.0; answer = x.0; refusal = refusal },
+      (events, adds.1, x.1, x.2, head, is_at_byte b d x.0 refusal x.1 x.2),
       one_more old two new (front ++ rows) last (one_more old one two front rows line adds.2) (end ∙ ap (λ (t : List ℕ). two ++ t) (ending_is f x.0 refusal x.2)) ∙ ap (λ (t : List ℕ). old ++ t) (append_assoc front rows last),
       taken_is x.0 refusal taken x.2 is,
     )

@@ -126,11 +126,6 @@ an_object w a b c fields begun written ended = rw (ended, written, begun) (simp 
 pub named_value : (w a d : Line) (name : List ℕ) (value : Json) → a ≡ w ⊕ (key name ∷ []) → d ≡ a ⊕ json_tokens value → d ≡ w ⊕ fields_tokens ((name, value) ∷ [])
 named_value w a d name value named written = rw (written, named) (simp (more, one_field))
 
--- the name of a field, and then an object
-pub object_field : (w a b c d : Line) (name : List ℕ) (fields : List Field) → a ≡ w ⊕ (key name ∷ []) → b ≡ a ⊕ (begin_object ∷ []) → c ≡ b ⊕ fields_tokens fields → d ≡ c ⊕ (end_object ∷ [])
-    → d ≡ w ⊕ fields_tokens ((name, object fields) ∷ [])
-object_field w a b c d name fields named begun written ended = rw (ended, written, begun, named) (simp (more, tokens_object, one_field))
-
 -- an object of fields that are written in two parts, before other values
 pub an_item : (w a b c d : Line) (first rest : List Field) (others : List Json) → a ≡ w ⊕ (begin_object ∷ []) → b ≡ a ⊕ fields_tokens first → c ≡ b ⊕ fields_tokens rest → d ≡ c ⊕ (end_object ∷ [])
     → d ⊕ values_tokens others ≡ w ⊕ values_tokens (object (first ++ rest) ∷ others)

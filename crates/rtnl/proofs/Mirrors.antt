@@ -1,16 +1,11 @@
 -- A mirror that a recording keeps: its tables, seen through what their entries stand for, and messages that are heard one after another.
-use Rattle.std.proofs.Common.{◌≡◌, ℕ, Bool, true, false, List, [], ◌∷◌, ◌++◌, ◌∙◌, map, Option, Some, None, Result, Ok, Err, IfOk, option_map, slice_get, append_assoc, append-nil, refl, sym, ap, subst}
-use Rattle.std.specs.Borrow.{Bor}
-use Rattle.std.specs.Option.{option_copied}
+use Rattle.std.proofs.Common.{◌≡◌, ℕ, Bool, true, false, List, [], ◌∷◌, ◌++◌, ◌∙◌, Option, Some, None, Ok, IfOk, option_map, slice_get, append_assoc, append-nil, refl, sym, ap, subst}
 use Rattle.std.proofs.lemmas.Option.{slice_get-map}
 use Rattle.nl_attr.specs.declared.order.Order.{Order}
 use Rattle.nl_route.specs.declared.family.Family.{Family}
 use Rattle.nl_frame.specs.Message.{MessageVal}
 use Rattle.nl_dump.specs.Items.{Item}
-use Rattle.nl_table.specs.Content.{Content}
-use Rattle.nl_mirror.specs.declared.effect.Update.{Update}
-use Rattle.nl_mirror.specs.declared.short.Short.{Short}
-use Rattle.nl_mirror.specs.Changes.{Held, held_of}
+use Rattle.nl_mirror.specs.Changes.{Held}
 use Rattle.nl_mirror.specs.Five.{Mirrored, EachHearsBy, IsUpdate}
 use Rattle.nl_mirror.specs.Seen.{held_seen}
 use Rattle.rtnl.specs.Mirroring.{Comes, Hearing, HearsAll, Outcome, Passed, Passes, Step, Progress, answer_text, answers_text, begins_well, comment_says, entry_at, fed_by, is_heard, is_passed, kind_text, of_shown, outcome_text, standing, step_in, step_of, step_text, stood_in, unbegun_by, where_so}
@@ -43,14 +38,6 @@ entry_seen {T} f h i r e =
 -- the texts of five kinds, one after another
 pub five_texts : (old a b c d new u v x y z : List ℕ) → a ≡ old ++ u → b ≡ a ++ v → c ≡ b ++ x → d ≡ c ++ y → new ≡ d ++ z → new ≡ old ++ (u ++ (v ++ (x ++ (y ++ z))))
 five_texts old a b c d new u v x y z p q r s t = rw (t, s, r, q, p) (simp append_assoc)
-
--- and three
-pub three_texts : (old a b new u v x : List ℕ) → a ≡ old ++ u → b ≡ a ++ v → new ≡ b ++ x → new ≡ old ++ (u ++ (v ++ x))
-three_texts old a b new u v x p q r = rw (r, q, p) (simp append_assoc)
-
--- what a table holds is what a mirror's does
-pub table_seen : {T : Type 0} (f : T → Item) (c : Content T) (h : Held T) → held_of c ≡ h → held_seen f (held_of c) ≡ held_seen f h
-table_seen f c h e = ap (held_seen f) e
 
 -- ---- messages
 

@@ -172,11 +172,7 @@ module _ {X : Type 0} (Is : List ℕ → X → Type 0) (text : ℕ → List ℕ 
       let size : length (lines_of input) ≡ length h.0 + 1 = ap length h.1 ∙ length-append h.0 (s.unfinished.items ∷ []) in
       omega (arith, size, h.2, length-lines_of input)
 
-  -- a bad line, or none
-  pub bad_said : (r : Result (List (List ℕ)) ℕ) (s : Output) (m : ℕ) → IsSaid Is text is_taken r s → s.bad_line ≡ Some m → r ≡ Err m
-  bad_said (Ok ds) s m said bad = let e : Some m ≡ None = sym bad ∙ said.0 in cc
-  bad_said (Err k) s m said bad = let e : Some k ≡ Some m = sym said ∙ bad in cc
-
+  -- no bad line
   pub good_said : (r : Result (List (List ℕ)) ℕ) (s : Output) → IsSaid Is text is_taken r s → s.bad_line ≡ None → (ds : List (List ℕ)) × (r ≡ Ok ds) × Prints Is text is_taken ds (joined s.parts.items ++ s.part.items) s.verdict
   good_said (Ok ds) s said good = (ds, refl, said.2)
   good_said (Err k) s said good = let e : Some k ≡ None = sym said ∙ good in cc

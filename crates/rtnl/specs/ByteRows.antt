@@ -3,6 +3,7 @@ use Rattle.std.specs.Prelude.{◌≡◌, ◌<◌, ◌≤◌, ◌+◌, ◌-◌, �
 use Rattle.std.specs.Fmt.{decimal}
 use Rattle.std.specs.List.{flat_map}
 use Rattle.json.specs.Json as json
+use Rattle.nl_attr.specs.declared.events.Event.{Event}
 use Rattle.nl_attr.specs.declared.order.Order.{Order}
 use Rattle.nl_attr.specs.declared.broken.BrokenHead.{BrokenHead}
 use Rattle.nl_attr.specs.declared.fault.Fault.{Fault}
@@ -11,23 +12,15 @@ use Rattle.nl_frame.specs.declared.scanning.ScanError.TheVariants.{TooLarge, Lay
 use Rattle.nl_frame.specs.Limits.{Bounds}
 use Rattle.rtnl.specs.declared.bytes.rows.RowFormat.{RowFormat}
 use Rattle.rtnl.specs.declared.bytes.rows.RowFormat.TheVariants.{Text, Coloured, Json}
-use Rattle.rtnl.specs.declared.bytes.rows.Label.{Label}
 use Rattle.rtnl.specs.declared.error.Verdict.{Verdict}
+use Rattle.rtnl.specs.ByteParts.{BytePart, Label, contexts_after, marks_of, Mark, parts_by, refused_marks}
 use Rattle.rtnl.specs.Datagrams.{datagram_line, reason_text}
 use Rattle.rtnl.specs.Json.{Field, digits, json_line, number, object, string}
-use Rattle.rtnl.specs.Kernel.{kernel_name}
 use Rattle.rtnl.specs.Notations.{value_behind, value_json}
-use Rattle.rtnl.specs.Runs.{Prints, OfInput}
+use Rattle.rtnl.specs.Runs.{Prints}
 use Rattle.rtnl.specs.Shown.{Answer, Answers, is_taken, refusal_text}
-use Rattle.rtnl.specs.Tape.{IsAboutItsHead, IsRefusalOf}
+use Rattle.rtnl.specs.Tape.{AreEvents, IsAboutItsHead, IsRefusalOf}
 use Rattle.rtnl.specs.Text.{◌⨟◌, padded_hex}
-
--- a part of a datagram: where its first byte stands, its bytes, what they are, and why the datagram is refused there
-pub record BytePart : Type 0 where
-  pub place : ℕ
-  pub bytes : List ℕ
-  pub label : Label
-  pub refusal : Option ScanError
 
 -- a row: where its first byte stands, its bytes, the part that they are of, and whether they are its first
 pub record ByteRow : Type 0 where
@@ -92,13 +85,9 @@ refusal_behind None = []
 refusal_behind (Some TooLarge) = codes ": too large"
 refusal_behind (Some (Layout h)) = fault_behind h
 
--- the name of a part
-abbrev pub name_of : Label → List ℕ
-name_of label = kernel_name label.name
-
 -- the words of a part: its name, the value of its bytes, and why the datagram is refused there
 unfoldable pub words : Order → BytePart → List ℕ
-words o p = mark p.refusal ⨟ name_of p.label ⨟ value_behind o p.label.notation p.bytes ⨟ refusal_behind p.refusal
+words o p = mark p.refusal ⨟ p.label.name ⨟ value_behind o p.label.notation p.bytes ⨟ refusal_behind p.refusal
 
 -- the same in a colour
 unfoldable pub painted : List ℕ → List ℕ → List ℕ
@@ -146,7 +135,7 @@ place_fields n r =
 unfoldable pub label_fields : Label → List Field
 label_fields label =
     (codes "level", number label.level)
-    ∷ (codes "name", string (name_of label)) ∷ []
+    ∷ (codes "name", string label.name) ∷ []
 
 -- a row of the datagram of this number
 abbrev pub row_json : ℕ → Order → ByteRow → List ℕ
@@ -180,21 +169,23 @@ AreRowsOf [] rows = rows ≡ []
 AreRowsOf (p ∷ parts) rows =
     (mine others : List ByteRow) × (rows ≡ mine ++ others) × AreRows p true p.place p.bytes mine × AreRowsOf parts others
 
--- bytes from a place on stand in these rows, part after part, and a refusal stands at the first
-abbrev pub HasRows : ℕ → List ℕ → Option ScanError → List ByteRow → Type 0
-HasRows place d refusal rows = (parts : List BytePart) × AreParts place d refusal parts × AreRowsOf parts rows
+-- bytes from a place on stand in these rows, by what they are, part after part, and a refusal stands at the first
+abbrev pub HasRows : ℕ → List ℕ → Option ScanError → List Mark → List ByteRow → Type 0
+HasRows place d refusal marks rows =
+    AreParts place d refusal (parts_by place d refusal marks) × AreRowsOf (parts_by place d refusal marks) rows
 
 -- where a datagram is refused: at the place of its first fault, or at its front where it is too large
 abbrev pub refused_at : ScanError → ℕ
 refused_at TooLarge = 0
 refused_at (Layout h) = h.fault.place
 
--- the rows of a whole datagram: a refusal stands at the part that begins where it is refused, and at no other
-abbrev pub HasAllRows : List ℕ → Option ScanError → List ByteRow → Type 0
-HasAllRows d None rows = HasRows 0 d None rows
-HasAllRows d (Some e) rows =
+-- the rows of a whole datagram, by what its events say of its bytes: a refusal stands at the part that begins where it is refused, and at no other, and from there on the bytes are those of the head that breaks a rule
+abbrev pub HasAllRows : Order → List ℕ → List Event → Option ScanError → List ByteRow → Type 0
+HasAllRows o d es None rows = HasRows 0 d None (marks_of o d es) rows
+HasAllRows o d es (Some e) rows =
     (before behind : List ℕ) × (d ≡ before ++ behind) × (length before ≡ min (refused_at e) (length d))
-    × (front end : List ByteRow) × (rows ≡ front ++ end) × HasRows 0 before None front × HasRows (length before) behind (Some e) end
+    × (front end : List ByteRow) × (rows ≡ front ++ end)
+    × HasRows 0 before None (marks_of o d es) front × HasRows (length before) behind (Some e) (refused_marks (contexts_after [] es) e) end
 
 -- one of the bytes stands where the datagram is refused
 abbrev pub IsAtByte : List ℕ → Option ScanError → Type 0
@@ -202,15 +193,18 @@ IsAtByte d refusal = IfSome refusal (λ e. refused_at e < length d)
 
 -- ---- a recording
 
--- what is found of a datagram that is shown in bytes: its rows, its answer, and the head at which a scan refuses it
+-- what is found of a datagram that is shown in bytes: its events, its rows, its answer, and the head at which a scan refuses it
 pub record Viewed : Type 0 where
+  pub events : List Event
   pub rows : List ByteRow
   pub answer : Answer
   pub refusal : Option ScanError
 
--- the rows are of all its bytes, the answer and the refusal its own, by the head that breaks a rule, and a row has the refusal
+-- the rows are of all its bytes, by its events, the answer and the refusal its own, by the head that breaks a rule, and a row has the refusal
 abbrev pub Views : Bounds → List ℕ → Viewed → Type 0
-Views b d v = HasAllRows d v.refusal v.rows × Answers b d v.answer × IsRefusalOf v.answer v.refusal × IsAboutItsHead b d v.refusal × IsAtByte d v.refusal
+Views b d v =
+    AreEvents b d v.events × HasAllRows b.shape.order d v.events v.refusal v.rows
+    × Answers b d v.answer × IsRefusalOf v.answer v.refusal × IsAboutItsHead b d v.refusal × IsAtByte d v.refusal
 
 -- the line before the rows of a datagram in text
 abbrev pub opening : RowFormat → ℕ → List ℕ → List ℕ
@@ -239,7 +233,3 @@ is_accepted v = is_taken v.answer
 -- what is shown of datagrams in bytes, and the verdict on them
 abbrev pub ShowsBytes : RowFormat → Bounds → List (List ℕ) → List ℕ → Verdict → Type 0
 ShowsBytes f b = Prints (Views b) (viewed_text f b.shape.order) is_accepted
-
--- the datagrams of what was read, shown so behind what stood in the sink
-abbrev pub ShowsInputBytes : RowFormat → Bounds → Option (List ℕ) → Option (List ℕ) → Option (List ℕ) → Option (List ℕ) → Verdict → Type 0
-ShowsInputBytes f b = OfInput (ShowsBytes f b)

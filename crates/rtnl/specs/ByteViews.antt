@@ -1,17 +1,34 @@
 -- For private clauses: parts and rows as the program holds them, and texts that go on with rows.
-use Rattle.std.specs.Prelude.{◌≡◌, ℕ, List, [], ◌++◌, Option, true}
+use Rattle.std.specs.Prelude.{◌≡◌, ℕ, List, [], ◌++◌, map, Option, true}
 use Rattle.std.specs.List.{flat_map}
 use Rattle.nl_frame.specs.declared.scanning.ScanError.{ScanError}
+use Rattle.nl_attr.specs.declared.events.Event.{Event}
+use Rattle.nl_attr.specs.declared.order.Order.{Order}
+use Rattle.rtnl.specs.declared.bytes.parts.Piece.{Piece}
 use Rattle.rtnl.specs.declared.bytes.rows.BytePart.{BytePart as HeldPart}
+use Rattle.rtnl.specs.declared.bytes.rows.Label.{Label as HeldLabel}
 use Rattle.rtnl.specs.declared.bytes.rows.ByteRow.{ByteRow as HeldRow}
 use Rattle.rtnl.specs.declared.bytes.rows.RowFormat.{RowFormat}
 use Rattle.rtnl.specs.declared.bytes.rows.RowFormat.TheVariants.{Text, Coloured, Json}
+use Rattle.rtnl.specs.ByteParts.{BytePart, Label, Mark}
+use Rattle.rtnl.specs.ByteRows.{AreRows, ByteRow, HasAllRows, HasRows}
+use Rattle.rtnl.specs.Kernel.{kernel_name}
 use Rattle.rtnl.specs.Tape.{refusal_line}
-use Rattle.rtnl.specs.ByteRows.{AreRows, ByteRow, HasAllRows, HasRows, BytePart}
 
--- the part that one of the program is
+-- the label that one of the program is
+abbrev pub label_view : HeldLabel → Label
+label_view l = record { level = l.level; indent = l.indent; name = kernel_name l.name; notation = l.notation; is_aside = l.is_aside }
+
+-- the part
 abbrev pub part_view : HeldPart → BytePart
-part_view p = record { place = p.place; bytes = p.bytes.now; label = p.label; refusal = p.refusal }
+part_view p = record { place = p.place; bytes = p.bytes.now; label = label_view p.label; refusal = p.refusal }
+
+-- what pieces of the program say of bytes
+abbrev pub piece_view : Piece → Mark
+piece_view p = record { extent = p.extent; label = label_view p.label }
+
+abbrev pub marks_in : List Piece → List Mark
+marks_in = map piece_view
 
 -- the row that one of the program is
 abbrev pub row_view : HeldRow → ByteRow
@@ -22,13 +39,13 @@ module _ (print : ByteRow → List ℕ) where
   abbrev pub AddsPart : BytePart → List ℕ → List ℕ → Type 0
   AddsPart p old new = (rows : List ByteRow) × AreRows p true p.place p.bytes rows × (new ≡ old ++ flat_map print rows)
 
-  -- with rows of bytes from a place on
-  abbrev pub AddsRows : ℕ → List ℕ → Option ScanError → List ℕ → List ℕ → Type 0
-  AddsRows place d refusal old new = (rows : List ByteRow) × HasRows place d refusal rows × (new ≡ old ++ flat_map print rows)
+  -- with rows of bytes from a place on, by what they are
+  abbrev pub AddsRows : ℕ → List ℕ → Option ScanError → List Mark → List ℕ → List ℕ → Type 0
+  AddsRows place d refusal marks old new = (rows : List ByteRow) × HasRows place d refusal marks rows × (new ≡ old ++ flat_map print rows)
 
-  -- with the rows of a datagram
-  abbrev pub AddsAllRows : List ℕ → Option ScanError → List ℕ → List ℕ → Type 0
-  AddsAllRows d refusal old new = (rows : List ByteRow) × HasAllRows d refusal rows × (new ≡ old ++ flat_map print rows)
+  -- with the rows of a datagram, by its events
+  abbrev pub AddsAllRows : Order → List ℕ → List Event → Option ScanError → List ℕ → List ℕ → Type 0
+  AddsAllRows o d es refusal old new = (rows : List ByteRow) × HasAllRows o d es refusal rows × (new ≡ old ++ flat_map print rows)
 
 -- the line of a refusal behind the rows, in text
 abbrev pub refusal_ending : RowFormat → Option ScanError → List ℕ

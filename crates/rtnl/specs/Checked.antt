@@ -1,5 +1,5 @@
 -- What a check finds of the datagrams of an input.
-use Rattle.std.specs.Prelude.{◌≡◌, ◌≤◌, ◌↔◌, ◌++◌, ℕ, List, [], ◌∷◌, length, codes, Bool, true, false, IsTrue, Option, Result, Ok, Err}
+use Rattle.std.specs.Prelude.{◌≡◌, ◌≤◌, ◌↔◌, ◌++◌, ℕ, List, [], ◌∷◌, length, codes, Bool, true, false, IsTrue, Result, Ok, Err}
 use Rattle.std.specs.Fmt.{decimal}
 use Rattle.nl_frame.specs.declared.reading.ReadError.{ReadError}
 use Rattle.nl_frame.specs.Limits.{Bounds}
@@ -9,7 +9,7 @@ use Rattle.nl_frame.specs.Written.{written}
 use Rattle.rtnl.specs.Text.{◌⨟◌}
 use Rattle.rtnl.specs.Json.{Field, boolean, json_line}
 use Rattle.rtnl.specs.Shown.{Refuses, datagram_object, refusal_fields, refusal_text}
-use Rattle.rtnl.specs.Runs.{Prints, OfInput}
+use Rattle.rtnl.specs.Runs.{Prints}
 use Rattle.rtnl.specs.declared.error.Verdict.{Verdict}
 
 -- whether an accepted datagram is canonical, or why it is refused
@@ -56,11 +56,3 @@ finding_json n d finding = json_line (datagram_object n (finding_fields finding)
 -- the same of datagrams as lines of JSON
 abbrev pub ChecksJson : Bounds → List (List ℕ) → List ℕ → Verdict → Type 0
 ChecksJson b = Prints (Finds b) finding_json is_accepted
-
--- a check of the datagrams of what was read, written behind what stood in the sink
-abbrev pub ChecksInput : Bounds → Option (List ℕ) → Option (List ℕ) → Option (List ℕ) → Option (List ℕ) → Verdict → Type 0
-ChecksInput b = OfInput (Checks b)
-
--- the same in lines of JSON
-abbrev pub ChecksInputJson : Bounds → Option (List ℕ) → Option (List ℕ) → Option (List ℕ) → Option (List ℕ) → Verdict → Type 0
-ChecksInputJson b = OfInput (ChecksJson b)

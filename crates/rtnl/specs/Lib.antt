@@ -4,6 +4,7 @@ pub mod Route
 pub mod Neigh
 pub mod Rule
 pub mod Attributes
+pub mod ByteParts
 pub mod ByteRows
 pub mod ByteViews
 pub mod Checked
@@ -32,6 +33,7 @@ pub mod Runs
 pub mod Said
 pub mod Shown
 pub mod Streams
+pub mod Structs
 pub mod Tabled
 pub mod TabledJson
 pub mod Tape

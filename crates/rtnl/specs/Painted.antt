@@ -1,11 +1,11 @@
 -- The printed text in colours, for a terminal.
-use Rattle.std.specs.Prelude.{◌≡◌, ◌⊎◌, ℕ, ◌-◌, ◌==◌, Bool, if◌then◌else◌, List, [], ◌∷◌, ◌++◌, codes, drop, length, map, nat_eq, take, take_while, Option}
+use Rattle.std.specs.Prelude.{◌≡◌, ◌⊎◌, ℕ, ◌-◌, ◌==◌, Bool, if◌then◌else◌, List, [], ◌∷◌, ◌++◌, codes, drop, length, map, nat_eq, take, take_while}
 use Rattle.std.specs.List.{after_first, before_first, join_with_byte, position_or_len, prefix_len, starts_with}
 use Rattle.nl_attr.specs.declared.order.Order.{Order}
 use Rattle.nl_frame.specs.Limits.{Bounds}
 use Rattle.rtnl.specs.ByteRows.{escape, painted as in_colour, red}
 use Rattle.rtnl.specs.Lines.{lines_of}
-use Rattle.rtnl.specs.Runs.{OfInput, Prints}
+use Rattle.rtnl.specs.Runs.{Prints}
 use Rattle.rtnl.specs.Shown.{Answer, Answers, datagram_text, is_taken}
 use Rattle.rtnl.specs.Text.{◌⨟◌}
 use Rattle.rtnl.specs.declared.error.Verdict.{Verdict}
@@ -71,7 +71,3 @@ coloured_text o number d a = painted (datagram_text o number d a)
 -- what is shown of datagrams in colours, and the verdict on them
 abbrev pub ShowsColoured : Bounds → List (List ℕ) → List ℕ → Verdict → Type 0
 ShowsColoured b = Prints (Answers b) (coloured_text b.shape.order) is_taken
-
--- the datagrams of what was read, shown so behind what stood in the sink
-abbrev pub ShowsInputColoured : Bounds → Option (List ℕ) → Option (List ℕ) → Option (List ℕ) → Option (List ℕ) → Verdict → Type 0
-ShowsInputColoured b = OfInput (ShowsColoured b)

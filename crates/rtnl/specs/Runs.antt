@@ -1,8 +1,8 @@
 -- A run over the datagrams of an input: what is found of each, what is printed of it, and the verdict.
-use Rattle.std.specs.Prelude.{◌≡◌, ◌≢◌, ◌+◌, ◌⊎◌, ℕ, List, [], ◌∷◌, ◌++◌, Bool, true, false, Option, Result, Ok, Err, OnOk, OnErr, IfErr}
+use Rattle.std.specs.Prelude.{◌≡◌, ◌≢◌, ◌+◌, ◌⊎◌, ℕ, List, [], ◌∷◌, ◌++◌, Bool, true, false, Option, Result, Ok, Err, OnOk, OnErr, IfOk, IfErr}
 use Rattle.std.specs.Io.KnownBytes.{Appends, Consumes}
 use Rattle.rtnl.specs.Lines.{datagrams}
-use Rattle.rtnl.specs.Streams.{AppendsPrefix, ConsumesMoreThan, IsRead, StopsOnce, one_more}
+use Rattle.rtnl.specs.Streams.{AppendsPrefix, ConsumesAtMost, ConsumesMoreThan, IsRead, StopsOnce, one_more}
 use Rattle.rtnl.specs.declared.error.RunError.{RunError}
 use Rattle.rtnl.specs.declared.error.RunError.TheVariants.{BadLine, ReadFault, WriteFault, Memory}
 use Rattle.rtnl.specs.declared.error.Verdict.{Verdict}
@@ -61,6 +61,8 @@ HasBadLine from_old from_new number = (input : List ℕ) × Consumes from_old fr
 pub record Runs {S W : Type 0} (left : S → Option (List ℕ)) (is_ended : S → Type 0) (failed_reads : S → ℕ)
     (taken : W → Option (List ℕ)) (is_stalled : W → Type 0) (stalls : W → ℕ) (failed_writes : W → ℕ)
     (Says : List (List ℕ) → List ℕ → Verdict → Type 0) (from_old from_new : S) (to_old to_new : W) (result : Result Verdict RunError) : Type 0 where
+  -- what was written is what is said of the datagrams of what was read, and the verdict is theirs
+  pub said : IfOk result (OfInput Says (left from_old) (left from_new) (taken to_old) (taken to_new))
   -- the source came to its end, and no read failed
   pub ended : OnOk result (IsRead left is_ended failed_reads from_old from_new)
   -- no write failed, or took no byte
@@ -79,6 +81,8 @@ pub record Runs {S W : Type 0} (left : S → Option (List ℕ)) (is_ended : S �
   pub nothing : OnErr result (result ≢ Err WriteFault → to_new ≡ to_old)
   -- and then a front of the text
   pub part : result ≡ Err WriteFault → FrontOfInput Says (left from_old) (left from_new) (taken to_old) (taken to_new)
+  -- at most the longest input and one byte more are taken
+  pub bounded : ConsumesAtMost (LONGEST_INPUT + 1) (left from_old) (left from_new)
 
 -- how a run that reads nothing ends, by what its sink says of itself, its whole text, and sink and answer
 pub record Writes {W : Type 0} (taken : W → Option (List ℕ)) (is_stalled : W → Type 0) (stalls : W → ℕ) (failed_writes : W → ℕ)

@@ -1,5 +1,5 @@
 -- What is shown of the datagrams of an input.
-use Rattle.std.specs.Prelude.{◌<◌, ◌≤◌, ℕ, List, [], ◌∷◌, ◌++◌, length, codes, Bool, true, false, Option, Result, Ok, Err}
+use Rattle.std.specs.Prelude.{◌<◌, ◌≤◌, ℕ, List, [], ◌∷◌, ◌++◌, length, codes, Bool, true, false, Result, Ok, Err}
 use Rattle.json.specs.Json.{Json}
 use Rattle.nl_attr.specs.declared.order.Order.{Order}
 use Rattle.nl_frame.specs.declared.reading.ReadError.{ReadError}
@@ -8,7 +8,7 @@ use Rattle.nl_frame.specs.Limits.{Bounds}
 use Rattle.nl_frame.specs.Message.{MessageVal}
 use Rattle.nl_frame.specs.Layout.{Layout}
 use Rattle.nl_frame.specs.Heads.{IsFirstFault, whole}
-use Rattle.rtnl.specs.Runs.{Prints, OfInput}
+use Rattle.rtnl.specs.Runs.{Prints}
 use Rattle.rtnl.specs.Datagrams.{datagram_line, reason_text, refused_line, too_large_line}
 use Rattle.rtnl.specs.Json.{Field, array, json_line, number, object, string}
 use Rattle.rtnl.specs.Messages.{messages_text}
@@ -76,11 +76,3 @@ datagram_json o n d a = json_line (datagram_object n (answer_fields o (length d)
 -- the same of datagrams as lines of JSON
 abbrev pub ShowsJson : Bounds → List (List ℕ) → List ℕ → Verdict → Type 0
 ShowsJson b = Prints (Answers b) (datagram_json b.shape.order) is_taken
-
--- the datagrams of what was read, shown behind what stood in the sink
-abbrev pub ShowsInput : Bounds → Option (List ℕ) → Option (List ℕ) → Option (List ℕ) → Option (List ℕ) → Verdict → Type 0
-ShowsInput b = OfInput (Shows b)
-
--- the same in lines of JSON
-abbrev pub ShowsInputJson : Bounds → Option (List ℕ) → Option (List ℕ) → Option (List ℕ) → Option (List ℕ) → Verdict → Type 0
-ShowsInputJson b = OfInput (ShowsJson b)

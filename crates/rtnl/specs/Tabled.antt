@@ -1,5 +1,5 @@
 -- What is printed of a dump: how it went, and the table that it gave.
-use Rattle.std.specs.Prelude.{◌≡◌, ℕ, ◌+◌, List, [], ◌∷◌, ◌++◌, length, codes, Bool, true, false, Option, Result, Ok, Err}
+use Rattle.std.specs.Prelude.{◌≡◌, ℕ, ◌+◌, List, [], ◌∷◌, ◌++◌, length, codes, Bool, true, false, Result, Ok, Err}
 use Rattle.std.specs.Fmt.{decimal, signed_decimal}
 use Rattle.std.specs.Global.{Vec}
 use Rattle.nl_attr.specs.declared.order.Order.{Order}
@@ -23,7 +23,6 @@ use Rattle.rtnl.specs.Checked.{number_front}
 use Rattle.rtnl.specs.Datagrams.{refused_line, too_large_line}
 use Rattle.rtnl.specs.Lines.{datagrams}
 use Rattle.rtnl.specs.Messages.{body_text}
-use Rattle.rtnl.specs.Runs.{OfInput}
 use Rattle.rtnl.specs.Text.{◌⨟◌}
 use Rattle.rtnl.specs.declared.error.Verdict.{Verdict}
 use Rattle.rtnl.specs.declared.error.Verdict.TheVariants.{Clean, Blemished}
@@ -215,10 +214,6 @@ pub record TablesBy (t : Report) (b : Bounds) (d : Dump) (ds : List (List ℕ)) 
 -- the text of the session in which the run over these datagrams ends, and whether its dump is complete
 abbrev pub Tables : Bounds → Dump → List (List ℕ) → List ℕ → Verdict → Type 0
 Tables = TablesBy in_text
-
--- the report of the datagrams of what was read, written behind what stood in the sink
-abbrev pub TablesInput : Bounds → Dump → Option (List ℕ) → Option (List ℕ) → Option (List ℕ) → Option (List ℕ) → Verdict → Type 0
-TablesInput b d = OfInput (Tables b d)
 
 -- whatever a recording has, every datagram that a run over it feeds is refused at its first fault, with the dump's answer and all tables unchanged, or is taken as its one list,
 -- and the session stays within its limits

@@ -14,7 +14,6 @@ use Rattle.nl_dump.specs.declared.errors.FeedError.TheVariants as feed
 use Rattle.nl_dump.specs.declared.standing.Standing.{Standing}
 use Rattle.rtnl.specs.Json.{Field, boolean, json_line, number, object, signed, string}
 use Rattle.rtnl.specs.MessagesJson.{body_field}
-use Rattle.rtnl.specs.Runs.{OfInput}
 use Rattle.rtnl.specs.Shown.{datagram_object, refusal_fields}
 use Rattle.rtnl.specs.Tabled.{Report, TablesBy}
 use Rattle.rtnl.specs.declared.error.Verdict.{Verdict}
@@ -96,7 +95,3 @@ in_json = record { front = λ _. []; refusal = refusal_json; entry = entry_json;
 -- the report of the session in which the run over these datagrams ends, and whether its dump is complete
 abbrev pub TablesJson : Bounds → Dump → List (List ℕ) → List ℕ → Verdict → Type 0
 TablesJson = TablesBy in_json
-
--- the report of the datagrams of what was read, written behind what stood in the sink
-abbrev pub TablesInputJson : Bounds → Dump → Option (List ℕ) → Option (List ℕ) → Option (List ℕ) → Option (List ℕ) → Verdict → Type 0
-TablesInputJson b d = OfInput (TablesJson b d)

@@ -4,6 +4,8 @@
 //! two next hops. It prints a count that depends on what was done.
 #![tactic(auto)]
 
+ghost use Rattle.std.specs.Prelude.{◌≤◌, length};
+
 use anyhow::{Result, bail};
 use nl_attr::{Attr, NO_FLAGS, Order, Tally};
 use nl_frame::{
@@ -94,31 +96,39 @@ const ROUTE: RouteHead = RouteHead {
 
 /// Puts where a route leads, one next hop by itself or so many in a list, and its priority, in the
 /// order in which ip(8) sends them. The numbers of the attributes are those of linux/rtnetlink.h.
-fn put_way(builder: &mut Builder<'_>, hops: i32, priority: u32) -> Result<(), BuildError> {
+fn put_way(
+    builder: &mut Builder,
+    out: &mut [u8],
+    hops: i32,
+    priority: u32,
+) -> Result<(), BuildError>
+    requires fits { builder.old.len ≤ length out.old }
+    ensures fits { builder.new.len ≤ length out.new }
+{
     if hops == 1 {
-        builder.put_bytes(5, NO_FLAGS, &[192, 0, 2, 254])?;
-        builder.put_u32(6, NO_FLAGS, priority, Order::Little)?;
-        return builder.put_u32(4, NO_FLAGS, 10, Order::Little);
+        builder.put_bytes(out, 5, NO_FLAGS, &[192, 0, 2, 254])?;
+        builder.put_u32(out, 6, NO_FLAGS, priority, Order::Little)?;
+        return builder.put_u32(out, 4, NO_FLAGS, 10, Order::Little);
     }
-    builder.put_u32(6, NO_FLAGS, priority, Order::Little)?;
-    builder.open_attr(9, NO_FLAGS)?;
+    builder.put_u32(out, 6, NO_FLAGS, priority, Order::Little)?;
+    builder.open_attr(out, 9, NO_FLAGS)?;
     for at in 0..hops {
-        builder.open_hop(0, 9, at)?;
-        builder.put_bytes(5, NO_FLAGS, &[192, 0, 2, 254])?;
-        builder.close()?;
+        builder.open_hop(out, 0, 9, at)?;
+        builder.put_bytes(out, 5, NO_FLAGS, &[192, 0, 2, 254])?;
+        builder.close(out)?;
     }
-    builder.close()
+    builder.close(out)
 }
 
 /// Builds the request for a route of this number, with so many next hops: its length, and one of
 /// its bytes, so that none can be left out.
 fn build(out: &mut [u8], number: u32, hops: i32, limits: &Limits) -> Result<u64, BuildError> {
-    let mut builder = Builder::new(out, limits);
-    builder.begin(24, 0x605, number, 0, &FamilyHead::Route(ROUTE))?;
-    builder.put_bytes(1, NO_FLAGS, &Order::Big.u32_bytes(number))?;
-    put_way(&mut builder, hops, number % 1024)?;
-    builder.end()?;
-    let bytes = builder.finish()?;
+    let mut builder = Builder::new(limits);
+    builder.begin(out, 24, 0x605, number, 0, &FamilyHead::Route(ROUTE))?;
+    builder.put_bytes(out, 1, NO_FLAGS, &Order::Big.u32_bytes(number))?;
+    put_way(&mut builder, out, hops, number % 1024)?;
+    builder.end(out)?;
+    let bytes = builder.finish(out)?;
     let byte = bytes.get(number as usize % 64).copied().unwrap_or(0);
     Ok(bytes.len() as u64 + u64::from(byte))
 }

@@ -1,4 +1,5 @@
-//! The head that breaks a rule, at which a datagram is refused. The call takes no memory.
+//! `rtnlc_broken`: the header for which a datagram is refused, for error messages. It takes no
+//! memory.
 
 ghost use Rattle.std.specs.Prelude.{◌≡◌};
 ghost use Rattle.nl_frame.specs.Limits.{AreLimits};
@@ -10,32 +11,33 @@ use crate::options::{Options, limits};
 use nl_attr::{SORT_BYTES, SORT_MESSAGE, SORT_NEXT_HOP};
 use nl_frame::{BrokenHead, HeadKind, Limits, ScanError, scan_datagram};
 
-/// The head that breaks a rule at a datagram's first fault.
+/// The first header of a datagram that breaks a rule: `struct rtnlc_broken_head` of
+/// include/rtnlc.h.
 #[repr(C)]
 #[derive(Clone, Copy)]
 pub struct Broken {
-    /// Its place, an offset in bytes.
+    /// Its offset in the datagram, in bytes.
     pub place: u32,
-    /// The length that it says, in bytes; 0 where it is not whole.
+    /// The value of its length field, in bytes; 0 where it is truncated.
     pub len: u32,
-    /// How many bytes there are from its place to the end of its region: of the datagram for a
-    /// message.
+    /// How many bytes there are from its offset to the end of its region. A message's region is
+    /// the datagram.
     pub left: u32,
     /// The type of a message, or that of an attribute without its two flag bits; 0 for a next hop,
-    /// and where it is not whole.
+    /// and where it is truncated.
     pub number: u16,
-    /// How many levels of attributes it lies in.
+    /// Its nesting level: 0 for a message, and for the attributes of its body.
     pub level: u8,
     /// `SORT_MESSAGE`, `SORT_NEXT_HOP`, or `SORT_BYTES` for an attribute, whatever it holds.
     pub sort: u8,
-    /// Whether as many bytes are left as the head has.
+    /// Whether it is whole: not truncated by the end of its region.
     pub whole: bool,
-    /// 0 where the datagram is accepted, else the number of the refusal.
+    /// 0 where the datagram is accepted, else the error's number.
     pub code: u8,
 }
 
 impl Broken {
-    /// There is no such head, for this reason.
+    /// The answer where no header breaks a rule: 0, or the number of another error.
     fn none(code: u8) -> Broken
         ensures { result ≡ unbroken code }
     {
@@ -52,7 +54,7 @@ impl Broken {
     }
 }
 
-/// The sort of a head by its kind.
+/// `Event::sort` of a header of this kind.
 fn sort(kind: HeadKind) -> u8
     ensures { result ≡ sort_of kind }
 {
@@ -63,7 +65,7 @@ fn sort(kind: HeadKind) -> u8
     }
 }
 
-/// A head that breaks a rule, as C is answered.
+/// A broken header as C is answered.
 fn answer(head: BrokenHead) -> Broken
     ensures { result ≡ broken_of head }
 {
@@ -79,7 +81,7 @@ fn answer(head: BrokenHead) -> Broken
     }
 }
 
-/// The head that breaks a rule within limits.
+/// `rtnlc_broken`, with limits that are in range.
 fn head_at_fault(bytes: &[u8], limits: &Limits) -> Broken
     ensures { Breaks limits.now bytes.now result }
 {

@@ -1,4 +1,7 @@
-//! A builder that C keeps, over a buffer of its own, which takes no memory.
+//! `rtnlc_builder_*`: a builder whose state C stores as a plain struct. It takes no memory.
+//!
+//! A call makes a `BuilderTop` of the struct, and stores what that changed. Where the struct holds
+//! no builder's state, it answers 23 and changes nothing.
 
 ghost use Rattle.std.specs.Prelude.{◌≡◌, ◌≤◌, ◌<◌, ◌-◌, ◌∷◌, ◌++◌, ℕ, [], IfOk, MatchOption, length};
 ghost use Rattle.nl_attr.specs.Fixed as fixed;
@@ -19,35 +22,36 @@ use crate::put::Put;
 use nl_attr::{AttrFlags, Content};
 use nl_frame::{BuildError, BuilderTop, Limits, OpenHead, Order, levels_inside};
 
-/// How many heads may be open.
+/// How many headers may be open: that of the message, and one for each of 32 levels.
 const MOST_OPEN: u8 = 33;
 
-/// A builder, as C keeps it.
+/// A builder's state, as C stores it in `struct rtnlc_builder` of include/rtnlc.h.
 #[repr(C)]
 #[derive(Clone, Copy)]
 pub struct KeptBuilder {
-    /// As in `Options`; it says nothing of a builder.
+    /// The total limit, as in `Options`. A builder doesn't use it.
     pub total: u64,
-    /// The same.
+    /// The limit on entries, which a builder doesn't use either.
     pub entries: u32,
     /// How many bytes a datagram may have: a multiple of 4 from 16 to 1,048,576.
     pub datagram: u32,
     /// How many bytes of the buffer are accepted.
     pub len: u32,
-    /// The places of the open heads, the outermost first.
+    /// The offsets of the open headers, the outermost first.
     pub starts: [u32; 33],
-    /// What stands behind each: the number of the context of attributes, or 9 for next hops.
+    /// What is put behind each of them: attributes of the context of this number, or 9 for next
+    /// hops.
     pub contents: [u8; 33],
-    /// How many heads are open.
+    /// How many headers are open.
     pub count: u8,
     pub depth: u8,
-    /// 0 or 1.
+    /// 1 for big-endian byte order, else 0.
     pub big: u8,
-    /// The number of the first refusal, or 0.
+    /// The number of the first error, or 0.
     pub refusal: u8,
 }
 
-/// The number of an order.
+/// The number of a byte order, as in `big`.
 fn number_of_order(order: Order) -> u8
     ensures { result ≡ order_number order }
 {
@@ -57,7 +61,7 @@ fn number_of_order(order: Order) -> u8
     }
 }
 
-/// The order of a number.
+/// The byte order of a number. `None` where it is neither 0 nor 1.
 #[inline(always)]
 fn order_by_number(number: u8) -> Option<Order>
     ensures { result ≡ order_by number }
@@ -69,7 +73,7 @@ fn order_by_number(number: u8) -> Option<Order>
     }
 }
 
-/// The number of what stands behind a head.
+/// The number of what is put behind a header, as in `contents`.
 fn number_of(content: Content) -> u8
     ensures { result ≡ content_number content }
 {
@@ -80,7 +84,7 @@ fn number_of(content: Content) -> u8
     }
 }
 
-/// What stands behind a head, by its number.
+/// What is put behind a header, by its number. `None` where there is no such number.
 #[inline(always)]
 fn content_by_number(number: u8) -> Option<Content>
     ensures { result ≡ content_in number }
@@ -95,7 +99,8 @@ fn content_by_number(number: u8) -> Option<Content>
     }
 }
 
-/// The refusal of a number, or none of 0.
+/// The error of a number, where 0 is no error. The outer `None` is for a number of no builder's
+/// error.
 #[inline(always)]
 fn refusal_by_number(code: u8) -> Option<Option<BuildError>>
     ensures { result ≡ refusal_in code }
@@ -115,7 +120,7 @@ fn refusal_by_number(code: u8) -> Option<Option<BuildError>>
     }
 }
 
-/// The number of a refusal, or 0.
+/// The number of an error, or 0.
 #[inline(always)]
 fn code_of(refusal: Option<BuildError>) -> u8
     ensures { result ≡ refusal_number refusal }
@@ -126,7 +131,7 @@ fn code_of(refusal: Option<BuildError>) -> u8
     }
 }
 
-/// Keeps a new builder of these limits.
+/// Stores a new builder of these limits.
 fn keep_new(limits: &Limits, kept: &mut KeptBuilder)
     ensures { (room : ℕ) → IsKept kept.new room (new_parts limits.now) }
 {
@@ -140,7 +145,7 @@ fn keep_new(limits: &Limits, kept: &mut KeptBuilder)
     kept.refusal = 0;
 }
 
-/// The innermost of the heads that are kept, where one is open; or none where no builder has them.
+/// The innermost open header, if any. The outer `None` is for a state that no builder has.
 #[inline(always)]
 fn innermost(kept: &KeptBuilder) -> Option<Option<OpenHead>>
     requires { kept.now.depth ≤ 32 }
@@ -168,7 +173,8 @@ fn innermost(kept: &KeptBuilder) -> Option<Option<OpenHead>>
     Some(head)
 }
 
-/// What a call needs of the builder that is kept over so many bytes, where one is.
+/// The builder in the struct, over a slice of `room` bytes, without the outer open headers. `None`
+/// where the struct holds no builder's state.
 #[inline(always)]
 fn top_of(kept: &KeptBuilder, room: usize) -> Option<BuilderTop>
     ensures { MatchOption result (IsNone kept.now room) (IsTopOf kept.now room) }
@@ -198,7 +204,8 @@ fn top_of(kept: &KeptBuilder, room: usize) -> Option<BuilderTop>
     })
 }
 
-/// Keeps what a call changed that opened and closed no head, and answers why it was refused, or 0.
+/// Stores what a call changed that opened and closed no header. It answers the error's number, or
+/// 0.
 #[inline(always)]
 fn keep_top(top: &BuilderTop, kept: &mut KeptBuilder) -> u8
     requires { top.now.len ≤ fixed.LONGEST_REGION }
@@ -213,7 +220,8 @@ fn keep_top(top: &BuilderTop, kept: &mut KeptBuilder) -> u8
     kept.refusal
 }
 
-/// Keeps what a call changed that opened a head, or why it opened none, and answers why, or 0.
+/// Stores what a call changed that opened a header, or its error. It answers the error's number,
+/// or 0.
 #[inline(always)]
 fn keep_opened(top: &BuilderTop, opened: Result<OpenHead, BuildError>, kept: &mut KeptBuilder) -> u8
     requires size { top.now.len ≤ fixed.LONGEST_REGION }
@@ -235,8 +243,7 @@ fn keep_opened(top: &BuilderTop, opened: Result<OpenHead, BuildError>, kept: &mu
     keep_top(top, kept)
 }
 
-/// Keeps that the innermost head is closed, where that is not refused, and answers why it was
-/// refused, or 0.
+/// Stores that the innermost header is closed, or the error. It answers the error's number, or 0.
 #[inline(always)]
 fn keep_fewer(refusal: Option<BuildError>, kept: &mut KeptBuilder) -> u8
     ensures kept { kept.new ≡ record kept.old {
@@ -263,7 +270,7 @@ fn flags_of(kind: u16) -> AttrFlags
     }
 }
 
-/// The number in an attribute's type.
+/// The attribute's type without its flag bits.
 #[inline(always)]
 fn number_of_type(kind: u16) -> u16
     ensures { result ≡ number_in kind }

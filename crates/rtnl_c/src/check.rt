@@ -1,4 +1,4 @@
-//! Checking a datagram, which takes memory while it runs.
+//! `rtnlc_check`: whether a datagram is accepted, and canonical. It takes memory while it runs.
 
 ghost use Rattle.std.specs.Prelude.{◌≡◌, Ok, Err};
 ghost use Rattle.nl_frame.specs.Limits.{AreLimits};
@@ -9,19 +9,19 @@ use crate::options::{Options, limits};
 use nl_frame::{Limits, ReadError, is_canonical};
 use std::alloc::Global;
 
-/// What a check finds.
+/// The result of a check: `struct rtnlc_checked` of include/rtnlc.h.
 #[repr(C)]
 #[derive(Clone, Copy)]
 pub struct Checked {
-    /// The place of the first fault, an offset in bytes; 0 where there is none.
+    /// The offset of the first header that breaks a rule; 0 where there is none.
     pub place: u32,
-    /// 0 where the datagram is accepted, else the number of the refusal.
+    /// 0 where the datagram is accepted, else the error's number.
     pub code: u8,
-    /// Whether it is accepted and written as its messages are.
+    /// Whether it is accepted, and exactly what its messages are written as.
     pub canonical: bool,
 }
 
-/// A refusal, as C is answered.
+/// An error as C is answered.
 fn refused(error: ReadError) -> Checked
     ensures { result ≡ found (Err error) }
 {
@@ -36,7 +36,7 @@ fn refused(error: ReadError) -> Checked
     }
 }
 
-/// What a check finds within limits.
+/// `rtnlc_check`, with limits that are in range.
 fn check(alloc: Global, bytes: &[u8], limits: &Limits) -> Checked
     ensures { Checks limits.now bytes.now result }
 {

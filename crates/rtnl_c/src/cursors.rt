@@ -1,5 +1,5 @@
-//! What stands at a place: a message of a datagram, an attribute or a next hop of a region. No call
-//! here takes memory.
+//! `rtnlc_message_at`, `rtnlc_attr_at` and `rtnlc_hop_at`: the header at one offset of a datagram
+//! or a region. No call here takes memory.
 
 ghost use Rattle.std.specs.Prelude.{◌≡◌, ◌≤◌, ◌<◌, length};
 ghost use Rattle.nl_attr.specs.Fixed as fixed;
@@ -12,60 +12,60 @@ use crate::options::order;
 use nl_attr::{LONGEST_REGION, attr_at, hop_at};
 use nl_frame::message_at;
 
-/// The message at a place of a datagram.
+/// The message at an offset: `struct rtnlc_message` of include/rtnlc.h.
 #[repr(C)]
 #[derive(Clone, Copy)]
 pub struct MessageAt {
-    /// The place that was asked for.
+    /// The offset that was asked for.
     pub place: u32,
-    /// Where the next message stands; the place itself where none stands here.
+    /// The offset of the next message; `place` where there is no message here.
     pub next: u32,
-    /// How many bytes its body has, from 16 bytes behind the place on.
+    /// The length of its body in bytes. The body begins at `place + 16`.
     pub len: u32,
     pub seq: u32,
     pub port: u32,
     pub kind: u16,
     pub flags: u16,
-    /// 0 where a message stands here, else why none does.
+    /// 0 where a message is here, else the error's number.
     pub code: u8,
 }
 
-/// The attribute at a place of a region.
+/// The attribute at an offset: `struct rtnlc_attr` of include/rtnlc.h.
 #[repr(C)]
 #[derive(Clone, Copy)]
 pub struct AttrAt {
-    /// The place that was asked for.
+    /// The offset that was asked for.
     pub place: u32,
-    /// Where the next attribute stands; the place itself where none stands here.
+    /// The offset of the next attribute; `place` where there is no attribute here.
     pub next: u32,
-    /// How many bytes its payload has, from 4 bytes behind the place on.
+    /// The length of its payload in bytes. The payload begins at `place + 4`.
     pub len: u32,
     /// Its type without the two flag bits.
     pub number: u16,
     pub nested: bool,
     pub net: bool,
-    /// 0 where an attribute stands here, else why none does.
+    /// 0 where an attribute is here, else the error's number.
     pub code: u8,
 }
 
-/// The next hop at a place of a region.
+/// The next hop at an offset: `struct rtnlc_hop` of include/rtnlc.h.
 #[repr(C)]
 #[derive(Clone, Copy)]
 pub struct HopAt {
-    /// The place that was asked for.
+    /// The offset that was asked for.
     pub place: u32,
-    /// Where the next one stands; the place itself where none stands here.
+    /// The offset of the next one; `place` where there is no next hop here.
     pub next: u32,
-    /// How many bytes its attributes have, from 8 bytes behind the place on.
+    /// The length of its attributes in bytes. They begin at `place + 8`.
     pub len: u32,
     pub ifindex: i32,
     pub flags: u8,
     pub hops: u8,
-    /// 0 where a next hop stands here, else why none does.
+    /// 0 where a next hop is here, else the error's number.
     pub code: u8,
 }
 
-/// That no message stands at a place.
+/// The answer where there is no message.
 fn message_none(place: u32, code: u8) -> MessageAt
     ensures { result ≡ no_message place code }
 {
@@ -81,7 +81,7 @@ fn message_none(place: u32, code: u8) -> MessageAt
     }
 }
 
-/// That no attribute stands at a place.
+/// The answer where there is no attribute.
 fn attr_none(place: u32, code: u8) -> AttrAt
     ensures { result ≡ no_attr place code }
 {
@@ -96,7 +96,7 @@ fn attr_none(place: u32, code: u8) -> AttrAt
     }
 }
 
-/// That no next hop stands at a place.
+/// The answer where there is no next hop.
 fn hop_none(place: u32, code: u8) -> HopAt
     ensures { result ≡ no_hop place code }
 {

@@ -1,4 +1,4 @@
-//! An entry, written as a message.
+//! Writes an entry of a table as a message of its family's NEW type.
 
 ghost use Rattle.std.specs.Prelude.{◌≡◌, ◌≤◌, ◌+◌, ◌++◌, IfOk, OnErr, length, vec_len};
 ghost use Rattle.std.specs.Prelude.{vec_capacity, slice_get, option_map};
@@ -12,7 +12,7 @@ use nl_route::{Head, Object, Verb};
 use nl_table::{Entry, Table};
 use std::alloc::Global;
 
-/// The deepest limit: what was read within any is not too deep for it.
+/// The greatest depth limit. What was read within any limit isn't too deep for this one.
 fn deepest() -> Depth {
     match Depth::new(32) {
         Ok(depth) => depth,
@@ -20,7 +20,7 @@ fn deepest() -> Depth {
     }
 }
 
-/// The message of an entry, its numbers in this order.
+/// The message of an entry, in this byte order.
 pub(crate) fn message<H: Head>(
     alloc: Global,
     entry: &Object<H>,
@@ -45,7 +45,7 @@ pub(crate) fn message<H: Head>(
     Ok(out)
 }
 
-/// The entry at an index of a table, as its message is written; none from the table's length on.
+/// The message of the entry at an index of a table. `None` where the table has no such index.
 pub(crate) fn entry_in<H: Head>(
     alloc: Global,
     table: &Table<Object<H>>,

@@ -1,4 +1,4 @@
-//! What became of a datagram that was fed, to a session or to a stream.
+//! What is answered of a datagram that was fed to a session or a stream.
 
 ghost use Rattle.std.specs.Prelude.{◌≡◌};
 ghost use Rattle.rtnl_c.specs.Fed.{feed_place, session_fed, stream_fed, stream_refusal};
@@ -6,27 +6,27 @@ ghost use Rattle.rtnl_c.specs.Fed.{taken, untaken};
 
 use nl_dump::{FeedError, Progress, StreamError, Streamed};
 
-/// What became of a datagram.
+/// The answer: `struct rtnlc_fed` of include/rtnlc.h.
 #[repr(C)]
 #[derive(Clone, Copy)]
 pub struct Fed {
-    /// Of a stream: how many events of items stand at the front of the buffer; where it lacks room,
-    /// how many there must be room for; else 0.
+    /// Of a stream: how many events of items are at the front of the buffer; after the error 17,
+    /// how many it must have room for. Else 0.
     pub events: usize,
-    /// How many messages were items of the dump, those that its table missed too.
+    /// How many messages were items of the dump, those that the table had no room for too.
     pub items: u32,
-    /// How many were neither items nor the end.
+    /// How many were neither items nor the end of the dump.
     pub ignored: u32,
-    /// The place of the first fault, an offset in bytes; 0 where there is none.
+    /// The offset of the first header that breaks a rule; 0 where there is none.
     pub place: u32,
-    /// Whether one of them ended the dump.
+    /// Whether one of the messages ended the dump.
     pub ended: bool,
-    /// 0 where the datagram was taken, else the number of the refusal.
+    /// 0 where the datagram was taken, else the error's number.
     pub code: u8,
 }
 
 impl Fed {
-    /// What became of the messages of a datagram.
+    /// The answer for a datagram that was taken.
     fn taken(events: usize, progress: Progress) -> Fed
         ensures { result ≡ taken events progress }
     {
@@ -45,7 +45,7 @@ impl Fed {
         }
     }
 
-    /// Nothing was taken.
+    /// The answer for a datagram that wasn't taken.
     pub(crate) fn untaken(events: usize, place: u32, code: u8) -> Fed
         ensures { result ≡ untaken events place code }
     {
@@ -80,7 +80,7 @@ impl Fed {
     }
 }
 
-/// The place of a session's refusal.
+/// The offset in a session's error, or 0.
 fn place(error: FeedError) -> u32
     ensures { result ≡ feed_place error }
 {
@@ -90,7 +90,7 @@ fn place(error: FeedError) -> u32
     }
 }
 
-/// A stream's refusal.
+/// The answer for a stream's error.
 fn refusal(error: StreamError) -> Fed
     ensures { result ≡ stream_refusal error }
 {

@@ -1,5 +1,4 @@
-//! The first attribute of a number, for a caller that wants one attribute of a region. The call
-//! takes no memory.
+//! `rtnlc_find`: the first attribute of a type in a region. It takes no memory.
 
 ghost use Rattle.std.specs.Prelude.{◌≡◌, ◌≤◌, ◌<◌, ℕ, drop, length};
 ghost use Rattle.nl_attr.specs.declared.tree.Ctx.{Ctx};

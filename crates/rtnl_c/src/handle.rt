@@ -1,4 +1,4 @@
-//! The session that C keeps.
+//! The handle by which C holds a session: `struct rtnlc_session` of include/rtnlc.h.
 
 ghost use Rattle.std.specs.Prelude.{◌≡◌, Option, Some, None, option_map};
 ghost use Rattle.std.specs.Coded.{coded_option};
@@ -11,8 +11,8 @@ use std::alloc::Global;
 use std::marker::Model;
 use std::{mem, ptr};
 
-/// A session on the heap, or none. `made` says which, and where there is none the pointer is
-/// nothing. C hands it from call to call, and each call has it alone while it runs.
+/// The pointer to a session on the heap, where `made` is true; else it means nothing.
+/// C hands it from call to call, and each call has it alone while it runs.
 #[repr(C)]
 #[derive(Drop)]
 pub struct Handle {
@@ -31,7 +31,7 @@ impl Model for Handle {
 }
 
 impl Handle {
-    /// No session.
+    /// The handle of no session.
     pub(crate) fn none() -> Handle
         ensures { result.session ≡ None }
     {

@@ -1,4 +1,5 @@
-//! What a mirror hears, for C.
+//! `rtnlc_mirror_feed`: a datagram is applied to a mirror, and C is told what each message
+//! changed.
 
 ghost use Rattle.std.specs.Prelude.{◌≡◌, ◌≤◌, ◌<◌, ◌+◌, ◌^◌, ◌/◌, IfOk, length, option_map};
 ghost use Rattle.nl_attr.specs.Written.{items_len};
@@ -20,41 +21,41 @@ use nl_mirror::{Effect, Mirror, Short, Update};
 use nl_route::{Family, Head, Object, Verb};
 use std::alloc::Global;
 
-/// What became of one message of a datagram.
+/// What one message changed: `struct rtnlc_change` of include/rtnlc.h.
 #[repr(C)]
 #[derive(Clone, Copy)]
 pub struct Change {
-    /// Where the entry before it stands in the bytes that were put.
+    /// The offset, in the bytes put into `before`, of the entry as it was before the message.
     pub before: u32,
-    /// How many bytes that has, 0 where it wasn't put or there was none.
+    /// The length of that entry in bytes; 0 where it wasn't put, or there was none.
     pub before_len: u32,
-    /// The place of the entry in its table, 0 where the effect has none.
+    /// The index of the entry in its table; 0 where the effect has none.
     pub index: u32,
-    /// The NEW type of the table, 0 where the message is of none, or the code is not 0.
+    /// The NEW type of the table; 0 where the message is of none, or `code` isn't 0.
     pub kind: u16,
-    /// The number of the effect.
+    /// The number of the effect (`enum rtnlc_effect`).
     pub effect: u8,
-    /// 0; 13 or 17 where what the message tells was lost.
+    /// 0; or 13 or 17 where the message was lost to want of memory or room.
     pub code: u8,
 }
 
-/// What became of a datagram.
+/// The answer for a datagram: `struct rtnlc_heard` of include/rtnlc.h.
 #[repr(C)]
 #[derive(Clone, Copy)]
 pub struct Heard {
-    /// How many attribute bytes were visited.
+    /// How many bytes of attributes and next hops were visited.
     pub visits: u64,
     /// How many changes were put.
     pub changes: usize,
     /// How many bytes of the entries before them were put.
     pub before: usize,
-    /// The place of the first fault, an offset in bytes; 0 where there is none.
+    /// The offset of the first header that breaks a rule; 0 where there is none.
     pub place: u32,
-    /// 0 where the datagram was heard, else the number of the refusal.
+    /// 0 where the datagram was applied, else the error's number.
     pub code: u8,
 }
 
-/// Nothing was heard.
+/// The answer where nothing was applied.
 fn unheard(visits: u64, place: u32, code: u8) -> Heard
     ensures { result ≡ not_heard visits place code }
 {
@@ -67,7 +68,7 @@ fn unheard(visits: u64, place: u32, code: u8) -> Heard
     }
 }
 
-/// The number of an effect, and its place.
+/// The number of an effect, and the index of its entry.
 fn parts<T: Drop>(effect: &Effect<T>) -> (u8, u32)
     ensures { result ≡ (effect_number effect.now, effect_index effect.now) }
 {
@@ -268,7 +269,7 @@ fn tell(
     }
 }
 
-/// The place of a refusal.
+/// The offset in an error, or 0.
 fn place(error: ReadError) -> u32
     ensures { result ≡ fault_place error }
 {

@@ -1,4 +1,4 @@
-//! The families for which C asks by a message type.
+//! The families, which C names by any message type of them.
 
 ghost use Rattle.std.specs.Prelude.{◌≡◌};
 ghost use Rattle.nl_route.specs.Types.{route_type};
@@ -6,7 +6,7 @@ ghost use Rattle.rtnl_c.specs.Kinds.{family_in};
 
 use nl_route::{Family, RouteType};
 
-/// The family of a message type.
+/// The family of a message type. `None` where no family has it.
 pub(crate) fn family_of(kind: u16) -> Option<Family>
     ensures { result ≡ family_in (route_type kind) }
 {

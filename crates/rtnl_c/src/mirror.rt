@@ -1,4 +1,5 @@
-//! The calls on a mirror, for C.
+//! `rtnlc_mirror_new`, `_free`, `_begin` and `_lost`: the calls that make a mirror and begin its
+//! dumps.
 
 ghost use Rattle.std.specs.Prelude.{◌≡◌, ◌≤◌, ◌<◌, length, None, Some};
 ghost use Rattle.nl_route.specs.Types.{route_type};

@@ -1,4 +1,4 @@
-//! The mirror that C keeps.
+//! The handle by which C holds a mirror: `struct rtnlc_mirror` of include/rtnlc.h.
 
 ghost use Rattle.std.specs.Prelude.{◌≡◌, Option, Some, None, option_map};
 ghost use Rattle.std.specs.Coded.{coded_option};
@@ -11,8 +11,8 @@ use std::alloc::Global;
 use std::marker::Model;
 use std::{mem, ptr};
 
-/// A mirror on the heap, or none. `made` says which, and where there is none the pointer is
-/// nothing. C hands it from call to call, and each call has it alone while it runs.
+/// The pointer to a mirror on the heap, where `made` is true; else it means nothing.
+/// C hands it from call to call, and each call has it alone while it runs.
 #[repr(C)]
 #[derive(Drop)]
 pub struct MirrorHandle {
@@ -31,7 +31,7 @@ impl Model for MirrorHandle {
 }
 
 impl MirrorHandle {
-    /// No mirror.
+    /// The handle of no mirror.
     pub(crate) fn none() -> MirrorHandle
         ensures { result.mirror ≡ None }
     {

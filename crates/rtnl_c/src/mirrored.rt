@@ -1,4 +1,4 @@
-//! The tables of the mirror of a handle.
+//! `rtnlc_mirror_table`, `_entry`, `_key` and `_find`: the tables of a mirror.
 
 ghost use Rattle.std.specs.Prelude.{◌≡◌, option_map, option_copied, IfOk};
 ghost use Rattle.nl_route.specs.Types.{route_type};
@@ -22,11 +22,11 @@ use nl_mirror::{Mirror, Stale};
 use nl_route::Family;
 use std::alloc::Global;
 
-/// How a table stands.
+/// A table's size, and whether it is current: `struct rtnlc_mirrored` of include/rtnlc.h.
 #[repr(C)]
 #[derive(Clone, Copy)]
 pub struct Mirrored {
-    /// How many new keys it had no place for since its last whole dump.
+    /// How many new keys it had no room for since its last whole dump.
     pub missed: u64,
     /// How many entries it has.
     pub count: u32,
@@ -34,15 +34,15 @@ pub struct Mirrored {
     pub limit: u32,
     /// The sequence number of the dump of it that runs, 0 where none does.
     pub seq: u32,
-    /// 0 where it is current, else the number of why it is stale.
+    /// 0 where it is current, else the reason why it is stale (`enum rtnlc_stale`).
     pub stale: u8,
     /// Whether a dump of it runs.
     pub dumps: bool,
-    /// 0, or why there is no table.
+    /// 0, or the error's number where there is no table.
     pub code: u8,
 }
 
-/// There is no table, for this reason.
+/// The answer where there is no table: the error of this number.
 fn mirrored_none(code: u8) -> Mirrored
     ensures { result ≡ unmirrored code }
 {

@@ -1,4 +1,4 @@
-//! The names of message types and of attributes in the kernel's headers, which take no memory.
+//! `rtnlc_type_name` and `rtnlc_attr_name`: names in the kernel's headers. They take no memory.
 
 ghost use Rattle.std.specs.Prelude.{option_map};
 ghost use Rattle.rtnl.specs.Kernel as kernel;

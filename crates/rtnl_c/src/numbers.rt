@@ -1,4 +1,5 @@
-//! What the numbers of messages and of attributes say, for a caller that walks by itself.
+//! `rtnlc_family_of` and `rtnlc_holds`: what message and attribute types say, for a caller that
+//! walks by itself. They take no memory.
 
 ghost use Rattle.std.specs.Prelude.{◌≡◌};
 ghost use Rattle.nl_frame.specs.Form.{form_of};
@@ -8,18 +9,18 @@ ghost use Rattle.rtnl_c.specs.Numbers.{family_answer, holds_answer, held};
 use nl_attr::{AttrFlags, Content, Ctx, SORT_BYTES, SORT_HOPS, SORT_LIST, holds};
 use nl_frame::Form;
 
-/// What the body of a message begins with.
+/// What a message's body begins with: `struct rtnlc_family` of include/rtnlc.h.
 #[repr(C)]
 #[derive(Clone, Copy)]
 pub struct BodyHead {
-    /// How many bytes the family's head has, behind which attributes stand; 0 where the body is no
-    /// head and attributes.
+    /// The size of the family's header in bytes, behind which there are attributes; 0 for a
+    /// message of no family.
     pub head_size: u8,
-    /// The number of the attributes' context, or 0.
+    /// The number of the attributes' context (`enum rtnlc_context`), or 0.
     pub context: u8,
 }
 
-/// What the payload of an attribute is.
+/// What an attribute holds: `struct rtnlc_holds` of include/rtnlc.h.
 #[repr(C)]
 #[derive(Clone, Copy)]
 pub struct Holds {
@@ -45,7 +46,7 @@ pub(crate) fn number(ctx: Ctx) -> u8
     }
 }
 
-/// The context of a number.
+/// The context of a number. `None` where there is no such number.
 pub(crate) fn context(number: u8) -> Option<Ctx>
     ensures { result ≡ context_in number }
 {

@@ -1,4 +1,4 @@
-//! The limits for which C asks.
+//! The limits, as C hands them in.
 
 ghost use Rattle.std.specs.Prelude.{◌≡◌};
 ghost use Rattle.std.specs.Result.{OkIff};
@@ -7,7 +7,7 @@ ghost use Rattle.rtnl_c.specs.Options.{bounds_in, order_in};
 
 use nl_frame::{LimitFault, Limits, Order};
 
-/// The limits of a call, of a session or of a stream.
+/// The limits of a call, a session or a stream: `struct rtnlc_options` of include/rtnlc.h.
 #[repr(C)]
 #[derive(Clone, Copy)]
 pub struct Options {
@@ -17,22 +17,22 @@ pub struct Options {
     pub datagram: u32,
     /// How many entries each table of a session may have: 0 to 65,536.
     pub entries: u32,
-    /// How many levels containers may open: 0 to 32.
+    /// How many levels nested attributes may open: 0 to 32.
     pub depth: u8,
-    /// Whether numbers have their highest byte first.
+    /// Whether numbers are big-endian.
     pub big: bool,
-    /// By which the tables of a session hash.
+    /// The seed of the hash of a session's tables.
     pub seed: [u8; 16],
 }
 
-/// The order of numbers.
+/// The byte order of numbers.
 pub(crate) fn order(big: bool) -> Order
     ensures { result ≡ order_in big }
 {
     if big { Order::Big } else { Order::Little }
 }
 
-/// The limits, where each is in its range.
+/// The limits. The error is that one of them is out of its range.
 pub(crate) fn limits(options: &Options) -> Result<Limits, LimitFault>
     ensures { OkIff result (AreLimits (bounds_in options.now)) (bounds_in options.now) }
 {

@@ -1,4 +1,4 @@
-//! Bytes that C is answered in its buffer.
+//! Bytes that are answered in a buffer of C's.
 
 ghost use Rattle.std.specs.Prelude.{◌≡◌, ◌≤◌, ◌++◌, length, drop};
 ghost use Rattle.nl_dump.specs.Request.{request_of};
@@ -8,7 +8,7 @@ use crate::codes::NO_ROOM;
 use nl_attr::Order;
 use nl_dump::Dump;
 
-/// Bytes that were put into a buffer.
+/// How many bytes were put into a buffer: `struct rtnlc_put` of include/rtnlc.h.
 #[repr(C)]
 #[derive(Clone, Copy)]
 pub struct Put {
@@ -19,7 +19,7 @@ pub struct Put {
 }
 
 impl Put {
-    /// There are no bytes, for this reason.
+    /// The answer where there are no bytes: the error of this number.
     pub(crate) fn none(code: u8) -> Put
         ensures { result ≡ not_put code }
     {
@@ -51,7 +51,7 @@ impl Put {
         Put { len, code: 0 }
     }
 
-    /// Puts the request of a dump.
+    /// Puts the request of a dump at the front of a buffer, where it has room for it.
     pub(crate) fn request(dump: &Dump, order: Order, out: &mut [u8]) -> Put
         ensures { IsPut (request_of order dump.now) out.old out.new result }
     {

@@ -1,4 +1,4 @@
-//! The request of a dump, which takes no memory.
+//! `rtnlc_request`: the request of a dump. It takes no memory.
 
 ghost use Rattle.nl_route.specs.Types.{route_type};
 ghost use Rattle.rtnl_c.specs.Kinds.{family_in};

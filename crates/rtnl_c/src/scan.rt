@@ -1,4 +1,5 @@
-//! Scanning a datagram, which takes no memory.
+//! `rtnlc_scan` and `rtnlc_tape`: validating a datagram, and indexing its headers. They take no
+//! memory.
 
 ghost use Rattle.std.specs.Prelude.{◌≡◌, ◌≤◌, ◌*◌, length};
 ghost use Rattle.nl_frame.specs.Limits.{AreLimits};
@@ -9,34 +10,34 @@ use crate::options::{Options, limits};
 use nl_attr::Tally;
 use nl_frame::{Counted, Event, Limits, ScanError, scan_datagram, tape_datagram};
 
-/// What a scan finds.
+/// The result of `rtnlc_scan`: `struct rtnlc_scanned` of include/rtnlc.h.
 #[repr(C)]
 #[derive(Clone, Copy)]
 pub struct Scanned {
-    /// How many attribute bytes were visited.
+    /// How many bytes of attributes and next hops were visited.
     pub visits: u64,
-    /// The place of the first fault, an offset in bytes; 0 where there is none.
+    /// The offset of the first header that breaks a rule; 0 where there is none.
     pub place: u32,
-    /// 0 where the datagram is accepted, else the number of the refusal.
+    /// 0 where the datagram is accepted, else the error's number.
     pub code: u8,
 }
 
-/// What a scan finds that puts an event of each head into a buffer.
+/// The result of `rtnlc_tape`: `struct rtnlc_taped` of include/rtnlc.h.
 #[repr(C)]
 #[derive(Clone, Copy)]
 pub struct Taped {
-    /// How many heads the datagram has, or up to its first fault; also where the buffer has less
-    /// room.
+    /// How many headers the datagram has, or up to its first error; also where the buffer has room
+    /// for fewer.
     pub count: usize,
-    /// How many attribute bytes were visited.
+    /// How many bytes of attributes and next hops were visited.
     pub visits: u64,
-    /// The place of the first fault, an offset in bytes; 0 where there is none.
+    /// The offset of the first header that breaks a rule; 0 where there is none.
     pub place: u32,
-    /// 0 where the datagram is accepted, else the number of the refusal.
+    /// 0 where the datagram is accepted, else the error's number.
     pub code: u8,
 }
 
-/// The place of a refusal.
+/// The offset in an error, or 0.
 fn place(error: ScanError) -> u32
     ensures { result ≡ place_of error }
 {
@@ -46,7 +47,7 @@ fn place(error: ScanError) -> u32
     }
 }
 
-/// What a scan finds within limits.
+/// `rtnlc_scan`, with limits that are in range.
 fn scan(bytes: &[u8], limits: &Limits) -> Scanned
     ensures { Scans limits.now bytes.now result }
 {
@@ -65,7 +66,7 @@ fn scan(bytes: &[u8], limits: &Limits) -> Scanned
     }
 }
 
-/// What a scan within limits finds that puts an event of each head into a buffer.
+/// `rtnlc_tape`, with limits that are in range.
 fn tape(bytes: &[u8], limits: &Limits, out: &mut [Event]) -> Taped
     ensures tapes { Tapes limits.now bytes.now out.old out.new result }
     ensures quarter { 4 * result.count ≤ length bytes.now }

@@ -1,4 +1,4 @@
-//! The calls on a session, for C.
+//! `rtnlc_session_new` to `rtnlc_session_status`: the calls on a session, but for its tables.
 
 ghost use Rattle.std.specs.Prelude.{◌≡◌, Some, None};
 ghost use Rattle.nl_route.specs.Types.{route_type};

@@ -1,4 +1,5 @@
-//! The text of a datagram, and its line of JSON, which take memory while they are made.
+//! `rtnlc_show` and `rtnlc_show_json`: a datagram as text, or as a line of JSON. They take memory
+//! while they run.
 
 ghost use Rattle.std.specs.Prelude.{◌≡◌, IfOk};
 ghost use Rattle.nl_frame.specs.Limits.{AreLimits};
@@ -12,18 +13,18 @@ use nl_frame::Limits;
 use rtnl::{push_datagram, push_datagram_json};
 use std::alloc::{AllocError, Global};
 
-/// How a datagram was shown.
+/// The result: `struct rtnlc_shown` of include/rtnlc.h.
 #[repr(C)]
 #[derive(Clone, Copy)]
 pub struct Shown {
     /// How many bytes the text has, also where the buffer has less room.
     pub len: usize,
-    /// 0 where there is a text, else why there is none.
+    /// 0 where there is a text, else the error's number.
     pub code: u8,
 }
 
 impl Shown {
-    /// There is no text, for this reason.
+    /// The answer where there is no text: the error of this number.
     fn none(code: u8) -> Shown
         ensures { result ≡ unshown code }
     {
@@ -61,7 +62,7 @@ fn json_of(
     Ok(text)
 }
 
-/// Puts a text into a buffer, as far as it goes.
+/// Puts the front of a text into a buffer, as much as it has room for.
 pub(crate) fn lay(text: &[u8], out: &mut [u8])
     ensures { out.new ≡ laid text.now out.old }
 {

@@ -1,4 +1,4 @@
-//! Where a dump stands, as C is told.
+//! The state and counts of a session or a stream, as C is told.
 
 ghost use Rattle.std.specs.Prelude.{◌≡◌, pos};
 ghost use Rattle.nl_dump.specs.Standing.{standing_of, whole_of};
@@ -8,11 +8,11 @@ ghost use Rattle.rtnl_c.specs.Status.{last_dump, last_of, no_status, status_by};
 use nl_dump::{Dump, End, Session, Standing, State, Stream};
 use nl_route::Verb;
 
-/// Where a dump stands.
+/// The answer: `struct rtnlc_status` of include/rtnlc.h.
 #[repr(C)]
 #[derive(Clone, Copy)]
 pub struct Status {
-    /// The bytes of all datagrams that were looked at, since the session or the stream was made.
+    /// The bytes of all datagrams that were read, since the session or the stream was made.
     pub received: u64,
     /// How many bytes of attributes and next hops were visited in them.
     pub visits: u64,
@@ -32,11 +32,11 @@ pub struct Status {
     pub damaged: bool,
     pub interrupted: bool,
     pub complete: bool,
-    /// 0, or why nothing is told.
+    /// 0, or the error's number; then all other fields are 0.
     pub code: u8,
 }
 
-/// The last dump, in the numbers of `Status`.
+/// The last dump, in the numbers that `Status` has.
 pub(crate) struct Last {
     pub(crate) seq: u32,
     pub(crate) port: u32,
@@ -47,7 +47,7 @@ pub(crate) struct Last {
 }
 
 impl Last {
-    /// A dump that stands at a number.
+    /// A dump in the state of this number.
     fn dump(dump: Dump, state: u8, status: i32) -> Last
         ensures { result ≡ last_dump dump state status }
     {
@@ -61,7 +61,7 @@ impl Last {
         }
     }
 
-    /// The dump of a state.
+    /// The last dump, by its state.
     pub(crate) fn of(state: State) -> Last
         ensures { result ≡ last_of state }
     {
@@ -84,7 +84,7 @@ impl Last {
 }
 
 impl Status {
-    /// There is nothing to tell, for this reason.
+    /// The answer where there is no session or stream: the error of this number.
     pub(crate) fn none(code: u8) -> Status
         ensures { result ≡ no_status code }
     {
@@ -105,7 +105,7 @@ impl Status {
         }
     }
 
-    /// All that C is told.
+    /// The answer for a session or a stream of this standing.
     fn by(standing: &Standing, complete: bool) -> Status
         ensures { result ≡ status_by standing.now complete }
     {

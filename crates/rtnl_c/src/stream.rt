@@ -1,4 +1,4 @@
-//! A stream that C keeps, which takes no memory.
+//! `rtnlc_stream_*`: a stream whose state C stores as a plain struct. It takes no memory.
 
 ghost use Rattle.std.specs.Prelude.{◌≡◌};
 ghost use Rattle.nl_route.specs.Types.{route_type};
@@ -16,7 +16,7 @@ use nl_dump::{Dump, End, Standing, State, Stream};
 use nl_frame::{Event, Limits, Order};
 use nl_route::Family;
 
-/// A stream, as C keeps it.
+/// A stream's state, as C stores it in `struct rtnlc_stream` of include/rtnlc.h.
 #[repr(C)]
 #[derive(Clone, Copy)]
 pub struct Kept {
@@ -27,25 +27,25 @@ pub struct Kept {
     pub ignored: u64,
     /// How many bytes a datagram may have: a multiple of 4 from 16 to 1,048,576.
     pub datagram: u32,
-    /// The entries of a table, of which a stream has none: 0 to 65,536.
+    /// The limit on entries, which a stream doesn't use: 0 to 65,536.
     pub entries: u32,
     pub seq: u32,
     pub port: u32,
     /// The status of a DONE, or the code of an ERROR.
     pub status: i32,
-    /// A message type of the family: NEW where a call left it.
+    /// A message type of the family; after a call it is the NEW type.
     pub kind: u16,
     pub family: u8,
-    /// As in `Status`.
+    /// The number of the state, as in `Status`.
     pub state: u8,
     pub depth: u8,
-    /// 0 or 1, as `damaged` and `interrupted`.
+    /// 1 for big-endian byte order, else 0. `damaged` and `interrupted` are 0 or 1 too.
     pub big: u8,
     pub damaged: u8,
     pub interrupted: u8,
 }
 
-/// A flag of C.
+/// A byte that is 0 or 1, as a flag. `None` for another one.
 fn flag(byte: u8) -> Option<bool>
     ensures { result ≡ flag_in byte }
 {
@@ -56,7 +56,7 @@ fn flag(byte: u8) -> Option<bool>
     }
 }
 
-/// Where a dump stands that has begun.
+/// The state of this number, other than that of no dump. `None` where there is no such number.
 fn begun_state(state: u8, status: i32, dump: Dump) -> Option<State>
     ensures { result ≡ begun_in state status dump }
 {
@@ -70,7 +70,7 @@ fn begun_state(state: u8, status: i32, dump: Dump) -> Option<State>
     }
 }
 
-/// Where the dump that is kept stands.
+/// The state in the struct. `None` where it is none of a stream.
 fn state_of(kept: &Kept) -> Option<State>
     ensures { result ≡ state_in kept.now }
 {
@@ -96,7 +96,7 @@ fn state_of(kept: &Kept) -> Option<State>
     )
 }
 
-/// The stream that is kept, where one is.
+/// The stream in the struct. `None` where it holds no stream's state.
 fn restore(kept: &Kept) -> Option<Stream>
     ensures { Restores kept.now result }
 {
@@ -117,7 +117,7 @@ fn restore(kept: &Kept) -> Option<Stream>
     .ok()
 }
 
-/// A stream, as C keeps it.
+/// The state of a stream, as C stores it.
 fn keep(stream: &Stream) -> Kept
     ensures { result ≡ kept_of stream.now }
 {

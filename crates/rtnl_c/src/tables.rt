@@ -1,4 +1,4 @@
-//! The tables of the session of a handle.
+//! `rtnlc_session_table`, `_entry`, `_key` and `_find`: the tables of a session.
 
 ghost use Rattle.std.specs.Prelude.{◌≡◌, length, option_map, option_copied, IfOk};
 ghost use Rattle.nl_route.specs.Types.{route_type};
@@ -23,26 +23,26 @@ use std::alloc::Global;
 #[repr(C)]
 #[derive(Clone, Copy)]
 pub struct TableSize {
-    /// How many new keys it had no place for.
+    /// How many new keys it had no room for.
     pub missed: u64,
     /// How many entries it has.
     pub count: u32,
     /// How many it may have.
     pub limit: u32,
-    /// 0, or why there is no table.
+    /// 0, or the error's number where there is no table.
     pub code: u8,
 }
 
-/// Where an entry stands.
+/// The index of an entry: `struct rtnlc_found` of include/rtnlc.h.
 #[repr(C)]
 #[derive(Clone, Copy)]
 pub struct FoundEntry {
     pub index: u32,
-    /// 0 where one stands there, else why none does.
+    /// 0 where there is an entry, else the error's number.
     pub code: u8,
 }
 
-/// There is no table, for this reason.
+/// The answer where there is no table: the error of this number.
 fn table_none(code: u8) -> TableSize
     ensures { result ≡ no_table code }
 {

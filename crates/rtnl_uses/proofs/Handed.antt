@@ -16,10 +16,10 @@ use Rattle.nl_frame.specs.Message.{MessageVal}
 use Rattle.nl_dump.specs.declared.dump.Dump.{Dump}
 use Rattle.nl_dump.specs.declared.standing.Standing.{Standing}
 use Rattle.nl_dump.specs.Handed.{item_events}
-use Rattle.nl_dump.specs.Sifting.{none_sifted, step, sifted, keeping, kept}
+use Rattle.nl_dump.specs.Events.{no_counts, step, counts_of, keeping, kept}
 use Rattle.nl_dump.specs.Streams.{AreHanded}
 use Rattle.nl_dump.proofs.Sieve.{no_event, kept-append}
-use Rattle.nl_dump.proofs.Walked.{look, sieved}
+use Rattle.nl_dump.proofs.Walked.{look, counts_all}
 
 -- ---- they are no more than all heads
 
@@ -29,23 +29,23 @@ keeping_low false e = omega arith
 
 module _ (S : Shape) (d : Dump) (bytes : List ℕ) (es : List Event) where
   -- of so many events no more are kept
-  kept_low : (i : ℕ) → i ≤ length es → length (kept (look S d bytes) none_sifted (take i es)) ≤ i
+  kept_low : (i : ℕ) → i ≤ length es → length (kept (look S d bytes) no_counts (take i es)) ≤ i
   kept_low zero low = omega arith
   kept_low (suc i) low =
       let e = get_or es i no_event in
       let some = take i es in
-      let before = sifted (look S d bytes) none_sifted some in
+      let before = counts_of (look S d bytes) no_counts some in
       let more : take (suc i) es ≡ some ++ e ∷ [] = ap (λ n. take n es) {x = suc i} {y = i + 1} (omega arith) ∙ take_more es i no_event (omega (arith, low)) in
-      let all = ap (kept (look S d bytes) none_sifted) more ∙ kept-append (look S d bytes) none_sifted some (e ∷ []) in
+      let all = ap (kept (look S d bytes) no_counts) more ∙ kept-append (look S d bytes) no_counts some (e ∷ []) in
       let one = keeping_low (step (look S d bytes) before e).keeps e in
-      let many = length-append (kept (look S d bytes) none_sifted some) (kept (look S d bytes) before (e ∷ [])) in
+      let many = length-append (kept (look S d bytes) no_counts some) (kept (look S d bytes) before (e ∷ [])) in
       omega (arith, ap (length {A = Event}) all, many, one, kept_low i (omega (arith, low)))
 
 handed_low : (S : Shape) (d : Dump) (ms : List MessageVal) (bytes : List ℕ) → Layout S ms bytes → length (item_events S d ms bytes) ≤ length (events_of S (whole bytes))
 handed_low S d ms bytes f =
     let es = events_of S (whole bytes) in
     let low = kept_low S d bytes es (length es) (omega arith) in
-    let all = ap (kept (look S d bytes) none_sifted) (take-length es) ∙ (sieved S d bytes ms f).1 in
+    let all = ap (kept (look S d bytes) no_counts) (take-length es) ∙ (counts_all S d bytes ms f).1 in
     omega (arith, low, ap (length {A = Event}) all)
 
 -- ---- where they stand

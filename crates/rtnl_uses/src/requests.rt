@@ -21,7 +21,7 @@ pub fn replace_route<'a>(
         let messages = route_message route.now Operation.Replace seq order ∷ [] in
         (bytes.now ≡ written order messages) × IsTheList limits.now bytes.now messages) }
 {
-    let mut builder = Builder::new(out, limits);
-    route.put(Operation::Replace, seq, &mut builder)?;
-    builder.finish()
+    let mut builder = Builder::new(limits);
+    route.put(Operation::Replace, seq, &mut builder, out)?;
+    builder.finish(out)
 }

@@ -1,14 +1,6 @@
 -- Extents of parts, put together.
-use Rattle.std.proofs.Common.{◌≡◌, ℕ, zero, suc, ◌+◌, ◌-◌, ◌<◌, ◌≤◌, Bool, true, false, cond, ltb, ◌||◌, List, [], ◌∷◌, length, drop, get_or, Option, Some, None, refl, sym, ap, subst, ◌∙◌, arith, add_assoc}
-use Rattle.std.proofs.lemmas.Bool.{le-ltb, lt-ltb, ltb-true, ltb-false}
+use Rattle.nl_attr.proofs.Common.{◌≡◌, ℕ, zero, suc, ◌+◌, ◌-◌, ◌<◌, ◌≤◌, Bool, true, false, cond, ltb, ◌||◌, List, [], ◌∷◌, length, drop, get_or, Option, Some, None, refl, sym, ap, subst, ◌∙◌, arith, add_assoc, le-ltb, lt-ltb, ltb-true, ltb-false, IfSome, LONGEST_REGION, Ctx, Route, Extent, Items, no_items, item, HopItems, no_hops, hop, holds_of, region_len, empty_extent, join, extent_of_item, extent_of_val, extent_of, extent_of_hops}
 use Rattle.std.proofs.Math.Seq.{drop-cons, drop-nil}
-use Rattle.std.specs.Prelude.{IfSome}
-use Rattle.nl_attr.specs.Fixed.{LONGEST_REGION}
-use Rattle.nl_attr.specs.declared.tree.Ctx.{Ctx}
-use Rattle.nl_attr.specs.declared.tree.Ctx.TheVariants.{Route}
-use Rattle.nl_attr.specs.declared.measuring.Extent.{Extent}
-use Rattle.nl_attr.specs.Tree.{Items, no_items, item, HopItems, no_hops, hop, holds_of}
-use Rattle.nl_attr.specs.Measured.{region_len, empty_extent, join, extent_of_item, extent_of_val, extent_of, extent_of_hops}
 
 abbrev pub IsWithin : Option ℕ → Type 0
 IsWithin None = Unit {0}

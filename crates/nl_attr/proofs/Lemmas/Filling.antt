@@ -1,19 +1,9 @@
 -- A region in which another opens: what that one holds becomes a value of it, and it is read on.
-use Rattle.std.proofs.Common.{◌≡◌, ℕ, ◌+◌, [], ◌∷◌, ◌++◌, map, Ok, refl, ap, subst, ◌∙◌, arith}
-use Rattle.std.specs.Global.{Vec}
-use Rattle.nl_attr.specs.declared.tree.Attr.{Attr}
-use Rattle.nl_attr.specs.declared.tree.Hop.{Hop}
-use Rattle.nl_attr.specs.declared.tree.Ctx.{Ctx}
+use Rattle.nl_attr.proofs.Common.{◌≡◌, ℕ, ◌+◌, [], ◌∷◌, ◌++◌, map, Ok, refl, ap, subst, ◌∙◌, arith, Vec, Attr, Hop, Ctx, ListRegion, Shape, Items, HopItems, list, hops, item, attr_view, attrs_view, hops_view, value_view, Outcome, and_then, more_visits, items_of_region, hops_of_region, list_rest, hops_rest, list_goes_on, opening_rest, Goes, Spot, list_spot, opening_spot, room_in, spot_end, IsIn, IsWithinLimits, Advances, Moves}
 use Rattle.nl_attr.specs.declared.tree.Value.TheVariants as value
 use Rattle.nl_attr.specs.declared.region.Parts.TheVariants as parts
-use Rattle.nl_attr.specs.declared.stack.regions.ListRegion.{ListRegion}
 use Rattle.nl_attr.specs.declared.stack.regions.HopsRegion.{HopsRegion}
 use Rattle.nl_attr.specs.declared.stack.attributes.Opening.{Opening}
-use Rattle.nl_attr.specs.Shape.{Shape}
-use Rattle.nl_attr.specs.Tree.{Items, HopItems, list, hops, item}
-use Rattle.nl_attr.specs.View.{attr_view, attrs_view, hops_view, value_view}
-use Rattle.nl_attr.specs.Reading.{Outcome, and_then, more_visits, items_of_region, hops_of_region}
-use Rattle.nl_attr.specs.Open.{list_rest, hops_rest, list_goes_on, opening_rest, Goes, Spot, list_spot, opening_spot, room_in, spot_end, IsIn, IsWithinLimits, Advances, Moves}
 use Rattle.nl_attr.specs.declared.stack.attributes.Turn.TheVariants as turn
 use Rattle.nl_attr.proofs.Lemmas.Opened.{value_list, value_hops}
 use Rattle.nl_attr.proofs.Lemmas.Opens.{opening_list, opening_hops, attr_kept}

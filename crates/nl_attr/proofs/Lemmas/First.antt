@@ -1,22 +1,9 @@
 -- What is read ends as a walk over the heads does, and visits as much: at the first fault, or at the end where there is none.
-use Rattle.std.proofs.Common.{◌≡◌, ℕ, zero, suc, ◌+◌, ◌-◌, ◌*◌, ◌≤◌, Bool, true, false, cond, ltb, ◌||◌, List, [], ◌∷◌, length, drop, Option, Some, None, Result, Ok, Err, refl, sym, ap, subst, ◌∙◌, arith}
-use Rattle.nl_attr.specs.Fixed.{LONGEST_CONTAINER}
-use Rattle.nl_attr.specs.declared.fault.Reason.{Reason}
-use Rattle.nl_attr.specs.declared.fault.Reason.TheVariants.{Cut, BadLength, TooLong, TooDeep}
-use Rattle.nl_attr.specs.declared.fault.Fault.{Fault}
-use Rattle.nl_attr.specs.declared.tree.Content.{Content}
+use Rattle.nl_attr.proofs.Common.{◌≡◌, ℕ, zero, suc, ◌+◌, ◌-◌, ◌*◌, ◌≤◌, Bool, true, false, cond, ltb, ◌||◌, List, [], ◌∷◌, length, drop, Option, Some, None, Result, Ok, Err, refl, sym, ap, subst, ◌∙◌, arith, LONGEST_CONTAINER, Reason, Cut, BadLength, TooLong, TooDeep, Fault, Content, Ctx, Route, Shape, len_of, span_of, broken_length, payload_of, list, hops, Items, HopItems, Sort, attr_head, hop_head, Head, least, broken, broken_in, broken_container, content_at, or_else, span_at, inner_in, start_of, heads, FaultAt, IsFirstFault, Outcome, and_then, map_value, fault_visits, look_at, value_by, items_at, hops_at, items_of_region}
 use Rattle.nl_attr.specs.declared.tree.Content.TheVariants as content
-use Rattle.nl_attr.specs.declared.tree.Ctx.{Ctx}
-use Rattle.nl_attr.specs.declared.tree.Ctx.TheVariants.{Route}
-use Rattle.nl_attr.specs.Shape.{Shape}
-use Rattle.nl_attr.specs.Numbers.{len_of, span_of}
-use Rattle.nl_attr.specs.Walk.{broken_length, payload_of}
-use Rattle.nl_attr.specs.Tree.{list, hops, Items, HopItems}
 use Rattle.nl_attr.specs.Grammar.{Grammar, TrailOf, and_on, inner_trail, unless, trail_turn, trail_at, trail_of, visits_of}
 use Rattle.nl_attr.specs.Grammar as grammar
-use Rattle.nl_attr.specs.Heads.{Sort, attr_head, hop_head, Head, least, broken, broken_in, broken_container, content_at, or_else, span_at, inner_in, start_of, heads, FaultAt, IsFirstFault}
 use Rattle.nl_attr.specs.Visits.{Visits}
-use Rattle.nl_attr.specs.Reading.{Outcome, and_then, map_value, fault_visits, look_at, value_by, items_at, hops_at, items_of_region}
 use Rattle.nl_attr.specs.Scanned.{without}
 use Rattle.nl_attr.proofs.Lemmas.Grammars.{IsLawful, weigh-append, end, end_is, walk_bound}
 use Rattle.nl_attr.proofs.Lemmas.Grammars as grammars

@@ -1,19 +1,8 @@
 -- What fits a region can be written, is as long as the region with its last padding, and keeps no more bytes than it has.
-use Rattle.std.proofs.Common.{◌≡◌, ℕ, ◌+◌, ◌%◌, ◌^◌, ◌<◌, ◌≤◌, ◌⊎◌, List, ◌∷◌, ◌++◌, length, refl, sym, ap, ◌∙◌, arith}
+use Rattle.nl_attr.proofs.Common.{◌≡◌, ℕ, ◌+◌, ◌%◌, ◌^◌, ◌<◌, ◌≤◌, ◌⊎◌, List, ◌∷◌, ◌++◌, length, refl, sym, ap, ◌∙◌, arith, LONGEST_CONTAINER, LONGEST_ITEM, LONGEST_REGION, Order, Ctx, Route, Content, Shape, aligned, num, Val, bytes, list, hops, Items, no_items, item, HopItems, no_hops, hop, holds_of, FitsVal, Fits, FitsHops, val_len, items_len, hops_len, IsMismatched, IsMismatchedVal, IsMismatchedHops, IsDeep, IsDeepVal, IsDeepHops, HasLong, HasLongVal, HasLongHops, IsProper, IsRanged, IsRangedVal, IsRangedHops}
 use Rattle.std.proofs.Math.Logic.{⊎_elim}
-use Rattle.nl_attr.specs.Fixed.{LONGEST_CONTAINER, LONGEST_ITEM, LONGEST_REGION}
-use Rattle.nl_attr.specs.declared.order.Order.{Order}
-use Rattle.nl_attr.specs.declared.tree.Ctx.{Ctx}
-use Rattle.nl_attr.specs.declared.tree.Ctx.TheVariants.{Route}
-use Rattle.nl_attr.specs.declared.tree.Content.{Content}
 use Rattle.nl_attr.specs.declared.tree.Content.TheVariants as content
-use Rattle.nl_attr.specs.Shape.{Shape}
-use Rattle.nl_attr.specs.Numbers.{aligned, num}
-use Rattle.nl_attr.specs.Tree.{Val, bytes, list, hops, Items, no_items, item, HopItems, no_hops, hop, holds_of}
-use Rattle.nl_attr.specs.Layout.{FitsVal, Fits, FitsHops}
 use Rattle.nl_attr.specs.Kept.{value_kept, kept, hops_kept}
-use Rattle.nl_attr.specs.Written.{val_len, items_len, hops_len}
-use Rattle.nl_attr.specs.Proper.{IsMismatched, IsMismatchedVal, IsMismatchedHops, IsDeep, IsDeepVal, IsDeepHops, HasLong, HasLongVal, HasLongHops, IsProper, IsRanged, IsRangedVal, IsRangedHops}
 use Rattle.nl_attr.proofs.Lemmas.Numbers.{head_length, hop_length}
 use Rattle.nl_attr.proofs.Lemmas.Pieces.{apart, two_parts}
 

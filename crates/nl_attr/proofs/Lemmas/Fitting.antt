@@ -1,30 +1,8 @@
 -- What fits a region is what is read of it, so no two lists fit one.
-use Rattle.std.proofs.Common.{◌≡◌, ◌≢◌, ℕ, ◌+◌, ◌-◌, ◌*◌, ◌/◌, ◌%◌, ◌<◌, ◌≤◌, min, Bool, true, false, cond, eqb, ltb, ◌||◌, ◌⊎◌, ℤ, List, [], ◌∷◌, ◌++◌, length, take, drop, Some, None, Result, Ok, refl, sym, ap, subst, ◌∙◌, arith, inl, inr, append_assoc, length-append, length-drop}
-use Rattle.std.proofs.lemmas.Bool.{le-ltb}
-use Rattle.std.proofs.lemmas.List.{take_at, drop_at}
-use Rattle.std.specs.Prelude.{slice_index}
-use Rattle.std.specs.Int.{w32, cast_signed, cast_unsigned}
-use Rattle.std.proofs.lemmas.Int.{to_z-of_z}
-use Rattle.std.proofs.Math.Facts.{Fits-lt-pow, Fits-of_z}
-use Rattle.nl_attr.specs.Fixed.{LONGEST_CONTAINER}
-use Rattle.nl_attr.specs.declared.fault.Reason.TheVariants.{Cut, BadLength, TooLong, TooDeep}
-use Rattle.nl_attr.specs.declared.fault.Fault.{Fault}
-use Rattle.nl_attr.specs.declared.tree.AttrFlags.{AttrFlags}
-use Rattle.nl_attr.specs.declared.tree.Ctx.{Ctx}
-use Rattle.nl_attr.specs.declared.tree.Ctx.TheVariants.{Route}
-use Rattle.nl_attr.specs.declared.tree.Content.{Content}
+use Rattle.nl_attr.proofs.Common.{◌≡◌, ◌≢◌, ℕ, ◌+◌, ◌-◌, ◌*◌, ◌/◌, ◌%◌, ◌<◌, ◌≤◌, min, Bool, true, false, cond, eqb, ltb, ◌||◌, ◌⊎◌, ℤ, List, [], ◌∷◌, ◌++◌, length, take, drop, Some, None, Result, Ok, refl, sym, ap, subst, ◌∙◌, arith, inl, inr, append_assoc, length-append, length-drop, le-ltb, take_at, drop_at, slice_index, w32, cast_signed, cast_unsigned, to_z-of_z, Fits-lt-pow, Fits-of_z, LONGEST_CONTAINER, Cut, BadLength, TooLong, TooDeep, Fault, AttrFlags, Ctx, Route, Content, Order, Shape, aligned, num, len_of, kind_of, span_of, flags_of, ifindex_of, broken_length, Val, bytes, list, hops, Items, no_items, item, HopItems, no_hops, hop, holds_of, IsPadded, IsPiece, kind_number, FitsVal, Fits, FitsHops, broken_container, Outcome, and_then, map_value, more_visits, look_at, items_at, items_of_region, hops_of_region, value_at, attr_at, payload_of}
 use Rattle.nl_attr.specs.declared.tree.Content.TheVariants as content
-use Rattle.nl_attr.specs.declared.order.Order.{Order}
-use Rattle.nl_attr.specs.Shape.{Shape}
-use Rattle.nl_attr.specs.Numbers.{aligned, num, len_of, kind_of, span_of}
-use Rattle.nl_attr.specs.Walk.{flags_of, ifindex_of, broken_length}
-use Rattle.nl_attr.specs.Tree.{Val, bytes, list, hops, Items, no_items, item, HopItems, no_hops, hop, holds_of}
-use Rattle.nl_attr.specs.Layout.{IsPadded, IsPiece, kind_number, FitsVal, Fits, FitsHops}
-use Rattle.nl_attr.specs.Heads.{broken_container}
-use Rattle.nl_attr.specs.Reading.{Outcome, and_then, map_value, more_visits, look_at, items_at, items_of_region, hops_of_region, value_at, attr_at}
 use Rattle.nl_attr.proofs.Lemmas.Numbers.{number_of-num, kind_of-num, index_of-num, past_head, past_hop, flags_at, count_at, head_length, head_then, hop_then}
 use Rattle.nl_attr.proofs.Lemmas.Reading.{one_result, items_step, hops_step}
-use Rattle.nl_attr.specs.Walk.{payload_of}
 use Rattle.nl_attr.proofs.Lemmas.Grammars.{no_length}
 
 -- a piece at the front, as the fields of its head have it

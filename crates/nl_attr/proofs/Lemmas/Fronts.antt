@@ -1,29 +1,7 @@
 -- What stands at the front of a region, part by part, and the step past it.
-use Rattle.std.proofs.Common.{◌≡◌, ℕ, ◌≤◌, ◌<◌, ◌+◌, ◌-◌, ◌/◌, ◌%◌, Bool, true, false, cond, nat_eq, unwrap_or, List, [], ◌∷◌, take, drop, length, slice_set, Option, Some, None, refl, sym, ap, subst, ◌∙◌, arith, length-drop}
-use Rattle.std.proofs.lemmas.Bool.{le-ltb}
-use Rattle.std.proofs.lemmas.List.{take_all}
-use Rattle.nl_attr.specs.declared.fault.Reason.{Reason}
-use Rattle.nl_attr.specs.declared.order.Order.{Order}
-use Rattle.nl_attr.specs.declared.taping.Counts.{Counts}
-use Rattle.nl_attr.specs.declared.tree.AttrFlags.{AttrFlags}
-use Rattle.nl_attr.specs.declared.tree.Ctx.{Ctx}
-use Rattle.nl_attr.specs.declared.tree.Ctx.TheVariants.{Link, LinkInfo, Route, Metrics, Plain}
-use Rattle.nl_attr.specs.declared.tree.Content.{Content}
+use Rattle.nl_attr.proofs.Common.{◌≡◌, ℕ, ◌≤◌, ◌<◌, ◌+◌, ◌-◌, ◌/◌, ◌%◌, false, nat_eq, List, [], ◌∷◌, take, drop, length, slice_set, Option, Some, None, refl, sym, ap, subst, ◌∙◌, arith, length-drop, le-ltb, take_all, Reason, Order, Counts, AttrFlags, Ctx, Route, Content, OpenRegion, Parts, Event, LONGEST_CONTAINER, SORT_BYTES, SORT_LIST, SORT_NEXT_HOP, Shape, kind_of, len_of, holds_of, broken_length, flags_of, payload_of, unless, Head, content_at, broken, broken_container, inner_in, inner_of, or_else, span_at, start_of, heads, content_in, ctx_in, head_of, sort_in, Adds, hops_start, event_of, sort_of, counted}
 use Rattle.nl_attr.specs.declared.tree.Content.TheVariants as content
-use Rattle.nl_attr.specs.declared.region.OpenRegion.{OpenRegion}
-use Rattle.nl_attr.specs.declared.region.Parts.{Parts}
 use Rattle.nl_attr.specs.declared.region.Parts.TheVariants.{Attrs, Hops}
-use Rattle.nl_attr.specs.declared.events.Event.{Event}
-use Rattle.nl_attr.specs.Fixed.{LONGEST_CONTAINER, SORT_BYTES, SORT_LIST, SORT_NEXT_HOP}
-use Rattle.nl_attr.specs.Shape.{Shape}
-use Rattle.nl_attr.specs.Numbers.{kind_of, len_of}
-use Rattle.nl_attr.specs.Tree.{holds_of, named}
-use Rattle.nl_attr.specs.Walk.{broken_length, flags_of, payload_of}
-use Rattle.nl_attr.specs.Grammar.{unless}
-use Rattle.nl_attr.specs.Heads.{Head, content_at, broken, broken_container, inner_in, inner_of, or_else, span_at, start_of, heads}
-use Rattle.nl_attr.specs.Region.{content_in, ctx_in, head_of, sort_in}
-use Rattle.nl_attr.specs.Taped.{Adds, hops_start}
-use Rattle.nl_attr.specs.HeadOrder.{event_of, sort_of, counted}
 use Rattle.nl_attr.proofs.Lemmas.Putting.{put_none, put_one}
 
 -- the event of an attribute, as of one that holds bytes
@@ -42,26 +20,6 @@ event_so o ctx l place left e content sort a b c = rw (a, c, b) refl
 -- that of one that holds bytes
 pub bytes_event : (o : Order) (ctx : Ctx) (l place : ℕ) (left : List ℕ) → content_at o ctx left ≡ content.Bytes → ◌≡◌ {A = Event} (record (event_of o (start_of ctx l place left)) { sort = SORT_BYTES }) (event_of o (start_of ctx l place left))
 bytes_event o ctx l place left e = ap (λ (k : Content). record (event_of o (start_of ctx l place left)) { sort = sort_of k }) (sym e)
-
--- and isn't nested
-named_container : (c : Ctx) (n : ℕ) → named c n ≡ Some content.Bytes → ⊥
-named_container Link n e = one (nat_eq n 18) e where
-  one : (b : Bool) → cond b (Some (content.List LinkInfo)) None ≡ Some content.Bytes → ⊥
-  one true e = absurd cc
-  one false e = absurd cc
-named_container Route n e = two (nat_eq n 9) (nat_eq n 8) e where
-  two : (a b : Bool) → cond a (Some content.Hops) (cond b (Some (content.List Metrics)) None) ≡ Some content.Bytes → ⊥
-  two true b e = absurd cc
-  two false true e = absurd cc
-  two false false e = absurd cc
-named_container c n e = absurd cc
-
-pub not_nested : (c : Ctx) (n : ℕ) (flags : AttrFlags) → holds_of c n flags ≡ content.Bytes → flags.nested ≡ false
-not_nested c n flags e = plain (named c n) flags.nested (named_container c n) e where
-  plain : (o : Option Content) (b : Bool) → (o ≡ Some content.Bytes → ⊥) → unwrap_or o (cond b (content.List Plain) content.Bytes) ≡ content.Bytes → b ≡ false
-  plain (Some x) b never e = absurd (never (ap Some e))
-  plain None true never e = absurd cc
-  plain None false never e = refl
 
 -- a type field below both flag bits has none of them
 pub no_flags : (n : ℕ) → n < 16384 → flags_of n ≡ record { nested = false; net = false }

@@ -1,24 +1,7 @@
 -- A region that is read on, item by item, before a turn is over.
-use Rattle.std.proofs.Common.{◌≡◌, ℕ, ◌+◌, ◌-◌, ◌*◌, ◌≤◌, List, [], ◌∷◌, ◌++◌, length, None, Ok, Err, refl, sym, ap, subst, ◌∙◌, arith}
-use Rattle.nl_attr.specs.declared.fault.ListError.TheVariants.{Layout, Memory}
-use Rattle.nl_attr.specs.declared.walk.attrs.Part.{Part}
-use Rattle.nl_attr.specs.declared.walk.hops.HopPart.{HopPart}
-use Rattle.nl_attr.specs.declared.tree.Ctx.{Ctx}
-use Rattle.nl_attr.specs.declared.tree.Content.{Content}
+use Rattle.nl_attr.proofs.Common.{◌≡◌, ℕ, ◌+◌, ◌-◌, ◌*◌, ◌≤◌, List, [], ◌∷◌, ◌++◌, length, None, Ok, Err, refl, sym, ap, subst, ◌∙◌, arith, Layout, Memory, Part, HopPart, Ctx, Content, ListRegion, Turn, ListError, Shape, span_of, Region, broken_length, IsPart, IsHopPart, after, broken_container, Outcome, and_then, map_value, more_visits, value_at, Val, bytes, Items, item, HopItems, holds_of, Front, before, Goes, FailsAs, Spot, list_spot, levels_in, IsWithinLimits, Advances, Moves}
 use Rattle.nl_attr.specs.declared.tree.Content.TheVariants as content
-use Rattle.nl_attr.specs.declared.stack.regions.ListRegion.{ListRegion}
-use Rattle.nl_attr.specs.declared.stack.attributes.Turn.{Turn}
 use Rattle.nl_attr.specs.declared.stack.attributes.Turn.TheVariants as turn
-use Rattle.nl_attr.specs.declared.fault.ListError.{ListError}
-use Rattle.nl_attr.specs.Shape.{Shape}
-use Rattle.nl_attr.specs.Numbers.{span_of}
-use Rattle.nl_attr.specs.Walk.{Region, broken_length, IsPart, IsHopPart, after}
-use Rattle.nl_attr.specs.Heads.{broken_container}
-use Rattle.nl_attr.specs.Reading.{Outcome, and_then, map_value, more_visits, items_of_region, value_at}
-use Rattle.nl_attr.specs.Tree.{Val, bytes, Items, item, HopItems, holds_of}
-use Rattle.nl_attr.specs.View.{Front}
-use Rattle.nl_attr.specs.Open.{before, Goes, FailsAs, Spot, list_spot, levels_in, IsWithinLimits, Advances, Moves}
-use Rattle.nl_attr.proofs.Lemmas.First.{read_bound}
 use Rattle.nl_attr.proofs.Lemmas.Loop.{rest_of, part_step, hops_rest, hop_step, Passes, collected, list_opens, zero_more}
 
 -- n visits were made before a region was read, and m since, up to this spot
@@ -69,10 +52,6 @@ module _ {S : Shape} {n : ℕ} {whole : Outcome Items} {start : Spot} {m : ℕ} 
   moves_so r turn.Ends i v = tt
   moves_so r (turn.Opens p) i v = (advances_both start spot (list_spot r) i.goes v.0, v.1, omega (arith, v.2, i.less))
   moves_so r (turn.Fails e) i v = tt
-
--- the visits so far and those that are left have the bound of the whole
-pub region_visits : (S : Shape) (ctx : Ctx) (l base : ℕ) (left : List ℕ) {start spot : Spot} {m : ℕ} {rest : Outcome Items} → IsGoing S 0 (items_of_region S ctx l base left) start m rest spot → m + rest.1 ≤ (S.depth - l + 1) * length left
-region_visits S ctx l base left going = omega (arith, visits_so_far going, read_bound S ctx l base left)
 
 -- an attribute of bytes is collected
 pub list_leaf : (S : Shape) (ctx : Ctx) (l base : ℕ) (p : Part) (r s : Region) (front longer : List Front) (n : ℕ) → r.order ≡ S.order → broken_length r.order 4 2 r.left ≡ None → IsPart p r → s ≡ after r → holds_of ctx p.number p.flags ≡ content.Bytes → longer ≡ front ++ item p.number p.flags (bytes p.payload.now) ∷ []

@@ -1,24 +1,8 @@
 -- Attributes that hold bytes, passed one behind the other.
-use Rattle.std.proofs.Common.{◌≡◌, ◌≢◌, ℕ, ◌+◌, ◌-◌, ◌*◌, ◌/◌, ◌%◌, ◌||◌, ◌≤◌, nat_lt, if◌then◌else◌, List, [], ◌∷◌, ◌++◌, length, drop, map, Some, None, refl, sym, ap, subst, ◌∙◌, arith, length-append, length-drop}
-use Rattle.std.proofs.lemmas.Bool.{le-ltb}
-use Rattle.std.proofs.lemmas.List.{drop-drop, length-map, map-append}
-use Rattle.nl_attr.specs.declared.events.Event.{Event}
-use Rattle.nl_attr.specs.declared.events.Room.{Room}
+use Rattle.nl_attr.proofs.Common.{◌≡◌, ◌≢◌, ℕ, ◌+◌, ◌-◌, ◌*◌, ◌/◌, ◌%◌, ◌||◌, ◌≤◌, nat_lt, if◌then◌else◌, List, [], ◌∷◌, ◌++◌, length, drop, map, Some, None, refl, sym, ap, subst, ◌∙◌, arith, length-append, length-drop, le-ltb, drop-drop, length-map, map-append, Event, Room, OpenRegion, Counts, Ctx, Shape, len_of, span_of, broken_length, Cut, BadLength, Order, Head, start_of, broken, follower, event_of, put_from, head_of, HasRoom, HoldsNone, IsPassing, Passes, Skips, head_with}
 use Rattle.nl_attr.specs.declared.events.Room.TheVariants.{Ample, Unknown}
-use Rattle.nl_attr.specs.declared.region.OpenRegion.{OpenRegion}
 use Rattle.nl_attr.specs.declared.region.Parts.TheVariants.{Attrs}
-use Rattle.nl_attr.specs.declared.taping.Counts.{Counts}
 use Rattle.nl_attr.specs.declared.taping.leaves.Passed.{Passed}
-use Rattle.nl_attr.specs.declared.tree.Ctx.{Ctx}
-use Rattle.nl_attr.specs.Shape.{Shape}
-use Rattle.nl_attr.specs.Numbers.{len_of, span_of}
-use Rattle.nl_attr.specs.Walk.{broken_length}
-use Rattle.nl_attr.specs.declared.fault.Reason.TheVariants.{Cut, BadLength}
-use Rattle.nl_attr.specs.declared.order.Order.{Order}
-use Rattle.nl_attr.specs.Heads.{Head, start_of, broken, follower}
-use Rattle.nl_attr.specs.HeadOrder.{event_of, put_from}
-use Rattle.nl_attr.specs.Region.{head_of}
-use Rattle.nl_attr.specs.Taped.{HasRoom, HoldsNone, IsPassing, Passes, Skips, head_with}
 use Rattle.nl_attr.proofs.Lemmas.Fronts.{adds_none, attrs_head}
 use Rattle.nl_attr.proofs.Lemmas.Scan.{span_within}
 use Rattle.nl_attr.proofs.Lemmas.Putting.{put_none, put_on}

@@ -1,15 +1,6 @@
 -- How many bytes are written, and what stands where an item is closed.
-use Rattle.std.proofs.Common.{◌≡◌, ℕ, ℤ, zero, suc, ◌+◌, ◌-◌, ◌*◌, ◌/◌, ◌≤◌, List, [], ◌∷◌, ◌++◌, length, take, drop, set, replicate, Result, Ok, Err, is_ok, refl, sym, ap, ◌∙◌, arith, length-append, length-drop, length-set, append_assoc}
-use Rattle.std.specs.Prelude.{IsOk, if◌then◌else◌, slice_index}
-use Rattle.std.specs.Int.{w32, cast_unsigned}
-use Rattle.std.proofs.lemmas.List.{length-replicate, take_all, take_at, drop_at}
-use Rattle.nl_attr.specs.declared.order.Order.{Order}
+use Rattle.nl_attr.proofs.Common.{◌≡◌, ℕ, ℤ, zero, suc, ◌+◌, ◌-◌, ◌*◌, ◌/◌, ◌≤◌, List, [], ◌∷◌, ◌++◌, length, take, drop, set, replicate, Result, Ok, Err, is_ok, refl, sym, ap, ◌∙◌, arith, length-append, length-drop, length-set, append_assoc, IsOk, if◌then◌else◌, slice_index, w32, cast_unsigned, length-replicate, take_all, take_at, drop_at, Order, AttrFlags, aligned, num, kind_number, Val, bytes, list, hops, Items, no_items, item, HopItems, no_hops, hop, with_padding, attr_item, hop_item, written, written_val, written_hops, val_len, items_len, hops_len}
 use Rattle.nl_attr.specs.declared.order.Order.TheVariants.{Little, Big}
-use Rattle.nl_attr.specs.declared.tree.AttrFlags.{AttrFlags}
-use Rattle.nl_attr.specs.Numbers.{aligned, num}
-use Rattle.nl_attr.specs.Layout.{kind_number}
-use Rattle.nl_attr.specs.Tree.{Val, bytes, list, hops, Items, no_items, item, HopItems, no_hops, hop}
-use Rattle.nl_attr.specs.Written.{with_padding, attr_item, hop_item, written, written_val, written_hops, val_len, items_len, hops_len}
 use Rattle.nl_attr.proofs.Lemmas.Numbers.{head_length, hop_length, length-num}
 
 pub length-padded : (it : List ℕ) → length (with_padding it) ≡ aligned (length it)

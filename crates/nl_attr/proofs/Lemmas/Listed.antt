@@ -1,23 +1,6 @@
 -- The events of the heads of a region are those of the list that fits it.
-use Rattle.std.proofs.Common.{◌≡◌, ◌≢◌, ℕ, ◌+◌, List, [], ◌∷◌, ◌++◌, length, map, drop, Option, Some, None, refl, sym, ap, subst, ◌∙◌, arith}
-use Rattle.std.proofs.lemmas.List.{map-append}
-use Rattle.std.specs.Int.{w32, cast_unsigned}
-use Rattle.nl_attr.specs.declared.events.Event.{Event}
-use Rattle.nl_attr.specs.declared.fault.Reason.{Reason}
-use Rattle.nl_attr.specs.declared.tree.AttrFlags.{AttrFlags}
-use Rattle.nl_attr.specs.declared.tree.Ctx.{Ctx}
-use Rattle.nl_attr.specs.declared.tree.Ctx.TheVariants.{Route}
-use Rattle.nl_attr.specs.declared.tree.Content.{Content}
+use Rattle.nl_attr.proofs.Common.{◌≡◌, ◌≢◌, ℕ, ◌+◌, List, [], ◌∷◌, ◌++◌, length, map, drop, Option, Some, None, refl, sym, ap, subst, ◌∙◌, arith, map-append, w32, cast_unsigned, Event, Reason, AttrFlags, Ctx, Route, Content, Shape, aligned, len_of, span_of, broken_length, payload_of, Val, bytes, list, hops, Items, no_items, item, HopItems, no_hops, hop, holds_of, FitsVal, Fits, FitsHops, hop_head, Head, content_at, broken, broken_container, follower, inner_in, inner_of, or_else, start_of, heads, val_len, items_len, TrailOf, and_on, inner_trail, trail_of, sort_of, attr_event, hop_event, event_of}
 use Rattle.nl_attr.specs.declared.tree.Content.TheVariants as content
-use Rattle.nl_attr.specs.Shape.{Shape}
-use Rattle.nl_attr.specs.Numbers.{aligned, len_of, span_of}
-use Rattle.nl_attr.specs.Walk.{broken_length, payload_of}
-use Rattle.nl_attr.specs.Tree.{Val, bytes, list, hops, Items, no_items, item, HopItems, no_hops, hop, holds_of}
-use Rattle.nl_attr.specs.Layout.{FitsVal, Fits, FitsHops}
-use Rattle.nl_attr.specs.Heads.{hop_head, Head, content_at, broken, broken_container, follower, inner_in, inner_of, or_else, start_of, heads}
-use Rattle.nl_attr.specs.Written.{val_len, items_len}
-use Rattle.nl_attr.specs.Grammar.{TrailOf, and_on, inner_trail}
-use Rattle.nl_attr.specs.HeadOrder.{trail_of, sort_of, attr_event, hop_event, event_of}
 use Rattle.nl_attr.specs.Listed.{sort_of_val, val_events, items_events, hops_events, rounded}
 use Rattle.nl_attr.proofs.Lemmas.Fitted.{hop_size, val_len_is, items_len_is, hops_len_is}
 use Rattle.nl_attr.proofs.Lemmas.Fitting.{attr_is, cut_piece, next_span, val_fit}

@@ -1,22 +1,6 @@
 -- Reading items one after the other.
-use Rattle.std.proofs.Common.{◌≡◌, ℕ, ◌+◌, ◌%◌, List, [], ◌∷◌, ◌++◌, drop, None, Ok, Err, refl, ap, subst, ◌∙◌, add_assoc, ◌*◌, ◌/◌, ◌≤◌, min, length, Some, Result, arith, length-drop, ◌≢◌, suc, ◌<◌, Option, sym}
-use Rattle.std.specs.Prelude.{slice_index}
-use Rattle.nl_attr.specs.declared.walk.attrs.Part.{Part}
-use Rattle.nl_attr.specs.declared.walk.hops.HopPart.{HopPart}
-use Rattle.nl_attr.specs.declared.tree.Ctx.TheVariants.{Route}
-use Rattle.nl_attr.specs.declared.tree.Ctx.{Ctx}
-use Rattle.nl_attr.specs.declared.order.Order.{Order}
-use Rattle.nl_attr.specs.Shape.{Shape}
-use Rattle.nl_attr.specs.Numbers.{kind_of, span_of, len_of}
-use Rattle.nl_attr.specs.Walk.{Region, flags_of, broken_length, IsPart, IsHopPart, ifindex_of, payload_of, after, GivesPart, GivesHop, span_given}
-use Rattle.nl_attr.specs.Tree.{Items, no_items, HopItems, no_hops, hop, Val, item, holds_of}
-use Rattle.nl_attr.specs.View.{Front, HopFront, items_of, hops_of}
-use Rattle.nl_attr.specs.Reading.{Outcome, and_then, map_value, more_visits, items_of_region, hops_of_region, attr_at, fault_visits, look_at, items_at, value_at}
-use Rattle.nl_attr.specs.Open.{before, Spot, IsIn, IsWithinLimits, spot_of, room_in, levels_in, Advances}
+use Rattle.nl_attr.proofs.Common.{◌≡◌, ℕ, ◌+◌, ◌%◌, List, [], ◌∷◌, ◌++◌, drop, None, Ok, Err, refl, ap, subst, ◌∙◌, add_assoc, ◌*◌, ◌/◌, ◌≤◌, min, length, Some, Result, arith, length-drop, ◌≢◌, suc, ◌<◌, Option, sym, slice_index, Part, HopPart, Route, Ctx, Order, Shape, kind_of, span_of, len_of, Region, flags_of, broken_length, IsPart, IsHopPart, ifindex_of, payload_of, after, GivesPart, GivesHop, span_given, Items, no_items, HopItems, no_hops, hop, Val, item, holds_of, Front, HopFront, items_of, hops_of, Outcome, and_then, map_value, more_visits, items_of_region, hops_of_region, attr_at, fault_visits, look_at, items_at, value_at, before, Spot, IsIn, IsWithinLimits, spot_of, room_in, levels_in, Advances, Fault, Reason, Sort, attr_head, hop_head, broken_container}
 use Rattle.nl_attr.proofs.Lemmas.Reading.{items_step, hops_step, sound_within, payload_length, span_at_least, map_then, and_then_both, items_cut, hops_cut, container_counts}
-use Rattle.nl_attr.specs.declared.fault.Fault.{Fault}
-use Rattle.nl_attr.specs.declared.fault.Reason.{Reason}
-use Rattle.nl_attr.specs.Heads.{Sort, attr_head, hop_head, broken_container}
 
 pub items_before : (fs : List Front) → before fs no_items ≡ items_of fs
 items_before [] = refl

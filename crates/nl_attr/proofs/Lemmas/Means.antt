@@ -1,18 +1,6 @@
 -- What the extent of a list says of it.
-use Rattle.std.proofs.Common.{◌≡◌, ℕ, ◌+◌, ◌-◌, ◌<◌, ◌≤◌, Bool, true, false, cond, ltb, ◌||◌, ◌⊎◌, Option, Some, None, refl, sym, ap, subst, arith, inl, inr}
-use Rattle.std.specs.Prelude.{◌↔◌, IsTrue, IfSome}
-use Rattle.std.proofs.lemmas.Bool.{ltb-true, ltb-false}
-use Rattle.nl_attr.specs.Fixed.{LONGEST_ITEM, LONGEST_REGION}
-use Rattle.nl_attr.specs.declared.tree.Ctx.{Ctx}
-use Rattle.nl_attr.specs.declared.tree.Ctx.TheVariants.{Route}
-use Rattle.nl_attr.specs.declared.tree.Content.{Content}
+use Rattle.nl_attr.proofs.Common.{◌≡◌, ℕ, ◌+◌, ◌-◌, ◌<◌, ◌≤◌, Bool, true, false, cond, ltb, ◌||◌, ◌⊎◌, Option, Some, None, refl, sym, ap, subst, arith, inl, inr, ◌↔◌, IsTrue, IfSome, ltb-true, ltb-false, LONGEST_ITEM, LONGEST_REGION, Ctx, Route, Content, Extent, aligned, Val, bytes, list, hops, Items, no_items, item, HopItems, no_hops, hop, holds_of, val_len, items_len, hops_len, IsMismatched, IsMismatchedVal, IsMismatchedHops, IsDeep, IsDeepVal, IsDeepHops, IsLong, HasLong, HasLongVal, HasLongHops, IsLongRegion, IsSized, IsSizedVal, IsSizedHops, region_len, item_len, join, extent_of_item, container_extent, extent_of, extent_of_val, extent_of_hops}
 use Rattle.nl_attr.specs.declared.tree.Content.TheVariants as content
-use Rattle.nl_attr.specs.declared.measuring.Extent.{Extent}
-use Rattle.nl_attr.specs.Numbers.{aligned}
-use Rattle.nl_attr.specs.Tree.{Val, bytes, list, hops, Items, no_items, item, HopItems, no_hops, hop, holds_of}
-use Rattle.nl_attr.specs.Written.{val_len, items_len, hops_len}
-use Rattle.nl_attr.specs.Proper.{IsMismatched, IsMismatchedVal, IsMismatchedHops, IsDeep, IsDeepVal, IsDeepHops, IsLong, HasLong, HasLongVal, HasLongHops, IsLongRegion, IsSized, IsSizedVal, IsSizedHops}
-use Rattle.nl_attr.specs.Measured.{region_len, item_len, join, extent_of_item, container_extent, extent_of, extent_of_val, extent_of_hops}
 
 -- the test is true where P holds
 abbrev pub Says : Bool → Type 0 → Type 0

@@ -1,21 +1,10 @@
 -- Reading with a stack of open regions, one turn after the other.
-use Rattle.std.proofs.Common.{◌≡◌, ℕ, suc, ◌+◌, ◌-◌, ◌*◌, ◌<◌, ◌≤◌, List, [], ◌∷◌, ◌++◌, length, Result, Ok, Err, refl, sym, ap, subst, ◌∙◌, arith}
-use Rattle.std.specs.Prelude.{IsErrAnd}
-use Rattle.std.proofs.Math.Nat.{mul-le-mul_left}
-use Rattle.nl_attr.specs.Fixed.{LONGEST_REGION, MOST_VISITS}
-use Rattle.nl_attr.specs.declared.fault.Fault.{Fault}
-use Rattle.nl_attr.specs.declared.fault.ListError.{ListError}
-use Rattle.nl_attr.specs.declared.fault.ListError.TheVariants.{Layout, Memory}
-use Rattle.nl_attr.specs.declared.stack.regions.ListRegion.{ListRegion}
+use Rattle.nl_attr.proofs.Common.{◌≡◌, ℕ, suc, ◌+◌, ◌-◌, ◌*◌, ◌<◌, ◌≤◌, List, [], ◌∷◌, ◌++◌, length, Result, Ok, Err, refl, sym, ap, subst, ◌∙◌, arith, IsErrAnd, mul-le-mul_left, LONGEST_REGION, MOST_VISITS, Fault, ListError, Layout, Memory, ListRegion, Shape, Items, Sort, Outcome, and_then, more_visits}
 use Rattle.nl_attr.specs.declared.stack.nested.Outer.{Outer}
 use Rattle.nl_attr.specs.declared.stack.nested.Outer.TheVariants as outer
 use Rattle.nl_attr.specs.declared.stack.nested.Next.{Next}
 use Rattle.nl_attr.specs.declared.stack.nested.Next.TheVariants as next
-use Rattle.nl_attr.specs.Shape.{Shape}
-use Rattle.nl_attr.specs.Tree.{Items}
-use Rattle.nl_attr.specs.Heads.{Sort}
 use Rattle.nl_attr.specs.Outcomes.{IsOutcome}
-use Rattle.nl_attr.specs.Reading.{Outcome, and_then, more_visits}
 use Rattle.nl_attr.specs.Open.{list_rest, goes_on, next_rest, NextGoes, FailsAs, Spot, list_spot, outer_spot, outer_room, Holds, levels_in, IsWithinLimits, Room, IsIn, spot_end, outer_work, next_work, Advances, NextMoves, LiesUnder, PutsOn}
 use Rattle.nl_attr.proofs.Lemmas.Reading.{more_then}
 
@@ -40,10 +29,6 @@ same_visits {A = A} n m o p e = ap (λ (x : Outcome A). x.1) e
 
 pub done_visits : {A : Type 0} (n m : ℕ) (o : Outcome A) (x : A) → more_visits n o ≡ (Ok x, m) → n + o.1 ≡ m
 done_visits {A = A} n m o x e = ap (λ (y : Outcome A). y.1) e
-
--- what is read first is among the visits
-pub first_visits : {A B : Type 0} (n m : ℕ) (o : Outcome B) (p : Outcome A) (g : A → Outcome B) → more_visits n o ≡ more_visits m (and_then p g) → m + p.1 ≤ n + o.1
-first_visits n m o p g e = omega (arith, same_visits n m o (and_then p g) e, then_more p g)
 
 -- ---- outcomes
 

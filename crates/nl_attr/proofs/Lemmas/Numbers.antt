@@ -1,18 +1,9 @@
 -- Numbers and their bytes.
-use Rattle.std.proofs.Common.{◌≡◌, ℕ, zero, suc, ◌+◌, ◌*◌, ◌/◌, ◌%◌, ◌^◌, ◌<◌, ◌≤◌, List, [], ◌∷◌, ◌++◌, length, take, drop, get_or, refl, sym, ap, subst, ◌∙◌, arith, inl, inr}
-use Rattle.std.specs.Prelude.{reverse, ℤ, FitsSigned}
-use Rattle.std.specs.Int.{w32, cast_signed, cast_unsigned}
-use Rattle.std.proofs.lemmas.List.{reverse-reverse, length-reverse, take-append-drop, take_at, length-take, get_or-drop, get_or-take, get_or_past}
-use Rattle.std.proofs.lemmas.Bool.{cases_lt}
+use Rattle.nl_attr.proofs.Common.{◌≡◌, ℕ, zero, suc, ◌+◌, ◌*◌, ◌/◌, ◌%◌, ◌^◌, ◌<◌, ◌≤◌, List, [], ◌∷◌, ◌++◌, length, take, drop, get_or, refl, sym, ap, subst, ◌∙◌, arith, inl, inr, reverse, ℤ, FitsSigned, w32, cast_signed, cast_unsigned, reverse-reverse, length-reverse, take-append-drop, take_at, length-take, get_or-drop, get_or-take, get_or_past, cases_lt, of_z-to_z, to_z-of_z, sfits_to_z, Fits-of_lt, Fits-lt-pow, Fits-of_z, pow-suc, Order, AreBytes, le, num, number_of, kind_of}
 use Rattle.std.proofs.lemmas.Grind.{reverse_onto}
-use Rattle.std.proofs.lemmas.Int.{of_z-to_z, to_z-of_z}
-use Rattle.std.proofs.Math.Facts.{sfits_to_z, Fits-of_lt, Fits-lt-pow, Fits-of_z}
-use Rattle.std.proofs.Math.Nat.{pow-suc}
 use Rattle.byteorder.specs.Endian.{big_from}
 use Rattle.byteorder.specs.Numbers.{little_from-cons, big_from-cons, little_from-take, big_from-take}
-use Rattle.nl_attr.specs.declared.order.Order.{Order}
 use Rattle.nl_attr.specs.declared.order.Order.TheVariants.{Little, Big}
-use Rattle.nl_attr.specs.Numbers.{AreBytes, le, num, number_of, kind_of}
 
 -- the number that bytes are the form of, the lowest first
 abbrev pub number : List ℕ → ℕ

@@ -1,35 +1,12 @@
 -- An attribute that holds a region.
-use Rattle.std.proofs.Common.{◌≡◌, ℕ, ◌+◌, ◌≤◌, [], ◌∷◌, ◌++◌, ltb, length, map, None, refl, sym, ap, ◌∙◌, arith}
-use Rattle.std.specs.Global.{Vec}
-use Rattle.std.proofs.lemmas.Bool.{ltb-false}
-use Rattle.nl_attr.specs.Fixed.{LONGEST_CONTAINER}
-use Rattle.nl_attr.specs.declared.fault.ListError.TheVariants.{Layout, Memory}
-use Rattle.nl_attr.specs.declared.walk.attrs.Part.{Part}
-use Rattle.nl_attr.specs.declared.tree.Content.{Content}
-use Rattle.nl_attr.specs.declared.tree.Attr.{Attr}
-use Rattle.nl_attr.specs.declared.tree.AttrFlags.{AttrFlags}
-use Rattle.nl_attr.specs.declared.tree.Ctx.{Ctx}
+use Rattle.nl_attr.proofs.Common.{◌≡◌, ℕ, ◌+◌, ◌≤◌, [], ◌∷◌, ◌++◌, ltb, length, map, None, refl, sym, ap, ◌∙◌, arith, Vec, ltb-false, LONGEST_CONTAINER, Layout, Memory, Part, Content, Attr, AttrFlags, Ctx, ListRegion, Parts, Turn, Shape, span_of, IsPart, IsHopPart, Val, list, hops, Items, item, HopItems, holds_of, hop, attr_view, hop_view, attr_head, broken_container, hop_head, Outcome, and_then, more_visits, items_of_region, hops_of_region, value_at, content_in, sort_in, before, TurnsAt, items_left, list_rest, hops_rest, list_goes_on, opening_rest, Goes, list_spot, levels_in, IsWithinLimits, Moves, hops_go_on, hops_left, spot_of, hops_spot, HopMoves, HopPart, Route}
 use Rattle.nl_attr.specs.declared.stack.regions.HopsRegion.{HopsRegion}
-use Rattle.nl_attr.specs.declared.stack.regions.ListRegion.{ListRegion}
-use Rattle.nl_attr.specs.declared.region.Parts.{Parts}
 use Rattle.nl_attr.specs.declared.region.Parts.TheVariants as parts
 use Rattle.nl_attr.specs.declared.stack.attributes.Opening.{Opening}
-use Rattle.nl_attr.specs.declared.stack.attributes.Turn.{Turn}
 use Rattle.nl_attr.specs.declared.stack.attributes.Turn.TheVariants as turn
-use Rattle.nl_attr.specs.Shape.{Shape}
-use Rattle.nl_attr.specs.Numbers.{span_of}
-use Rattle.nl_attr.specs.Walk.{IsPart, IsHopPart}
-use Rattle.nl_attr.specs.Tree.{Val, list, hops, Items, item, HopItems, holds_of, hop}
-use Rattle.nl_attr.specs.View.{attr_view, hop_view}
-use Rattle.nl_attr.specs.Heads.{attr_head, broken_container, hop_head}
-use Rattle.nl_attr.specs.Reading.{Outcome, and_then, more_visits, items_of_region, hops_of_region, value_at}
-use Rattle.nl_attr.specs.Region.{content_in, sort_in}
-use Rattle.nl_attr.specs.Open.{before, TurnsAt, items_left, list_rest, hops_rest, list_goes_on, opening_rest, Goes, list_spot, levels_in, IsWithinLimits, Moves, hops_go_on, hops_left, spot_of, hops_spot, HopMoves}
 use Rattle.nl_attr.proofs.Lemmas.Scan.{tests_none}
 use Rattle.nl_attr.proofs.Lemmas.Reading.{map_then}
 use Rattle.nl_attr.proofs.Lemmas.Loop.{Turns, collected, list_breaks, list_opens, passes, hops_open, hop_inner}
-use Rattle.nl_attr.specs.declared.walk.hops.HopPart.{HopPart}
-use Rattle.nl_attr.specs.declared.tree.Ctx.TheVariants.{Route}
 use Rattle.nl_attr.specs.declared.stack.regions.HopHead.{HopHead}
 use Rattle.nl_attr.specs.declared.stack.next_hops.HopTurn.TheVariants as hop_turn
 

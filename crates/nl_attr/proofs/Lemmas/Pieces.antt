@@ -1,12 +1,5 @@
 -- Pieces of a region: the item at the front of one whose head is sound, their lengths and their bytes.
-use Rattle.std.proofs.Common.{◌≡◌, ℕ, ◌+◌, ◌-◌, ◌*◌, ◌/◌, ◌^◌, ◌<◌, ◌≤◌, min, List, ◌++◌, length, take, drop, replicate, None, sym, ap, ◌∙◌, subst, arith, inl, inr, append_assoc, length-append, length-drop}
-use Rattle.std.proofs.lemmas.List.{take-append-drop, take-take, length-take, length-replicate, nil_from_length}
-use Rattle.std.proofs.lemmas.Bool.{cases_lt}
-use Rattle.nl_attr.specs.declared.order.Order.{Order}
-use Rattle.nl_attr.specs.Numbers.{AreBytes, aligned, num, len_of, span_of}
-use Rattle.nl_attr.specs.Walk.{broken_length}
-use Rattle.nl_attr.specs.Layout.{IsPadded, IsPiece}
-use Rattle.nl_attr.specs.Written.{with_padding}
+use Rattle.nl_attr.proofs.Common.{◌≡◌, ℕ, ◌+◌, ◌-◌, ◌*◌, ◌/◌, ◌^◌, ◌<◌, ◌≤◌, min, List, ◌++◌, length, take, drop, replicate, None, sym, ap, ◌∙◌, subst, arith, inl, inr, append_assoc, length-append, length-drop, take-append-drop, take-take, length-take, length-replicate, nil_from_length, cases_lt, Order, AreBytes, aligned, num, len_of, span_of, broken_length, IsPadded, IsPiece, with_padding}
 use Rattle.std.proofs.Math.Seq.{drop-append_seam, take-append_seam}
 use Rattle.nl_attr.proofs.Lemmas.Numbers.{front_is, front_below, bytes_take, bytes_drop}
 use Rattle.nl_attr.proofs.Lemmas.Reading.{sound_within, span_at_least}

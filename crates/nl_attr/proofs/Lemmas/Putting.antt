@@ -1,11 +1,6 @@
 -- A buffer into which events are put, one behind the other.
-use Rattle.std.proofs.Common.{◌≡◌, ◌≤◌, ℕ, zero, suc, ◌+◌, ◌-◌, ◌*◌, List, [], ◌∷◌, ◌++◌, length, take, drop, slice_set, refl, sym, ap, ◌∙◌, arith}
-use Rattle.std.proofs.lemmas.List.{take-append-drop}
-use Rattle.nl_attr.specs.declared.events.Event.{Event}
-use Rattle.nl_attr.specs.declared.events.Room.{Room}
+use Rattle.nl_attr.proofs.Common.{◌≡◌, ◌≤◌, ℕ, zero, suc, ◌+◌, ◌-◌, ◌*◌, List, [], ◌∷◌, ◌++◌, length, take, drop, slice_set, refl, sym, ap, ◌∙◌, arith, take-append-drop, Event, Room, HasRoom, put_from}
 use Rattle.nl_attr.specs.declared.events.Room.TheVariants.{Ample, Unknown}
-use Rattle.nl_attr.specs.Taped.{HasRoom}
-use Rattle.nl_attr.specs.HeadOrder.{put_from}
 
 more : (a b : ℕ) → suc a + b ≡ suc (a + b)
 more a b = omega arith

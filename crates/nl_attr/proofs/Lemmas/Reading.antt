@@ -1,24 +1,6 @@
 -- Reading step by step, whatever number bounds the items.
-use Rattle.std.proofs.Common.{◌≡◌, ℕ, zero, suc, ◌+◌, ◌-◌, ◌*◌, ◌/◌, ◌%◌, ◌<◌, ◌≤◌, ◌≢◌, min, Bool, true, false, cond, ltb, ◌||◌, List, [], ◌∷◌, length, take, drop, Option, Some, None, Result, Ok, Err, refl, sym, ap, ◌∙◌, arith, length-drop, add_assoc}
-use Rattle.std.proofs.lemmas.Bool.{ltb-false}
-use Rattle.std.proofs.lemmas.List.{length-take, drop-take}
-use Rattle.nl_attr.specs.Fixed.{LONGEST_CONTAINER}
-use Rattle.nl_attr.specs.declared.fault.Fault.{Fault}
-use Rattle.nl_attr.specs.declared.fault.Reason.{Reason}
-use Rattle.nl_attr.specs.declared.fault.Reason.TheVariants.{Cut, BadLength, TooLong, TooDeep}
-use Rattle.nl_attr.specs.declared.tree.Ctx.{Ctx}
-use Rattle.nl_attr.specs.declared.tree.Ctx.TheVariants.{Route}
-use Rattle.nl_attr.specs.declared.tree.Content.{Content}
+use Rattle.nl_attr.proofs.Common.{◌≡◌, ℕ, zero, suc, ◌+◌, ◌-◌, ◌*◌, ◌/◌, ◌%◌, ◌<◌, ◌≤◌, ◌≢◌, min, Bool, true, false, cond, ltb, ◌||◌, List, [], ◌∷◌, length, take, drop, Option, Some, None, Result, Ok, Err, refl, sym, ap, ◌∙◌, arith, length-drop, add_assoc, ltb-false, length-take, drop-take, LONGEST_CONTAINER, Fault, Reason, Cut, BadLength, TooLong, TooDeep, Ctx, Route, Content, Order, Shape, len_of, kind_of, span_of, flags_of, ifindex_of, broken_length, Val, list, hops, Items, item, HopItems, hop, attr_head, broken_container, broken_in, or_else, content_at, Outcome, and_then, map_value, more_visits, fault_visits, look_at, value_by, items_at, hops_at, items_of_region, hops_of_region, value_at, attr_at, slice_index, payload_of}
 use Rattle.nl_attr.specs.declared.tree.Content.TheVariants as content
-use Rattle.nl_attr.specs.declared.order.Order.{Order}
-use Rattle.nl_attr.specs.Shape.{Shape}
-use Rattle.nl_attr.specs.Numbers.{len_of, kind_of, span_of}
-use Rattle.nl_attr.specs.Walk.{flags_of, ifindex_of, broken_length}
-use Rattle.nl_attr.specs.Tree.{Val, list, hops, Items, item, HopItems, hop}
-use Rattle.nl_attr.specs.Heads.{attr_head, broken_container, broken_in, or_else, content_at}
-use Rattle.nl_attr.specs.Reading.{Outcome, and_then, map_value, more_visits, fault_visits, look_at, value_by, items_at, hops_at, items_of_region, hops_of_region, value_at, attr_at}
-use Rattle.std.specs.Prelude.{slice_index}
-use Rattle.nl_attr.specs.Walk.{payload_of}
 
 -- ---- outcomes
 

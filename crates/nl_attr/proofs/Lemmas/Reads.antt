@@ -1,14 +1,5 @@
 -- What a call answers that reads a region, from the outcome of the reading.
-use Rattle.std.proofs.Common.{◌≤◌, ◌+◌, ◌-◌, ◌*◌, ℕ, List, length, Result, Ok, Err, arith}
-use Rattle.std.specs.Global.{Vec}
-use Rattle.nl_attr.specs.declared.fault.ListError.{ListError}
-use Rattle.nl_attr.specs.declared.fault.ListError.TheVariants.{Layout, Memory}
-use Rattle.nl_attr.specs.declared.tree.Attr.{Attr}
-use Rattle.nl_attr.specs.declared.tree.Ctx.{Ctx}
-use Rattle.nl_attr.specs.Numbers.{AreBytes}
-use Rattle.nl_attr.specs.Shape.{Shape}
-use Rattle.nl_attr.specs.View.{attrs_view}
-use Rattle.nl_attr.specs.Reading.{items_of_region}
+use Rattle.nl_attr.proofs.Common.{◌≤◌, ◌+◌, ◌-◌, ◌*◌, ℕ, List, length, Result, Ok, Err, arith, Vec, ListError, Layout, Memory, Attr, Ctx, AreBytes, Shape, attrs_view, items_of_region}
 use Rattle.nl_attr.specs.Reads.{ReadsList}
 use Rattle.nl_attr.specs.Outcomes.{IsOutcome}
 use Rattle.nl_attr.proofs.Lemmas.First.{read_first, read_visits, read_all_visits}

@@ -1,17 +1,6 @@
 -- The heads of attributes and of next hops: where those behind and inside an item stand.
-use Rattle.std.proofs.Common.{◌≡◌, ℕ, ◌+◌, ◌-◌, ◌*◌, ◌/◌, ◌≤◌, min, Bool, true, false, cond, ltb, List, length, Option, Some, None, refl, ap, subst, ◌∙◌, arith, length-drop}
-use Rattle.std.proofs.lemmas.Bool.{ltb-false}
-use Rattle.std.proofs.Math.Nat.{mul-le-mul_left}
-use Rattle.nl_attr.specs.Fixed.{LONGEST_CONTAINER}
-use Rattle.nl_attr.specs.declared.fault.Reason.TheVariants.{TooLong, TooDeep}
-use Rattle.nl_attr.specs.declared.tree.Content.{Content}
+use Rattle.nl_attr.proofs.Common.{◌≡◌, ℕ, ◌+◌, ◌-◌, ◌*◌, ◌/◌, ◌≤◌, min, Bool, true, false, cond, ltb, List, length, Option, Some, None, refl, ap, subst, ◌∙◌, arith, length-drop, ltb-false, mul-le-mul_left, LONGEST_CONTAINER, TooLong, TooDeep, Content, Ctx, Order, Shape, len_of, span_of, broken_length, payload_of, Sort, attr_head, hop_head, Head, MayStand, least, content_at, broken, broken_in, broken_container, IsSound, span_at, follower, inner_in, inner_at, inner_of, heads}
 use Rattle.nl_attr.specs.declared.tree.Content.TheVariants as content
-use Rattle.nl_attr.specs.declared.tree.Ctx.{Ctx}
-use Rattle.nl_attr.specs.declared.order.Order.{Order}
-use Rattle.nl_attr.specs.Shape.{Shape}
-use Rattle.nl_attr.specs.Numbers.{len_of, span_of}
-use Rattle.nl_attr.specs.Walk.{broken_length, payload_of}
-use Rattle.nl_attr.specs.Heads.{Sort, attr_head, hop_head, Head, MayStand, least, content_at, broken, broken_in, broken_container, IsSound, span_at, follower, inner_in, inner_at, inner_of, heads}
 use Rattle.nl_attr.proofs.Lemmas.Grammars.{IsLawful, Costs}
 use Rattle.nl_attr.proofs.Lemmas.Reading.{or_else_none, sound_within, span_at_least, payload_length}
 

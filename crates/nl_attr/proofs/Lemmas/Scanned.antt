@@ -1,19 +1,7 @@
 -- What the answer of a scan says in the words of the layout.
-use Rattle.std.proofs.Common.{◌≡◌, ℕ, ◌+◌, List, length, Option, Some, None, Result, Ok, Err, IfOk, IfErr, refl, sym, ap, subst, ◌∙◌, arith}
-use Rattle.nl_attr.specs.declared.fault.Fault.{Fault}
-use Rattle.nl_attr.specs.declared.fault.Reason.{Reason}
+use Rattle.nl_attr.proofs.Common.{◌≡◌, ℕ, ◌+◌, List, length, Option, Some, None, Result, Ok, Err, IfOk, IfErr, refl, sym, ap, subst, ◌∙◌, arith, Fault, Reason, Event, Ctx, Shape, AreBytes, Items, Fits, fault_in, IsFirstFault, start_of, heads, Outcome, items_of_region, IsTaped}
 use Rattle.nl_attr.specs.declared.taping.Taped.{Taped}
-use Rattle.nl_attr.specs.declared.events.Event.{Event}
-use Rattle.nl_attr.specs.declared.tree.Ctx.{Ctx}
-use Rattle.nl_attr.specs.Shape.{Shape}
-use Rattle.nl_attr.specs.Numbers.{AreBytes}
-use Rattle.nl_attr.specs.Tree.{Items}
-use Rattle.nl_attr.specs.Layout.{Fits}
-use Rattle.nl_attr.specs.Broken.{fault_in}
-use Rattle.nl_attr.specs.Heads.{IsFirstFault, start_of, heads}
-use Rattle.nl_attr.specs.Reading.{Outcome, items_of_region}
 use Rattle.nl_attr.specs.HeadOrder.{trail_of, visits_of, fault_of}
-use Rattle.nl_attr.specs.Taped.{IsTaped}
 use Rattle.nl_attr.specs.Scanned.{HasEnd, SeesUpTo, Ends, without}
 use Rattle.nl_attr.proofs.Lemmas.First.{end_of, agrees_so, reads, read_first, read_visits, read_all_visits}
 use Rattle.nl_attr.proofs.Lemmas.Fitting.{items_fit}

@@ -1,30 +1,9 @@
 -- A list that is read fits the region.
-use Rattle.std.proofs.Common.{◌≡◌, ℕ, zero, suc, ◌+◌, ◌/◌, ◌%◌, ◌^◌, ◌<◌, ◌≤◌, Bool, true, false, cond, eqb, ltb, List, [], ◌∷◌, ◌++◌, length, take, drop, Option, Some, None, Ok, Err, refl, sym, ap, subst, ◌∙◌, arith}
-use Rattle.std.specs.Prelude.{slice_index}
-use Rattle.std.specs.Int.{w32, cast_unsigned}
-use Rattle.std.proofs.lemmas.Int.{of_z-to_z}
-use Rattle.std.proofs.Math.Facts.{sfits_to_z, Fits-of_lt}
-use Rattle.nl_attr.specs.Fixed.{LONGEST_CONTAINER}
+use Rattle.nl_attr.proofs.Common.{◌≡◌, ℕ, zero, suc, ◌+◌, ◌/◌, ◌%◌, ◌^◌, ◌<◌, ◌≤◌, Bool, true, false, cond, eqb, ltb, List, [], ◌∷◌, ◌++◌, length, take, drop, Option, Some, None, Ok, Err, refl, sym, ap, subst, ◌∙◌, arith, slice_index, w32, cast_unsigned, of_z-to_z, sfits_to_z, Fits-of_lt, LONGEST_CONTAINER, ltb-false, take-append-drop, take-take, length-take, nil_from_length, Reason, TooLong, TooDeep, Ctx, Route, Content, Order, Shape, AreBytes, num, number_of, len_of, kind_of, span_of, flags_of, ifindex_of, broken_length, Val, bytes, list, hops, Items, no_items, item, HopItems, no_hops, hop, kind_number, FitsVal, Fits, FitsHops, attr_head, broken_in, broken_container, content_at, Outcome, and_then, map_value, look_at, value_by, items_at, hops_at, payload_of}
 use Rattle.nl_attr.proofs.Lemmas.Numbers.{two_bytes, four_bytes, two_fit, four_fit, bytes_take, bytes_drop}
-use Rattle.std.proofs.lemmas.Bool.{ltb-false}
-use Rattle.std.proofs.lemmas.List.{take-append-drop, take-take, length-take, nil_from_length}
-use Rattle.nl_attr.specs.declared.fault.Reason.{Reason}
-use Rattle.nl_attr.specs.declared.fault.Reason.TheVariants.{TooLong, TooDeep}
-use Rattle.nl_attr.specs.declared.tree.Ctx.{Ctx}
-use Rattle.nl_attr.specs.declared.tree.Ctx.TheVariants.{Route}
-use Rattle.nl_attr.specs.declared.tree.Content.{Content}
 use Rattle.nl_attr.specs.declared.tree.Content.TheVariants as content
-use Rattle.nl_attr.specs.declared.order.Order.{Order}
-use Rattle.nl_attr.specs.Shape.{Shape}
-use Rattle.nl_attr.specs.Numbers.{AreBytes, num, number_of, len_of, kind_of, span_of}
-use Rattle.nl_attr.specs.Walk.{flags_of, ifindex_of, broken_length}
-use Rattle.nl_attr.specs.Tree.{Val, bytes, list, hops, Items, no_items, item, HopItems, no_hops, hop}
-use Rattle.nl_attr.specs.Layout.{kind_number, FitsVal, Fits, FitsHops}
-use Rattle.nl_attr.specs.Heads.{attr_head, broken_in, broken_container, content_at}
-use Rattle.nl_attr.specs.Reading.{Outcome, and_then, map_value, look_at, value_by, items_at, hops_at}
 use Rattle.nl_attr.proofs.Lemmas.Reading.{one_result, IsWithin, sound_within, or_else_none, payload_shorter, rest_shorter}
 use Rattle.nl_attr.proofs.Lemmas.Pieces.{piece_at}
-use Rattle.nl_attr.specs.Walk.{payload_of}
 
 pub same_ok : {A : Type 0} (x y : A) (v w : ℕ) → ◌≡◌ {A = Outcome A} (Ok x, v) (Ok y, w) → x ≡ y
 same_ok x y v w e = let r = one_result e in cc

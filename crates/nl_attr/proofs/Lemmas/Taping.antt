@@ -1,36 +1,19 @@
 -- The loop over a stack of open regions.
-use Rattle.std.proofs.Common.{◌≡◌, ◌≢◌, ℕ, suc, ◌+◌, ◌-◌, ◌*◌, ◌≤◌, ◌<◌, true, false, List, [], ◌∷◌, ◌++◌, length, drop, map, Option, Some, None, is_some, refl, sym, ap, subst, ◌∙◌, arith, length-append, eqb}
-use Rattle.std.proofs.lemmas.Bool.{eqb-true}
-use Rattle.std.specs.List.{All}
+use Rattle.nl_attr.proofs.Common.{◌≡◌, ◌≢◌, ℕ, suc, ◌+◌, ◌-◌, ◌*◌, ◌≤◌, ◌<◌, true, false, List, [], ◌∷◌, ◌++◌, length, drop, map, Option, Some, None, is_some, refl, sym, ap, subst, ◌∙◌, arith, length-append, eqb, eqb-true, All, append-nil, length-map, map-append, nil_from_length, FARTHEST_END, LONGEST_REGION, MOST_VISITS, Reason, Event, Room, Counts, OpenRegion, Ctx, Shape, span_of, facts_of, fault_in, and_on, first, inner_trail, Sort, attr_head, hop_head, Head, MayStand, HeadAt, IsSound, broken, follower, inner_of, start_of, heads, head_of, Adds, HasRoom, HoldsNone, IsTaped, Leads, LeadsTo, MayScan, Passes, Skips, found}
 use Rattle.std.specs.Option.{IfSome}
 use Rattle.std.proofs.lemmas.List.Elements.{All-head, All-tail}
-use Rattle.std.proofs.lemmas.List.{append-nil, length-map, map-append, nil_from_length}
 use Rattle.std.proofs.lemmas.Option.{IfSome_then}
-use Rattle.nl_attr.specs.Fixed.{FARTHEST_END, LONGEST_REGION, MOST_VISITS}
-use Rattle.nl_attr.specs.declared.fault.Reason.{Reason}
-use Rattle.nl_attr.specs.declared.events.Event.{Event}
-use Rattle.nl_attr.specs.declared.events.Room.{Room}
 use Rattle.nl_attr.specs.declared.broken.BrokenHead.{BrokenHead}
-use Rattle.nl_attr.specs.declared.taping.Counts.{Counts}
 use Rattle.nl_attr.specs.declared.taping.Taped.{Taped}
-use Rattle.nl_attr.specs.declared.region.OpenRegion.{OpenRegion}
 use Rattle.nl_attr.specs.declared.taping.steps.Advance.{Advance}
 use Rattle.nl_attr.specs.declared.taping.steps.Lead.{Lead}
 use Rattle.nl_attr.specs.declared.taping.steps.Lead.TheVariants as lead
-use Rattle.nl_attr.specs.declared.tree.Ctx.{Ctx}
-use Rattle.nl_attr.specs.Shape.{Shape}
-use Rattle.nl_attr.specs.Numbers.{span_of}
-use Rattle.nl_attr.specs.Broken.{facts_of, fault_in}
-use Rattle.nl_attr.specs.Grammar.{and_on, first, inner_trail}
-use Rattle.nl_attr.specs.Heads.{Sort, attr_head, hop_head, Head, MayStand, HeadAt, IsSound, broken, follower, inner_of, start_of, heads}
 use Rattle.nl_attr.specs.HeadOrder.{Trail, counted, trail_of, event_of, put_from, visits_of, fault_of}
-use Rattle.nl_attr.specs.Region.{head_of}
-use Rattle.nl_attr.specs.Taped.{Adds, HasRoom, HoldsNone, IsTaped, Leads, LeadsTo, MayScan, Passes, Skips, found}
 use Rattle.nl_attr.proofs.Lemmas.Grammars.{front, front_on, front_front, weigh-append, behind_then, inside_then, each, trail_ends, trail_stops, trail_goes, walk_bound, weigh}
 use Rattle.nl_attr.proofs.Lemmas.Scan.{room, sound_of, inner_is, inner_fills, fills, visits_cost, few_cost, laws}
 use Rattle.nl_attr.proofs.Lemmas.First.{walk_low}
 use Rattle.nl_attr.proofs.Lemmas.Nested.{whole_fits}
-use Rattle.nl_attr.proofs.Lemmas.Putting.{put_length, put_none, put_nowhere, put_on, put_untouched, room_on}
+use Rattle.nl_attr.proofs.Lemmas.Putting.{put_length, put_none, put_on, put_untouched, room_on}
 
 module _ (S : Shape) where
   -- the heads of the regions that wait, the last of the list first
@@ -439,13 +422,6 @@ skipped_then {S = S} {start = start} {top = top} {count = count} {old = old} {mi
       events = both.events ∙ ap (λ (x : Trail). put_from count (map (event_of S.order) x.0) old) (sym all);
     }
 
--- there is room for what is left then
-pub skipped_room : {S : Shape} {h g : Head} {before between : Counts} {old new : List Event} → Skips S h g before between old new → (room : Room) → HasRoom room before.count (length h.left) (length old) → HasRoom room between.count (length g.left) (length new)
-skipped_room {S = S} {h = h} {g = g} {before = before} {between = between} {old = old} {new = new} s room q =
-    let sum = passes_sum S h s.passed g s.passes in
-    let same : length new ≡ length old = ap (length {A = Event}) s.adds.events ∙ put_length before.count (map (event_of S.order) s.passed) old in
-    subst (λ (n : ℕ). HasRoom room between.count (length g.left) n) (sym same) (room_on room before.count (length h.left) between.count (length g.left) (length old) (omega (arith, sum.0, sum.1, s.adds.count)) q)
-
 -- ---- a step of the loop
 
 module _ {S : Shape} {start : Head} {count : ℕ} {old : List Event} {fs : List Head} {top : Head} {t : Counts} {out : List Event} (now : IsTaping S start count old fs top t out) where
@@ -540,7 +516,3 @@ taped_quarter {S = S} {start = start} is = omega (arith, is.counted, trail_quart
 -- the visits have the bound of reading
 pub taped_bound : (S : Shape) (ctx : Ctx) (l place : ℕ) (left : List ℕ) (count : ℕ) (old new : List Event) (t : Taped) → IsTaped S (start_of ctx l place left) count old new t → t.visits ≤ (S.depth - l + 1) * length left
 taped_bound S ctx l place left count old new t is = omega (arith, is.visits, walk_low S ctx l place left)
-
--- a buffer of no events is as it was
-pub taped_nowhere : {S : Shape} {start : Head} {count : ℕ} {new : List Event} {t : Taped} → IsTaped S start count [] new t → IsTaped S start count [] [] t
-taped_nowhere {S = S} {start = start} {count = count} is = record { fault = is.fault; head = is.head; visits = is.visits; counted = is.counted; events = sym (put_nowhere count (map (event_of S.order) (trail_of S start).0)) }

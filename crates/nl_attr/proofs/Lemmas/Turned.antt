@@ -1,21 +1,6 @@
 -- What reading a region of attributes comes to where its walk has given one.
-use Rattle.std.proofs.Common.{◌≡◌, ℕ, ◌+◌, ◌≤◌, [], ◌∷◌, ◌++◌, length, map, Some, Ok, refl, arith}
-use Rattle.std.specs.Global.{Vec}
-use Rattle.nl_attr.specs.Fixed.{LONGEST_REGION}
-use Rattle.nl_attr.specs.declared.tree.Attr.{Attr}
+use Rattle.nl_attr.proofs.Common.{◌≡◌, ℕ, ◌+◌, ◌≤◌, [], ◌∷◌, ◌++◌, length, map, Some, Ok, refl, arith, Vec, LONGEST_REGION, Attr, Part, Parts, ListRegion, Turn, Shape, Region, GivesPart, bytes, Items, item, holds_of, attr_view, attr_head, Outcome, content_in, before, list_rest, list_spot, TurnsAt, Goes, Moves, Spot, IsWithinLimits}
 use Rattle.nl_attr.specs.declared.tree.Content.TheVariants as content
-use Rattle.nl_attr.specs.declared.walk.attrs.Part.{Part}
-use Rattle.nl_attr.specs.declared.region.Parts.{Parts}
-use Rattle.nl_attr.specs.declared.stack.regions.ListRegion.{ListRegion}
-use Rattle.nl_attr.specs.declared.stack.attributes.Turn.{Turn}
-use Rattle.nl_attr.specs.Shape.{Shape}
-use Rattle.nl_attr.specs.Walk.{Region, GivesPart}
-use Rattle.nl_attr.specs.Tree.{bytes, Items, item, holds_of}
-use Rattle.nl_attr.specs.View.{attr_view}
-use Rattle.nl_attr.specs.Heads.{attr_head}
-use Rattle.nl_attr.specs.Reading.{Outcome}
-use Rattle.nl_attr.specs.Region.{content_in}
-use Rattle.nl_attr.specs.Open.{before, list_rest, list_spot, TurnsAt, Goes, Moves, Spot, IsWithinLimits}
 use Rattle.nl_attr.proofs.Lemmas.Loop.{part_turns, passes}
 use Rattle.nl_attr.proofs.Lemmas.Going.{IsGoing, goes_further, stays_within, visits_so_far, turns_so, moves_so, list_leaf, leaf_visits}
 use Rattle.nl_attr.proofs.Lemmas.Opens.{turn_goes, turn_moves}

@@ -1,15 +1,6 @@
 -- All that a walk gives is its pieces in order, and then its end or its fault.
-use Rattle.std.proofs.Common.{◌≡◌, ℕ, ◌+◌, ◌≤◌, List, [], ◌∷◌, length, take, drop, None, Result, Ok, Err, refl, sym, ap, subst, ◌∙◌, arith, ◌⊎◌, inl, inr, length-drop}
+use Rattle.nl_attr.proofs.Common.{◌≡◌, ℕ, ◌+◌, ◌≤◌, List, [], ◌∷◌, length, take, drop, None, Result, Ok, Err, refl, sym, ap, subst, ◌∙◌, arith, ◌⊎◌, inl, inr, length-drop, length-take, drop-take, drop-drop, Fault, Part, HopPart, Order, AreBytes, len_of, span_of, Region, Gives, broken_length, payload_of, after, IsPart, IsHopPart, spans_of, LiesIn, EachLies, IsWalk, IsWalkOver}
 use Rattle.std.specs.Iterator.{Yields, Drains}
-use Rattle.std.proofs.lemmas.List.{length-take, drop-take, drop-drop}
-use Rattle.nl_attr.specs.declared.fault.Fault.{Fault}
-use Rattle.nl_attr.specs.declared.walk.attrs.Part.{Part}
-use Rattle.nl_attr.specs.declared.walk.hops.HopPart.{HopPart}
-use Rattle.nl_attr.specs.declared.order.Order.{Order}
-use Rattle.nl_attr.specs.Numbers.{AreBytes, len_of, span_of}
-use Rattle.nl_attr.specs.Walk.{Region}
-use Rattle.nl_attr.specs.Walk.{Gives, broken_length, payload_of, after, IsPart, IsHopPart, spans_of, LiesIn, EachLies}
-use Rattle.nl_attr.specs.Walk.{IsWalk, IsWalkOver}
 use Rattle.nl_attr.proofs.Lemmas.Numbers.{bytes_drop}
 use Rattle.nl_attr.proofs.Lemmas.Reading.{sound_within, span_at_least, payload_length}
 use Rattle.nl_attr.proofs.Lemmas.Scan.{span_within}

@@ -1,12 +1,7 @@
 -- What a call answers that writes, from what was measured before.
-use Rattle.std.proofs.Common.{◌≡◌, ◌+◌, ◌<◌, ◌++◌, ℕ, List, Bool, true, false, Option, Some, None, Result, Ok, Err, refl}
-use Rattle.std.specs.Prelude.{◌↔◌, IsTrue, IfSome, vec_len, vec_capacity}
-use Rattle.std.specs.Global.{Vec}
+use Rattle.nl_attr.proofs.Common.{◌≡◌, ◌+◌, ◌<◌, ◌++◌, ℕ, List, Bool, true, false, Option, Some, None, Result, Ok, Err, refl, ◌↔◌, IsTrue, IfSome, vec_len, vec_capacity, Vec, Extent, length_of, Refusal}
 use Rattle.nl_attr.specs.declared.fault.WriteError.{WriteError}
 use Rattle.nl_attr.specs.declared.fault.WriteError.TheVariants.{Mismatch, TooDeep, TooLong, Memory}
-use Rattle.nl_attr.specs.declared.measuring.Extent.{Extent}
-use Rattle.nl_attr.specs.Measured.{length_of}
-use Rattle.nl_attr.specs.Proper.{Refusal}
 use Rattle.nl_attr.specs.Writes.{Writes}
 
 -- the first refusal that applies, or that none does

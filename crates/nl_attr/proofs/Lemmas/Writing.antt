@@ -1,17 +1,6 @@
 -- What can be written is sized, and is read again.
-use Rattle.std.proofs.Common.{◌≡◌, ℕ, ◌+◌, ◌-◌, ◌%◌, ◌<◌, ◌≤◌, ◌∷◌, ◌++◌, length, replicate, refl, sym, ap, arith, inl, inr}
-use Rattle.std.specs.Int.{w32, cast_unsigned}
-use Rattle.nl_attr.specs.Fixed.{LONGEST_ITEM}
-use Rattle.nl_attr.specs.declared.tree.Ctx.{Ctx}
-use Rattle.nl_attr.specs.declared.tree.Ctx.TheVariants.{Route}
-use Rattle.nl_attr.specs.declared.tree.Content.{Content}
+use Rattle.nl_attr.proofs.Common.{◌≡◌, ℕ, ◌+◌, ◌-◌, ◌%◌, ◌<◌, ◌≤◌, ◌∷◌, ◌++◌, length, replicate, refl, sym, ap, arith, inl, inr, w32, cast_unsigned, LONGEST_ITEM, Ctx, Route, Content, Shape, aligned, num, Val, bytes, list, hops, Items, no_items, item, HopItems, no_hops, hop, holds_of, kind_number, FitsVal, Fits, FitsHops, attr_item, hop_item, written, written_val, written_hops, val_len, items_len, hops_len, IsMismatched, IsMismatchedVal, IsMismatchedHops, IsDeep, IsDeepVal, IsDeepHops, HasLong, HasLongVal, HasLongHops, IsProper, IsRanged, IsRangedVal, IsRangedHops, IsSized, IsSizedVal, IsSizedHops}
 use Rattle.nl_attr.specs.declared.tree.Content.TheVariants as content
-use Rattle.nl_attr.specs.Shape.{Shape}
-use Rattle.nl_attr.specs.Numbers.{aligned, num}
-use Rattle.nl_attr.specs.Tree.{Val, bytes, list, hops, Items, no_items, item, HopItems, no_hops, hop, holds_of}
-use Rattle.nl_attr.specs.Layout.{kind_number, FitsVal, Fits, FitsHops}
-use Rattle.nl_attr.specs.Written.{attr_item, hop_item, written, written_val, written_hops, val_len, items_len, hops_len}
-use Rattle.nl_attr.specs.Proper.{IsMismatched, IsMismatchedVal, IsMismatchedHops, IsDeep, IsDeepVal, IsDeepHops, HasLong, HasLongVal, HasLongHops, IsProper, IsRanged, IsRangedVal, IsRangedHops, IsSized, IsSizedVal, IsSizedHops}
 use Rattle.nl_attr.proofs.Lemmas.Pieces.{made}
 use Rattle.nl_attr.proofs.Lemmas.Lengths.{length-val, length-items, length-attr, length-hop}
 

@@ -1,4 +1,4 @@
-//! Reading a region of attributes where it stands.
+//! Reading one region of attributes, up to its next nested attribute.
 
 ghost use Rattle.std.specs.Prelude.{◌^◌, ◌≤◌, ◌<◌, ◌+◌, length};
 ghost use Rattle.nl_attr.specs.Fixed as fixed;
@@ -12,28 +12,29 @@ use crate::tree::{Attr, AttrFlags, Ctx, holds};
 use crate::walk::{CountedAttrs, Part, Step};
 use std::alloc::{AllocError, Global};
 
-/// An attribute whose payload is a region, of which nothing is read.
+/// A nested attribute that the walk has come to. Nothing of its payload has been read.
 #[derive(Clone, Copy)]
 pub(super) struct Opening<'a> {
     pub(super) number: u16,
     pub(super) flags: AttrFlags,
-    /// The place of the payload.
+    /// The offset of the payload, with the base of the reading.
     pub(super) place: u32,
     pub(super) payload: &'a [u8],
     pub(super) parts: Parts,
 }
 
-/// Where reading a region of attributes leads.
+/// Why the reading of a region of attributes stopped.
 #[derive(Drop)]
 pub(super) enum Turn<'a> {
-    /// All of them are collected.
+    /// The region has ended, and all its attributes are in the list.
     Ends,
-    /// A region opens in it.
+    /// The walk came to a nested attribute, whose region must be read first.
     Opens(Opening<'a>),
+    /// A header breaks a rule, or an allocation failed.
     Fails(ListError),
 }
 
-/// The turn at an attribute that holds a region: it opens, or breaks a rule.
+/// Validates the length and the depth of a nested attribute: `Opens`, or `Fails` with the rule.
 fn turn_at<'a>(part: Part<'a>, parts: Parts, base: u32, level: u8, shape: Shape) -> Turn<'a>
     requires level { level ≤ fixed.MOST_LEVELS }
     requires place { base + part.place + 4 < 2 ^ 32 }
@@ -53,8 +54,8 @@ fn turn_at<'a>(part: Part<'a>, parts: Parts, base: u32, level: u8, shape: Shape)
     })
 }
 
-/// Reads what is left of a region of attributes up to the first that opens another region. Where the
-/// caller's walk and list are local variables, they stay in registers.
+/// Reads what is left of a region of attributes, up to the next nested one, and adds them to
+/// `list`. Where the caller's walk and list are local variables, they stay in registers.
 #[inline(always)]
 pub(super) fn read_walk<'a>(
     alloc: Global,
@@ -105,7 +106,7 @@ pub(super) fn read_walk<'a>(
     }
 }
 
-/// Reads a region of attributes, where it stands, up to the first that opens another region.
+/// Reads what is left of `region`, up to its next nested attribute, as `read_walk` does.
 #[inline(always)]
 pub(super) fn read_attrs<'a>(
     alloc: Global,

@@ -1,4 +1,12 @@
-//! Reading by one loop over a stack of open regions, so that nesting takes no call stack.
+//! Reading a region into a tree, without recursion: nested attributes take no call stack.
+//!
+//! A region without nested attributes is read by `read_walk` alone. One that holds such regions is
+//! read by `read_on`. Where they hold nested attributes in turn, `read_nested` keeps the regions
+//! that are not read to their end on a stack of at most 33.
+//!
+//! - `attributes` and `next_hops` read one region up to the next nested one.
+//! - `nested` is the loop over the stack.
+//! - `regions` has the state of a region that is being read, and the calls that add to it.
 
 ghost use Rattle.std.specs.Prelude.{◌≡◌, ◌≤◌, ◌+◌, ◌-◌, ◌*◌, length};
 ghost use Rattle.nl_attr.specs.Fixed as fixed;
@@ -26,9 +34,10 @@ use crate::tree::{Attr, Ctx, Value};
 use crate::walk::CountedAttrs;
 use std::alloc::Global;
 
-/// The attributes of a region from the first that opens another on. A region that opens in it is
-/// read at once, and so are the attributes of next hops; the stack is made where another opens in
-/// those: most need none.
+/// Reads the rest of a region, from its first nested attribute on, and answers all its attributes.
+///
+/// It reads each nested region at once, and the attributes of next hops too. Only where one of
+/// those has a nested attribute does it hand over to `read_nested`, which makes the stack.
 #[inline(never)]
 fn read_on<'a>(
     alloc: Global,
@@ -86,7 +95,7 @@ fn read_on<'a>(
     }
 }
 
-/// The attributes of a region whose numbers are in an order that the caller writes as a constant.
+/// Reads a region. `order` is a constant at each call, so that no header tests the byte order.
 #[inline(always)]
 fn read_ordered(
     alloc: Global,
@@ -126,7 +135,8 @@ fn read_ordered(
     }
 }
 
-/// The attributes of a region, by a loop for each order: no head asks for it.
+/// Reads a region into a tree, by a separate loop for each byte order. `visits` must be 0 before.
+/// Arguments and errors are those of `read_list_ordered`.
 pub(crate) fn read_region(
     alloc: Global,
     bytes: &[u8],

@@ -1,4 +1,5 @@
-//! Reading where a region opens in one that opened in another: by a stack of those that wait.
+//! Reading regions that are nested at least two deep: a loop over a stack of the outer regions,
+//! each of which waits until the region inside it has been read.
 
 ghost use Rattle.std.specs.Prelude.{◌≡◌, ◌≤◌, ◌+◌, suc, length, IfOk};
 ghost use Rattle.nl_attr.specs.Fixed as fixed;
@@ -27,7 +28,7 @@ use arrayvec::ArrayVec;
 use std::alloc::{AllocError, Global};
 use std::default::MadeWith;
 
-/// A region of attributes that waits for the value of one of them.
+/// A region of attributes that waits for the value of one of them, with that one's type and flags.
 #[derive(Drop)]
 pub(super) struct ListWaits<'a> {
     pub(super) region: ListRegion<'a>,
@@ -35,21 +36,23 @@ pub(super) struct ListWaits<'a> {
     pub(super) flags: AttrFlags,
 }
 
-/// A region of next hops that waits for the attributes of one of them.
+/// A region of next hops that waits for the attributes of one of them, with that one's header.
 #[derive(Drop)]
 pub(super) struct HopsWaits<'a> {
     pub(super) region: HopsRegion<'a>,
     pub(super) head: HopHead,
 }
 
-/// What waits for the attributes of a region: the region below it, or next hops in that one.
+/// An entry of the stack: what waits for the attributes of the region that is read now.
 #[derive(Drop)]
 pub(super) enum Outer<'a> {
+    /// A nested attribute, in the region that holds it.
     List(ListWaits<'a>),
+    /// A next hop, in its region of next hops, which the region around it waits for.
     Hops(ListWaits<'a>, HopsWaits<'a>),
 }
 
-/// The blank that an empty place of the stack holds.
+/// A placeholder for the unused entries of the stack.
 impl<'a> MadeWith<Global> for Outer<'a> {
     fn made_with(alloc: Global) -> Self {
         Outer::List(ListWaits {
@@ -72,13 +75,13 @@ impl<'a> MadeWith<Global> for Outer<'a> {
 /// Which region is read next.
 #[derive(Drop)]
 pub(super) enum Next<'a> {
-    /// One that opened, for which the outer ones wait.
+    /// A new, inner one, and the entry of the stack that waits for it.
     Opens(Outer<'a>, ListRegion<'a>),
-    /// One that waited.
+    /// An outer one that waited, and goes on.
     Goes(ListRegion<'a>),
 }
 
-/// A region, which waits for what opens in it.
+/// Makes a region wait for the value of its attribute `opening`.
 pub(super) fn waits_for<'a>(region: ListRegion<'a>, opening: Opening<'a>) -> ListWaits<'a>
     ensures { result ≡ record {
       region = region.entry;
@@ -93,7 +96,8 @@ pub(super) fn waits_for<'a>(region: ListRegion<'a>, opening: Opening<'a>) -> Lis
     }
 }
 
-/// Collects the attribute that a region waits for.
+/// Adds the attribute that a region waits for, with this value, to the region's list. The error is
+/// for memory.
 fn take_value<'a>(waits: ListWaits<'a>, value: Value) -> Result<ListRegion<'a>, AllocError>
     ensures rest { IfOk result
         (λ r. (S : ShapeOf) → list_rest S r ≡ waiting_goes_on S waits.entry (value_view value)) }
@@ -108,7 +112,7 @@ fn take_value<'a>(waits: ListWaits<'a>, value: Value) -> Result<ListRegion<'a>, 
     Ok(region)
 }
 
-/// Goes on with next hops, and where none is left, with the region that waits for them.
+/// Goes on with the next hop, or, where none is left, with the region that waits for all of them.
 fn go_on_hops<'a>(
     alloc: Global,
     waits: ListWaits<'a>,
@@ -135,7 +139,7 @@ fn go_on_hops<'a>(
     }
 }
 
-/// Opens the region that an attribute of this one holds.
+/// Begins the region in a nested attribute of `region`.
 fn open<'a>(
     alloc: Global,
     region: ListRegion<'a>,
@@ -165,7 +169,7 @@ fn open<'a>(
     }
 }
 
-/// Collects attributes where they are waited for.
+/// Hands the attributes of a region that has ended to the entry of the stack that waits for them.
 fn close<'a>(
     alloc: Global,
     outer: Outer<'a>,
@@ -191,7 +195,7 @@ fn close<'a>(
     }
 }
 
-/// Puts what waits onto the stack, and answers the region that is read next.
+/// Pushes the entry that waits, if it is new, and answers the region that is read next.
 fn put_on<'a>(stack: &mut ArrayVec<Outer<'a>, 33, Global>, next: Next<'a>) -> ListRegion<'a>
     requires { array_vec_len stack.old + 1 ≤ 33 }
     ensures { PutsOn stack.old.items next.entry stack.new.items result }
@@ -205,8 +209,9 @@ fn put_on<'a>(stack: &mut ArrayVec<Outer<'a>, 33, Global>, next: Next<'a>) -> Li
     }
 }
 
-/// The attributes of the outermost region, by one loop over all that are open. It waits for a
-/// region in which another opens.
+/// Reads the outermost region to its end, and answers all its attributes.
+///
+/// `outermost` waits for `region`, which has come to its nested attribute `opening`.
 pub(super) fn read_nested<'a>(
     alloc: Global,
     outermost: Outer<'a>,

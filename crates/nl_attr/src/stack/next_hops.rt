@@ -1,4 +1,4 @@
-//! Reading a region of next hops.
+//! Reading one region of next hops, up to the next nested attribute in one of them.
 
 ghost use Rattle.std.specs.Prelude.{◌≤◌, ◌+◌};
 ghost use Rattle.nl_attr.specs.Fixed as fixed;
@@ -12,17 +12,18 @@ use crate::stack::regions::{HopHead, HopsRegion, ListRegion, keep_hop, layout, l
 use crate::tree::Ctx;
 use std::alloc::{AllocError, Global};
 
-/// Where a step in a region of next hops leads.
+/// The result of one step in a region of next hops.
 #[derive(Drop)]
 pub(super) enum HopTurn<'a> {
-    /// All of them are collected.
+    /// The region has ended, and all its next hops are in the list.
     Ends,
-    /// The attributes of a next hop are read next.
+    /// The step came to a next hop, whose attributes must be read next.
     Opens(HopHead, ListRegion<'a>),
+    /// A header breaks a rule, or an allocation failed.
     Fails(ListError),
 }
 
-/// Takes the next hop at the front, and opens the region of its attributes.
+/// Steps to the next hop at the front, and begins the region of its attributes.
 #[inline(always)]
 pub(super) fn next_hop<'a>(
     alloc: Global,
@@ -56,17 +57,18 @@ pub(super) fn next_hop<'a>(
     }
 }
 
-/// Where reading a region of next hops leads.
+/// Why the reading of a whole region of next hops stopped.
 #[derive(Drop)]
 pub(super) enum HopsTurn<'a> {
-    /// All of them are collected.
+    /// The region has ended, and all its next hops are in the list.
     Ends,
-    /// A region opens in the attributes of a next hop.
+    /// The attributes of this next hop came to a nested attribute.
     Opens(HopHead, ListRegion<'a>, Opening<'a>),
+    /// A header breaks a rule, or an allocation failed.
     Fails(ListError),
 }
 
-/// Reads a region of next hops up to the first in whose attributes a region opens.
+/// Reads next hops with their attributes, up to the first that has a nested attribute.
 #[inline(always)]
 pub(super) fn read_hops<'a>(
     alloc: Global,

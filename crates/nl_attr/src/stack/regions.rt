@@ -1,4 +1,4 @@
-//! Open regions, and what is collected in them.
+//! The state of a region that is being read, and the calls that add to its list.
 
 ghost use Rattle.std.specs.Prelude.{◌^◌, ◌≡◌, ◌≤◌, ◌<◌, ◌+◌, ◌*◌, [], ◌∷◌, ◌++◌, length, map, take, IfOk};
 ghost use Rattle.std.specs.Prelude.{vec_capacity, vec_len};
@@ -16,17 +16,22 @@ use crate::tree::{Attr, AttrFlags, Content, Ctx, Hop, Value};
 use crate::walk::{CountedAttrs, CountedHopParts};
 use std::alloc::{AllocError, Global};
 
-/// A region of attributes: its walk, where it begins, and what was collected.
+/// A region of attributes that is being read.
 #[derive(Drop)]
 pub(super) struct ListRegion<'a> {
+    /// What is left of it.
     pub(super) walk: CountedAttrs<'a>,
+    /// The attributes read so far.
     pub(super) list: Vec<Attr>,
+    /// The offset of its first byte, with the base of the reading.
     pub(super) base: u32,
+    /// Its nesting level.
     pub(super) level: u8,
+    /// What the types of its attributes mean.
     pub(super) ctx: Ctx,
 }
 
-/// A region of next hops.
+/// A region of next hops that is being read. The fields are as in `ListRegion`.
 #[derive(Drop)]
 pub(super) struct HopsRegion<'a> {
     pub(super) walk: CountedHopParts<'a>,
@@ -35,7 +40,7 @@ pub(super) struct HopsRegion<'a> {
     pub(super) level: u8,
 }
 
-/// A next hop without its attributes.
+/// The fields of a next hop's header, `rtnexthop`, but for its length.
 #[derive(Clone, Copy)]
 pub(super) struct HopHead {
     pub(super) flags: u8,
@@ -43,7 +48,8 @@ pub(super) struct HopHead {
     pub(super) ifindex: i32,
 }
 
-/// The rule that a container of so many bytes breaks.
+/// The rule that an attribute of this content breaks at this level, or `None`: `TooLong` or
+/// `TooDeep`. `len` is its length field, in bytes. An attribute that holds bytes breaks none.
 pub(crate) fn container_fault(
     content: Content,
     len: usize,
@@ -67,7 +73,7 @@ pub(crate) fn container_fault(
     }
 }
 
-/// A fault whose place counts from the base.
+/// The error of a reading, from one whose offset counts from the region's start.
 pub(super) fn layout(base: u32, fault: Fault) -> ListError
     requires { base + fault.place < 2 ^ 32 }
     ensures { result
@@ -79,12 +85,12 @@ pub(super) fn layout(base: u32, fault: Fault) -> ListError
     })
 }
 
-/// The most items for which room is made before the first is read: a link of a recent kernel has
-/// some 38 attributes.
+/// The most entries that are reserved before the first is read. A link of a recent kernel has some
+/// 38 attributes.
 const FIRST_ROOM: usize = 40;
 
-/// How many items there are in a region where each has so many bytes; at most those for which room
-/// is made before the first is read.
+/// How many entries to reserve for a region, where each has about `each` bytes; at most
+/// `FIRST_ROOM`.
 pub(super) fn first_room(bytes: &[u8], each: usize) -> usize
     requires { 1 ≤ each }
     ensures { result * each ≤ length bytes.now }
@@ -92,8 +98,8 @@ pub(super) fn first_room(bytes: &[u8], each: usize) -> usize
     (bytes.len() / each).min(FIRST_ROOM)
 }
 
-/// A region of attributes, of which nothing is read; with room for as many as it has where each has
-/// eight bytes.
+/// Begins the reading of a region of attributes. It reserves an entry for every eight bytes. The
+/// error is for memory.
 pub(super) fn list_of<'a>(
     alloc: Global,
     bytes: &'a [u8],
@@ -116,8 +122,8 @@ pub(super) fn list_of<'a>(
     })
 }
 
-/// A region of next hops, of which nothing is read; with room for as many as it has where each has
-/// sixteen bytes.
+/// Begins the reading of a region of next hops. It reserves an entry for every sixteen bytes. The
+/// error is for memory.
 pub(super) fn hops_of<'a>(
     alloc: Global,
     bytes: &'a [u8],
@@ -138,7 +144,7 @@ pub(super) fn hops_of<'a>(
     })
 }
 
-/// Adds an attribute to those that were collected.
+/// Adds an attribute to a list. The error is for memory.
 #[inline(always)]
 pub(super) fn keep_attr(
     list: &mut Vec<Attr>,
@@ -158,7 +164,7 @@ pub(super) fn keep_attr(
     Ok(())
 }
 
-/// Adds an attribute of the first bytes of a buffer, for which there is room.
+/// Adds an attribute that holds the first `len` bytes of `buffer`. The list has room for it.
 #[inline(always)]
 fn keep_front(list: &mut Vec<Attr>, number: u16, flags: AttrFlags, buffer: [u8; INLINE], len: u8)
     requires len { len ≤ INLINE }
@@ -174,9 +180,10 @@ fn keep_front(list: &mut Vec<Attr>, number: u16, flags: AttrFlags, buffer: [u8; 
     });
 }
 
-/// Adds an attribute of these bytes. Most are addresses or numbers, of one of five lengths, whose
-/// bytes are written out: a copy of a length that is known at run time alone is a call. Room is
-/// made once for all of them, so that each is stored where it stays, by no call.
+/// Adds an attribute that holds these bytes. The error is for memory.
+///
+/// Most payloads are numbers or addresses of 1, 4, 6, 8 or 16 bytes. For these the bytes are
+/// copied one by one, since a copy of a length that is only known at run time would be a call.
 #[inline(always)]
 pub(super) fn keep_bytes(
     alloc: Global,
@@ -225,7 +232,7 @@ pub(super) fn keep_bytes(
     Ok(())
 }
 
-/// Adds an attribute of bytes of any number.
+/// Adds an attribute that holds bytes, however many there are. The error is for memory.
 #[inline(never)]
 pub(super) fn keep_others(
     alloc: Global,
@@ -241,7 +248,7 @@ pub(super) fn keep_others(
     keep_attr(list, number, flags, Value::Bytes(payload))
 }
 
-/// Adds a next hop to those that were collected.
+/// Adds a next hop to a list. The error is for memory.
 #[inline(always)]
 pub(super) fn keep_hop(
     list: &mut Vec<Hop>,

@@ -1,4 +1,4 @@
-//! What stands at the front of an open region, and what is left behind it.
+//! The attribute or the next hop at the front of a region, and what is left behind it.
 
 ghost use Rattle.std.specs.Prelude.{◌^◌, ◌≡◌, ◌≤◌, ◌<◌, ◌+◌, length, Ok};
 ghost use Rattle.nl_attr.specs.Fixed as fixed;
@@ -17,10 +17,10 @@ use crate::walk::{flags_in, kind_at, span_at};
 /// An attribute at the front of a region.
 #[derive(Clone, Copy)]
 pub(super) struct AttrFront<'a> {
-    /// Its event, which says that it holds bytes.
+    /// Its event. It says that the attribute holds bytes, which the caller corrects.
     pub(super) event: Event,
     pub(super) flags: AttrFlags,
-    /// How many bytes it occupies.
+    /// How many bytes it occupies, with its padding as far as present.
     pub(super) span: u32,
     pub(super) payload: &'a [u8],
     /// What is left behind it.
@@ -31,7 +31,7 @@ pub(super) struct AttrFront<'a> {
 #[derive(Clone, Copy)]
 pub(super) struct HopFront<'a> {
     pub(super) event: Event,
-    /// How many bytes it occupies.
+    /// How many bytes it occupies, with its padding as far as present.
     pub(super) span: u32,
     /// The region of its attributes.
     pub(super) attrs: OpenRegion<'a>,
@@ -39,7 +39,7 @@ pub(super) struct HopFront<'a> {
     pub(super) rest: OpenRegion<'a>,
 }
 
-/// The sort of an attribute that holds this.
+/// `Event::sort` of an attribute with this content.
 #[inline(always)]
 pub(super) fn sort(content: Content) -> u8
     ensures { result ≡ sort_of content }
@@ -51,7 +51,8 @@ pub(super) fn sort(content: Content) -> u8
     }
 }
 
-/// The region in an item whose head of `head` bytes stands at a place of a region of this level.
+/// The region nested in an attribute or a next hop, from its header on. `place` is the header's
+/// offset, `head` its size in bytes, and `level` the level of the region that it stands in.
 #[inline(always)]
 pub(super) fn inside<'a>(
     payload: &'a [u8],
@@ -78,7 +79,7 @@ pub(super) fn inside<'a>(
     }
 }
 
-/// The attribute of `len` bytes at the front.
+/// The attribute of `len` bytes at the front, whose header has been validated.
 #[inline(always)]
 pub(super) fn attr_front<'a>(
     left: &'a [u8],
@@ -119,7 +120,7 @@ pub(super) fn attr_front<'a>(
     }
 }
 
-/// The next hop of `len` bytes at the front.
+/// The next hop of `len` bytes at the front, whose header has been validated.
 #[inline(always)]
 pub(super) fn hop_front<'a>(
     left: &'a [u8],

@@ -1,6 +1,7 @@
-//! The attributes at the front of a region that hold bytes, gone past by a loop of their own: most
-//! attributes do, and a loop that keeps nothing of a container is short. Behind the first container
-//! of a message it also goes past lists without a byte, of which a link has some.
+//! The short loop of a scan, over the attributes at the front of a region that hold bytes.
+//!
+//! Most attributes hold bytes, and a loop that handles no nested ones is fast. Behind the first
+//! nested attribute of a message the loop also accepts empty ones, of which a link has some.
 
 ghost use Rattle.std.specs.Prelude.{◌^◌, ◌≡◌, ◌≤◌, ◌+◌, ◌-◌, ◌%◌, true, length};
 ghost use Rattle.nl_attr.specs.Fixed as fixed;
@@ -13,24 +14,26 @@ use crate::limits::Shape;
 use crate::tree::{AttrFlags, Content, Ctx, NUMBERS, holds};
 use crate::walk::{flags_in, kind_at, len_at};
 
-/// Attributes that hold bytes, gone past.
+/// The result of the loop.
 #[derive(Clone, Copy)]
 pub(super) struct Passed<'a> {
-    /// What is left of their region.
+    /// What is left of the region behind the attributes.
     pub(super) left: &'a [u8],
-    /// The place in the buffer behind the last event.
+    /// The index in the buffer behind the last event.
     pub(super) count: usize,
 }
 
-/// Whether an attribute of this type, with so many bytes behind its head, is a list without a byte
-/// that may stand here, where such lists are gone past; those without the flag of a list are left.
+/// Whether the loop may accept this attribute as an empty nested one: `lists` allows it, it has
+/// no payload, and the depth limit has room for it. `kind` is its type field, and `len` the
+/// length of its payload in bytes. The answer is false for one without `NLA_F_NESTED`, which the
+/// loop leaves.
 #[inline(always)]
 fn is_empty_list(key: Ctx, kind: u16, len: usize, level: u8, shape: Shape, lists: bool) -> bool
     requires { level ≤ fixed.MOST_LEVELS }
     ensures { result ≡ true → IsEmptyList key kind len level shape.depth }
 {
     let flags = flags_in(kind);
-    // With the flag nearly all are lists, so that no number is compared.
+    // Nearly all attributes with the flag are lists, so the compiler compares no type here.
     if !lists || len != 0 || level >= shape.depth() || !flags.nested {
         return false;
     }
@@ -40,7 +43,7 @@ fn is_empty_list(key: Ctx, kind: u16, len: usize, level: u8, shape: Shape, lists
     }
 }
 
-/// The event of a list without a byte, of this type.
+/// The event of an empty nested attribute with this type field.
 #[inline(always)]
 fn list_event(place: u32, kind: u16, level: u8) -> Event
     ensures { result ≡ record {
@@ -65,10 +68,12 @@ fn list_event(place: u32, kind: u16, level: u8) -> Event
     }
 }
 
-/// Goes past attributes at the front that hold bytes and have no flag, as long as each ends where
-/// a next head could stand; where `lists` says so, past lists without a byte too. `end` is the
-/// place behind the region, and `key` a context in which attributes hold what they do in `ctx`:
-/// written as a constant it makes a loop that compares no other context's numbers.
+/// Goes past the attributes at the front that hold bytes and have no flag bit, and puts their
+/// events from index `count` on. With `lists` it goes past empty nested attributes too. It stops
+/// at any other attribute, and at a last one whose padding is missing.
+///
+/// `end` is the offset behind the region. `key` is a context in which attributes hold the same as
+/// in `ctx`. It is a constant at each call, so that the loop compares no other context's types.
 #[inline(always)]
 fn pass_like<'a>(
     bytes: &'a [u8],
@@ -94,15 +99,15 @@ fn pass_like<'a>(
 {
     let order = shape.order();
     let start = end - bytes.len() as u32;
-    // Heads stand at multiples of 4, so one that stands before the limit is whole.
+    // Headers stand at multiples of 4, so one that begins before the limit is whole.
     let limit = bytes.len() / 4 * 4;
     let mut at = 0;
     let mut count = count;
-    // How many bytes stand behind the head, up to the limit; at the limit it wraps.
+    // How many bytes there are behind the header, up to the limit. At the limit it wraps.
     let mut behind = limit.wrapping_sub(4);
     'leaves: while behind <= isize::MAX as usize {
         let left = &bytes[at..];
-        // A length below 4 wraps to one that no region has.
+        // A length field below 4 wraps to a length that no region has.
         let len = len_at(order, left).wrapping_sub(4);
         if behind < len {
             break;
@@ -145,10 +150,9 @@ fn pass_like<'a>(
     }
 }
 
-/// Goes past attributes at the front that hold bytes, by a loop for each context that knows
-/// containers by their numbers. `end` is the place behind the region. Those may be left that have
-/// a flag, or the last where its padding is cut short. Where `lists` says so, lists without a byte
-/// are gone past too.
+/// Goes past the attributes at the front that hold bytes, as `pass_like` does. There is a separate
+/// loop for each context in which some types hold others: routes and links. `end` is the offset
+/// behind the region.
 #[inline(always)]
 pub(super) fn pass_leaves<'a>(
     bytes: &'a [u8],

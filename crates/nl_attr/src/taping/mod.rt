@@ -1,5 +1,10 @@
-//! Scanning a region, which takes no memory, and no more call stack where regions stand in regions:
-//! each head is checked, and its event is put into a buffer.
+//! Scanning a region: validating every header in it, nested ones too, and putting an `Event` of
+//! each into a buffer. It takes no memory, and nesting takes no call stack.
+//!
+//! - `leaves` is the short loop over attributes that hold bytes, which most do.
+//! - `steps` goes past one header of any kind, and then past leaves by that loop.
+//! - `regions` has the loops over nested regions, one of them over a stack.
+//! - `fronts` takes the attribute or the next hop at the front of a region apart.
 
 ghost use Rattle.std.specs.Prelude.{◌^◌, ◌≡◌, ◌≤◌, ◌<◌, ◌+◌, ◌-◌, ◌*◌, drop, length, slice_set};
 ghost use Rattle.nl_attr.specs.Fixed as fixed;
@@ -22,29 +27,29 @@ use crate::taping::regions::tape_regions;
 use crate::taping::steps::pass_front;
 use crate::tree::Ctx;
 
-/// What a scan found.
+/// The result of a scan.
 #[derive(Clone, Copy, Debug, PartialEq, Eq, Hash)]
 #[must_use = "a fault is told here alone"]
 pub struct Taped {
-    /// The head that breaks a rule at the first fault, or none.
+    /// The first header that breaks a rule, or `None` where the region is accepted.
     pub broken: Option<BrokenHead>,
-    /// The place in the buffer behind the last event, also where the buffer ends before it.
+    /// The index in the buffer behind the last event, even where the buffer is too short for it.
     pub count: usize,
-    /// How many attribute bytes were visited, on a fault too, as for `Tally`.
+    /// How many bytes were visited, as in `Tally`: up to the error, where there is one.
     pub visits: u64,
 }
 
-/// What a scan counted.
+/// The counts of a scan, without its error.
 #[derive(Clone, Copy, Debug, PartialEq, Eq, Hash)]
 pub struct Counts {
-    /// The place in the buffer behind the last event, also where the buffer ends before it.
+    /// The index in the buffer behind the last event, even where the buffer is too short for it.
     pub count: usize,
-    /// How many attribute bytes were visited, on a fault too, as for `Tally`.
+    /// How many bytes were visited, as in `Tally`: up to the error, where there is one.
     pub visits: u64,
 }
 
 impl Counts {
-    /// Adds a head that is visited: puts its event into a buffer, where that goes so far.
+    /// Counts one header, of an attribute or a next hop of `span` bytes, and puts its event.
     #[inline(always)]
     fn add(&mut self, out: &mut [Event], event: Event, span: u32)
         requires count { self.old.count < 2 ^ 63 }
@@ -61,7 +66,8 @@ impl Counts {
         self.visits += span as u64;
     }
 
-    /// Adds heads whose events have been put up to a place, and whose items occupy so many bytes.
+    /// Counts headers whose events have been put: `count` is the index behind the last of them,
+    /// and `spans` the sum of their spans in bytes.
     #[inline(always)]
     fn pass(&mut self, count: usize, spans: usize)
         requires spans { spans ≤ fixed.LONGEST_REGION }
@@ -72,7 +78,7 @@ impl Counts {
         self.visits += spans as u64;
     }
 
-    /// Adds what a scan counted that went on from here.
+    /// Adds the counts of an inner scan that began at this one's index.
     #[inline(always)]
     fn join(&mut self, more: Counts)
         requires { self.old.visits + more.visits < 2 ^ 64 }
@@ -86,7 +92,7 @@ impl Counts {
     }
 }
 
-/// Scans a region of attributes from its front to its end or its first fault.
+/// Scans a region of attributes to its end, or to its first error, which is left in `broken`.
 #[inline(always)]
 fn tape_region(
     broken: &mut Option<BrokenHead>,
@@ -109,7 +115,7 @@ fn tape_region(
     let mut counts = Counts { count, visits: 0 };
     let shape = Shape::of(depth, order);
     let top = pass_front(start, ctx, shape, room, false, out, &mut counts);
-    // Most regions hold no region: these are at their end here, and no stack is touched.
+    // Most regions hold no nested attribute: they are at their end here, and need no stack.
     if top.left.is_empty() {
         return counts;
     }
@@ -118,7 +124,8 @@ fn tape_region(
     counts
 }
 
-/// Scans a region of attributes, as `tape_attrs` does, into a buffer of whose room this is known.
+/// Scans a region of attributes as `tape_attrs` does. `room` says whether the buffer is known to
+/// be long enough.
 #[inline(always)]
 pub fn tape_attrs_in(
     broken: &mut Option<BrokenHead>,
@@ -132,7 +139,7 @@ pub fn tape_attrs_in(
     out: &mut [Event],
     count: usize,
 ) -> Counts
-    // No fault has been found.
+    // No error has been found before.
     requires none { broken.old ≡ None }
     requires level { level ≤ depth }
     requires size { length bytes.now ≤ fixed.LONGEST_REGION }
@@ -144,7 +151,7 @@ pub fn tape_attrs_in(
         count out.old out.new (found broken.new result) }
     ensures bound { result.visits ≤ (depth - level + 1) * length bytes.now }
     ensures count { result.count ≤ count + result.visits }
-    // A head has at least four bytes that are no other head's.
+    // Each header has at least four bytes of its own.
     ensures quarter { 4 * result.count ≤ 4 * count + length bytes.now }
     ensures untouched { drop result.count out.new ≡ drop result.count out.old }
 {
@@ -157,8 +164,9 @@ pub fn tape_attrs_in(
     tape_region(broken, start, ctx, depth, order, room, out, count)
 }
 
-/// Scans a region of attributes, as `tape_list` does, and answers the counts alone: the head that
-/// breaks a rule at the first fault is left in `broken`.
+/// Scans a region of attributes as `tape_list` does, but answers the counts alone. The first
+/// header that breaks a rule is left in `broken`, which stays `None` where the region is
+/// accepted.
 #[inline(always)]
 pub fn tape_attrs(
     broken: &mut Option<BrokenHead>,
@@ -192,14 +200,17 @@ pub fn tape_attrs(
     )
 }
 
-/// Scans a region of attributes, as `read_list_ordered` reads it, and puts the event of each head
-/// into `out`, in the order of their places: the first at `count`, as far as `out` goes. It takes
-/// no memory.
+/// Validates a region of attributes, and puts an event of each header into `out`. It accepts what
+/// `read_list_ordered` accepts, and takes no memory.
 ///
-/// `base` is the place of the first byte, `level` that of the region, `order` that of its numbers.
-/// It ends at the first fault: cut, bad length, too long or too deep; the events of the heads up to
-/// that one have been put. The answer's `count` is the place behind the last event, at which a next
-/// scan goes on. Where it is above the length of `out`, the last events had no room.
+/// `base` is the offset of the first byte, `level` the region's nesting level, and `order` the
+/// byte order. The events are in the order of their offsets, and the first goes to index `count`.
+///
+/// It ends at the first header that breaks a rule: `Cut`, `BadLength`, `TooLong` or `TooDeep`. The
+/// events of the headers before it have been put, and its own too where its length is valid.
+///
+/// The answer's `count` is the index behind the last event, where the next scan goes on. Where it
+/// is greater than the length of `out`, the last events had no room and were left out.
 #[inline(always)]
 pub fn tape_list(
     bytes: &[u8],

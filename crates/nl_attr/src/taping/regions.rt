@@ -1,7 +1,11 @@
-//! The loops over regions in which others open, in functions of their own: the loop over messages,
-//! most of which hold none, then keeps its registers free. What opens in a body's attributes is
-//! scanned by a call, so that no region waits, and mostly to its end by a loop over attributes that
-//! hold bytes. What that loop leaves is scanned over a stack.
+//! The loops of a scan over regions with nested attributes.
+//!
+//! The outermost region is scanned by `open_regions`. One nested in it is scanned by a call,
+//! `tape_inner`, and mostly to its end by the short loop over leaves. What that loop leaves is
+//! scanned by `tape_deep`, over a stack of the regions that wait.
+//!
+//! These functions aren't inlined into the loop over messages, since most messages need none of
+//! them. So that loop keeps its registers free.
 
 ghost use Rattle.std.specs.Prelude.{◌≡◌, ◌≤◌, length, None, Some};
 ghost use Rattle.nl_attr.specs.Broken.{facts_of};
@@ -21,11 +25,11 @@ use crate::taping::steps::{Lead, pass_top, step};
 use crate::tree::Ctx;
 use arrayvec::ArrayVec;
 
-/// How many regions may wait below the one that is scanned.
+/// The most regions that wait while a nested one is scanned.
 const MOST_OPEN: usize = 33;
 
-/// Keeps the head at the front, which breaks this rule. A scan comes here once: a function of its
-/// own keeps the registers of its loop free.
+/// Stores the header at the front, which breaks this rule, in `broken`. A scan calls this once, at
+/// its end. It isn't inlined: that keeps registers free in the loop.
 #[inline(never)]
 fn keep_broken(broken: &mut Option<BrokenHead>, at: OpenRegion<'_>, reason: Reason, shape: Shape)
     requires { length at.left.now ≤ fixed.LONGEST_REGION }
@@ -34,7 +38,7 @@ fn keep_broken(broken: &mut Option<BrokenHead>, at: OpenRegion<'_>, reason: Reas
     *broken = Some(at.broken(reason, shape));
 }
 
-/// Scans a region from its front, and each that opens in it, over a stack of those that wait.
+/// Scans a region and all that are nested in it, over a stack of the regions that wait.
 #[inline(always)]
 fn tape_open<'a>(
     broken: &mut Option<BrokenHead>,
@@ -74,7 +78,8 @@ fn tape_open<'a>(
     }
 }
 
-/// The same, in a function of its own for each loop, since a stack costs much to make.
+/// Scans as `tape_open` does. It isn't inlined, and there is one for each `LOOP`, since a stack is
+/// costly to make.
 #[inline(never)]
 fn tape_deep<const LOOP: u8>(
     broken: &mut Option<BrokenHead>,
@@ -96,8 +101,8 @@ fn tape_deep<const LOOP: u8>(
     tape_open(broken, start, shape, room, out, count)
 }
 
-/// Scans the region in an attribute or in a next hop: the attributes at its front that hold bytes,
-/// with which most end, and what is behind them over a stack.
+/// Scans the attributes nested in an attribute or a next hop. Most such regions hold bytes alone,
+/// and end in the short loop. The rest is scanned over a stack.
 #[inline(always)]
 fn tape_inside<const LOOP: u8>(
     broken: &mut Option<BrokenHead>,
@@ -126,7 +131,7 @@ fn tape_inside<const LOOP: u8>(
     counts
 }
 
-/// Scans next hops, and what is in each.
+/// Scans a region of next hops, and the attributes of each.
 #[inline(never)]
 fn tape_hops<const LOOP: u8>(
     broken: &mut Option<BrokenHead>,
@@ -169,7 +174,7 @@ fn tape_hops<const LOOP: u8>(
     }
 }
 
-/// Scans the region in an attribute, by what it is made of.
+/// Scans the region nested in an attribute: attributes or next hops.
 #[inline(always)]
 fn tape_inner<const LOOP: u8>(
     broken: &mut Option<BrokenHead>,
@@ -191,7 +196,7 @@ fn tape_inner<const LOOP: u8>(
     }
 }
 
-// The loops over regions, one for each call of `open_regions`.
+// The values of `LOOP`: one for each call of `open_regions`, by byte order and room.
 const BIG: u8 = 0;
 
 const LITTLE: u8 = 1;
@@ -200,8 +205,10 @@ const AMPLE: u8 = 2;
 
 const NONE: u8 = 3;
 
-/// Scans a region of attributes from its front, and each that opens in it, by this loop. Each loop
-/// is called at one place, so that it and what it calls have that call's order and room in them.
+/// Scans the outermost region, and all that are nested in it.
+///
+/// `LOOP` only makes a copy of the function for each call, so that the compiler can specialize the
+/// copy, and what it calls, for that call's byte order and room.
 #[inline(never)]
 fn open_regions<const LOOP: u8>(
     broken: &mut Option<BrokenHead>,
@@ -222,7 +229,7 @@ fn open_regions<const LOOP: u8>(
     // The depth is at most 32, and so are the levels.
     let _limit = depth.get();
     let shape = Shape::of(depth, order);
-    // What it is made of is said here, so that no step asks for it.
+    // The region holds attributes. It is said here again, so that no step tests for next hops.
     let mut top = OpenRegion {
         parts: Parts::Attrs(ctx),
         ..start
@@ -250,8 +257,8 @@ fn open_regions<const LOOP: u8>(
     }
 }
 
-/// Scans a region of attributes from its front, by a loop for each order, and for the little one by
-/// others where the buffer has room for all events or for none.
+/// Scans the outermost region by a separate loop for each byte order. For little-endian
+/// there is one more for a buffer with room for all events, and one for an empty buffer.
 #[inline(always)]
 pub(super) fn tape_regions(
     broken: &mut Option<BrokenHead>,
@@ -278,7 +285,7 @@ pub(super) fn tape_regions(
             let (order, room) = (Order::Little, Room::Ample);
             open_regions::<AMPLE>(broken, start, ctx, depth, order, room, out, count)
         }
-        // The buffer of no events is made here, so that the loop shows no trace of it.
+        // The empty buffer is a constant here, so that the compiler drops each put in the loop.
         (Order::Little, Room::Unknown) if out.is_empty() => {
             let (order, room) = (Order::Little, Room::Unknown);
             open_regions::<NONE>(broken, start, ctx, depth, order, room, &mut [], count)

@@ -1,5 +1,5 @@
-//! One step of a scan: past the head at the front of a region, and past those behind it that hold
-//! bytes.
+//! One step of a scan: past the header at the front of a region, whatever it is, and then past the
+//! attributes behind it that hold bytes.
 
 ghost use Rattle.std.specs.Prelude.{◌^◌, ◌≡◌, ◌≢◌, ◌≤◌, ◌<◌, ◌+◌, [], length};
 ghost use Rattle.nl_attr.specs.Fixed as fixed;
@@ -17,28 +17,29 @@ use crate::taping::leaves::pass_leaves;
 use crate::tree::{Content, Ctx, holds};
 use crate::walk::head_len;
 
-/// Where a region leads.
+/// What a step of a scan came to.
 #[derive(Clone, Copy)]
 pub(super) enum Lead<'a> {
-    /// To its end.
+    /// The end of the region.
     Ends,
-    /// To a head that breaks this rule.
+    /// A header that breaks this rule.
     Fails(Reason),
-    /// To what is left behind an item that has no head in it.
+    /// An attribute without a nested header: it holds bytes, or is an empty nested one.
     Goes,
-    /// To this region in an item.
+    /// An attribute or a next hop with this region nested in it.
     Opens(OpenRegion<'a>),
 }
 
-/// A step of a scan.
+/// The result of one step of a scan.
 #[derive(Clone, Copy)]
 pub(super) struct Advance<'a> {
     pub(super) lead: Lead<'a>,
-    /// What is left of the region: behind the item, or from the head that breaks a rule on.
+    /// What is left of the region: behind the attribute or next hop, or from the broken header on.
     pub(super) rest: OpenRegion<'a>,
 }
 
-/// The step past an attribute.
+/// Steps past an attribute: validates its header, counts it and puts its event. A header whose
+/// length is valid is counted even where it breaks another rule.
 #[inline(always)]
 fn step_attr<'a>(
     region: OpenRegion<'a>,
@@ -86,7 +87,7 @@ fn step_attr<'a>(
             rest: region,
         },
         None => {
-            // A region without a byte isn't opened.
+            // An empty region isn't opened.
             if attr.payload.is_empty() {
                 return Advance {
                     lead: Lead::Goes,
@@ -101,8 +102,8 @@ fn step_attr<'a>(
     }
 }
 
-/// Goes past attributes at the front of a region that hold bytes, and where `lists` says so past
-/// lists without a byte, and answers what is left of it.
+/// Goes past the attributes at the front of a region of attributes that hold bytes, and answers
+/// what is left. With `lists` it goes past empty nested attributes too.
 #[inline(always)]
 pub(super) fn pass_front<'a>(
     region: OpenRegion<'a>,
@@ -140,7 +141,7 @@ pub(super) fn pass_front<'a>(
     }
 }
 
-/// The step past a next hop.
+/// Steps past a next hop: validates its header, counts it and puts its event.
 #[inline(always)]
 fn step_hop<'a>(
     region: OpenRegion<'a>,
@@ -174,7 +175,8 @@ fn step_hop<'a>(
     }
 }
 
-/// Goes past attributes at the front of a region that hold bytes, where it is made of attributes.
+/// Goes past the attributes at the front of a region that hold bytes or are empty nested ones. A
+/// region of next hops stays as it is.
 #[inline(always)]
 pub(super) fn pass_top<'a>(
     region: OpenRegion<'a>,
@@ -199,7 +201,7 @@ pub(super) fn pass_top<'a>(
     }
 }
 
-/// The step past the head at the front of a region.
+/// Steps past the header at the front of a region, or finds its end.
 #[inline(always)]
 pub(super) fn step<'a>(
     region: OpenRegion<'a>,

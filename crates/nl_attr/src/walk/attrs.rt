@@ -1,4 +1,4 @@
-//! The attributes of a region.
+//! The iterator over the attributes of a region.
 
 ghost use Rattle.std.specs.Prelude.{◌≡◌, ◌+◌, ◌≤◌, length};
 ghost use Rattle.nl_attr.specs.Fixed as fixed;
@@ -10,20 +10,23 @@ use crate::tree::{AttrFlags, NUMBERS};
 use crate::walk::{flags_in, head_len, kind_at, span_at};
 use std::marker::Model;
 
-/// An attribute as it lies in its region.
+/// An attribute where it lies in its region, with a borrowed payload.
 #[derive(Clone, Copy, Debug, PartialEq, Eq)]
 pub struct Part<'a> {
     /// The type without its two flag bits: below 16,384.
     pub number: u16,
+    /// The two flag bits of the type.
     pub flags: AttrFlags,
-    /// The place of its head, counted from the region's start.
+    /// The offset of its header, in bytes from the region's start.
     pub place: u32,
-    /// How many bytes it occupies: head, payload, and the padding as far as present.
+    /// How many bytes it occupies: its header, its payload, and its padding as far as present.
     pub span: u32,
+    /// The payload, without padding.
     pub payload: &'a [u8],
 }
 
-/// The attribute at the front of what is left of a region from this place on.
+/// The attribute at the front of `left`, the rest of a region from offset `place` on. The error is
+/// the rule that its header breaks, with the offset `place`.
 #[inline(always)]
 pub(super) fn attr_in_front(order: Order, left: &[u8], place: u32) -> Result<Part<'_>, Fault>
     requires { length left.now ≤ fixed.LONGEST_REGION }
@@ -45,8 +48,9 @@ pub(super) fn attr_in_front(order: Order, left: &[u8], place: u32) -> Result<Par
     }
 }
 
-/// Goes over the attributes of a region, in the order of their places. After the last it answers
-/// None; where no whole attribute stands at the front of what is left, the fault, and then None.
+/// An iterator over the attributes of a region, in the order of their offsets.
+///
+/// Where a header breaks a rule, `Cut` or `BadLength`, it yields that error, and then `None`.
 #[derive(Debug, Drop)]
 #[must_use = "iterators are lazy and do nothing unless consumed"]
 pub struct Attrs<'a> {
@@ -70,7 +74,7 @@ impl<'a> Model for Attrs<'a> {
 impl<'a> Attrs<'a> {
     ghost use Rattle.nl_attr.specs.Walk.{IsAttrsOver};
 
-    /// A walk over a region whose numbers have their lowest byte first.
+    /// Iterates over a region in little-endian byte order.
     pub fn of(bytes: &'a [u8]) -> Self
         requires { length bytes.now ≤ fixed.LONGEST_REGION }
         ensures { IsAttrsOver Order.Little bytes.now result }
@@ -78,7 +82,7 @@ impl<'a> Attrs<'a> {
         Attrs::of_ordered(bytes, Order::Little)
     }
 
-    /// A walk over a region whose numbers are in this order.
+    /// Iterates over a region in this byte order.
     pub fn of_ordered(bytes: &'a [u8], order: Order) -> Self
         requires { length bytes.now ≤ fixed.LONGEST_REGION }
         ensures { IsAttrsOver order bytes.now result }
@@ -90,7 +94,7 @@ impl<'a> Attrs<'a> {
         }
     }
 
-    /// The sum of the spans that were handed out.
+    /// How many bytes the attributes yielded so far occupy: the sum of their spans.
     pub fn seen(&self) -> u64
         ensures { result ≡ self.now.place }
     {

@@ -1,5 +1,5 @@
-//! Walks whose steps are counted. Regions are read by these alone, so that no byte of them is
-//! visited without its count.
+//! The walks of the crate's own reading, which count the bytes that they visit. A tree is read by
+//! these alone, so that every visited byte is counted.
 
 ghost use Rattle.std.specs.Prelude.{◌≡◌, ◌+◌, ◌≤◌, length, Ok};
 ghost use Rattle.nl_attr.specs.Fixed as fixed;
@@ -13,7 +13,7 @@ use crate::tree::NUMBERS;
 use crate::walk::{HopPart, HopParts, Part, flags_in, head_len, kind_at, len_at, span_at};
 use std::marker::Model;
 
-/// A walk over attributes that hands out none without adding its span to a count.
+/// A walk over the attributes of a region that adds the span of each to a count.
 #[derive(Drop)]
 pub(crate) struct CountedAttrs<'a> {
     left: &'a [u8],
@@ -33,23 +33,24 @@ impl<'a> Model for CountedAttrs<'a> {
     ghost invariant = { λ c. c.place + length c.left.now ≤ LONGEST_REGION };
 }
 
-/// A step of a walk over attributes. The kinds of attributes are told apart where reading begins,
-/// so that each is read by code of its own.
+/// One step of a walk over attributes. `Word`, `Plain` and `Flagged` are all attributes: they are
+/// told apart for speed, so that the caller has separate code for each.
 #[derive(Clone, Copy)]
 pub(crate) enum Step<'a> {
-    /// Nothing is left.
+    /// The region has ended.
     Ends,
-    /// What is wrong at a place.
+    /// The header at this offset, from the region's start, breaks this rule.
     Fails(u32, Reason),
-    /// An attribute of eight bytes without a flag, as most are.
+    /// An attribute of eight bytes without a flag bit, as most are.
     Word(Part<'a>),
-    /// Any other without a flag.
+    /// Any other attribute without a flag bit.
     Plain(Part<'a>),
+    /// An attribute with a flag bit.
     Flagged(Part<'a>),
 }
 
 impl<'a> CountedAttrs<'a> {
-    /// A walk over a region whose numbers are in this order.
+    /// Begins a walk over a region in this byte order.
     pub(crate) fn over(bytes: &'a [u8], order: Order) -> Self
         requires { length bytes.now ≤ fixed.LONGEST_REGION }
         ensures { result ≡ record { order = order; place = 0; left = bytes.now } }
@@ -61,7 +62,8 @@ impl<'a> CountedAttrs<'a> {
         }
     }
 
-    /// The next attribute, whose span is added to the visits.
+    /// Steps to the next attribute, and adds its span to `visits`. After `Fails` it answers
+    /// `Ends`.
     #[inline(always)]
     pub(crate) fn step(&mut self, visits: &mut u64) -> Step<'a>
         requires { visits.old ≤ fixed.MOST_VISITS }
@@ -91,7 +93,8 @@ impl<'a> CountedAttrs<'a> {
         }
     }
 
-    /// Takes the attribute at the front, of so many bytes and of this type field.
+    /// Takes the attribute of `len` bytes at the front, with this type field. Its header has been
+    /// validated.
     #[inline(always)]
     fn take(&mut self, len: usize, kind: u16, visits: &mut u64) -> Part<'a>
         requires head { HeadIs self.old.order 4 2 self.old.left (Ok len) }
@@ -116,7 +119,7 @@ impl<'a> CountedAttrs<'a> {
     }
 }
 
-/// A walk over next hops that hands out none without adding its span to a count.
+/// A walk over the next hops of a region that adds the span of each to a count.
 #[derive(Drop)]
 pub(crate) struct CountedHopParts<'a> {
     walk: HopParts<'a>,
@@ -131,7 +134,7 @@ impl<'a> Model for CountedHopParts<'a> {
 }
 
 impl<'a> CountedHopParts<'a> {
-    /// A walk over a region whose numbers are in this order.
+    /// Begins a walk over a region in this byte order.
     pub(crate) fn over(bytes: &'a [u8], order: Order) -> Self
         requires { length bytes.now ≤ fixed.LONGEST_REGION }
         ensures { result ≡ record { order = order; place = 0; left = bytes.now } }
@@ -141,7 +144,7 @@ impl<'a> CountedHopParts<'a> {
         }
     }
 
-    /// The next hop, whose span is added to the visits.
+    /// Steps to the next hop, and adds its span to `visits`. `None` at the region's end.
     pub(crate) fn step(&mut self, visits: &mut u64) -> Option<Result<HopPart<'a>, Fault>>
         requires { visits.old ≤ fixed.MOST_VISITS }
         ensures steps { GivesHop self.old result self.new }

@@ -1,4 +1,4 @@
-//! The next hops of a region.
+//! The iterator over the next hops of a region, `rtnexthop` of linux/rtnetlink.h.
 
 ghost use Rattle.std.specs.Prelude.{◌≡◌, ◌+◌, ◌≤◌, length, Ok};
 ghost use Rattle.nl_attr.specs.Fixed as fixed;
@@ -10,7 +10,7 @@ use crate::order::Order;
 use crate::walk::{head_len, span_at};
 use std::marker::Model;
 
-/// The index of the interface in the head of a next hop.
+/// `rtnh_ifindex` of the next hop at the front: the index of its interface.
 fn ifindex_at(order: Order, left: &[u8]) -> i32
     requires { 8 ≤ length left.now }
     ensures { result ≡ ifindex_of order left.now }
@@ -18,21 +18,24 @@ fn ifindex_at(order: Order, left: &[u8]) -> i32
     order.read_i32(&left[4..])
 }
 
-/// A next hop as it lies in its region.
+/// A next hop where it lies in its region, with its attributes as borrowed bytes.
 #[derive(Clone, Copy, Debug, PartialEq, Eq)]
 pub struct HopPart<'a> {
+    /// `rtnh_flags`: the `RTNH_F` bits.
     pub flags: u8,
+    /// `rtnh_hops`: the weight less one.
     pub hops: u8,
+    /// `rtnh_ifindex`: the index of the interface.
     pub ifindex: i32,
-    /// The place of its head, counted from the region's start.
+    /// The offset of its header, in bytes from the region's start.
     pub place: u32,
-    /// How many bytes it occupies: head, attributes, and the padding as far as present.
+    /// How many bytes it occupies: its header, its attributes, and its padding as far as present.
     pub span: u32,
-    /// The region of its attributes.
+    /// The bytes behind its header, a region of attributes, which `Attrs` goes over.
     pub rest: &'a [u8],
 }
 
-/// The next hop of `len` bytes at the front.
+/// The next hop of `len` bytes at the front, whose header has been validated.
 #[tactic(auto, using(crate::proofs::Lemmas::Numbers::signed))]
 fn hop_part(order: Order, left: &[u8], len: usize, place: u32, span: u32) -> HopPart<'_>
     requires sound { HeadIs order 8 2 left.now (Ok len) }
@@ -49,7 +52,8 @@ fn hop_part(order: Order, left: &[u8], len: usize, place: u32, span: u32) -> Hop
     }
 }
 
-/// The next hop at the front of what is left of a region from this place on.
+/// The next hop at the front of `left`, the rest of a region from offset `place` on. The error is
+/// the rule that its header breaks, with the offset `place`.
 #[inline(always)]
 pub(super) fn hop_in_front(order: Order, left: &[u8], place: u32) -> Result<HopPart<'_>, Fault>
     requires { length left.now ≤ fixed.LONGEST_REGION }
@@ -62,7 +66,8 @@ pub(super) fn hop_in_front(order: Order, left: &[u8], place: u32) -> Result<HopP
     }
 }
 
-/// Goes over the next hops of a region, in the order of their places, and ends as `Attrs` does.
+/// An iterator over the next hops of a region, in the order of their offsets. It ends as `Attrs`
+/// does.
 #[derive(Debug, Drop)]
 #[must_use = "iterators are lazy and do nothing unless consumed"]
 pub struct HopParts<'a> {
@@ -86,7 +91,7 @@ impl<'a> Model for HopParts<'a> {
 impl<'a> HopParts<'a> {
     ghost use Rattle.nl_attr.specs.Walk.{IsHopsOver};
 
-    /// A walk over a region whose numbers have their lowest byte first.
+    /// Iterates over a region in little-endian byte order.
     pub fn of(bytes: &'a [u8]) -> Self
         requires { length bytes.now ≤ fixed.LONGEST_REGION }
         ensures { IsHopsOver Order.Little bytes.now result }
@@ -94,7 +99,7 @@ impl<'a> HopParts<'a> {
         HopParts::of_ordered(bytes, Order::Little)
     }
 
-    /// A walk over a region whose numbers are in this order.
+    /// Iterates over a region in this byte order.
     pub fn of_ordered(bytes: &'a [u8], order: Order) -> Self
         requires { length bytes.now ≤ fixed.LONGEST_REGION }
         ensures { IsHopsOver order bytes.now result }
@@ -106,7 +111,7 @@ impl<'a> HopParts<'a> {
         }
     }
 
-    /// The sum of the spans that were handed out.
+    /// How many bytes the next hops yielded so far occupy: the sum of their spans.
     pub fn seen(&self) -> u64
         ensures { result ≡ self.now.place }
     {

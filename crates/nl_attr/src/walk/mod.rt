@@ -1,4 +1,9 @@
-//! Walks over the attributes or the next hops of a region, which allocate nothing.
+//! Going over the attributes or the next hops of one region, from the first on. Nothing here takes
+//! memory, or looks into nested attributes.
+//!
+//! - `attrs` and `hops`: the public iterators, `Attrs` and `HopParts`.
+//! - `cursors`: the attribute or the next hop at an offset, for callers without an iterator.
+//! - `counted`: the walks of the crate's own reading, which count the bytes that they visit.
 
 ghost use Rattle.std.specs.Prelude.{◌≡◌, ◌≤◌, length, min};
 ghost use Rattle.nl_attr.specs.Fixed as fixed;
@@ -26,7 +31,7 @@ pub fn align4(n: u32) -> u32
     (n + 3) / 4 * 4
 }
 
-/// The length that the head at the front says.
+/// The length field of the header at the front, in bytes.
 #[inline(always)]
 pub(crate) fn len_at(order: Order, left: &[u8]) -> usize
     requires { 2 ≤ length left.now }
@@ -35,7 +40,11 @@ pub(crate) fn len_at(order: Order, left: &[u8]) -> usize
     order.read_u16(left) as usize
 }
 
-/// The length that the head at the front says, where it is at least `min` and within the bytes.
+/// Validates the header at the front, which has `min` bytes, and answers its length field, in
+/// bytes.
+///
+/// The error is `Cut` where fewer than `min` bytes are left. It is `BadLength` where the length is
+/// less than `min`, or more than the bytes that are left.
 pub(crate) fn head_len(order: Order, left: &[u8], min: usize) -> Result<usize, Reason>
     requires { 2 ≤ min }
     ensures { HeadIs order min 2 left.now result }
@@ -50,7 +59,7 @@ pub(crate) fn head_len(order: Order, left: &[u8], min: usize) -> Result<usize, R
     Ok(len)
 }
 
-/// The type field of the attribute at the front.
+/// The type field of the attribute at the front, `rta_type`, with its flag bits.
 #[inline(always)]
 pub(crate) fn kind_at(order: Order, left: &[u8]) -> u16
     requires { 4 ≤ length left.now }
@@ -70,7 +79,8 @@ pub(crate) fn flags_in(kind: u16) -> AttrFlags
     }
 }
 
-/// How many bytes an item of `len` bytes at the front occupies, with padding as far as present.
+/// The span of an attribute or a next hop of `len` bytes at the front: how many bytes it occupies
+/// with its padding, as far as that is present.
 #[inline(always)]
 pub(crate) fn span_at(left: &[u8], len: usize) -> usize
     requires { len ≤ fixed.LONGEST_REGION }

@@ -1,5 +1,4 @@
-//! A builder's calls that begin a message or put a whole one, but for the heads around the
-//! innermost.
+//! The calls of `BuilderTop` that begin a message, or put a whole one.
 
 ghost use Rattle.std.specs.Prelude.{◌≡◌, ◌≤◌, ◌+◌, ◌∷◌, ◌++◌, List, Some, None, [], length};
 ghost use Rattle.std.specs.Prelude.{IfNone, OnErr, OnOk};
@@ -28,7 +27,7 @@ use nl_attr::{Content, LONGEST_REGION, align4};
 use nl_route::{Family, match_object};
 
 impl BuilderTop {
-    /// Why no message of this type begins with a head of this family, if none does.
+    /// The error of beginning a message of this type with a header of this family, if any.
     #[inline(always)]
     fn begin_refusal(&self, out: &[u8], kind: u16, family: Family) -> Option<BuildError>
         requires fits { AreWithin self.now out.now }
@@ -54,7 +53,7 @@ impl BuilderTop {
         }
     }
 
-    /// Accepts a family's head, for which there is room.
+    /// Appends a family's header, for which there is room.
     #[inline(always)]
     fn accept_head(&mut self, out: &mut [u8], head: &FamilyHead)
         requires fits { AreWithin self.old out.old }
@@ -65,7 +64,7 @@ impl BuilderTop {
             (fields.written self.old.limits.shape.order (fields_of (any_head head.now))) }
         ensures rest { self.new ≡ record self.old { len = self.new.len } }
         ensures grows { self.old.len ≤ self.new.len }
-        // What a head of the program holds is in the range of its fields.
+        // Each number of a header in memory is in the range of its Rust type.
         ensures ranged { fields.AreRanged (fields_of (any_head head.now)) }
         ensures fits { AreWithin self.new out.new }
     {
@@ -73,10 +72,10 @@ impl BuilderTop {
         match_object!(head, FamilyHead, head => self.accept(out, &head.write_ordered(order)), {})
     }
 
-    /// Begins a message, as `BuilderParts::begin` does, and answers its head, the innermost now.
-    /// What is accepted must be within the slice and within the datagram limit.
+    /// Begins a message, as `Builder::begin` does, and answers its header, which is the innermost
+    /// now. The bytes accepted must be within the slice and the datagram limit.
     ///
-    /// It refuses as `begin`; the first refusal sticks.
+    /// Errors are as in `Builder::begin`, and the first one sticks.
     #[inline(always)]
     pub fn begin(
         &mut self,
@@ -88,7 +87,7 @@ impl BuilderTop {
         head: &FamilyHead,
     ) -> Result<OpenHead, BuildError>
         requires fits { AreWithin self.old out.old }
-        // Whatever heads are open, of which this is the innermost.
+        // Whatever headers are open, of which this is the innermost.
         ensures built { (hs : List OpenHead) → top hs ≡ self.old.head
             → over (parts_with self.new (heads_after result hs)) out.new
             ≡ begin (over (parts_with self.old hs) out.old) kind flags seq port
@@ -118,7 +117,7 @@ impl BuilderTop {
         Ok(opened)
     }
 
-    /// The head of a message of this type that is in these bytes.
+    /// Decodes the family header of a message of this type from exactly these bytes.
     #[inline(always)]
     fn head_in(&self, kind: u16, bytes: &[u8]) -> Option<FamilyHead>
         ensures { option_map any_head result
@@ -133,7 +132,7 @@ impl BuilderTop {
         Some(FamilyHead::read(family, bytes, self.limits.order()))
     }
 
-    /// Why no message begins without a head.
+    /// The error of beginning a message whose family header couldn't be decoded.
     #[inline(always)]
     fn no_head_refusal(&self) -> BuildError
         ensures { (hs : List OpenHead) → top hs ≡ self.now.head
@@ -146,11 +145,12 @@ impl BuilderTop {
         }
     }
 
-    /// Begins a message whose body's head is in these bytes, as `BuilderParts::begin_bytes` does,
-    /// and answers its head, the innermost now. What is accepted must be within the slice and
-    /// within the datagram limit.
+    /// Begins a message whose family header is these bytes, the kernel's struct in the builder's
+    /// byte order, and answers the message's header, the innermost now. Bytes that aren't kept
+    /// become zeros. The bytes accepted must be within the slice and the datagram limit.
     ///
-    /// It refuses as `begin_bytes`; the first refusal sticks.
+    /// Errors are as in `Builder::begin`, and `Mismatch` also for a header of another length. The
+    /// first error sticks.
     #[inline(always)]
     pub fn begin_bytes(
         &mut self,
@@ -162,7 +162,7 @@ impl BuilderTop {
         head: &[u8],
     ) -> Result<OpenHead, BuildError>
         requires fits { AreWithin self.old out.old }
-        // Whatever heads are open, of which this is the innermost.
+        // Whatever headers are open, of which this is the innermost.
         ensures built { (hs : List OpenHead) → top hs ≡ self.old.head
             → over (parts_with self.new (heads_after result hs)) out.new
             ≡ begin_bytes (over (parts_with self.old hs) out.old) kind flags seq port head.now }
@@ -180,7 +180,7 @@ impl BuilderTop {
         self.begin(out, kind, flags, seq, port, &head)
     }
 
-    /// Why no message of this type has a body of so many bytes, if none has.
+    /// The error of putting a whole message of this type with so many bytes of body, if any.
     #[inline(always)]
     fn message_refusal(&self, out: &[u8], kind: u16, len: usize) -> Option<BuildError>
         requires fits { AreWithin self.now out.now }
@@ -208,7 +208,7 @@ impl BuilderTop {
         self.lacks(out, align4(16 + len as u32) as usize)
     }
 
-    /// Accepts a whole message, for which there is room.
+    /// Appends a whole message, for which there is room.
     #[inline(always)]
     fn accept_message(&mut self, out: &mut [u8], header: Header, body: &[u8])
         requires fits { AreWithin self.old out.old }
@@ -229,10 +229,10 @@ impl BuilderTop {
         self.pad(out, (align4(header.len) - header.len) as usize);
     }
 
-    /// Puts a whole message whose body is these bytes, as `BuilderParts::message` puts it. What is
-    /// accepted must be within the slice and within the datagram limit.
+    /// Puts a whole message, as `Builder::message` does. The bytes accepted must be within the
+    /// slice and the datagram limit.
     ///
-    /// It refuses as `message`; the first refusal sticks.
+    /// Errors are as in `Builder::message`, and the first one sticks.
     #[inline(always)]
     pub fn message(
         &mut self,
@@ -244,7 +244,7 @@ impl BuilderTop {
         body: &[u8],
     ) -> Result<(), BuildError>
         requires fits { AreWithin self.old out.old }
-        // Whatever heads are open, of which this is the innermost.
+        // Whatever headers are open, of which this is the innermost.
         ensures built { (hs : List OpenHead) → top hs ≡ self.old.head
             → (over (parts_with self.new hs) out.new)
             ≡ put_message (over (parts_with self.old hs) out.old) kind flags seq port body.now }

@@ -1,4 +1,4 @@
-//! The head of a message's body, whatever its family.
+//! A family's header, of whichever family.
 
 ghost use Rattle.std.specs.Prelude.{◌≡◌, ◌≤◌, length, take};
 ghost use Rattle.nl_frame.specs.AnyHeads.{any_head};
@@ -7,7 +7,7 @@ ghost use Rattle.nl_route.specs.Families.{family_of, head_of, head_size};
 use nl_attr::Order;
 use nl_route::{AddrHead, Family, Head, LinkHead, NeighHead, RouteHead, RuleHead};
 
-/// The head of a message's body, of any family.
+/// The header that a family's message begins with, behind `nlmsghdr`, of any family.
 #[derive(Clone, Copy, Debug, PartialEq, Eq, Hash)]
 pub enum FamilyHead {
     Link(LinkHead),
@@ -18,8 +18,8 @@ pub enum FamilyHead {
 }
 
 impl FamilyHead {
-    /// The head of this family at the front of a body, which has at least its bytes, numbers in this
-    /// order.
+    /// Decodes the header of this family at the front of a body, in this byte order. The body has
+    /// at least the header's size.
     pub fn read(family: Family, bytes: &[u8], order: Order) -> FamilyHead
         requires { head_size family ≤ length bytes.now }
         ensures { any_head result ≡ head_of order family (take (head_size family) bytes.now) }

@@ -1,4 +1,4 @@
-//! Next hops that are put whole.
+//! The calls that put a next hop with one attribute whole.
 
 ghost use Rattle.std.specs.Prelude.{◌≡◌, ◌≤◌, ◌+◌, List, None, Ok, Some, length, [], IfSome, IsTrue};
 ghost use Rattle.std.specs.Prelude.{OnOk};
@@ -16,13 +16,13 @@ ghost use Rattle.nl_frame.specs.Limits.{Bounds};
 ghost use Rattle.nl_frame.specs.Parts.{over};
 ghost use Rattle.nl_frame.specs.Tops.{AreWithin, parts_with};
 
-use crate::building::parts::BuilderParts;
+use crate::building::Builder;
 use crate::building::refusal::BuildError;
 use crate::building::top::BuilderTop;
 use nl_attr::{Content, Ctx, LONGEST_CONTAINER, NO_FLAGS, NUMBERS, align4, holds, hop_head};
 
 impl BuilderTop {
-    /// How long a next hop is that holds one attribute of so many bytes, where it is put.
+    /// The length of a next hop with one attribute of so many bytes. `None` where it can't be put.
     #[inline(always)]
     fn hop_length(&self, out: &[u8], number: u16, len: usize) -> Option<usize>
         requires fits { AreWithin self.now out.now }
@@ -50,8 +50,8 @@ impl BuilderTop {
         }
     }
 
-    /// Puts a next hop that holds one attribute of these bytes, where it has room and stands behind
-    /// the innermost head; or says that it doesn't, with nothing changed.
+    /// Puts a next hop with one attribute of these bytes, and answers true. Where any of the calls
+    /// would fail it answers false, and nothing has changed.
     #[inline(always)]
     fn put_hop(
         &mut self,
@@ -83,11 +83,11 @@ impl BuilderTop {
     }
 }
 
-impl BuilderParts {
-    /// Puts a next hop that holds one attribute of these bytes and no flag bit: the calls
-    /// `open_hop`, `put_bytes` and `close` in one.
+impl Builder {
+    /// Puts a next hop that holds one attribute of these bytes, whose type has no flag bit. It
+    /// does in one what `open_hop`, `put_bytes` and `close` do.
     ///
-    /// It refuses as they do, and what was accepted before the refusal stays.
+    /// Errors are theirs. What was accepted before the error stays.
     #[inline(always)]
     pub fn put_hop(
         &mut self,
@@ -115,7 +115,7 @@ impl BuilderParts {
         self.put_hop_by_parts(out, flags, hops, ifindex, number, bytes)
     }
 
-    /// The same, call by call.
+    /// The same by the three calls, which find the error.
     #[inline(never)]
     fn put_hop_by_parts(
         &mut self,

@@ -1,4 +1,4 @@
-//! A builder's calls that open an attribute or a next hop, but for the heads around the innermost.
+//! The calls of `BuilderTop` that open an attribute or a next hop.
 
 ghost use Rattle.std.specs.Prelude.{◌≡◌, ◌≤◌, ◌+◌, ◌∷◌, List, Some, None, Ok, [], length};
 ghost use Rattle.std.specs.Prelude.{IfErr, IfNone, IfOk, OnOk};
@@ -15,7 +15,8 @@ use crate::building::{OpenHead, levels_inside};
 use nl_attr::{AttrFlags, Content, Ctx, attr_head, hop_head};
 
 impl BuilderTop {
-    /// Opens a head, for which there is room, behind which this stands.
+    /// Appends a header, for which there is room, and answers it as open. `content` is what is put
+    /// behind it.
     #[inline(always)]
     pub(super) fn open_head(&mut self, out: &mut [u8], content: Content, head: &[u8]) -> OpenHead
         requires fits { AreWithin self.old out.old }
@@ -37,7 +38,7 @@ impl BuilderTop {
         opened
     }
 
-    /// What an attribute holds that opens where so many heads are open, or why none does.
+    /// What an attribute holds that is opened inside `count` open headers. Or the error.
     #[inline(always)]
     fn opening(
         &self,
@@ -72,11 +73,11 @@ impl BuilderTop {
         }
     }
 
-    /// Opens an attribute that holds attributes or next hops, where so many heads are open, as
-    /// `BuilderParts::open_attr` does, and answers its head, the innermost now. What is accepted
-    /// must be within the slice and within the datagram limit.
+    /// Opens an attribute inside `count` open headers, as `Builder::open_attr` does, and answers
+    /// its header, the innermost now. The bytes accepted must be within the slice and the datagram
+    /// limit.
     ///
-    /// It refuses as `open_attr`; the first refusal sticks.
+    /// Errors are as in `Builder::open_attr`, and the first one sticks.
     #[inline(always)]
     pub fn open_attr(
         &mut self,
@@ -86,17 +87,17 @@ impl BuilderTop {
         count: usize,
     ) -> Result<OpenHead, BuildError>
         requires fits { AreWithin self.old out.old }
-        // Whatever heads are open, which are so many, and of which this is the innermost.
+        // Whatever headers are open, which are so many, and of which this is the innermost.
         ensures built { (hs : List OpenHead) → top hs ≡ self.old.head → length hs ≡ count
             → over (parts_with self.new (heads_after result hs)) out.new
             ≡ open_attr (over (parts_with self.old hs) out.old) number flags }
         ensures inside { (hs : List OpenHead) → top hs ≡ self.old.head → length hs ≡ count
             → AreOpen self.old.limits.shape.depth self.old.len hs
             → AreOpen self.old.limits.shape.depth self.new.len (heads_after result hs) }
-        // For any count, of heads that are open or not, this is why it is refused,
+        // For any count, which needn't be that of open headers, this is the error,
         ensures answer { refusal_of result ≡ or_next self.old.refusal (open_refusal_in
             (over (parts_with self.old []) out.old) count (held self.old.head number flags)) }
-        // and else this is what it opens.
+        // and without an error this is what it opens.
         ensures opened { IfOk result (λ h. over (parts_with self.new (h ∷ [])) out.new
             ≡ opened (over (parts_with self.old []) out.old)
             (content_or_bytes (held self.old.head number flags))
@@ -117,7 +118,7 @@ impl BuilderTop {
         }
     }
 
-    /// Why no next hop opens, if none does.
+    /// The error of opening a next hop, if any.
     #[inline(always)]
     fn hop_refusal(&self, out: &[u8]) -> Option<BuildError>
         requires fits { AreWithin self.now out.now }
@@ -137,10 +138,10 @@ impl BuilderTop {
         }
     }
 
-    /// Opens a next hop, as `BuilderParts::open_hop` does, and answers its head, the innermost now.
-    /// What is accepted must be within the slice and within the datagram limit.
+    /// Opens a next hop, as `Builder::open_hop` does, and answers its header, the innermost now.
+    /// The bytes accepted must be within the slice and the datagram limit.
     ///
-    /// It refuses as `open_hop`; the first refusal sticks.
+    /// Errors are as in `Builder::open_hop`, and the first one sticks.
     #[inline(always)]
     pub fn open_hop(
         &mut self,
@@ -150,7 +151,7 @@ impl BuilderTop {
         ifindex: i32,
     ) -> Result<OpenHead, BuildError>
         requires fits { AreWithin self.old out.old }
-        // Whatever heads are open, of which this is the innermost.
+        // Whatever headers are open, of which this is the innermost.
         ensures built { (hs : List OpenHead) → top hs ≡ self.old.head
             → over (parts_with self.new (heads_after result hs)) out.new
             ≡ open_hop (over (parts_with self.old hs) out.old) flags hops ifindex }

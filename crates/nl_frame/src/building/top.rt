@@ -1,4 +1,4 @@
-//! What a builder's calls need of it but for the heads around the innermost.
+//! `BuilderTop`: a builder without the open headers around the innermost, and its calls.
 
 ghost use Rattle.std.specs.Prelude.{◌≡◌, ◌≤◌, ◌<◌, ◌+◌, ◌∷◌, ◌++◌, List, Some, None, [], drop, length};
 ghost use Rattle.std.specs.Prelude.{ℕ, Ok, Err, IfSome, IfNone, MatchOption, OnErr, OnOk, take};
@@ -21,21 +21,21 @@ use nl_attr::{
     AttrFlags, Content, LONGEST_CONTAINER, LONGEST_ITEM, NUMBERS, align4, attr_head, holds,
 };
 
-/// What a `BuilderParts` is but for the heads around the innermost, for who keeps those elsewhere:
-/// an attribute that is put stands behind the innermost, whatever is open around it.
+/// A `Builder` without the open headers around the innermost, for a caller that keeps those
+/// elsewhere, as in a C struct. What is put depends on the innermost alone.
 #[derive(Clone, Copy, Drop)]
 pub struct BuilderTop {
     /// The builder's limits.
     pub limits: Limits,
-    /// How many bytes are accepted.
+    /// How many bytes of the slice are accepted.
     pub len: usize,
-    /// The innermost head, where one is open.
+    /// The innermost open header, if any.
     pub head: Option<OpenHead>,
-    /// The first refusal.
+    /// The first error, if there was one.
     pub refusal: Option<BuildError>,
 }
 
-/// What an attribute holds behind this head, or why none stands there.
+/// What an attribute of this type holds behind this header. Or the error.
 #[inline(always)]
 pub(super) fn held_behind(
     head: Option<OpenHead>,
@@ -53,8 +53,8 @@ pub(super) fn held_behind(
     }
 }
 
-/// Why so many bytes are not put for an attribute that holds this, where they aren't: the first
-/// refusal, or what it holds, or that it is too long, or what it has no room for.
+/// The error of putting so many bytes, where `takes` is false: an earlier one, or that of what the
+/// attribute holds, of its length, or of the room.
 #[cold]
 #[inline(never)]
 fn why_not(
@@ -81,7 +81,7 @@ fn why_not(
 }
 
 impl BuilderTop {
-    /// Why so many bytes have no room, if they haven't.
+    /// The error where there is no room for so many bytes more: `NoRoom` or `TooLarge`, if any.
     #[inline(always)]
     pub(super) fn lacks(&self, out: &[u8], len: usize) -> Option<BuildError>
         requires fits { AreWithin self.now out.now }
@@ -98,7 +98,7 @@ impl BuilderTop {
         None
     }
 
-    /// Accepts bytes for which there is room.
+    /// Appends bytes, for which there is room.
     #[inline(always)]
     pub(super) fn accept(&mut self, out: &mut [u8], bytes: &[u8])
         requires fits { AreWithin self.old out.old }
@@ -113,7 +113,7 @@ impl BuilderTop {
         self.len += bytes.len();
     }
 
-    /// Accepts as many zero bytes, three at most, for which there is room.
+    /// Appends up to three zero bytes, for which there is room.
     #[inline(always)]
     pub(super) fn pad(&mut self, out: &mut [u8], count: usize)
         requires fits { AreWithin self.old out.old }
@@ -130,7 +130,7 @@ impl BuilderTop {
         }
     }
 
-    /// Whether so many bytes are put for this attribute.
+    /// Whether an attribute of this type with so many bytes can be put.
     #[inline(always)]
     fn takes(&self, out: &[u8], number: u16, flags: AttrFlags, len: usize) -> bool
         requires fits { AreWithin self.now out.now }
@@ -150,7 +150,7 @@ impl BuilderTop {
         }
     }
 
-    /// Why so many bytes are not put for this attribute, if they aren't.
+    /// The error of putting so many bytes for this attribute, if any.
     #[inline(always)]
     fn bytes_refusal(
         &self,
@@ -176,7 +176,7 @@ impl BuilderTop {
         Some(why_not(self.refusal, held, len, room))
     }
 
-    /// Accepts an attribute of these bytes, in two parts, for which there is room.
+    /// Appends an attribute with the payload `bytes` and `tail`, for which there is room.
     #[inline(always)]
     pub(super) fn accept_attr(
         &mut self,
@@ -207,11 +207,11 @@ impl BuilderTop {
         self.pad(out, (align4(len) - len) as usize);
     }
 
-    /// Puts an attribute that holds these bytes, in two parts, behind the innermost head, as
-    /// `BuilderParts::put_bytes` puts it. What is accepted must be within the slice and within the
-    /// datagram limit.
+    /// Puts an attribute with the payload `bytes` and `tail` behind the innermost header, as
+    /// `Builder::put_bytes` does. The bytes accepted must be within the slice and the datagram
+    /// limit.
     ///
-    /// It refuses as `put_bytes`; the first refusal sticks.
+    /// Errors are as in `Builder::put_bytes`, and the first one sticks.
     #[inline(always)]
     pub fn put(
         &mut self,
@@ -223,7 +223,7 @@ impl BuilderTop {
     ) -> Result<(), BuildError>
         requires fits { AreWithin self.old out.old }
         requires given { length tail.now ≤ 1 }
-        // Whatever heads are open, of which this is the innermost.
+        // Whatever headers are open, of which this is the innermost.
         ensures built { (hs : List OpenHead) → top hs ≡ self.old.head
             → (over (parts_with self.new hs) out.new)
             ≡ put (over (parts_with self.old hs) out.old) number flags (bytes.now ++ tail.now) }
@@ -242,7 +242,7 @@ impl BuilderTop {
         Ok(())
     }
 
-    /// How many bytes there are from the innermost head on.
+    /// How many bytes there are from the innermost open header on.
     #[inline(always)]
     fn length_from(&self) -> usize
         requires inside { IfSome self.now.head (λ h. h.start + 4 ≤ self.now.len) }
@@ -259,7 +259,7 @@ impl BuilderTop {
         }
     }
 
-    /// Sets the length of the innermost head, in these bytes.
+    /// Writes `field` as the length of the innermost open header.
     #[inline(always)]
     fn end_head(&self, out: &mut [u8], field: &[u8])
         requires fits { self.now.len ≤ length out.old }
@@ -277,14 +277,14 @@ impl BuilderTop {
         }
     }
 
-    /// Ends the message, where so many heads are open, as `BuilderParts::end` does; or answers why
-    /// it doesn't end. What is accepted must be within the slice and the datagram limit, and the
-    /// innermost head within what is accepted.
+    /// Ends the message inside `count` open headers, as `Builder::end` does, and answers the
+    /// error, if any. The bytes accepted must be within the slice and the datagram limit, and the
+    /// innermost header within them.
     #[inline(always)]
     pub fn end(&self, out: &mut [u8], count: usize) -> Option<BuildError>
         requires fits { AreWithin self.now out.old }
         requires inside { IfSome self.now.head (λ h. h.start + 4 ≤ self.now.len) }
-        // Whatever heads are open, which are so many, and of which this is the innermost.
+        // Whatever headers are open, which are so many, and of which this is the innermost.
         ensures built { (hs : List OpenHead) → top hs ≡ self.now.head → length hs ≡ count
             → over (left_with self.now result hs) out.new
             ≡ end (over (parts_with self.now hs) out.old) }
@@ -313,14 +313,14 @@ impl BuilderTop {
         None
     }
 
-    /// Closes the innermost attribute or next hop, where so many heads are open, as
-    /// `BuilderParts::close` does; or answers why it isn't closed. What is accepted must be within
-    /// the slice and the datagram limit, and the innermost head within what is accepted.
+    /// Closes the innermost attribute or next hop of `count` open headers, as `Builder::close`
+    /// does, and answers the error, if any. The bytes accepted must be within the slice and the
+    /// datagram limit, and the innermost header within them.
     #[inline(always)]
     pub fn close(&self, out: &mut [u8], count: usize) -> Option<BuildError>
         requires fits { AreWithin self.now out.old }
         requires inside { IfSome self.now.head (λ h. h.start + 4 ≤ self.now.len) }
-        // Whatever heads are open, which are so many, and of which this is the innermost.
+        // Whatever headers are open, which are so many, and of which this is the innermost.
         ensures built { (hs : List OpenHead) → top hs ≡ self.now.head → length hs ≡ count
             → over (left_with self.now result hs) out.new
             ≡ close (over (parts_with self.now hs) out.old) }
@@ -348,8 +348,7 @@ impl BuilderTop {
         None
     }
 
-    /// How many bytes the datagram has, as `BuilderParts::finish` answers it; or the first refusal,
-    /// and without one `StillOpen` where a message is open.
+    /// The length of the datagram that `Builder::finish` would hand out. Errors are the same.
     #[inline(always)]
     pub fn finish(&self) -> Result<usize, BuildError>
         ensures { (hs : List OpenHead) → top hs ≡ self.now.head

@@ -17,8 +17,8 @@ impl Entry for Addr {
 
     ghost key_is = { λ o e. refl };
 
-    /// An address is kept under `ifa_family` in 1 byte, `ifa_index` in 4, `ifa_prefixlen` in 1,
-    /// `IFA_ADDRESS` and `IFA_LOCAL`. The order is not looked at.
+    /// The fields of an address's key: `ifa_family` in 1 byte, `ifa_index` in 4, `ifa_prefixlen`
+    /// in 1, `IFA_ADDRESS` and `IFA_LOCAL`. The byte order isn't needed.
     #[inline(always)]
     fn append_key<B: KeyBuffer>(&self, key: &mut B, _order: Order) -> Result<(), AllocError> {
         append_numbers!(

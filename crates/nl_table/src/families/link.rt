@@ -17,7 +17,7 @@ impl Entry for Link {
 
     ghost key_is = { λ o e. refl };
 
-    /// A link is kept under its index, `ifi_index`, in 4 bytes.
+    /// The field of a link's key: its index, `ifi_index`, in 4 bytes.
     #[inline(always)]
     fn append_key<B: KeyBuffer>(&self, key: &mut B, _order: Order) -> Result<(), AllocError> {
         append_numbers!(key, four(self.head.index.cast_unsigned()));

@@ -1,6 +1,6 @@
-//! The keys of the families' entries, one file for each family.
+//! `Entry` for each family: which fields make its key.
 //!
-//! Which fields a key has is this project's own choice. Of several attributes of one type the
+//! Which fields these are is this project's own choice. Of several attributes of one type the
 //! first counts.
 
 mod addr;

@@ -6,10 +6,10 @@ use nl_attr::Order;
 use nl_route::Neigh;
 use std::alloc::AllocError;
 
-/// The family of the entries of a bridge's forwarding table: `AF_BRIDGE` of linux/socket.h.
+/// `AF_BRIDGE` of linux/socket.h: `ndm_family` of the entries of a bridge's forwarding table.
 pub(crate) const AF_BRIDGE: u8 = 7;
 
-/// The flags that are part of a key: `NTF_SELF`, `NTF_MASTER` and `NTF_PROXY`.
+/// The bits of `ndm_flags` that are part of a key: `NTF_SELF`, `NTF_MASTER` and `NTF_PROXY`.
 pub(crate) const IDENTIFYING_FLAGS: u8 = 0x0e;
 
 impl Entry for Neigh {
@@ -23,11 +23,11 @@ impl Entry for Neigh {
 
     ghost key_is = { λ o e. refl };
 
-    /// A neighbour is kept under `ndm_family` in 1 byte, `ndm_ifindex` in 4, three of its flags
-    /// in 1 (`NTF_SELF`, `NTF_MASTER` and `NTF_PROXY`, the others 0), and `NDA_DST`.
+    /// The fields of a neighbour's key: `ndm_family` in 1 byte, `ndm_ifindex` in 4, three bits of
+    /// `ndm_flags` in 1 (`NTF_SELF`, `NTF_MASTER` and `NTF_PROXY`, the others 0), and `NDA_DST`.
     ///
-    /// An entry of a bridge, whose family is `AF_BRIDGE`, is also kept under `NDA_LLADDR`,
-    /// `NDA_VLAN` in 2 bytes and `NDA_VNI` in 4, each number 0 where it is absent.
+    /// The key of a bridge's entry, whose family is `AF_BRIDGE`, also has `NDA_LLADDR`,
+    /// `NDA_VLAN` in 2 bytes and `NDA_VNI` in 4. An absent number is 0.
     #[inline(always)]
     fn append_key<B: KeyBuffer>(&self, key: &mut B, order: Order) -> Result<(), AllocError> {
         append_numbers!(

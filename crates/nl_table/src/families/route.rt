@@ -14,7 +14,8 @@ use nl_attr::{Attr, Order};
 use nl_route::{RTA_DST, RTA_GATEWAY, RTA_OIF, RTA_PRIORITY, RTA_SRC, RTA_TABLE, Route};
 use std::alloc::AllocError;
 
-/// The number in the first four bytes of an attribute, in this order; none where it has fewer.
+/// The first four bytes of an attribute's payload as a number in this byte order. `None` where it
+/// has fewer.
 #[inline(always)]
 fn number_in(attr: &Attr, order: Order) -> Option<u32>
     ensures { result ≡ views.number_in order 4 (value_view attr.now.value) }
@@ -25,7 +26,7 @@ fn number_in(attr: &Attr, order: Order) -> Option<u32>
     }
 }
 
-/// What the key of a route has of its attributes.
+/// The fields of a route's key that come from its attributes.
 #[derive(Clone, Copy)]
 struct Parts<'a> {
     dst: Option<&'a [u8]>,
@@ -36,7 +37,8 @@ struct Parts<'a> {
     interface: u32,
 }
 
-/// That of a route, in one pass from the last attribute to the first, which counts.
+/// Collects these fields in one pass, from the last attribute to the first. So of several
+/// attributes of one type the first counts.
 #[inline(always)]
 fn parts_of(route: &Route, order: Order) -> Parts<'_>
     ensures dst { option_copied result.dst ≡ bytes_view fixed.RTA_DST (attrs_in route.now) }
@@ -85,7 +87,7 @@ impl Entry for Route {
 
     ghost key_is = { λ o e. refl };
 
-    /// A route is kept under `rtm_family` and `rtm_dst_len` in 1 byte each, `RTA_DST`,
+    /// The fields of a route's key: `rtm_family` and `rtm_dst_len` in 1 byte each, `RTA_DST`,
     /// `rtm_src_len` in 1, `RTA_SRC`, `rtm_tos` in 1, its table in 4, `RTA_PRIORITY` in 4,
     /// `rtm_type` in 1, `RTA_OIF` in 4, and `RTA_GATEWAY`.
     ///

@@ -10,7 +10,7 @@ use nl_attr::{Order, find};
 use nl_route::{FRA_IIFNAME, FRA_OIFNAME, Rule};
 use std::alloc::AllocError;
 
-/// All bytes of the first attribute of a number.
+/// The payload of the rule's first attribute of this type. `None` where it has none.
 fn bytes_of(rule: &Rule, number: u16) -> Option<&[u8]>
     ensures { option_copied result ≡ bytes_view number (attrs_in rule.now) }
 {
@@ -28,12 +28,12 @@ impl Entry for Rule {
 
     ghost key_is = { λ o e. refl };
 
-    /// A rule is kept under `family` and `dst_len` in 1 byte each, `FRA_DST`, `src_len` in 1,
-    /// `FRA_SRC`, `tos` in 1, its table and `FRA_PRIORITY` in 4 each, `action` in 1, `FRA_GOTO`,
-    /// `FRA_FWMARK` and `FRA_FWMASK` in 4 each, `FRA_IIFNAME`, and `FRA_OIFNAME`.
+    /// The fields of a rule's key: `family` and `dst_len` in 1 byte each, `FRA_DST`, `src_len` in
+    /// 1, `FRA_SRC`, `tos` in 1, its table and `FRA_PRIORITY` in 4 each, `action` in 1,
+    /// `FRA_GOTO`, `FRA_FWMARK` and `FRA_FWMASK` in 4 each, `FRA_IIFNAME`, and `FRA_OIFNAME`.
     ///
-    /// The table is `FRA_TABLE`, or else `table`. A number that is absent is 0. The names stand
-    /// there as the attributes have them, with the zero byte at their end.
+    /// The table is `FRA_TABLE`, or else `table`. A number that is absent is 0. The names are the
+    /// payloads of their attributes, with the zero byte at their end.
     #[inline(always)]
     fn append_key<B: KeyBuffer>(&self, key: &mut B, order: Order) -> Result<(), AllocError> {
         append_numbers!(key, byte(self.head.family), byte(self.head.dst_len));

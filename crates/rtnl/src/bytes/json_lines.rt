@@ -3,7 +3,7 @@
 ghost use Rattle.std.specs.Prelude.{◌≡◌, ◌∷◌, [], ◌++◌, OnOk, codes, option_map};
 ghost use Rattle.json.specs.Json.{null};
 ghost use Rattle.rtnl.specs.ByteRows.{first_fields, label_fields, place_fields, refusal_json, row_json};
-ghost use Rattle.rtnl.specs.ByteViews.{row_view};
+ghost use Rattle.rtnl.specs.ByteViews.{label_view, row_view};
 ghost use Rattle.rtnl.specs.Json.{IsUnescaped, ◌⊕◌, fields_tokens};
 ghost use Rattle.rtnl.specs.Kernel.{kernel_name};
 ghost use Rattle.rtnl.specs.Notations.{name_or, number_json, payload_json, value_json};
@@ -155,7 +155,7 @@ fn push_place(line: &mut Line, number: usize, row: &ByteRow<'_>) -> Result<(), A
 /// Writes the level and the name of a part.
 #[tactic(auto, unfolding(crate::specs::ByteRows::label_fields), using(crate::proofs::Sets::field))]
 fn push_label(alloc: Global, line: &mut Line, label: Label) -> Result<(), AllocError>
-    ensures { OnOk result (line.new ≡ line.old ⊕ fields_tokens (label_fields label)) }
+    ensures { OnOk result (line.new ≡ line.old ⊕ fields_tokens (label_fields (label_view label))) }
 {
     let (front, end) = label.name;
     let name = format!(in alloc; "{front}{end}")?;

@@ -13,9 +13,10 @@ mod structs;
 pub(crate) mod tape;
 mod view;
 
+use crate::bytes::parts::push_parts;
 use crate::bytes::rows::{Printing, RowFormat};
 use crate::bytes::tape::Tape;
-use crate::bytes::view::View;
+use crate::bytes::view::{View, view_events, view_refused};
 use crate::text::datagram::{push_datagram_line, push_refusal};
 use nl_attr::Event;
 use nl_frame::{ReadError, ScanError};
@@ -40,11 +41,10 @@ fn push_accepted(
     events: &[Event],
 ) -> Result<(), AllocError>
     ensures { OnOk result (AddsAllRows (row_printed how.format how.order how.number)
-        bytes.now None out.old.items out.new.items) }
+        how.order bytes.now events.now None out.old.items out.new.items) }
 {
-    let mut view = View::new(alloc, bytes, how.order);
-    view.events(events, bytes.len())?;
-    view.parts.push(alloc, out, how, 0, bytes, None)
+    let View { pieces, .. } = view_events(alloc, how.order, bytes, events)?;
+    push_parts(alloc, out, how, 0, bytes, None, &pieces)
 }
 
 /// Writes the rows of a datagram that is refused: those before its first fault, and those from there
@@ -58,15 +58,14 @@ fn push_refused(
     error: ScanError,
 ) -> Result<(), AllocError>
     ensures { OnOk result (AddsAllRows (row_printed how.format how.order how.number)
-        bytes.now (Some error) out.old.items out.new.items) }
+        how.order bytes.now events.now (Some error) out.old.items out.new.items) }
 {
     let stop = refused_at(error).min(bytes.len());
     let (before, behind) = bytes.split_at(stop);
-    let mut view = View::new(alloc, bytes, how.order);
-    view.events(events, stop)?;
-    view.parts.push(alloc, out, how, 0, before, None)?;
-    view.refused(alloc, error, stop)?;
-    view.parts.push(alloc, out, how, stop, behind, Some(error))
+    let View { pieces, contexts } = view_events(alloc, how.order, bytes, events)?;
+    push_parts(alloc, out, how, 0, before, None, &pieces)?;
+    let broken = view_refused(alloc, &contexts, error)?;
+    push_parts(alloc, out, how, stop, behind, Some(error), &broken)
 }
 
 /// Writes the rows of a datagram.
@@ -78,7 +77,7 @@ pub(crate) fn push_rows(
     tape: &Tape,
 ) -> Result<(), AllocError>
     ensures { OnOk result (AddsAllRows (row_printed how.format how.order how.number)
-        bytes.now tape.now.refusal out.old.items out.new.items) }
+        how.order bytes.now tape.now.events.items tape.now.refusal out.old.items out.new.items) }
 {
     let events = tape.events.as_slice();
     match tape.refusal {

@@ -1,27 +1,80 @@
-//! The parts of bytes, one after another.
+//! The pieces of bytes, one after another, and the rows of the parts that they are.
 
-ghost use Rattle.std.specs.Prelude.{◌<◌, ◌+◌, ◌^◌, length, OnOk};
+ghost use Rattle.std.specs.Prelude.{◌≡◌, ◌<◌, ◌+◌, ◌++◌, ◌∷◌, ◌^◌, [], length, map, OnOk};
+ghost use Rattle.rtnl.specs.ByteParts as marks;
+ghost use Rattle.rtnl.specs.ByteParts.{indent_of, level_of, named, padding, size_from};
 ghost use Rattle.rtnl.specs.ByteRows.{row_printed};
-ghost use Rattle.rtnl.specs.ByteViews.{AddsRows};
+ghost use Rattle.rtnl.specs.ByteViews.{AddsRows, marks_in, piece_view};
+ghost use Rattle.rtnl.specs.Kernel.{kernel_name};
+ghost use Rattle.rtnl.specs.Structs.{field_view};
 
 use crate::bytes::notation::Notation;
 use crate::bytes::rows::{BytePart, Label, Printing, push_part};
+use crate::bytes::structs::Field;
+use crate::names::kernel::KernelName;
 use nl_frame::ScanError;
 use std::alloc::{AllocError, Global};
 
-/// Where a part ends, and what its bytes are.
+/// How far a piece goes.
 #[derive(Clone, Copy)]
-struct Piece {
-    end: usize,
-    label: Label,
+pub(crate) enum Extent {
+    /// So many bytes.
+    Bytes(usize),
+    /// Up to this place.
+    UpTo(usize),
 }
 
-/// The parts of bytes, each from the end of the one before it on. What is behind the last was not
-/// read.
-#[derive(Drop)]
-pub(super) struct Parts {
-    pieces: Vec<Piece>,
-    end: usize,
+impl Extent {
+    /// How many bytes there are of it from a place on.
+    fn size_from(self, place: usize) -> usize
+        ensures { result ≡ size_from place self }
+    {
+        match self {
+            Extent::Bytes(count) => count,
+            Extent::UpTo(end) => end.saturating_sub(place),
+        }
+    }
+}
+
+/// How deep bytes lie.
+#[derive(Clone, Copy)]
+pub(crate) enum Depth {
+    /// In the header of a message.
+    Header,
+    /// In a body, beside its attributes.
+    Body,
+    /// In an attribute or a next hop of this level.
+    Level(u8),
+}
+
+impl Depth {
+    /// How many levels of attributes they lie in.
+    fn level(self) -> u8
+        ensures { result ≡ level_of self }
+    {
+        match self {
+            Depth::Header | Depth::Body => 0,
+            Depth::Level(level) => level,
+        }
+    }
+
+    /// How many blanks stand before their name.
+    fn indent(self) -> u16
+        ensures { result ≡ indent_of self }
+    {
+        match self {
+            Depth::Header => 0,
+            Depth::Body => 2,
+            Depth::Level(level) => 2 * level as u16 + 4,
+        }
+    }
+}
+
+/// What the next bytes are.
+#[derive(Clone, Copy)]
+pub(crate) struct Piece {
+    extent: Extent,
+    label: Label,
 }
 
 /// Bytes that were not read.
@@ -33,74 +86,114 @@ const UNREAD: Label = Label {
     is_aside: true,
 };
 
-impl Parts {
-    /// No part, of bytes that begin at this place.
-    pub(super) fn new(alloc: Global, start: usize) -> Parts {
-        Parts {
-            pieces: Vec::new(alloc),
-            end: start,
-        }
-    }
+/// One more piece.
+fn push_piece(pieces: &mut Vec<Piece>, piece: Piece) -> Result<(), AllocError>
+    ensures { OnOk result
+        (marks_in pieces.new.items ≡ marks_in pieces.old.items ++ piece_view piece ∷ []) }
+{
+    pieces.push(piece)?;
+    Ok(())
+}
 
-    /// The place where the last part ends.
-    pub(super) fn end(&self) -> usize {
-        self.end
-    }
+/// Bytes of this name.
+pub(super) fn push_named(
+    pieces: &mut Vec<Piece>,
+    depth: Depth,
+    extent: Extent,
+    name: KernelName,
+    notation: Notation,
+) -> Result<(), AllocError>
+    ensures { OnOk result (marks_in pieces.new.items
+        ≡ marks_in pieces.old.items ++ named depth extent (kernel_name name.entry) notation ∷ []) }
+{
+    let label = Label {
+        level: depth.level(),
+        indent: depth.indent(),
+        name,
+        notation,
+        is_aside: false,
+    };
+    push_piece(pieces, Piece { extent, label })
+}
 
-    /// One more part, up to this place; none where the last one ends at it or behind it.
-    pub(super) fn add(&mut self, end: usize, label: Label) -> Result<(), AllocError> {
-        if end <= self.end {
-            return Ok(());
-        }
-        self.pieces.push(Piece { end, label })?;
-        self.end = end;
-        Ok(())
-    }
+/// Padding up to a place.
+pub(super) fn push_padding(
+    pieces: &mut Vec<Piece>,
+    depth: Depth,
+    end: usize,
+) -> Result<(), AllocError>
+    ensures { OnOk result
+        (marks_in pieces.new.items ≡ marks_in pieces.old.items ++ padding depth end ∷ []) }
+{
+    let extent = Extent::UpTo(end);
+    let label = Label {
+        level: depth.level(),
+        indent: depth.indent(),
+        name: ("padding", ""),
+        notation: Notation::Blank,
+        is_aside: true,
+    };
+    push_piece(pieces, Piece { extent, label })
+}
 
-    /// Writes the rows of all these bytes, which begin at a place: those of the parts, and of what
-    /// is behind them. The refusal stands at the first.
-    pub(super) fn push(
-        &self,
-        alloc: Global,
-        out: &mut Vec<u8>,
-        how: Printing,
-        start: usize,
-        bytes: &[u8],
-        refusal: Option<ScanError>,
-    ) -> Result<(), AllocError>
-        requires { start + length bytes.now < 2 ^ 64 }
-        ensures { OnOk result (AddsRows (row_printed how.format how.order how.number)
-            start bytes.now refusal out.old.items out.new.items) }
-    {
-        let mut rest = bytes;
-        let mut place = start;
-        let mut refusal = refusal;
-        for piece in &self.pieces {
-            let size = piece.end.saturating_sub(place).min(rest.len());
-            if size == 0 {
-                continue;
-            }
-            let (front, others) = rest.split_at(size);
-            let part = BytePart {
-                place: place as u64,
-                bytes: front,
-                label: piece.label,
-                refusal,
-            };
-            push_part(alloc, out, how, part)?;
-            place += size;
-            rest = others;
-            refusal = None;
+/// The fields of a struct.
+pub(super) fn push_fields(
+    pieces: &mut Vec<Piece>,
+    depth: Depth,
+    fields: &[Field],
+) -> Result<(), AllocError>
+    ensures { OnOk result (marks_in pieces.new.items
+        ≡ marks_in pieces.old.items ++ marks.fields depth (map field_view fields.now)) }
+{
+    for (name, size, notation) in fields {
+        push_named(pieces, depth, Extent::Bytes(*size), (name, ""), *notation)?;
+    }
+    Ok(())
+}
+
+/// Writes the rows of all these bytes, which begin at a place: those of the pieces, and of what is
+/// behind them. The refusal stands at the first.
+pub(super) fn push_parts(
+    alloc: Global,
+    out: &mut Vec<u8>,
+    how: Printing,
+    start: usize,
+    bytes: &[u8],
+    refusal: Option<ScanError>,
+    pieces: &[Piece],
+) -> Result<(), AllocError>
+    requires { start + length bytes.now < 2 ^ 64 }
+    ensures { OnOk result (AddsRows (row_printed how.format how.order how.number)
+        start bytes.now refusal (marks_in pieces.now) out.old.items out.new.items) }
+{
+    let mut rest = bytes;
+    let mut place = start;
+    let mut refusal = refusal;
+    for piece in pieces {
+        let size = piece.extent.size_from(place).min(rest.len());
+        if size == 0 {
+            continue;
         }
-        if rest.is_empty() {
-            return Ok(());
-        }
+        let (front, others) = rest.split_at(size);
         let part = BytePart {
             place: place as u64,
-            bytes: rest,
-            label: UNREAD,
+            bytes: front,
+            label: piece.label,
             refusal,
         };
-        push_part(alloc, out, how, part)
+        push_part(alloc, out, how, part)?;
+        place += size;
+        rest = others;
+        refusal = None;
     }
+    if rest.is_empty() {
+        return Ok(());
+    }
+    let part = BytePart {
+        place: place as u64,
+        bytes: rest,
+        label: UNREAD,
+        refusal,
+    };
+    push_part(alloc, out, how, part)
 }

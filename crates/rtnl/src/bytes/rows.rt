@@ -36,7 +36,7 @@ pub(crate) struct Label {
     /// How many levels of attributes they lie in.
     pub level: u8,
     /// How many blanks stand before the name.
-    pub indent: u8,
+    pub indent: u16,
     pub name: KernelName,
     pub notation: Notation,
     /// Whether they are padding, or were not read.

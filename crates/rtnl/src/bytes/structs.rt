@@ -1,15 +1,23 @@
 //! The fields of the kernel's structs, in their order and by their names in its headers.
 
+ghost use Rattle.std.specs.Prelude.{◌≡◌, map};
+ghost use Rattle.rtnl.specs.Structs as structs;
+ghost use Rattle.rtnl.specs.Structs.{field_view};
+
 use crate::bytes::notation::Notation;
 use crate::names::flags::Bits;
 use crate::names::types::FlagNames;
+use nl_attr::Ctx;
 use nl_route::Family;
 
 /// A field: its name, how many bytes it has, and how they are read.
-pub(super) type Field = (&'static str, usize, Notation);
+pub(crate) type Field = (&'static str, usize, Notation);
 
 /// `nlmsghdr` of linux/netlink.h, whose flags have these names.
-pub(super) fn nlmsghdr(names: FlagNames) -> [Field; 5] {
+#[tactic(auto, unfolding(crate::specs::Structs::nlmsghdr))]
+pub(super) fn nlmsghdr(names: FlagNames) -> [Field; 5]
+    ensures { map field_view result ≡ structs.nlmsghdr names }
+{
     [
         ("nlmsg_len", 4, Notation::Decimal),
         ("nlmsg_type", 2, Notation::MessageType),
@@ -19,8 +27,16 @@ pub(super) fn nlmsghdr(names: FlagNames) -> [Field; 5] {
     ]
 }
 
-/// The length of `rtattr` of linux/rtnetlink.h, behind which its type stands.
-pub(super) const RTATTR: [Field; 1] = [("rta_len", 2, Notation::Decimal)];
+/// `rtattr` of linux/rtnetlink.h, of an attribute of this context.
+#[tactic(auto, unfolding(crate::specs::Structs::rtattr))]
+pub(super) fn rtattr(context: Ctx) -> [Field; 2]
+    ensures { map field_view result ≡ structs.rtattr context }
+{
+    [
+        ("rta_len", 2, Notation::Decimal),
+        ("rta_type", 2, Notation::AttrType(context)),
+    ]
+}
 
 /// What an `nlmsgerr` of linux/netlink.h has before the header that it answers.
 pub(super) const NLMSGERR: [Field; 1] = [("error", 4, Notation::Signed)];
@@ -96,7 +112,10 @@ const FIB_RULE_HDR: &[Field] = &[
 ];
 
 /// The head of a family's body.
-pub(super) fn head_of(family: Family) -> &'static [Field] {
+#[tactic(auto, unfolding(crate::specs::Structs::ifinfomsg, crate::specs::Structs::ifaddrmsg, crate::specs::Structs::rtmsg, crate::specs::Structs::ndmsg, crate::specs::Structs::fib_rule_hdr))]
+pub(super) fn head_of(family: Family) -> &'static [Field]
+    ensures { map field_view result.now ≡ structs.head_of family }
+{
     match family {
         Family::Link => IFINFOMSG,
         Family::Addr => IFADDRMSG,

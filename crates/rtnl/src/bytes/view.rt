@@ -1,247 +1,310 @@
-//! The parts of a datagram, by the events of its tape.
+//! The pieces of a datagram, by the events of its tape.
+
+ghost use Rattle.std.specs.Prelude.{◌≡◌, ◌<◌, ◌^◌, ◌++◌, ◌∷◌, [], IfOk, OnOk, take};
+ghost use Rattle.rtnl.specs.ByteParts as marks;
+ghost use Rattle.rtnl.specs.ByteParts.{contexts_after, fields, head_marks, header};
+ghost use Rattle.rtnl.specs.ByteParts.{broken_by, marks_of, refused_marks, rest_of, type_in};
+ghost use Rattle.rtnl.specs.ByteViews.{marks_in};
+ghost use Rattle.rtnl.specs.Structs.{rtnexthop};
+ghost use Rattle.rtnl.specs.Tape.{context_in};
 
 use crate::bytes::notation::Notation;
-use crate::bytes::parts::Parts;
-use crate::bytes::rows::Label;
-use crate::bytes::structs::{
-    Field, NLMSGERR, RTATTR, RTGENMSG, RTNEXTHOP, STATUS, head_of, nlmsghdr,
-};
+use crate::bytes::parts::{Depth, Extent, Piece, push_fields, push_named, push_padding};
+use crate::bytes::structs::{NLMSGERR, RTGENMSG, RTNEXTHOP, STATUS, head_of, nlmsghdr, rtattr};
 use crate::bytes::tape::context_inside;
 use crate::names::attributes::attribute;
-use crate::names::kernel::{KernelName, attribute_name};
+use crate::names::kernel::attribute_name;
 use crate::names::types::message_type;
 use nl_attr::{BrokenHead, Ctx, Event, HeadKind, Order, SORT_BYTES, SORT_MESSAGE, SORT_NEXT_HOP};
 use nl_frame::{Form, ScanError};
 use std::alloc::{AllocError, Global};
 
-/// More levels than attributes have.
-const LEVELS: usize = 40;
-
-/// How deep parts lie, and how far their words are indented.
-#[derive(Clone, Copy)]
-struct Depth {
-    level: u8,
-    indent: u8,
-}
-
-/// Of the header of a message.
-const HEADER: Depth = Depth {
-    level: 0,
-    indent: 0,
-};
-
-/// Of what is in a body beside attributes.
-const BODY: Depth = Depth {
-    level: 0,
-    indent: 2,
-};
-
-/// Of an attribute or a next hop of this level.
-fn at_level(level: u8) -> Depth {
-    Depth {
-        level,
-        indent: level.saturating_mul(2).saturating_add(4),
-    }
-}
-
-/// What is known of a datagram on the way through its events.
+/// What the events of a datagram say of its bytes.
 #[derive(Drop)]
-pub(super) struct View<'a> {
-    bytes: &'a [u8],
-    order: Order,
-    /// The parts so far.
-    pub parts: Parts,
-    /// The context of the attributes of each level.
-    contexts: [Ctx; LEVELS],
-    /// Where the last head lies.
-    depth: Depth,
+pub(super) struct View {
+    /// What they are, from the first on.
+    pub pieces: Vec<Piece>,
+    /// The contexts in the heads that are open behind the last, the outermost first.
+    pub contexts: Vec<Ctx>,
 }
 
-impl<'a> View<'a> {
-    /// No part yet, of a whole datagram.
-    pub(super) fn new(alloc: Global, bytes: &'a [u8], order: Order) -> View<'a> {
-        View {
-            bytes,
-            order,
-            parts: Parts::new(alloc, 0),
-            contexts: [Ctx::Plain; LEVELS],
-            depth: HEADER,
+/// The header of a message of this type.
+fn push_header(pieces: &mut Vec<Piece>, depth: Depth, kind: u16) -> Result<(), AllocError>
+    ensures { OnOk result
+        (marks_in pieces.new.items ≡ marks_in pieces.old.items ++ header depth kind) }
+{
+    let (_, _, names) = message_type(kind);
+    push_fields(pieces, depth, &nlmsghdr(names))
+}
+
+/// Where the body of a message begins.
+fn body_place(event: &Event) -> usize
+    ensures place { result ≡ marks.body_place event.now }
+    ensures below { result < 2 ^ 33 }
+{
+    event.place as usize + 16
+}
+
+/// The rest of a body.
+fn push_rest(pieces: &mut Vec<Piece>, event: &Event, name: &'static str) -> Result<(), AllocError>
+    ensures { OnOk result (marks_in pieces.new.items
+        ≡ marks_in pieces.old.items ++ rest_of event.now name.now) }
+{
+    let end = body_place(event) + event.len as usize;
+    push_named(
+        pieces,
+        Depth::Body,
+        Extent::UpTo(end),
+        (name, ""),
+        Notation::Blank,
+    )
+}
+
+/// The message type in a header that ends in these bytes; 0 where there are fewer than it has.
+fn type_in(order: Order, bytes: &[u8]) -> u16
+    ensures { result ≡ type_in order bytes.now }
+{
+    if bytes.len() >= 2 {
+        order.read_u16(bytes)
+    } else {
+        0
+    }
+}
+
+/// The message type in the header that an error answers.
+fn answered(order: Order, bytes: &[u8], event: &Event) -> u16
+    ensures { result ≡ marks.answered order bytes.now event.now }
+{
+    let (_, behind) = bytes.split_at((body_place(event) + 8).min(bytes.len()));
+    type_in(order, behind)
+}
+
+/// The body of a message, by its form; of a family's its head.
+#[tactic(auto, unfolding(crate::specs::Structs::nlmsgerr, crate::specs::Structs::status, crate::specs::Structs::rtgenmsg), using(crate::proofs::Sets::joins))]
+fn push_body(
+    pieces: &mut Vec<Piece>,
+    order: Order,
+    bytes: &[u8],
+    event: &Event,
+    form: Form,
+) -> Result<(), AllocError>
+    ensures { OnOk result (marks_in pieces.new.items
+        ≡ marks_in pieces.old.items ++ marks.body order bytes.now event.now form) }
+{
+    match form {
+        Form::Object(family) => push_fields(pieces, Depth::Body, head_of(family)),
+        Form::Error => {
+            push_fields(pieces, Depth::Body, &NLMSGERR)?;
+            push_header(pieces, Depth::Body, answered(order, bytes, event))?;
+            push_rest(pieces, event, "tail")
         }
-    }
-
-    /// The context of the attributes of a level.
-    fn context(&self, level: u8) -> Ctx {
-        let context = self.contexts.get(level as usize);
-        context.copied().unwrap_or(Ctx::Plain)
-    }
-
-    /// Sets the context of the attributes of a level.
-    fn set_context(&mut self, level: usize, context: Ctx) {
-        if level < LEVELS {
-            self.contexts[level] = context;
-        }
-    }
-
-    /// A part up to this place.
-    fn part(
-        &mut self,
-        end: usize,
-        name: KernelName,
-        notation: Notation,
-        is_aside: bool,
-    ) -> Result<(), AllocError> {
-        let Depth { level, indent } = self.depth;
-        let label = Label {
-            level,
-            indent,
-            name,
-            notation,
-            is_aside,
-        };
-        self.parts.add(end, label)
-    }
-
-    /// Bytes of this name up to a place, without a value.
-    fn blank(&mut self, end: usize, name: &'static str) -> Result<(), AllocError> {
-        self.part(end, (name, ""), Notation::Blank, false)
-    }
-
-    /// Padding up to this place.
-    fn padding(&mut self, end: usize) -> Result<(), AllocError> {
-        self.part(end, ("padding", ""), Notation::Blank, true)
-    }
-
-    /// The fields of a struct, from the end of the last part on.
-    fn fields(&mut self, fields: &[Field]) -> Result<(), AllocError> {
-        for (name, size, notation) in fields {
-            let end = self.parts.end().saturating_add(*size);
-            self.part(end, (name, ""), *notation, false)?;
-        }
-        Ok(())
-    }
-
-    /// The header of a message of this type.
-    fn header(&mut self, kind: u16) -> Result<(), AllocError> {
-        let (_, _, names) = message_type(kind);
-        self.fields(&nlmsghdr(names))
-    }
-
-    /// The head of an attribute of this context.
-    fn attr_head(&mut self, context: Ctx) -> Result<(), AllocError> {
-        self.fields(&RTATTR)?;
-        let end = self.parts.end().saturating_add(2);
-        self.part(end, ("rta_type", ""), Notation::AttrType(context), false)
-    }
-
-    /// The message type in the header that an error answers, which begins at this place.
-    fn answered(&self, place: usize) -> u16 {
-        match self.bytes.get(place.saturating_add(4)..) {
-            Some(rest) if rest.len() >= 2 => self.order.read_u16(rest),
-            _ => 0,
-        }
-    }
-
-    /// A body of this form, up to its end; of a family's its head.
-    fn body(&mut self, form: Form, len: u32) -> Result<(), AllocError> {
-        let start = self.parts.end();
-        let end = start.saturating_add(len as usize);
-        match form {
-            Form::Object(family) => self.fields(head_of(family)),
-            Form::Error => {
-                self.fields(&NLMSGERR)?;
-                self.header(self.answered(start.saturating_add(4)))?;
-                self.blank(end, "tail")
+        Form::Done => {
+            if event.len >= 4 {
+                push_fields(pieces, Depth::Body, &STATUS)?;
             }
-            Form::Done => {
-                if len >= 4 {
-                    self.fields(&STATUS)?;
-                }
-                self.blank(end, "tail")
-            }
-            Form::Get => {
-                self.fields(&RTGENMSG)?;
-                self.blank(end, "tail")
-            }
-            Form::Noop | Form::Overrun | Form::Other => self.blank(end, "payload"),
+            push_rest(pieces, event, "tail")
         }
-    }
-
-    /// A message's header, and its body but for its attributes.
-    fn message(&mut self, event: &Event) -> Result<(), AllocError> {
-        self.set_context(0, context_inside(*event, Ctx::Plain));
-        self.depth = HEADER;
-        self.header(event.number)?;
-        self.depth = BODY;
-        self.body(Form::of(event.number), event.len)
-    }
-
-    /// An attribute's head, and its payload where it holds bytes.
-    fn attr(&mut self, event: &Event) -> Result<(), AllocError> {
-        let context = self.context(event.level);
-        self.set_context(event.level as usize + 1, context_inside(*event, context));
-        self.depth = at_level(event.level);
-        self.attr_head(context)?;
-        if event.sort != SORT_BYTES {
-            return Ok(());
+        Form::Get => {
+            push_fields(pieces, Depth::Body, &RTGENMSG)?;
+            push_rest(pieces, event, "tail")
         }
-        let end = self.parts.end().saturating_add(event.len as usize);
-        let name = attribute_name(context, event.number).unwrap_or(("payload", ""));
-        let (_, style) = attribute(context, event.number);
-        self.part(end, name, Notation::Payload(style, event.net), false)
+        Form::Noop | Form::Overrun | Form::Other => push_rest(pieces, event, "payload"),
     }
+}
 
-    /// A next hop's head.
-    fn hop(&mut self, event: &Event) -> Result<(), AllocError> {
-        self.set_context(event.level as usize + 1, context_inside(*event, Ctx::Route));
-        self.depth = at_level(event.level);
-        self.fields(&RTNEXTHOP)
-    }
+/// A message's header, and its body but for its attributes.
+#[tactic(auto, using(crate::proofs::Sets::joins))]
+fn push_message(
+    pieces: &mut Vec<Piece>,
+    order: Order,
+    bytes: &[u8],
+    event: &Event,
+) -> Result<(), AllocError>
+    ensures { OnOk result (marks_in pieces.new.items
+        ≡ marks_in pieces.old.items ++ marks.message order bytes.now event.now) }
+{
+    push_header(pieces, Depth::Header, event.number)?;
+    push_body(pieces, order, bytes, event, Form::of(event.number))
+}
 
-    /// The parts of the heads before this place.
-    pub(super) fn events(&mut self, events: &[Event], stop: usize) -> Result<(), AllocError> {
-        for event in events {
-            // The head that breaks a rule has an event where its length is sound.
-            if event.place as usize >= stop {
-                break;
-            }
-            self.padding(event.place as usize)?;
-            match event.sort {
-                SORT_MESSAGE => self.message(event)?,
-                SORT_NEXT_HOP => self.hop(event)?,
-                _ => self.attr(event)?,
-            }
-        }
-        self.padding(stop)
-    }
+/// The payload of an attribute of this context.
+fn push_payload(pieces: &mut Vec<Piece>, context: Ctx, event: &Event) -> Result<(), AllocError>
+    ensures { OnOk result (marks_in pieces.new.items
+        ≡ marks_in pieces.old.items ++ marks.payload context event.now ∷ []) }
+{
+    let extent = Extent::Bytes(event.len as usize);
+    let name = attribute_name(context, event.number).unwrap_or(("payload", ""));
+    let (_, style) = attribute(context, event.number);
+    let notation = Notation::Payload(style, event.net);
+    push_named(pieces, Depth::Level(event.level), extent, name, notation)
+}
 
-    /// The parts of a head that breaks a rule.
-    fn broken(&mut self, head: BrokenHead) -> Result<(), AllocError> {
-        self.depth = match head.kind {
-            HeadKind::Message => HEADER,
-            HeadKind::Attribute | HeadKind::NextHop => at_level(head.level),
-        };
-        let end = self.parts.end().saturating_add(head.left as usize);
-        match (head.kind, head.len) {
-            (HeadKind::Message, Some(_)) => self.header(head.number.unwrap_or(0)),
-            (HeadKind::Message, None) => self.blank(end, "nlmsghdr"),
-            (HeadKind::Attribute, Some(_)) => self.attr_head(self.context(head.level)),
-            (HeadKind::Attribute, None) => self.blank(end, "rtattr"),
-            (HeadKind::NextHop, Some(_)) => self.fields(&RTNEXTHOP),
-            (HeadKind::NextHop, None) => self.blank(end, "rtnexthop"),
-        }
+/// An attribute's head, and its payload where it holds bytes.
+#[tactic(auto, using(crate::proofs::Sets::joins))]
+fn push_attr(pieces: &mut Vec<Piece>, context: Ctx, event: &Event) -> Result<(), AllocError>
+    ensures { OnOk result (marks_in pieces.new.items
+        ≡ marks_in pieces.old.items ++ marks.attribute context event.now) }
+{
+    push_fields(pieces, Depth::Level(event.level), &rtattr(context))?;
+    match event.sort {
+        SORT_BYTES => push_payload(pieces, context, event),
+        _ => Ok(()),
     }
+}
 
-    /// The parts from this place on, where the datagram is refused, in place of those before it.
-    pub(super) fn refused(
-        &mut self,
-        alloc: Global,
-        error: ScanError,
-        place: usize,
-    ) -> Result<(), AllocError> {
-        self.parts = Parts::new(alloc, place);
-        match error {
-            ScanError::TooLarge => Ok(()),
-            ScanError::Layout(head) => self.broken(head),
-        }
+/// A next hop's head.
+#[tactic(auto, unfolding(crate::specs::Structs::rtnexthop))]
+fn push_hop(pieces: &mut Vec<Piece>, depth: Depth) -> Result<(), AllocError>
+    ensures { OnOk result
+        (marks_in pieces.new.items ≡ marks_in pieces.old.items ++ fields depth rtnexthop) }
+{
+    push_fields(pieces, depth, &RTNEXTHOP)
+}
+
+/// A head, which stands itself in this context, with what stands in it but for further heads.
+fn push_head(
+    pieces: &mut Vec<Piece>,
+    order: Order,
+    bytes: &[u8],
+    context: Ctx,
+    event: &Event,
+) -> Result<(), AllocError>
+    ensures { OnOk result (marks_in pieces.new.items
+        ≡ marks_in pieces.old.items ++ head_marks order bytes.now context event.now) }
+{
+    match event.sort {
+        SORT_MESSAGE => push_message(pieces, order, bytes, event),
+        SORT_NEXT_HOP => push_hop(pieces, Depth::Level(event.level)),
+        _ => push_attr(pieces, context, event),
     }
+}
+
+/// The level of what stands in a head.
+fn level_inside(event: &Event) -> usize
+    ensures { result ≡ marks.level_inside event.now }
+{
+    match event.sort {
+        SORT_MESSAGE => 0,
+        _ => event.level as usize + 1,
+    }
+}
+
+/// How deep that lies, and the padding behind it.
+fn depth_inside(event: &Event) -> Depth
+    ensures { result ≡ marks.depth_inside event.now }
+{
+    match event.sort {
+        SORT_MESSAGE => Depth::Body,
+        _ => Depth::Level(event.level),
+    }
+}
+
+/// The context of the attributes of a level.
+fn context_at(contexts: &[Ctx], level: u8) -> Ctx
+    ensures { result ≡ marks.context_at contexts.now level }
+{
+    contexts.get(level as usize).copied().unwrap_or(Ctx::Plain)
+}
+
+/// Goes into a head, which stands itself in this context.
+fn enter(contexts: &mut Vec<Ctx>, context: Ctx, event: &Event) -> Result<(), AllocError>
+    ensures { OnOk result (contexts.new.items
+        ≡ take (marks.level_inside event.now) contexts.old.items
+        ++ context_in event.now context ∷ []) }
+{
+    contexts.truncate(level_inside(event));
+    contexts.push(context_inside(*event, context))?;
+    Ok(())
+}
+
+/// What stands in a datagram with these events.
+pub(super) fn view_events(
+    alloc: Global,
+    order: Order,
+    bytes: &[u8],
+    events: &[Event],
+) -> Result<View, AllocError>
+    ensures pieces { IfOk result
+        (λ v. marks_in v.pieces.items ≡ marks_of order bytes.now events.now) }
+    ensures contexts { IfOk result (λ v. v.contexts.items ≡ contexts_after [] events.now) }
+{
+    let mut pieces = Vec::new(alloc);
+    let mut contexts = Vec::new(alloc);
+    let mut depth = Depth::Header;
+    for event in events {
+        push_padding(&mut pieces, depth, event.place as usize)?;
+        let context = context_at(&contexts, event.level);
+        push_head(&mut pieces, order, bytes, context, event)?;
+        enter(&mut contexts, context, event)?;
+        depth = depth_inside(event);
+    }
+    push_padding(&mut pieces, depth, bytes.len())?;
+    Ok(View { pieces, contexts })
+}
+
+/// How deep a head lies that breaks a rule.
+fn broken_depth(kind: HeadKind, level: u8) -> Depth
+    ensures { result ≡ marks.broken_depth kind level }
+{
+    match kind {
+        HeadKind::Message => Depth::Header,
+        HeadKind::Attribute | HeadKind::NextHop => Depth::Level(level),
+    }
+}
+
+/// The name of one that is cut.
+fn cut_name(kind: HeadKind) -> &'static str
+    ensures { result.now ≡ marks.cut_name kind }
+{
+    match kind {
+        HeadKind::Message => "nlmsghdr",
+        HeadKind::Attribute => "rtattr",
+        HeadKind::NextHop => "rtnexthop",
+    }
+}
+
+/// What stands in a head that breaks a rule, where the heads are open that have these contexts.
+fn push_broken(
+    pieces: &mut Vec<Piece>,
+    contexts: &[Ctx],
+    head: BrokenHead,
+) -> Result<(), AllocError>
+    ensures { OnOk result (marks_in pieces.new.items
+        ≡ marks_in pieces.old.items ++ broken_by contexts.now head head.len) }
+{
+    let depth = broken_depth(head.kind, head.level);
+    if head.len.is_none() {
+        let left = Extent::Bytes(head.left as usize);
+        return push_named(
+            pieces,
+            depth,
+            left,
+            (cut_name(head.kind), ""),
+            Notation::Blank,
+        );
+    }
+    match head.kind {
+        HeadKind::Message => push_header(pieces, depth, head.number.unwrap_or(0)),
+        HeadKind::Attribute => push_fields(
+            pieces,
+            depth,
+            &rtattr(context_at(contexts, head.level)),
+        ),
+        HeadKind::NextHop => push_hop(pieces, depth),
+    }
+}
+
+/// What stands from where a datagram is refused on.
+pub(super) fn view_refused(
+    alloc: Global,
+    contexts: &[Ctx],
+    error: ScanError,
+) -> Result<Vec<Piece>, AllocError>
+    ensures { IfOk result (λ p. marks_in p.items ≡ refused_marks contexts.now error) }
+{
+    let mut pieces = Vec::new(alloc);
+    if let ScanError::Layout(head) = error {
+        push_broken(&mut pieces, contexts, head)?;
+    }
+    Ok(pieces)
 }

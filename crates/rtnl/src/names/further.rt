@@ -8,7 +8,7 @@ ghost use Rattle.rtnl.specs.Named.{named_view};
 use crate::names::named::Named;
 use nl_attr::Ctx;
 
-/// Of a link, `IFLA`.
+/// The attributes `IFLA` of a link.
 const LINK: &[Named<()>] = &[
     (7, "STATS", ()),
     (8, "COST", ()),
@@ -62,10 +62,10 @@ const LINK: &[Named<()>] = &[
     (69, "TAILROOM", ()),
 ];
 
-/// Of an address, `IFA`.
+/// The attributes `IFA` of an address.
 const ADDR: &[Named<()>] = &[(10, "TARGET_NETNSID", ()), (11, "PROTO", ())];
 
-/// Of a route, `RTA`.
+/// The attributes `RTA` of a route.
 const ROUTE: &[Named<()>] = &[
     (10, "PROTOINFO", ()),
     (13, "SESSION", ()),
@@ -78,10 +78,10 @@ const ROUTE: &[Named<()>] = &[
     (29, "DPORT", ()),
 ];
 
-/// Of a route's METRICS, `RTAX`.
+/// The attributes `RTAX` inside a route's METRICS.
 const METRICS: &[Named<()>] = &[(17, "FASTOPEN_NO_COOKIE", ())];
 
-/// Of a neighbour, `NDA`.
+/// The attributes `NDA` of a neighbour.
 const NEIGH: &[Named<()>] = &[
     (10, "LINK_NETNSID", ()),
     (11, "SRC_VNI", ()),
@@ -93,7 +93,7 @@ const NEIGH: &[Named<()>] = &[
     (17, "NDM_FLAGS_MASK", ()),
 ];
 
-/// Of a routing rule, `FRA`.
+/// The attributes `FRA` of a routing rule.
 const RULE: &[Named<()>] = &[
     (11, "FLOW", ()),
     (12, "TUN_ID", ()),

@@ -1,11 +1,9 @@
-//! Checking a recording.
+//! Runs that check a recording: as text, as lines of JSON.
 
-ghost use Rattle.std.specs.Prelude.{◌≡◌, ◌+◌, ◌++◌, Ok, OnOk, IfOk};
-ghost use Rattle.rtnl.specs.Runs as fixed;
-ghost use Rattle.rtnl.specs.Checked.{Checks, ChecksInput, ChecksInputJson};
+ghost use Rattle.std.specs.Prelude.{◌≡◌, ◌++◌, Ok, OnOk};
+ghost use Rattle.rtnl.specs.Checked.{Checks};
 ghost use Rattle.rtnl.specs.Checked.{ChecksJson, finding_text};
 ghost use Rattle.rtnl.specs.Runs.{Runs};
-ghost use Rattle.rtnl.specs.Streams.{ConsumesAtMost};
 
 use crate::error::{RunError, Verdict};
 use crate::json_lines;
@@ -33,7 +31,7 @@ fn push_accepted(out: &mut Vec<u8>, canonical: bool) -> Result<(), AllocError>
     )
 }
 
-/// To check datagrams under these limits.
+/// The text of what a check under these limits finds of datagrams.
 #[derive(Clone, Copy)]
 struct Check {
     limits: Limits,
@@ -71,7 +69,7 @@ impl PerDatagram for Check {
     }
 }
 
-/// To check datagrams, and say so in lines of JSON.
+/// What a check under these limits finds of datagrams, as lines of JSON.
 #[derive(Clone, Copy)]
 struct CheckJson {
     limits: Limits,
@@ -127,14 +125,9 @@ pub fn run_check<S: Source, W: Sink>(
 ) -> Result<Verdict, RunError>
     // What was written is what a check says of the datagrams of what was read, and the verdict is
     // theirs.
-    ensures checked { IfOk result
-        (ChecksInput limits.now (S.remaining source.old) (S.remaining source.new)
-        (W.contents sink.old) (W.contents sink.new)) }
     ensures runs { Runs S.remaining S.is_ended S.failure_count
         W.contents W.is_stalled W.stall_count W.failure_count
         (Checks limits.now) source.old source.new sink.old sink.new result }
-    ensures bounded { ConsumesAtMost (fixed.LONGEST_INPUT + 1)
-        (S.remaining source.old) (S.remaining source.new) }
 {
     run_each(alloc, source, sink, &Check { limits: *limits })
 }
@@ -151,14 +144,9 @@ pub fn run_check_json<S: Source, W: Sink>(
     limits: &Limits,
 ) -> Result<Verdict, RunError>
     // What was written is the objects of the datagrams of what was read, and the verdict is theirs.
-    ensures checked { IfOk result
-        (ChecksInputJson limits.now (S.remaining source.old) (S.remaining source.new)
-        (W.contents sink.old) (W.contents sink.new)) }
     ensures runs { Runs S.remaining S.is_ended S.failure_count
         W.contents W.is_stalled W.stall_count W.failure_count
         (ChecksJson limits.now) source.old source.new sink.old sink.new result }
-    ensures bounded { ConsumesAtMost (fixed.LONGEST_INPUT + 1)
-        (S.remaining source.old) (S.remaining source.new) }
 {
     run_each(alloc, source, sink, &CheckJson { limits: *limits })
 }

@@ -1,4 +1,4 @@
-//! Following a recording, of any length, as it comes.
+//! Runs that follow a recording of any length: each datagram is printed as it comes.
 
 ghost use Rattle.rtnl.specs.ByteRows.{Views, is_accepted, viewed_text};
 ghost use Rattle.rtnl.specs.Followed.{FollowsAll, alone, never};

@@ -1,4 +1,4 @@
-//! Following a dump of any length: its items are told of as they come, and how it ended.
+//! Runs that follow a dump of any length: its items are printed as they come, then how it ended.
 
 ghost use Rattle.std.specs.Prelude.{◌≡◌, ◌<◌, ◌+◌, ◌^◌, ◌++◌, false, length, map, OnOk};
 ghost use Rattle.nl_frame.specs.View.{message_view};
@@ -87,7 +87,7 @@ fn push_items<F: ReportFormat>(
     Ok(())
 }
 
-/// To tell of the datagrams that answer a dump, numbers in this order.
+/// The printing of the datagrams that answer a dump, whose numbers are in this order.
 #[derive(Clone, Copy)]
 struct TellDump<F> {
     order: Order,

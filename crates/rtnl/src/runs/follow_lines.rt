@@ -1,4 +1,4 @@
-//! Follows a recording: what each line says is printed as it ends.
+//! The loop that follows a recording: what a line says is printed as the line ends.
 
 ghost use Rattle.std.specs.Prelude.{◌≡◌, ◌≤◌, List, [], Some, ℕ, Option, length, OnOk};
 ghost use Rattle.rtnl.specs.Followed.{Follows, FollowsAll, FollowsPiece, GoesOn, IsCounted};

@@ -1,4 +1,4 @@
-//! What is counted of a recording that is followed, and what hears of its bad lines.
+//! The counts of a recording that is followed, and the listener to its bad lines.
 
 ghost use Rattle.std.specs.Prelude.{◌≡◌, ◌↔◌, ◌∷◌, [], List, Option, Some, false};
 ghost use Rattle.std.specs.Option.{option_copied};
@@ -23,7 +23,7 @@ pub struct Followed {
     pub bad_lines: u64,
 }
 
-/// What hears of the bad lines of a recording that is followed.
+/// A listener to the bad lines of a recording that is followed.
 pub trait OnBadLine {
     ghost use Rattle.std.specs.Prelude.{◌≡◌, ◌↔◌, ◌∷◌, [], List, Option, false};
     ghost use Rattle.std.specs.Option.{option_copied};

@@ -1,4 +1,4 @@
-//! Keeping a mirror by the lines of a recording of any length.
+//! Runs that keep a mirror by the lines of a recording of any length.
 
 ghost use Rattle.std.specs.Prelude.{◌≡◌, ◌++◌, IfOk, OnOk, Result, not, true};
 ghost use Rattle.nl_mirror.specs.Five.{Began};
@@ -181,7 +181,7 @@ fn take_step<F: MirrorFormat>(
     }
 }
 
-/// To tell of a mirror that lines keep.
+/// The printing of a mirror that lines keep.
 #[derive(Clone, Copy)]
 struct TellMirror<F> {
     settings: MirrorSettings,

@@ -1,4 +1,4 @@
-//! How is told of a mirror.
+//! The forms of a mirror's report: text and JSON.
 
 use crate::json_lines::heads::ItemField;
 use crate::json_lines::mirror as fields;

@@ -1,4 +1,4 @@
-//! What is set of a mirror that a recording keeps, and what is kept of it.
+//! The settings of a mirror that a recording keeps, and its state from line to line.
 
 use nl_dump::{Kind, Seed};
 use nl_frame::Limits;

@@ -1,4 +1,4 @@
-//! What is told of the tables of a mirror.
+//! The report of a mirror's tables.
 
 ghost use Rattle.std.specs.Prelude.{◌≡◌, ◌+◌, ◌++◌, List, OnOk, map};
 ghost use Rattle.nl_frame.specs.View.{message_view};

@@ -1,4 +1,4 @@
-//! What is kept of a dump that is followed.
+//! The state of a dump that is followed.
 
 ghost use Rattle.std.specs.Prelude.{◌≤◌};
 

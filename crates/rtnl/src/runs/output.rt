@@ -1,4 +1,4 @@
-//! What is printed of a recording that is being read.
+//! The text of a recording that is being read.
 
 ghost use Rattle.std.specs.Prelude.{◌≤◌};
 

@@ -1,8 +1,8 @@
-//! What is said of each datagram of a recording by itself.
+//! Commands that print each datagram of a recording by itself.
 
 use std::alloc::{AllocError, Global};
 
-/// What is found of a datagram, and its text.
+/// A command that prints each datagram by itself: what it finds of one, and the text of that.
 pub(crate) trait PerDatagram {
     ghost use Rattle.std.specs.Prelude.{◌≡◌, ◌++◌, ℕ, List, Bool, IfOk};
 

@@ -1,4 +1,4 @@
-//! What is told of each line of a recording that is followed.
+//! Commands that print each line of a recording that is followed.
 
 ghost use Rattle.rtnl.specs.Lines.{Reads, line_at};
 ghost use Rattle.std.specs.Prelude.{[]};
@@ -20,7 +20,7 @@ pub(crate) struct Told {
     pub(crate) goes_on: bool,
 }
 
-/// What is told of the lines of a recording that is followed, one after another.
+/// A command that prints the lines of a recording that is followed, one after another.
 pub(crate) trait PerLine {
     ghost use Rattle.std.specs.Prelude.{◌≡◌, ℕ, List, Bool, Option, Result, false};
     ghost use Rattle.rtnl.specs.Followed.{TellsSo};

@@ -1,4 +1,4 @@
-//! Prints what is found of datagrams while their recording is read.
+//! The printing of datagrams while their recording is read.
 
 ghost use Rattle.std.specs.Prelude.{◌≡◌, ◌<◌, ◌+◌, ◌++◌, ◌∷◌, [], ℕ, List, length};
 ghost use Rattle.std.specs.Prelude.{None, OnOk, IfOk, IfErr};

@@ -1,10 +1,8 @@
 //! A run over a recording: its source to the end, its lines, what a command says of their
 //! datagrams, and the sink.
 
-ghost use Rattle.std.specs.Prelude.{◌+◌, IfOk};
-ghost use Rattle.rtnl.specs.Runs as fixed;
-ghost use Rattle.rtnl.specs.Streams.{ConsumesAtMost};
-ghost use Rattle.rtnl.specs.Runs.{OfInput, Runs};
+ghost use Rattle.std.specs.Prelude.{IfOk};
+ghost use Rattle.rtnl.specs.Runs.{Runs};
 
 use crate::error::{RunError, Verdict};
 use crate::recordings::lines::read_datagrams;
@@ -13,7 +11,7 @@ use crate::streams::sink::{Sink, give_all};
 use crate::streams::source::{Source, read_input};
 use std::alloc::{AllocError, Global};
 
-/// What is said of the datagrams of a recording.
+/// A command over the datagrams of a recording: their text, and the verdict on them.
 pub(crate) trait Command {
     ghost use Rattle.std.specs.Prelude.{ℕ, List, IfOk};
     ghost use Rattle.rtnl.specs.declared.error.Verdict.{Verdict};
@@ -38,14 +36,9 @@ pub(crate) fn run<S: Source, W: Sink, C: Command>(
     sink: &mut W,
     command: &C,
 ) -> Result<Verdict, RunError>
-    ensures said { IfOk result
-        (OfInput (C.says command.now) (S.remaining source.old) (S.remaining source.new)
-        (W.contents sink.old) (W.contents sink.new)) }
-    ensures runs { Runs S.remaining S.is_ended S.failure_count
+    ensures { Runs S.remaining S.is_ended S.failure_count
         W.contents W.is_stalled W.stall_count W.failure_count
         (C.says command.now) source.old source.new sink.old sink.new result }
-    ensures bounded { ConsumesAtMost (fixed.LONGEST_INPUT + 1)
-        (S.remaining source.old) (S.remaining source.new) }
 {
     let input = read_input(alloc, source)?;
     let datagrams = read_datagrams(alloc, input.as_slice())?;

@@ -1,10 +1,10 @@
-//! A run over a recording of which nothing is kept but what is said of its datagrams.
+//! A run that prints each datagram of a recording by itself, and keeps nothing but that text.
 
 ghost use Rattle.std.specs.Prelude.{◌≡◌, ◌+◌, ◌⊎◌, ℕ, List, Err, OnOk, IfOk, IfErr};
 ghost use Rattle.std.specs.Io.KnownBytes.{Consumes};
 ghost use Rattle.rtnl.specs.Runs as fixed;
 ghost use Rattle.rtnl.specs.Lines.{datagrams};
-ghost use Rattle.rtnl.specs.Runs.{OfInput, Prints, Runs};
+ghost use Rattle.rtnl.specs.Runs.{Prints, Runs};
 ghost use Rattle.rtnl.specs.Said.{IsSaid};
 ghost use Rattle.rtnl.specs.Streams.{ConsumesAtMost, ConsumesMoreThan, IsRead, one_more};
 
@@ -68,16 +68,10 @@ pub(crate) fn run_each<S: Source, W: Sink, E: PerDatagram>(
     sink: &mut W,
     each: &E,
 ) -> Result<Verdict, RunError>
-    ensures said { IfOk result
-        (OfInput (Prints (E.finds each.now) (E.text each.now) E.takes)
-        (S.remaining source.old) (S.remaining source.new)
-        (W.contents sink.old) (W.contents sink.new)) }
-    ensures runs { Runs S.remaining S.is_ended S.failure_count
+    ensures { Runs S.remaining S.is_ended S.failure_count
         W.contents W.is_stalled W.stall_count W.failure_count
         (Prints (E.finds each.now) (E.text each.now) E.takes)
         source.old source.new sink.old sink.new result }
-    ensures bounded { ConsumesAtMost (fixed.LONGEST_INPUT + 1)
-        (S.remaining source.old) (S.remaining source.new) }
 {
     let Output {
         bad_line,

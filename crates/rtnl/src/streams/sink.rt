@@ -1,4 +1,4 @@
-//! Where bytes go.
+//! Sinks of bytes.
 
 ghost use Rattle.std.specs.Prelude.{◌≡◌, ◌≢◌, ℕ, ◌≤◌, ◌↔◌, List, [], length, Option};
 ghost use Rattle.std.specs.Prelude.{Some, OnOk, OnErr, IfOk, IfErr, IsTrue};
@@ -12,7 +12,7 @@ use crate::streams::calls::{Broken, moves_none};
 use std::alloc::Global;
 use std::io::{self, ErrorKind, Write};
 
-/// Where bytes go.
+/// A sink of bytes.
 pub trait Sink {
     /// The bytes that it took so far, where it says them.
     ghost contents: { Self → Option (List ℕ) };

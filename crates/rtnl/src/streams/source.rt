@@ -1,4 +1,4 @@
-//! Where bytes come from.
+//! Sources of bytes.
 
 ghost use Rattle.std.specs.Prelude.{◌≡◌, ◌≢◌, ℕ, ◌+◌, ◌≤◌, ◌↔◌, ◌⊎◌, List, length};
 ghost use Rattle.std.specs.Prelude.{Option, Some, OnOk, OnErr, IfOk, IfErr, IsTrue};
@@ -13,7 +13,7 @@ use crate::streams::sink::Sink;
 use std::alloc::Global;
 use std::io::{self, ErrorKind, Read};
 
-/// Where bytes come from.
+/// A source of bytes.
 pub trait Source {
     /// The bytes that it still has to give, where it says them.
     ghost remaining: { Self → Option (List ℕ) };
@@ -39,8 +39,8 @@ pub trait Source {
             (failure_count self.new ≡ one_more (failure_count self.old)) };
 }
 
-/// Where the bytes of a recording come from that is followed into a sink. At each read it may look
-/// at what the sink has taken so far.
+/// The source of a recording that is followed into a sink. At each read it may look at what the
+/// sink has taken so far.
 pub trait LiveSource<W: Sink>: Source {
     ghost use Rattle.std.specs.Prelude.{◌≡◌, ◌≤◌, ◌↔◌, List, Option, length};
     ghost use Rattle.std.specs.Prelude.{OnOk, OnErr, IfOk};

@@ -1,4 +1,4 @@
-//! The request of an address.
+//! `rtnlc_request_addr`: the request of an address.
 
 ghost use Rattle.std.specs.Prelude.{◌≡◌};
 ghost use Rattle.nl_request.specs.Addr.{addr_message};
@@ -9,9 +9,8 @@ use crate::put::Put;
 use crate::requests::{MISMATCH, operation, put_alone, some};
 use nl_request::{AddrRequest, Asked, Lifetimes};
 
-/// A request of an address of an interface, as C has it: `struct rtnlc_addr_request` of
-/// include/rtnlc.h. Bytes that are empty are none, and a number `x` beside a `has_x` is there
-/// where that is true.
+/// The fields of a request, as C hands them in: `struct rtnlc_addr_request` of include/rtnlc.h.
+/// Empty bytes mean that a field isn't set, as does a `has_x` that is false for its `x`.
 #[repr(C)]
 #[derive(Clone, Copy)]
 pub struct AddrFields<'a> {
@@ -30,7 +29,7 @@ pub struct AddrFields<'a> {
 }
 
 impl<'a> AddrFields<'a> {
-    /// The request that they are.
+    /// The request with these fields.
     fn request(&self) -> AddrRequest<'a>
         ensures { result ≡ addr_in self.now }
     {

@@ -1,4 +1,4 @@
-//! The request of a link.
+//! `rtnlc_request_link`: the request of a link.
 
 ghost use Rattle.std.specs.Prelude.{◌≡◌};
 ghost use Rattle.nl_request.specs.Link.{link_message};
@@ -9,8 +9,8 @@ use crate::put::Put;
 use crate::requests::{MISMATCH, operation, put_alone, some};
 use nl_request::{Asked, LinkInfo, LinkRequest};
 
-/// A request of a link, as C has it: `struct rtnlc_link_request` of include/rtnlc.h. Bytes that
-/// are empty are none, and a number `x` beside a `has_x` is there where that is true.
+/// The fields of a request, as C hands them in: `struct rtnlc_link_request` of include/rtnlc.h.
+/// Empty bytes mean that a field isn't set, as does a `has_x` that is false for its `x`.
 #[repr(C)]
 #[derive(Clone, Copy)]
 pub struct LinkFields<'a> {
@@ -30,7 +30,7 @@ pub struct LinkFields<'a> {
 }
 
 impl<'a> LinkFields<'a> {
-    /// The request that they are.
+    /// The request with these fields.
     fn request(&self) -> LinkRequest<'a>
         ensures { result ≡ link_in self.now }
     {

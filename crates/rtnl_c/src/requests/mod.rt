@@ -1,4 +1,4 @@
-//! The requests that change something, each a call that takes no memory.
+//! `rtnlc_request_link` and the others: requests that change something. They take no memory.
 
 ghost use Rattle.std.specs.Prelude.{◌≡◌};
 ghost use Rattle.rtnl_c.specs.Asked.{IsAlone, PutsAlone, bytes_in, operation_in, prefix_in};
@@ -12,13 +12,13 @@ mod rule;
 
 use crate::options::order;
 use crate::put::Put;
-use nl_frame::{BuilderParts, Limits, PutMessage};
+use nl_frame::{Builder, Limits, PutMessage};
 use nl_request::{Operation, Prefix};
 
 /// The code where no operation has the number, that of `BuildError::Mismatch`.
 const MISMATCH: u8 = 11;
 
-/// What a number asks for, where it asks for something.
+/// The operation of a number of `enum rtnlc_operation`. `None` where there is no such number.
 fn operation(number: u8) -> Option<Operation>
     ensures { result ≡ operation_in number }
 {
@@ -58,10 +58,13 @@ fn put_alone<M: PutMessage>(message: &M, big: bool, out: &mut [u8]) -> Put
     ensures alone { IsAlone (M.message message.now (order_in big)) (order_in big) out.new result }
 {
     let limits = Limits::standard().with_order(order(big));
-    let mut parts = BuilderParts::new(&limits);
-    let _ = message.put_over(&mut parts, out);
-    match parts.finish() {
-        Ok(len) => Put { len, code: 0 },
+    let mut builder = Builder::new(&limits);
+    let _ = message.put(&mut builder, out);
+    match builder.finish(out) {
+        Ok(bytes) => Put {
+            len: bytes.len(),
+            code: 0,
+        },
         Err(refusal) => Put::none(refusal.code()),
     }
 }

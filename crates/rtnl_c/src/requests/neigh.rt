@@ -1,4 +1,4 @@
-//! The request of a neighbour.
+//! `rtnlc_request_neigh`: the request of a neighbour.
 
 ghost use Rattle.std.specs.Prelude.{◌≡◌};
 ghost use Rattle.nl_request.specs.Neigh.{neigh_message};
@@ -9,8 +9,8 @@ use crate::put::Put;
 use crate::requests::{MISMATCH, operation, put_alone, some};
 use nl_request::{Asked, NeighRequest};
 
-/// A request of a neighbour, as C has it: `struct rtnlc_neigh_request` of include/rtnlc.h. Bytes
-/// that are empty are none, and a number `x` beside a `has_x` is there where that is true.
+/// The fields of a request, as C hands them in: `struct rtnlc_neigh_request` of include/rtnlc.h.
+/// Empty bytes mean that a field isn't set, as does a `has_x` that is false for its `x`.
 #[repr(C)]
 #[derive(Clone, Copy)]
 pub struct NeighFields<'a> {
@@ -25,7 +25,7 @@ pub struct NeighFields<'a> {
 }
 
 impl<'a> NeighFields<'a> {
-    /// The request that they are.
+    /// The request with these fields.
     fn request(&self) -> NeighRequest<'a>
         ensures { result ≡ neigh_in self.now }
     {

@@ -1,4 +1,4 @@
-//! The request of a route.
+//! `rtnlc_request_route`: the request of a route.
 
 ghost use Rattle.std.specs.Prelude.{◌≡◌};
 ghost use Rattle.nl_request.specs.Route.{route_message};
@@ -9,8 +9,8 @@ use crate::put::Put;
 use crate::requests::{MISMATCH, operation, prefix, put_alone, some};
 use nl_request::{Asked, Metric, NextHop, RouteRequest};
 
-/// A request of a route, as C has it: `struct rtnlc_route_request` of include/rtnlc.h. Bytes that
-/// are empty are none, and a number `x` beside a `has_x` is there where that is true.
+/// The fields of a request, as C hands them in: `struct rtnlc_route_request` of include/rtnlc.h.
+/// Empty bytes mean that a field isn't set, as does a `has_x` that is false for its `x`.
 #[repr(C)]
 #[derive(Clone, Copy)]
 pub struct RouteFields<'a> {
@@ -36,7 +36,7 @@ pub struct RouteFields<'a> {
 }
 
 impl<'a> RouteFields<'a> {
-    /// The request that they are.
+    /// The request with these fields.
     fn request(&self) -> RouteRequest<'a>
         ensures { result ≡ route_in self.now }
     {

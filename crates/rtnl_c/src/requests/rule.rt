@@ -1,4 +1,4 @@
-//! The request of a rule.
+//! `rtnlc_request_rule`: the request of a rule.
 
 ghost use Rattle.std.specs.Prelude.{◌≡◌};
 ghost use Rattle.nl_request.specs.Rule.{rule_message};
@@ -9,8 +9,8 @@ use crate::put::Put;
 use crate::requests::{MISMATCH, operation, prefix, put_alone, some};
 use nl_request::{Asked, RuleRequest};
 
-/// A request of a rule, as C has it: `struct rtnlc_rule_request` of include/rtnlc.h. Bytes that
-/// are empty are none, and a number `x` beside a `has_x` is there where that is true.
+/// The fields of a request, as C hands them in: `struct rtnlc_rule_request` of include/rtnlc.h.
+/// Empty bytes mean that a field isn't set, as does a `has_x` that is false for its `x`.
 #[repr(C)]
 #[derive(Clone, Copy)]
 pub struct RuleFields<'a> {
@@ -38,7 +38,7 @@ pub struct RuleFields<'a> {
 }
 
 impl<'a> RuleFields<'a> {
-    /// The request that they are.
+    /// The request with these fields.
     fn request(&self) -> RuleRequest<'a>
         ensures { result ≡ rule_in self.now }
     {

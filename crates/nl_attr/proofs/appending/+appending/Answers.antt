@@ -1,11 +1,4 @@
-use Rattle.std.proofs.Common.{◌≡◌, ◌+◌, ◌-◌, [], ◌∷◌, ◌++◌, length, drop, arith, ap, refl, ◌∙◌, List, ℕ, append_assoc, vec_len}
-use Rattle.std.specs.Int.{w32, cast_unsigned}
-use Rattle.nl_attr.specs.declared.tree.Attr.{Attr}
-use Rattle.nl_attr.specs.declared.tree.Hop.{out-Hop}
-use Rattle.nl_attr.specs.Numbers.{num}
-use Rattle.nl_attr.specs.Layout.{kind_number}
-use Rattle.nl_attr.specs.View.{attrs_view, hops_view, value_view}
-use Rattle.nl_attr.specs.Written.{with_padding, attr_item, hop_item, written, written_val, written_hops, val_len, items_len}
+use Rattle.nl_attr.proofs.Common.{◌≡◌, ◌+◌, ◌-◌, [], ◌∷◌, ◌++◌, length, drop, arith, ap, refl, ◌∙◌, List, ℕ, append_assoc, vec_len, w32, cast_unsigned, Attr, out-Hop, num, kind_number, attrs_view, hops_view, value_view, with_padding, attr_item, hop_item, written, written_val, written_hops, val_len, items_len}
 use Rattle.nl_attr.proofs.Lemmas.Lengths.{length-val, length-items, length-padded_attr, length-padded_hop, item_closed, grown}
 use Rattle.nl_attr.proofs.Lemmas.Opened.{next_attr, next_hop}
 use Rattle.nl_attr.proofs.appending.+appending.Goals as goal

@@ -1,7 +1,4 @@
-use Rattle.std.proofs.Common.{◌≡◌, ◌≤◌, ◌+◌, ◌++◌, drop, vec_len, vec_capacity}
-use Rattle.nl_attr.specs.View.{attrs_view, hops_view}
-use Rattle.nl_attr.specs.Written.{written, written_hops, items_len, hops_len}
-use Rattle.nl_attr.specs.Proper.{IsSized, IsSizedHops, IsRanged, IsRangedHops}
+use Rattle.nl_attr.proofs.Common.{◌≡◌, ◌≤◌, ◌+◌, ◌++◌, drop, vec_len, vec_capacity, attrs_view, hops_view, written, written_hops, items_len, hops_len, IsSized, IsSizedHops, IsRanged, IsRangedHops}
 use Rattle.nl_attr.proofs.appending.+appending.Given as goal
 
 abbrev pub invariant-append_list-loop-attr : goal.invariant-append_list-loop-attr

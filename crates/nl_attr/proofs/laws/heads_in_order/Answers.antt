@@ -1,10 +1,4 @@
-use Rattle.std.proofs.Common.{inl, inr, ℕ, Option, Some, None, arith}
-use Rattle.std.proofs.Math.Nat.{eq-or-lt_of_le}
-use Rattle.nl_attr.specs.declared.fault.Reason.{Reason}
-use Rattle.nl_attr.specs.Shape.{Shape}
-use Rattle.nl_attr.specs.Grammar.{UpTo}
-use Rattle.nl_attr.specs.Heads.{Head, HeadAt, IsSound, heads}
-use Rattle.nl_attr.specs.HeadOrder.{ComesBefore, IsEnd, trail_of}
+use Rattle.nl_attr.proofs.Common.{inl, inr, ℕ, Option, Some, None, arith, eq-or-lt_of_le, Reason, Shape, UpTo, Head, HeadAt, IsSound, heads, ComesBefore, IsEnd, trail_of}
 use Rattle.nl_attr.proofs.Lemmas.Grammars.{all, counts_before, each, end_is, in_order}
 use Rattle.nl_attr.proofs.Lemmas.Scan.{laws}
 use Rattle.nl_attr.proofs.laws.heads_in_order.Goals as goal

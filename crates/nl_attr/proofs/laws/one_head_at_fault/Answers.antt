@@ -1,6 +1,4 @@
-use Rattle.std.proofs.Common.{refl}
-use Rattle.nl_attr.specs.Broken.{facts_of}
-use Rattle.nl_attr.specs.Heads.{heads}
+use Rattle.nl_attr.proofs.Common.{refl, facts_of, heads}
 use Rattle.nl_attr.proofs.Lemmas.Grammars.{one_broken}
 use Rattle.nl_attr.proofs.Lemmas.Scan.{laws}
 use Rattle.nl_attr.proofs.laws.one_head_at_fault.Goals as goal

@@ -1,8 +1,4 @@
-use Rattle.std.proofs.Common.{◌+◌, drop, List, sym, ap, ◌∙◌, arith, Some}
-use Rattle.nl_attr.specs.declared.tree.Attr.{Attr}
-use Rattle.nl_attr.specs.declared.tree.Hop.{Hop}
-use Rattle.nl_attr.specs.View.{attrs_view, hops_view}
-use Rattle.nl_attr.specs.Measured.{extent_of, extent_of_hops, join}
+use Rattle.nl_attr.proofs.Common.{◌+◌, drop, List, sym, ap, ◌∙◌, arith, Some, Attr, Hop, attrs_view, hops_view, extent_of, extent_of_hops, join}
 use Rattle.nl_attr.proofs.Lemmas.Extents.{list_within, hops_within, join_empty, join_last, joined_on, joined_within, from_place, past_end}
 use Rattle.nl_attr.proofs.measuring.+measuring.Goals as goal
 

@@ -1,6 +1,4 @@
-use Rattle.std.proofs.Common.{◌≡◌, drop, Some}
-use Rattle.nl_attr.specs.View.{attrs_view, hops_view}
-use Rattle.nl_attr.specs.Measured.{extent_of, extent_of_hops, join}
+use Rattle.nl_attr.proofs.Common.{◌≡◌, drop, Some, attrs_view, hops_view, extent_of, extent_of_hops, join}
 use Rattle.nl_attr.proofs.Lemmas.Extents.{IsWithin}
 use Rattle.nl_attr.proofs.measuring.+measuring.Given as goal
 

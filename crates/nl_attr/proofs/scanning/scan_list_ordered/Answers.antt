@@ -1,5 +1,4 @@
-use Rattle.std.proofs.Common.{arith}
-use Rattle.nl_attr.specs.Shape.{shape_of}
+use Rattle.nl_attr.proofs.Common.{arith, shape_of}
 use Rattle.nl_attr.proofs.Lemmas.Scanned.{scans_so, fits_of, first_of, none_of, visits_of_scan}
 use Rattle.nl_attr.proofs.scanning.scan_list_ordered.Goals as goal
 

@@ -1,5 +1,4 @@
-use Rattle.std.proofs.Common.{ap, ◌∙◌}
-use Rattle.nl_attr.specs.Open.{opening_rest, hops_go_on, list_spot}
+use Rattle.nl_attr.proofs.Common.{ap, ◌∙◌, opening_rest, hops_go_on, list_spot}
 use Rattle.nl_attr.proofs.Lemmas.Filling.{opens_list, opens_hops, opens_in_hops, fills_list, fills_hops, opens_next}
 use Rattle.nl_attr.proofs.stack.read_on.Goals.{in-Attrs+in_ok-inner-in-Attrs+in-Ends+in_ok-keep_attr-in-Ends, in-Hops+in_ok-hops-in-Hops+in-Ends-read_hops+in_ok-keep_attr-in-Ends-read_hops}
 use Rattle.nl_attr.proofs.stack.read_on.Goals as goal

@@ -1,5 +1,4 @@
-use Rattle.std.proofs.Common.{length}
-use Rattle.nl_attr.specs.Open.{opening_rest}
+use Rattle.nl_attr.proofs.Common.{length, opening_rest}
 use Rattle.nl_attr.proofs.Lemmas.Filling.{IsOpened}
 use Rattle.nl_attr.proofs.stack.read_on.Given as goal
 

@@ -1,8 +1,4 @@
-use Rattle.std.proofs.Common.{◌≡◌, ◌≤◌, ◌+◌, ◌-◌, ◌*◌, length, arith, rules, ap}
-use Rattle.nl_attr.specs.View.{attrs_view}
-use Rattle.nl_attr.specs.Reading.{Outcome, items_of_region}
-use Rattle.nl_attr.specs.Tree.{Items}
-use Rattle.nl_attr.specs.Open.{list_rest, opening_rest, region_at}
+use Rattle.nl_attr.proofs.Common.{◌≡◌, ◌≤◌, ◌+◌, ◌-◌, ◌*◌, length, arith, rules, ap, attrs_view, Outcome, items_of_region, Items, list_rest, opening_rest, region_at}
 use Rattle.nl_attr.proofs.Lemmas.First.{read_bound}
 use Rattle.nl_attr.proofs.Lemmas.Nested.{most_fit, fails_within, same_visits, done_visits}
 use Rattle.nl_attr.proofs.stack.read_ordered.Goals.{In_ok-list}

@@ -1,6 +1,4 @@
-use Rattle.std.proofs.Common.{arith}
-use Rattle.nl_attr.specs.Shape.{shape_of}
-use Rattle.nl_attr.specs.Taped.{found}
+use Rattle.nl_attr.proofs.Common.{arith, shape_of, found}
 use Rattle.nl_attr.proofs.Lemmas.Taping.{taped_bound, taped_few, taped_quarter, taped_untouched}
 use Rattle.nl_attr.proofs.taping.tape_attrs_in.Goals as goal
 

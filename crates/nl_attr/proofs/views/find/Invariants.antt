@@ -1,5 +1,4 @@
-use Rattle.std.proofs.Common.{◌≡◌, drop}
-use Rattle.nl_attr.specs.View.{attrs_view}
+use Rattle.nl_attr.proofs.Common.{◌≡◌, drop, attrs_view}
 use Rattle.nl_attr.specs.Views.{first_of}
 use Rattle.nl_attr.proofs.views.find.Given as goal
 

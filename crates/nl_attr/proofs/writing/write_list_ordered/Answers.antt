@@ -1,8 +1,4 @@
-use Rattle.std.proofs.Common.{◌≡◌, ◌++◌, rules, subst, sym, ◌∙◌}
-use Rattle.nl_attr.specs.Shape.{shape_of}
-use Rattle.nl_attr.specs.View.{attrs_view}
-use Rattle.nl_attr.specs.Proper.{IsMismatched, IsDeep, IsLong, IsProper, IsRefused}
-use Rattle.nl_attr.specs.Written.{written}
+use Rattle.nl_attr.proofs.Common.{◌≡◌, ◌++◌, rules, subst, sym, ◌∙◌, shape_of, attrs_view, IsMismatched, IsDeep, IsLong, IsProper, IsRefused, written}
 use Rattle.nl_attr.proofs.Lemmas.Writes.{Judges, judged, writes}
 use Rattle.nl_attr.proofs.Lemmas.Writing.{written_fits}
 use Rattle.nl_attr.proofs.writing.write_list_ordered.Goals as goal

@@ -1,12 +1,5 @@
-use Rattle.std.proofs.Common.{◌≡◌, ◌+◌, ◌-◌, [], ◌∷◌, ◌++◌, List, ℕ, ap, sym, ◌∙◌, arith, append_assoc, vec_len}
+use Rattle.nl_frame.proofs.Common.{◌≡◌, ◌+◌, ◌-◌, [], ◌∷◌, ◌++◌, List, ℕ, ap, sym, ◌∙◌, arith, append_assoc, vec_len, number, body_view, body_len, body_written, num, with_padding, item_closed, length-num}
 use Rattle.nl_route.specs.Fields as fields
-use Rattle.nl_route.specs.Fields.{number}
-use Rattle.nl_frame.specs.View.{body_view}
-use Rattle.nl_frame.specs.Written.{body_len, body_written}
-use Rattle.nl_attr.specs.Numbers.{num}
-use Rattle.nl_attr.specs.Written.{with_padding}
-use Rattle.nl_attr.proofs.Lemmas.Lengths.{item_closed}
-use Rattle.nl_attr.proofs.Lemmas.Numbers.{length-num}
 use Rattle.nl_frame.proofs.appending.append_message.Goals as goal
 
 pub returns-clause-items : goal.returns-clause-items

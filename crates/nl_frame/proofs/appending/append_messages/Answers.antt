@@ -1,8 +1,5 @@
-use Rattle.std.proofs.Common.{◌≡◌, ◌+◌, ◌∷◌, ◌++◌, List, ℕ, drop, map, ap, ◌∙◌, arith, append_assoc}
-use Rattle.nl_attr.specs.Written.{with_padding}
+use Rattle.nl_frame.proofs.Common.{◌≡◌, ◌+◌, ◌∷◌, ◌++◌, List, ℕ, drop, map, ap, ◌∙◌, arith, append_assoc, with_padding, message_view, message_item, written}
 use Rattle.nl_attr.proofs.Lemmas.Extents.{from_place}
-use Rattle.nl_frame.specs.View.{message_view}
-use Rattle.nl_frame.specs.Written.{message_item, written}
 use Rattle.nl_frame.proofs.appending.append_messages.Goals as goal
 use Rattle.nl_frame.proofs.appending.append_messages.Goals.{After-message-item}
 

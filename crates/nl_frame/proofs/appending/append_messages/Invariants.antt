@@ -1,9 +1,4 @@
-use Rattle.std.proofs.Common.{◌≡◌, ◌≤◌, ◌+◌, ◌++◌, drop, map, vec_len, vec_capacity}
-use Rattle.nl_attr.specs.Fixed.{LONGEST_REGION}
-use Rattle.nl_frame.specs.View.{message_view}
-use Rattle.nl_frame.specs.Written.{written, written_len}
-use Rattle.nl_frame.specs.Proper.{IsRanged}
-use Rattle.nl_frame.specs.Measured.{IsSized}
+use Rattle.nl_frame.proofs.Common.{◌≡◌, ◌≤◌, ◌+◌, ◌++◌, drop, map, vec_len, vec_capacity, LONGEST_REGION, message_view, written, written_len, IsRanged, IsSized}
 use Rattle.nl_frame.proofs.appending.append_messages.Given as goal
 
 abbrev pub invariant-loop-message : goal.invariant-loop-message

@@ -1,5 +1,4 @@
-use Rattle.std.proofs.Common.{◌∙◌, refl, sym, ap}
-use Rattle.nl_frame.specs.Form.{form_of}
+use Rattle.nl_frame.proofs.Common.{◌∙◌, refl, sym, ap, form_of}
 use Rattle.nl_frame.proofs.Fronts.{front_short, frame_of}
 use Rattle.nl_frame.proofs.front.front_of.Goals as goal
 

@@ -1,7 +1,5 @@
-use Rattle.std.proofs.Common.{List, drop, map, ap, subst, refl, inl, ◌+◌}
+use Rattle.nl_frame.proofs.Common.{List, drop, map, ap, subst, refl, inl, ◌+◌, MessageVal, message_view}
 use Rattle.nl_attr.proofs.Lemmas.Extents.{from_place, past_end}
-use Rattle.nl_frame.specs.Message.{MessageVal}
-use Rattle.nl_frame.specs.View.{message_view}
 use Rattle.nl_frame.proofs.Extents.{IsMeasuring, begun, measured_on, whole_deep, whole_len}
 use Rattle.nl_frame.proofs.measuring.measure_messages.Goals as goal
 

@@ -1,5 +1,4 @@
-use Rattle.std.proofs.Common.{drop, map}
-use Rattle.nl_frame.specs.View.{message_view}
+use Rattle.nl_frame.proofs.Common.{drop, map, message_view}
 use Rattle.nl_frame.proofs.Extents.{IsMeasuring}
 use Rattle.nl_frame.proofs.measuring.measure_messages.Given as goal
 

@@ -1,11 +1,6 @@
-use Rattle.std.proofs.Common.{◌≡◌, ◌+◌, ◌++◌, ◌∷◌, [], map, arith, subst, ap, ◌∙◌}
-use Rattle.std.proofs.lemmas.List.{map_push}
+use Rattle.nl_frame.proofs.Common.{◌≡◌, ◌+◌, ◌++◌, ◌∷◌, [], map, arith, subst, ap, ◌∙◌, map_push, map_value, IsOutcome, message_of, body_at, message_view}
 use Rattle.std.specs.Global.{Vec}
-use Rattle.nl_attr.specs.Reading.{map_value}
-use Rattle.nl_attr.specs.Outcomes.{IsOutcome}
 use Rattle.nl_frame.specs.declared.body.Message.{Message}
-use Rattle.nl_frame.specs.Reading.{message_of, body_at}
-use Rattle.nl_frame.specs.View.{message_view}
 use Rattle.nl_frame.proofs.Fronts.{sum_small, sum_whole}
 use Rattle.nl_frame.proofs.Steps.{body_fails, nothing_left, head_breaks, next}
 use Rattle.nl_frame.proofs.reading.read_messages.Goals as goal

@@ -1,5 +1,4 @@
-use Rattle.std.proofs.Common.{length, map}
-use Rattle.nl_frame.specs.View.{message_view}
+use Rattle.nl_frame.proofs.Common.{length, map, message_view}
 use Rattle.nl_frame.proofs.Steps.{IsReading}
 use Rattle.nl_frame.proofs.reading.read_messages.Given as goal
 

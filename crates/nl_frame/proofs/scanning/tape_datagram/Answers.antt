@@ -1,5 +1,4 @@
-use Rattle.std.proofs.Common.{arith}
-use Rattle.nl_frame.specs.Heads.{whole}
+use Rattle.nl_frame.proofs.Common.{arith, whole}
 use Rattle.nl_frame.proofs.Scan.{few_events}
 use Rattle.nl_frame.proofs.Outcomes.{says_so, count_of, head_is, scans}
 use Rattle.nl_frame.proofs.scanning.tape_datagram.Goals as goal

@@ -1,12 +1,4 @@
-use Rattle.std.proofs.Common.{[], ℕ, List, sym, subst, ◌∙◌}
-use Rattle.nl_attr.specs.Shape.{Shape, shape_of}
-use Rattle.nl_attr.specs.declared.events.Event.{Event}
-use Rattle.nl_attr.specs.declared.order.Order.{Order}
-use Rattle.nl_attr.specs.declared.taping.Taped.{Taped}
-use Rattle.nl_attr.proofs.Lemmas.Putting.{put_nowhere}
-use Rattle.nl_frame.specs.Heads.{whole}
-use Rattle.nl_frame.specs.HeadOrder.{trail_of}
-use Rattle.nl_frame.specs.Taped.{IsTaped}
+use Rattle.nl_frame.proofs.Common.{[], ℕ, List, sym, subst, ◌∙◌, Shape, shape_of, Event, Order, Taped, put_nowhere, whole, trail_of, IsTaped}
 use Rattle.nl_frame.proofs.taping.scan_messages.Goals as goal
 
 -- a buffer of no events is one afterwards

@@ -1,8 +1,4 @@
-use Rattle.std.proofs.Common.{◌≡◌, ◌+◌, length, sym, ap, subst, ◌∙◌, arith, ℕ}
-use Rattle.std.proofs.lemmas.List.{length-set}
-use Rattle.nl_attr.specs.declared.events.Event.{Event}
-use Rattle.nl_attr.specs.Taped.{HasRoom}
-use Rattle.nl_attr.proofs.Lemmas.Putting.{room_on}
+use Rattle.nl_frame.proofs.Common.{◌≡◌, ◌+◌, length, sym, ap, subst, ◌∙◌, arith, ℕ, length-set, Event, HasRoom, room_on}
 use Rattle.nl_frame.proofs.taping.tape_frame.Goals as goal
 
 pub put_in-requires : goal.put_in-requires

@@ -1,5 +1,4 @@
-use Rattle.std.proofs.Common.{◌+◌, length, arith}
-use Rattle.nl_attr.proofs.Lemmas.Putting.{room_on}
+use Rattle.nl_frame.proofs.Common.{◌+◌, length, arith, room_on}
 use Rattle.nl_frame.proofs.taping.tape_front.Goals as goal
 
 pub tape_frame-counts-requires-clause-room : goal.tape_frame-counts-requires-clause-room

@@ -1,12 +1,7 @@
-use Rattle.std.proofs.Common.{◌≡◌, ℕ, ◌*◌, ◌+◌, ◌-◌, ◌≤◌, take, drop, length, subst, arith}
-use Rattle.nl_attr.specs.Shape.{shape_of}
-use Rattle.nl_attr.specs.Heads.{Head}
+use Rattle.nl_frame.proofs.Common.{◌≡◌, ℕ, ◌*◌, ◌+◌, ◌-◌, ◌≤◌, take, drop, length, subst, arith, shape_of, Head, room_on, context_of, head_size}
 use Rattle.nl_attr.specs.Taped.{IsTaped, found}
-use Rattle.nl_attr.proofs.Lemmas.Comparing.{length-from}
 use Rattle.nl_attr.proofs.Lemmas.Fronts.{rest_so}
-use Rattle.nl_attr.proofs.Lemmas.Putting.{room_on}
-use Rattle.nl_route.specs.Families.{context_of, head_size}
-use Rattle.nl_frame.proofs.Fronts.{whole_bound}
+use Rattle.nl_frame.proofs.Fronts.{length-from, whole_bound}
 use Rattle.nl_frame.proofs.Tapes.{region_taped}
 use Rattle.nl_frame.proofs.taping.tape_object.Goals as goal
 

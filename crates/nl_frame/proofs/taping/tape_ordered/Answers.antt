@@ -1,11 +1,5 @@
-use Rattle.std.proofs.Common.{◌≡◌, ℕ, List, Some, length, refl, sym, ap, subst, ◌∙◌, arith}
-use Rattle.nl_attr.specs.declared.events.Event.{Event}
-use Rattle.nl_attr.specs.Shape.{shape_of}
+use Rattle.nl_frame.proofs.Common.{◌≡◌, ℕ, List, Some, length, refl, sym, ap, subst, ◌∙◌, arith, Event, shape_of, put_length, room_on, whole, trail_of, IsTaped}
 use Rattle.nl_attr.specs.Taped.{HasRoom, found}
-use Rattle.nl_attr.proofs.Lemmas.Putting.{put_length, room_on}
-use Rattle.nl_frame.specs.Heads.{whole}
-use Rattle.nl_frame.specs.HeadOrder.{trail_of}
-use Rattle.nl_frame.specs.Taped.{IsTaped}
 use Rattle.nl_frame.proofs.Fronts.{here_whole, sum_small, sum_whole}
 use Rattle.nl_frame.proofs.Steps.{empty, not_empty}
 use Rattle.nl_frame.proofs.Tapes.{begins, tells_none, tells_broken, tells_fault, header_breaks, inner_breaks, goes_on}

@@ -1,5 +1,4 @@
-use Rattle.std.proofs.Common.{◌≡◌, ◌≤◌, ◌*◌, length, None}
-use Rattle.nl_attr.specs.Shape.{shape_of}
+use Rattle.nl_frame.proofs.Common.{◌≡◌, ◌≤◌, ◌*◌, length, None, shape_of}
 use Rattle.nl_frame.proofs.Tapes.{IsTaping}
 use Rattle.nl_frame.proofs.taping.tape_ordered.Given as goal
 

@@ -1,9 +1,5 @@
-use Rattle.std.proofs.Common.{◌≡◌, map, rules, subst, sym, ◌∙◌}
+use Rattle.nl_frame.proofs.Common.{◌≡◌, map, rules, subst, sym, ◌∙◌, message_view, Layout, written, IsMismatched, IsDeep, IsLong, IsProper, IsFirstRefusal}
 use Rattle.nl_attr.proofs.Lemmas.Writes.{Judges, judged}
-use Rattle.nl_frame.specs.View.{message_view}
-use Rattle.nl_frame.specs.Layout.{Layout}
-use Rattle.nl_frame.specs.Written.{written}
-use Rattle.nl_frame.specs.Proper.{IsMismatched, IsDeep, IsLong, IsProper, IsFirstRefusal}
 use Rattle.nl_frame.proofs.Extents.{lens_are_long}
 use Rattle.nl_frame.proofs.WrittenLayouts.{written_has_layout}
 use Rattle.nl_frame.proofs.writing.write_datagram.Goals as goal

@@ -1,5 +1,4 @@
-use Rattle.std.proofs.Common.{refl}
-use Rattle.nl_mirror.specs.Told.{key_by, mirror_key}
+use Rattle.nl_mirror.proofs.Common.{refl, key_by, mirror_key}
 use Rattle.nl_mirror.proofs.Lifting.{moves_seen}
 use Rattle.nl_mirror.proofs.laws.moves_are_seen.Goals as goal
 

@@ -1,8 +1,4 @@
-use Rattle.std.proofs.Common.{◌≡◌, ◌∙◌, ap, bytes_eq, length, subst}
-use Rattle.std.specs.List.{position_or_len}
-use Rattle.std.specs.Map.{keys_of, lookup}
-use Rattle.nl_mirror.specs.Effects.{of_now}
-use Rattle.nl_mirror.specs.Told.{mirror_key}
+use Rattle.nl_mirror.proofs.Common.{◌≡◌, ◌∙◌, ap, bytes_eq, length, subst, position_or_len, keys_of, lookup, of_now, mirror_key}
 use Rattle.nl_mirror.proofs.Effects.{exchange_is}
 use Rattle.nl_mirror.proofs.telling.put_now.Goals as goal
 

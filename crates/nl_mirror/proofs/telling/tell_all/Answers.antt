@@ -1,5 +1,4 @@
-use Rattle.std.proofs.Common.{◌≡◌, ◌∷◌, [], ◌++◌, ap, sym, ◌∙◌, append_assoc}
-use Rattle.nl_mirror.specs.Told.{key_by}
+use Rattle.nl_mirror.proofs.Common.{◌≡◌, ◌∷◌, [], ◌++◌, ap, sym, ◌∙◌, append_assoc, key_by}
 use Rattle.nl_mirror.proofs.OneMore.{same_more, told_more}
 use Rattle.nl_mirror.proofs.telling.tell_all.Goals as goal
 

@@ -1,7 +1,4 @@
-use Rattle.std.proofs.Common.{◌≡◌, ◌++◌, List}
-use Rattle.nl_mirror.specs.declared.change.Change.{Change}
-use Rattle.nl_mirror.specs.Changes.{held_of, tell_all, SameLimits}
-use Rattle.nl_mirror.specs.Told.{key_by}
+use Rattle.nl_mirror.proofs.Common.{◌≡◌, ◌++◌, List, Change, held_of, tell_all, SameLimits, key_by}
 use Rattle.nl_mirror.proofs.telling.tell_all.Given as goal
 
 abbrev pub invariant-loop-change : goal.invariant-loop-change

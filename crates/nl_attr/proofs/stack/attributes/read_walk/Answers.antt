@@ -1,8 +1,4 @@
-use Rattle.std.proofs.Common.{◌≡◌, ◌+◌, map, arith, Some, Err, subst, sym, ◌∙◌}
-use Rattle.nl_attr.specs.declared.order.Order.{Order}
-use Rattle.nl_attr.specs.Walk.{GivesPart, broken_length}
-use Rattle.nl_attr.specs.View.{attr_view}
-use Rattle.nl_attr.specs.Open.{before, region_at}
+use Rattle.nl_attr.proofs.Common.{◌≡◌, ◌+◌, map, arith, Some, Err, subst, sym, ◌∙◌, Order, GivesPart, broken_length, attr_view, before, region_at}
 use Rattle.nl_attr.proofs.Lemmas.Loop.{list_done, list_cut}
 use Rattle.nl_attr.proofs.Lemmas.Going.{stays_within}
 use Rattle.nl_attr.proofs.Lemmas.Turned.{part_size, leaf_goes, leaf_fails, turn_follows}

@@ -1,5 +1,4 @@
-use Rattle.std.proofs.Common.{length}
-use Rattle.nl_attr.specs.Open.{list_rest, list_spot, region_at}
+use Rattle.nl_attr.proofs.Common.{length, list_rest, list_spot, region_at}
 use Rattle.nl_attr.proofs.Lemmas.Going.{IsGoing}
 use Rattle.nl_attr.proofs.stack.attributes.read_walk.Given as goal
 

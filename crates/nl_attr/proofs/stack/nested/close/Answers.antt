@@ -1,8 +1,4 @@
-use Rattle.std.proofs.Common.{subst, refl, sym}
-use Rattle.nl_attr.specs.Reading.{Outcome}
-use Rattle.nl_attr.specs.Tree.{HopItems}
-use Rattle.nl_attr.specs.View.{attrs_view}
-use Rattle.nl_attr.specs.Open.{hops_then, NextGoes}
+use Rattle.nl_attr.proofs.Common.{subst, refl, sym, Outcome, HopItems, attrs_view, hops_then, NextGoes}
 use Rattle.nl_attr.proofs.Lemmas.Opens.{hop_kept}
 use Rattle.nl_attr.proofs.stack.nested.close.Goals as goal
 

@@ -1,10 +1,5 @@
-use Rattle.std.proofs.Common.{◌≡◌, ◌+◌, suc, List, [], ◌∷◌, ◌++◌, length, arith, rules, ap, subst, length-append}
-use Rattle.std.specs.Option.{option_to_list}
-use Rattle.std.specs.Global.{Vec}
-use Rattle.nl_attr.specs.declared.tree.Attr.{Attr}
+use Rattle.nl_attr.proofs.Common.{◌≡◌, ◌+◌, suc, List, [], ◌∷◌, ◌++◌, length, arith, rules, ap, subst, length-append, option_to_list, Vec, Attr, attrs_view, opening_rest, list_spot, PutsOn}
 use Rattle.nl_attr.specs.declared.stack.nested.Outer.{Outer}
-use Rattle.nl_attr.specs.View.{attrs_view}
-use Rattle.nl_attr.specs.Open.{opening_rest, list_spot, PutsOn}
 use Rattle.nl_attr.proofs.Lemmas.Nested.{within, has_room, is_low, puts, between_room, fails_outcome, fails_on, fails_visits, opens, ends, ends_all, still, nested_begins, next_moves_work, work_closes, work_opens}
 use Rattle.nl_attr.proofs.stack.nested.read_nested.Goals as goal
 

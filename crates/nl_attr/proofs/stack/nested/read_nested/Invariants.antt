@@ -1,5 +1,4 @@
-use Rattle.nl_attr.specs.Reading.{and_then, more_visits}
-use Rattle.nl_attr.specs.Open.{goes_on, opening_rest, outer_spot}
+use Rattle.nl_attr.proofs.Common.{and_then, more_visits, goes_on, opening_rest, outer_spot}
 use Rattle.nl_attr.proofs.Lemmas.Nested.{IsReading, room_of, work}
 use Rattle.nl_attr.proofs.stack.nested.read_nested.Given as goal
 

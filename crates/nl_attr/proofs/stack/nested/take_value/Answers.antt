@@ -1,7 +1,4 @@
-use Rattle.std.proofs.Common.{map}
-use Rattle.nl_attr.specs.Tree.{item}
-use Rattle.nl_attr.specs.View.{attr_view, value_view}
-use Rattle.nl_attr.specs.Open.{items_left}
+use Rattle.nl_attr.proofs.Common.{map, item, attr_view, value_view, items_left}
 use Rattle.nl_attr.proofs.Lemmas.Loop.{collected}
 use Rattle.nl_attr.proofs.stack.nested.take_value.Goals as goal
 

@@ -1,10 +1,5 @@
 use Rattle.std.proofs.Common.{◌≡◌, ◌+◌, map, arith, rules, Some, Err, subst, refl, w32, to_z, of_z}
-use Rattle.std.proofs.lemmas.Int.{to_z-of_z}
-use Rattle.nl_attr.specs.declared.order.Order.{Order}
-use Rattle.nl_attr.specs.declared.walk.hops.HopPart.{HopPart}
-use Rattle.nl_attr.specs.Walk.{GivesHop, broken_length, span_given}
-use Rattle.nl_attr.specs.View.{hop_view}
-use Rattle.nl_attr.specs.Open.{before}
+use Rattle.nl_attr.proofs.Common.{to_z-of_z, Order, HopPart, GivesHop, broken_length, span_given, hop_view, before}
 use Rattle.nl_attr.proofs.Lemmas.Loop.{hop_turns, counted, hops_done, hops_are_cut}
 use Rattle.nl_attr.proofs.Lemmas.Going.{hop_visits}
 use Rattle.nl_attr.proofs.Lemmas.Opens.{hop_opens, hop_moves}

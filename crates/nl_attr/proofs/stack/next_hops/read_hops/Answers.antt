@@ -1,7 +1,4 @@
-use Rattle.std.proofs.Common.{◌∙◌, arith, refl, ap}
-use Rattle.nl_attr.specs.View.{attrs_view}
-use Rattle.nl_attr.specs.Reading.{more_visits}
-use Rattle.nl_attr.specs.Open.{list_rest, hops_rest, hops_go_on, hops_spot}
+use Rattle.nl_attr.proofs.Common.{◌∙◌, arith, refl, ap, attrs_view, more_visits, list_rest, hops_rest, hops_go_on, hops_spot}
 use Rattle.nl_attr.proofs.Lemmas.Going.{goes_on_to}
 use Rattle.nl_attr.proofs.Lemmas.Nested.{then_done}
 use Rattle.nl_attr.proofs.Lemmas.Opens.{hop_kept}

@@ -1,5 +1,4 @@
-use Rattle.std.proofs.Common.{length}
-use Rattle.nl_attr.specs.Open.{hops_rest, hops_spot}
+use Rattle.nl_attr.proofs.Common.{length, hops_rest, hops_spot}
 use Rattle.nl_attr.proofs.Lemmas.Going.{IsGoing}
 use Rattle.nl_attr.proofs.stack.next_hops.read_hops.Given as goal
 

@@ -1,6 +1,4 @@
-use Rattle.std.proofs.Common.{◌≡◌, ℕ, ◌∷◌, [], ◌++◌, List, map, subst, sym, arith}
-use Rattle.nl_attr.specs.Tree.{bytes, item}
-use Rattle.nl_attr.specs.View.{attr_view}
+use Rattle.nl_attr.proofs.Common.{◌≡◌, ℕ, ◌∷◌, [], ◌++◌, List, map, subst, sym, arith, bytes, item, attr_view}
 use Rattle.nl_attr.proofs.Lemmas.Elements.{so_many_elements}
 use Rattle.nl_attr.proofs.stack.regions.keep_bytes.Goals as goal
 

@@ -1,6 +1,4 @@
-use Rattle.std.proofs.Common.{◌≡◌, ℕ, length, refl, ap, ◌∙◌}
-use Rattle.nl_attr.specs.Numbers.{kind_of, span_of}
-use Rattle.nl_attr.specs.Walk.{flags_of}
+use Rattle.nl_attr.proofs.Common.{◌≡◌, ℕ, length, refl, ap, ◌∙◌, kind_of, span_of, flags_of}
 use Rattle.nl_attr.proofs.Lemmas.Fronts.{bytes_event_so, rest_so}
 use Rattle.nl_attr.proofs.Lemmas.Reading.{payload_is}
 use Rattle.nl_attr.proofs.taping.fronts.attr_front.Goals as goal

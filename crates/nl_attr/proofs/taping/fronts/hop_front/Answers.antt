@@ -1,5 +1,4 @@
-use Rattle.std.proofs.Common.{◌≡◌, ℕ, length, refl, ap, ◌∙◌}
-use Rattle.nl_attr.specs.Numbers.{span_of}
+use Rattle.nl_attr.proofs.Common.{◌≡◌, ℕ, length, refl, ap, ◌∙◌, span_of}
 use Rattle.nl_attr.proofs.Lemmas.Fronts.{hop_event_so, hop_attrs_so, hop_rest_so}
 use Rattle.nl_attr.proofs.Lemmas.Reading.{payload_is}
 use Rattle.nl_attr.proofs.taping.fronts.hop_front.Goals as goal

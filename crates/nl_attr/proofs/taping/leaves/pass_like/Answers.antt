@@ -1,14 +1,7 @@
 use Rattle.std.proofs.Common.{◌≡◌, ◌+◌, ◌-◌, ◌*◌, ◌/◌, ◌%◌, ◌≤◌, ◌<◌, false, drop, take, length, slice_set, refl, sym, ap, subst, ◌∙◌, arith, ℕ, length-drop, length-take}
 use Rattle.std.proofs.lemmas.List.{length-set, nil_from_length}
-use Rattle.nl_attr.specs.declared.events.Event.{Event}
-use Rattle.nl_attr.specs.declared.tree.Content.{Content}
+use Rattle.nl_attr.proofs.Common.{Event, Content, NUMBERS, kind_of, len_of, flags_of, payload_of, broken_container, inner_in, start_of, content_at, HasRoom, IsEmptyList, head_with, event_of}
 use Rattle.nl_attr.specs.declared.tree.Content.TheVariants as content
-use Rattle.nl_attr.specs.Fixed.{NUMBERS}
-use Rattle.nl_attr.specs.Numbers.{kind_of, len_of}
-use Rattle.nl_attr.specs.Walk.{flags_of, payload_of}
-use Rattle.nl_attr.specs.Heads.{broken_container, inner_in, start_of, content_at}
-use Rattle.nl_attr.specs.Taped.{HasRoom, IsEmptyList, head_with}
-use Rattle.nl_attr.specs.HeadOrder.{event_of}
 use Rattle.nl_attr.proofs.Lemmas.Fronts.{attr_goes, attr_inner, content_so, left_so, list_event, list_fits, no_flags, plain_event}
 use Rattle.nl_attr.proofs.Lemmas.Leaves.{begins, goes, next_at, room_now, some_left, sound_within, within}
 use Rattle.nl_attr.proofs.Lemmas.Putting.{put_one}

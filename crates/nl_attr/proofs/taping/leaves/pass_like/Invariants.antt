@@ -1,6 +1,4 @@
-use Rattle.std.proofs.Common.{◌≡◌, ◌≤◌, ◌+◌, ◌-◌, ◌%◌, drop, length}
-use Rattle.nl_attr.specs.Heads.{start_of}
-use Rattle.nl_attr.specs.Taped.{IsPassing}
+use Rattle.nl_attr.proofs.Common.{◌≡◌, ◌≤◌, ◌+◌, ◌-◌, ◌%◌, drop, length, start_of, IsPassing}
 use Rattle.nl_attr.proofs.taping.leaves.pass_like.Given as goal
 
 abbrev pub invariant-leaves : goal.invariant-leaves

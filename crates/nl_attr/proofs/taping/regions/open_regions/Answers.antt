@@ -1,7 +1,4 @@
-use Rattle.std.proofs.Common.{◌≡◌, ◌<◌, [], length, None, refl, sym, subst, arith}
-use Rattle.nl_attr.specs.Heads.{Head}
-use Rattle.nl_attr.specs.Region.{head_of}
-use Rattle.nl_attr.specs.Shape.{shape_of}
+use Rattle.nl_attr.proofs.Common.{◌≡◌, ◌<◌, [], length, None, refl, sym, subst, arith, Head, head_of, shape_of}
 use Rattle.nl_attr.proofs.Lemmas.Fronts.{attrs_head}
 use Rattle.nl_attr.proofs.Lemmas.Taping.{IsTaping, begins, begun, level_here, may_scan, none_in, room_here, scanned_small, skips, small, step_ends, step_fails, step_goes, step_goes_less, step_inside, step_less, step_scan_fails, step_scanned, step_size}
 use Rattle.nl_attr.proofs.taping.regions.open_regions.Given.{Over}

@@ -1,6 +1,4 @@
-use Rattle.std.proofs.Common.{◌≡◌, [], length, None}
-use Rattle.nl_attr.specs.Region.{head_of}
-use Rattle.nl_attr.specs.Shape.{shape_of}
+use Rattle.nl_attr.proofs.Common.{◌≡◌, [], length, None, head_of, shape_of}
 use Rattle.nl_attr.proofs.Lemmas.Taping.{IsTaping}
 use Rattle.nl_attr.proofs.taping.regions.open_regions.Given as goal
 

@@ -1,6 +1,4 @@
-use Rattle.std.proofs.Common.{◌≡◌, ◌<◌, [], length, None, refl, arith}
-use Rattle.nl_attr.specs.Region.{head_of}
-use Rattle.nl_attr.specs.Shape.{shape_of}
+use Rattle.nl_attr.proofs.Common.{◌≡◌, ◌<◌, [], length, None, refl, arith, head_of, shape_of}
 use Rattle.nl_attr.proofs.Lemmas.Taping.{IsTaping, begins, level_here, may_scan, none_in, scanned_small, small, step_ends, step_fails, step_goes, step_goes_less, step_inside, step_less, step_scan_fails, step_scanned, step_size}
 use Rattle.nl_attr.proofs.taping.regions.tape_hops.Given.{Over}
 use Rattle.nl_attr.proofs.taping.regions.tape_hops.Goals as goal

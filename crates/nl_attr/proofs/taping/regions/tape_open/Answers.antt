@@ -1,7 +1,4 @@
-use Rattle.std.proofs.Common.{◌≡◌, ◌<◌, ◌+◌, ◌++◌, [], ◌∷◌, length, map, ap, subst, arith, ◌∙◌}
-use Rattle.std.specs.Option.{option_to_list}
-use Rattle.std.proofs.lemmas.List.{map_push}
-use Rattle.nl_attr.specs.Region.{head_of}
+use Rattle.nl_attr.proofs.Common.{◌≡◌, ◌<◌, ◌+◌, ◌++◌, [], ◌∷◌, length, map, ap, subst, arith, ◌∙◌, option_to_list, map_push, head_of}
 use Rattle.nl_attr.proofs.Lemmas.Taping.{IsTaping, begins, level_here, room_here, skips, small, step_ends, step_pops, step_size, step_fails, step_goes, step_goes_less, step_opens, step_less, none_left, work, work_push}
 use Rattle.nl_attr.proofs.taping.regions.tape_open.Goals as goal
 use Rattle.nl_attr.proofs.taping.regions.tape_open.Goals.{in-Ends+in-Some, in-Goes, in-Opens}

@@ -1,5 +1,4 @@
-use Rattle.std.proofs.Common.{◌≡◌, ◌+◌, length, map, None}
-use Rattle.nl_attr.specs.Region.{head_of}
+use Rattle.nl_attr.proofs.Common.{◌≡◌, ◌+◌, length, map, None, head_of}
 use Rattle.nl_attr.proofs.Lemmas.Taping.{IsTaping, work}
 use Rattle.nl_attr.proofs.taping.regions.tape_open.Given as goal
 

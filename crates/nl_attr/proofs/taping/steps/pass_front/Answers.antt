@@ -1,5 +1,4 @@
-use Rattle.std.proofs.Common.{ap, arith}
-use Rattle.nl_attr.specs.declared.taping.Counts.{Counts}
+use Rattle.nl_attr.proofs.Common.{ap, arith, Counts}
 use Rattle.nl_attr.proofs.Lemmas.Leaves.{less, skips}
 use Rattle.nl_attr.proofs.taping.steps.pass_front.Goals as goal
 

@@ -1,10 +1,5 @@
-use Rattle.std.proofs.Common.{◌+◌, Some, refl, sym, ap, subst, ◌∙◌}
+use Rattle.nl_attr.proofs.Common.{◌+◌, Some, refl, sym, ap, subst, ◌∙◌, Event, Content, Head, broken_container, inner_in, start_of, head_of, LeadsTo}
 use Rattle.nl_attr.specs.declared.taping.steps.Lead.TheVariants as lead
-use Rattle.nl_attr.specs.declared.events.Event.{Event}
-use Rattle.nl_attr.specs.declared.tree.Content.{Content}
-use Rattle.nl_attr.specs.Heads.{Head, broken_container, inner_in, start_of}
-use Rattle.nl_attr.specs.Region.{head_of}
-use Rattle.nl_attr.specs.Taped.{LeadsTo}
 use Rattle.nl_attr.proofs.Lemmas.Fronts.{added, attr_fails, attr_goes, attr_inner, attr_unsound, attrs_head, content_so, event_so, region_inner}
 use Rattle.nl_attr.proofs.Lemmas.Taping.{empty, holds_empty, holds_none}
 use Rattle.nl_attr.proofs.taping.steps.step_attr.Goals as goal

@@ -1,8 +1,5 @@
-use Rattle.std.proofs.Common.{Some, sym, ap, subst}
+use Rattle.nl_attr.proofs.Common.{Some, sym, ap, subst, Head, head_of, LeadsTo, hops_start}
 use Rattle.nl_attr.specs.declared.taping.steps.Lead.TheVariants as lead
-use Rattle.nl_attr.specs.Heads.{Head}
-use Rattle.nl_attr.specs.Region.{head_of}
-use Rattle.nl_attr.specs.Taped.{LeadsTo, hops_start}
 use Rattle.nl_attr.proofs.Lemmas.Fronts.{added, hops_head}
 use Rattle.nl_attr.proofs.taping.steps.step_hop.Goals as goal
 

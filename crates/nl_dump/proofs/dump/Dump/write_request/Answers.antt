@@ -1,9 +1,6 @@
-use Rattle.std.proofs.Common.{arith, ap, length, ◌∙◌, sym}
-use Rattle.std.proofs.lemmas.List.{length-take-le}
-use Rattle.nl_route.specs.Fields.{written}
+use Rattle.nl_dump.proofs.Common.{arith, ap, length, ◌∙◌, sym, length-take-le, written, header_fields}
 use Rattle.nl_route.proofs.Fields.{length-written}
 use Rattle.nl_frame.specs.declared.header.Header.{Header}
-use Rattle.nl_frame.specs.Header.{header_fields}
 use Rattle.nl_dump.proofs.Requests.{request_put}
 use Rattle.nl_dump.proofs.dump.Dump.write_request.Goals as goal
 

@@ -1,9 +1,5 @@
-use Rattle.std.proofs.Common.{◌≤◌, IfOk, Err, length, sym, ◌∙◌, subst}
-use Rattle.nl_dump.specs.declared.standing.Standing.{Standing}
-use Rattle.nl_dump.specs.declared.straining.Strained.{Strained}
-use Rattle.nl_dump.specs.Inside.{Strains}
-use Rattle.nl_dump.specs.Standing.{IsPossible}
-use Rattle.nl_dump.specs.Streams.{StreamFed, refused_by}
+use Rattle.nl_dump.proofs.Common.{◌≤◌, IfOk, Err, length, sym, ◌∙◌, subst, Standing, ReadsEvents, IsPossible, StreamFed, refused_by}
+use Rattle.nl_dump.specs.declared.events.PickedEvents.{PickedEvents}
 use Rattle.nl_dump.proofs.Streaming.{admits, fed_err, possible_refused, possible_taken}
 use Rattle.nl_dump.proofs.stream.Stream.feed_step.Goals.{After-take, After-refuse}
 use Rattle.nl_dump.proofs.stream.Stream.feed_step.Goals as goal
@@ -13,9 +9,9 @@ taken : (c : After-take) → IsPossible c.take.new.self
 taken c =
     let s = c.exceeds_total.new.self in
     let d = c.args.bytes.now in
-    let t = c.strain-result in
-    let low : c.in-Ok.field-0.taken.progress.ignored ≤ length d = subst (λ r. IfOk r (λ (x : Strained). x.taken.progress.ignored ≤ length d)) c.in-Ok.is t.ensures.ignored in
-    let h = subst (λ r. Strains s.limits c.in-Waiting.dump d c.args.out.now r t.result.visits t.new.out) c.in-Ok.is t.ensures.strains in
+    let t = c.read_events-result in
+    let low : c.in-Ok.field-0.taken.progress.ignored ≤ length d = subst (λ r. IfOk r (λ (x : PickedEvents). x.taken.progress.ignored ≤ length d)) c.in-Ok.is t.ensures.ignored in
+    let h = subst (λ r. ReadsEvents s.limits c.in-Waiting.dump d c.args.out.now r t.result.visits t.new.out) c.in-Ok.is t.ensures.reads in
     let open_ = admits c.in-Waiting.dump d c.self.inside.standing s c.if-exceeds_total.ensures.1 c.in-Waiting.is c.if-exceeds_total.ensures.0 c.self.invariant in
     rw c.take.ensures (possible_taken s d c.in-Waiting.dump open_.waiting open_.total open_.possible t.result.visits t.ensures.bound c.in-Ok.field-0.taken h.1.0 low h.1.3)
 
@@ -23,7 +19,7 @@ refused : (c : After-refuse) → IsPossible c.refuse.new.self
 refused c =
     let s = c.exceeds_total.new.self in
     let d = c.args.bytes.now in
-    let t = c.strain-result in
+    let t = c.read_events-result in
     let open_ = admits c.in-Waiting.dump d c.self.inside.standing s c.if-exceeds_total.ensures.1 c.in-Waiting.is c.if-exceeds_total.ensures.0 c.self.invariant in
     rw c.refuse.ensures (possible_refused s d c.in-Waiting.dump open_.waiting open_.total open_.possible t.result.visits t.ensures.bound)
 
@@ -43,8 +39,8 @@ pub returns-else-lacks_room-clause-step : goal.returns-else-lacks_room-clause-st
 returns-else-lacks_room-clause-step c =
     let s = c.exceeds_total.new.self in
     let d = c.args.bytes.now in
-    let t = c.strain-result in
-    let h = subst (λ r. Strains s.limits c.in-Waiting.dump d c.args.out.now r t.result.visits t.new.out) c.in-Err.is t.ensures.strains in
+    let t = c.read_events-result in
+    let h = subst (λ r. ReadsEvents s.limits c.in-Waiting.dump d c.args.out.now r t.result.visits t.new.out) c.in-Err.is t.ensures.reads in
     let open_ = admits c.in-Waiting.dump d c.self.inside.standing s c.if-exceeds_total.ensures.1 c.in-Waiting.is c.if-exceeds_total.ensures.0 c.self.invariant in
     rw c.refuse.ensures
     (subst (λ (v : Standing). StreamFed v d c.args.out.now (Err c.in-Err.error) (refused_by s (length d) t.result.visits) t.new.out) (c.if-exceeds_total.ensures.1 ∙ c.self.view_is)

@@ -1,10 +1,5 @@
-use Rattle.std.proofs.Common.{◌≤◌, IfOk, Err, length, ◌∙◌, subst}
-use Rattle.nl_dump.specs.declared.picking.Picked.{Picked}
-use Rattle.nl_dump.specs.declared.standing.Standing.{Standing}
-use Rattle.nl_dump.specs.Inside.{Picks}
-use Rattle.nl_dump.specs.Reading.{StreamRead}
-use Rattle.nl_dump.specs.Standing.{IsPossible}
-use Rattle.nl_dump.specs.Streams.{refused_by}
+use Rattle.nl_dump.proofs.Common.{◌≤◌, IfOk, Err, length, ◌∙◌, subst, Standing, Picks, StreamRead, IsPossible, refused_by}
+use Rattle.nl_dump.specs.declared.items.PickedItems.{PickedItems}
 use Rattle.nl_dump.proofs.Handing.{read_err}
 use Rattle.nl_dump.proofs.Streaming.{admits, possible_refused, possible_taken}
 use Rattle.nl_dump.proofs.stream.Stream.read_step.Goals.{After-take, After-refuse}
@@ -16,7 +11,7 @@ taken c =
     let s = c.exceeds_total.new.self in
     let d = c.args.bytes.now in
     let t = c.read_items-result in
-    let low : c.in-Ok.field-0.taken.progress.ignored ≤ length d = subst (λ r. IfOk r (λ (x : Picked). x.taken.progress.ignored ≤ length d)) c.in-Ok.is t.ensures.ignored in
+    let low : c.in-Ok.field-0.taken.progress.ignored ≤ length d = subst (λ r. IfOk r (λ (x : PickedItems). x.taken.progress.ignored ≤ length d)) c.in-Ok.is t.ensures.ignored in
     let h = subst (λ r. Picks s.limits c.in-Waiting.dump d r t.result.visits) c.in-Ok.is t.ensures.picks in
     let open_ = admits c.in-Waiting.dump d c.self.inside.standing s c.if-exceeds_total.ensures.1 c.in-Waiting.is c.if-exceeds_total.ensures.0 c.self.invariant in
     rw c.take.ensures (possible_taken s d c.in-Waiting.dump open_.waiting open_.total open_.possible t.result.visits t.ensures.bound c.in-Ok.field-0.taken h.1.0 low h.1.3)

@@ -1,8 +1,5 @@
-use Rattle.std.proofs.Common.{◌≡◌, ℕ, sym, ap, ◌∙◌}
-use Rattle.nl_attr.specs.declared.order.Order.{Order}
+use Rattle.nl_dump.proofs.Common.{◌≡◌, ℕ, sym, ap, ◌∙◌, Order, Content, empty, Item, seen}
 use Rattle.nl_route.specs.declared.family.Family.TheVariants.{Link, Addr, Route, Neigh, Rule}
-use Rattle.nl_table.specs.Content.{Content, empty}
-use Rattle.nl_dump.specs.Items.{Item, seen}
 use Rattle.nl_dump.proofs.tables.Tables.new.Goals as goal
 
 -- an empty table is seen as one

@@ -1,9 +1,4 @@
-use Rattle.std.proofs.Common.{◌≡◌, ℕ, List, take, Option, None, Some, Result, Ok, Err, refl, ap, sym, subst, ◌∙◌}
-use Rattle.std.specs.Prelude.{MatchOption}
-use Rattle.nl_frame.specs.declared.building.refusal.BuildError.{BuildError}
-use Rattle.nl_frame.specs.Building.{Built, finish}
-use Rattle.nl_frame.specs.Written.{written}
-use Rattle.nl_frame.specs.OneList.{IsTheList}
+use Rattle.nl_frame.proofs.Common.{◌≡◌, ℕ, List, take, Option, None, Some, Result, Ok, Err, refl, ap, sym, subst, ◌∙◌, MatchOption, BuildError, OpenHead, BuilderTop, finish, finish_refusal, or_next, top, over, written, IsTheList}
 use Rattle.nl_frame.proofs.Ends.{finishes}
 use Rattle.nl_frame.proofs.building.Builder.finish.Goals as goal
 
@@ -14,9 +9,9 @@ is_done r n m (Some e) i h = absurd (cc)
 
 pub returns-clause-puts : goal.returns-clause-puts
 returns-clause-puts c =
-    let b = c.args.self in
-    let out = c.self.inside.out.now in
-    let done = is_done c.finish.result _ _ _ c.in_ok-len.was c.finish.ensures in
-    let none : finish b ≡ None = ap finish (sym c.self.view_is) ∙ done.0 in
-    let front : take c.in_ok-len.len out ≡ b.front = ap (λ k. take k out) done.1 ∙ ap (λ (x : Built). x.front) c.self.view_is in
-    λ d L h. subst (λ (xs : List ℕ). (xs ≡ written L.shape.order d.ended) × IsTheList L xs d.ended) (sym front) (finishes b d L none h)
+    let p = c.args.self.now in
+    let out = c.args.out.now in
+    let answers = λ (x : BuilderTop). (hs : List OpenHead) → top hs ≡ x.head → MatchOption (or_next x.refusal (finish_refusal hs)) (c.finish.result ≡ Ok x.len) (λ e. c.finish.result ≡ Err e) in
+    let done = is_done c.finish.result _ _ (finish (over p out)) c.in_ok-len.was (subst answers c.as_top.ensures.value c.finish.ensures p.heads refl) in
+    let front : take c.in_ok-len.len out ≡ take p.len out = ap (λ k. take k out) done.1 in
+    λ d L h. subst (λ (xs : List ℕ). (xs ≡ written L.shape.order d.ended) × IsTheList L xs d.ended) (sym front) (finishes (over p out) d L done.0 h)

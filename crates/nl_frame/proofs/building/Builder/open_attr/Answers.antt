@@ -1,13 +1,34 @@
-use Rattle.std.proofs.Common.{subst}
-use Rattle.std.specs.Prelude.{OnOk}
-use Rattle.nl_frame.specs.Building.{Built}
-use Rattle.nl_frame.specs.Draft.{Draft, Holds, attribute}
-use Rattle.nl_frame.specs.Draft as draft
-use Rattle.nl_frame.specs.Limits.{Bounds}
-use Rattle.nl_frame.specs.Parts.{over}
+use Rattle.nl_frame.proofs.Common.{◌≡◌, ap, sym, BuilderTop, over}
+use Rattle.nl_frame.specs.Building.{Built, open_attr, top}
+use Rattle.nl_frame.specs.Calls as calls
+use Rattle.nl_frame.proofs.Kept.{opened_accepted, opened_inside, opened_limit, opened_over, opened_refused, puts_by, where_ok}
 use Rattle.nl_frame.proofs.building.Builder.open_attr.Goals as goal
+use Rattle.nl_frame.proofs.building.Builder.open_attr.Goals.{After-open_attr-opened}
+
+-- the innermost head is that of the parts
+same_top : (c : After-open_attr-opened) → top c.args.self.now.heads ≡ c.as_top-top.result.head
+same_top c = sym (ap (λ (x : BuilderTop). x.head) c.as_top-top.ensures.value)
+
+pub keep_opened-requires-clause-limit : goal.keep_opened-requires-clause-limit
+keep_opened-requires-clause-limit c = let o = c.open_attr-opened.ensures in opened_limit c.args.self.now _ _ c.as_top-top.ensures.value _ _ c.open_attr-opened.result o.opens o.fits
+
+pub keep_opened-requires-clause-inside : goal.keep_opened-requires-clause-inside
+keep_opened-requires-clause-inside c =
+    let p = (goal.at.keep_opened-requires-clause-inside c).After-open_attr-opened in
+    opened_inside c.args.self.now _ c.open_attr-opened.new.self c.as_top-top.ensures.value c.open_attr-opened.result (c.open_attr-opened.ensures.inside c.args.self.now.heads (same_top p) (sym c.count.ensures)) c.as_top-top.ensures.parts
+
+pub keep_opened-requires-clause-accepted : goal.keep_opened-requires-clause-accepted
+keep_opened-requires-clause-accepted c = opened_accepted c.args.self.now _ _ c.as_top-top.ensures.value _ _ c.open_attr-opened.result c.open_attr-opened.ensures.opens
+
+pub keep_opened-requires-clause-refused : goal.keep_opened-requires-clause-refused
+keep_opened-requires-clause-refused c = opened_refused c.args.self.now _ _ c.as_top-top.ensures.value _ _ c.open_attr-opened.result c.open_attr-opened.ensures.opens
+
+pub returns-clause-built : goal.returns-clause-built
+returns-clause-built c =
+    let p = (goal.at.returns-clause-built c).After-open_attr-opened in
+    let o = c.open_attr-opened.ensures in
+    opened_over c.args.self.now _ _ c.as_top-top.ensures.value _ _ _ c.open_attr-opened.result (λ (b : Built). open_attr b c.args.number c.args.flags) o.opens c.keep_opened.ensures.kept (o.built c.args.self.now.heads (same_top p) (sym c.count.ensures))
 
 pub returns-clause-puts : goal.returns-clause-puts
 returns-clause-puts c =
-    let t = c.open_attr in
-    subst (λ (x : Built). OnOk t.result ((d : Draft) (L : Bounds) → Holds L x d → Holds L (over t.new.self t.new.out) (draft.open_head d (attribute c.args.number c.args.flags)))) c.self.view_is t.ensures.puts
+    where_ok _ _ _ c.keep_opened.ensures.answer (λ none d L h. puts_by (over c.args.self.now c.args.out.now) _ d (calls.open_attr c.args.number c.args.flags) tt (returns-clause-built c) none h)

@@ -1,13 +1,15 @@
-use Rattle.std.proofs.Common.{subst, ◌++◌}
-use Rattle.std.specs.Prelude.{OnOk}
-use Rattle.nl_frame.specs.Building.{Built}
-use Rattle.nl_frame.specs.Draft.{Draft, Holds}
-use Rattle.nl_frame.specs.Draft as draft
-use Rattle.nl_frame.specs.Limits.{Bounds}
-use Rattle.nl_frame.specs.Parts.{over}
+use Rattle.nl_frame.proofs.Common.{◌++◌, ap, sym, BuilderTop, over}
+use Rattle.nl_frame.specs.Building.{Built, put}
+use Rattle.nl_frame.specs.Calls as calls
+use Rattle.nl_frame.proofs.Kept.{put_over, puts_by, where_ok}
 use Rattle.nl_frame.proofs.building.Builder.put_parts.Goals as goal
+
+pub returns-clause-built : goal.returns-clause-built
+returns-clause-built c =
+    let v = c.as_top-top.ensures.value in
+    let o = c.put-put.ensures in
+    put_over c.args.self.now _ _ v _ _ _ (λ (b : Built). put b c.args.number c.args.flags (c.args.bytes.now ++ c.args.tail.now)) o.rest c.keep_put.ensures.kept (o.built c.args.self.now.heads (sym (ap (λ (x : BuilderTop). x.head) v)))
 
 pub returns-clause-puts : goal.returns-clause-puts
 returns-clause-puts c =
-    let t = c.put_parts in
-    subst (λ (x : Built). OnOk t.result ((d : Draft) (L : Bounds) → Holds L x d → Holds L (over t.new.self t.new.out) (draft.put d c.args.number c.args.flags (c.args.bytes.now ++ c.args.tail.now)))) c.self.view_is t.ensures.puts
+    where_ok _ _ _ c.keep_put.ensures.answer (λ none d L h. puts_by (over c.args.self.now c.args.out.now) _ d (calls.put c.args.number c.args.flags (c.args.bytes.now ++ c.args.tail.now)) tt (returns-clause-built c) none h)

@@ -1,5 +1,4 @@
-use Rattle.std.proofs.Common.{◌∙◌, sym, arith, refl}
-use Rattle.std.proofs.lemmas.Bool.{ne_eqb}
+use Rattle.nl_frame.proofs.Common.{◌∙◌, sym, arith, refl, ne_eqb}
 use Rattle.nl_frame.proofs.Forms.{agree}
 use Rattle.nl_frame.proofs.form.Form.of.Goals as goal
 

@@ -1,6 +1,4 @@
-use Rattle.std.proofs.Common.{Some, false, subst}
-use Rattle.nl_mirror.specs.Hearing.{Following, IsHeardBy, in_items}
-use Rattle.nl_mirror.specs.Notes.{asks}
+use Rattle.nl_mirror.proofs.Common.{Some, false, subst, Following, IsHeardBy, in_items, asks}
 use Rattle.nl_mirror.proofs.Hearings.{follows, begun}
 use Rattle.nl_mirror.proofs.follower.Follower.begin.Goals as goal
 

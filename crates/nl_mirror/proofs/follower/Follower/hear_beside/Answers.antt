@@ -1,10 +1,4 @@
-use Rattle.std.proofs.Common.{◌≡◌, false, true, subst}
-use Rattle.std.specs.Prelude.{IfErr, IfOk}
-use Rattle.nl_frame.specs.View.{message_view}
-use Rattle.nl_mirror.specs.Hearing.{Following, IsHeardBy, in_items}
-use Rattle.nl_mirror.specs.Effects.{effect_beside, effect_seen}
-use Rattle.nl_mirror.specs.Notes.{beside, note_in}
-use Rattle.nl_mirror.specs.Replicated.{is_full}
+use Rattle.nl_mirror.proofs.Common.{◌≡◌, false, true, subst, IfErr, IfOk, message_view, Following, IsHeardBy, in_items, effect_beside, effect_seen, beside, note_in, is_full}
 use Rattle.nl_mirror.specs.declared.effect.Effect.TheVariants as effects
 use Rattle.nl_mirror.specs.declared.short.Short.TheVariants as short
 use Rattle.nl_mirror.proofs.Effects.{beside_effect, beside_memory, beside_room}

@@ -1,6 +1,4 @@
-use Rattle.std.proofs.Common.{None, subst}
-use Rattle.nl_mirror.specs.Hearing.{Following, IsHeardBy, in_items}
-use Rattle.nl_mirror.specs.Notes.{ending}
+use Rattle.nl_mirror.proofs.Common.{None, subst, Following, IsHeardBy, in_items, ending}
 use Rattle.nl_mirror.proofs.Hearings.{follows, ended}
 use Rattle.nl_mirror.proofs.follower.Follower.hear_end.Goals as goal
 

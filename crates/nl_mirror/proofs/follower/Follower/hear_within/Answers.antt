@@ -1,8 +1,4 @@
-use Rattle.std.proofs.Common.{◌≡◌, ◌||◌, subst, ap, ◌∙◌}
-use Rattle.nl_frame.specs.View.{message_view}
-use Rattle.nl_dump.specs.Answer.{end_in, item_in}
-use Rattle.nl_mirror.specs.Hearing.{Following, IsHeardBy, in_items}
-use Rattle.nl_mirror.specs.Notes.{marks, within}
+use Rattle.nl_mirror.proofs.Common.{◌≡◌, ◌||◌, subst, ap, ◌∙◌, message_view, end_in, item_in, Following, IsHeardBy, in_items, marks, within}
 use Rattle.nl_mirror.proofs.Hearings.{follows, within_item}
 use Rattle.nl_mirror.proofs.follower.Follower.hear_within.Goals as goal
 

@@ -1,12 +1,8 @@
-use Rattle.std.proofs.Common.{List, map, ap, subst}
-use Rattle.std.specs.Prelude.{IfErr}
+use Rattle.nl_mirror.proofs.Common.{List, map, ap, subst, IfErr, MessageVal, message_view, Mirrored}
 use Rattle.nl_attr.specs.Shape.{Shape}
 use Rattle.nl_frame.specs.Heads.{IsFirstFault, whole}
 use Rattle.nl_frame.specs.Layout.{Layout}
-use Rattle.nl_frame.specs.Message.{MessageVal}
 use Rattle.nl_frame.specs.Outcomes.{IfFault}
-use Rattle.nl_frame.specs.View.{message_view}
-use Rattle.nl_mirror.specs.Five.{Mirrored}
 use Rattle.nl_mirror.proofs.Fives.{both_of_fault, one_layout}
 use Rattle.nl_mirror.proofs.mirror.Mirror.feed.Goals as goal
 

@@ -1,7 +1,4 @@
-use Rattle.std.proofs.Common.{◌≡◌, ◌∷◌, [], ◌++◌, length, map, sym, ap, ◌∙◌, subst, append_assoc, arith}
-use Rattle.std.proofs.lemmas.List.{map-append}
-use Rattle.nl_frame.specs.View.{message_view}
-use Rattle.nl_mirror.specs.Five.{HearsEach}
+use Rattle.nl_mirror.proofs.Common.{◌≡◌, ◌∷◌, [], ◌++◌, length, map, sym, ap, ◌∙◌, subst, append_assoc, arith, map-append, message_view, HearsEach}
 use Rattle.nl_mirror.proofs.Fives.{hears_more}
 use Rattle.nl_mirror.proofs.mirror.Mirror.hear_each.Goals as goal
 

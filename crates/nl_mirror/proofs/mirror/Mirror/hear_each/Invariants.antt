@@ -1,8 +1,5 @@
-use Rattle.std.proofs.Common.{◌≡◌, ◌≤◌, ◌+◌, ◌++◌, length, map, List}
-use Rattle.std.specs.Prelude.{vec_capacity, vec_len}
+use Rattle.nl_mirror.proofs.Common.{◌≡◌, ◌≤◌, ◌+◌, ◌++◌, length, map, List, vec_capacity, vec_len, message_view, HearsEach}
 use Rattle.nl_frame.specs.declared.body.Message.{Message}
-use Rattle.nl_frame.specs.View.{message_view}
-use Rattle.nl_mirror.specs.Five.{HearsEach}
 use Rattle.nl_mirror.proofs.mirror.Mirror.hear_each.Given as goal
 
 abbrev pub invariant-loop-message : goal.invariant-loop-message

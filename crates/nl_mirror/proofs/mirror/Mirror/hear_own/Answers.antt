@@ -1,12 +1,7 @@
-use Rattle.std.specs.Prelude.{IfErr, IfOk}
-use Rattle.std.proofs.Common.{◌≡◌, is_some, ap, ◌∙◌, subst}
-use Rattle.nl_route.specs.declared.family.Family.{Family}
+use Rattle.nl_mirror.proofs.Common.{IfErr, IfOk, ◌≡◌, is_some, ap, ◌∙◌, subst, Family, body_view, message_view, body_item, Mirrored, is_own, IsShort, IsUpdate, OneHears}
 use Rattle.nl_route.specs.declared.family.Family.TheVariants.{Link, Addr, Route, Neigh, Rule}
 use Rattle.nl_attr.specs.View.{attrs_view}
 use Rattle.nl_route.specs.Families.{any, same_family}
-use Rattle.nl_frame.specs.View.{body_view, message_view}
-use Rattle.nl_dump.specs.Items.{body_item}
-use Rattle.nl_mirror.specs.Five.{Mirrored, is_own, IsShort, IsUpdate, OneHears}
 use Rattle.nl_mirror.proofs.Fives.{mirrored, settings, own_link, own_addr, own_route, own_neigh, own_of, own_room, own_rule, update_own}
 use Rattle.nl_mirror.proofs.mirror.Mirror.hear_own.Goals as goal
 

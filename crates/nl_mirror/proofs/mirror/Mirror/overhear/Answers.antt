@@ -1,6 +1,4 @@
-use Rattle.std.proofs.Common.{subst}
-use Rattle.nl_frame.specs.View.{message_view}
-use Rattle.nl_mirror.specs.Five.{Mirrored, OthersHear}
+use Rattle.nl_mirror.proofs.Common.{subst, message_view, Mirrored, OthersHear}
 use Rattle.nl_mirror.proofs.Fives.{mirrored, settings, covers_both, covers_first, covers_second, IsFirst, kind_first, memory_first, others}
 use Rattle.nl_mirror.proofs.mirror.Mirror.overhear.Goals as goal
 

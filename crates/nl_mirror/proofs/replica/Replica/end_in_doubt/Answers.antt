@@ -1,7 +1,5 @@
-use Rattle.std.proofs.Common.{◌∷◌}
+use Rattle.nl_mirror.proofs.Common.{◌∷◌, by_doubt, ends, Moves, MovesAll, key_by}
 use Rattle.indexmap.proofs.MapLemmas.{OnOk-map}
-use Rattle.nl_mirror.specs.Past.{by_doubt, ends, Moves, MovesAll}
-use Rattle.nl_mirror.specs.Told.{key_by}
 use Rattle.nl_mirror.proofs.Doubts.{by_any_key}
 use Rattle.nl_mirror.proofs.replica.Replica.end_in_doubt.Goals as goal
 

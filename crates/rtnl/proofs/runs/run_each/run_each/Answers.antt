@@ -1,13 +1,13 @@
 use Rattle.std.proofs.Common.{◌≡◌, ◌++◌, ◌∙◌, None, ap, rules, subst, sym}
 use Rattle.rtnl.specs.Lines.{datagrams}
 use Rattle.rtnl.specs.Parts.{joined}
-use Rattle.rtnl.specs.Runs.{FrontOfInput, Prints}
+use Rattle.rtnl.specs.Runs.{FrontOfInput, OfInput, Prints}
 use Rattle.rtnl.proofs.Parts.{joined_more}
 use Rattle.rtnl.proofs.Said.{good_said}
 use Rattle.rtnl.proofs.runs.run_each.run_each.Goals as goal
 
-pub returns-in_err-give_parts-clause-runs : goal.returns-in_err-give_parts-clause-runs
-returns-in_err-give_parts-clause-runs g c =
+pub returns-in_err-give_parts : goal.returns-in_err-give_parts
+returns-in_err-give_parts g c =
     let Is = g.E.PerDatagram.finds c.args.each.now in
     let text = g.E.PerDatagram.text c.args.each.now in
     let takes = g.E.PerDatagram.takes in
@@ -21,8 +21,8 @@ returns-in_err-give_parts-clause-runs g c =
     (s.0, found.0, joined c.as_slice.result.now, c.in_ok-bad_line.field-0.verdict, s.1, found.1, prints, c.in_err-give_parts.ensures.part) in
     search (rules, part)
 
-pub returns-clause-said : goal.returns-clause-said
-returns-clause-said g c =
+pub returns : goal.returns
+returns g c =
     let Is = g.E.PerDatagram.finds c.args.each.now in
     let text = g.E.PerDatagram.text c.args.each.now in
     let takes = g.E.PerDatagram.takes in
@@ -32,4 +32,6 @@ returns-clause-said g c =
     let parts : joined c.as_slice.result.now ≡ joined c.in_ok-bad_line.field-0.parts.items ++ c.in_ok-bad_line.field-0.part.items =
     ap joined (c.as_slice.ensures.value ∙ c.in_ok-push.ensures.items) ∙ joined_more c.in_ok-bad_line.field-0.parts.items c.in_ok-bad_line.field-0.part in
     let prints : Prints Is text takes found.0 (joined c.as_slice.result.now) c.in_ok-bad_line.field-0.verdict = subst (λ t. Prints Is text takes found.0 t c.in_ok-bad_line.field-0.verdict) (sym parts) found.2 in
-    (s.0, found.0, joined c.as_slice.result.now, s.1, found.1, prints, c.in_ok-give_parts.ensures.all)
+    let said : OfInput (Prints Is text takes) (g.S.Source.remaining c.args.source.now) (g.S.Source.remaining c.say_input.new.source) (g.W.Sink.contents c.args.sink.now) (g.W.Sink.contents c.give_parts.new.sink) c.in_ok-bad_line.field-0.verdict =
+    (s.0, found.0, joined c.as_slice.result.now, s.1, found.1, prints, c.in_ok-give_parts.ensures.all) in
+    search (rules, said)

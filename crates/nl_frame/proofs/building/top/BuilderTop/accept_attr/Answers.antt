@@ -1,12 +1,6 @@
-use Rattle.std.proofs.Common.{rules, ◌≡◌, ◌≤◌, ◌+◌, ◌-◌, ◌∷◌, ◌++◌, [], length, take, replicate, arith, ap, refl, sym, ◌∙◌, append_assoc, length-append}
-use Rattle.nl_attr.specs.declared.order.Order.{Order}
-use Rattle.nl_attr.specs.Numbers.{aligned, num}
-use Rattle.nl_attr.specs.Layout.{kind_number}
-use Rattle.nl_frame.specs.Building.{Built, grown, order_of}
+use Rattle.nl_frame.proofs.Common.{rules, ◌≡◌, ◌≤◌, ◌+◌, ◌-◌, ◌∷◌, ◌++◌, [], length, take, replicate, arith, ap, refl, sym, ◌∙◌, append_assoc, length-append, Order, aligned, num, kind_number, Built, grown, order_of, over, parts_with}
 use Rattle.nl_frame.proofs.Tops.{lacks_behind}
 use Rattle.nl_frame.proofs.Opens.{attr_parts, grown_twice, few_zeros}
-use Rattle.nl_frame.specs.Parts.{over}
-use Rattle.nl_frame.specs.Tops.{parts_with}
 use Rattle.nl_frame.proofs.building.top.BuilderTop.accept_attr.Goals as goal
 
 pub returns-clause-built : goal.returns-clause-built

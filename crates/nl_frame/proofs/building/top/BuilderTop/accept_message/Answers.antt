@@ -1,14 +1,6 @@
-use Rattle.std.proofs.Common.{◌≡◌, ◌≤◌, ◌+◌, ◌-◌, ◌∷◌, ◌++◌, ℕ, [], List, length, take, replicate, arith, ap, refl, sym, ◌∙◌, length-append}
-use Rattle.nl_attr.specs.declared.order.Order.{Order}
-use Rattle.nl_attr.specs.Numbers.{aligned}
-use Rattle.nl_attr.specs.Written.{with_padding}
+use Rattle.nl_frame.proofs.Common.{◌≡◌, ◌≤◌, ◌+◌, ◌-◌, ◌∷◌, ◌++◌, ℕ, [], List, length, take, replicate, arith, ap, refl, sym, ◌∙◌, length-append, Order, aligned, with_padding, length-written, header_fields, Built, grown, over, parts_with}
 use Rattle.nl_route.specs.Fields as fields
-use Rattle.nl_route.proofs.Fields.{length-written}
-use Rattle.nl_frame.specs.Header.{header_fields}
-use Rattle.nl_frame.specs.Building.{Built, grown}
 use Rattle.nl_frame.proofs.Opens.{grown_twice, few_zeros}
-use Rattle.nl_frame.specs.Parts.{over}
-use Rattle.nl_frame.specs.Tops.{parts_with}
 use Rattle.nl_frame.proofs.building.top.BuilderTop.accept_message.Goals as goal
 
 pub returns-clause-built : goal.returns-clause-built

@@ -1,18 +1,6 @@
-use Rattle.std.proofs.Common.{◌≡◌, ◌∷◌, ◌≤◌, ◌+◌, ◌++◌, ℕ, List, [], length, arith, ◌∙◌, ap, sym, None}
-use Rattle.nl_attr.specs.declared.tree.Ctx.{Ctx}
+use Rattle.nl_frame.proofs.Common.{◌≡◌, ◌∷◌, ◌≤◌, ◌+◌, ◌++◌, ℕ, List, [], length, arith, ◌∙◌, ap, sym, None, Ctx, Order, Family, context_of, family_of, fields_of, head_size, length-written, OpenHead, BuilderTop, header_fields, any_head, Built, begin_refusal, grown, header_begun, lacks, levels_in, opened, or_next, order_of, top, over, parts_with}
 use Rattle.nl_attr.specs.declared.tree.Content.TheVariants as content
-use Rattle.nl_attr.specs.declared.order.Order.{Order}
-use Rattle.nl_route.specs.declared.family.Family.{Family}
-use Rattle.nl_route.specs.Families.{context_of, family_of, fields_of, head_size}
 use Rattle.nl_route.specs.Fields as fields
-use Rattle.nl_route.proofs.Fields.{length-written}
-use Rattle.nl_frame.specs.declared.building.OpenHead.{OpenHead}
-use Rattle.nl_frame.specs.declared.building.top.BuilderTop.{BuilderTop}
-use Rattle.nl_frame.specs.Header.{header_fields}
-use Rattle.nl_frame.specs.AnyHeads.{any_head}
-use Rattle.nl_frame.specs.Building.{Built, begin_refusal, grown, header_begun, lacks, levels_in, opened, or_next, order_of, top}
-use Rattle.nl_frame.specs.Parts.{over}
-use Rattle.nl_frame.specs.Tops.{parts_with}
 use Rattle.nl_frame.proofs.Opens.{begin_allowed, begins, lacks_after, lacks_less, opened_more}
 use Rattle.nl_frame.proofs.Tops.{has_opened, one_more_open}
 use Rattle.nl_frame.proofs.building.top.BuilderTop.begin.Goals as goal

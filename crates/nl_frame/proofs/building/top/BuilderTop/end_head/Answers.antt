@@ -1,10 +1,4 @@
-use Rattle.std.proofs.Common.{◌≡◌, ◌≤◌, ◌+◌, ◌∷◌, ℕ, List, length, take, drop, Option, arith, ap, sym, subst, refl, ◌∙◌}
-use Rattle.std.specs.Prelude.{IfSome}
-use Rattle.std.specs.List.{splice}
-use Rattle.nl_frame.specs.declared.building.OpenHead.{OpenHead}
-use Rattle.nl_frame.specs.Building.{Built, head_ended}
-use Rattle.nl_frame.specs.Parts.{over}
-use Rattle.nl_frame.specs.Tops.{parts_with}
+use Rattle.nl_frame.proofs.Common.{◌≡◌, ◌≤◌, ◌+◌, ◌∷◌, ℕ, List, length, take, drop, Option, arith, ap, sym, subst, refl, ◌∙◌, IfSome, splice, OpenHead, Built, head_ended, over, parts_with}
 use Rattle.nl_frame.proofs.Opens.{front_over, back_over}
 use Rattle.nl_frame.proofs.Tops.{top_is}
 use Rattle.nl_frame.proofs.building.top.BuilderTop.end_head.Goals as goal

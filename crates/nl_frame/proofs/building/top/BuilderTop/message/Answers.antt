@@ -1,10 +1,5 @@
-use Rattle.std.proofs.Common.{◌++◌, length, sym, ◌∙◌}
-use Rattle.nl_attr.specs.Written.{with_padding}
+use Rattle.nl_frame.proofs.Common.{◌++◌, length, sym, ◌∙◌, with_padding, header_fields, grown, header_whole, order_of, over, parts_with}
 use Rattle.nl_route.specs.Fields as fields
-use Rattle.nl_frame.specs.Header.{header_fields}
-use Rattle.nl_frame.specs.Building.{grown, header_whole, order_of}
-use Rattle.nl_frame.specs.Parts.{over}
-use Rattle.nl_frame.specs.Tops.{parts_with}
 use Rattle.nl_frame.proofs.Tops.{goes_as}
 use Rattle.nl_frame.proofs.building.top.BuilderTop.message.Goals as goal
 

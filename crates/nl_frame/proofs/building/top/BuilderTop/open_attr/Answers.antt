@@ -1,9 +1,4 @@
-use Rattle.std.proofs.Common.{rules, ◌≡◌, [], length, ℕ, Option, arith, ap, sym, ◌∙◌}
-use Rattle.nl_attr.specs.declared.order.Order.{Order}
-use Rattle.nl_frame.specs.declared.building.OpenHead.{OpenHead}
-use Rattle.nl_frame.specs.Building.{attr_begun, held, levels_in, open_refusal_in, or_next}
-use Rattle.nl_frame.specs.Parts.{over}
-use Rattle.nl_frame.specs.Tops.{parts_with}
+use Rattle.nl_frame.proofs.Common.{rules, ◌≡◌, [], length, ℕ, Option, arith, ap, sym, ◌∙◌, Order, OpenHead, attr_begun, held, levels_in, open_refusal_in, or_next, over, parts_with}
 use Rattle.nl_frame.proofs.Tops.{attr_opened, attr_opened_as, has_opened, one_more_open}
 use Rattle.nl_frame.proofs.building.top.BuilderTop.open_attr.Goals as goal
 

@@ -1,9 +1,4 @@
-use Rattle.std.proofs.Common.{◌≡◌, ◌∷◌, length, arith, ap, ◌∙◌}
-use Rattle.std.proofs.lemmas.List.{length-take}
-use Rattle.nl_frame.specs.declared.building.OpenHead.{OpenHead}
-use Rattle.nl_frame.specs.Building.{Built, grown}
-use Rattle.nl_frame.specs.Parts.{over}
-use Rattle.nl_frame.specs.Tops.{parts_with}
+use Rattle.nl_frame.proofs.Common.{◌≡◌, ◌∷◌, length, arith, ap, ◌∙◌, length-take, OpenHead, Built, grown, over, parts_with}
 use Rattle.nl_frame.proofs.building.top.BuilderTop.open_head.Goals as goal
 
 pub returns-clause-built : goal.returns-clause-built

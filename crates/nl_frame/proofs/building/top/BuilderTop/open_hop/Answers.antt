@@ -1,12 +1,6 @@
 use Rattle.std.proofs.Common.{rules, List, ℤ, ◌≡◌, ◌≤◌, [], length, None, Option, w32, arith, ap, sym, ◌∙◌}
-use Rattle.std.proofs.lemmas.Int.{to_z-of_z}
-use Rattle.nl_attr.specs.declared.order.Order.{Order}
-use Rattle.nl_attr.specs.declared.tree.Ctx.TheVariants.{Route}
+use Rattle.nl_frame.proofs.Common.{to_z-of_z, Order, Route, OpenHead, hop_begun, hop_refusal, lacks, levels_in, opened, or_next, order_of, over, parts_with}
 use Rattle.nl_attr.specs.declared.tree.Content.TheVariants as content
-use Rattle.nl_frame.specs.declared.building.OpenHead.{OpenHead}
-use Rattle.nl_frame.specs.Building.{hop_begun, hop_refusal, lacks, levels_in, opened, or_next, order_of}
-use Rattle.nl_frame.specs.Parts.{over}
-use Rattle.nl_frame.specs.Tops.{parts_with}
 use Rattle.nl_frame.proofs.Puts.{neither}
 use Rattle.nl_frame.proofs.Tops.{goes_as, has_opened, hops_levels, one_more_open}
 use Rattle.nl_frame.proofs.building.top.BuilderTop.open_hop.Goals as goal

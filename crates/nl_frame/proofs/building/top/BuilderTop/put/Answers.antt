@@ -1,10 +1,4 @@
-use Rattle.std.proofs.Common.{◌≡◌, ◌+◌, ◌++◌, ℕ, [], None, Option, length, ap, sym, ◌∙◌, length-append}
-use Rattle.nl_attr.specs.Written.{attr_item, with_padding}
-use Rattle.nl_frame.specs.declared.building.OpenHead.{OpenHead}
-use Rattle.nl_frame.specs.declared.building.refusal.BuildError.{BuildError}
-use Rattle.nl_frame.specs.Building.{bytes_refusal, grown, held, or_next, order_of, settled, top}
-use Rattle.nl_frame.specs.Parts.{over}
-use Rattle.nl_frame.specs.Tops.{parts_with}
+use Rattle.nl_frame.proofs.Common.{◌≡◌, ◌+◌, ◌++◌, ℕ, [], None, Option, length, ap, sym, ◌∙◌, length-append, attr_item, with_padding, OpenHead, BuildError, bytes_refusal, grown, held, or_next, order_of, settled, top, over, parts_with}
 use Rattle.nl_frame.proofs.Tops.{same_refusal}
 use Rattle.nl_frame.proofs.building.top.BuilderTop.put.Goals as goal
 

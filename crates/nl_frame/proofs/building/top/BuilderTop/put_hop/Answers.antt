@@ -1,16 +1,5 @@
-use Rattle.std.proofs.Common.{rules, ◌≡◌, ◌≤◌, ◌+◌, ◌++◌, ◌∷◌, ℕ, ℤ, List, [], append-nil, None, Option, ap, sym, ◌∙◌, length, arith}
-use Rattle.std.specs.Int.{w32, cast_unsigned}
+use Rattle.nl_frame.proofs.Common.{rules, ◌≡◌, ◌≤◌, ◌+◌, ◌++◌, ◌∷◌, ℕ, ℤ, List, [], append-nil, None, Option, ap, sym, ◌∙◌, length, arith, w32, cast_unsigned, to_z-of_z, LONGEST_CONTAINER, aligned, num, attr_item, with_padding, Order, OpenHead, BuilderTop, Built, grown, lacks, no_flags, order_of, over, parts_with}
 use Rattle.std.specs.Option.{option_map}
-use Rattle.std.proofs.lemmas.Int.{to_z-of_z}
-use Rattle.nl_attr.specs.Fixed.{LONGEST_CONTAINER}
-use Rattle.nl_attr.specs.Numbers.{aligned, num}
-use Rattle.nl_attr.specs.Written.{attr_item, with_padding}
-use Rattle.nl_attr.specs.declared.order.Order.{Order}
-use Rattle.nl_frame.specs.declared.building.OpenHead.{OpenHead}
-use Rattle.nl_frame.specs.declared.building.top.BuilderTop.{BuilderTop}
-use Rattle.nl_frame.specs.Building.{Built, grown, lacks, no_flags, order_of}
-use Rattle.nl_frame.specs.Parts.{over}
-use Rattle.nl_frame.specs.Tops.{parts_with}
 use Rattle.nl_frame.proofs.Hops.{hop_put}
 use Rattle.nl_frame.proofs.Tops.{lacks_behind}
 use Rattle.nl_frame.proofs.building.top.BuilderTop.put_hop.Goals as goal
