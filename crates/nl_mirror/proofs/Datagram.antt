@@ -1,5 +1,5 @@
 -- What is heard, of one message after another.
-use Rattle.nl_mirror.proofs.Common.{◌≡◌, ◌<◌, ◌≤◌, ◌==◌, nat_lt, ℕ, ◌&&◌, not, Bool, true, false, cond, List, [], ◌∷◌, ◌++◌, length, None, refl, sym, ap, ◌∙◌, subst, arith, length-append, Order, Item, tell, Replicated, settled, Event, begins, brings, ends, tells, overflows, loses, fails, Moves, MovesAll, Events, mirror_key, Heard, Follows}
+use Rattle.nl_mirror.proofs.Common.{◌≡◌, ◌<◌, ◌≤◌, ◌==◌, nat_lt, ℕ, ◌&&◌, not, Bool, true, false, cond, List, [], ◌∷◌, ◌++◌, length, None, refl, sym, ap, ◌∙◌, subst, arith, length-append, Order, Item, tell, Replicated, settled, Event, begins, brings, ends, tells, overflows, loses, fails, Moves, MovesAll, Events, mirror_key, Heard, Follows, Result, Ok, Err, Short, IsHeardAs, IsHeardBy, Mirrored, MessageVal, EachHearsBy, Family, follower_at, hears}
 use Rattle.std.proofs.lemmas.Bool.{eqb-false, ltb-false, ltb-true}
 use Rattle.nl_mirror.specs.Datagrams.{onto, all_heard, RunOf, RunsEndInMirror, RunsKeepLimits}
 use Rattle.nl_mirror.proofs.Pasts.{events_end, events_hold}
@@ -30,6 +30,10 @@ module _ {T : Type 0} (key : T → List ℕ) where
   moves_order m overflows n s = ap (λ (x : Replicated T). x.order) s.1
   moves_order m (loses why) n s = ap (λ (x : Replicated T). x.order) s
   moves_order m fails n s = ap (λ (x : Replicated T). x.order) s.1
+
+  moves_all_order : (es : List (Event T)) (m n : Replicated T) → MovesAll key m es n → n.order ≡ m.order
+  moves_all_order [] m n s = ap (λ (x : Replicated T). x.order) s
+  moves_all_order (e ∷ es) m n s = moves_all_order es s.0 n s.2 ∙ moves_order m e s.0 s.1
 
   -- no more wait than may
   abbrev Waits : ℕ → Replicated T → Type 0
@@ -85,3 +89,14 @@ runs_keep order limit waiting hs f r =
       waits.0,
       waits.1,
     )
+
+heard_as_order : (f : Follows) (h : Heard) (g : Follows) → IsHeardAs f h g → g.replica.order ≡ f.replica.order
+heard_as_order f h g s = moves_all_order (mirror_key f.replica.order) h.events f.replica g.replica s.2
+
+heard_order : {A : Type 0} (r : Result A Short) (f : Follows) (h : Heard) (g : Follows) → IsHeardBy r f h g → g.replica.order ≡ f.replica.order
+heard_order (Ok x) f h g s = heard_as_order f h g s
+heard_order (Err e) f h g s = heard_as_order f (record h { events = s.0 }) g s.2
+
+-- each table of a mirror keeps its byte order
+pub each_order : {A : Type 0} (r : Result A Short) (f : Mirrored) (m : MessageVal) (g : Mirrored) → EachHearsBy r f m g → (k : Family) → (follower_at k g).replica.order ≡ (follower_at k f).replica.order
+each_order r f m g s k = heard_order r (follower_at k f) (hears (follower_at k f).kind (follower_at k f).listening m) (follower_at k g) (s.1 k)

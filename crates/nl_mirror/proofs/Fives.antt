@@ -1,19 +1,21 @@
 -- What five followers hear, each for itself.
-use Rattle.nl_mirror.proofs.Common.{◌≡◌, ℕ, Option, Bool, true, false, cond, Some, None, List, [], ◌∷◌, ◌++◌, is_some, Result, Ok, Err, refl, sym, ap, ◌∙◌, subst, true≢false, ◌≢◌, ◌⊎◌, inl, inr, ⊤, IfErr, IfOk, OnOk, Family, BodyVal, done, object, MessageVal, body_end, Item, body_item, family_item, item_of, Short, FindsNoRoom, effect_heard, update_effect, Event, AllButShort, ShortOf, Heard, hears, Following, Follows, in_items, IsHeardBy, Mirrored, Settings, follower_at, is_own, IsShort, IsUpdate, IsOverheard, IsOwnHeard, OthersHear, OneHears, EachHearsBy, HearsEach}
+use Rattle.nl_mirror.proofs.Common.{◌≡◌, ℕ, Option, Bool, true, false, cond, Some, None, List, [], ◌∷◌, ◌++◌, map, is_some, Result, Ok, Err, refl, sym, ap, ◌∙◌, subst, true≢false, ◌≢◌, ◌⊎◌, inl, inr, ⊤, IfErr, IfOk, OnOk, Family, BodyVal, done, object, MessageVal, message_view, body_end, Item, body_item, family_item, item_of, Short, FindsNoRoom, effect_heard, update_effect, Event, AllButShort, ShortOf, Heard, hears, Following, Follows, in_items, IsHeardBy, Mirrored, Settings, follower_at, is_own, IsShort, IsUpdate, IsOverheard, IsOwnHeard, OthersHear, OneHears, EachHearsBy, HearsEach}
 use Rattle.nl_route.specs.declared.family.Family.TheVariants.{Link, Addr, Route, Neigh, Rule}
 use Rattle.nl_route.specs.declared.object.Object.{Object}
 use Rattle.nl_route.specs.Families.{AnyHead, row, same_family}
 use Rattle.nl_route.proofs.Families.{one_or_other}
-use Rattle.nl_attr.specs.Shape.{Shape}
+use Rattle.std.specs.Global.{Vec}
 use Rattle.nl_attr.specs.Tree.{Items}
-use Rattle.nl_attr.specs.declared.fault.Fault.{Fault}
+use Rattle.nl_frame.specs.declared.body.Message.{Message}
 use Rattle.nl_frame.specs.declared.reading.ReadError.{ReadError}
 use Rattle.nl_frame.specs.declared.reading.ReadError.TheVariants as unread
 use Rattle.nl_frame.specs.Outcomes.{IfFault}
+use Rattle.nl_frame.specs.Heads.{IsFirstFault, whole}
 use Rattle.nl_frame.specs.Layout.{Layout}
 use Rattle.nl_frame.specs.Limits.{Bounds}
 use Rattle.nl_dump.specs.declared.dump.End.{End}
 use Rattle.nl_mirror.specs.declared.effect.Update.{Update}
+use Rattle.nl_mirror.specs.Five.{IsRead}
 use Rattle.nl_mirror.specs.declared.short.Short.TheVariants as short
 use Rattle.nl_mirror.proofs.Hearings.{all_same, no_waiting}
 
@@ -28,19 +30,15 @@ own_of k h is = by (same_family k h.family)
     by true = refl
     by false = refl
 
--- what is read is the one layout of a datagram, as a mirror's limits have it
-pub one_layout : {V E : Type 0} (items : V → List MessageVal) (r : Result V E) (v : V) (S T : Shape) (bytes : List ℕ) → r ≡ Ok v → S ≡ T
-    → IfOk r (λ w. Layout S (items w) bytes) → IfOk r (λ w. (ns : List MessageVal) → Layout S ns bytes → ns ≡ items w)
-    → Layout T (items v) bytes × ((ns : List MessageVal) → Layout T ns bytes → ns ≡ items v)
-one_layout items r v S T bytes is same fits only =
-    subst (λ (s : Shape). Layout s (items v) bytes × ((ns : List MessageVal) → Layout s ns bytes → ns ≡ items v)) same
-    (subst (λ q. IfOk q (λ w. Layout S (items w) bytes)) is fits, subst (λ q. IfOk q (λ w. (ns : List MessageVal) → Layout S ns bytes → ns ≡ items w)) is only)
-
--- both of two statements of a fault
-pub both_of_fault : (e : ReadError) (P Q : Fault → Type 0) → IfFault e P → IfFault e Q → IfFault e (λ f. P f × Q f)
-both_of_fault unread.TooLarge P Q p q = tt
-both_of_fault (unread.Layout f) P Q p q = (p, q)
-both_of_fault unread.Memory P Q p q = tt
+-- what the clauses of `read_datagram` say together
+pub read_so : (b : Bounds) (bytes : List ℕ) (r : Result (Vec Message) ReadError)
+    → IfOk r (λ v. Layout b.shape (map message_view v.items) bytes) → IfOk r (λ v. (ms : List MessageVal) → Layout b.shape ms bytes → ms ≡ map message_view v.items)
+    → IfErr r (λ e. IfFault e (λ f. IsFirstFault b.shape (whole bytes) f.place f.reason)) → IfErr r (λ e. IfFault e (λ f. (ms : List MessageVal) → Layout b.shape ms bytes → ⊥))
+    → IsRead b bytes r
+read_so b bytes (Ok ms) fits only first none = (fits, only)
+read_so b bytes (Err unread.TooLarge) fits only first none = tt
+read_so b bytes (Err (unread.Layout f)) fits only first none = (first, none)
+read_so b bytes (Err unread.Memory) fits only first none = tt
 
 -- where memory is short, room may be too
 more_short : {T : Type 0} (es fs : List (Event T)) → AllButShort short.Waiting es fs → AllButShort short.Memory es fs

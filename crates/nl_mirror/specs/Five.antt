@@ -1,13 +1,15 @@
 -- The mirror of all kinds: each of its followers hears every message.
-use Rattle.std.specs.Prelude.{◌≡◌, ℕ, Bool, true, false, is_some, List, [], ◌∷◌, IfErr, IfOk, Option, Some, None, nat_le, Result, Ok, Err}
+use Rattle.std.specs.Prelude.{◌≡◌, ℕ, Bool, true, false, is_some, List, [], ◌∷◌, map, IfErr, IfOk, Option, Some, None, nat_le, Result, Ok, Err}
 use Rattle.std.specs.Global.{Vec}
 use Rattle.nl_route.specs.declared.family.Family.{Family}
 use Rattle.nl_route.specs.declared.family.Family.TheVariants.{Link, Addr, Route, Neigh, Rule}
 use Rattle.nl_route.specs.declared.object.Object.{Object}
 use Rattle.nl_route.specs.Families.{row, same_family}
+use Rattle.nl_frame.specs.declared.body.Message.{Message}
 use Rattle.nl_frame.specs.declared.reading.ReadError.{ReadError}
 use Rattle.nl_frame.specs.declared.reading.ReadError.TheVariants as unread
 use Rattle.nl_frame.specs.Message.{MessageVal}
+use Rattle.nl_frame.specs.View.{message_view}
 use Rattle.nl_frame.specs.Limits.{Bounds}
 use Rattle.nl_frame.specs.Layout.{Layout}
 use Rattle.nl_frame.specs.Heads.{IsFirstFault, whole}
@@ -116,12 +118,23 @@ HearsEach f [] [] g = g ≡ f
 HearsEach f (m ∷ ms) (r ∷ rs) g = (h : Mirrored) × EachHearsBy r f m h × IfOk r (IsUpdate f m) × HearsEach h ms rs g
 HearsEach f ms rs g = ⊥
 
--- what becomes of a mirror by a datagram
+-- a datagram is refused so: at its first fault, where a header breaks a rule, and no list is its layout then
+abbrev pub IsRefused : Bounds → List ℕ → ReadError → Type 0
+IsRefused b bs e = IfFault e (λ f. IsFirstFault b.shape (whole bs) f.place f.reason × ((ms : List MessageVal) → Layout b.shape ms bs → ⊥))
+
+-- what is read of a datagram: its one meaning, or why it is refused
+abbrev pub IsRead : Bounds → List ℕ → Result (Vec Message) ReadError → Type 0
+IsRead b bs (Ok ms) = IsOneLayout b bs (map message_view ms.items)
+IsRead b bs (Err e) = IsRefused b bs e
+
+-- what becomes of a mirror by a datagram, each of whose messages is answered: where it is refused, nothing changes but that each table is stale
+abbrev pub IsFed : Mirrored → List ℕ → Result (List (Result Update Short)) ReadError → Mirrored → Type 0
+IsFed f bs (Ok rs) g = (ms : List MessageVal) × IsOneLayout f.settings.limits bs ms × HearsEach f ms rs g
+IsFed f bs (Err e) g = EachLoses (refusal e) f g × IsRefused f.settings.limits bs e
+
 abbrev pub Fed : Mirrored → List ℕ → Result (Vec (Result Update Short)) ReadError → Mirrored → Type 0
-Fed f bs (Ok rs) g = (ms : List MessageVal) × IsOneLayout f.settings.limits bs ms × HearsEach f ms rs.items g
--- where it is refused, no list is its layout, and nothing changes but that each table is stale
-Fed f bs (Err e) g =
-    EachLoses (refusal e) f g × IfFault e (λ f'. IsFirstFault f.settings.limits.shape (whole bs) f'.place f'.reason × ((ms : List MessageVal) → Layout f.settings.limits.shape ms bs → ⊥))
+Fed f bs (Ok rs) g = IsFed f bs (Ok rs.items) g
+Fed f bs (Err e) g = IsFed f bs (Err e) g
 
 -- a dump had this sequence number, or a later one
 abbrev pub is_used : Option ℕ → ℕ → Bool

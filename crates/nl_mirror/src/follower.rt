@@ -78,7 +78,6 @@ fn is_interrupted(before: bool, now: bool) -> bool
 #[derive(Drop)]
 pub(crate) struct Follower<T: OfFamily> {
     replica: Replica<T>,
-    kind: Family,
     dump: Option<Dump>,
     // Whether an answer of the running dump had `NLM_F_DUMP_INTR`.
     interrupted: bool,
@@ -93,38 +92,35 @@ impl<T: OfFamily> Model for Follower<T> {
     ghost Value = { Following T };
 
     ghost view = { λ f. record {
-      kind = f.kind;
+      kind = T.family;
       listening = record { dump = f.dump; interrupted = f.interrupted; asked = f.asked };
       replica = f.replica;
     } };
 
-    ghost invariant = { λ f. (f.kind ≡ T.family) × (f.replica.dumps ≡ is_some f.dump)
+    ghost invariant = { λ f. (f.replica.dumps ≡ is_some f.dump)
         × IfSome f.dump (λ d. d.kind ≡ T.family) };
 }
 
 impl<T: OfFamily> Follower<T> {
-    /// A follower of this family, with an empty table of at most `limit` entries. At most
+    /// A follower with an empty table of at most `limit` entries. At most
     /// `waiting` changes are kept while a dump runs.
     ///
     /// The error is for memory.
     pub(crate) fn new(
         alloc: Global,
-        kind: Family,
         limit: u32,
         waiting: u32,
         order: Order,
         seed: Seed,
     ) -> Result<Self, AllocError>
-        requires { kind ≡ T.family }
         ensures { IfOk result (λ f. f ≡ record {
-          kind = kind;
+          kind = T.family;
           listening = silent;
           replica = new_replica order limit waiting;
         }) }
     {
         Ok(Follower {
             replica: Replica::new(alloc, limit, waiting, order, seed)?,
-            kind,
             dump: None,
             interrupted: false,
             asked: 0,
@@ -144,8 +140,8 @@ impl<T: OfFamily> Follower<T> {
         ensures memory { IfErr result (λ e. e ≡ short.Memory
             → is_full (in_items T.item self.old).replica ≡ false) }
     {
-        let doubt = doubt_of(self.kind, &message);
-        match note_of::<T>(self.kind, self.asked, message) {
+        let doubt = doubt_of(T::kind(), &message);
+        match note_of::<T>(T::kind(), self.asked, message) {
             Some(change) => self.replica.change_in_doubt(change, doubt),
             None => {
                 self.replica.doubt(doubt);
@@ -232,7 +228,7 @@ impl<T: OfFamily> Follower<T> {
                 };
             }
         }
-        self.replica.doubt(doubt_of(self.kind, message));
+        self.replica.doubt(doubt_of(T::kind(), message));
         Ok(())
     }
 
@@ -245,7 +241,7 @@ impl<T: OfFamily> Follower<T> {
         ensures ends { IfErr result (λ e. (k : Family)
             → is_own k (message_view message.now) ≡ false) }
     {
-        if is_of(self.kind, &message.body) {
+        if is_of(T::kind(), &message.body) {
             return Ok(());
         }
         self.hear_other(message)

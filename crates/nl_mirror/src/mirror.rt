@@ -5,7 +5,7 @@ ghost use Rattle.std.specs.Prelude.{◌++◌, ◌∷◌, [], OnErr, length, map,
 ghost use Rattle.nl_frame.specs.View.{message_view};
 ghost use Rattle.nl_frame.specs.declared.reading.ReadError.TheVariants as unread;
 ghost use Rattle.nl_mirror.specs.Five.{BeginsIn, Began, EachHearsBy, EachLoses, Fed, HearsEach};
-ghost use Rattle.nl_mirror.specs.Five.{is_used as has_passed, IsNew, IsShort, IsUpdate};
+ghost use Rattle.nl_mirror.specs.Five.{is_used as has_passed, IsNew, IsRead, IsShort, IsUpdate};
 ghost use Rattle.nl_mirror.specs.Five.{OneHears, OthersHear, follower_at, is_own};
 ghost use Rattle.nl_route.specs.declared.family.Family.{Family};
 ghost use Rattle.nl_mirror.specs.Five.{refusal as reason_of};
@@ -119,11 +119,11 @@ impl Mirror {
             alloc,
             limits,
             last: None,
-            links: Follower::new(alloc, Family::Link, entries, waiting, order, seed)?,
-            addrs: Follower::new(alloc, Family::Addr, entries, waiting, order, seed)?,
-            routes: Follower::new(alloc, Family::Route, entries, waiting, order, seed)?,
-            neighs: Follower::new(alloc, Family::Neigh, entries, waiting, order, seed)?,
-            rules: Follower::new(alloc, Family::Rule, entries, waiting, order, seed)?,
+            links: Follower::new(alloc, entries, waiting, order, seed)?,
+            addrs: Follower::new(alloc, entries, waiting, order, seed)?,
+            routes: Follower::new(alloc, entries, waiting, order, seed)?,
+            neighs: Follower::new(alloc, entries, waiting, order, seed)?,
+            rules: Follower::new(alloc, entries, waiting, order, seed)?,
         })
     }
 
@@ -253,6 +253,19 @@ impl Mirror {
         Ok(answers)
     }
 
+    /// Reads a datagram within the limits of this mirror, as `read_datagram` does, and applies
+    /// nothing. Hand each message to `hear`, in order, or the error to `refused`: `feed` does so,
+    /// and keeps an answer for each message.
+    pub fn read(&self, bytes: &[u8]) -> Tally<Vec<Message>, ReadError>
+        ensures read { IsRead self.now.settings.limits bytes.now result.result }
+        ensures large { result.result ≡ Err unread.TooLarge
+            ↔ self.now.settings.limits.datagram < length bytes.now }
+        ensures bound { result.visits
+            ≤ (self.now.settings.limits.shape.depth + 1) * length bytes.now }
+    {
+        read_datagram(self.alloc, bytes, &self.limits)
+    }
+
     /// Reads a datagram, and applies its messages in order. For each message it answers what that
     /// did to the table of its family, and beside all of them how many bytes were visited.
     ///
@@ -268,7 +281,7 @@ impl Mirror {
         ensures bound { result.visits
             ≤ (self.old.settings.limits.shape.depth + 1) * length bytes.now }
     {
-        let Tally { result, visits } = read_datagram(self.alloc, bytes, &self.limits);
+        let Tally { result, visits } = self.read(bytes);
         let messages = match result {
             Ok(messages) => messages,
             Err(error) => {

@@ -35,6 +35,10 @@ pub trait OfFamily: FromBody {
     ghost use Rattle.nl_mirror.specs.Notes.{item_cloned, item_family};
     ghost use Rattle.nl_mirror.specs.Told.{mirror_key};
 
+    /// The family that it is of.
+    fn kind() -> Family
+        ensures { result ≡ Self.family };
+
     /// The address family in its header, as `ifa_family` or `rtm_family`.
     fn family_byte(&self) -> u8
         ensures { result ≡ item_family (Self.item self.now) };
@@ -57,6 +61,10 @@ pub trait OfFamily: FromBody {
 }
 
 impl OfFamily for Link {
+    fn kind() -> Family {
+        Family::Link
+    }
+
     fn family_byte(&self) -> u8 {
         self.head.family
     }
@@ -78,6 +86,10 @@ impl OfFamily for Link {
 }
 
 impl OfFamily for Addr {
+    fn kind() -> Family {
+        Family::Addr
+    }
+
     fn family_byte(&self) -> u8 {
         self.head.family
     }
@@ -99,6 +111,10 @@ impl OfFamily for Addr {
 }
 
 impl OfFamily for Route {
+    fn kind() -> Family {
+        Family::Route
+    }
+
     fn family_byte(&self) -> u8 {
         self.head.family
     }
@@ -120,6 +136,10 @@ impl OfFamily for Route {
 }
 
 impl OfFamily for Neigh {
+    fn kind() -> Family {
+        Family::Neigh
+    }
+
     fn family_byte(&self) -> u8 {
         self.head.family
     }
@@ -145,6 +165,10 @@ impl OfFamily for Neigh {
 }
 
 impl OfFamily for Rule {
+    fn kind() -> Family {
+        Family::Rule
+    }
+
     fn family_byte(&self) -> u8 {
         self.head.family
     }

@@ -1,25 +1,15 @@
 -- A datagram of bytes has an answer, and one alone, and so datagrams have one text.
-use Rattle.std.proofs.Common.{◌≡◌, ◌≤◌, ℕ, List, [], ◌∷◌, length, Bool, true, false, IsTrue, Ok, Err, inl, inr, refl, sym, ap, ◌∙◌, arith}
-use Rattle.std.proofs.lemmas.Bool.{cases_lt}
+use Rattle.rtnl.proofs.Common.{◌≡◌, ◌≤◌, ℕ, List, [], ◌∷◌, length, Bool, true, false, IsTrue, Ok, Err, inl, inr, refl, sym, ap, ◌∙◌, arith, cases_lt, ReadError, Bounds, MessageVal, Layout, IsFirstFault, whole, Answer, Answers, Refuses, Finding, Finds, Verdict, Clean}
 use Rattle.nl_attr.specs.declared.fault.Fault.{Fault}
 use Rattle.nl_attr.specs.Numbers.{AreBytes}
 use Rattle.nl_attr.specs.Reading.{Outcome}
-use Rattle.nl_frame.specs.declared.reading.ReadError.{ReadError}
 use Rattle.nl_frame.specs.declared.reading.ReadError.TheVariants.{TooLarge, Layout as Fails, Memory}
-use Rattle.nl_frame.specs.Limits.{Bounds}
-use Rattle.nl_frame.specs.Message.{MessageVal}
-use Rattle.nl_frame.specs.Layout.{Layout}
 use Rattle.nl_frame.specs.Reading.{messages_of}
 use Rattle.nl_frame.specs.Written.{written}
 use Rattle.nl_frame.proofs.Scan.{one_first_fault}
 use Rattle.nl_frame.proofs.Firsts.{err_first, one_layout, ok_sound}
 use Rattle.nl_frame.proofs.Layouts.{messages_fit, messages_sound}
-use Rattle.nl_frame.specs.Heads.{IsFirstFault, whole}
 use Rattle.rtnl.specs.Runs.{EachIs, Prints, texts_from, verdict_from}
-use Rattle.rtnl.specs.Shown.{Answer, Answers, Refuses}
-use Rattle.rtnl.specs.Checked.{Finding, Finds}
-use Rattle.rtnl.specs.declared.error.Verdict.{Verdict}
-use Rattle.rtnl.specs.declared.error.Verdict.TheVariants.{Clean}
 
 module _ (b : Bounds) (d : List ℕ) where
   same_fault : (f g : Fault) → IsFirstFault b.shape (whole d) f.place f.reason → IsFirstFault b.shape (whole d) g.place g.reason → f ≡ g

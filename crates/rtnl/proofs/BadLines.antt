@@ -1,15 +1,7 @@
 -- A line is bad exactly where a byte of it is stray, or its digits are odd.
-use Rattle.std.proofs.Common.{◌≡◌, ◌≢◌, ◌↔◌, ℕ, ◌+◌, ◌%◌, Bool, true, false, not, ◌||◌, filter, List, [], ◌∷◌, length, Option, Some, None, Result, Ok, Err, refl, sym, ◌∙◌, arith, inl, inr}
-use Rattle.std.specs.Option.{IsSome}
-use Rattle.std.specs.List.{list_all, position_from}
-use Rattle.std.proofs.lemmas.Bool.{cases_eq, eq-eqb, ne_eqb}
+use Rattle.rtnl.proofs.Common.{◌≡◌, ◌≢◌, ◌↔◌, ℕ, ◌+◌, ◌%◌, Bool, true, false, not, ◌||◌, filter, List, [], ◌∷◌, length, Option, Some, None, Result, Ok, Err, refl, sym, ◌∙◌, arith, inl, inr, IsSome, list_all, position_from, cases_eq, eq-eqb, ne_eqb, AllPass-from_list_all, list_all-from_AllPass, decode_of, is_hex_digit, FromHexError, decode_of-odd, decode_of-digits, decode_of-ok, compact, decoded, digits_at, fault_in, is_blank, is_comment, is_stray, line_at, line_fault_of, odd_of}
 use Rattle.std.proofs.lemmas.Iterator.Adapters.{position_from-zero}
-use Rattle.std.proofs.lemmas.List.Sums.{AllPass-from_list_all, list_all-from_AllPass}
-use Rattle.hex.specs.Hex.{decode_of, is_hex_digit}
-use Rattle.hex.specs.declared.error.FromHexError.{FromHexError}
 use Rattle.hex.specs.declared.error.FromHexError.TheVariants.{OddLength}
-use Rattle.hex.proofs.HexLemmas.{decode_of-odd, decode_of-digits, decode_of-ok}
-use Rattle.rtnl.specs.Lines.{compact, decoded, digits_at, fault_in, is_blank, is_comment, is_stray, line_at, line_fault_of, odd_of}
 
 -- what the places of stray bytes say of the digits
 abbrev IsPlaced : Option ℕ → Bool → Type 0

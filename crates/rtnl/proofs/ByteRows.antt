@@ -1,27 +1,17 @@
 -- Rows of bytes, one after another.
 use Rattle.std.proofs.Common.{◌≡◌, ◌<◌, ◌≤◌, ◌+◌, ◌==◌, if◌then◌else◌, ℕ, zero, suc, List, [], ◌∷◌, ◌++◌, length, take, drop, min, replicate, Bool, true, false, Option, Some, None, Ok, Err, is_some, not, refl, sym, ap, subst, ◌∙◌, arith, append_assoc}
-use Rattle.std.specs.List.{flat_map}
-use Rattle.std.proofs.lemmas.Bool.Decides.{nat_tests}
+use Rattle.rtnl.proofs.Common.{flat_map, nat_tests, flat_map-append, Event, Order, ReadError, Bounds, Answer, Answers, Refuses, is_taken, refusal_text, AreEvents, IsAboutItsHead, IsRefusalOf, refusal_line, BytePart, Label, Mark, contexts_after, marks_of, parts_by, refused_marks, size_in, unread, AddsAllRows, AddsPart, AddsRows, refusal_ending}
 use Rattle.std.proofs.lemmas.List.{append-nil, length-take-le, nil_from_length, take-append-drop}
-use Rattle.std.proofs.lemmas.Grind.{flat_map-append}
-use Rattle.nl_attr.specs.declared.events.Event.{Event}
 use Rattle.nl_attr.specs.declared.fault.Reason.{Reason}
-use Rattle.nl_attr.specs.declared.order.Order.{Order}
 use Rattle.nl_attr.specs.Shape.{Shape}
 use Rattle.nl_attr.proofs.Lemmas.Grammars.{head_lies}
-use Rattle.nl_frame.specs.declared.reading.ReadError.{ReadError}
 use Rattle.nl_frame.specs.declared.scanning.ScanError.{ScanError}
 use Rattle.nl_frame.specs.declared.scanning.ScanError.TheVariants.{TooLarge, Layout as Fails}
 use Rattle.nl_frame.specs.Heads.{FaultAt, Rest, header, heads, whole}
 use Rattle.nl_frame.proofs.Scan.{laws}
-use Rattle.nl_frame.specs.Limits.{Bounds}
 use Rattle.rtnl.specs.declared.bytes.rows.RowFormat.{RowFormat}
 use Rattle.rtnl.specs.declared.bytes.rows.RowFormat.TheVariants.{Text, Coloured, Json}
-use Rattle.rtnl.specs.Shown.{Answer, Answers, Refuses, is_taken, refusal_text}
-use Rattle.rtnl.specs.Tape.{AreEvents, IsAboutItsHead, IsRefusalOf, refusal_line}
-use Rattle.rtnl.specs.ByteParts.{BytePart, Label, Mark, contexts_after, marks_of, parts_by, refused_marks, size_in, unread}
 use Rattle.rtnl.specs.ByteRows.{IsAtByte, refused_at, AreParts, AreRows, AreRowsOf, ByteRow, Viewed, Views, answer_line, ending, is_accepted, opening, row_printed, viewed_text}
-use Rattle.rtnl.specs.ByteViews.{AddsAllRows, AddsPart, AddsRows, refusal_ending}
 use Rattle.rtnl.proofs.Showing.{one_more}
 
 -- ---- the parts of bytes

@@ -1,18 +1,9 @@
 -- A text in colours is the plain one with escapes put in.
 use Rattle.std.proofs.Common.{◌≡◌, ℕ, ◌+◌, ◌-◌, List, [], ◌∷◌, ◌++◌, take, drop, length, map, refl, sym, ap, subst, ◌∙◌, append_assoc, append-nil, arith, codes, length-drop, inl, inr}
-use Rattle.std.specs.List.{after_first, join_with_byte, position_or_len, prefix_len, starts_with}
-use Rattle.std.specs.Prelude.{nat_eq}
-use Rattle.std.proofs.lemmas.Bool.{cases_Bool, cases_lt}
-use Rattle.std.proofs.lemmas.List.{drop-drop, drop_all, take-append-drop}
-use Rattle.std.proofs.lemmas.List.Splits.{join_with_byte-slice_split}
-use Rattle.nl_attr.specs.declared.order.Order.{Order}
-use Rattle.nl_frame.specs.Limits.{Bounds}
-use Rattle.rtnl.specs.declared.error.Verdict.{Verdict}
+use Rattle.rtnl.proofs.Common.{after_first, join_with_byte, position_or_len, prefix_len, starts_with, nat_eq, cases_Bool, cases_lt, drop-drop, drop_all, take-append-drop, join_with_byte-slice_split, Order, Bounds, Verdict, lines_of, Answer, Shows, datagram_text}
 use Rattle.rtnl.specs.ByteRows.{escape, painted as in_colour, red, unpaint}
-use Rattle.rtnl.specs.Lines.{lines_of}
 use Rattle.rtnl.specs.Painted.{Colours, nothing, byte, put_in, IsEscape, ShowsColoured, bold, coloured_text, cyan, first_in, is_space, painted, painted_line, painted_words, third, third_in}
 use Rattle.rtnl.specs.Runs.{texts_from}
-use Rattle.rtnl.specs.Shown.{Answer, Shows, datagram_text}
 
 plain : (text : List ℕ) → Colours text text
 plain [] = nothing

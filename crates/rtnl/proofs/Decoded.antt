@@ -1,11 +1,7 @@
 -- What hexadecimal digits decode to, by their parts.
 use Rattle.std.proofs.Common.{◌≡◌, ℕ, ◌+◌, ◌*◌, ◌/◌, ◌%◌, ◌<◌, min, Bool, true, false, List, [], ◌∷◌, ◌++◌, length, Option, Some, None, unwrap_or, Result, Ok, Err, refl, sym, ap, ◌∙◌, arith, append-nil, append_assoc, length-append, inl, inr}
-use Rattle.std.specs.Prelude.{MatchResult}
-use Rattle.std.proofs.lemmas.Bool.{cases_eq}
+use Rattle.rtnl.proofs.Common.{MatchResult, cases_eq, FromHexError, decode_of-even, decode_of-odd, decode_sized-ok, decode_sized-twice, decoded}
 use Rattle.hex.specs.Hex.{decode_of, decode_pairs, decode_sized, digit_or_error, hex_digit_value, pair_value, value_at, ◌>>=◌}
-use Rattle.hex.specs.declared.error.FromHexError.{FromHexError}
-use Rattle.hex.proofs.HexLemmas.{decode_of-even, decode_of-odd, decode_sized-ok, decode_sized-twice}
-use Rattle.rtnl.specs.Lines.{decoded}
 
 -- the bytes of digits, where all of them decode
 abbrev pub found : Result (List ℕ) FromHexError → Option (List ℕ)

@@ -2,9 +2,7 @@
 use Rattle.std.proofs.Common.{◌≡◌, ◌==◌, ℕ, zero, suc, ℤ, pos, negsuc, ◌+◌, ◌-◌, ◌*◌, ◌/◌, ◌%◌, ◌^◌, ◌<◌, ◌≤◌, Bool, true, false, if◌then◌else◌, List, [], ◌∷◌, ◌++◌, length, replicate, decimal, refl, sym, ap, ◌∙◌, arith, append-nil, append_assoc, length-append, slice_index, eqb-true, inl, inr, rules}
 use Rattle.std.specs.Prelude.{int_lt, nat_lt, unsigned_abs}
 use Rattle.std.specs.Fmt.{digits, digits_onto, digit_glyph, signed_decimal}
-use Rattle.std.proofs.lemmas.Bool.{agree_below_at, cases_lt}
-use Rattle.std.proofs.lemmas.Fmt.{length-decimal-le}
-use Rattle.std.proofs.lemmas.List.{replicate-append-replicate}
+use Rattle.rtnl.proofs.Common.{agree_below_at, cases_lt, length-decimal-le, replicate-append-replicate}
 use Rattle.hex.specs.Hex.{encode_lower, encode_with, lower_digits}
 use Rattle.rtnl.specs.Text.{padded_hex}
 

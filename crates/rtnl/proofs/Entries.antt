@@ -1,7 +1,6 @@
 -- The entries of a table, printed one after another.
 use Rattle.std.proofs.Common.{◌≡◌, ℕ, ◌+◌, List, [], ◌∷◌, ◌++◌, map, sym, ap, ◌∙◌, append_assoc, append-nil}
-use Rattle.nl_attr.specs.declared.order.Order.{Order}
-use Rattle.nl_dump.specs.Items.{Item}
+use Rattle.rtnl.proofs.Common.{Order, Item}
 use Rattle.nl_frame.specs.Message.{object}
 use Rattle.rtnl.specs.Tabled.{Report, bodies_text, entries_text}
 

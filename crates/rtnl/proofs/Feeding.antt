@@ -1,8 +1,7 @@
 -- Datagrams that are fed one after another.
 use Rattle.std.proofs.Common.{◌≡◌, ℕ, ◌+◌, List, [], ◌∷◌, ◌++◌, length, Result, Ok, refl, sym, ap, ◌∙◌, append_assoc, append-nil}
 use Rattle.std.specs.Global.{Vec}
-use Rattle.nl_attr.specs.declared.order.Order.{Order}
-use Rattle.nl_frame.specs.Limits.{Bounds}
+use Rattle.rtnl.proofs.Common.{Order, Bounds, Verdict}
 use Rattle.nl_dump.specs.declared.dump.Dump.{Dump}
 use Rattle.nl_dump.specs.declared.dump.Progress.{Progress}
 use Rattle.nl_dump.specs.declared.errors.FeedError.{FeedError}
@@ -10,7 +9,6 @@ use Rattle.nl_dump.specs.View.{View, table_at}
 use Rattle.nl_dump.specs.Steps.{IsWaiting, IsNew, Began, Fed}
 use Rattle.nl_dump.specs.Whole.{begins}
 use Rattle.nl_dump.proofs.Courses.{calls_end}
-use Rattle.rtnl.specs.declared.error.Verdict.{Verdict}
 use Rattle.rtnl.specs.Tabled.{Report, answer_text, entries_text, Answered, datagrams_of, IsReported, FeedsSome, refusals_text, tabled_in, calls_of, ending_of, IsRun, ReportsFrom, TablesBy}
 
 -- nothing is fed yet

@@ -1,12 +1,6 @@
 -- Pieces of an input that is followed, line by line.
 use Rattle.std.proofs.Common.{◌≡◌, ℕ, Bool, true, false, List, [], ◌∷◌, ◌++◌, Option, Some, None, Result, Ok, Err, refl, sym, ap, ◌∙◌, subst, append_assoc, append-nil, inl, inr}
-use Rattle.std.specs.Io.KnownBytes.{Consumes, IsAtEnd, Keeps}
-use Rattle.rtnl.specs.Followed.{Follows, FollowsAll, FollowsPiece, GoesOn, HasRead, HeardLine, Tells, TellsLine, TellsOne, TellsPart, TellsSome, TellsUpTo, said_of, with_part}
-use Rattle.rtnl.specs.Lines.{lines_of}
-use Rattle.rtnl.specs.Streams.{Gains, Read, StopsOnce, all_moved, one_more}
-use Rattle.rtnl.specs.declared.error.RunError.{RunError}
-use Rattle.rtnl.specs.declared.error.RunError.TheVariants.{ReadFault, WriteFault, Memory}
-use Rattle.rtnl.specs.declared.runs.followed.Followed.{Followed}
+use Rattle.rtnl.proofs.Common.{Consumes, IsAtEnd, Keeps, Follows, FollowsAll, FollowsPiece, GoesOn, HasRead, HeardLine, Tells, TellsLine, TellsOne, TellsPart, TellsSome, TellsUpTo, said_of, with_part, lines_of, Gains, Read, StopsOnce, all_moved, one_more, RunError, ReadFault, WriteFault, Memory, Followed}
 use Rattle.rtnl.proofs.Following.{follows_last, follows_line, follows_part, follows_some, goes_more, more_lines, part_of_last, part_of_line, read_more, stops_at_last, stops_at_line, told_behind}
 
 -- a piece behind an input, in the parts that it is gone over in

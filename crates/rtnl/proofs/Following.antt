@@ -1,18 +1,10 @@
 -- Lines of an input that comes in pieces, and what is told of them one after another.
 use Rattle.std.proofs.Common.{◌≡◌, ◌+◌, ◌<◌, ◌≤◌, ◌^◌, ℕ, Bool, true, false, cond, List, [], ◌∷◌, ◌++◌, length, not, Option, Some, None, Result, Ok, Err, refl, sym, ap, ◌∙◌, subst, append_assoc, append-nil, arith, length-append, add-zero}
-use Rattle.std.specs.List.{onto_first}
-use Rattle.std.specs.Io.KnownBytes.{Appends, Consumes}
+use Rattle.rtnl.proofs.Common.{onto_first, Appends, Consumes, common_steps, nat_tests, AppendsPrefix, Gains, Read, all_moved, Appends-trans, Appends-nil, Consumes-nil, Consumes-trans, is_newline, lines_of, Follows, GoesOn, HasRead, HeardLine, Hears, IsCounted, LONGEST_LINE, Steps, Stops, Tells, TellsOne, TellsPart, TellsReads, TellsSome, TellsUpTo, ToldBehind, all_said, bad_at, bad_from, kept_of, line_says, none_followed, refused_in, refused_one, said_by, said_of, with_part, Followed}
 use Rattle.std.specs.Prelude.{nat_le, if◌then◌else◌}
-use Rattle.std.proofs.lemmas.Grind.{common_steps}
-use Rattle.std.proofs.lemmas.Bool.Decides.{nat_tests}
-use Rattle.rtnl.specs.Streams.{AppendsPrefix, Gains, Read, all_moved}
 use Rattle.rtnl.proofs.Cuts.{length-lines_of}
 use Rattle.rtnl.proofs.KnownBytes.{prefix_more}
-use Rattle.std.proofs.KnownBytes.{Appends-trans, Appends-nil, Consumes-nil, Consumes-trans}
-use Rattle.rtnl.specs.Lines.{is_newline, lines_of}
 use Rattle.rtnl.specs.Runs.{texts_from}
-use Rattle.rtnl.specs.Followed.{Follows, GoesOn, HasRead, HeardLine, Hears, IsCounted, LONGEST_LINE, Steps, Stops, Tells, TellsOne, TellsPart, TellsReads, TellsSome, TellsUpTo, ToldBehind, all_said, bad_at, bad_from, kept_of, line_says, none_followed, refused_in, refused_one, said_by, said_of, with_part}
-use Rattle.rtnl.specs.declared.runs.followed.Followed.{Followed}
 
 -- ---- the lines of one input and then another
 

@@ -1,19 +1,10 @@
 -- A dump that is followed: what is told of a datagram, and what is written before it and behind it.
-use Rattle.std.proofs.Common.{◌≡◌, ◌≢◌, ◌+◌, ◌++◌, ℕ, Bool, true, false, not, List, length, map, Option, Some, Result, Ok, Err, refl, sym, ap, ◌∙◌, subst, inl, inr}
-use Rattle.std.proofs.lemmas.List.{length-map}
-use Rattle.std.specs.Io.KnownBytes.{Appends}
-use Rattle.nl_attr.specs.declared.order.Order.{Order}
-use Rattle.nl_frame.specs.View.{message_view}
+use Rattle.rtnl.proofs.Common.{◌≡◌, ◌≢◌, ◌+◌, ◌++◌, ℕ, Bool, true, false, not, List, length, map, Option, Some, Result, Ok, Err, refl, sym, ap, ◌∙◌, subst, inl, inr, length-map, Appends, Order, message_view, Given, Reads, ends_dump, given_text, is_given, Writes, AppendsPrefix, StopsOnce, RunError, WriteFault, Memory}
 use Rattle.nl_dump.specs.declared.dump.ItemsRead.{ItemsRead}
 use Rattle.nl_dump.specs.declared.errors.FeedError.{FeedError}
 use Rattle.nl_dump.specs.declared.errors.FeedError.TheVariants as feed
 use Rattle.nl_dump.specs.Reading.{StreamRead}
-use Rattle.rtnl.specs.FollowedDump.{Given, Reads, ends_dump, given_text, is_given}
-use Rattle.rtnl.specs.Runs.{Writes}
-use Rattle.rtnl.specs.Streams.{AppendsPrefix, StopsOnce}
 use Rattle.rtnl.specs.Tabled.{Report, bodies_text}
-use Rattle.rtnl.specs.declared.error.RunError.{RunError}
-use Rattle.rtnl.specs.declared.error.RunError.TheVariants.{WriteFault, Memory}
 use Rattle.rtnl.specs.declared.runs.open_dump.OpenDump.{OpenDump}
 
 -- ---- a datagram

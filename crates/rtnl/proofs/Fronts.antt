@@ -2,12 +2,10 @@
 use Rattle.std.proofs.Common.{◌≡◌, ◌∷◌, ◌++◌, ◌∙◌, ℕ, [], Bool, true, false, List, Option, Some, None, ap, append-nil, append_assoc, codes, decimal, refl, sym}
 use Rattle.json.specs.Json.{Json}
 use Rattle.json.specs.Print.{escape_byte, print, print_from, quoted}
-use Rattle.json.specs.Token.{begin_object}
-use Rattle.json.specs.Tree.{json_tokens}
+use Rattle.rtnl.proofs.Common.{begin_object, json_tokens, Reading}
 use Rattle.rtnl.specs.declared.names.attributes.Style.{Style}
 use Rattle.rtnl.specs.Json.{Field, Line, ◌⊕◌, array, fields_tokens, number, object, opened, strings, value_text}
 use Rattle.rtnl.specs.MessagesJson.{flag_list, name_found, reading_fields, reading_json}
-use Rattle.rtnl.specs.Values.{Reading}
 use Rattle.rtnl.specs.Values as values
 use Rattle.rtnl.proofs.Json.{an_object, ended, ended_object, fields_together, more, opens, then_fields, together}
 

@@ -1,20 +1,11 @@
 -- The line that names a dump: its words, its digits, and how it is put together of them.
 use Rattle.std.proofs.Common.{◌≡◌, ◌≢◌, ℕ, zero, suc, ◌<◌, ◌≤◌, ◌^◌, ◌==◌, ◌&&◌, not, nat_lt, if◌then◌else◌, Bool, true, false, Option, Some, None, List, [], ◌∷◌, ◌++◌, All, MatchOption, length, take, drop, arith, append_assoc, refl, sym, ap, ◌∙◌, rules, cond, codes, option_map}
-use Rattle.std.specs.Borrow.{Bor}
+use Rattle.rtnl.proofs.Common.{Bor, list_all, SomeIff, option_copied, ltb-true, Decides-eqb, eqb_tells, IsAscii-from_digits, take-append-drop, find, Family, name_of}
 use Rattle.std.specs.Char.{digit_value, is_ascii_digit}
-use Rattle.std.specs.List.{list_all}
-use Rattle.std.specs.Option.{SomeIff, option_copied}
 use Rattle.std.specs.Str.{IsUtf8}
 use Rattle.std.specs.Str.Parse.{AllDigits, IsNumeral, digits_value}
-use Rattle.std.proofs.lemmas.Bool.{ltb-true}
-use Rattle.std.proofs.lemmas.Bool.Decides.{Decides-eqb, eqb_tells}
 use Rattle.std.proofs.lemmas.Str.{IsUtf8-from_ascii}
-use Rattle.std.proofs.lemmas.Fmt.{IsAscii-from_digits}
 use Rattle.std.proofs.lemmas.Str.Parse.{digit_from_value}
-use Rattle.std.proofs.lemmas.List.{take-append-drop}
-use Rattle.std.specs.List.{find}
-use Rattle.nl_route.specs.declared.family.Family.{Family}
-use Rattle.nl_route.specs.Families.{name_of}
 use Rattle.rtnl.specs.Heading.{◌>>=◌, Names, are_blanks, behind, digit_count, is_named, is_numeral, kind_at_end, kind_named, kind_text, kinds, number_at, number_if, number_in, only_blanks}
 
 -- a numeral's bytes are those from '0' to '9'

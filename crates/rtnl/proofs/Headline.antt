@@ -1,15 +1,10 @@
 -- A run over a recording keeps the headline of a session's calls, since what its lines decode to is bytes.
-use Rattle.std.proofs.Common.{◌≡◌, ℕ, ◌+◌, ◌==◌, Bool, true, false, cond, List, [], ◌∷◌, ◌++◌, length, Option, Some, None, Result, Ok, Err, refl, subst}
-use Rattle.std.specs.List.{AllByRecursion}
-use Rattle.hex.specs.Hex.{decode_of}
-use Rattle.hex.specs.declared.error.FromHexError.{FromHexError}
-use Rattle.hex.proofs.HexLemmas.{decode_of-ok}
+use Rattle.rtnl.proofs.Common.{◌≡◌, ℕ, ◌+◌, ◌==◌, Bool, true, false, cond, List, [], ◌∷◌, ◌++◌, length, Option, Some, None, Result, Ok, Err, refl, subst, AllByRecursion, decode_of, FromHexError, decode_of-ok, Answered, HeadlineOfTables, calls_of, datagrams_of, feeds_after}
 use Rattle.nl_attr.specs.Numbers.{AreBytes}
 use Rattle.nl_dump.specs.Whole.{Call}
 use Rattle.nl_dump.specs.Headline.{FeedBytes}
 use Rattle.nl_dump.proofs.Headlines.{headline}
 use Rattle.rtnl.specs.Lines.{compact, datagrams_from, decoded, digits_at, is_comment, line_at, lines_of, with_first, ◌>>=◌}
-use Rattle.rtnl.specs.Tabled.{Answered, HeadlineOfTables, calls_of, datagrams_of, feeds_after}
 
 -- ---- the datagrams of lines are bytes
 

@@ -1,15 +1,13 @@
 -- What is written of a line, a token after another.
 use Rattle.std.proofs.Common.{◌≡◌, ◌+◌, ℕ, [], ◌∷◌, ◌++◌, Bool, true, false, cond, List, drop, arith, append_assoc, append-nil, ap, ap₂, codes, decimal, refl, sym, ◌∙◌}
-use Rattle.std.proofs.lemmas.Bool.{and_parts}
+use Rattle.rtnl.proofs.Common.{and_parts, items_tokens, json_tokens, members_tokens, encode_lower}
 use Rattle.json.specs.Json.{Json}
 use Rattle.json.specs.Print.{begins, ends, escape, escape_byte, print, print_from, quoted, separator, token_text}
 use Rattle.json.specs.Run.{is_plain}
 use Rattle.json.specs.Token.{Token, begin_array, begin_object, boolean, end_array, end_object, key, null}
 use Rattle.json.specs.Token as token
-use Rattle.json.specs.Tree.{items_tokens, json_tokens, members_tokens}
 use Rattle.json.proofs.Printed.Strings.{escape_byte_plain}
 use Rattle.rtnl.specs.MessagesJson.{form_tokens, reading_fields, reading_json}
-use Rattle.hex.specs.Hex.{encode_lower}
 use Rattle.rtnl.specs.Values.{Reading, ipv4_text, ipv6_text}
 use Rattle.rtnl.specs.Values as values
 use Rattle.rtnl.specs.Json.{Field, IsUnescaped, Line, ◌⊕◌, array, behind, closed, comma, fields_tokens, is_unescaped, items_of, json_line, members_of, number, object, object_behind, opened, put, string, value_text, values_tokens}

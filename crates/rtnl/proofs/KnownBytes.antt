@@ -1,13 +1,6 @@
 -- Runs of reads and of writes, seen by what is known of the bytes.
 use Rattle.std.proofs.Common.{◌≡◌, ℕ, ◌+◌, ◌≤◌, Bool, true, false, List, ◌++◌, Option, refl, Some, None, append_assoc, append-nil, ap, sym, ◌∙◌, subst, take, take_all, drop, length, arith, length-append}
-use Rattle.std.specs.Prelude.{nat_le}
-use Rattle.std.proofs.Math.Seq.{take-add, take-append-add, take-append_seam}
-use Rattle.std.proofs.lemmas.Bool.Decides.{nat_tests}
-use Rattle.std.proofs.lemmas.Grind.{common_steps}
-use Rattle.std.proofs.lemmas.List.{length-take, take-append-le}
-use Rattle.std.proofs.KnownBytes.{Appends-kept, Appends-trans, Consumes-trans}
-use Rattle.rtnl.specs.Streams.{AppendsPrefix, ConsumesAtMost}
-use Rattle.std.specs.Io.KnownBytes.{Appends, Consumes, Keeps}
+use Rattle.rtnl.proofs.Common.{nat_le, take-add, take-append-add, take-append_seam, nat_tests, common_steps, length-take, take-append-le, Appends-kept, Appends-trans, Consumes-trans, AppendsPrefix, ConsumesAtMost, Appends, Consumes, Keeps}
 
 -- one more read of at most k bytes
 pub at_most_more : (n : ℕ) (a b c : Option (List ℕ)) (x s : List ℕ) (k : ℕ) → Consumes a b x → Consumes b c (take k s) → length x + k ≤ n → ConsumesAtMost n a c

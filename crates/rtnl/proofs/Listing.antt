@@ -1,6 +1,5 @@
 use Rattle.std.proofs.Common.{◌≡◌, ℕ, true, false, List, [], ◌∷◌, ◌++◌, ap, sym, ◌∙◌, append_assoc, append-nil}
-use Rattle.std.specs.List.{join_with_byte}
-use Rattle.rtnl.specs.Names.{rest_text}
+use Rattle.rtnl.proofs.Common.{join_with_byte, rest_text}
 
 joined : (name : List ℕ) (names : List (List ℕ)) → join_with_byte 44 (name ∷ names) ≡ name ++ rest_text true names
 joined name [] = sym (append-nil name)

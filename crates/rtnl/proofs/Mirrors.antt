@@ -1,16 +1,9 @@
 -- A mirror that a recording keeps: its tables, seen through what their entries stand for, and messages that are heard one after another.
 use Rattle.std.proofs.Common.{◌≡◌, ℕ, Bool, true, false, List, [], ◌∷◌, ◌++◌, ◌∙◌, Option, Some, None, Ok, IfOk, option_map, slice_get, append_assoc, append-nil, refl, sym, ap, subst}
 use Rattle.std.proofs.lemmas.Option.{slice_get-map}
-use Rattle.nl_attr.specs.declared.order.Order.{Order}
-use Rattle.nl_route.specs.declared.family.Family.{Family}
-use Rattle.nl_frame.specs.Message.{MessageVal}
-use Rattle.nl_dump.specs.Items.{Item}
-use Rattle.nl_mirror.specs.Changes.{Held}
+use Rattle.rtnl.proofs.Common.{Order, Family, MessageVal, Item, Held, held_seen, Report, is_comment}
 use Rattle.nl_mirror.specs.Five.{Mirrored, EachHearsBy, IsUpdate}
-use Rattle.nl_mirror.specs.Seen.{held_seen}
 use Rattle.rtnl.specs.Mirroring.{Comes, Hearing, HearsAll, Outcome, Passed, Passes, Step, Progress, answer_text, answers_text, begins_well, comment_says, entry_at, fed_by, is_heard, is_passed, kind_text, of_shown, outcome_text, standing, step_in, step_of, step_text, stood_in, unbegun_by, where_so}
-use Rattle.rtnl.specs.Tabled.{Report}
-use Rattle.rtnl.specs.Lines.{is_comment}
 use Rattle.rtnl.specs.declared.runs.steps.Said.{Said}
 use Rattle.rtnl.specs.declared.runs.mirrored.MirrorSettings.{MirrorSettings}
 use Rattle.rtnl.specs.declared.runs.mirrored.MirrorSoFar.{MirrorSoFar}

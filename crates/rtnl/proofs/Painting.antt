@@ -1,10 +1,6 @@
 -- Texts in colours, line by line and word by word.
-use Rattle.std.proofs.Common.{◌≡◌, ℕ, ◌+◌, ◌<◌, ◌≤◌, List, [], ◌∷◌, ◌++◌, get_or, take, drop, length, map, refl, sym, ap, ◌∙◌, append_assoc, arith}
-use Rattle.std.specs.List.{join_with_byte, position_or_len}
-use Rattle.std.proofs.lemmas.List.Sums.{position_or_len_is}
-use Rattle.std.proofs.lemmas.List.Splits.{length-slice_split}
+use Rattle.rtnl.proofs.Common.{◌≡◌, ℕ, ◌+◌, ◌<◌, ◌≤◌, List, [], ◌∷◌, ◌++◌, get_or, take, drop, length, map, refl, sym, ap, ◌∙◌, append_assoc, arith, join_with_byte, position_or_len, position_or_len_is, length-slice_split, lines_of, is_newline}
 use Rattle.memchr.specs.Find.{NoneBefore, Nowhere, Passes, is_byte}
-use Rattle.rtnl.specs.Lines.{lines_of, is_newline}
 use Rattle.rtnl.specs.Painted.{is_space, painted, painted_line}
 use Rattle.rtnl.proofs.Cuts.{fails, last_line, line_found}
 

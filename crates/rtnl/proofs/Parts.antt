@@ -1,9 +1,7 @@
 -- A text in parts.
 use Rattle.std.proofs.Common.{◌≡◌, ◌+◌, ◌<◌, ℕ, List, [], ◌∷◌, ◌++◌, get_or, take, drop, length, sym, ap, ◌∙◌, append-nil}
 use Rattle.std.specs.Global.{Vec}
-use Rattle.std.proofs.lemmas.Grind.{flat_map-append}
-use Rattle.std.proofs.lemmas.List.{take_more, take-append-drop}
-use Rattle.rtnl.specs.Parts.{joined}
+use Rattle.rtnl.proofs.Common.{flat_map-append, take_more, take-append-drop, joined}
 
 -- a part more
 pub joined_more : (parts : List (Vec ℕ)) (part : Vec ℕ) → joined (parts ++ part ∷ []) ≡ joined parts ++ part.items

@@ -1,10 +1,6 @@
 -- The pieces of bytes, by their places, and one piece more.
-use Rattle.std.proofs.Common.{◌≡◌, ℕ, zero, suc, ◌-◌, ◌<◌, ◌≤◌, List, [], ◌∷◌, ◌++◌, get_or, take, drop, length, refl, sym, ap, ◌∙◌, arith, length-append, inl, inr}
-use Rattle.std.specs.Prelude.{slice_range}
-use Rattle.std.proofs.lemmas.Bool.{cases_lt}
+use Rattle.rtnl.proofs.Common.{◌≡◌, ℕ, zero, suc, ◌-◌, ◌<◌, ◌≤◌, List, [], ◌∷◌, ◌++◌, get_or, take, drop, length, refl, sym, ap, ◌∙◌, arith, length-append, inl, inr, slice_range, cases_lt, drop-append_seam, Rise, pieces}
 use Rattle.std.proofs.lemmas.List.{drop-append-le, get_or_read, length-drop, take-append-le, take_all}
-use Rattle.std.proofs.Math.Seq.{drop-append_seam}
-use Rattle.rtnl.specs.Lines.{Rise, pieces}
 
 -- there is a piece for each end
 pub length-pieces : (start : ℕ) (bytes ends : List ℕ) → length (pieces start bytes ends) ≡ length ends

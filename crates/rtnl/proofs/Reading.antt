@@ -1,15 +1,8 @@
 -- The lines of a recording, read one after another, and their datagrams, put one behind the other.
 use Rattle.std.proofs.Common.{◌≡◌, true, false, ℕ, ◌+◌, ◌≤◌, List, [], ◌∷◌, ◌++◌, drop, length, Option, Some, None, Result, Ok, Err, refl, ap, ◌∙◌, arith, length-append, rules, ◌==◌, if◌then◌else◌, Bool, not, filter, ◌<◌, unwrap_or, get_or, sym, subst, append_assoc, append-nil}
-use Rattle.std.specs.List.{sum_by, list_any}
-use Rattle.std.proofs.lemmas.List.Sums.{sum_by-drop_more, count_by-le-length, length-filter}
-use Rattle.std.proofs.lemmas.List.{at_drop_more, at_drop_all}
+use Rattle.rtnl.proofs.Common.{sum_by, list_any, sum_by-drop_more, count_by-le-length, length-filter, at_drop_more, at_drop_all, decode_of, FromHexError, decode_of-ok, RunError, BadLine, ReadFault, WriteFault, Memory}
 use Rattle.std.specs.Result.{result_unwrap_or}
-use Rattle.hex.specs.Hex.{decode_of}
-use Rattle.hex.specs.declared.error.FromHexError.{FromHexError}
-use Rattle.hex.proofs.HexLemmas.{decode_of-ok}
 use Rattle.rtnl.specs.Lines.{Adds, Rise, pieces, datagrams, datagrams_from, line_at, lines_of, Fails, compact, decoded, digits_at, is_blank, is_comment, with_first, ◌>>=◌}
-use Rattle.rtnl.specs.declared.error.RunError.{RunError}
-use Rattle.rtnl.specs.declared.error.RunError.TheVariants.{BadLine, ReadFault, WriteFault, Memory}
 use Rattle.rtnl.proofs.Cuts.{total-lines_of}
 use Rattle.rtnl.proofs.PieceEnds.{Rise-push, pieces_push}
 

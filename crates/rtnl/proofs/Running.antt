@@ -1,8 +1,7 @@
 -- Datagrams that are gone through one after another.
 use Rattle.std.proofs.Common.{◌≡◌, ℕ, List, [], ◌∷◌, ◌++◌, ◌+◌, Bool, refl, sym, ap, ◌∙◌, append_assoc, append-nil}
 use Rattle.rtnl.specs.Runs.{EachIs, texts_from, verdict_from, with_one}
-use Rattle.rtnl.specs.declared.error.Verdict.{Verdict}
-use Rattle.rtnl.specs.declared.error.Verdict.TheVariants.{Clean}
+use Rattle.rtnl.proofs.Common.{Verdict, Clean}
 
 -- whatever is found of the rest, with it all datagrams are printed
 abbrev pub Continues : {X : Type 0} → (List ℕ → X → Type 0) → (ℕ → List ℕ → X → List ℕ) → (X → Bool) → List (List ℕ) → List ℕ → ℕ → List (List ℕ) → List ℕ → Verdict → Type 0

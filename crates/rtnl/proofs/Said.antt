@@ -2,11 +2,8 @@
 use Rattle.std.proofs.Common.{◌≡◌, ◌+◌, ◌≤◌, ℕ, Bool, true, false, List, [], ◌∷◌, ◌++◌, length, Option, Some, None, Result, Ok, Err, refl, sym, ap, ◌∙◌, subst, append_assoc, append-nil, arith, length-append, add-zero}
 use Rattle.std.specs.Option.{is_some}
 use Rattle.rtnl.specs.Lines.{Adds, datagrams, datagrams_from, line_at, lines_of, with_first, ◌>>=◌}
-use Rattle.rtnl.specs.Parts.{joined}
+use Rattle.rtnl.proofs.Common.{joined, IsSaid, SaysInput, Verdict, Clean}
 use Rattle.rtnl.specs.Runs.{EachIs, Prints, texts_from, verdict_from, with_one}
-use Rattle.rtnl.specs.Said.{IsSaid, SaysInput}
-use Rattle.rtnl.specs.declared.error.Verdict.{Verdict}
-use Rattle.rtnl.specs.declared.error.Verdict.TheVariants.{Clean}
 use Rattle.rtnl.specs.declared.runs.output.Output.{Output}
 use Rattle.rtnl.proofs.Cuts.{length-lines_of}
 use Rattle.rtnl.proofs.Following.{lines_more, one_ended}

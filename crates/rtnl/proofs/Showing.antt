@@ -1,16 +1,10 @@
 -- What reading a datagram answers, and what is shown of it.
-use Rattle.std.proofs.Common.{◌≡◌, ◌≢◌, ◌<◌, ◌↔◌, ℕ, List, ◌++◌, length, map, Result, Ok, Err, IfOk, IfErr, refl, subst, ap, ◌∙◌, append_assoc}
+use Rattle.rtnl.proofs.Common.{◌≡◌, ◌≢◌, ◌<◌, ◌↔◌, ℕ, List, ◌++◌, length, map, Result, Ok, Err, IfOk, IfErr, refl, subst, ap, ◌∙◌, append_assoc, ReadError, IsFirstFault, whole, Layout, Bounds, message_view, Answers, Refuses}
 use Rattle.std.specs.Global.{Vec}
 use Rattle.nl_frame.specs.declared.body.Message.{Message}
-use Rattle.nl_frame.specs.declared.reading.ReadError.{ReadError}
 use Rattle.nl_frame.specs.declared.reading.ReadError.TheVariants.{TooLarge, Layout as Fails, Memory}
-use Rattle.nl_frame.specs.Heads.{IsFirstFault, whole}
-use Rattle.nl_frame.specs.Layout.{Layout}
-use Rattle.nl_frame.specs.Limits.{Bounds}
 use Rattle.nl_frame.specs.Outcomes.{IfFault}
-use Rattle.nl_frame.specs.View.{message_view}
 use Rattle.nl_frame.proofs.Within.{within}
-use Rattle.rtnl.specs.Shown.{Answers, Refuses}
 
 pub answers_messages : (b : Bounds) (d : List ℕ) (r : Result (Vec Message) ReadError) → (r ≡ Err TooLarge) ↔ (b.datagram < length d)
     → (v : Vec Message) → r ≡ Ok v → IfOk r (λ (x : Vec Message). Layout b.shape (map message_view x.items) d) → Answers b d (Ok (map message_view v.items))

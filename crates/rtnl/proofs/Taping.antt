@@ -1,25 +1,16 @@
 -- What a scan finds of a datagram, in the words of its answer.
-use Rattle.std.proofs.Common.{◌≡◌, ◌<◌, ◌≤◌, ◌⊎◌, inl, inr, ℕ, ◌+◌, ◌-◌, ◌*◌, ◌/◌, ◌∙◌, ◌++◌, List, length, take, drop, ap, arith, Option, Some, None, Result, Ok, Err, IfOk, IfErr, refl, sym, subst}
-use Rattle.std.proofs.lemmas.Bool.{cases_lt}
+use Rattle.rtnl.proofs.Common.{◌≡◌, ◌<◌, ◌≤◌, ◌⊎◌, inl, inr, ℕ, ◌+◌, ◌-◌, ◌*◌, ◌/◌, ◌∙◌, ◌++◌, List, length, take, drop, ap, arith, Option, Some, None, Result, Ok, Err, IfOk, IfErr, refl, sym, subst, cases_lt, take-append_seam, Event, IsFirstFault, whole, Layout, Bounds, MessageVal, Answer, Answers, AreEvents, IsAboutItsHead, IsRefusalOf, refusal_in}
 use Rattle.std.proofs.lemmas.List.{take_all}
-use Rattle.std.proofs.Math.Seq.{take-append_seam}
-use Rattle.nl_attr.specs.declared.events.Event.{Event}
 use Rattle.nl_attr.specs.HeadOrder.{put_from}
 use Rattle.nl_attr.specs.declared.fault.Tally.{Tally}
 use Rattle.nl_frame.specs.declared.scanning.ScanError.{ScanError}
 use Rattle.nl_frame.specs.declared.scanning.ScanError.TheVariants.{TooLarge, Layout as Fails}
 use Rattle.nl_frame.specs.declared.reading.ReadError.TheVariants as unread
 use Rattle.nl_frame.specs.Broken.{IsBrokenHead}
-use Rattle.nl_frame.specs.Heads.{IsFirstFault, whole}
 use Rattle.nl_frame.specs.HeadOrder.{events_of}
-use Rattle.nl_frame.specs.Layout.{Layout}
-use Rattle.nl_frame.specs.Limits.{Bounds}
-use Rattle.nl_frame.specs.Message.{MessageVal}
 use Rattle.nl_frame.specs.Outcomes.{IfFault}
 use Rattle.nl_frame.specs.Scans.{ScansDatagram}
 use Rattle.nl_frame.specs.Taped.{IfBroken, as_read}
-use Rattle.rtnl.specs.Shown.{Answer, Answers}
-use Rattle.rtnl.specs.Tape.{AreEvents, IsAboutItsHead, IsRefusalOf, refusal_in}
 
 module _ {X : Type 0} (b : Bounds) (d : List ℕ) (t : Tally X ScanError) (scans : ScansDatagram b d t) where
   -- what is not refused for its size is within the limit

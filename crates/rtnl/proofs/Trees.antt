@@ -1,16 +1,12 @@
 -- Attributes and next hops by how many they are.
 use Rattle.std.proofs.Common.{◌≡◌, ◌++◌, ℕ, Bool, List, [], ◌∷◌, length, refl, sym, ap, ◌∙◌, append_assoc, arith, codes, Vec, Global}
 use Rattle.std.specs.Fmt.{decimal}
-use Rattle.nl_attr.specs.declared.order.Order.{Order}
+use Rattle.rtnl.proofs.Common.{Order, Ctx, Route, Hop, out-Hop, Front, HopFront, value_step, attr_step, hop_step, value_view, attr_view, attrs_view, hop_view, hops_view}
 use Rattle.nl_attr.specs.declared.tree.Attr.{Attr}
-use Rattle.nl_attr.specs.declared.tree.Ctx.{Ctx}
-use Rattle.nl_attr.specs.declared.tree.Ctx.TheVariants.{Route}
-use Rattle.nl_attr.specs.declared.tree.Hop.{Hop, out-Hop}
 use Rattle.nl_attr.specs.declared.tree.Value.TheFolds.{fold_out-Attr, fold-roll-Value}
 use Rattle.nl_attr.specs.declared.tree.Value.TheOpen.{Value-F}
 use Rattle.nl_attr.specs.declared.tree.Value.TheVariants as value
 use Rattle.nl_attr.specs.Tree.{Val, bytes, Items, item, HopItems, hop}
-use Rattle.nl_attr.specs.View.{Front, HopFront, value_step, attr_step, hop_step, value_view, attr_view, attrs_view, hop_view, hops_view}
 use Rattle.nl_attr.proofs.Lemmas.Opened.{attr_is, hop_is, value_list, value_hops}
 use Rattle.rtnl.specs.declared.names.attributes.Style.{Style}
 use Rattle.rtnl.specs.Trees.{deeper, held_text, hop_count, hop_line, hops_text, indented, inline_text, item_count, items_text}

@@ -1,21 +1,13 @@
 -- Texts that stand for themselves, in a string of JSON or as UTF-8.
 use Rattle.std.proofs.Common.{◌≡◌, ℕ, zero, suc, ◌+◌, ◌*◌, ◌/◌, ◌%◌, ◌<◌, ◌≤◌, ◌^◌, ◌&&◌, ◌==◌, Bool, true, List, [], ◌∷◌, ◌++◌, length, Option, Some, None, refl, rules, subst, arith, codes, decimal, slice_index, inl, inr}
-use Rattle.std.specs.Prelude.{nat_le}
-use Rattle.std.proofs.lemmas.Bool.{agree_below_at, and_parts, cases_Bool}
-use Rattle.std.specs.List.{list_all}
+use Rattle.rtnl.proofs.Common.{nat_le, agree_below_at, and_parts, cases_Bool, list_all, decimal_by_steps, Ctx, Family, name_of, IsUnescaped, is_unescaped, Named, find_named, name_in, bit_names, are_unescaped}
 use Rattle.std.specs.Str.{IsUtf8}
-use Rattle.std.proofs.lemmas.Fmt.{decimal_by_steps}
 use Rattle.std.proofs.lemmas.Str.{IsUtf8-from_ascii}
 use Rattle.hex.specs.Hex.{encode_lower, encode_with, lower_digits}
 use Rattle.json.specs.Run.{is_plain}
-use Rattle.nl_attr.specs.declared.tree.Ctx.{Ctx}
 use Rattle.nl_attr.specs.declared.tree.Ctx.TheVariants as ctx
-use Rattle.nl_route.specs.declared.family.Family.{Family}
 use Rattle.nl_route.specs.declared.family.Family.TheVariants as family
-use Rattle.nl_route.specs.Families.{name_of}
 use Rattle.rtnl.specs.Attributes.{attribute_name, attribute_rows, row_of}
-use Rattle.rtnl.specs.Json.{IsUnescaped, is_unescaped}
-use Rattle.rtnl.specs.Named.{Named, find_named, name_in}
 use Rattle.rtnl.specs.Text.{padded_hex}
 use Rattle.nl_route.specs.declared.family.RouteType.{RouteType}
 use Rattle.nl_route.specs.declared.family.Verb.{Verb}
@@ -24,8 +16,6 @@ use Rattle.nl_route.specs.Types.{route_type}
 use Rattle.rtnl.specs.declared.names.flags.Bits.{Bits}
 use Rattle.rtnl.specs.declared.names.flags.Bits.TheVariants as bits
 use Rattle.rtnl.specs.declared.names.types.FlagNames.TheVariants.{Common, Get, New, Error}
-use Rattle.rtnl.specs.NamedBits.{bit_names}
-use Rattle.rtnl.specs.Names.{are_unescaped}
 use Rattle.rtnl.specs.Types.{controls, name_for, type_name, verb_name}
 use Rattle.rtnl.specs.Values as values
 use Rattle.rtnl.specs.Values.{group_at, groups_text, ipv4_text, ipv6_text}

@@ -1,18 +1,10 @@
 -- What a builder of the standard limits makes of a buffer with one message.
-use Rattle.std.proofs.Common.{◌≡◌, ℕ, ◌≤◌, List, ◌++◌, length, take, Option, None, OnOk, Result, refl, sym, ap, subst, ◌∙◌, lit≤}
-use Rattle.std.proofs.lemmas.List.{length-take-le, take-append-drop}
-use Rattle.nl_attr.specs.declared.order.Order.{Order}
-use Rattle.nl_frame.specs.declared.building.refusal.BuildError.{BuildError}
-use Rattle.nl_frame.specs.Building.{Built, answer, finish, finish_refusal, nothing_built, or_next, order_of}
+use Rattle.rtnl_c.proofs.Common.{◌≡◌, ℕ, ◌≤◌, List, ◌++◌, length, take, Option, None, OnOk, Result, refl, sym, ap, subst, ◌∙◌, lit≤, length-take-le, take-append-drop, Order, BuildError, Built, answer, finish, finish_refusal, nothing_built, or_next, order_of, AreLimits, Bounds, MessageVal, Parts, new_parts, over, put_of}
 use Rattle.nl_frame.specs.Calls.{and_message, with_message}
 use Rattle.nl_frame.specs.Draft.{Draft, Holds, nothing_put}
-use Rattle.nl_frame.specs.Limits.{AreLimits, Bounds}
-use Rattle.nl_frame.specs.Message.{MessageVal}
-use Rattle.nl_frame.specs.Parts.{Parts, new_parts, over}
 use Rattle.nl_frame.proofs.Ends.{finishes}
 use Rattle.nl_frame.proofs.Puts.{neither}
 use Rattle.rtnl_c.specs.Asked.{IsAlone, PutsAlone, alone, finished, standard_in}
-use Rattle.rtnl_c.specs.Put.{put_of}
 
 are_limits : (o : Order) → AreLimits (standard_in o)
 are_limits o = (lit≤ tt, refl, lit≤ tt, lit≤ tt, lit≤ tt, lit≤ tt)

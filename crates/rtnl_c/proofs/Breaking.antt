@@ -5,12 +5,9 @@ use Rattle.nl_frame.specs.declared.scanning.ScanError.TheVariants.{TooLarge, Lay
 use Rattle.nl_frame.specs.Broken.{IsBrokenHead}
 use Rattle.nl_frame.specs.Heads.{IsFirstFault, whole}
 use Rattle.nl_frame.specs.Layout.{Layout}
-use Rattle.nl_frame.specs.Limits.{Bounds}
-use Rattle.nl_frame.specs.Message.{MessageVal}
-use Rattle.nl_frame.specs.Outcomes.{IfFault}
+use Rattle.rtnl_c.proofs.Common.{Bounds, MessageVal, IfFault, too_large}
 use Rattle.nl_frame.specs.Taped.{IfBroken, as_read}
 use Rattle.rtnl_c.specs.Broken.{Breaks, accepted, broken_of, faulty, large, unbroken}
-use Rattle.rtnl_c.specs.Codes.{too_large}
 use Rattle.rtnl_c.specs.declared.broken.Broken.{Broken}
 use Rattle.rtnl_c.proofs.Scans.{within}
 

@@ -4,10 +4,7 @@ use Rattle.nl_frame.specs.declared.reading.ReadError.{ReadError}
 use Rattle.nl_frame.specs.declared.reading.ReadError.TheVariants.{TooLarge, Layout as Fails, Memory}
 use Rattle.nl_frame.specs.Heads.{IsFirstFault, whole}
 use Rattle.nl_frame.specs.Layout.{Layout}
-use Rattle.nl_frame.specs.Limits.{Bounds}
-use Rattle.nl_frame.specs.Message.{MessageVal}
-use Rattle.nl_frame.specs.Outcomes.{IfFault}
-use Rattle.nl_frame.specs.Written.{written}
+use Rattle.rtnl_c.proofs.Common.{Bounds, MessageVal, IfFault, written}
 use Rattle.nl_frame.proofs.Within.{within}
 use Rattle.rtnl_c.specs.Checked.{Checks, finds, no_memory, found}
 

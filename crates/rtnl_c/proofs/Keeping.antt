@@ -1,24 +1,16 @@
 -- A builder that C keeps: its heads, and the way back.
 use Rattle.std.proofs.Common.{◌≡◌, ◌≢◌, ◌==◌, ℕ, ◌+◌, ◌-◌, ◌<◌, ◌≤◌, ◌⊎◌, List, [], ◌∷◌, length, slice_index_or, slice_set, drop, length-drop, Option, Some, None, Result, Ok, Err, refl, sym, ap, subst, ◌∙◌, arith, inl, inr}
 use Rattle.std.specs.Prelude.{IfOk, IfSome, MatchOption}
-use Rattle.std.proofs.lemmas.List.{get_or-set_same, get_or-set_other}
+use Rattle.rtnl_c.proofs.Common.{get_or-set_same, get_or-set_other, Order, BuildError, Built, AreOpen, levels_in, order_of, top, BuilderTop, Bounds, AreLimits, bounds_of, Opens, heads_after, left_with, parts_with, over, order_in}
 use Rattle.std.proofs.Math.Nat.{eq-or-lt_of_le}
-use Rattle.nl_attr.specs.declared.order.Order.{Order}
 use Rattle.nl_attr.specs.declared.order.Order.TheVariants.{Little, Big}
 use Rattle.nl_attr.specs.declared.tree.Ctx.TheVariants.{Link, LinkInfo, Addr, Route, Metrics, Neigh, Rule, Plain}
 use Rattle.nl_attr.specs.declared.tree.Content.{Content}
 use Rattle.nl_attr.specs.declared.tree.Content.TheVariants as content
 use Rattle.nl_frame.specs.declared.building.OpenHead.{OpenHead}
-use Rattle.nl_frame.specs.declared.building.refusal.BuildError.{BuildError}
 use Rattle.nl_frame.specs.declared.building.refusal.BuildError.TheVariants.{Mismatch, TooDeep, TooLong, TooLarge, NoRoom, NothingOpen, StillOpen}
-use Rattle.nl_frame.specs.Building.{Built, AreOpen, levels_in, order_of, top}
-use Rattle.nl_frame.specs.declared.building.top.BuilderTop.{BuilderTop}
-use Rattle.nl_frame.specs.Limits.{Bounds, AreLimits, bounds_of}
-use Rattle.nl_frame.specs.Tops.{Opens, heads_after, left_with, parts_with}
 use Rattle.nl_frame.proofs.Opens.{are_open_more}
-use Rattle.nl_frame.specs.Parts.{over}
 use Rattle.rtnl_c.specs.declared.building.KeptBuilder.{KeptBuilder}
-use Rattle.rtnl_c.specs.Options.{order_in}
 use Rattle.rtnl_c.specs.Building.{AreKept, HasNone, IsInnermost, IsKept, IsNone, IsTopOf, Calls, on_none, calls, content_in, content_number, left_closed, order_by, order_number, refusal_in, refusal_number, with_opened}
 
 -- ---- numbers

@@ -1,23 +1,15 @@
 -- A table of a mirror by what its entries stand for.
 use Rattle.std.proofs.Common.{◌≡◌, ◌∙◌, ℕ, List, [], ◌∷◌, map, Option, Some, None, option_map, slice_get, ap, sym, subst, refl, Result, IfOk}
-use Rattle.std.specs.Prelude.{position, bytes_eq}
-use Rattle.std.specs.Global.{Vec}
+use Rattle.rtnl_c.proofs.Common.{position, bytes_eq, Vec, Order, Family, WriteError, written, Mirrored, follower_at, place_of, entry_message, entry_bytes, table_of, table_at, order_at, effect_before, update_before}
 use Rattle.std.specs.Map.{keys_of}
 use Rattle.std.proofs.lemmas.Map.Made.{keys_of-map_values}
-use Rattle.nl_attr.specs.declared.order.Order.{Order}
-use Rattle.nl_route.specs.declared.family.Family.{Family}
-use Rattle.nl_frame.specs.declared.writing.WriteError.{WriteError}
-use Rattle.nl_frame.specs.Written.{written}
 use Rattle.nl_table.specs.Content.{Content}
 use Rattle.nl_dump.specs.Items.{Item}
 use Rattle.nl_mirror.specs.declared.effect.Effect.{Effect}
 use Rattle.nl_mirror.specs.declared.effect.Effect.TheVariants.{Added, Changed, Removed, Waits, Nothing}
 use Rattle.nl_mirror.specs.Changes.{held_of}
 use Rattle.nl_mirror.specs.Effects.{effect_seen}
-use Rattle.nl_mirror.specs.Five.{Mirrored, follower_at}
 use Rattle.nl_mirror.specs.Hearing.{Following, in_items}
-use Rattle.rtnl_c.specs.Entries.{place_of, entry_message, entry_bytes}
-use Rattle.rtnl_c.specs.Mirrors.{table_of, table_at, order_at, effect_before, update_before}
 use Rattle.rtnl_c.proofs.Seen.{entry_seen}
 
 abbrev items_of : Option (Vec ℕ) → Option (List ℕ)

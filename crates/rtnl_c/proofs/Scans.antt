@@ -6,10 +6,8 @@ use Rattle.nl_frame.specs.declared.scanning.ScanError.{ScanError}
 use Rattle.nl_frame.specs.declared.scanning.ScanError.TheVariants.{TooLarge, Layout as Fails}
 use Rattle.nl_frame.specs.Heads.{IsFirstFault, whole}
 use Rattle.nl_frame.specs.Layout.{Layout}
-use Rattle.nl_frame.specs.Limits.{Bounds}
-use Rattle.nl_frame.specs.Message.{MessageVal}
+use Rattle.rtnl_c.proofs.Common.{Bounds, MessageVal, IfFault, VisitsUpTo, read_code}
 use Rattle.nl_frame.specs.Taped.{as_read, read_refusal}
-use Rattle.nl_frame.specs.Outcomes.{IfFault, VisitsUpTo, read_code}
 use Rattle.nl_frame.specs.HeadOrder.{events_of}
 use Rattle.rtnl_c.specs.Scanned.{Scans, Tapes, place_of, refused, untaped}
 use Rattle.rtnl_c.specs.Scanned as found

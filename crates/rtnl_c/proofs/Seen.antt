@@ -1,23 +1,14 @@
 -- A table by what its entries stand for: the size and the keys are the same.
 use Rattle.std.proofs.Common.{◌≡◌, ◌∙◌, ◌+◌, ℕ, List, [], ◌∷◌, length, Option, Some, None, option_map, slice_get, ap, sym, subst, refl, Result, IfOk}
-use Rattle.std.specs.Global.{Vec}
+use Rattle.rtnl_c.proofs.Common.{Vec, items_len, row, head_size, any, WriteError, Order, Family, written, length-map, sized, size_of, place_of, entry_message, entry_bytes, message_bytes, position, bytes_eq}
 use Rattle.std.proofs.lemmas.List.{append-nil}
 use Rattle.nl_attr.specs.Tree.{Items}
-use Rattle.nl_attr.specs.Written.{items_len}
-use Rattle.nl_route.specs.Families.{row, head_size, any}
-use Rattle.nl_frame.specs.declared.writing.WriteError.{WriteError}
 use Rattle.nl_dump.specs.declared.tables.Tables.{Tables}
 use Rattle.nl_dump.specs.View.{table_at}
 use Rattle.std.proofs.lemmas.Option.{slice_get-map}
-use Rattle.nl_attr.specs.declared.order.Order.{Order}
-use Rattle.nl_route.specs.declared.family.Family.{Family}
-use Rattle.nl_frame.specs.Written.{written}
-use Rattle.std.proofs.lemmas.List.{length-map}
 use Rattle.std.proofs.lemmas.Map.Made.{keys_of-map_values}
 use Rattle.nl_table.specs.Content.{Content}
 use Rattle.nl_dump.specs.Items.{Item, seen}
-use Rattle.rtnl_c.specs.Entries.{sized, size_of, place_of, entry_message, entry_bytes, message_bytes}
-use Rattle.std.specs.Prelude.{position, bytes_eq}
 use Rattle.std.specs.Map.{keys_of}
 
 module _ {T : Type 0} (f : T → Item) (t : Content T) where

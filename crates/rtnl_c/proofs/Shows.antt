@@ -1,9 +1,7 @@
 -- What stands in C's buffer of a text that was made of a datagram, or that memory ran out for.
 use Rattle.std.proofs.Common.{◌≡◌, List, ℕ, Result, Ok, Err, IfOk}
-use Rattle.std.specs.Global.{Vec}
+use Rattle.rtnl_c.proofs.Common.{Vec, Bounds, Answer, Answers}
 use Rattle.std.specs.declared.alloc.AllocError.{AllocError}
-use Rattle.nl_frame.specs.Limits.{Bounds}
-use Rattle.rtnl.specs.Shown.{Answer, Answers}
 use Rattle.rtnl_c.specs.declared.show.Shown.{Shown}
 use Rattle.rtnl_c.specs.Shown.{IsShown, Printed, ShowsAs, shows, refused}
 

@@ -1,13 +1,8 @@
 -- A stream that C keeps: what is written of it is read again.
-use Rattle.std.proofs.Common.{◌≡◌, ℕ, ℤ, pos, Bool, true, false, List, Some, Result, Ok, Err, refl, sym, ap, subst, ◌∙◌}
-use Rattle.nl_attr.specs.declared.order.Order.{Order}
+use Rattle.rtnl_c.proofs.Common.{◌≡◌, ℕ, ℤ, pos, Bool, true, false, List, Some, Result, Ok, Err, refl, sym, ap, subst, ◌∙◌, Order, Family, Link, Addr, Route, Neigh, Rule, type_of, bounds_of, order_in, IsPut, not_put}
 use Rattle.nl_attr.specs.declared.order.Order.TheVariants.{Little, Big}
-use Rattle.nl_route.specs.declared.family.Family.{Family}
-use Rattle.nl_route.specs.declared.family.Family.TheVariants.{Link, Addr, Route, Neigh, Rule}
 use Rattle.nl_route.specs.declared.family.Verb.TheVariants.{New}
-use Rattle.nl_route.specs.Families.{type_of}
 use Rattle.nl_route.specs.Types.{route_type}
-use Rattle.nl_frame.specs.Limits.{bounds_of}
 use Rattle.nl_dump.specs.declared.dump.Dump.{Dump}
 use Rattle.nl_dump.specs.declared.dump.End.TheVariants.{Done, Error, Overrun, Abandoned}
 use Rattle.nl_dump.specs.declared.dump.State.{State}
@@ -21,8 +16,6 @@ use Rattle.rtnl_c.specs.declared.put.Put.{Put}
 use Rattle.rtnl_c.specs.declared.status.Last.{Last}
 use Rattle.rtnl_c.specs.declared.stream.Kept.{Kept}
 use Rattle.rtnl_c.specs.Kinds.{family_in}
-use Rattle.rtnl_c.specs.Options.{order_in}
-use Rattle.rtnl_c.specs.Put.{IsPut, not_put}
 use Rattle.rtnl_c.specs.Status.{last_dump, last_of}
 use Rattle.rtnl_c.specs.Streams.{flag_of, big_of, kept_of, flag_in, state_by, state_in, standing_by, standing_in, IsKept, PutsBegun}
 

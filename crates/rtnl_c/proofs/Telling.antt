@@ -1,23 +1,25 @@
 -- What is told of the messages of a datagram, one after another.
-use Rattle.std.proofs.Common.{◌≡◌, ◌≤◌, ◌<◌, ◌+◌, ◌-◌, ◌∙◌, ◌^◌, ℕ, List, [], ◌∷◌, ◌++◌, length, take, drop, Result, Option, Some, None, ◌*◌, ◌/◌, suc, zero, Ok, Err, ◌↔◌, refl, sym, subst, ap, append_assoc, arith, slice_set}
-use Rattle.std.proofs.lemmas.List.{length-append, length-drop, drop-drop, drop_all, drop_more, set_at, take_at, drop_at, append-nil}
+use Rattle.std.proofs.Common.{◌≡◌, ◌≤◌, ◌<◌, ◌+◌, ◌-◌, ◌∙◌, ◌^◌, ℕ, List, [], ◌∷◌, ◌++◌, length, map, take, drop, Result, Option, Some, None, option_map, ◌*◌, ◌/◌, suc, zero, Ok, Err, ◌↔◌, refl, sym, subst, ap, append_assoc, arith, slice_set, IfOk}
+use Rattle.std.proofs.lemmas.List.{length-append, length-drop, length-map, map-append, drop-drop, drop_all, drop_more, set_at, take_at, drop_at, append-nil}
+use Rattle.std.proofs.lemmas.Option.{none-some, same_Some}
 use borrow.Rule.Slice.PartMut.{put_mid}
 use lib.ListN.{get_or}
-use Rattle.nl_attr.specs.Shape.{Shape}
+use Rattle.rtnl_c.proofs.Common.{Shape, Family, Message, Bounds, MessageVal, written, EachHearsBy, HearsEach, IsRead, IsUpdate, Vec, WriteError, Mirrored, no_mirror, entry_message}
 use Rattle.nl_frame.specs.Layout.{Layout}
-use Rattle.nl_frame.specs.Message.{MessageVal}
-use Rattle.nl_mirror.specs.Five.{HearsEach, Fed}
-use Rattle.std.specs.Global.{Vec}
+use Rattle.nl_frame.specs.View.{message_view}
+use Rattle.nl_dump.specs.Items.{Item}
+use Rattle.nl_mirror.specs.Effects.{update_effect}
+use Rattle.nl_mirror.specs.declared.effect.Effect.{Effect}
+use Rattle.nl_mirror.proofs.Datagram.{each_order}
+use Rattle.nl_mirror.proofs.Fives.{hears_more}
 use Rattle.nl_frame.specs.declared.reading.ReadError.{ReadError}
-use Rattle.nl_frame.specs.declared.writing.WriteError.{WriteError}
+use Rattle.nl_frame.specs.declared.reading.ReadError.TheVariants as unread
 use Rattle.nl_frame.specs.declared.writing.WriteError.TheVariants as unwritable
 use Rattle.nl_mirror.specs.declared.effect.Update.{Update}
 use Rattle.nl_mirror.specs.declared.short.Short.{Short}
-use Rattle.nl_mirror.specs.Five.{Mirrored}
 use Rattle.rtnl_c.specs.declared.hearing.Change.{Change}
 use Rattle.rtnl_c.specs.declared.hearing.Heard.{Heard}
-use Rattle.rtnl_c.specs.Codes.{no_mirror}
-use Rattle.rtnl_c.specs.Mirrors.{AreChanges, IsBefore, PutsBefore, PutsChanges, before_bytes, change_of, Tells, FeedsOne, Feeds, heard, unheard, place_room, tells, unmade, fed, laid, none, whole, lacks, unwritten, nothing, another}
+use Rattle.rtnl_c.specs.Mirrors.{AreChanges, IsBefore, PutsBefore, PutsChanges, before_bytes, change_of, effect_before, order_at, update_before, Tells, FeedsOne, Feeds, heard, unheard, place_room, tells, unmade, fed, laid, none, whole, lacks, unwritten, nothing, another}
 
 -- an entry that fits was put
 pub puts_so : (b : Option (List ℕ)) (bytes old new : List ℕ) (n : ℕ) → Some bytes ≡ b → length bytes ≤ length old → new ≡ laid bytes old → n ≡ length bytes → PutsBefore b old new n
@@ -31,37 +33,44 @@ none_of room (Some bytes) = unwritten bytes unwritable.Memory
 pub puts_none : (b : Option (List ℕ)) (old : List ℕ) → PutsBefore b old old 0
 puts_none b old = ([], none_of (length old) b, refl, refl)
 
--- the first of them are told, and the rest is left
-pub record IsTold (m : Mirrored) (rs : List (Result Update Short)) (old : List Change) (out : List ℕ) (rest : List (Result Update Short)) (new : List Change) (out' : List ℕ) (at index : ℕ) : Type 0 where
-  pub done : List (Result Update Short)
+-- these are told
+pub record AreTold (m : Mirrored) (rs : List (Result Update Short)) (old : List Change) (out : List ℕ) (new : List Change) (out' : List ℕ) (at index : ℕ) : Type 0 where
   pub cs : List Change
   pub put : List ℕ
-  pub split : done ++ rest ≡ rs
-  pub are : AreChanges m (length out) done cs put
-  pub count : length cs ≡ length done
+  pub are : AreChanges m (length out) rs cs put
+  pub count : length cs ≡ length rs
   pub room : length put ≤ length out
   pub told : new ≡ laid cs old
   pub stand : out' ≡ laid put out
   pub end : at ≡ length put
   pub place : index ≡ length cs
 
-pub none_told : (m : Mirrored) (rs : List (Result Update Short)) (old : List Change) (out : List ℕ) → IsTold m rs old out rs old out 0 0
-none_told m rs old out = record { done = []; cs = []; put = []; split = refl; are = nothing; count = refl; room = omega arith; told = refl; stand = refl; end = refl; place = refl }
+pub none_told : (m : Mirrored) (old : List Change) (out : List ℕ) → AreTold m [] old out old out 0 0
+none_told m old out = record { cs = []; put = []; are = nothing; count = refl; room = omega arith; told = refl; stand = refl; end = refl; place = refl }
 
-pub all_told : (m : Mirrored) (rs : List (Result Update Short)) (old : List Change) (out : List ℕ) (new : List Change) (out' : List ℕ) (at index : ℕ) → IsTold m rs old out [] new out' at index
+pub all_told : (m : Mirrored) (rs : List (Result Update Short)) (old : List Change) (out : List ℕ) (new : List Change) (out' : List ℕ) (at index : ℕ) → AreTold m rs old out new out' at index
     → PutsChanges m rs old out new out' at
-all_told m rs old out new out' at index t =
-    let same : t.done ≡ rs = sym (append-nil t.done) ∙ t.split in
-    record {
-      changes = t.cs;
-      put = t.put;
-      are = subst (λ (x : List (Result Update Short)). AreChanges m (length out) x t.cs t.put) same t.are;
-      one_each = t.count ∙ ap length same;
-      room = t.room;
-      told = t.told;
-      stand = t.stand;
-      end = t.end;
-    }
+all_told m rs old out new out' at index t = record { changes = t.cs; put = t.put; are = t.are; one_each = t.count; room = t.room; told = t.told; stand = t.stand; end = t.end }
+
+-- of a mirror an entry before needs the byte orders of its tables alone
+module _ (m n : Mirrored) (same : (k : Family) → order_at k n ≡ order_at k m) where
+  before_over : (r : Result Update Short) → before_bytes m r ≡ before_bytes n r
+  before_over (Err s) = refl
+  before_over (Ok u) = by (update_effect u)
+    where
+      by : (e : Option (Family × Effect Item)) → update_before m e ≡ update_before n e
+      by None = refl
+      by (Some p) = ap (λ o. option_map (λ i. written o (entry_message p.0 i ∷ [])) (effect_before p.1)) (sym (same p.0))
+
+  changes_over : {room : ℕ} {rs : List (Result Update Short)} {cs : List Change} {put : List ℕ} → AreChanges m room rs cs put → AreChanges n room rs cs put
+  changes_over nothing = nothing
+  changes_over {room} (another rs cs put are r bytes is) = another rs cs put (changes_over are) r bytes (subst (λ (b : Option (List ℕ)). IsBefore (room - length put) b bytes) (before_over r) is)
+
+  pub told_over : (rs : List (Result Update Short)) (old : List Change) (out : List ℕ) (new : List Change) (out' : List ℕ) (at index : ℕ) → AreTold m rs old out new out' at index
+      → AreTold n rs old out new out' at index
+  told_over rs old out new out' at index t = record {
+    cs = t.cs; put = t.put; are = changes_over t.are; count = t.count; room = t.room; told = t.told; stand = t.stand; end = t.end; place = t.place;
+  }
 
 before_fits : {b : Option (List ℕ)} {bytes : List ℕ} (room : ℕ) → IsBefore room b bytes → length bytes ≤ room
 before_fits room none = omega arith
@@ -69,9 +78,8 @@ before_fits room (whole bytes h) = h
 before_fits room (lacks bytes h) = omega arith
 before_fits room (unwritten bytes e) = omega arith
 
-module _ (m : Mirrored) (rs : List (Result Update Short)) (old : List Change) (out : List ℕ) (rest : List (Result Update Short)) (new : List Change) (out' : List ℕ) (at index : ℕ) (r : Result Update Short)
-    (t : IsTold m rs old out (r ∷ rest) new out' at index) where
-  pub behind : drop at out' ≡ drop (length t.put) out
+module _ (m : Mirrored) (rs : List (Result Update Short)) (old : List Change) (out : List ℕ) (new : List Change) (out' : List ℕ) (at index : ℕ) (t : AreTold m rs old out new out' at index) where
+  behind : drop at out' ≡ drop (length t.put) out
   behind = ap (drop at) t.stand ∙ drop_at t.put (drop (length t.put) out) at (sym t.end)
 
   front : take at out' ≡ t.put
@@ -83,13 +91,10 @@ module _ (m : Mirrored) (rs : List (Result Update Short)) (old : List Change) (o
   pub within : at ≤ length out'
   within = omega (arith, t.end, t.room, long)
 
-  pub below : length rs ≤ length old → length t.cs < length old
-  below few = omega (arith, few, t.count, ap length t.split, length-append t.done (r ∷ rest))
-
   -- one more is told
-  pub told_more : (len : ℕ) (mid sub : List ℕ) (c : Change) → length rs ≤ length old → mid ≡ drop at out' → PutsBefore (before_bytes m r) mid sub len → c ≡ change_of r at len
-      → IsTold m rs old out rest (slice_set new index c) (put_mid at (length out' - at) out' sub) (at + len) (index + 1)
-  told_more len mid sub c few is puts made =
+  told_more : (r : Result Update Short) (len : ℕ) (mid sub : List ℕ) (c : Change) → length rs < length old → mid ≡ drop at out' → PutsBefore (before_bytes m r) mid sub len → c ≡ change_of r at len
+      → AreTold m (rs ++ r ∷ []) old out (slice_set new index c) (put_mid at (length out' - at) out' sub) (at + len) (index + 1)
+  told_more r len mid sub c few is puts made =
       let bytes = puts.0 in
       let mids : mid ≡ drop (length t.put) out = is ∙ behind in
       let size : length mid ≡ length out - length t.put = ap length mids ∙ length-drop (length t.put) out in
@@ -97,16 +102,15 @@ module _ (m : Mirrored) (rs : List (Result Update Short)) (old : List Change) (o
       let c' = change_of r (length t.put) (length bytes) in
       let told_as : c ≡ c' = made ∙ (λ i. change_of r (t.end i) (puts.3 i)) in
       let rest_of = drop (length t.cs + 1) old in
+      let below : length t.cs < length old = omega (arith, few, t.count) in
       let gone : drop (length out' - at) (drop at out') ≡ [] = drop_all (length out' - at) (drop at out') (omega (arith, length-drop at out')) in
       record {
-        done = t.done ++ r ∷ [];
         cs = t.cs ++ c' ∷ [];
         put = t.put ++ bytes;
-        split = append_assoc t.done (r ∷ []) rest ∙ t.split;
-        are = another t.done t.cs t.put t.are r bytes (subst (λ (n : ℕ). IsBefore n (before_bytes m r) bytes) size puts.1);
-        count = length-append t.cs (c' ∷ []) ∙ ap (λ n. n + 1) t.count ∙ sym (length-append t.done (r ∷ []));
+        are = another rs t.cs t.put t.are r bytes (subst (λ (n : ℕ). IsBefore n (before_bytes m r) bytes) size puts.1);
+        count = length-append t.cs (c' ∷ []) ∙ ap (λ n. n + 1) t.count ∙ sym (length-append rs (r ∷ []));
         room = omega (arith, length-append t.put bytes, fits, t.room, size);
-        told = ap (λ x. slice_set x index c) (t.told ∙ ap (λ l. t.cs ++ l) (drop_more old (length t.cs) c (below few))) ∙ set_at t.cs (get_or old (length t.cs) c) rest_of c index (sym t.place)
+        told = ap (λ x. slice_set x index c) (t.told ∙ ap (λ l. t.cs ++ l) (drop_more old (length t.cs) c below)) ∙ set_at t.cs (get_or old (length t.cs) c) rest_of c index (sym t.place)
             ∙ ap (λ x. t.cs ++ x ∷ rest_of) told_as ∙ sym (append_assoc t.cs (c' ∷ []) rest_of) ∙ ap (λ n. (t.cs ++ c' ∷ []) ++ drop n old) (sym (length-append t.cs (c' ∷ [])));
         stand = (λ i. front i ++ (puts.2 i ++ gone i)) ∙ ap (λ l. t.put ++ l) (append-nil (laid bytes mid)) ∙ ap (λ l. t.put ++ (bytes ++ drop (length bytes) l)) mids
             ∙ ap (λ l. t.put ++ (bytes ++ l)) (drop-drop (length bytes) (length t.put) out) ∙ sym (append_assoc t.put bytes (drop (length t.put + length bytes) out))
@@ -128,8 +132,53 @@ hears_count f g [] (r ∷ rs) h = absurd h
 hears_count f g (m ∷ ms) [] h = absurd h
 hears_count f g (m ∷ ms) (r ∷ rs) h = ap suc (hears_count h.0 g ms rs h.3)
 
-pub fed_count : (f g : Mirrored) (bytes : List ℕ) (rs : Vec (Result Update Short)) → Fed f bytes (Ok rs) g → length rs.items ≤ length bytes / 16
-fed_count f g bytes rs h = omega (arith, layout_count f.settings.limits.shape h.0 bytes h.1.0, hears_count f g h.0 rs.items h.2)
+pub hears_as_many : (f g : Mirrored) (ms : List Message) (rs : List (Result Update Short)) → HearsEach f (map message_view ms) rs g → length rs ≡ length ms
+hears_as_many f g ms rs h = hears_count f g (map message_view ms) rs h ∙ length-map message_view ms
+
+-- the first of the messages are heard, and the rest is left
+pub record AreHeard (f : Mirrored) (all rest : List Message) (rs : List (Result Update Short)) (g : Mirrored) : Type 0 where
+  pub done : List Message
+  pub split : done ++ rest ≡ all
+  pub heard : HearsEach f (map message_view done) rs g
+
+pub none_heard : (f : Mirrored) (all rest : List Message) → rest ≡ all → AreHeard f all rest [] f
+none_heard f all rest is = record { done = []; split = is; heard = refl }
+
+pub all_heard : (f : Mirrored) (all : List Message) (rs : List (Result Update Short)) (g : Mirrored) → AreHeard f all [] rs g → HearsEach f (map message_view all) rs g
+all_heard f all rs g h = subst (λ (ms : List Message). HearsEach f (map message_view ms) rs g) (sym (append-nil h.done) ∙ h.split) h.heard
+
+module _ (f : Mirrored) (all : List Message) (x : Message) (rest : List Message) (rs : List (Result Update Short)) (g h : Mirrored) (t : AreHeard f all (x ∷ rest) rs g) where
+  -- one more is heard
+  pub heard_more : (r : Result Update Short) → EachHearsBy r g (message_view x) h → IfOk r (IsUpdate g (message_view x)) → AreHeard f all rest (rs ++ r ∷ []) h
+  heard_more r by is = record {
+    done = t.done ++ x ∷ [];
+    split = append_assoc t.done (x ∷ []) rest ∙ t.split;
+    heard = subst (λ (ms : List MessageVal). HearsEach f ms (rs ++ r ∷ []) h) (sym (map-append message_view t.done (x ∷ []))) (hears_more f g h (map message_view t.done) rs (message_view x) r t.heard by is);
+  }
+
+  pub fewer : length rs < length all
+  fewer = omega (arith, hears_count f g (map message_view t.done) rs t.heard, length-map message_view t.done, ap length t.split, length-append t.done (x ∷ rest))
+
+-- heard and told so far
+pub record AreBoth (f : Mirrored) (all : List Message) (old : List Change) (out : List ℕ) (rest : List Message) (g : Mirrored) (new : List Change) (out' : List ℕ) (at index : ℕ) : Type 0 where
+  pub rs : List (Result Update Short)
+  pub heard : AreHeard f all rest rs g
+  pub told : AreTold g rs old out new out' at index
+
+pub both_more : (f : Mirrored) (all : List Message) (old : List Change) (out : List ℕ) (x : Message) (rest : List Message) (g h : Mirrored) (new : List Change) (out' : List ℕ) (at index : ℕ)
+    → AreBoth f all old out (x ∷ rest) g new out' at index → length all ≤ length old
+    → (r : Result Update Short) → EachHearsBy r g (message_view x) h → IfOk r (IsUpdate g (message_view x))
+    → (len : ℕ) (mid sub : List ℕ) (c : Change) → mid ≡ drop at out' → PutsBefore (before_bytes h r) mid sub len → c ≡ change_of r at len
+    → AreBoth f all old out rest h (slice_set new index c) (put_mid at (length out' - at) out' sub) (at + len) (index + 1)
+both_more f all old out x rest g h new out' at index t few r by is len mid sub c mids puts made = record {
+    rs = t.rs ++ r ∷ [];
+    heard = heard_more f all x rest t.rs g h t.heard r by is;
+    told = told_more h t.rs old out new out' at index (told_over g h (each_order r g (message_view x) h by) t.rs old out new out' at index t.told) r len mid sub c
+        (omega (arith, few, fewer f all x rest t.rs g h t.heard)) mids puts made;
+  }
+
+pub read_count : (b : Bounds) (bytes : List ℕ) (ms : Vec Message) → IsRead b bytes (Ok ms) → length ms.items ≤ length bytes / 16
+read_count b bytes ms h = omega (arith, layout_count b.shape (map message_view ms.items) bytes h.0, length-map message_view ms.items)
 
 -- ---- what a call answers
 
@@ -139,6 +188,23 @@ tells_so m rs visits old out new front n len k some few room count p =
     subst (λ (k : ℕ). Tells m rs visits old out new (front ++ drop k out) (heard visits n len)) (sym room)
     (subst (λ (n : ℕ). Tells m rs visits old out new (front ++ drop (place_room out) out) (heard visits n len)) (sym count)
     (tells some few new front len (subst (λ (k : ℕ). PutsChanges m rs old (take k out) new front len) room p)))
+
+-- the same is refused, whatever an answer that isn't refused has
+error_of : {A : Type 0} → Result A ReadError → Option ReadError
+error_of (Ok x) = None
+error_of (Err e) = Some e
+
+pub large_in_ok : {A B : Type 0} (x : A) (y : B) (r : Result B ReadError) (P : Type 0) → r ≡ Ok y → (r ≡ Err unread.TooLarge ↔ P) → (Ok x ≡ Err unread.TooLarge ↔ P)
+large_in_ok x y r P is large = (
+  λ e. absurd (none-some unread.TooLarge (ap error_of e)),
+  λ p. absurd (none-some unread.TooLarge (ap error_of (sym is ∙ large.1 p))),
+)
+
+pub large_in_err : {A B : Type 0} (e : ReadError) (r : Result B ReadError) (P : Type 0) → r ≡ Err e → (r ≡ Err unread.TooLarge ↔ P) → ((Err e : Result A ReadError) ≡ Err unread.TooLarge ↔ P)
+large_in_err {A} {B} e r P is large = (
+  λ q. large.0 (is ∙ ap Err (same_Some e unread.TooLarge (ap error_of q))),
+  λ p. ap Err (same_Some e unread.TooLarge (ap error_of (sym is ∙ large.1 p))),
+)
 
 pub is_short : (n q x : ℕ) → (n ≡ 0 → x ≡ 0) → (0 < n → x ≡ q) → n < x → (0 < n) × (n < q)
 is_short zero q x z s h = absurd (never (z refl))

@@ -1,6 +1,5 @@
 -- The answers to C of the calls of a mirror. A handle has a mirror or none, before a call and after it.
 use Rattle.std.specs.Prelude.{◌≡◌, ◌<◌, ◌≤◌, ◌+◌, ◌-◌, ◌*◌, ◌/◌, ◌^◌, ◌++◌, ◌∷◌, ◌↔◌, ◌⊎◌, ℕ, min, List, [], length, take, drop, Option, Some, None, option_map, is_some, Result, Ok, Err, false}
-use Rattle.std.specs.Global.{Vec}
 use Rattle.nl_attr.specs.declared.order.Order.{Order}
 use Rattle.nl_attr.specs.declared.fault.Fault.{Fault}
 use Rattle.nl_route.specs.declared.family.Family.{Family}
@@ -10,6 +9,7 @@ use Rattle.nl_frame.specs.declared.reading.ReadError.{ReadError}
 use Rattle.nl_frame.specs.declared.reading.ReadError.TheVariants as unread
 use Rattle.nl_frame.specs.declared.writing.WriteError.{WriteError}
 use Rattle.nl_frame.specs.Limits.{Bounds, AreLimits}
+use Rattle.nl_frame.specs.Message.{MessageVal}
 use Rattle.nl_frame.specs.Outcomes.{read_code}
 use Rattle.nl_frame.specs.Written.{written}
 use Rattle.nl_table.specs.Content.{Content}
@@ -26,7 +26,7 @@ use Rattle.nl_mirror.specs.declared.short.Short.TheVariants as short
 use Rattle.nl_mirror.specs.declared.stale.Stale.{Stale}
 use Rattle.nl_mirror.specs.declared.stale.Stale.TheVariants as stale
 use Rattle.nl_mirror.specs.Effects.{update_effect}
-use Rattle.nl_mirror.specs.Five.{Mirrored, Began, EachLoses, Fed, IsNew, follower_at}
+use Rattle.nl_mirror.specs.Five.{Mirrored, Began, EachLoses, HearsEach, IsFed, IsNew, follower_at}
 use Rattle.nl_mirror.specs.Hearing.{Follows}
 use Rattle.nl_mirror.specs.Replicated.{stale_of}
 use Rattle.rtnl_c.specs.declared.hearing.Change.{Change}
@@ -193,6 +193,10 @@ pub data Tells (m : Mirrored) (rs : List (Result Update Short)) (visits : ℕ) (
   tells : 0 < length old → length rs ≤ length old → (new : List Change) (front : List ℕ) (len : ℕ) → PutsChanges m rs old (take (place_room out) out) new front len
       → Tells m rs visits old out new (front ++ drop (place_room out) out) (heard visits (length rs) len)
 
+-- the messages are heard in order, and what they are answered has this property
+abbrev pub Hears : Mirrored → List MessageVal → Mirrored → (List (Result Update Short) → Type 0) → Type 0
+Hears before ms after P = (rs : List (Result Update Short)) × HearsEach before ms rs after × P rs
+
 -- ---- a datagram is fed
 
 abbrev pub fault_place : ReadError → ℕ
@@ -201,8 +205,8 @@ fault_place unread.TooLarge = 0
 fault_place unread.Memory = 0
 
 -- what was answered is told, or why it was refused
-abbrev pub Answers : Mirrored → Result (Vec (Result Update Short)) ReadError → ℕ → List Change → List ℕ → List Change → List ℕ → Heard → Type 0
-Answers m (Ok rs) visits old out new out' a = Tells m rs.items visits old out new out' a
+abbrev pub Answers : Mirrored → Result (List (Result Update Short)) ReadError → ℕ → List Change → List ℕ → List Change → List ℕ → Heard → Type 0
+Answers m (Ok rs) visits old out new out' a = Tells m rs visits old out new out' a
 Answers m (Err e) visits old out new out' a = (a ≡ unheard visits (fault_place e) (read_code e)) × (new ≡ old) × (out' ≡ out)
 
 -- changes are wanted, and there is room for fewer than a sixteenth of the bytes
@@ -212,7 +216,7 @@ IsShortOf old bytes = (0 < length old) × (length old < length bytes / 16)
 -- as `Mirror::feed` has it, where there is room for the changes or none for any
 pub data FeedsOne (before : Mirrored) (bytes : List ℕ) (old : List Change) (out : List ℕ) : List Change → List ℕ → Heard → Mirrored → Type 0 where
   short_of : IsShortOf old bytes → FeedsOne before bytes old out old out (unheard 0 0 no_room) before
-  feeds : (IsShortOf old bytes → ⊥) → (r : Result (Vec (Result Update Short)) ReadError) (visits : ℕ) (after : Mirrored) → Fed before bytes r after
+  feeds : (IsShortOf old bytes → ⊥) → (r : Result (List (Result Update Short)) ReadError) (visits : ℕ) (after : Mirrored) → IsFed before bytes r after
       → (r ≡ Err unread.TooLarge ↔ before.settings.limits.datagram < length bytes) → visits ≤ (before.settings.limits.shape.depth + 1) * length bytes
       → (new : List Change) (out' : List ℕ) (a : Heard) → Answers after r visits old out new out' a → FeedsOne before bytes old out new out' a after
 

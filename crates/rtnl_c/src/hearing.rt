@@ -1,12 +1,15 @@
 //! `rtnlc_mirror_feed`: a datagram is applied to a mirror, and C is told what each message
 //! changed.
 
-ghost use Rattle.std.specs.Prelude.{◌≡◌, ◌≤◌, ◌<◌, ◌+◌, ◌^◌, ◌/◌, IfOk, length, option_map};
+ghost use Rattle.std.specs.Prelude.{◌≡◌, ◌≤◌, ◌<◌, ◌+◌, ◌^◌, ◌/◌, ⊤, IfOk, length, map};
+ghost use Rattle.std.specs.Prelude.{option_map};
 ghost use Rattle.nl_attr.specs.Written.{items_len};
 ghost use Rattle.nl_route.specs.Views.{attrs_in};
+ghost use Rattle.nl_frame.specs.View.{message_view};
 ghost use Rattle.rtnl_c.specs.Entries.{message_bytes};
-ghost use Rattle.rtnl_c.specs.Mirrors.{Feeds, FeedsOne, PutsBefore, PutsChanges, Tells, before_bytes};
-ghost use Rattle.rtnl_c.specs.Mirrors.{change_in, change_of, effect_before, effect_index};
+ghost use Rattle.rtnl_c.specs.Mirrors.{Feeds, FeedsOne, Hears, PutsBefore, PutsChanges, Tells};
+ghost use Rattle.rtnl_c.specs.Mirrors.{before_bytes, change_in, change_of, effect_before};
+ghost use Rattle.rtnl_c.specs.Mirrors.{effect_index};
 ghost use Rattle.rtnl_c.specs.Mirrors.{effect_number, fault_place, no_change};
 ghost use Rattle.rtnl_c.specs.Mirrors.{unheard as not_heard};
 
@@ -16,7 +19,7 @@ use crate::mirror::short_code;
 use crate::mirror_handle::MirrorHandle;
 use crate::put::lay;
 use nl_attr::{Order, Tally};
-use nl_frame::{ReadError, WriteError};
+use nl_frame::{Message, ReadError, WriteError};
 use nl_mirror::{Effect, Mirror, Short, Update};
 use nl_route::{Family, Head, Object, Verb};
 use std::alloc::Global;
@@ -211,23 +214,33 @@ fn put_change(
     len
 }
 
-/// Puts what became of each message into `changes`, and the entries before them into `before`, one
-/// behind another. The answer is how many bytes of them were put.
-fn put_changes(
+/// Applies messages in order, and tells nothing of them.
+fn hear_silently(mirror: &mut Mirror, messages: Vec<Message>)
+    ensures { Hears mirror.old (map message_view messages.items) mirror.new (λ _. ⊤) }
+{
+    for message in messages {
+        let _answer = mirror.hear(message);
+    }
+}
+
+/// Applies messages in order. What became of each is put into `changes`, and the entries before
+/// them into `before`, one behind another. The answer is how many bytes of them were put.
+fn hear_and_put(
     alloc: Global,
-    mirror: &Mirror,
-    answers: Vec<Result<Update, Short>>,
+    mirror: &mut Mirror,
+    messages: Vec<Message>,
     changes: &mut [Change],
     before: &mut [u8],
 ) -> usize
-    requires room { length answers.items ≤ length changes.old }
+    requires room { length messages.items ≤ length changes.old }
     requires places { length before.old < 2 ^ 32 }
-    ensures { PutsChanges mirror.now answers.items changes.old before.old
-        changes.new before.new result }
+    ensures { Hears mirror.old (map message_view messages.items) mirror.new (λ answers.
+        PutsChanges mirror.new answers changes.old before.old changes.new before.new result) }
 {
     let mut at = 0;
     let mut index = 0;
-    for answer in answers {
+    for message in messages {
+        let answer = mirror.hear(message);
         at += put_change(
             alloc,
             mirror,
@@ -241,25 +254,26 @@ fn put_changes(
     at
 }
 
-/// Puts what a mirror answered, where that is wanted.
-fn tell(
+/// Applies messages, and puts what became of them, where that is wanted.
+fn hear_each(
     alloc: Global,
-    mirror: &Mirror,
-    answers: Vec<Result<Update, Short>>,
+    mirror: &mut Mirror,
+    messages: Vec<Message>,
     visits: u64,
     changes: &mut [Change],
     before: &mut [u8],
 ) -> Heard
-    requires { 0 < length changes.old → length answers.items ≤ length changes.old }
-    ensures { Tells mirror.now answers.items visits changes.old before.old
-        changes.new before.new result }
+    requires { 0 < length changes.old → length messages.items ≤ length changes.old }
+    ensures { Hears mirror.old (map message_view messages.items) mirror.new (λ answers.
+        Tells mirror.new answers visits changes.old before.old changes.new before.new result) }
 {
     if changes.is_empty() {
+        hear_silently(mirror, messages);
         return unheard(visits, 0, 0);
     }
-    let count = answers.len();
+    let count = messages.len();
     let room = before.len().min(u32::MAX as usize);
-    let before = put_changes(alloc, mirror, answers, changes, &mut before[..room]);
+    let before = hear_and_put(alloc, mirror, messages, changes, &mut before[..room]);
     Heard {
         visits,
         changes: count,
@@ -301,10 +315,13 @@ fn feed(
     if changes.len() < needed(changes.len(), bytes.len()) {
         return unheard(0, 0, NO_ROOM);
     }
-    let Tally { result, visits } = mirror.feed(bytes);
+    let Tally { result, visits } = mirror.read(bytes);
     match result {
-        Ok(answers) => tell(alloc, mirror, answers, visits, changes, before),
-        Err(error) => unheard(visits, place(error), error.code()),
+        Ok(messages) => hear_each(alloc, mirror, messages, visits, changes, before),
+        Err(error) => {
+            mirror.refused(error);
+            unheard(visits, place(error), error.code())
+        }
     }
 }
 

@@ -1,8 +1,4 @@
-use Rattle.std.proofs.Common.{◌≡◌, List, None, subst}
-use Rattle.std.proofs.lemmas.Result.{on_ok_weaker}
-use Rattle.rtnl.specs.ByteParts.{Mark, marks_of}
-use Rattle.rtnl.specs.ByteRows.{row_printed}
-use Rattle.rtnl.specs.ByteViews.{AddsRows, marks_in}
+use Rattle.rtnl.proofs.Common.{◌≡◌, List, None, subst, on_ok_weaker, Mark, marks_of, row_printed, AddsRows, marks_in}
 use Rattle.rtnl.proofs.bytes.push_accepted.Goals as goal
 
 pub returns : goal.returns

@@ -1,10 +1,4 @@
-use Rattle.std.proofs.Common.{◌≡◌, ◌++◌, ◌∙◌, ℕ, List, [], length, min, None, Some, sym, ap, subst}
-use Rattle.std.proofs.lemmas.List.{take-append-drop}
-use Rattle.std.proofs.lemmas.Result.{on_ok_weaker}
-use Rattle.nl_attr.specs.declared.tree.Ctx.{Ctx}
-use Rattle.rtnl.specs.ByteParts.{Mark, contexts_after, marks_of, refused_marks}
-use Rattle.rtnl.specs.ByteRows.{row_printed}
-use Rattle.rtnl.specs.ByteViews.{AddsRows, marks_in}
+use Rattle.rtnl.proofs.Common.{◌≡◌, ◌++◌, ◌∙◌, ℕ, List, [], length, min, None, Some, sym, ap, subst, take-append-drop, on_ok_weaker, Ctx, Mark, contexts_after, marks_of, refused_marks, row_printed, AddsRows, marks_in}
 use Rattle.rtnl.proofs.ByteRows.{both}
 use Rattle.rtnl.proofs.bytes.push_refused.Goals as goal
 

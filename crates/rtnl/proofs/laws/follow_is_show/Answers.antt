@@ -1,6 +1,5 @@
 use Rattle.rtnl.specs.ByteRows.{Views, is_accepted, viewed_text}
-use Rattle.rtnl.specs.Painted.{coloured_text}
-use Rattle.rtnl.specs.Shown.{Answers, datagram_json, datagram_text, is_taken}
+use Rattle.rtnl.proofs.Common.{coloured_text, Answers, datagram_json, datagram_text, is_taken}
 use Rattle.rtnl.proofs.FollowedLines.{as_printed}
 use Rattle.rtnl.proofs.laws.follow_is_show.Goals as goal
 

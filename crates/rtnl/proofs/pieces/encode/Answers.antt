@@ -1,6 +1,4 @@
-use Rattle.std.proofs.Common.{arith}
-use Rattle.hex.specs.Hex.{lower_digits}
-use Rattle.hex.proofs.Pairs.{encode_done, encode_step}
+use Rattle.rtnl.proofs.Common.{arith, lower_digits, encode_done, encode_step}
 use Rattle.rtnl.proofs.pieces.encode.Goals as goal
 
 pub loop-i-preserved : goal.loop-i-preserved

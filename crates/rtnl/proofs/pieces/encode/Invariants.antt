@@ -1,5 +1,4 @@
-use Rattle.std.proofs.Common.{◌≡◌, ◌*◌, ◌++◌, take, drop}
-use Rattle.hex.specs.Hex.{encode_lower}
+use Rattle.rtnl.proofs.Common.{◌≡◌, ◌*◌, ◌++◌, take, drop, encode_lower}
 use Rattle.rtnl.proofs.pieces.encode.Given as goal
 
 -- what is written and what is left give the whole

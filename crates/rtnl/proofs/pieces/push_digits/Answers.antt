@@ -1,6 +1,4 @@
-use Rattle.std.proofs.Common.{◌≡◌, ◌++◌, ◌∙◌, ap, sym, append_assoc}
-use Rattle.std.proofs.lemmas.List.{take-append-drop}
-use Rattle.hex.specs.Hex.{encode_lower}
+use Rattle.rtnl.proofs.Common.{◌≡◌, ◌++◌, ◌∙◌, ap, sym, append_assoc, take-append-drop, encode_lower}
 use Rattle.rtnl.proofs.Digits.{digits_append}
 use Rattle.rtnl.proofs.pieces.push_digits.Goals as goal
 

@@ -1,5 +1,4 @@
-use Rattle.std.proofs.Common.{◌≡◌, ◌++◌, length}
-use Rattle.hex.specs.Hex.{encode_lower}
+use Rattle.rtnl.proofs.Common.{◌≡◌, ◌++◌, length, encode_lower}
 use Rattle.rtnl.proofs.pieces.push_digits.Given as goal
 
 -- what is written and what is left give the whole

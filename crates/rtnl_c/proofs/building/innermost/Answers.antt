@@ -1,6 +1,4 @@
-use Rattle.std.proofs.Common.{◌≡◌, None, Some, slice_index_or, arith, ap, refl, sym, ◌∙◌}
-use Rattle.nl_frame.specs.Building.{levels_in}
-use Rattle.rtnl_c.specs.Building.{content_in}
+use Rattle.rtnl_c.proofs.Common.{◌≡◌, None, Some, slice_index_or, arith, ap, refl, sym, ◌∙◌, levels_in, content_in}
 use Rattle.rtnl_c.proofs.Keeping.{at_place, content_back, content_said, few_heads, one_more}
 use Rattle.rtnl_c.proofs.building.innermost.Goals.{then-kept-lt4-via-then-kept-lt4, then-kept-lt4-via-else-kept-lt4+then-start-kept, then-kept-lt4-via-else-kept-lt4+else-start-kept+then-index-levels_inside}
 use Rattle.rtnl_c.proofs.building.innermost.Goals as goal

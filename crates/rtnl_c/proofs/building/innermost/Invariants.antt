@@ -1,7 +1,5 @@
-use Rattle.std.proofs.Common.{◌≡◌, ◌≤◌, ◌-◌, List, length}
+use Rattle.rtnl_c.proofs.Common.{◌≡◌, ◌≤◌, ◌-◌, List, length, AreOpen, top, AreKept}
 use Rattle.nl_frame.specs.declared.building.OpenHead.{OpenHead}
-use Rattle.nl_frame.specs.Building.{AreOpen, top}
-use Rattle.rtnl_c.specs.Building.{AreKept}
 use Rattle.rtnl_c.proofs.building.innermost.Given as goal
 
 abbrev pub invariant-loop-index : goal.invariant-loop-index

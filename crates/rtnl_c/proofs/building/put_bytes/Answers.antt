@@ -1,8 +1,5 @@
 use Rattle.std.proofs.Common.{◌≡◌, ◌++◌, ℕ, List, [], append-nil, arith, ap, subst}
-use Rattle.nl_frame.specs.declared.building.top.BuilderTop.{BuilderTop}
-use Rattle.nl_frame.specs.Building.{put}
-use Rattle.nl_frame.specs.Parts.{over}
-use Rattle.nl_frame.specs.Tops.{parts_with}
+use Rattle.rtnl_c.proofs.Common.{BuilderTop, put, over, parts_with}
 use Rattle.rtnl_c.specs.Building.{calls, flags_in, number_in, on_none}
 use Rattle.rtnl_c.proofs.Keeping.{kept_more}
 use Rattle.rtnl_c.proofs.building.put_bytes.Goals as goal

@@ -1,6 +1,4 @@
-use Rattle.std.proofs.Common.{arith, ap}
-use Rattle.nl_frame.specs.Limits.{Bounds}
-use Rattle.nl_frame.specs.Tops.{heads_after, parts_with}
+use Rattle.rtnl_c.proofs.Common.{arith, ap, Bounds, heads_after, parts_with}
 use Rattle.rtnl_c.specs.Building.{calls, on_none}
 use Rattle.rtnl_c.proofs.Keeping.{few_after, kept_opened, same_limits}
 use Rattle.rtnl_c.proofs.building.rtnlc_builder_begin.Goals as goal

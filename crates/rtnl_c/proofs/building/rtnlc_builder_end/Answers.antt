@@ -1,5 +1,4 @@
-use Rattle.std.proofs.Common.{sym}
-use Rattle.nl_frame.specs.Tops.{left_with, parts_with}
+use Rattle.rtnl_c.proofs.Common.{sym, left_with, parts_with}
 use Rattle.rtnl_c.specs.Building.{calls, on_none}
 use Rattle.rtnl_c.proofs.Keeping.{kept_fewer, top_inside}
 use Rattle.rtnl_c.proofs.building.rtnlc_builder_end.Goals as goal

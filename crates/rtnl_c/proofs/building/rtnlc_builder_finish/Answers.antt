@@ -1,7 +1,5 @@
-use Rattle.std.proofs.Common.{ℕ, sym, subst}
-use Rattle.nl_frame.specs.Tops.{parts_with}
+use Rattle.rtnl_c.proofs.Common.{ℕ, sym, subst, parts_with, put_of}
 use Rattle.rtnl_c.specs.Building.{Finishes, finishes, on_none, refused}
-use Rattle.rtnl_c.specs.Put.{put_of}
 use Rattle.rtnl_c.proofs.Keeping.{done, not_done}
 use Rattle.rtnl_c.proofs.building.rtnlc_builder_finish.Goals as goal
 

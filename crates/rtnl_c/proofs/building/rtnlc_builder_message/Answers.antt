@@ -1,6 +1,4 @@
-use Rattle.std.proofs.Common.{arith, ap}
-use Rattle.nl_frame.specs.declared.building.top.BuilderTop.{BuilderTop}
-use Rattle.nl_frame.specs.Tops.{parts_with}
+use Rattle.rtnl_c.proofs.Common.{arith, ap, BuilderTop, parts_with}
 use Rattle.rtnl_c.specs.Building.{calls, on_none}
 use Rattle.rtnl_c.proofs.Keeping.{kept_more}
 use Rattle.rtnl_c.proofs.building.rtnlc_builder_message.Goals as goal

@@ -1,6 +1,4 @@
-use Rattle.std.proofs.Common.{refl, subst}
-use Rattle.nl_frame.specs.Limits.{Bounds}
-use Rattle.nl_frame.specs.Parts.{new_parts}
+use Rattle.rtnl_c.proofs.Common.{refl, subst, Bounds, new_parts}
 use Rattle.rtnl_c.specs.Building.{IsKept}
 use Rattle.rtnl_c.proofs.building.rtnlc_builder_new.Goals as goal
 

@@ -1,8 +1,4 @@
-use Rattle.std.proofs.Common.{◌≡◌, arith, ap, sym}
-use Rattle.nl_frame.specs.Building.{open_attr}
-use Rattle.nl_frame.specs.Limits.{Bounds}
-use Rattle.nl_frame.specs.Parts.{over}
-use Rattle.nl_frame.specs.Tops.{heads_after, parts_with}
+use Rattle.rtnl_c.proofs.Common.{◌≡◌, arith, ap, sym, open_attr, Bounds, over, heads_after, parts_with}
 use Rattle.rtnl_c.specs.Building.{calls, flags_in, number_in, on_none}
 use Rattle.rtnl_c.proofs.Keeping.{few_after, kept_opened, same_limits}
 use Rattle.rtnl_c.proofs.building.rtnlc_builder_open.Goals as goal

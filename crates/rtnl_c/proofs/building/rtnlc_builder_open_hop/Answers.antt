@@ -1,9 +1,5 @@
-use Rattle.std.proofs.Common.{arith, ap, ℤ, w32, ◌∙◌}
+use Rattle.rtnl_c.proofs.Common.{arith, ap, ℤ, w32, ◌∙◌, open_hop, Bounds, over, heads_after, parts_with}
 use Rattle.std.proofs.lemmas.Int.{to_z-of_z}
-use Rattle.nl_frame.specs.Building.{open_hop}
-use Rattle.nl_frame.specs.Limits.{Bounds}
-use Rattle.nl_frame.specs.Parts.{over}
-use Rattle.nl_frame.specs.Tops.{heads_after, parts_with}
 use Rattle.rtnl_c.specs.Building.{calls, on_none}
 use Rattle.rtnl_c.proofs.Keeping.{few_after, kept_opened, same_limits}
 use Rattle.rtnl_c.proofs.building.rtnlc_builder_open_hop.Goals as goal

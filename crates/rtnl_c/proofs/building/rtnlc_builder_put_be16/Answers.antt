@@ -1,6 +1,4 @@
-use Rattle.std.proofs.Common.{ℕ, List, subst}
-use Rattle.nl_frame.specs.Building.{put}
-use Rattle.rtnl_c.specs.Building.{Calls, flags_in, number_in}
+use Rattle.rtnl_c.proofs.Common.{ℕ, List, subst, put, Calls, flags_in, number_in}
 use Rattle.rtnl_c.proofs.building.rtnlc_builder_put_be16.Goals as goal
 
 pub returns : goal.returns

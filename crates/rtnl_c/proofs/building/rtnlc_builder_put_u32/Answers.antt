@@ -1,8 +1,4 @@
-use Rattle.std.proofs.Common.{ℕ, List, subst, ap, ◌∙◌}
-use Rattle.nl_attr.specs.declared.order.Order.{Order}
-use Rattle.nl_attr.specs.Numbers.{num}
-use Rattle.nl_frame.specs.Building.{put}
-use Rattle.rtnl_c.specs.Building.{Calls, flags_in, number_in}
+use Rattle.rtnl_c.proofs.Common.{ℕ, List, subst, ap, ◌∙◌, Order, num, put, Calls, flags_in, number_in}
 use Rattle.rtnl_c.proofs.Keeping.{ordered}
 use Rattle.rtnl_c.proofs.building.rtnlc_builder_put_u32.Goals as goal
 

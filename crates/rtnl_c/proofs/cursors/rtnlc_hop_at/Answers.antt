@@ -1,8 +1,7 @@
 use Rattle.std.proofs.Common.{◌≡◌, ◌≤◌, ◌<◌, ◌^◌, ◌∙◌, ℕ, List, length, drop, take, Option, Some, Result, Ok, ap, subst, arith, length-drop, length-take}
 use Rattle.nl_attr.specs.declared.fault.Fault.{Fault}
-use Rattle.nl_attr.specs.declared.order.Order.{Order}
+use Rattle.rtnl_c.proofs.Common.{Order, len_of}
 use Rattle.nl_attr.specs.declared.walk.hops.HopPart.{HopPart}
-use Rattle.nl_attr.specs.Numbers.{len_of}
 use Rattle.nl_attr.specs.Walk.{IsHopPart, StandsAt}
 use Rattle.rtnl_c.proofs.cursors.rtnlc_hop_at.Goals as goal
 use Rattle.nl_attr.specs.Fixed.{LONGEST_REGION}

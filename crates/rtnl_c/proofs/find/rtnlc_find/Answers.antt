@@ -1,5 +1,4 @@
-use Rattle.nl_attr.specs.Shape.{shape_of}
-use Rattle.rtnl_c.specs.Options.{order_in}
+use Rattle.rtnl_c.proofs.Common.{shape_of, order_in}
 use Rattle.rtnl_c.proofs.Finding.{search_keeps, search_falls, search_finds, search_ends, one_found, first_is}
 use Rattle.rtnl_c.proofs.find.rtnlc_find.Goals as goal
 

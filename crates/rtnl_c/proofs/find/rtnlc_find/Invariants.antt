@@ -1,5 +1,4 @@
-use Rattle.std.proofs.Common.{◌-◌, length}
-use Rattle.rtnl_c.specs.Options.{order_in}
+use Rattle.rtnl_c.proofs.Common.{◌-◌, length, order_in}
 use Rattle.rtnl_c.proofs.Finding.{Keeps}
 use Rattle.rtnl_c.proofs.find.rtnlc_find.Given as goal
 

@@ -1,7 +1,7 @@
-use Rattle.std.proofs.Common.{◌≡◌, ◌<◌, ◌≤◌, ◌/◌, ◌∙◌, length, arith, sym, subst, refl}
-use Rattle.nl_mirror.specs.Five.{Fed}
-use Rattle.rtnl_c.specs.Mirrors.{Answers, unheard, short_of, feeds}
-use Rattle.rtnl_c.proofs.Telling.{fed_count, is_short, is_enough}
+use Rattle.rtnl_c.proofs.Common.{◌≡◌, ◌<◌, ◌≤◌, ◌/◌, ◌∙◌, Err, Ok, length, map, arith, sym, subst, refl, IsRead}
+use Rattle.nl_frame.specs.View.{message_view}
+use Rattle.rtnl_c.specs.Mirrors.{unheard, short_of, feeds}
+use Rattle.rtnl_c.proofs.Telling.{large_in_err, large_in_ok, read_count, is_short, is_enough}
 use Rattle.rtnl_c.proofs.hearing.feed.Goals as goal
 
 pub returns-then-changes-needed : goal.returns-then-changes-needed
@@ -9,23 +9,25 @@ returns-then-changes-needed c =
     let n = length c.args.changes.now in let q = length c.args.bytes.now / 16 in let x = c.needed.result in
     rw (c.unheard.ensures) (short_of (is_short n q x c.needed.ensures.none c.needed.ensures.some c.if-changes-needed.true))
 
-pub tell-requires : goal.tell-requires
-tell-requires c =
-    let n = length c.args.changes.now in let q = length c.args.bytes.now / 16 in let x = c.needed.result in let f = c.args.mirror.now in let g = c.feed-result.new.self in
-    let few = fed_count f g c.args.bytes.now c.in-Ok.answers (subst (λ r. Fed f c.args.bytes.now r g) c.in-Ok.is c.feed-result.ensures.fed) in
+pub hear_each-requires : goal.hear_each-requires
+hear_each-requires c =
+    let n = length c.args.changes.now in let q = length c.args.bytes.now / 16 in let x = c.needed.result in let b = c.args.mirror.now.settings.limits in
+    let few = read_count b c.args.bytes.now c.in-Ok.messages (subst (IsRead b c.args.bytes.now) c.in-Ok.is c.read-result.ensures.read) in
     λ some. omega (arith, few, is_enough n q x c.needed.ensures.some c.if-changes-needed.false some)
 
 pub returns-in-Ok : goal.returns-in-Ok
 returns-in-Ok c =
-    let n = length c.args.changes.now in let q = length c.args.bytes.now / 16 in let x = c.needed.result in let d = c.feed-result in let t = c.tell in
-    feeds (λ s. omega (arith, is_enough n q x c.needed.ensures.some c.if-changes-needed.false s.0, s.1)) d.result.result d.result.visits d.new.self d.ensures.fed d.ensures.large d.ensures.bound
-    t.new.changes t.new.before t.result
-    (subst (λ r. Answers d.new.self r d.result.visits c.args.changes.now c.args.before.now t.new.changes t.new.before t.result) (sym c.in-Ok.is) t.ensures)
+    let n = length c.args.changes.now in let q = length c.args.bytes.now / 16 in let x = c.needed.result in let d = c.read-result in let t = c.hear_each in let b = c.args.mirror.now.settings.limits in
+    let h = t.ensures in
+    feeds (λ s. omega (arith, is_enough n q x c.needed.ensures.some c.if-changes-needed.false s.0, s.1)) (Ok h.0) d.result.visits t.new.mirror
+    (map message_view c.in-Ok.messages.items, subst (IsRead b c.args.bytes.now) c.in-Ok.is d.ensures.read, h.1) (large_in_ok h.0 c.in-Ok.messages d.result.result _ c.in-Ok.is d.ensures.large) d.ensures.bound
+    t.new.changes t.new.before t.result h.2
 
 pub returns-in-Err : goal.returns-in-Err
 returns-in-Err c =
-    let n = length c.args.changes.now in let q = length c.args.bytes.now / 16 in let x = c.needed.result in let d = c.feed-result in let old = c.args.changes.now in let out = c.args.before.now in
-    let a = c.unheard-in-Err in
-    feeds (λ s. omega (arith, is_enough n q x c.needed.ensures.some c.if-changes-needed.false s.0, s.1)) d.result.result d.result.visits d.new.self d.ensures.fed d.ensures.large d.ensures.bound
+    let n = length c.args.changes.now in let q = length c.args.bytes.now / 16 in let x = c.needed.result in let d = c.read-result in let old = c.args.changes.now in let out = c.args.before.now in
+    let a = c.unheard-in-Err in let b = c.args.mirror.now.settings.limits in
+    feeds (λ s. omega (arith, is_enough n q x c.needed.ensures.some c.if-changes-needed.false s.0, s.1)) (Err c.in-Err.error) d.result.visits c.refused.new.self
+    (c.refused.ensures, subst (IsRead b c.args.bytes.now) c.in-Err.is d.ensures.read) (large_in_err c.in-Err.error d.result.result _ c.in-Err.is d.ensures.large) d.ensures.bound
     old out a.result
-    (subst (λ r. Answers d.new.self r d.result.visits old out old out a.result) (sym c.in-Err.is) (a.ensures ∙ (λ i. unheard d.result.visits (c.place.ensures i) (c.code.ensures i)), refl, refl))
+    (a.ensures ∙ (λ i. unheard d.result.visits (c.place.ensures i) (c.code.ensures i)), refl, refl)

@@ -1,6 +1,4 @@
-use Rattle.std.proofs.Common.{subst}
-use Rattle.nl_mirror.specs.Five.{Mirrored}
-use Rattle.rtnl_c.specs.Mirrors.{FeedsOne}
+use Rattle.rtnl_c.proofs.Common.{subst, Mirrored, FeedsOne}
 use Rattle.rtnl_c.proofs.Telling.{unmade_by, fed_by}
 use Rattle.rtnl_c.proofs.hearing.rtnlc_mirror_feed.Goals as goal
 

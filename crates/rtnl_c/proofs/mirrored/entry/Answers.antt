@@ -1,11 +1,6 @@
-use Rattle.std.proofs.Common.{◌+◌, refl}
-use Rattle.nl_attr.specs.Written.{items_len}
+use Rattle.rtnl_c.proofs.Common.{◌+◌, refl, items_len, Link, Addr, Route, Neigh, Rule, row, head_size, item_of, message_bytes}
 use Rattle.nl_attr.specs.View.{attrs_view}
-use Rattle.nl_route.specs.declared.family.Family.TheVariants.{Link, Addr, Route, Neigh, Rule}
 use Rattle.nl_route.specs.declared.object.Object.{Object}
-use Rattle.nl_route.specs.Families.{row, head_size}
-use Rattle.nl_dump.specs.Items.{item_of}
-use Rattle.rtnl_c.specs.Entries.{message_bytes}
 use Rattle.rtnl_c.proofs.Seen.{one_message}
 use Rattle.rtnl_c.proofs.Mirrors.{entry_held}
 use Rattle.rtnl_c.proofs.mirrored.entry.Goals as goal

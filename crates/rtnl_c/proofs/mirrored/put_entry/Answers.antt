@@ -1,8 +1,5 @@
-use Rattle.std.proofs.Common.{◌∙◌, ap, List, ℕ, Option, option_map, refl, sym, subst}
-use Rattle.std.specs.Global.{Vec}
-use Rattle.rtnl_c.specs.Codes.{nothing_there}
+use Rattle.rtnl_c.proofs.Common.{◌∙◌, ap, List, ℕ, Option, option_map, refl, sym, subst, Vec, nothing_there, IsPut, PutsFound}
 use Rattle.rtnl_c.specs.Entries.{puts, unwritten}
-use Rattle.rtnl_c.specs.Put.{IsPut, PutsFound}
 use Rattle.rtnl_c.proofs.mirrored.put_entry.Goals as goal
 
 pub returns-in-Ok-Some : goal.returns-in-Ok-Some

@@ -1,14 +1,7 @@
-use Rattle.std.proofs.Common.{◌≡◌, ℕ, List, length, Option, None, Some, Result, Ok, Err, refl, ap, sym, subst, ◌∙◌}
-use Rattle.std.proofs.lemmas.List.{length-take-le}
+use Rattle.rtnl_c.proofs.Common.{◌≡◌, ℕ, List, length, Option, None, Some, Result, Ok, Err, refl, ap, sym, subst, ◌∙◌, length-take-le, Order, BuildError, finish, new_parts, over, order_in, put_of}
 use Rattle.std.specs.Borrow.{Bor}
 use Rattle.std.specs.Prelude.{IfOk, IsOk, MatchOption}
-use Rattle.nl_attr.specs.declared.order.Order.{Order}
-use Rattle.nl_frame.specs.declared.building.refusal.BuildError.{BuildError}
-use Rattle.nl_frame.specs.Building.{finish}
-use Rattle.nl_frame.specs.Parts.{new_parts, over}
 use Rattle.rtnl_c.specs.Asked.{IsAlone, PutsAlone, standard_in}
-use Rattle.rtnl_c.specs.Options.{order_in}
-use Rattle.rtnl_c.specs.Put.{put_of}
 use Rattle.rtnl_c.proofs.Alone.{puts_alone, is_alone}
 use Rattle.rtnl_c.proofs.requests.put_alone.Goals as goal
 

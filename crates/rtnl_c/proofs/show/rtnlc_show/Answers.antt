@@ -1,5 +1,4 @@
-use Rattle.std.proofs.Common.{sym}
-use Rattle.rtnl.specs.Shown.{datagram_text}
+use Rattle.rtnl_c.proofs.Common.{sym, datagram_text}
 use Rattle.rtnl_c.proofs.Shows.{shows_so}
 use Rattle.rtnl_c.proofs.show.rtnlc_show.Goals as goal
 

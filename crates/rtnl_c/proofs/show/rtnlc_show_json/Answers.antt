@@ -1,5 +1,4 @@
-use Rattle.std.proofs.Common.{sym}
-use Rattle.rtnl.specs.Shown.{datagram_json}
+use Rattle.rtnl_c.proofs.Common.{sym, datagram_json}
 use Rattle.rtnl_c.proofs.Shows.{shows_so}
 use Rattle.rtnl_c.proofs.show.rtnlc_show_json.Goals as goal
 

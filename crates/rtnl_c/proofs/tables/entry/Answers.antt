@@ -1,11 +1,6 @@
-use Rattle.std.proofs.Common.{◌+◌, ap, sym}
-use Rattle.nl_attr.specs.Written.{items_len}
+use Rattle.rtnl_c.proofs.Common.{◌+◌, ap, sym, items_len, Link, Addr, Route, Neigh, Rule, row, head_size, item_of, seen, message_bytes}
 use Rattle.nl_attr.specs.View.{attrs_view}
-use Rattle.nl_route.specs.declared.family.Family.TheVariants.{Link, Addr, Route, Neigh, Rule}
 use Rattle.nl_route.specs.declared.object.Object.{Object}
-use Rattle.nl_route.specs.Families.{row, head_size}
-use Rattle.nl_dump.specs.Items.{item_of, seen}
-use Rattle.rtnl_c.specs.Entries.{message_bytes}
 use Rattle.rtnl_c.proofs.Seen.{entry_read, one_message}
 use Rattle.rtnl_c.proofs.tables.entry.Goals as goal
 

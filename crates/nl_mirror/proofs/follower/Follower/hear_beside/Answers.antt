@@ -10,9 +10,9 @@ returns-in-Some-clause-heard g c =
     let item = g.T.FromBody.item in
     let at = c.self.inside in
     let v = message_view c.args.message in
-    let after = in_items item (record { kind = at.kind; listening = record { dump = at.dump; interrupted = at.interrupted; asked = at.asked }; replica = c.change_in_doubt.new.self }) in
+    let after = in_items item (record { kind = g.T.FromBody.family; listening = record { dump = at.dump; interrupted = at.interrupted; asked = at.asked }; replica = c.change_in_doubt.new.self }) in
     subst (λ (f : Following g.row.T.Denot). IsHeardBy c.change_in_doubt.result (in_items item f) (beside f.kind f.listening v) after) c.self.view_is
-    (told_beside item at.kind at.dump at.interrupted at.asked at.replica c.change_in_doubt.new.self c.change_in_doubt.result v
+    (told_beside item g.T.FromBody.family at.dump at.interrupted at.asked at.replica c.change_in_doubt.new.self c.change_in_doubt.result v
     c.in-Some.change c.doubt_of-doubt.result c.in-Some.ensures c.doubt_of-doubt.ensures c.change_in_doubt.ensures.ok c.change_in_doubt.ensures.err)
 
 pub returns-in-Some-clause-effect : goal.returns-in-Some-clause-effect
@@ -21,7 +21,7 @@ returns-in-Some-clause-effect g c =
     let at = c.self.inside in
     let v = message_view c.args.message in
     subst (λ (f : Following g.row.T.Denot). IfOk c.change_in_doubt.result (λ e. effect_seen item e ≡ effect_beside (in_items item f) v)) c.self.view_is
-    (beside_effect item c.change_in_doubt.result at.replica c.in-Some.change (note_in at.kind at.asked v) c.in-Some.ensures c.change_in_doubt.ensures.effect)
+    (beside_effect item c.change_in_doubt.result at.replica c.in-Some.change (note_in g.T.FromBody.family at.asked v) c.in-Some.ensures c.change_in_doubt.ensures.effect)
 
 pub returns-in-Some-clause-room : goal.returns-in-Some-clause-room
 returns-in-Some-clause-room g c =
@@ -31,7 +31,7 @@ returns-in-Some-clause-room g c =
     let r = c.change_in_doubt in
     subst (λ (f : Following g.row.T.Denot). IfErr r.result (λ e. e ≡ short.Waiting
     → (effect_beside (in_items item f) v ≡ effects.Waits) × (is_full (in_items item f).replica ≡ true))) c.self.view_is
-    (beside_room item r.result at.replica r.new.self c.in-Some.change c.doubt_of-doubt.result (note_in at.kind at.asked v) c.in-Some.ensures r.ensures.err)
+    (beside_room item r.result at.replica r.new.self c.in-Some.change c.doubt_of-doubt.result (note_in g.T.FromBody.family at.asked v) c.in-Some.ensures r.ensures.err)
 
 pub returns-in-Some-clause-memory : goal.returns-in-Some-clause-memory
 returns-in-Some-clause-memory g c =

@@ -1,11 +1,8 @@
-use Rattle.std.proofs.Common.{◌≡◌, ◌<◌, ◌+◌, ◌∷◌, [], ◌++◌, ◌∙◌, ℕ, List, length, get_or, ap, append_assoc, drop, map, sym}
-use Rattle.std.specs.Borrow.{Bor}
+use Rattle.rtnl.proofs.Common.{◌≡◌, ◌<◌, ◌+◌, ◌∷◌, [], ◌++◌, ◌∙◌, ℕ, List, length, get_or, ap, append_assoc, drop, map, sym, Bor, Mark, fields, named, field_view}
 use Rattle.std.proofs.lemmas.List.{append-nil, drop_more}
 use Rattle.rtnl.specs.declared.bytes.notation.Notation.{Notation}
 use Rattle.rtnl.specs.declared.bytes.parts.Depth.{Depth}
 use Rattle.rtnl.specs.declared.bytes.parts.Extent.TheVariants.{Bytes}
-use Rattle.rtnl.specs.ByteParts.{Mark, fields, named}
-use Rattle.rtnl.specs.Structs.{field_view}
 use Rattle.rtnl.proofs.bytes.parts.push_fields.Goals as goal
 
 -- the next field, whose name has no second part

@@ -1,7 +1,4 @@
-use Rattle.std.proofs.Common.{◌≡◌, ◌++◌, drop, map}
-use Rattle.rtnl.specs.ByteParts.{fields}
-use Rattle.rtnl.specs.ByteViews.{marks_in}
-use Rattle.rtnl.specs.Structs.{field_view}
+use Rattle.rtnl.proofs.Common.{◌≡◌, ◌++◌, drop, map, fields, marks_in, field_view}
 use Rattle.rtnl.proofs.bytes.parts.push_fields.Given as goal
 
 -- what was said and what is left give the whole

@@ -1,11 +1,7 @@
 use Rattle.std.proofs.Common.{◌≡◌, ◌<◌, ◌+◌, ◌∷◌, [], ◌∙◌, ℕ, List, length, get_or, min, drop, ap, arith, rules}
 use Rattle.std.proofs.Math.ListN.{drop_of_length-le}
-use Rattle.std.proofs.lemmas.List.{drop_more}
-use Rattle.std.proofs.lemmas.Result.{on_ok_weaker}
+use Rattle.rtnl.proofs.Common.{drop_more, on_ok_weaker, BytePart, parts_by, unread, row_printed, marks_in, piece_view}
 use Rattle.rtnl.specs.declared.bytes.parts.Piece.{Piece}
-use Rattle.rtnl.specs.ByteParts.{BytePart, parts_by, unread}
-use Rattle.rtnl.specs.ByteRows.{row_printed}
-use Rattle.rtnl.specs.ByteViews.{marks_in, piece_view}
 use Rattle.rtnl.proofs.ByteRows.{has_rows, last_part, leaves, leaves_none, next_part, none_left}
 use Rattle.rtnl.proofs.bytes.parts.push_parts.Goals as goal
 

@@ -1,7 +1,4 @@
-use Rattle.std.proofs.Common.{◌≡◌, ◌+◌, drop, length}
-use Rattle.rtnl.specs.ByteParts.{parts_by}
-use Rattle.rtnl.specs.ByteRows.{row_printed}
-use Rattle.rtnl.specs.ByteViews.{marks_in}
+use Rattle.rtnl.proofs.Common.{◌≡◌, ◌+◌, drop, length, parts_by, row_printed, marks_in}
 use Rattle.rtnl.proofs.ByteRows.{AreLeft}
 use Rattle.rtnl.proofs.bytes.parts.push_parts.Given as goal
 

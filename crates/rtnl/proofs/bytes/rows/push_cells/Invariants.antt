@@ -1,6 +1,4 @@
-use Rattle.std.proofs.Common.{◌≡◌, ◌++◌, drop}
-use Rattle.std.specs.List.{flat_map}
-use Rattle.rtnl.specs.ByteRows.{cell}
+use Rattle.rtnl.proofs.Common.{◌≡◌, ◌++◌, drop, flat_map, cell}
 use Rattle.rtnl.proofs.bytes.rows.push_cells.Given as goal
 
 -- what is written and what is left give the whole

@@ -1,7 +1,5 @@
 use Rattle.std.proofs.Common.{◌≡◌, ◌<◌, ◌++◌, length, min, sym, arith, rules}
-use Rattle.std.proofs.lemmas.List.{nil_from_length, take-append-drop}
-use Rattle.rtnl.specs.ByteRows.{row_printed}
-use Rattle.rtnl.specs.ByteViews.{part_view}
+use Rattle.rtnl.proofs.Common.{nil_from_length, take-append-drop, row_printed, part_view}
 use Rattle.rtnl.proofs.ByteRows.{ends, one_row}
 use Rattle.rtnl.proofs.bytes.rows.push_part.Goals as goal
 

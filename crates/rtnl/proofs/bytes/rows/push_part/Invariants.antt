@@ -1,6 +1,4 @@
-use Rattle.std.proofs.Common.{◌≡◌, ◌+◌, length}
-use Rattle.rtnl.specs.ByteRows.{row_printed}
-use Rattle.rtnl.specs.ByteViews.{part_view}
+use Rattle.rtnl.proofs.Common.{◌≡◌, ◌+◌, length, row_printed, part_view}
 use Rattle.rtnl.proofs.ByteRows.{IsLeft}
 use Rattle.rtnl.proofs.bytes.rows.push_part.Given as goal
 

@@ -1,8 +1,5 @@
-use Rattle.std.proofs.Common.{◌≡◌, ◌++◌, ◌∙◌, List, ap, append_assoc, codes}
-use Rattle.std.proofs.lemmas.Result.{on_ok_weaker}
+use Rattle.rtnl.proofs.Common.{◌≡◌, ◌++◌, ◌∙◌, List, ap, append_assoc, codes, on_ok_weaker, Mark, fields, rest_of, marks_in}
 use Rattle.rtnl.specs.declared.bytes.parts.Depth.TheVariants.{Body}
-use Rattle.rtnl.specs.ByteParts.{Mark, fields, rest_of}
-use Rattle.rtnl.specs.ByteViews.{marks_in}
 use Rattle.rtnl.specs.Structs.{rtgenmsg}
 use Rattle.rtnl.proofs.bytes.view.push_body.Goals as goal
 

@@ -1,11 +1,5 @@
-use Rattle.std.proofs.Common.{◌≡◌, ◌∷◌, [], ◌++◌, ◌∙◌, ◌+◌, ℕ, List, false, get_or, ap, append_assoc, drop, sym, take}
-use Rattle.std.proofs.lemmas.List.{drop_more}
-use Rattle.nl_attr.specs.declared.events.Event.{Event}
-use Rattle.nl_attr.specs.declared.order.Order.{Order}
-use Rattle.nl_attr.specs.declared.tree.Ctx.{Ctx}
+use Rattle.rtnl.proofs.Common.{◌≡◌, ◌∷◌, [], ◌++◌, ◌∙◌, ◌+◌, ℕ, List, false, get_or, ap, append_assoc, drop, sym, take, drop_more, Event, Order, Ctx, Mark, context_at, contexts_after, contexts_behind, depth_inside, head_marks, level_inside, marks_from, padding, context_in}
 use Rattle.rtnl.specs.declared.bytes.parts.Depth.{Depth}
-use Rattle.rtnl.specs.ByteParts.{Mark, context_at, contexts_after, contexts_behind, depth_inside, head_marks, level_inside, marks_from, padding}
-use Rattle.rtnl.specs.Tape.{context_in}
 use Rattle.rtnl.proofs.bytes.view.view_events.Goals as goal
 
 -- what stands for an event behind the last

@@ -1,6 +1,4 @@
-use Rattle.std.proofs.Common.{◌≡◌, ◌++◌, [], drop}
-use Rattle.rtnl.specs.ByteParts.{contexts_after, marks_from, marks_of}
-use Rattle.rtnl.specs.ByteViews.{marks_in}
+use Rattle.rtnl.proofs.Common.{◌≡◌, ◌++◌, [], drop, contexts_after, marks_from, marks_of, marks_in}
 use Rattle.rtnl.proofs.bytes.view.view_events.Given as goal
 
 -- what was seen and what is left give the whole

@@ -1,5 +1,4 @@
-use Rattle.std.proofs.Common.{◌∙◌, ap, sym}
-use Rattle.std.proofs.lemmas.Result.{IfOk-weaker}
+use Rattle.rtnl.proofs.Common.{◌∙◌, ap, sym, IfOk-weaker}
 use Rattle.rtnl.specs.Json.{◌⊕◌, fields_tokens}
 use Rattle.rtnl.specs.Shown.{refusal_fields}
 use Rattle.rtnl.proofs.json_lines.datagram.push_refusal.Goals as goal

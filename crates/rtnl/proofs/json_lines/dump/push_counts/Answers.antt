@@ -1,5 +1,4 @@
-use Rattle.std.proofs.Common.{◌∷◌, [], codes}
-use Rattle.std.proofs.lemmas.Result.{IfOk-weaker}
+use Rattle.rtnl.proofs.Common.{◌∷◌, [], codes, IfOk-weaker}
 use Rattle.rtnl.specs.Json.{Field, number}
 use Rattle.rtnl.specs.TabledJson.{count_fields}
 use Rattle.rtnl.proofs.Json.{then_fields}

@@ -1,7 +1,5 @@
-use Rattle.std.proofs.Common.{◌≡◌, map, drop, true}
+use Rattle.rtnl.proofs.Common.{◌≡◌, map, drop, true, bit_view, are_unescaped, names_set}
 use Rattle.rtnl.specs.Json.{◌⊕◌, string, values_tokens}
-use Rattle.rtnl.specs.NamedBits.{bit_view}
-use Rattle.rtnl.specs.Names.{are_unescaped, names_set}
 use Rattle.rtnl.proofs.json_lines.flags.push_bits.Given as goal
 
 -- what is written and what the rest of the table gives are all names, and the rest stands for itself

@@ -1,7 +1,5 @@
 use Rattle.std.proofs.Common.{◌≡◌, ◌∷◌, ◌∙◌, ◌+◌, drop, map, refl, rules}
-use Rattle.std.proofs.lemmas.List.{drop_more}
-use Rattle.nl_frame.specs.View.{message_view}
-use Rattle.rtnl.specs.MessagesJson.{messages_json}
+use Rattle.rtnl.proofs.Common.{drop_more, message_view, messages_json}
 use Rattle.rtnl.proofs.Json.{next_written}
 use Rattle.rtnl.proofs.json_lines.message.push_each.Goals as goal
 

@@ -1,7 +1,5 @@
-use Rattle.std.proofs.Common.{◌≡◌, drop, map}
-use Rattle.nl_frame.specs.View.{message_view}
+use Rattle.rtnl.proofs.Common.{◌≡◌, drop, map, message_view, messages_json}
 use Rattle.rtnl.specs.Json.{◌⊕◌, values_tokens}
-use Rattle.rtnl.specs.MessagesJson.{messages_json}
 use Rattle.rtnl.proofs.json_lines.message.push_each.Given as goal
 
 -- what is written and what is left give the whole

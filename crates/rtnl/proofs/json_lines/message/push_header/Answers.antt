@@ -1,9 +1,7 @@
 use Rattle.std.proofs.Common.{◌≡◌, ◌∷◌, ◌∙◌, [], ap, codes, rules}
-use Rattle.std.proofs.lemmas.Result.{IfOk-weaker}
+use Rattle.rtnl.proofs.Common.{IfOk-weaker, names_json, flag_names}
 use Rattle.rtnl.specs.Json.{Field, ◌⊕◌, fields_tokens, number, string}
-use Rattle.rtnl.specs.Names.{names_json}
 use Rattle.rtnl.specs.MessagesJson.{header_fields}
-use Rattle.rtnl.specs.NamedBits.{flag_names}
 use Rattle.rtnl.specs.Types.{type_flags, type_name}
 use Rattle.rtnl.proofs.Json.{then_fields}
 use Rattle.rtnl.proofs.json_lines.message.push_header.Goals as goal

@@ -1,16 +1,9 @@
 use Rattle.std.proofs.Common.{◌≡◌, ◌∷◌, ◌++◌, ◌∙◌, [], ap, codes, of_z, refl, rules, sym, to_z, w32}
-use Rattle.std.proofs.lemmas.Result.{IfOk-weaker}
-use Rattle.json.specs.Token.{begin_object}
-use Rattle.nl_attr.specs.declared.tree.Ctx.TheVariants.{Route}
-use Rattle.nl_attr.specs.declared.tree.Hop.{out-Hop}
+use Rattle.rtnl.proofs.Common.{IfOk-weaker, begin_object, Route, out-Hop, attrs_view, hops_view, value_view, attribute_style, inner_context, json_tokens, reading_of, reading_view}
 use Rattle.nl_attr.specs.Tree.{bytes, holds_of, hops, list}
-use Rattle.nl_attr.specs.View.{attrs_view, hops_view, value_view}
 use Rattle.nl_attr.proofs.Lemmas.Opened.{value_hops, value_list}
-use Rattle.rtnl.specs.Attributes.{attribute_style, inner_context}
-use Rattle.json.specs.Tree.{json_tokens}
 use Rattle.rtnl.specs.Json.{◌⊕◌, array, fields_tokens, object, string, values_tokens}
 use Rattle.rtnl.specs.MessagesJson.{attr_front, attrs_json, hop_front, hops_json, items_fields, reading_fields, value_fields}
-use Rattle.rtnl.specs.Values.{reading_of, reading_view}
 use Rattle.rtnl.proofs.Json.{an_item, more as tokens_more, then_fields}
 use Rattle.rtnl.proofs.Trees.{attr_item, hop_item, value_bytes}
 use Rattle.rtnl.proofs.json_lines.tree.+writing.Goals as goal

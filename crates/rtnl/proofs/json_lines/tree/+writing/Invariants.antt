@@ -1,7 +1,5 @@
-use Rattle.std.proofs.Common.{◌≡◌, drop}
-use Rattle.nl_attr.specs.View.{attrs_view, hops_view}
+use Rattle.rtnl.proofs.Common.{◌≡◌, drop, attrs_view, hops_view, attrs_json, hops_json}
 use Rattle.rtnl.specs.Json.{◌⊕◌, values_tokens}
-use Rattle.rtnl.specs.MessagesJson.{attrs_json, hops_json}
 use Rattle.rtnl.proofs.json_lines.tree.+writing.Given as goal
 
 -- what is written and what is left give the whole

@@ -1,7 +1,5 @@
 use Rattle.std.proofs.Common.{◌∷◌, ◌++◌, ◌∙◌, ap, append-nil, refl, true}
-use Rattle.std.proofs.lemmas.Result.{IfOk-weaker}
-use Rattle.json.specs.Print.{print}
-use Rattle.json.specs.Token.{begin_object}
+use Rattle.rtnl.proofs.Common.{IfOk-weaker, print, begin_object}
 use Rattle.rtnl.specs.Attributes.{row_of}
 use Rattle.rtnl.specs.Json.{fields_tokens}
 use Rattle.rtnl.specs.MessagesJson.{attr_front, flags_json, name_json}

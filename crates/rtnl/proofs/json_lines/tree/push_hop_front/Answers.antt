@@ -1,8 +1,6 @@
 use Rattle.std.proofs.Common.{◌≡◌, ◌∷◌, ◌∙◌, [], ap, codes, of_z, rules, to_z, w32}
-use Rattle.std.proofs.lemmas.Result.{IfOk-weaker}
+use Rattle.rtnl.proofs.Common.{IfOk-weaker, hop_flags, names_json}
 use Rattle.rtnl.specs.Json.{Field, ◌⊕◌, fields_tokens, number, signed}
-use Rattle.rtnl.specs.NamedBits.{hop_flags}
-use Rattle.rtnl.specs.Names.{names_json}
 use Rattle.rtnl.specs.MessagesJson.{hop_front}
 use Rattle.rtnl.proofs.Json.{then_fields}
 use Rattle.rtnl.proofs.json_lines.tree.push_hop_front.Goals as goal

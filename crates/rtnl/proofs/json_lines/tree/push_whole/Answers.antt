@@ -1,11 +1,7 @@
-use Rattle.std.proofs.Common.{◌≡◌, ◌∷◌, ◌++◌, ◌∙◌, ap, codes, refl, true}
-use Rattle.std.proofs.lemmas.Result.{IfOk-weaker}
-use Rattle.json.specs.Print.{print}
-use Rattle.json.specs.Token.{begin_object}
+use Rattle.rtnl.proofs.Common.{◌≡◌, ◌∷◌, ◌++◌, ◌∙◌, ap, codes, refl, true, IfOk-weaker, print, begin_object, reading_view}
 use Rattle.rtnl.specs.Attributes.{row_of}
 use Rattle.rtnl.specs.Json.{fields_tokens, opened}
 use Rattle.rtnl.specs.MessagesJson.{attr_front, flags_json, name_json, reading_fields}
-use Rattle.rtnl.specs.Values.{reading_view}
 use Rattle.rtnl.proofs.Fronts.{whole_object}
 use Rattle.rtnl.proofs.json_lines.tree.push_whole.Goals as goal
 

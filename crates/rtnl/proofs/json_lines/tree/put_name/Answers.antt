@@ -1,8 +1,6 @@
-use Rattle.std.proofs.Common.{◌≡◌, ◌∷◌, ◌++◌, ◌∙◌, ap, append_assoc, arith, codes, length, subst, sym}
+use Rattle.rtnl.proofs.Common.{◌≡◌, ◌∷◌, ◌++◌, ◌∙◌, ap, append_assoc, arith, codes, length, subst, sym, IsUnescaped, value_text, name_in}
 use Rattle.json.specs.Print.{print_from}
-use Rattle.rtnl.specs.Json.{IsUnescaped, value_text}
 use Rattle.rtnl.specs.MessagesJson.{name_found, name_json}
-use Rattle.rtnl.specs.Named.{name_in}
 use Rattle.rtnl.proofs.Json.{string_text}
 use Rattle.rtnl.proofs.Unescaped.{short_name, unescaped_name}
 use Rattle.rtnl.proofs.json_lines.tree.put_name.Goals as goal

@@ -1,5 +1,4 @@
-use Rattle.std.proofs.Common.{◌≡◌, drop, map}
-use Rattle.rtnl.specs.Named.{find_named, named_view}
+use Rattle.rtnl.proofs.Common.{◌≡◌, drop, map, find_named, named_view}
 use Rattle.rtnl.proofs.names.named.find_named.Given as goal
 
 -- the number is sought in the rows that are left

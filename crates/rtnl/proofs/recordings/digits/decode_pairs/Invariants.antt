@@ -1,6 +1,5 @@
-use Rattle.std.proofs.Common.{◌≡◌, ◌*◌, ◌<◌, take, drop}
+use Rattle.rtnl.proofs.Common.{◌≡◌, ◌*◌, ◌<◌, take, drop, prepend}
 use Rattle.hex.specs.Hex.{decode_pairs}
-use Rattle.hex.proofs.Pairs.{prepend}
 use Rattle.rtnl.proofs.recordings.digits.decode_pairs.Given as goal
 
 -- where all were digits so far, the bytes of the pairs so far lead

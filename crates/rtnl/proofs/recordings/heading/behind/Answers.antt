@@ -1,7 +1,4 @@
-use Rattle.std.proofs.Common.{◌≡◌, Option, Some, None, sym, ap, ◌∙◌, List, ℕ, ◌++◌, ◌≢◌, MatchOption}
-use Rattle.std.specs.Borrow.{Bor}
-use Rattle.std.specs.Option.{option_copied}
-use Rattle.std.proofs.lemmas.Bool.Decides.{Decides-eqb}
+use Rattle.rtnl.proofs.Common.{◌≡◌, Option, Some, None, sym, ap, ◌∙◌, List, ℕ, ◌++◌, ◌≢◌, MatchOption, Bor, option_copied, Decides-eqb}
 use Rattle.std.proofs.lemmas.Slice.Eq.{strip_prefix_is}
 use Rattle.rtnl.specs.Heading.{behind}
 use Rattle.rtnl.proofs.Headings.{stripped}

@@ -1,7 +1,6 @@
 use Rattle.std.proofs.Common.{◌≡◌, false, true, ◌∙◌, arith, length, rules}
 use Rattle.std.proofs.lemmas.Iterator.Consumers.{YieldsList-turn, YieldsList-end}
-use Rattle.std.proofs.lemmas.List.{length_push}
-use Rattle.std.proofs.lemmas.Result.{err_from_is_err_and}
+use Rattle.rtnl.proofs.Common.{length_push, err_from_is_err_and}
 use Rattle.rtnl.proofs.Cuts.{YieldsList-lines, length-lines_of}
 use Rattle.rtnl.proofs.Reading.{failed_line, line_at_place, no_line, none_more, none_read, one_more}
 use Rattle.rtnl.proofs.recordings.lines.read_datagrams.Goals as goal

@@ -1,5 +1,4 @@
-use Rattle.std.proofs.Common.{◌≡◌, length}
-use Rattle.rtnl.specs.Lines.{datagrams, lines_of}
+use Rattle.rtnl.proofs.Common.{◌≡◌, length, datagrams, lines_of}
 use Rattle.rtnl.proofs.Reading.{AreRead}
 use Rattle.rtnl.proofs.recordings.lines.read_datagrams.Given as goal
 

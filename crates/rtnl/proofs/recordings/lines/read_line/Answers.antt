@@ -1,5 +1,4 @@
-use Rattle.std.proofs.Common.{sym}
-use Rattle.rtnl.specs.Lines.{is_blank}
+use Rattle.rtnl.proofs.Common.{sym, is_blank}
 use Rattle.rtnl.proofs.Reading.{filter_none}
 use Rattle.rtnl.proofs.recordings.lines.read_line.Goals as goal
 

@@ -1,6 +1,4 @@
-use Rattle.std.proofs.Common.{◌++◌, length, map, ap, arith}
-use Rattle.nl_dump.specs.Items.{seen}
-use Rattle.rtnl.specs.Tabled.{entries_text}
+use Rattle.rtnl.proofs.Common.{◌++◌, length, map, ap, arith, seen, entries_text}
 use Rattle.rtnl.proofs.Entries.{no_more, one_entry, pair}
 use Rattle.rtnl.proofs.runs.entries.push_entries.Goals as goal
 

@@ -1,6 +1,4 @@
-use Rattle.std.proofs.Common.{◌≡◌, ◌++◌, ◌+◌, ◌≤◌, ◌^◌, length, map}
-use Rattle.nl_dump.specs.Items.{seen}
-use Rattle.rtnl.specs.Tabled.{entries_text}
+use Rattle.rtnl.proofs.Common.{◌≡◌, ◌++◌, ◌+◌, ◌≤◌, ◌^◌, length, map, seen, entries_text}
 use Rattle.rtnl.proofs.Entries.{pair}
 use Rattle.rtnl.proofs.runs.entries.push_entries.Given as goal
 

@@ -1,6 +1,4 @@
-use Rattle.std.proofs.Common.{◌≡◌, ◌++◌, ◌∙◌, refl, ap, inl, inr}
-use Rattle.std.proofs.lemmas.Result.{err_from_is_err_and}
-use Rattle.rtnl.specs.FollowedDump.{ending_at}
+use Rattle.rtnl.proofs.Common.{◌≡◌, ◌++◌, ◌∙◌, refl, ap, inl, inr, err_from_is_err_and, ending_at}
 use Rattle.rtnl.specs.declared.ending.Ending.{Ending}
 use Rattle.rtnl.proofs.FollowingDump.{wrote_all, wrote_none, wrote_part}
 use Rattle.rtnl.proofs.runs.follow_dump.follow_dump.Goals as goal

@@ -1,5 +1,4 @@
-use Rattle.std.proofs.Common.{◌≡◌, ◌+◌, ◌++◌, drop, map}
-use Rattle.nl_frame.specs.View.{message_view}
+use Rattle.rtnl.proofs.Common.{◌≡◌, ◌+◌, ◌++◌, drop, map, message_view}
 use Rattle.rtnl.specs.Tabled.{bodies_text}
 use Rattle.rtnl.proofs.runs.follow_dump.push_items.Given as goal
 

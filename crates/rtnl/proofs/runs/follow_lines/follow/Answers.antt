@@ -1,8 +1,5 @@
 use Rattle.std.proofs.Common.{rules, ◌≡◌, ◌∷◌, ◌++◌, ◌≤◌, ◌∙◌, [], false, true, Ok, refl, take, length, arith, length-append}
-use Rattle.std.proofs.lemmas.List.{length-take}
-use Rattle.std.proofs.lemmas.Result.{err_from_is_err_and}
-use Rattle.std.specs.Io.KnownBytes.{Consumes}
-use Rattle.rtnl.specs.Streams.{Gains}
+use Rattle.rtnl.proofs.Common.{length-take, err_from_is_err_and, Consumes, Gains}
 use Rattle.rtnl.proofs.Following.{follows_counted, follows_none, read_none}
 use Rattle.rtnl.proofs.FollowedPieces.{all_ended, all_failed, all_read, all_told, last_failed, read_failed}
 use Rattle.rtnl.proofs.runs.follow_lines.follow.Goals as goal

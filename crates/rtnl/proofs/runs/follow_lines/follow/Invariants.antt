@@ -1,5 +1,4 @@
-use Rattle.std.proofs.Common.{◌≡◌, ◌+◌, ◌-◌, ℕ, List, length}
-use Rattle.rtnl.specs.Followed.{Follows, GoesOn, HasRead}
+use Rattle.rtnl.proofs.Common.{◌≡◌, ◌+◌, ◌-◌, ℕ, List, length, Follows, GoesOn, HasRead}
 use Rattle.rtnl.proofs.runs.follow_lines.follow.Given as goal
 
 -- what was read so far is followed, nothing ended it, and no call has failed

@@ -1,8 +1,5 @@
 use Rattle.std.proofs.Common.{rules, ◌≡◌, ◌+◌, ◌++◌, ◌∷◌, [], ◌∙◌, false, Ok, drop, length, sym, ap, subst, append_assoc, true, Some, arith, length-drop, ◌≤◌}
-use Rattle.std.proofs.lemmas.List.{drop-drop}
-use Rattle.rtnl.specs.Followed.{IsCounted, said_of, with_part}
-use Rattle.std.proofs.lemmas.Result.{err_from_is_err_and}
-use Rattle.rtnl.specs.Lines.{lines_of}
+use Rattle.rtnl.proofs.Common.{drop-drop, IsCounted, said_of, with_part, err_from_is_err_and, lines_of}
 use Rattle.rtnl.proofs.Cuts.{first_line, last_line, line_parts}
 use Rattle.rtnl.proofs.Following.{goes_more, tells_counted}
 use Rattle.rtnl.proofs.FollowedPieces.{piece_ended, piece_failed, piece_kept, piece_lost, piece_more}

@@ -1,5 +1,4 @@
-use Rattle.std.proofs.Common.{◌≡◌, ◌≤◌, ◌++◌, ℕ, List, Option, length}
-use Rattle.rtnl.specs.Followed.{Follows, GoesOn, IsCounted}
+use Rattle.rtnl.proofs.Common.{◌≡◌, ◌≤◌, ◌++◌, ℕ, List, Option, length, Follows, GoesOn, IsCounted}
 use Rattle.rtnl.proofs.runs.follow_lines.follow_piece.Given as goal
 
 -- the front of the piece that is gone is followed, and nothing ended it; and the lines in what is left can be counted

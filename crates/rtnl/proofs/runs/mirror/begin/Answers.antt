@@ -1,5 +1,4 @@
-use Rattle.std.proofs.Common.{refl, not, ap, ◌++◌, ◌∙◌}
-use Rattle.rtnl.specs.Mirroring.{unbegun_by, where_so}
+use Rattle.rtnl.proofs.Common.{refl, not, ap, ◌++◌, ◌∙◌, unbegun_by, where_so}
 use Rattle.rtnl.proofs.runs.mirror.begin.Goals as goal
 
 pub returns : goal.returns

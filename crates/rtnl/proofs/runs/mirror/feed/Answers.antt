@@ -1,7 +1,5 @@
-use Rattle.std.proofs.Common.{◌≡◌, ◌++◌, ◌∙◌, map, refl, sym, ap}
+use Rattle.rtnl.proofs.Common.{◌≡◌, ◌++◌, ◌∙◌, map, refl, sym, ap, message_view, heard, refused}
 use Rattle.nl_dump.specs.Codes.{read_error}
-use Rattle.nl_frame.specs.View.{message_view}
-use Rattle.rtnl.specs.Mirroring.{heard, refused}
 use Rattle.rtnl.proofs.Showing.{answers_messages, refuses}
 use Rattle.rtnl.proofs.runs.mirror.feed.Goals as goal
 

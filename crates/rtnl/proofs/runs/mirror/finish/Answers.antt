@@ -1,6 +1,4 @@
-use Rattle.std.proofs.Common.{◌≡◌, ◌++◌, ◌∙◌, ap}
-use Rattle.std.proofs.lemmas.Result.{err_from_is_err_and}
-use Rattle.rtnl.specs.Mirroring.{end_text}
+use Rattle.rtnl.proofs.Common.{◌≡◌, ◌++◌, ◌∙◌, ap, err_from_is_err_and, end_text}
 use Rattle.rtnl.proofs.FollowingDump.{wrote_all, wrote_none, wrote_part}
 use Rattle.rtnl.proofs.runs.mirror.finish.Goals as goal
 

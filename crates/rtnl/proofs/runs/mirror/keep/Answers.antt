@@ -1,5 +1,4 @@
-use Rattle.std.proofs.Common.{refl, inl, inr}
-use Rattle.std.proofs.lemmas.Result.{err_from_is_err_and}
+use Rattle.rtnl.proofs.Common.{refl, inl, inr, err_from_is_err_and}
 use Rattle.rtnl.proofs.runs.mirror.keep.Goals as goal
 
 pub returns-in_err-counts : goal.returns-in_err-counts

@@ -1,5 +1,4 @@
-use Rattle.std.proofs.Common.{refl, inl, inr, ap, Err, ◌∙◌}
-use Rattle.std.proofs.lemmas.Result.{err_from_is_err_and}
+use Rattle.rtnl.proofs.Common.{refl, inl, inr, ap, Err, ◌∙◌, err_from_is_err_and}
 use Rattle.rtnl.proofs.runs.mirror.run.Goals as goal
 
 pub returns-in_err-kept : goal.returns-in_err-kept

@@ -1,5 +1,4 @@
-use Rattle.std.proofs.Common.{refl}
-use Rattle.rtnl.specs.Mirroring.{began}
+use Rattle.rtnl.proofs.Common.{refl, began}
 use Rattle.rtnl.proofs.runs.mirror.take_step.Goals as goal
 
 pub returns-in_ok-begin-in-Dump : goal.returns-in_ok-begin-in-Dump

@@ -1,7 +1,5 @@
 use Rattle.std.proofs.Common.{rules, ◌≡◌, ◌∷◌, [], ◌++◌, ◌∙◌, map, refl, sym, ap, subst, append_assoc, append-nil, arith}
-use Rattle.std.proofs.lemmas.List.{map-append, nil_from_length}
-use Rattle.nl_frame.specs.View.{message_view}
-use Rattle.rtnl.specs.Mirroring.{Hearing, HearsAll}
+use Rattle.rtnl.proofs.Common.{map-append, nil_from_length, message_view, Hearing, HearsAll}
 use Rattle.rtnl.proofs.Mirrors.{answers_one, hears_one, none_told}
 use Rattle.rtnl.proofs.runs.mirroring.hear_all.Goals as goal
 

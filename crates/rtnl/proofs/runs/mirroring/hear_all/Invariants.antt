@@ -1,7 +1,5 @@
-use Rattle.std.proofs.Common.{◌≡◌, ◌++◌, List, map}
+use Rattle.rtnl.proofs.Common.{◌≡◌, ◌++◌, List, map, message_view, Hearing, HearsAll, answers_text, where_so}
 use Rattle.nl_frame.specs.declared.body.Message.{Message}
-use Rattle.nl_frame.specs.View.{message_view}
-use Rattle.rtnl.specs.Mirroring.{Hearing, HearsAll, answers_text, where_so}
 use Rattle.rtnl.proofs.runs.mirroring.hear_all.Given as goal
 
 -- what was heard so far, and what was written of it

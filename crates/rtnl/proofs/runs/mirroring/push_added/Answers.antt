@@ -1,8 +1,5 @@
-use Rattle.std.proofs.Common.{◌≡◌, Some, None, option_map}
+use Rattle.rtnl.proofs.Common.{◌≡◌, Some, None, option_map, held_of, held_seen, entry_at}
 use Rattle.std.proofs.Common.{rules}
-use Rattle.nl_mirror.specs.Changes.{held_of}
-use Rattle.nl_mirror.specs.Seen.{held_seen}
-use Rattle.rtnl.specs.Mirroring.{entry_at}
 use Rattle.rtnl.proofs.Mirrors.{entry_seen}
 use Rattle.rtnl.proofs.runs.mirroring.push_added.Goals as goal
 

@@ -1,6 +1,4 @@
-use Rattle.std.proofs.Common.{◌≡◌, ◌-◌, ◌≤◌, ℕ, List, length}
-use Rattle.std.specs.Io.KnownBytes.{Consumes}
-use Rattle.rtnl.specs.Said.{SaysInput}
+use Rattle.rtnl.proofs.Common.{◌≡◌, ◌-◌, ◌≤◌, ℕ, List, length, Consumes, SaysInput}
 use Rattle.rtnl.proofs.runs.run_each.say_input.Given as goal
 
 -- what was read so far is said but for its last line, and no call has failed

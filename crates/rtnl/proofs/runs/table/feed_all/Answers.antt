@@ -1,6 +1,5 @@
 use Rattle.std.proofs.Common.{◌≡◌, ◌<◌, [], ◌∷◌, ◌+◌, ◌∙◌, ap, arith, drop, length, refl, rules, subst, sym}
-use Rattle.std.proofs.lemmas.List.{drop_more}
-use Rattle.rtnl.specs.Tabled.{FeedsSome}
+use Rattle.rtnl.proofs.Common.{drop_more, FeedsSome}
 use Rattle.rtnl.proofs.Feeding.{feeds_none, refused_none, feeds_more, refused_more}
 use Rattle.rtnl.proofs.runs.table.feed_all.Goals as goal
 

@@ -1,5 +1,4 @@
-use Rattle.std.proofs.Common.{◌≡◌, length, ◌-◌, ◌≤◌, take}
-use Rattle.std.specs.Io.KnownBytes.{Appends}
+use Rattle.rtnl.proofs.Common.{◌≡◌, length, ◌-◌, ◌≤◌, take, Appends}
 use Rattle.rtnl.proofs.streams.sink.give_all.Given as goal
 
 -- what was given so far is a prefix of the text, and no call has failed or taken no byte

@@ -1,7 +1,5 @@
 use Rattle.std.proofs.Common.{◌≡◌, ◌<◌, ◌+◌, ◌++◌, ◌∙◌, ap, drop, get_or, length, rules, subst, sym, take}
-use Rattle.std.proofs.lemmas.Result.{err_from_is_err_and}
-use Rattle.rtnl.specs.Parts.{joined}
-use Rattle.rtnl.specs.Streams.{AppendsPrefix}
+use Rattle.rtnl.proofs.Common.{err_from_is_err_and, joined, AppendsPrefix}
 use Rattle.rtnl.proofs.KnownBytes.{prefix_longer, prefix_more}
 use Rattle.rtnl.proofs.Parts.{all_parts, first_parts}
 use Rattle.rtnl.proofs.streams.sink.give_parts.Goals as goal

@@ -1,6 +1,4 @@
-use Rattle.std.proofs.Common.{◌≡◌, take}
-use Rattle.std.specs.Io.KnownBytes.{Appends}
-use Rattle.rtnl.specs.Parts.{joined}
+use Rattle.rtnl.proofs.Common.{◌≡◌, take, Appends, joined}
 use Rattle.rtnl.proofs.streams.sink.give_parts.Given as goal
 
 -- the first parts were given, and no call has failed or taken no byte

@@ -1,5 +1,4 @@
-use Rattle.std.proofs.Common.{ℕ, arith}
-use Rattle.std.proofs.lemmas.List.{length-take}
+use Rattle.rtnl.proofs.Common.{ℕ, arith, length-take}
 use Rattle.rtnl.proofs.KnownBytes.{at_most_more}
 use Rattle.rtnl.proofs.streams.source.read_input.Goals as goal
 

@@ -1,5 +1,4 @@
-use Rattle.std.proofs.Common.{◌≡◌, ◌-◌, ◌≤◌, length}
-use Rattle.std.specs.Io.KnownBytes.{Consumes}
+use Rattle.rtnl.proofs.Common.{◌≡◌, ◌-◌, ◌≤◌, length, Consumes}
 use Rattle.rtnl.proofs.streams.source.read_input.Given as goal
 
 abbrev pub invariant-loop-buffer : goal.invariant-loop-buffer

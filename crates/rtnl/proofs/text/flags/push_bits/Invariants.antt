@@ -1,6 +1,4 @@
-use Rattle.std.proofs.Common.{◌≡◌, ◌++◌, map, drop}
-use Rattle.rtnl.specs.NamedBits.{bit_view}
-use Rattle.rtnl.specs.Names.{names_set, names_text, rest_text}
+use Rattle.rtnl.proofs.Common.{◌≡◌, ◌++◌, map, drop, bit_view, names_set, names_text, rest_text}
 use Rattle.rtnl.proofs.text.flags.push_bits.Given as goal
 
 -- what is written and what the rest of the table gives is the whole text

@@ -1,6 +1,4 @@
-use Rattle.std.proofs.Common.{◌≡◌, ◌++◌, drop, map}
-use Rattle.nl_frame.specs.View.{message_view}
-use Rattle.rtnl.specs.Messages.{messages_text}
+use Rattle.rtnl.proofs.Common.{◌≡◌, ◌++◌, drop, map, message_view, messages_text}
 use Rattle.rtnl.proofs.text.message.push_messages.Given as goal
 
 -- what is written and what is left give the whole

@@ -1,6 +1,5 @@
 use Rattle.std.proofs.Common.{sym, arith, rules}
-use Rattle.std.proofs.lemmas.List.Sums.{prefix_len_is}
-use Rattle.rtnl.specs.Painted.{is_space}
+use Rattle.rtnl.proofs.Common.{prefix_len_is, is_space}
 use Rattle.rtnl.proofs.text.painting.indentation.Goals as goal
 
 pub returns-else-line-length-eq32-clause-value : goal.returns-else-line-length-eq32-clause-value

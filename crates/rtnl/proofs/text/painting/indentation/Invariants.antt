@@ -1,5 +1,4 @@
-use Rattle.std.proofs.Common.{◌≡◌, ℕ, ◌-◌, ◌≤◌, ◌<◌, get_or, length, true}
-use Rattle.rtnl.specs.Painted.{is_space}
+use Rattle.rtnl.proofs.Common.{◌≡◌, ℕ, ◌-◌, ◌≤◌, ◌<◌, get_or, length, true, is_space}
 use Rattle.rtnl.proofs.text.painting.indentation.Given as goal
 
 -- what is gone over is blanks

@@ -1,5 +1,4 @@
-use Rattle.std.proofs.Common.{◌≡◌, ◌++◌, ◌+◌, ◌∷◌, [], ◌∙◌, drop, take, sym, ap}
-use Rattle.std.proofs.lemmas.List.{drop-drop}
+use Rattle.rtnl.proofs.Common.{◌≡◌, ◌++◌, ◌+◌, ◌∷◌, [], ◌∙◌, drop, take, sym, ap, drop-drop}
 use Rattle.rtnl.specs.Painted.{painted, painted_line}
 use Rattle.rtnl.proofs.Painting.{line_written, painted_last}
 use Rattle.rtnl.proofs.text.painting.push_in_colours.Goals as goal

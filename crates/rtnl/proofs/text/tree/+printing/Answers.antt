@@ -1,7 +1,5 @@
 use Rattle.std.proofs.Common.{◌≡◌, ◌++◌, ◌∙◌, ap, of_z, rules, to_z, w32}
-use Rattle.nl_attr.specs.declared.tree.Ctx.TheVariants.{Route}
-use Rattle.nl_attr.specs.declared.tree.Hop.{out-Hop}
-use Rattle.nl_attr.specs.View.{attrs_view, hops_view}
+use Rattle.rtnl.proofs.Common.{Route, out-Hop, attrs_view, hops_view}
 use Rattle.rtnl.specs.Trees.{deeper, hop_line, hops_text, indented, items_text}
 use Rattle.rtnl.proofs.Trees.{held_hops, held_list, hop_written}
 use Rattle.rtnl.proofs.text.tree.+printing.Goals as goal

@@ -1,6 +1,4 @@
-use Rattle.std.proofs.Common.{◌≡◌, ◌++◌, drop}
-use Rattle.nl_attr.specs.View.{attrs_view, hops_view}
-use Rattle.rtnl.specs.Trees.{indented, items_text, hops_text}
+use Rattle.rtnl.proofs.Common.{◌≡◌, ◌++◌, drop, attrs_view, hops_view, indented, items_text, hops_text}
 use Rattle.rtnl.proofs.text.tree.+printing.Given as goal
 
 -- what is written and what is left give the whole, and the indentation is as it was

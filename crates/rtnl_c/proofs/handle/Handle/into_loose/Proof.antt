@@ -1,33 +1,13 @@
 -- `into_loose` looks whether there is a value, and hands on what the handle owns.
-use Rattle.std.proofs.Common.{◌≡◌, List, [], ◌∷◌, ◌++◌, Bool, Some, None, refl, sym, subst, lit<}
+use Rattle.rtnl_c.proofs.Common.{◌≡◌, List, [], ◌∷◌, ◌++◌, Bool, Some, None, refl, sym, subst, lit<, Val, vcons, vnil, SProp, ent, emp, id⊢, WpFn, stop, fld, lit, of_opd, no_more, and_then, first, branches, exec, returns, enter, alloc_all, pass_all, free_all, look_at, get, get_in, sets, sets_last, env, fact, fact_i, tables, yes, RattleType, owns, Ptr, ptr_val, types_at, type_at, plain, alive, Stays, stay_dropped, walk_of, Goes-dropped, layout, handle_tells, after, Good, and_tt, proved_at, leaves, ghosts}
 use Rattle.std.specs.Option.{option_map}
-use mir.Val.{Val, vcons, vnil}
-use base.Logic.{SProp, ent, emp, id⊢}
-use prog.Wp.{WpFn}
 use types.Kit.{‵, raw, ◌⊛◌, at_ret, ◌$◌, ◌∵◌, !, qed, by, move, keep, drop, split, fsplit, fsplit3, fjoin, suffices, use0, use1}
-use types.Run.{stop, fld, lit, of_opd, no_more, and_then, first, branches, exec, returns, enter}
-use types.ByLocal.{alloc_all, pass_all, free_all, look_at, get, get_in, sets, sets_last, env}
 use types.Part.{agg, sub, whole}
 use types.Match.{live}
-use contract.Monad.{fact, fact_i}
-use contract.Running.{tables}
-use denote.Exit.{yes}
-use denote.RattleType.{RattleType, owns}
-use denote.RawPtr.{Ptr, ptr_val}
-use denote.Signature.{types_at, type_at, plain}
 use denote.Steps.{nothing}
-use denote.Triple.Entry.{alive}
-use denote.Triple.Walked.{Stays, stay_dropped, walk_of, Goes-dropped}
-use denote.Param.{layout}
-use Rattle.core.proofs.alloc.Calls.{handle_tells}
-use Rattle.core.proofs.alloc.Shapes.{after}
-use Rattle.core.proofs.cell.Inside.{Good}
 use Rattle.core.proofs.option.Made.{Some-of, none_of}
-use Rattle.std_alloc.proofs.ResultValues.{and_tt}
-use Rattle.std.proofs.raw_atomic.Walks.{proved_at, leaves}
 use Rattle.std.specs.contracts.alloc.Global as heap
 use Rattle.std.proofs.alloc.Global.TheLaws as heap_laws
-use Rattle.std.specs.contracts.impls.GlobalAllocator.TheImpl.{ghosts}
 use Rattle.rtnl_c.proofs.Pointers.{both, Loose, al, loose_by}
 use Rattle.rtnl_c.proofs.Handles.{handle_val, handle_told, handle_typed, ptr_typed, loose_typed, with_value, without}
 use Rattle.nl_dump.specs.contracts.session.Session as session_type

@@ -1,20 +1,6 @@
 -- `none` owns nothing.
-use Rattle.std.proofs.Common.{◌≡◌, [], ◌∷◌, Option, None, refl, false}
-use mir.Val.{Val}
-use base.Logic.{SProp, emp}
-use types.Kit.{‵, raw, ◌⊛◌, ◌$◌, ◌∵◌, !, qed, by, move, keep, split, fjoin, use0}
-use types.Run.{lit, false_lit, no_more, and_then, returns, enter}
-use types.ByLocal.{alloc_all, pass_all, free_all, look_at, sets}
-use types.Part.{agg}
-use contract.Monad.{fact, fact_i}
-use contract.Running.{tables}
-use denote.RattleType.{owns}
-use denote.RawPtr.{null_ptr}
-use denote.Signature.{types_at}
+use Rattle.rtnl_c.proofs.Common.{◌≡◌, [], ◌∷◌, Option, None, refl, false, Val, SProp, emp, ‵, raw, ◌⊛◌, ◌$◌, ◌∵◌, !, qed, by, move, keep, split, fjoin, use0, lit, false_lit, no_more, and_then, returns, enter, alloc_all, pass_all, free_all, look_at, sets, agg, fact, fact_i, tables, owns, null_ptr, types_at, alive, Stays, walk_of, proved_at, leaves}
 use denote.Steps.{nothing}
-use denote.Triple.Entry.{alive}
-use denote.Triple.Walked.{Stays, walk_of}
-use Rattle.std.proofs.raw_atomic.Walks.{proved_at, leaves}
 use Rattle.rtnl_c.proofs.Handles.{handle_val, handle_own, handle_made, handle_typed}
 use Rattle.nl_dump.specs.contracts.session.Session as session_type
 use Rattle.rtnl_c.specs.contracts.handle.Handle.none.{ended, clauses}

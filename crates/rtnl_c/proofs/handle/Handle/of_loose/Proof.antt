@@ -1,25 +1,9 @@
 -- `of_loose` keeps the pointer, and hands on what it owns.
-use Rattle.std.proofs.Common.{◌≡◌, List, [], ◌∷◌, ◌++◌, refl, sym, subst, true, Some}
-use mir.Val.{Val, vptr}
-use base.Logic.{SProp, ent, emp, id⊢}
-use prog.Wp.{WpFn}
-use types.Kit.{‵, raw, ◌⊛◌, ◌$◌, ◌∵◌, !, qed, by, move, keep, split, fsplit, fjoin, suffices, use0}
-use types.Run.{stop, fld, true_lit, of_opd, no_more, and_then, returns, enter}
-use types.ByLocal.{alloc_all, pass_all, free_all, look_at, get, get_in, sets}
+use Rattle.rtnl_c.proofs.Common.{◌≡◌, List, [], ◌∷◌, ◌++◌, refl, sym, subst, true, Some, Val, vptr, SProp, ent, emp, id⊢, WpFn, ‵, raw, ◌⊛◌, ◌$◌, ◌∵◌, !, qed, by, move, keep, split, fsplit, fjoin, suffices, use0, stop, fld, true_lit, of_opd, no_more, and_then, returns, enter, alloc_all, pass_all, free_all, look_at, get, get_in, sets, fact, fact_i, tables, yes, RattleType, owns, Ptr, block_ptr, types_at, plain, alive, Stays, stay_dropped, walk_of, Goes-dropped, proved_at, leaves, ghosts}
 use types.Part.{agg, sub, whole}
-use contract.Monad.{fact, fact_i}
-use contract.Running.{tables}
-use denote.Exit.{yes}
-use denote.RattleType.{RattleType, owns}
-use denote.RawPtr.{Ptr, block_ptr}
-use denote.Signature.{types_at, plain}
 use denote.Steps.{nothing}
-use denote.Triple.Entry.{alive}
-use denote.Triple.Walked.{Stays, stay_dropped, walk_of, Goes-dropped}
-use Rattle.std.proofs.raw_atomic.Walks.{proved_at, leaves}
 use Rattle.std.specs.contracts.alloc.Global as heap
 use Rattle.std.proofs.alloc.Global.TheLaws as heap_laws
-use Rattle.std.specs.contracts.impls.GlobalAllocator.TheImpl.{ghosts}
 use Rattle.rtnl_c.proofs.Pointers.{both, Loose, loose_good, loose_out}
 use Rattle.rtnl_c.proofs.Handles.{handle_val, handle_own, handle_made, handle_typed}
 use Rattle.nl_dump.specs.contracts.session.Session as session_type

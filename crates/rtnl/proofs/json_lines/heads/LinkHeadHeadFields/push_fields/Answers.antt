@@ -1,10 +1,8 @@
 use Rattle.std.proofs.Common.{◌≡◌, ◌∷◌, ◌++◌, ◌∙◌, [], List, codes, refl, of_z, rules, to_z, w32}
-use Rattle.std.proofs.lemmas.Result.{IfOk-weaker}
+use Rattle.rtnl.proofs.Common.{IfOk-weaker, link_flags, names_json}
 use Rattle.json.specs.Print.{escape_byte, print, print_from}
 use Rattle.rtnl.specs.Json.{Field, fields_tokens, number, signed}
 use Rattle.rtnl.specs.Link.{link_head_fields}
-use Rattle.rtnl.specs.NamedBits.{link_flags}
-use Rattle.rtnl.specs.Names.{names_json}
 use Rattle.rtnl.proofs.Json.{fields_together, then_fields}
 use Rattle.rtnl.proofs.json_lines.heads.LinkHeadHeadFields.push_fields.Goals as goal
 

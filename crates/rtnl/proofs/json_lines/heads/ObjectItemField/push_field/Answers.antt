@@ -1,8 +1,4 @@
-use Rattle.std.proofs.Common.{◌≡◌, ◌∷◌, ◌∙◌, [], ap, sym}
-use Rattle.std.proofs.lemmas.Result.{IfOk-weaker}
-use Rattle.json.specs.Token.{key}
-use Rattle.nl_attr.specs.View.{attrs_view}
-use Rattle.nl_route.specs.Families.{family_of, name_of}
+use Rattle.rtnl.proofs.Common.{◌≡◌, ◌∷◌, ◌∙◌, [], ap, sym, IfOk-weaker, key, attrs_view, family_of, name_of}
 use Rattle.rtnl.specs.Json.{◌⊕◌}
 use Rattle.rtnl.specs.MessagesJson.{family_field}
 use Rattle.rtnl.proofs.Json.{named_value}

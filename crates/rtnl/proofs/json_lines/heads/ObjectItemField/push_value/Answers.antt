@@ -1,7 +1,4 @@
-use Rattle.std.proofs.Common.{◌≡◌, ◌∷◌, ◌++◌, ◌∙◌, [], List, ap, codes, sym}
-use Rattle.std.proofs.lemmas.Result.{IfOk-weaker}
-use Rattle.nl_attr.specs.View.{attrs_view}
-use Rattle.nl_route.specs.Families.{context_of, family_of}
+use Rattle.rtnl.proofs.Common.{◌≡◌, ◌∷◌, ◌++◌, ◌∙◌, [], List, ap, codes, sym, IfOk-weaker, attrs_view, context_of, family_of}
 use Rattle.rtnl.specs.Json.{Field, ◌⊕◌, array, fields_tokens}
 use Rattle.rtnl.specs.MessagesJson.{attrs_json, family_field, head_fields}
 use Rattle.rtnl.proofs.Json.{an_object, then_fields}

@@ -1,5 +1,4 @@
-use Rattle.std.proofs.Common.{◌≡◌, ◌∙◌, refl}
-use Rattle.std.proofs.lemmas.Result.{IfOk-weaker}
+use Rattle.rtnl.proofs.Common.{◌≡◌, ◌∙◌, refl, IfOk-weaker}
 use Rattle.json.specs.Print.{escape_byte, print, print_from}
 use Rattle.rtnl.specs.Json.{fields_tokens}
 use Rattle.rtnl.specs.Rule.{rule_head_fields}

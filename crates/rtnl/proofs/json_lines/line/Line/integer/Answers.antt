@@ -1,6 +1,5 @@
 use Rattle.std.proofs.Common.{◌≡◌, ◌++◌, ◌∙◌, [], refl, rules, true}
-use Rattle.std.proofs.lemmas.Result.{IfOk-weaker}
-use Rattle.std.specs.Fmt.{signed_decimal}
+use Rattle.rtnl.proofs.Common.{IfOk-weaker, signed_decimal}
 use Rattle.json.specs.Print.{print_from}
 use Rattle.json.specs.Token.{number}
 use Rattle.rtnl.proofs.Json.{opens}

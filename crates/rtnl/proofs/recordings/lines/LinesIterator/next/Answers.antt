@@ -1,6 +1,5 @@
 use Rattle.std.proofs.Common.{◌≡◌, ◌+◌, ◌∙◌, ap, arith, length, rules}
-use Rattle.std.proofs.lemmas.List.{take_rest}
-use Rattle.rtnl.specs.Lines.{lines_left, lines_of}
+use Rattle.rtnl.proofs.Common.{take_rest, lines_left, lines_of}
 use Rattle.rtnl.proofs.Cuts.{line_found}
 use Rattle.rtnl.proofs.recordings.lines.LinesIterator.next.Goals as goal
 

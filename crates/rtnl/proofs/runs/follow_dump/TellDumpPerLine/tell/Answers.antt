@@ -1,8 +1,6 @@
 use Rattle.std.proofs.Common.{rules, ◌≡◌, ◌+◌, ◌++◌, ◌∙◌, Some, Ok, length, map, not, ap, sym, subst}
-use Rattle.nl_frame.specs.View.{message_view}
+use Rattle.rtnl.proofs.Common.{message_view, is_done, line_at}
 use Rattle.nl_dump.specs.Reading.{StreamRead}
-use Rattle.rtnl.specs.FollowedDump.{is_done}
-use Rattle.rtnl.specs.Lines.{line_at}
 use Rattle.rtnl.specs.Tabled.{bodies_text}
 use Rattle.rtnl.proofs.FollowingDump.{gives_items, gives_refusal}
 use Rattle.rtnl.proofs.runs.follow_dump.TellDumpPerLine.tell.Goals.{in-Ok+in_ok-push_items-in-Ok, in-Err+in_ok-push_refusal-in-Err}

@@ -1,5 +1,4 @@
-use Rattle.std.proofs.Common.{refl}
-use Rattle.rtnl.specs.Mirroring.{step_of}
+use Rattle.rtnl.proofs.Common.{refl, step_of}
 use Rattle.rtnl.proofs.Mirrors.{finds_step}
 use Rattle.rtnl.proofs.runs.mirror.TellMirrorPerLine.tell.Goals as goal
 

@@ -1,7 +1,5 @@
 use Rattle.std.proofs.Common.{◌≡◌, ◌≤◌, ◌+◌, ◌++◌, ◌∷◌, [], ◌∙◌, ap, append_assoc, arith, drop, length, length-drop, refl, subst, sym}
-use Rattle.std.proofs.lemmas.List.{drop-drop}
-use Rattle.rtnl.specs.Lines.{lines_of}
-use Rattle.rtnl.specs.Said.{SaysInput}
+use Rattle.rtnl.proofs.Common.{drop-drop, lines_of, SaysInput}
 use Rattle.rtnl.proofs.Cuts.{first_line, last_line, line_parts}
 use Rattle.rtnl.proofs.Said.{line_said, part_kept}
 use Rattle.rtnl.proofs.runs.output.Output.say_piece.Goals as goal

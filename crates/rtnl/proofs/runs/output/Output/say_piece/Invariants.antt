@@ -1,5 +1,4 @@
-use Rattle.std.proofs.Common.{◌≡◌, ◌≤◌, ◌+◌, ◌++◌, ℕ, List, length}
-use Rattle.rtnl.specs.Said.{SaysInput}
+use Rattle.rtnl.proofs.Common.{◌≡◌, ◌≤◌, ◌+◌, ◌++◌, ℕ, List, length, SaysInput}
 use Rattle.rtnl.proofs.runs.output.Output.say_piece.Given as goal
 
 -- the front of the piece that is gone is said, and the lines in what is left can be counted

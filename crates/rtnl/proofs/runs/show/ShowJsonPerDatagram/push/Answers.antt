@@ -1,5 +1,4 @@
-use Rattle.std.proofs.Common.{map, Ok, Err, arith, refl, sym, ◌∙◌}
-use Rattle.nl_frame.specs.View.{message_view}
+use Rattle.rtnl.proofs.Common.{map, Ok, Err, arith, refl, sym, ◌∙◌, message_view}
 use Rattle.rtnl.proofs.Json.{more_fields}
 use Rattle.rtnl.proofs.Showing.{answers_messages, refuses}
 use Rattle.rtnl.proofs.runs.show.ShowJsonPerDatagram.push.Goals as goal

@@ -1,7 +1,6 @@
 use Rattle.std.proofs.Common.{map, length, Ok, Err, refl, sym, ◌∙◌, rules}
-use Rattle.nl_frame.specs.View.{message_view}
+use Rattle.rtnl.proofs.Common.{message_view, messages_text}
 use Rattle.rtnl.specs.Datagrams.{datagram_line}
-use Rattle.rtnl.specs.Messages.{messages_text}
 use Rattle.rtnl.proofs.Showing.{answers_messages, one_more, refuses}
 use Rattle.rtnl.proofs.runs.show.ShowPerDatagram.push.Goals as goal
 

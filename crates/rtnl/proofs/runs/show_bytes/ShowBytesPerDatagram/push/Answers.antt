@@ -1,7 +1,4 @@
-use Rattle.std.proofs.Common.{subst}
-use Rattle.nl_attr.specs.declared.order.Order.{Order}
-use Rattle.rtnl.specs.ByteRows.{row_printed}
-use Rattle.rtnl.specs.ByteViews.{AddsAllRows}
+use Rattle.rtnl.proofs.Common.{subst, Order, row_printed, AddsAllRows}
 use Rattle.rtnl.proofs.ByteRows.{shows}
 use Rattle.rtnl.proofs.runs.show_bytes.ShowBytesPerDatagram.push.Goals as goal
 

@@ -1,6 +1,5 @@
-use Rattle.std.proofs.Common.{◌++◌, ◌-◌, ◌∙◌, ap, arith, drop, length, sym}
+use Rattle.rtnl.proofs.Common.{◌++◌, ◌-◌, ◌∙◌, ap, arith, drop, length, sym, ending_of, verdict_of}
 use Rattle.std.proofs.lemmas.List.{drop_all, length-drop}
-use Rattle.rtnl.specs.Tabled.{ending_of, verdict_of}
 use Rattle.rtnl.proofs.Feeding.{report_text}
 use Rattle.rtnl.proofs.runs.table.Tabulate.report_of.Goals as goal
 

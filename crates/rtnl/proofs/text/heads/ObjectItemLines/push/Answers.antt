@@ -1,5 +1,4 @@
-use Rattle.std.proofs.Common.{append_assoc}
-use Rattle.std.proofs.lemmas.Result.{IfOk-equal}
+use Rattle.rtnl.proofs.Common.{append_assoc, IfOk-equal}
 use Rattle.rtnl.specs.Messages.{body_text}
 use Rattle.rtnl.proofs.text.heads.ObjectItemLines.push.Goals as goal
 

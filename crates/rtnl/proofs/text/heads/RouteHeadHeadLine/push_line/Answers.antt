@@ -1,5 +1,4 @@
-use Rattle.std.proofs.Common.{refl}
-use Rattle.std.proofs.lemmas.Result.{IfOk-equal}
+use Rattle.rtnl.proofs.Common.{refl, IfOk-equal}
 use Rattle.rtnl.specs.Route.{route_line}
 use Rattle.rtnl.proofs.text.heads.RouteHeadHeadLine.push_line.Goals as goal
 

@@ -1,5 +1,4 @@
-use Rattle.std.proofs.Common.{refl}
-use Rattle.std.proofs.lemmas.Result.{IfOk-equal}
+use Rattle.rtnl.proofs.Common.{refl, IfOk-equal}
 use Rattle.rtnl.specs.Rule.{rule_line}
 use Rattle.rtnl.proofs.text.heads.RuleHeadHeadLine.push_line.Goals as goal
 
