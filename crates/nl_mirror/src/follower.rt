@@ -140,8 +140,9 @@ impl<T: OfFamily> Follower<T> {
         ensures memory { IfErr result (λ e. e ≡ short.Memory
             → is_full (in_items T.item self.old).replica ≡ false) }
     {
-        let doubt = doubt_of(T::kind(), &message);
-        match note_of::<T>(T::kind(), self.asked, message) {
+        let kind = T::kind();
+        let doubt = doubt_of(kind, &message);
+        match note_of::<T>(kind, self.asked, message) {
             Some(change) => self.replica.change_in_doubt(change, doubt),
             None => {
                 self.replica.doubt(doubt);
@@ -211,7 +212,7 @@ impl<T: OfFamily> Follower<T> {
     /// or make the table stale.
     #[tactic(auto, using(crate::proofs::Fives::end_of_no_kind))]
     fn hear_other(&mut self, message: &Message) -> Result<(), Short>
-        requires { body_item self.old.kind (body_view message.now.body) ≡ None }
+        requires { body_item T.family (body_view message.now.body) ≡ None }
         ensures heard { IsHeardBy result (in_items T.item self.old)
             (hears self.old.kind self.old.listening (message_view message.now))
             (in_items T.item self.new) }
