@@ -2,6 +2,7 @@ mod Answers
 mod BadLines
 mod ByteRows
 mod Colours
+mod Common
 mod Cuts
 mod Decoded
 mod Digits

@@ -1,4 +1,5 @@
 mod Checks
+mod Common
 mod Scans
 mod Shows
 mod Breaking
