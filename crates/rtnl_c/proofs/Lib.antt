@@ -3,6 +3,7 @@ mod Common
 mod Scans
 mod Shows
 mod Breaking
+mod Orders
 mod Pointers
 mod Handles
 mod Seen

@@ -1,6 +1,6 @@
 -- What is told of the messages of a datagram, one after another.
 use Rattle.std.proofs.Common.{◌≡◌, ◌≤◌, ◌<◌, ◌+◌, ◌-◌, ◌∙◌, ◌^◌, ℕ, List, [], ◌∷◌, ◌++◌, length, map, take, drop, Result, Option, Some, None, option_map, ◌*◌, ◌/◌, suc, zero, Ok, Err, ◌↔◌, refl, sym, subst, ap, append_assoc, arith, slice_set, IfOk}
-use Rattle.std.proofs.lemmas.List.{length-append, length-drop, length-map, map-append, drop-drop, drop_all, drop_more, set_at, take_at, drop_at, append-nil}
+use Rattle.std.proofs.lemmas.List.{length-append, length-drop, length-map, drop-drop, drop_all, drop_more, set_at, take_at, drop_at, append-nil}
 use Rattle.std.proofs.lemmas.Option.{none-some, same_Some}
 use borrow.Rule.Slice.PartMut.{put_mid}
 use lib.ListN.{get_or}
@@ -10,8 +10,7 @@ use Rattle.nl_frame.specs.View.{message_view}
 use Rattle.nl_dump.specs.Items.{Item}
 use Rattle.nl_mirror.specs.Effects.{update_effect}
 use Rattle.nl_mirror.specs.declared.effect.Effect.{Effect}
-use Rattle.nl_mirror.proofs.Datagram.{each_order}
-use Rattle.nl_mirror.proofs.Fives.{hears_more}
+use Rattle.rtnl_c.proofs.Orders.{each_order}
 use Rattle.nl_frame.specs.declared.reading.ReadError.{ReadError}
 use Rattle.nl_frame.specs.declared.reading.ReadError.TheVariants as unread
 use Rattle.nl_frame.specs.declared.writing.WriteError.TheVariants as unwritable
@@ -69,7 +68,15 @@ module _ (m n : Mirrored) (same : (k : Family) → order_at k n ≡ order_at k m
   pub told_over : (rs : List (Result Update Short)) (old : List Change) (out : List ℕ) (new : List Change) (out' : List ℕ) (at index : ℕ) → AreTold m rs old out new out' at index
       → AreTold n rs old out new out' at index
   told_over rs old out new out' at index t = record {
-    cs = t.cs; put = t.put; are = changes_over t.are; count = t.count; room = t.room; told = t.told; stand = t.stand; end = t.end; place = t.place;
+    cs = t.cs;
+    put = t.put;
+    are = changes_over t.are;
+    count = t.count;
+    room = t.room;
+    told = t.told;
+    stand = t.stand;
+    end = t.end;
+    place = t.place;
   }
 
 before_fits : {b : Option (List ℕ)} {bytes : List ℕ} (room : ℕ) → IsBefore room b bytes → length bytes ≤ room
@@ -133,31 +140,29 @@ hears_count f g (m ∷ ms) [] h = absurd h
 hears_count f g (m ∷ ms) (r ∷ rs) h = ap suc (hears_count h.0 g ms rs h.3)
 
 pub hears_as_many : (f g : Mirrored) (ms : List Message) (rs : List (Result Update Short)) → HearsEach f (map message_view ms) rs g → length rs ≡ length ms
-hears_as_many f g ms rs h = hears_count f g (map message_view ms) rs h ∙ length-map message_view ms
+hears_as_many f g ms rs h = hears_count f g (map message_view ms) rs h ∙ length-map ms message_view
 
--- the first of the messages are heard, and the rest is left
+-- the first of the messages are heard and answered so: what is heard of the rest completes it
 pub record AreHeard (f : Mirrored) (all rest : List Message) (rs : List (Result Update Short)) (g : Mirrored) : Type 0 where
-  pub done : List Message
-  pub split : done ++ rest ≡ all
-  pub heard : HearsEach f (map message_view done) rs g
+  pub count : length rs + length rest ≡ length all
+  pub heard : (more : List (Result Update Short)) (h : Mirrored) → HearsEach g (map message_view rest) more h → HearsEach f (map message_view all) (rs ++ more) h
 
 pub none_heard : (f : Mirrored) (all rest : List Message) → rest ≡ all → AreHeard f all rest [] f
-none_heard f all rest is = record { done = []; split = is; heard = refl }
+none_heard f all rest is = record { count = omega (arith, ap length is); heard = λ more h s. subst (λ (ms : List Message). HearsEach f (map message_view ms) more h) is s }
 
 pub all_heard : (f : Mirrored) (all : List Message) (rs : List (Result Update Short)) (g : Mirrored) → AreHeard f all [] rs g → HearsEach f (map message_view all) rs g
-all_heard f all rs g h = subst (λ (ms : List Message). HearsEach f (map message_view ms) rs g) (sym (append-nil h.done) ∙ h.split) h.heard
+all_heard f all rs g t = subst (λ (rs : List (Result Update Short)). HearsEach f (map message_view all) rs g) (append-nil rs) (t.heard [] g refl)
 
 module _ (f : Mirrored) (all : List Message) (x : Message) (rest : List Message) (rs : List (Result Update Short)) (g h : Mirrored) (t : AreHeard f all (x ∷ rest) rs g) where
   -- one more is heard
   pub heard_more : (r : Result Update Short) → EachHearsBy r g (message_view x) h → IfOk r (IsUpdate g (message_view x)) → AreHeard f all rest (rs ++ r ∷ []) h
   heard_more r by is = record {
-    done = t.done ++ x ∷ [];
-    split = append_assoc t.done (x ∷ []) rest ∙ t.split;
-    heard = subst (λ (ms : List MessageVal). HearsEach f ms (rs ++ r ∷ []) h) (sym (map-append message_view t.done (x ∷ []))) (hears_more f g h (map message_view t.done) rs (message_view x) r t.heard by is);
+    count = omega (arith, t.count, length-append rs (r ∷ []));
+    heard = λ more k s. subst (λ (rs : List (Result Update Short)). HearsEach f (map message_view all) rs k) (sym (append_assoc rs (r ∷ []) more)) (t.heard (r ∷ more) k (h, by, is, s));
   }
 
   pub fewer : length rs < length all
-  fewer = omega (arith, hears_count f g (map message_view t.done) rs t.heard, length-map message_view t.done, ap length t.split, length-append t.done (x ∷ rest))
+  fewer = omega (arith, t.count)
 
 -- heard and told so far
 pub record AreBoth (f : Mirrored) (all : List Message) (old : List Change) (out : List ℕ) (rest : List Message) (g : Mirrored) (new : List Change) (out' : List ℕ) (at index : ℕ) : Type 0 where
@@ -171,14 +176,14 @@ pub both_more : (f : Mirrored) (all : List Message) (old : List Change) (out : L
     → (len : ℕ) (mid sub : List ℕ) (c : Change) → mid ≡ drop at out' → PutsBefore (before_bytes h r) mid sub len → c ≡ change_of r at len
     → AreBoth f all old out rest h (slice_set new index c) (put_mid at (length out' - at) out' sub) (at + len) (index + 1)
 both_more f all old out x rest g h new out' at index t few r by is len mid sub c mids puts made = record {
-    rs = t.rs ++ r ∷ [];
-    heard = heard_more f all x rest t.rs g h t.heard r by is;
-    told = told_more h t.rs old out new out' at index (told_over g h (each_order r g (message_view x) h by) t.rs old out new out' at index t.told) r len mid sub c
-        (omega (arith, few, fewer f all x rest t.rs g h t.heard)) mids puts made;
-  }
+  rs = t.rs ++ r ∷ [];
+  heard = heard_more f all x rest t.rs g h t.heard r by is;
+  told = told_more h t.rs old out new out' at index (told_over g h (each_order r g (message_view x) h by) t.rs old out new out' at index t.told) r len mid sub c
+      (omega (arith, few, fewer f all x rest t.rs g h t.heard)) mids puts made;
+}
 
 pub read_count : (b : Bounds) (bytes : List ℕ) (ms : Vec Message) → IsRead b bytes (Ok ms) → length ms.items ≤ length bytes / 16
-read_count b bytes ms h = omega (arith, layout_count b.shape (map message_view ms.items) bytes h.0, length-map message_view ms.items)
+read_count b bytes ms h = omega (arith, layout_count b.shape (map message_view ms.items) bytes h.0, length-map ms.items message_view)
 
 -- ---- what a call answers
 
@@ -190,17 +195,17 @@ tells_so m rs visits old out new front n len k some few room count p =
     (tells some few new front len (subst (λ (k : ℕ). PutsChanges m rs old (take k out) new front len) room p)))
 
 -- the same is refused, whatever an answer that isn't refused has
-error_of : {A : Type 0} → Result A ReadError → Option ReadError
+abbrev error_of : {A : Type 0} → Result A ReadError → Option ReadError
 error_of (Ok x) = None
 error_of (Err e) = Some e
 
-pub large_in_ok : {A B : Type 0} (x : A) (y : B) (r : Result B ReadError) (P : Type 0) → r ≡ Ok y → (r ≡ Err unread.TooLarge ↔ P) → (Ok x ≡ Err unread.TooLarge ↔ P)
+pub large_in_ok : {A B : Type 0} (x : A) (y : B) (r : Result B ReadError) (P : Type 0) → r ≡ Ok y → (r ≡ Err unread.TooLarge ↔ P) → (◌≡◌ {A = Result A ReadError} (Ok x) (Err unread.TooLarge) ↔ P)
 large_in_ok x y r P is large = (
   λ e. absurd (none-some unread.TooLarge (ap error_of e)),
   λ p. absurd (none-some unread.TooLarge (ap error_of (sym is ∙ large.1 p))),
 )
 
-pub large_in_err : {A B : Type 0} (e : ReadError) (r : Result B ReadError) (P : Type 0) → r ≡ Err e → (r ≡ Err unread.TooLarge ↔ P) → ((Err e : Result A ReadError) ≡ Err unread.TooLarge ↔ P)
+pub large_in_err : {A B : Type 0} (e : ReadError) (r : Result B ReadError) (P : Type 0) → r ≡ Err e → (r ≡ Err unread.TooLarge ↔ P) → (◌≡◌ {A = Result A ReadError} (Err e) (Err unread.TooLarge) ↔ P)
 large_in_err {A} {B} e r P is large = (
   λ q. large.0 (is ∙ ap Err (same_Some e unread.TooLarge (ap error_of q))),
   λ p. ap Err (same_Some e unread.TooLarge (ap error_of (sym is ∙ large.1 p))),

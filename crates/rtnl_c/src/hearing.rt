@@ -219,7 +219,7 @@ fn hear_silently(mirror: &mut Mirror, messages: Vec<Message>)
     ensures { Hears mirror.old (map message_view messages.items) mirror.new (λ _. ⊤) }
 {
     for message in messages {
-        let _answer = mirror.hear(message);
+        drop(mirror.hear(message));
     }
 }
 

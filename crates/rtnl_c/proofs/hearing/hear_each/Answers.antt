@@ -1,4 +1,4 @@
-use Rattle.std.proofs.Common.{rules, ◌≡◌, ◌<◌, length}
+use Rattle.std.proofs.Common.{rules, ◌≡◌, ◌<◌, ◌≤◌, length, arith}
 use Rattle.rtnl_c.specs.Mirrors.{place_room, unasked}
 use Rattle.rtnl_c.proofs.Telling.{hears_as_many, tells_so}
 use Rattle.rtnl_c.proofs.hearing.hear_each.Goals as goal
