@@ -28,7 +28,6 @@ pub use Rattle.nl_frame.specs.declared.writing.WriteError.{WriteError}
 pub use Rattle.nl_mirror.specs.Five.{Mirrored, follower_at, EachHearsBy, HearsEach, IsRead, IsUpdate}
 pub use Rattle.nl_route.specs.Families.{row, head_size, any, type_of}
 pub use Rattle.nl_route.specs.declared.family.Family.{Family}
-pub use Rattle.nl_route.specs.declared.family.Family.TheVariants.{Link, Addr, Route, Neigh, Rule}
 pub use Rattle.rtnl.specs.Shown.{Answer, Answers, datagram_text, datagram_json}
 pub use Rattle.rtnl_c.specs.Building.{content_in, AreKept, Calls, flags_in, number_in}
 pub use Rattle.rtnl_c.specs.Codes.{too_large, no_mirror, nothing_there}

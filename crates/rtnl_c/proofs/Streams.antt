@@ -1,5 +1,6 @@
 -- A stream that C keeps: what is written of it is read again.
-use Rattle.rtnl_c.proofs.Common.{◌≡◌, ℕ, ℤ, pos, Bool, true, false, List, Some, Result, Ok, Err, refl, sym, ap, subst, ◌∙◌, Order, Family, Link, Addr, Route, Neigh, Rule, type_of, bounds_of, order_in, IsPut, not_put}
+use Rattle.rtnl_c.proofs.Common.{◌≡◌, ℕ, ℤ, pos, Bool, true, false, List, Some, Result, Ok, Err, refl, sym, ap, subst, ◌∙◌, Order, Family, type_of, bounds_of, order_in, IsPut, not_put}
+use Rattle.nl_route.specs.declared.family.Family.TheVariants.{Link, Addr, Route, Neigh, Rule}
 use Rattle.nl_attr.specs.declared.order.Order.TheVariants.{Little, Big}
 use Rattle.nl_route.specs.declared.family.Verb.TheVariants.{New}
 use Rattle.nl_route.specs.Types.{route_type}

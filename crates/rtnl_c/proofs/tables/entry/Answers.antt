@@ -1,4 +1,5 @@
-use Rattle.rtnl_c.proofs.Common.{◌+◌, ap, sym, items_len, Link, Addr, Route, Neigh, Rule, row, head_size, item_of, seen, message_bytes}
+use Rattle.rtnl_c.proofs.Common.{◌+◌, ap, sym, items_len, row, head_size, item_of, seen, message_bytes}
+use Rattle.nl_route.specs.declared.family.Family.TheVariants.{Link, Addr, Route, Neigh, Rule}
 use Rattle.nl_attr.specs.View.{attrs_view}
 use Rattle.nl_route.specs.declared.object.Object.{Object}
 use Rattle.rtnl_c.proofs.Seen.{entry_read, one_message}
