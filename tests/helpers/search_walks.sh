@@ -186,7 +186,7 @@ crates/nl_dump/src/tables.rt 1
 crates/nl_frame/src/body.rt 3
 crates/nl_frame/src/reading.rt 3
 crates/nl_frame/src/scanning.rt 1
-crates/nl_mirror/src/mirror.rt 1
+crates/nl_mirror/src/mirror.rt 2
 crates/nl_route/src/object.rt 2'
 
 same 'a tally is ended without its visits by those who answer none' "$(counts '\.into_result\(')" \
@@ -248,12 +248,16 @@ same 'they are added, and nothing else' \
   'self.visits += visits;
 self.visits += visits;'
 
-same 'the datagrams of a table are read by the session alone, and those for C by a session, a stream or a mirror' \
+same 'the datagrams of a table are read by the session alone, and those for C by a session or a stream' \
   "$(counts '\.feed\(')" \
   'crates/rtnl/src/runs/table.rt 1
-crates/rtnl_c/src/hearing.rt 1
 crates/rtnl_c/src/session.rt 1
 crates/rtnl_c/src/stream.rt 1
 crates/rtnl_cli/src/explain.rt 1'
+
+same 'a mirror reads a datagram once, for its own call or for C' \
+  "$(counts '\b(self|mirror)\.read\(')" \
+  'crates/nl_mirror/src/mirror.rt 1
+crates/rtnl_c/src/hearing.rt 1'
 
 exit "$found"
