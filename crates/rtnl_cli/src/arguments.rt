@@ -3,8 +3,9 @@
 ghost use Rattle.std.specs.Prelude.{◌≡◌, ◌&&◌, ◌⊎◌, is_some};
 ghost use Rattle.std.specs.Prelude.{Some, IsSome, IsSomeAnd, IfSome, MatchOption};
 
-use crate::commands::{COLORS, FORMATS, Values, rtnl, usage_error};
-use crate::name::{Escaped, Name, is_escaped};
+use crate::commands::{Values, rtnl, usage_error};
+use crate::pieces::Piece::{self, Escaped, Reason, Text};
+use crate::pieces::{Name, Pieces, is_escaped};
 use clap::error::ErrorKind;
 use clap::{ArgMatches, Error};
 use itoa::Buffer;
@@ -28,7 +29,7 @@ const MOST_FOLLOWED: u64 = 1 << 40;
 const NUMBERS: [&str; 6] = ["seq", "port", "family", "depth", "entries", "waiting"];
 
 /// What is done with a recording.
-#[derive(Clone, Copy, Debug)]
+#[derive(Clone, Copy)]
 pub(crate) enum Engine {
     /// Print each datagram, coloured or not.
     Show(Color),
@@ -41,7 +42,7 @@ pub(crate) enum Engine {
 }
 
 /// How what is found is printed.
-#[derive(Clone, Copy, Debug, PartialEq, Eq)]
+#[derive(Clone, Copy, PartialEq, Eq)]
 pub(crate) enum Format {
     /// Lines of text.
     Text,
@@ -50,7 +51,7 @@ pub(crate) enum Format {
 }
 
 /// When text is coloured.
-#[derive(Clone, Copy, Debug, PartialEq, Eq)]
+#[derive(Clone, Copy, PartialEq, Eq)]
 pub(crate) enum Color {
     /// On a terminal, where the variable NO_COLOR isn't set.
     Auto,
@@ -59,7 +60,7 @@ pub(crate) enum Color {
 }
 
 /// The dump that a table is of, as far as the options say.
-#[derive(Clone, Copy, Debug)]
+#[derive(Clone, Copy)]
 pub(crate) struct Sought {
     pub kind: Option<Kind>,
     pub family: u8,
@@ -99,7 +100,7 @@ impl Sought {
 }
 
 /// What is done with a recording, how it is printed, and under which limits.
-#[derive(Clone, Copy, Debug)]
+#[derive(Clone, Copy)]
 pub(crate) struct Work {
     pub engine: Engine,
     pub format: Format,
@@ -107,7 +108,7 @@ pub(crate) struct Work {
 }
 
 /// What is printed of a recording that is followed.
-#[derive(Clone, Copy, Debug)]
+#[derive(Clone, Copy)]
 pub(crate) enum What {
     /// Each datagram, coloured or not.
     Each(Color),
@@ -120,7 +121,7 @@ pub(crate) enum What {
 }
 
 /// How a recording is followed, and under which limits.
-#[derive(Clone, Copy, Debug)]
+#[derive(Clone, Copy)]
 pub(crate) struct Follow {
     pub what: What,
     pub format: Format,
@@ -138,7 +139,7 @@ impl Follow {
 }
 
 /// Which tables are kept current, how they are printed, and under which limits.
-#[derive(Clone, Copy, Debug)]
+#[derive(Clone, Copy)]
 pub(crate) struct Mirror {
     /// The kind of the table that is printed, where not all are.
     pub kind: Option<Kind>,
@@ -177,7 +178,7 @@ impl Mirror {
 }
 
 /// Which table is asked for, how it is printed, and under which limits.
-#[derive(Clone, Copy, Debug)]
+#[derive(Clone, Copy)]
 pub(crate) struct Table {
     pub sought: Sought,
     pub format: Format,
@@ -205,30 +206,25 @@ impl Table {
     }
 }
 
+/// What is done with a recording.
+#[derive(Clone, Copy)]
+pub(crate) enum Job {
+    /// Read it.
+    Work(Work),
+    /// Print each datagram of it when it comes, or what it says of one dump.
+    Follow(Follow),
+    /// Keep tables current by its dumps and notifications.
+    Mirror(Mirror),
+    /// Read it as the answers to a dump, which it may name.
+    Table(Table),
+}
+
 /// What the program is to do.
-#[derive(Debug, Drop)]
+#[derive(Drop)]
 pub(crate) enum Task {
     /// Read a file, or standard input where none or `-` is named.
     Recording {
-        work: Work,
-        explain: bool,
-        file: Option<String>,
-    },
-    /// Print each datagram of one when it comes, or what it says of one dump.
-    Follow {
-        follow: Follow,
-        explain: bool,
-        file: Option<String>,
-    },
-    /// Keep tables current by its dumps and notifications.
-    Mirror {
-        mirror: Mirror,
-        explain: bool,
-        file: Option<String>,
-    },
-    /// Read one as the answers to a dump, which it may name.
-    Table {
-        table: Table,
+        job: Job,
         explain: bool,
         file: Option<String>,
     },
@@ -255,26 +251,16 @@ fn with_values<R, F: FnOnce(Values<'_>) -> R>(ask: F) -> R
     requires { F.IsAlwaysCallable ask }
 {
     let kinds = Kind::ALL.map(|kind| kind.row().name);
-    let formats = FORMATS.map(|row| row.0);
     let orders = Order::ALL.map(|order| order.name());
-    let colors = COLORS.map(|row| row.0);
     let standard = Limits::standard();
     let mut depth = Buffer::new();
     let mut entries = Buffer::new();
     ask(Values {
         kinds: kinds.as_slice(),
-        formats: formats.as_slice(),
         orders: orders.as_slice(),
-        colors: colors.as_slice(),
         depth: depth.format(standard.depth().get()),
         entries: entries.format(standard.entries()),
     })
-}
-
-/// The value of this name in a table.
-fn named<T: Copy>(table: &[(&str, T)], name: &str) -> Option<T> {
-    let row = table.iter().find(|row| row.0 == name)?;
-    Some(row.1)
 }
 
 fn sought_of(matches: &ArgMatches<'_>) -> Option<Sought> {
@@ -295,25 +281,29 @@ fn limits_of(matches: &ArgMatches<'_>, total: u64, entries: u32) -> Option<Limit
 }
 
 fn format_of(matches: &ArgMatches<'_>) -> Option<Format> {
-    named(FORMATS.as_slice(), matches.get_str("format")?)
+    match matches.get_str("format")? {
+        "text" => Some(Format::Text),
+        "json" => Some(Format::Json),
+        _ => None,
+    }
 }
 
-fn table_of(matches: &ArgMatches<'_>, file: Option<String>) -> Option<Task> {
+fn table_of(matches: &ArgMatches<'_>) -> Option<Job> {
     let total = Limits::standard().total();
-    let table = Table {
+    Some(Job::Table(Table {
         sought: sought_of(matches)?,
         format: format_of(matches)?,
         limits: limits_of(matches, total, matches.get_one("entries")?)?,
-    };
-    Some(Task::Table {
-        table,
-        explain: matches.get_flag("explain"),
-        file,
-    })
+    }))
 }
 
 fn color_of(matches: &ArgMatches<'_>) -> Option<Color> {
-    named(COLORS.as_slice(), matches.get_str("color")?)
+    match matches.get_str("color")? {
+        "auto" => Some(Color::Auto),
+        "always" => Some(Color::Always),
+        "never" => Some(Color::Never),
+        _ => None,
+    }
 }
 
 /// The dump that is followed, where one is named: clap takes all of these options, or none.
@@ -326,27 +316,22 @@ fn dump_of(matches: &ArgMatches<'_>) -> Option<Dump> {
     })
 }
 
-fn follow_of(matches: &ArgMatches<'_>, file: Option<String>) -> Option<Task> {
+fn follow_of(matches: &ArgMatches<'_>) -> Option<Job> {
     let what = match dump_of(matches) {
         Some(dump) => What::Dump(dump),
         None if matches.get_flag("bytes") => What::Bytes(color_of(matches)?),
         None => What::Each(color_of(matches)?),
     };
-    let follow = Follow {
+    Some(Job::Follow(Follow {
         what,
         format: format_of(matches)?,
         limits: limits_of(matches, MOST_FOLLOWED, Limits::standard().entries())?,
         is_strict: matches.get_flag("strict"),
-    };
-    Some(Task::Follow {
-        follow,
-        explain: matches.get_flag("explain"),
-        file,
-    })
+    }))
 }
 
-fn mirror_of(matches: &ArgMatches<'_>, file: Option<String>) -> Option<Task> {
-    let mirror = Mirror {
+fn mirror_of(matches: &ArgMatches<'_>) -> Option<Job> {
+    Some(Job::Mirror(Mirror {
         kind: matches.get_one("kind"),
         family: matches.get_one("family")?,
         waiting: matches.get_one("waiting")?,
@@ -354,12 +339,7 @@ fn mirror_of(matches: &ArgMatches<'_>, file: Option<String>) -> Option<Task> {
         format: format_of(matches)?,
         limits: limits_of(matches, MOST_FOLLOWED, matches.get_one("entries")?)?,
         is_strict: matches.get_flag("strict"),
-    };
-    Some(Task::Mirror {
-        mirror,
-        explain: matches.get_flag("explain"),
-        file,
-    })
+    }))
 }
 
 fn request_of(matches: &ArgMatches<'_>) -> Option<Task> {
@@ -371,28 +351,22 @@ fn request_of(matches: &ArgMatches<'_>) -> Option<Task> {
     })
 }
 
-/// The task of a command, or none where its name or a value of it isn't known.
-fn command_task(name: &str, matches: &ArgMatches<'_>, file: Option<String>) -> Option<Task> {
+/// What a command does with a recording, or none where its name or a value of it isn't known.
+fn job_of(name: &str, matches: &ArgMatches<'_>) -> Option<Job> {
     let engine = match name {
         "show" if matches.get_flag("bytes") => Engine::ShowBytes(color_of(matches)?),
         "show" => Engine::Show(color_of(matches)?),
         "check" => Engine::Check,
-        "follow" => return follow_of(matches, file),
-        "mirror" => return mirror_of(matches, file),
-        "table" => return table_of(matches, file),
-        "request" => return request_of(matches),
+        "follow" => return follow_of(matches),
+        "mirror" => return mirror_of(matches),
+        "table" => return table_of(matches),
         _ => return None,
     };
-    let work = Work {
+    Some(Job::Work(Work {
         engine,
         format: format_of(matches)?,
         limits: Limits::standard().with_order(matches.get_one("order")?),
-    };
-    Some(Task::Recording {
-        work,
-        explain: matches.get_flag("explain"),
-        file,
-    })
+    }))
 }
 
 /// The task of the whole program, or none where a name or a value isn't known.
@@ -404,16 +378,26 @@ fn task_of(alloc: Global, matches: &ArgMatches<'_>) -> Result<Option<Task>, Allo
             limits: Limits::standard(),
         };
         return Ok(Some(Task::Recording {
-            work,
+            job: Job::Work(work),
             explain: false,
             file: None,
         }));
+    };
+    if name == "request" {
+        return Ok(request_of(inner));
+    }
+    let Some(job) = job_of(name, inner) else {
+        return Ok(None);
     };
     let file = match inner.get_str("FILE") {
         Some(path) if path != STANDARD_INPUT => Some(String::from_str(alloc, path)?),
         _ => None,
     };
-    Ok(command_task(name, inner, file))
+    Ok(Some(Task::Recording {
+        job,
+        explain: inner.get_flag("explain"),
+        file,
+    }))
 }
 
 /// An option whose number has a sign, which clap lets through, and the value.
@@ -431,9 +415,14 @@ fn parse_with(alloc: Global, arguments: &[String], values: Values<'_>) -> Result
     if let Some((name, inner)) = matches.subcommand()
         && let Some((option, value)) = signed_number(inner)
     {
-        let message = format!(in alloc;
-            "invalid value '{value}' for '--{option} <N>': a number is digits alone"
-        )?;
+        let message = Pieces(&[
+            Text("invalid value '"),
+            Text(value),
+            Text("' for '--"),
+            Text(option),
+            Text(" <N>': a number is digits alone"),
+        ])
+        .to_string(alloc)?;
         return Err(usage_error(alloc, values, name, message.as_str())?);
     }
     match task_of(alloc, &matches)? {
@@ -450,7 +439,7 @@ fn escaped(alloc: Global, arguments: &[String]) -> Result<Option<Vec<String>>, A
     }
     let shown = arguments
         .iter()
-        .map(|argument| Escaped(argument.as_str()).to_string(alloc))
+        .map(|argument| Pieces(&[Escaped(argument.as_str())]).to_string(alloc))
         .try_collect(alloc)?;
     Ok(Some(shown))
 }
@@ -509,13 +498,19 @@ pub(crate) fn unnamed(
     } else {
         " kind KIND"
     };
-    let ways = format!(in alloc;
-        "{missing} needed, or a line `# seq N port N{kind}` in the recording"
-    )?;
-    let message = match error {
-        None => format!(in alloc; "{ways}; {name} has none")?,
-        Some(error) => format!(in alloc; "{ways}; {name} cannot be opened: {error}")?,
+    let why = match error {
+        None => Text(" has none"),
+        Some(error) => Reason(" cannot be opened: ", *error),
     };
+    let message = Pieces(&[
+        Text(missing),
+        Text(" needed, or a line `# seq N port N"),
+        Text(kind),
+        Text("` in the recording; "),
+        Piece::Name(name),
+        why,
+    ])
+    .to_string(alloc)?;
     with_values(|values| usage_error(alloc, values, "table", message.as_str()))
 }
 

@@ -1,33 +1,25 @@
 //! The commands of the program, with their arguments, options and help.
 
-use crate::arguments::{Color, Format};
+use self::Verb::{Check, Follow, Mirror, Request, Show, Table};
+use crate::pieces::Piece::Text;
+use crate::pieces::Pieces;
+use clap::builder::ValueParser;
 use clap::error::ErrorKind;
-use clap::{Arg, ArgAction, Command, Error, value_parser};
+use clap::{Arg, ArgAction, Command, Error};
 use std::alloc::{AllocError, Global};
+use std::slice;
 
 /// The version of the program and its libraries.
 const VERSION: &str = "0.3.0";
 
 /// The most entries that a table may have.
-pub(crate) const MOST_ENTRIES: i64 = 65536;
-
-/// The formats by their names.
-pub(crate) const FORMATS: [(&str, Format); 2] = [("text", Format::Text), ("json", Format::Json)];
-
-/// When text is coloured, by name.
-pub(crate) const COLORS: [(&str, Color); 3] = [
-    ("auto", Color::Auto),
-    ("always", Color::Always),
-    ("never", Color::Never),
-];
+pub(crate) const MOST_ENTRIES: u32 = 65536;
 
 /// The values that options list, and those that they have by default.
 #[derive(Clone, Copy)]
 pub(crate) struct Values<'a> {
     pub kinds: &'a [&'a str],
-    pub formats: &'a [&'a str],
     pub orders: &'a [&'a str],
-    pub colors: &'a [&'a str],
     pub depth: &'a str,
     pub entries: &'a str,
 }
@@ -97,313 +89,309 @@ const REQUEST_EXAMPLE: &str = "Example:
 prints
   1c0000001a0001030700000000000000020000000000000000000000";
 
-/// The help of `--kind` where the recording may name it.
-const KIND_OF_TABLE: &str = "What the dump asks for [default: that of the recording's first line \
-    `# seq N port N kind KIND`]";
-
-/// The help of `--seq` where the recording may name the number.
-const SEQ_OF_TABLE: &str = "Sequence number (nlmsg_seq) of the request and its answers [default: \
-    that of the same line, with a kind or without]";
-
-/// The help of `--kind` where all kinds are kept.
-const KIND_OF_MIRROR: &str = "Print what is of this kind alone [default: all]";
-
-/// The help of `--family` where the recording doesn't say what its dumps asked for.
-const FAMILY_OF_MIRROR: &str =
-    "Address family that the dumps asked for, 0 to 255; 0 is all (AF_UNSPEC)";
-
-/// The help of `--entries` where there are many tables.
-const ENTRIES_OF_MIRROR: &str = "Greatest number of entries in each table, 0 to 65536";
-
-/// The help of `--port` where nothing else names the number.
-const PORT_OF_FOLLOW: &str = "Port id (nlmsg_pid) of the answers";
-
-fn file_argument<'a>(alloc: Global) -> Arg<'a> {
-    Arg::new(alloc, "FILE").help(
-        "Recording: lines of hexadecimal, one datagram each; `-` or none is standard input",
-    )
+/// A command.
+#[derive(Clone, Copy)]
+enum Verb {
+    Show,
+    Follow,
+    Check,
+    Table,
+    Mirror,
+    Request,
 }
 
-fn order_option<'a>(alloc: Global, values: Values<'a>) -> Arg<'a> {
-    Arg::new(alloc, "order")
-        .long("order")
-        .value_name("ORDER")
-        .value_parser(values.orders)
-        .default_value("little")
-        .help("Byte order of the numbers")
+impl Verb {
+    const ALL: [Verb; 6] = [Show, Follow, Check, Table, Mirror, Request];
+
+    fn name(self) -> &'static str {
+        match self {
+            Show => "show",
+            Follow => "follow",
+            Check => "check",
+            Table => "table",
+            Mirror => "mirror",
+            Request => "request",
+        }
+    }
+
+    /// The command of this name, if there is one.
+    fn named(name: &str) -> Option<Verb> {
+        Verb::ALL.into_iter().find(|verb| verb.name() == name)
+    }
+
+    /// What it does.
+    fn about(self) -> &'static str {
+        match self {
+            Show => "Prints each datagram of a recording: its messages and their attributes",
+            Follow => {
+                "Prints each datagram of a recording of any length when its line has come, as `show` \
+                prints it; a bad line is named on standard error, and following goes on"
+            }
+            Check => {
+                "Prints whether each datagram of a recording is canonical (the very bytes that its \
+                messages are written as), accepted though not canonical, or refused, and why"
+            }
+            Table => {
+                "Reads a recording as the answers to a dump, and prints the table of its entries and \
+                how the dump ended"
+            }
+            Mirror => {
+                "Keeps the tables of links, addresses, routes, neighbours and rules current by the \
+                dumps and notifications of a recording of any length, and prints them at its end, \
+                or each change when it comes"
+            }
+            Request => "Prints the request that begins a dump as one line of hexadecimal",
+        }
+    }
+
+    fn example(self) -> &'static str {
+        match self {
+            Show => SHOW_EXAMPLE,
+            Follow => FOLLOW_EXAMPLE,
+            Check => CHECK_EXAMPLE,
+            Table => TABLE_EXAMPLE,
+            Mirror => MIRROR_EXAMPLE,
+            Request => REQUEST_EXAMPLE,
+        }
+    }
+
+    /// What it is given, in the order of its help.
+    fn rows(self) -> &'static [Row] {
+        use Row::*;
+        match self {
+            Show => &[Order, Format, Bytes, Color, Explain, File],
+            Follow => &[
+                Order, Format, Bytes, Color, Kind, Seq, Port, Depth, Strict, Explain, File,
+            ],
+            Check => &[Order, Format, Explain, File],
+            Table => &[
+                Kind, Seq, Port, Family, Depth, Entries, Order, Format, Explain, File,
+            ],
+            Mirror => &[
+                Kind, Family, Changes, Depth, Entries, Waiting, Order, Format, Strict, Explain,
+                File,
+            ],
+            Request => &[Kind, Seq, Family, Order],
+        }
+    }
 }
 
-fn format_option<'a>(alloc: Global, values: Values<'a>) -> Arg<'a> {
-    Arg::new(alloc, "format")
-        .long("format")
-        .value_name("FORMAT")
-        .value_parser(values.formats)
-        .default_value("text")
-        .help("Lines of text, or of JSON: one object for each datagram or entry")
+/// An argument of a command.
+#[derive(Clone, Copy)]
+enum Row {
+    File,
+    Order,
+    Format,
+    Explain,
+    Bytes,
+    Color,
+    Kind,
+    Seq,
+    Port,
+    Family,
+    Depth,
+    Entries,
+    Waiting,
+    Strict,
+    Changes,
 }
 
-fn explain_option<'a>(alloc: Global) -> Arg<'a> {
-    Arg::new(alloc, "explain")
-        .long("explain")
-        .action(ArgAction::SetTrue)
-        .help("Say on standard error why something failed or was refused, and where")
+impl Row {
+    /// What it is read back by; of an option also what stands behind `--`.
+    fn name(self) -> &'static str {
+        match self {
+            Row::File => "FILE",
+            Row::Order => "order",
+            Row::Format => "format",
+            Row::Explain => "explain",
+            Row::Bytes => "bytes",
+            Row::Color => "color",
+            Row::Kind => "kind",
+            Row::Seq => "seq",
+            Row::Port => "port",
+            Row::Family => "family",
+            Row::Depth => "depth",
+            Row::Entries => "entries",
+            Row::Waiting => "waiting",
+            Row::Strict => "strict",
+            Row::Changes => "changes",
+        }
+    }
+
+    /// What help calls the value, where it is an option that has one.
+    fn value_name(self) -> Option<&'static str> {
+        match self {
+            Row::Order => Some("ORDER"),
+            Row::Format => Some("FORMAT"),
+            Row::Color => Some("WHEN"),
+            Row::Kind => Some("KIND"),
+            Row::File | Row::Explain | Row::Bytes | Row::Strict | Row::Changes => None,
+            _ => Some("N"),
+        }
+    }
+
+    /// What the value is: one of these names, or a number from one to another.
+    fn parser(self, values: Values<'_>) -> ValueParser<'_> {
+        match self {
+            Row::Order => ValueParser::Names(values.orders),
+            Row::Format => ValueParser::Names(&["text", "json"]),
+            Row::Color => ValueParser::Names(&["auto", "always", "never"]),
+            Row::Kind => ValueParser::Names(values.kinds),
+            Row::Family => ValueParser::Signed(0, u8::MAX as i64),
+            Row::Depth => ValueParser::Signed(0, 32),
+            Row::Entries => ValueParser::Signed(0, MOST_ENTRIES as i64),
+            _ => ValueParser::Signed(0, u32::MAX as i64),
+        }
+    }
+
+    /// The value where none is given.
+    fn default(self, values: Values<'_>) -> Option<&str> {
+        match self {
+            Row::Order => Some("little"),
+            Row::Format => Some("text"),
+            Row::Color => Some("auto"),
+            Row::Family => Some("0"),
+            Row::Depth => Some(values.depth),
+            Row::Entries | Row::Waiting => Some(values.entries),
+            _ => None,
+        }
+    }
+
+    /// Its help, but where a command has another.
+    fn help(self) -> &'static str {
+        match self {
+            Row::File => {
+                "Recording: lines of hexadecimal, one datagram each; `-` or none is standard input"
+            }
+            Row::Order => "Byte order of the numbers",
+            Row::Format => "Lines of text, or of JSON: one object for each datagram or entry",
+            Row::Explain => "Say on standard error why something failed or was refused, and where",
+            Row::Bytes => "Show the bytes of each datagram beside what they are",
+            Row::Color => "Colour the text; `auto` is on a terminal, where NO_COLOR is not set",
+            Row::Kind => "What the dump asks for",
+            Row::Seq => "Sequence number (nlmsg_seq) of the request and its answers",
+            Row::Port => "Port id (nlmsg_pid) of the answers",
+            Row::Family => "Address family of the request, 0 to 255; 0 is all (AF_UNSPEC)",
+            Row::Depth => "Greatest depth of nested attributes, 0 to 32",
+            Row::Entries => "Greatest number of entries in the table, 0 to 65536",
+            Row::Waiting => {
+                "Greatest number of changes of a kind that wait while a dump of it runs"
+            }
+            Row::Strict => "End at the first bad line, as `rtnl show` does",
+            Row::Changes => "Print what changes when it comes, in place of the tables at the end",
+        }
+    }
+
+    /// Its help in this command, where the command has another.
+    fn help_in(self, verb: Verb) -> Option<&'static str> {
+        Some(match (verb, self) {
+            // A recording may name its dump.
+            (Table, Row::Kind) => {
+                "What the dump asks for [default: that of the recording's first line \
+                `# seq N port N kind KIND`]"
+            }
+            (Table, Row::Seq) => {
+                "Sequence number (nlmsg_seq) of the request and its answers [default: that of the \
+                same line, with a kind or without]"
+            }
+            (Table, Row::Port) => {
+                "Port id (nlmsg_pid) of the answers [default: that of the same line]"
+            }
+            (Follow, Row::Kind) => {
+                "Read the datagrams as the answers to a dump, as `rtnl table` does: print its \
+                entries as they come, and how it ended"
+            }
+            (Mirror, Row::Kind) => "Print what is of this kind alone [default: all]",
+            (Mirror, Row::Family) => {
+                "Address family that the dumps asked for, 0 to 255; 0 is all (AF_UNSPEC)"
+            }
+            (Mirror, Row::Entries) => "Greatest number of entries in each table, 0 to 65536",
+            _ => return None,
+        })
+    }
+
+    /// The argument as it is, whatever else is given.
+    fn alone<'a>(self, alloc: Global, values: Values<'a>) -> Arg<'a> {
+        let name: &'a str = self.name();
+        let argument = Arg::new(alloc, name);
+        match self.value_name() {
+            Some(value) => argument
+                .long(name)
+                .value_name(value)
+                .value_parser(self.parser(values)),
+            None if matches!(self, Row::File) => argument,
+            None => argument.long(name).action(ArgAction::SetTrue),
+        }
+    }
+
+    /// The argument in a command, with the help that it has there.
+    fn argument<'a>(
+        self,
+        alloc: Global,
+        values: Values<'a>,
+        verb: Verb,
+    ) -> Result<Arg<'a>, AllocError> {
+        let help = self.help_in(verb).unwrap_or(self.help());
+        let argument = self.alone(alloc, values).help(help);
+        let argument = match self.default(values) {
+            Some(default) => argument.default_value(default),
+            None => argument,
+        };
+        match (verb, self) {
+            (Request, Row::Kind | Row::Seq) => Ok(argument.required(true)),
+            (Follow, Row::Kind) => argument.requires_all(&["seq", "port"]),
+            (Follow, Row::Seq | Row::Port) => argument.requires_arg("kind"),
+            (Follow, Row::Bytes) => argument.conflicts_with("kind"),
+            _ => Ok(argument),
+        }
+    }
 }
 
-fn bytes_option<'a>(alloc: Global) -> Arg<'a> {
-    Arg::new(alloc, "bytes")
-        .long("bytes")
-        .action(ArgAction::SetTrue)
-        .help("Show the bytes of each datagram beside what they are")
-}
-
-fn color_option<'a>(alloc: Global, values: Values<'a>) -> Arg<'a> {
-    Arg::new(alloc, "color")
-        .long("color")
-        .value_name("WHEN")
-        .value_parser(values.colors)
-        .default_value("auto")
-        .help("Colour the text; `auto` is on a terminal, where NO_COLOR is not set")
-}
-
-fn kind_option<'a>(alloc: Global, values: Values<'a>) -> Arg<'a> {
-    Arg::new(alloc, "kind")
-        .long("kind")
-        .value_name("KIND")
-        .required(true)
-        .value_parser(values.kinds)
-        .help("What the dump asks for")
-}
-
-fn seq_option<'a>(alloc: Global) -> Arg<'a> {
-    Arg::new(alloc, "seq")
-        .long("seq")
-        .value_name("N")
-        .value_parser(value_parser!(u32))
-        .help("Sequence number (nlmsg_seq) of the request and its answers")
-}
-
-fn port_option<'a>(alloc: Global) -> Arg<'a> {
-    Arg::new(alloc, "port")
-        .long("port")
-        .value_name("N")
-        .value_parser(value_parser!(u32))
-        .help("Port id (nlmsg_pid) of the answers [default: that of the same line]")
-}
-
-fn family_option<'a>(alloc: Global) -> Arg<'a> {
-    Arg::new(alloc, "family")
-        .long("family")
-        .value_name("N")
-        .value_parser(value_parser!(u8))
-        .default_value("0")
-        .help("Address family of the request, 0 to 255; 0 is all (AF_UNSPEC)")
-}
-
-fn depth_option<'a>(alloc: Global, values: Values<'a>) -> Arg<'a> {
-    Arg::new(alloc, "depth")
-        .long("depth")
-        .value_name("N")
-        .value_parser(value_parser!(u8).range(0..=32))
-        .default_value(values.depth)
-        .help("Greatest depth of nested attributes, 0 to 32")
-}
-
-fn entries_option<'a>(alloc: Global, values: Values<'a>) -> Arg<'a> {
-    Arg::new(alloc, "entries")
-        .long("entries")
-        .value_name("N")
-        .value_parser(value_parser!(u32).range(0..=MOST_ENTRIES))
-        .default_value(values.entries)
-        .help("Greatest number of entries in the table, 0 to 65536")
-}
-
-fn show_command<'a>(alloc: Global, values: Values<'a>) -> Result<Command<'a>, AllocError> {
-    Command::new(alloc, "show")
-        .about("Prints each datagram of a recording: its messages and their attributes")
-        .after_help(SHOW_EXAMPLE)
-        .arg(order_option(alloc, values))?
-        .arg(format_option(alloc, values))?
-        .arg(bytes_option(alloc))?
-        .arg(color_option(alloc, values))?
-        .arg(explain_option(alloc))?
-        .arg(file_argument(alloc))
-}
-
-fn strict_option<'a>(alloc: Global) -> Arg<'a> {
-    Arg::new(alloc, "strict")
-        .long("strict")
-        .action(ArgAction::SetTrue)
-        .help("End at the first bad line, as `rtnl show` does")
-}
-
-fn changes_option<'a>(alloc: Global) -> Arg<'a> {
-    Arg::new(alloc, "changes")
-        .long("changes")
-        .action(ArgAction::SetTrue)
-        .help("Print what changes when it comes, in place of the tables at the end")
-}
-
-fn waiting_option<'a>(alloc: Global, values: Values<'a>) -> Arg<'a> {
-    Arg::new(alloc, "waiting")
-        .long("waiting")
-        .value_name("N")
-        .value_parser(value_parser!(u32))
-        .default_value(values.entries)
-        .help("Greatest number of changes of a kind that wait while a dump of it runs")
-}
-
-/// The option of `follow` that names the kind of one dump.
-fn followed_kind<'a>(alloc: Global, values: Values<'a>) -> Result<Arg<'a>, AllocError> {
-    let option = kind_option(alloc, values).required(false).help(
-        "Read the datagrams as the answers to a dump, as `rtnl table` does: print its entries as \
-        they come, and how it ended",
-    );
-    option.requires_all(&["seq", "port"])
-}
-
-fn follow_command<'a>(alloc: Global, values: Values<'a>) -> Result<Command<'a>, AllocError> {
-    Command::new(alloc, "follow")
-        .about(
-            "Prints each datagram of a recording of any length when its line has come, as `show` \
-            prints it; a bad line is named on standard error, and following goes on",
-        )
-        .after_help(FOLLOW_EXAMPLE)
-        .arg(order_option(alloc, values))?
-        .arg(format_option(alloc, values))?
-        .arg(bytes_option(alloc).conflicts_with("kind")?)?
-        .arg(color_option(alloc, values))?
-        .arg(followed_kind(alloc, values)?)?
-        .arg(seq_option(alloc).requires_arg("kind")?)?
-        .arg(
-            port_option(alloc)
-                .help(PORT_OF_FOLLOW)
-                .requires_arg("kind")?,
-        )?
-        .arg(depth_option(alloc, values))?
-        .arg(strict_option(alloc))?
-        .arg(explain_option(alloc))?
-        .arg(file_argument(alloc))
-}
-
-fn check_command<'a>(alloc: Global, values: Values<'a>) -> Result<Command<'a>, AllocError> {
-    Command::new(alloc, "check")
-        .about(
-            "Prints whether each datagram of a recording is canonical (the very bytes that its \
-            messages are written as), accepted though not canonical, or refused, and why",
-        )
-        .after_help(CHECK_EXAMPLE)
-        .arg(order_option(alloc, values))?
-        .arg(format_option(alloc, values))?
-        .arg(explain_option(alloc))?
-        .arg(file_argument(alloc))
-}
-
-fn table_command<'a>(alloc: Global, values: Values<'a>) -> Result<Command<'a>, AllocError> {
-    Command::new(alloc, "table")
-        .about(
-            "Reads a recording as the answers to a dump, and prints the table of its entries and \
-            how the dump ended",
-        )
-        .after_help(TABLE_EXAMPLE)
-        .arg(
-            kind_option(alloc, values)
-                .required(false)
-                .help(KIND_OF_TABLE),
-        )?
-        .arg(seq_option(alloc).help(SEQ_OF_TABLE))?
-        .arg(port_option(alloc))?
-        .arg(family_option(alloc))?
-        .arg(depth_option(alloc, values))?
-        .arg(entries_option(alloc, values))?
-        .arg(order_option(alloc, values))?
-        .arg(format_option(alloc, values))?
-        .arg(explain_option(alloc))?
-        .arg(file_argument(alloc))
-}
-
-fn mirror_command<'a>(alloc: Global, values: Values<'a>) -> Result<Command<'a>, AllocError> {
-    Command::new(alloc, "mirror")
-        .about(
-            "Keeps the tables of links, addresses, routes, neighbours and rules current by the \
-            dumps and notifications of a recording of any length, and prints them at its end, \
-            or each change when it comes",
-        )
-        .after_help(MIRROR_EXAMPLE)
-        .arg(
-            kind_option(alloc, values)
-                .required(false)
-                .help(KIND_OF_MIRROR),
-        )?
-        .arg(family_option(alloc).help(FAMILY_OF_MIRROR))?
-        .arg(changes_option(alloc))?
-        .arg(depth_option(alloc, values))?
-        .arg(entries_option(alloc, values).help(ENTRIES_OF_MIRROR))?
-        .arg(waiting_option(alloc, values))?
-        .arg(order_option(alloc, values))?
-        .arg(format_option(alloc, values))?
-        .arg(strict_option(alloc))?
-        .arg(explain_option(alloc))?
-        .arg(file_argument(alloc))
-}
-
-fn request_command<'a>(alloc: Global, values: Values<'a>) -> Result<Command<'a>, AllocError> {
-    Command::new(alloc, "request")
-        .about("Prints the request that begins a dump as one line of hexadecimal")
-        .after_help(REQUEST_EXAMPLE)
-        .arg(kind_option(alloc, values))?
-        .arg(seq_option(alloc).required(true))?
-        .arg(family_option(alloc))?
-        .arg(order_option(alloc, values))
-}
-
-/// The command of this name, if there is one.
-fn command_named<'a>(
-    alloc: Global,
-    values: Values<'a>,
-    name: &str,
-) -> Result<Option<Command<'a>>, AllocError> {
-    let command = match name {
-        "show" => show_command(alloc, values)?,
-        "follow" => follow_command(alloc, values)?,
-        "check" => check_command(alloc, values)?,
-        "table" => table_command(alloc, values)?,
-        "mirror" => mirror_command(alloc, values)?,
-        "request" => request_command(alloc, values)?,
-        _ => return Ok(None),
-    };
-    Ok(Some(command))
-}
-
-fn with_all_commands<'a>(
-    alloc: Global,
-    values: Values<'a>,
-    program: Command<'a>,
-) -> Result<Command<'a>, AllocError> {
-    program
-        .subcommand(show_command(alloc, values)?)?
-        .subcommand(follow_command(alloc, values)?)?
-        .subcommand(check_command(alloc, values)?)?
-        .subcommand(table_command(alloc, values)?)?
-        .subcommand(mirror_command(alloc, values)?)?
-        .subcommand(request_command(alloc, values)?)
+/// A command with all that it is given.
+fn command<'a>(alloc: Global, values: Values<'a>, verb: Verb) -> Result<Command<'a>, AllocError> {
+    let name: &'a str = verb.name();
+    let mut command = Command::new(alloc, name)
+        .about(verb.about())
+        .after_help(verb.example());
+    for row in verb.rows() {
+        command = command.arg(row.argument(alloc, values, verb)?)?;
+    }
+    Ok(command)
 }
 
 /// The program. Where its first argument names a command, it has this one alone: all further
-/// arguments are the command's own, and making the others is a good part of a short run.
+/// arguments are the command's own, and making the others is a good part of a short run. Nor is the
+/// command `help` named then, which clap adds.
 pub(crate) fn rtnl<'a>(
     alloc: Global,
     values: Values<'a>,
     first: Option<&str>,
 ) -> Result<Command<'a>, AllocError> {
-    let program = Command::new(alloc, "rtnl")
+    let named = Verb::named(first.unwrap_or(""));
+    let mut program = Command::new(alloc, "rtnl")
         .bin_name("rtnl")?
         .version(VERSION)
         .about("Decodes recorded rtnetlink datagrams. Without a command it is `rtnl show`.")
-        .after_help(EXAMPLES_STATUSES_AND_FILES);
-    match command_named(alloc, values, first.unwrap_or(""))? {
-        // Nor is the command `help` named, which clap adds.
-        Some(command) => program.disable_help_subcommand(true).subcommand(command),
-        None => with_all_commands(alloc, values, program),
+        .after_help(EXAMPLES_STATUSES_AND_FILES)
+        .disable_help_subcommand(named.is_some());
+    let verbs = match &named {
+        Some(verb) => slice::from_ref(verb),
+        None => Verb::ALL.as_slice(),
+    };
+    for verb in verbs {
+        program = program.subcommand(command(alloc, values, *verb)?)?;
+    }
+    Ok(program)
+}
+
+/// The command of this name as a usage error shows it, or the program where there is none.
+fn shown<'a>(alloc: Global, values: Values<'a>, name: &str) -> Result<Command<'a>, AllocError> {
+    match Verb::named(name) {
+        Some(verb) => {
+            let path = Pieces(&[Text("rtnl "), Text(name)]).to_string(alloc)?;
+            command(alloc, values, verb)?.bin_name(path.as_str())
+        }
+        None => rtnl(alloc, values, None),
     }
 }
 
@@ -414,9 +402,5 @@ pub(crate) fn usage_error(
     name: &str,
     message: &str,
 ) -> Result<Error, AllocError> {
-    let mut command = match command_named(alloc, values, name)? {
-        Some(command) => command.bin_name(format!(in alloc; "rtnl {name}")?.as_str())?,
-        None => rtnl(alloc, values, None)?,
-    };
-    command.error(ErrorKind::InvalidValue, message)
+    shown(alloc, values, name)?.error(ErrorKind::InvalidValue, message)
 }

@@ -5,9 +5,9 @@ ghost use Rattle.std.specs.Prelude.{◌≡◌, ◌↔◌, ◌⊎◌, [], ◌∷�
 use crate::arguments::{Engine, Work};
 use crate::hints::{hint_ignored, hint_kind, hint_missed, hint_too_long};
 use crate::kinds::begins_otherwise;
-use crate::name::Name;
 use crate::output::Errors;
-use crate::place::Around;
+use crate::pieces::Name;
+use crate::pieces::Piece::{self, Byte, Number, Text};
 use crate::standard_error::name_file;
 use crate::subject::Subject;
 use nl_attr::Reason;
@@ -18,7 +18,7 @@ use std::alloc::AllocError;
 use std::io;
 
 /// How much is said.
-#[derive(Clone, Copy, Debug, PartialEq, Eq)]
+#[derive(Clone, Copy, PartialEq, Eq)]
 pub(crate) enum Detail {
     /// What is always said.
     Least,
@@ -57,14 +57,48 @@ fn begins_with_mark(input: &[u8]) -> bool
     )
 }
 
-/// What a byte in a line tells of the file that it stands in.
-fn hint_of_byte(input: &[u8], number: u32, column: usize, byte: u8) -> &'static str {
-    if number == 1 && column == 1 && begins_with_mark(input) {
-        "; the file begins with a byte order mark"
-    } else if is_binary(byte) {
-        "; the file is binary: rtnl-record reads captures"
-    } else {
-        ""
+/// What is wrong with a line tells of the file that it stands in.
+fn hint_of_fault(input: &[u8], number: u32, line: &[u8], fault: LineFault) -> &'static str {
+    match fault {
+        LineFault::Character { column, byte } => {
+            if number == 1 && column == 1 && begins_with_mark(input) {
+                "; the file begins with a byte order mark"
+            } else if is_binary(byte) {
+                "; the file is binary: rtnl-record reads captures"
+            } else {
+                ""
+            }
+        }
+        LineFault::Odd { .. } if looks_wrapped(input, number, line) => "; the line looks wrapped",
+        LineFault::Odd { .. } => "",
+    }
+}
+
+/// Writes what is wrong with the line of this number, and what that tells.
+fn say_fault(
+    rt: &HostRuntime,
+    name: Name<'_>,
+    number: u64,
+    fault: LineFault,
+    hint: &str,
+) -> io::Result<()> {
+    match fault {
+        LineFault::Character { column, byte } => Errors(rt).say(&[
+            Piece::Name(name),
+            Number(": line ", number),
+            Number(", column ", column as u64),
+            Text(": byte 0x"),
+            Byte(byte),
+            Text(" is no hexadecimal digit"),
+            Text(hint),
+        ]),
+        LineFault::Odd { digits } => Errors(rt).say(&[
+            Piece::Name(name),
+            Number(": line ", number),
+            Number(": ", digits as u64),
+            Text(" digits, an odd number"),
+            Text(hint),
+        ]),
     }
 }
 
@@ -73,26 +107,11 @@ fn explain_line(rt: &HostRuntime, name: Name<'_>, input: &[u8], number: u32) -> 
     let Some(line) = line_at(input, number) else {
         return Ok(());
     };
-    match line_fault(line) {
-        Some(LineFault::Character { column, byte }) => {
-            let hint = hint_of_byte(input, number, column, byte);
-            eprintln!(Errors(rt);
-                "rtnl: {name}: line {number}, column {column}: byte 0x{byte:02x} is no \
-                hexadecimal digit{hint}"
-            )
-        }
-        Some(LineFault::Odd { digits }) => {
-            let hint = if looks_wrapped(input, number, line) {
-                "; the line looks wrapped"
-            } else {
-                ""
-            };
-            eprintln!(Errors(rt);
-                "rtnl: {name}: line {number}: {digits} digits, an odd number{hint}"
-            )
-        }
-        None => Ok(()),
-    }
+    let Some(fault) = line_fault(line) else {
+        return Ok(());
+    };
+    let hint = hint_of_fault(input, number, line, fault);
+    say_fault(rt, name, u64::from(number), fault, hint)
 }
 
 /// Writes what is wrong with a line that is looked at by itself; with none that it is too long.
@@ -103,20 +122,15 @@ pub(crate) fn explain_one_line(
     line: Option<&[u8]>,
 ) -> io::Result<()> {
     let Some(line) = line else {
-        return eprintln!(Errors(rt);
-            "rtnl: {name}: line {number}: longer than {LONGEST_LINE} bytes"
-        );
+        return Errors(rt).say(&[
+            Piece::Name(name),
+            Number(": line ", number),
+            Number(": longer than ", LONGEST_LINE as u64),
+            Text(" bytes"),
+        ]);
     };
     match line_fault(line) {
-        Some(LineFault::Character { column, byte }) => {
-            eprintln!(Errors(rt);
-                "rtnl: {name}: line {number}, column {column}: byte 0x{byte:02x} is no \
-                hexadecimal digit"
-            )
-        }
-        Some(LineFault::Odd { digits }) => {
-            eprintln!(Errors(rt); "rtnl: {name}: line {number}: {digits} digits, an odd number")
-        }
+        Some(fault) => say_fault(rt, name, number, fault, ""),
         None => Ok(()),
     }
 }
@@ -140,12 +154,17 @@ fn explain_head(
     subject: Subject<'_>,
 ) -> io::Result<()> {
     let fault = subject.head.fault;
-    let rule = rule(fault.reason);
-    let around = Around {
-        bytes: datagram,
-        place: fault.place as usize,
-    };
-    eprintln!(Errors(rt); "rtnl: datagram {number}: {fault}: {rule}: {subject}: {around}")
+    Errors(rt).say(&[
+        Number("datagram ", number as u64),
+        Text(": "),
+        Piece::Fault(fault),
+        Text(": "),
+        Text(rule(fault.reason)),
+        Text(": "),
+        Piece::Subject(subject),
+        Text(": "),
+        Piece::Around(datagram, fault.place as usize),
+    ])
 }
 
 /// Writes why the datagram of this number was refused, if it was.
@@ -165,12 +184,11 @@ pub(crate) fn explain_datagram(
             };
             explain_head(rt, number, datagram, subject)
         }
-        Some(ScanError::TooLarge) => {
-            let (size, limit) = (datagram.len(), limits.datagram());
-            eprintln!(Errors(rt);
-                "rtnl: datagram {number}: too large: {size} bytes, and the limit is {limit}"
-            )
-        }
+        Some(ScanError::TooLarge) => Errors(rt).say(&[
+            Number("datagram ", number as u64),
+            Number(": too large: ", datagram.len() as u64),
+            Number(" bytes, and the limit is ", u64::from(limits.datagram())),
+        ]),
     }
 }
 
@@ -186,24 +204,14 @@ fn explain_refusal(
         FeedError::Layout(_) | FeedError::TooLarge => {
             explain_datagram(rt, number, datagram, limits)
         }
-        FeedError::Total => {
-            let (size, limit) = (datagram.len(), limits.total());
-            eprintln!(Errors(rt);
-                "rtnl: datagram {number}: total: with its {size} bytes all are above the limit of \
-                {limit}"
-            )
-        }
+        FeedError::Total => Errors(rt).say(&[
+            Number("datagram ", number as u64),
+            Number(": total: with its ", datagram.len() as u64),
+            Number(" bytes all are above the limit of ", limits.total()),
+        ]),
         FeedError::NotWaiting => Ok(()),
         FeedError::Memory => Err(AllocError.into()),
     }
-}
-
-/// Writes why datagrams were refused that are looked at by themselves.
-fn explain_each(rt: &HostRuntime, found: &[Vec<u8>], limits: &Limits) -> io::Result<()> {
-    for (index, datagram) in found.iter().enumerate() {
-        explain_datagram(rt, index + 1, datagram, limits)?;
-    }
-    Ok(())
 }
 
 /// Writes why datagrams were refused that answer a dump, up to its end, what can be done about what
@@ -265,7 +273,10 @@ fn tell_datagrams(
         (Engine::Table(dump, seed), _) => {
             tell_dump(rt, found.as_slice(), limits, (dump, seed), detail)
         }
-        (_, Detail::All) => explain_each(rt, found.as_slice(), limits),
+        (_, Detail::All) => found.iter().enumerate().try_for_each(|(
+            index,
+            datagram,
+        )| explain_datagram(rt, index + 1, datagram, limits)),
         (_, Detail::Least | Detail::Hints) => Ok(()),
     }
 }

@@ -2,18 +2,18 @@
 
 ghost use Rattle.std.specs.Prelude.{◌≡◌, false};
 
-use crate::arguments::{Color, Follow, Format, What};
-use crate::color::{is_coloured, row_format};
+use crate::arguments::{Follow, Format, What};
 use crate::explain::{explain_datagram, explain_one_line};
-use crate::name::Name;
 use crate::output::Errors;
+use crate::pieces::Name;
+use crate::pieces::Piece::{Number, Text};
 use crate::standard_error::name_file;
-use rtnl::dump::Dump;
+use crate::terminal::{is_coloured, row_format};
 use rtnl::frame::Limits;
 use rtnl::{
-    DumpFollowed, Followed, LiveSource, MirrorFollowed, MirrorSettings, OnBadLine, RunError, Sink,
-    run_follow, run_follow_bytes, run_follow_coloured, run_follow_dump, run_follow_dump_json,
-    run_follow_json, run_mirror, run_mirror_json,
+    DumpFollowed, Followed, LiveSource, MirrorFollowed, OnBadLine, RunError, Sink, run_follow,
+    run_follow_bytes, run_follow_coloured, run_follow_dump, run_follow_dump_json, run_follow_json,
+    run_mirror, run_mirror_json,
 };
 use std::io;
 
@@ -33,7 +33,7 @@ impl Named<'_> {
     /// Writes that the line of this number is bad, and why where that is asked for.
     fn name_line(&self, number: u64, line: Option<&[u8]>) -> io::Result<()> {
         let (rt, name) = (self.rt, self.name);
-        eprintln!(Errors(rt); "rtnl: line {number}: bad line")?;
+        Errors(rt).say(&[Number("line ", number), Text(": bad line")])?;
         if self.explain {
             explain_one_line(rt, name, number, line)
         } else {
@@ -64,7 +64,7 @@ impl OnBadLine for Named<'_> {
 }
 
 /// How the following of a recording ended.
-#[derive(Clone, Copy, Debug)]
+#[derive(Clone, Copy)]
 pub(crate) struct Ended {
     pub counts: Followed,
     /// No line was bad; and no datagram was refused or, of a dump, it is complete. Of a mirror no
@@ -91,60 +91,6 @@ impl Ended {
     }
 }
 
-/// Follows what a source gives, each datagram by itself.
-fn follow_each<S: LiveSource<W>, W: Sink>(
-    source: &mut S,
-    sink: &mut W,
-    named: &mut Named<'_>,
-    follow: &Follow,
-    color: Color,
-) -> Result<Followed, RunError>
-    requires { named.old.is_ended ≡ false }
-{
-    let (alloc, limits) = (named.rt.alloc(), &follow.limits);
-    match follow.format {
-        Format::Json => run_follow_json(alloc, source, sink, named, limits),
-        Format::Text if is_coloured(named.rt, color) => {
-            run_follow_coloured(alloc, source, sink, named, limits)
-        }
-        Format::Text => run_follow(alloc, source, sink, named, limits),
-    }
-}
-
-/// Follows what a source gives as the answers to a dump.
-fn follow_dump<S: LiveSource<W>, W: Sink>(
-    source: &mut S,
-    sink: &mut W,
-    named: &mut Named<'_>,
-    follow: &Follow,
-    dump: Dump,
-) -> Result<DumpFollowed, RunError>
-    requires { named.old.is_ended ≡ false }
-{
-    let (alloc, limits) = (named.rt.alloc(), &follow.limits);
-    match follow.format {
-        Format::Text => run_follow_dump(alloc, source, sink, named, dump, limits),
-        Format::Json => run_follow_dump_json(alloc, source, sink, named, dump, limits),
-    }
-}
-
-/// Keeps tables current by what a source gives.
-fn mirror<S: LiveSource<W>, W: Sink>(
-    source: &mut S,
-    sink: &mut W,
-    named: &mut Named<'_>,
-    format: Format,
-    settings: &MirrorSettings,
-) -> Result<MirrorFollowed, RunError>
-    requires { named.old.is_ended ≡ false }
-{
-    let alloc = named.rt.alloc();
-    match format {
-        Format::Text => run_mirror(alloc, source, sink, named, settings),
-        Format::Json => run_mirror_json(alloc, source, sink, named, settings),
-    }
-}
-
 /// Follows what a source gives; what is printed goes to a sink.
 pub(crate) fn follow<S: LiveSource<W>, W: Sink>(
     source: &mut S,
@@ -154,25 +100,33 @@ pub(crate) fn follow<S: LiveSource<W>, W: Sink>(
 ) -> Result<Ended, RunError>
     requires { named.old.is_ended ≡ false }
 {
-    let (rt, limits, format) = (named.rt, &follow.limits, follow.format);
+    let (rt, limits) = (named.rt, &follow.limits);
     let alloc = rt.alloc();
-    match &follow.what {
-        What::Each(color) => {
-            let counts = follow_each(source, sink, named, follow, *color)?;
-            Ok(Ended::of_each(counts))
+    match (follow.what, follow.format) {
+        (What::Each(color), Format::Text) if is_coloured(rt, color) => {
+            run_follow_coloured(alloc, source, sink, named, limits).map(Ended::of_each)
         }
-        What::Bytes(color) => {
-            let rows = row_format(rt, *color, format);
-            let counts = run_follow_bytes(alloc, source, sink, named, limits, rows)?;
-            Ok(Ended::of_each(counts))
+        (What::Each(_), Format::Text) => {
+            run_follow(alloc, source, sink, named, limits).map(Ended::of_each)
         }
-        What::Dump(dump) => {
-            let ended = follow_dump(source, sink, named, follow, *dump)?;
-            Ok(Ended::of_dump(ended))
+        (What::Each(_), Format::Json) => {
+            run_follow_json(alloc, source, sink, named, limits).map(Ended::of_each)
         }
-        What::Mirror(settings) => {
-            let ended = mirror(source, sink, named, format, settings)?;
-            Ok(Ended::of_mirror(ended))
+        (What::Bytes(color), format) => {
+            let rows = row_format(rt, color, format);
+            run_follow_bytes(alloc, source, sink, named, limits, rows).map(Ended::of_each)
+        }
+        (What::Dump(dump), Format::Text) => {
+            run_follow_dump(alloc, source, sink, named, dump, limits).map(Ended::of_dump)
+        }
+        (What::Dump(dump), Format::Json) => {
+            run_follow_dump_json(alloc, source, sink, named, dump, limits).map(Ended::of_dump)
+        }
+        (What::Mirror(settings), Format::Text) => {
+            run_mirror(alloc, source, sink, named, &settings).map(Ended::of_mirror)
+        }
+        (What::Mirror(settings), Format::Json) => {
+            run_mirror_json(alloc, source, sink, named, &settings).map(Ended::of_mirror)
         }
     }
 }

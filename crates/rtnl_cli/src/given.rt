@@ -1,6 +1,6 @@
 //! The arguments that the program is given.
 
-use crate::name::EscapedBytes;
+use crate::pieces::{Piece, Pieces};
 use std::alloc::{AllocError, Global};
 use std::env::{Env, FillError};
 use std::str;
@@ -45,8 +45,8 @@ pub(crate) fn read_given(rt: &HostRuntime) -> Result<Given, AllocError> {
         match str::from_utf8(bytes.as_slice()) {
             Ok(text) => texts.push(String::from_str(alloc, text)?)?,
             Err(_) => {
-                let shown = EscapedBytes(bytes.as_slice());
-                return Ok(Given::NoText(format!(in alloc; "{shown}")?));
+                let shown = Pieces(&[Piece::Raw(bytes.as_slice())]).to_string(alloc)?;
+                return Ok(Given::NoText(shown));
             }
         }
     }

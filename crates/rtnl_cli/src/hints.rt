@@ -2,8 +2,9 @@
 
 use crate::commands::MOST_ENTRIES;
 use crate::kinds::{kind_answered, senders_of};
-use crate::name::Name;
 use crate::output::Errors;
+use crate::pieces::Name;
+use crate::pieces::Piece::{self, Number, Text};
 use nl_dump::match_table;
 use rtnl::dump::{Dump, Session};
 use rtnl::frame::Limits;
@@ -12,9 +13,11 @@ use std::io;
 
 /// Writes what is done with a recording that is too long.
 pub(crate) fn hint_too_long(rt: &HostRuntime, name: Name<'_>) -> io::Result<()> {
-    eprintln!(Errors(rt);
-        "rtnl: {name}: longer than {LONGEST_INPUT} bytes; a recording can be cut at any line"
-    )
+    Errors(rt).say(&[
+        Piece::Name(name),
+        Number(": longer than ", LONGEST_INPUT as u64),
+        Text(" bytes; a recording can be cut at any line"),
+    ])
 }
 
 /// Writes which option lifts the limit by which entries of a dump were missed, if some were.
@@ -25,19 +28,20 @@ pub(crate) fn hint_missed(
     limits: &Limits,
 ) -> io::Result<()> {
     let missed = match_table!(dump.kind, session, table => table.missed());
-    let limit = limits.entries();
     if missed == 0 {
-        Ok(())
-    } else if i64::from(limit) < MOST_ENTRIES {
-        eprintln!(Errors(rt);
-            "rtnl: missed {missed}: the limit is {limit} entries; --entries sets another, up to \
-            {MOST_ENTRIES}"
-        )
-    } else {
-        eprintln!(Errors(rt);
-            "rtnl: missed {missed}: the limit is {limit} entries, and no option lifts it"
-        )
+        return Ok(());
     }
+    let limit = limits.entries();
+    let way = if limit < MOST_ENTRIES {
+        " entries; --entries sets another, up to 65536"
+    } else {
+        " entries, and no option lifts it"
+    };
+    Errors(rt).say(&[
+        Number("missed ", missed),
+        Number(": the limit is ", u64::from(limit)),
+        Text(way),
+    ])
 }
 
 /// Writes which numbers the messages have, where none has those of the dump.
@@ -56,20 +60,18 @@ pub(crate) fn hint_ignored(
     if senders.iter().any(|sender| sender.numbers == sought) {
         return Ok(());
     }
-    let count = senders.len();
     let who = if senders.iter().all(|sender| sender.numbers == first) {
-        "all have"
+        "; all have seq "
     } else {
-        "the first has"
+        "; the first has seq "
     };
-    let Numbers {
-        seq: its_seq,
-        port: its_port,
-    } = first;
-    eprintln!(Errors(rt);
-        "rtnl: ignored {count}: no message has seq {seq} port {port}; {who} seq {its_seq} port \
-        {its_port}"
-    )
+    Errors(rt).say(&[
+        Number("ignored ", senders.len() as u64),
+        Number(": no message has seq ", u64::from(dump.seq)),
+        Number(" port ", u64::from(dump.port)),
+        Number(who, u64::from(first.seq)),
+        Number(" port ", u64::from(first.port)),
+    ])
 }
 
 /// Writes of which kind the objects are that answer a dump, where the table has none of its kind.
@@ -93,15 +95,16 @@ pub(crate) fn hint_kind(
     let Some(first) = kinds.next() else {
         return Ok(());
     };
-    let (seq, port) = (dump.seq, dump.port);
-    if kinds.all(|kind| kind == first) {
-        eprintln!(Errors(rt);
-            "rtnl: ignored {ignored}: the answers with seq {seq} port {port} are of kind {first}"
-        )
+    let (answers, are) = if kinds.all(|kind| kind == first) {
+        (": the answers with seq ", " are of kind ")
     } else {
-        eprintln!(Errors(rt);
-            "rtnl: ignored {ignored}: the first answer with seq {seq} port {port} is of kind \
-            {first}"
-        )
-    }
+        (": the first answer with seq ", " is of kind ")
+    };
+    Errors(rt).say(&[
+        Number("ignored ", ignored),
+        Number(answers, u64::from(dump.seq)),
+        Number(" port ", u64::from(dump.port)),
+        Text(are),
+        Text(first.row().name),
+    ])
 }

@@ -10,7 +10,7 @@ use rtnl::{Numbers, Tape, datagrams, tape_of};
 use std::alloc::{AllocError, Global};
 
 /// What the header of a message says of whose it is.
-#[derive(Clone, Copy, Debug)]
+#[derive(Clone, Copy)]
 pub(crate) struct Sender {
     pub numbers: Numbers,
     /// The type of the message.

@@ -3,7 +3,6 @@
 #![tactic(auto)]
 
 mod arguments;
-mod color;
 mod commands;
 mod explain;
 mod follow;
@@ -11,29 +10,28 @@ mod given;
 mod hints;
 mod kinds;
 mod messages;
-mod name;
 mod output;
-mod place;
+mod pieces;
 mod reading;
 mod standard_error;
 mod subject;
 mod terminal;
 
-use arguments::{Engine, Follow, Format, Mirror, Parsed, Table, Task, Work};
-use color::{is_coloured, row_format};
+use arguments::{Engine, Follow, Format, Job, Mirror, Parsed, Table, Task, Work};
 use explain::{Detail, tell};
 use follow::{Ended, Named, follow};
 use given::{Given, read_given};
 use messages::{print_message, print_unnamed};
-use name::Name;
 use nl_attr::Order;
 use output::{Errors, standard_output};
+use pieces::Name;
+use pieces::Piece::{Number, Text};
 use reading::Reading;
 use rtnl::dump::{Kind, Seed};
 use rtnl::{
-    Followed, LONGEST_INPUT, ReadSource, RunError, Sink, SliceSource, Source, VecSink, Verdict,
-    WriteSink, heading_in, run_check, run_check_json, run_request_ordered, run_show,
-    run_show_bytes, run_show_coloured, run_show_json, run_table_json, run_table_with_seed,
+    LONGEST_INPUT, ReadSource, RunError, Sink, SliceSource, Source, VecSink, Verdict, WriteSink,
+    heading_in, run_check, run_check_json, run_request_ordered, run_show, run_show_bytes,
+    run_show_coloured, run_show_json, run_table_json, run_table_with_seed,
 };
 use standard_error::{
     BLEMISHED, Causes, USAGE, after, ended, failed, followed, outcome, unread, unwritten,
@@ -42,7 +40,7 @@ use std::alloc::{AllocError, Global};
 use std::io::{self, ErrorKind, Read, Write};
 use std::process::ExitCode;
 use std::random::RandomSource;
-use terminal::{STDERR, is_terminal};
+use terminal::{STDERR, is_coloured, is_terminal, row_format};
 
 /// Runs an engine over a source; what it prints goes to a sink.
 fn run<S: Source, W: Sink>(
@@ -160,26 +158,23 @@ fn followed_status(rt: &HostRuntime, ended: Ended, is_spoilt: bool) -> ExitCode 
     if !is_terminal(rt, STDERR) {
         return status;
     }
-    let Followed {
-        datagrams,
-        refused,
-        bad_lines,
-        ..
-    } = ended.counts;
-    let counted = eprintln!(Errors(rt);
-        "rtnl: {datagrams} datagrams, {refused} refused, {bad_lines} bad lines"
-    );
+    let counts = ended.counts;
+    let counted = Errors(rt).say(&[
+        Number("", counts.datagrams),
+        Number(" datagrams, ", counts.refused),
+        Number(" refused, ", counts.bad_lines),
+        Text(" bad lines"),
+    ]);
     followed(counted, status)
 }
 
-/// Follows a recording as it is read; what is printed goes to standard output.
-fn follow_over(
-    rt: &HostRuntime,
-    name: Name<'_>,
-    mut reading: Reading<'_>,
-    how: &Follow,
-    explain: bool,
-) -> ExitCode {
+/// Follows a recording as it comes; what is printed goes to standard output.
+fn perform_follow(rt: &HostRuntime, how: &Follow, explain: bool, file: Option<&str>) -> ExitCode {
+    let name = Name(file);
+    let mut reading = match Reading::open(rt, file) {
+        Ok(reading) => reading,
+        Err(error) => return unread(rt, name, error),
+    };
     let mut writer = standard_output(rt);
     let mut source = ReadSource::new(&mut reading);
     let mut sink = WriteSink::new(&mut writer);
@@ -206,15 +201,6 @@ fn follow_over(
     }
 }
 
-/// Follows a recording as it comes.
-fn perform_follow(rt: &HostRuntime, how: &Follow, explain: bool, file: Option<&str>) -> ExitCode {
-    let name = Name(file);
-    match Reading::open(rt, file) {
-        Ok(reading) => follow_over(rt, name, reading, how, explain),
-        Err(error) => unread(rt, name, error),
-    }
-}
-
 /// What is named where the system gives no seed.
 const RANDOM_BYTES: Name<'static> = Name(Some("random bytes"));
 
@@ -223,19 +209,6 @@ fn random_seed(rt: &HostRuntime) -> io::Result<Seed> {
     let mut bytes = [0; 16];
     rt.fill_bytes(&mut bytes)?;
     Ok(Seed::from_bytes(bytes))
-}
-
-/// Keeps tables current by a recording as it comes.
-fn perform_mirror(
-    rt: &HostRuntime,
-    mirror: &Mirror,
-    explain: bool,
-    file: Option<&str>,
-) -> ExitCode {
-    match random_seed(rt) {
-        Ok(seed) => perform_follow(rt, &mirror.follow(seed), explain, file),
-        Err(error) => unread(rt, RANDOM_BYTES, error),
-    }
 }
 
 /// Reads a recording as the answers to a dump. It is read only once, so it is kept: it may name the
@@ -280,33 +253,24 @@ fn perform_request(rt: &HostRuntime, kind: Kind, family: u8, seq: u32, order: Or
 
 /// Does what the arguments ask for.
 fn perform(rt: &HostRuntime, task: &Task) -> ExitCode {
-    match task {
-        Task::Recording {
-            work,
-            explain,
-            file,
-        } => perform_work(rt, work, *explain, file.as_ref().map(String::as_str)),
-        Task::Follow {
-            follow,
-            explain,
-            file,
-        } => perform_follow(rt, follow, *explain, file.as_ref().map(String::as_str)),
-        Task::Mirror {
-            mirror,
-            explain,
-            file,
-        } => perform_mirror(rt, mirror, *explain, file.as_ref().map(String::as_str)),
-        Task::Table {
-            table,
-            explain,
-            file,
-        } => perform_table(rt, table, *explain, file.as_ref().map(String::as_str)),
+    let (job, explain, file) = match task {
+        Task::Recording { job, explain, file } => (job, *explain, file.as_ref()),
         Task::Request {
             kind,
             family,
             seq,
             order,
-        } => perform_request(rt, *kind, *family, *seq, *order),
+        } => return perform_request(rt, *kind, *family, *seq, *order),
+    };
+    let file = file.map(String::as_str);
+    match job {
+        Job::Work(work) => perform_work(rt, work, explain, file),
+        Job::Follow(follow) => perform_follow(rt, follow, explain, file),
+        Job::Mirror(mirror) => match random_seed(rt) {
+            Ok(seed) => perform_follow(rt, &mirror.follow(seed), explain, file),
+            Err(error) => unread(rt, RANDOM_BYTES, error),
+        },
+        Job::Table(table) => perform_table(rt, table, explain, file),
     }
 }
 
@@ -322,12 +286,10 @@ fn perform_given(rt: &HostRuntime, arguments: &[String]) -> ExitCode {
 fn main(rt: HostRuntime) -> ExitCode {
     match read_given(&rt) {
         Ok(Given::Texts(arguments)) => perform_given(&rt, arguments.as_slice()),
-        Ok(Given::NoText(shown)) => failed(
-            eprintln!(Errors(&rt);
-                "rtnl: {shown} is not UTF-8; a file of such a name is read by rtnl show <FILE"
-            ),
-            USAGE,
-        ),
+        Ok(Given::NoText(shown)) => {
+            let read = " is not UTF-8; a file of such a name is read by rtnl show <FILE";
+            failed(Errors(&rt).say(&[Text(shown.as_str()), Text(read)]), USAGE)
+        }
         Err(AllocError) => outcome(&rt, Err(RunError::Memory)),
     }
 }

@@ -1,8 +1,9 @@
 //! Help, the version and usage errors, as they are printed.
 
 use crate::arguments::{Sought, unknown_command, unnamed};
-use crate::name::{Escaped, Name};
 use crate::output::{Errors, standard_output};
+use crate::pieces::Name;
+use crate::pieces::Piece::{Escaped, Text};
 use crate::standard_error::{USAGE, failed, outcome, unwritten};
 use clap::Error;
 use rtnl::{Heading, RunError};
@@ -12,12 +13,18 @@ use std::process::ExitCode;
 
 /// Names the command that shows this file, on standard error.
 fn name_show(rt: &HostRuntime, dashes: &str, file: &str) -> io::Result<()> {
-    let name = Escaped(file);
-    if file.is_empty() || file.contains(char::is_whitespace) {
-        eprintln!(Errors(rt); "rtnl: to show a recording: rtnl show {dashes}\"{name}\"")
+    let quote = if file.is_empty() || file.contains(char::is_whitespace) {
+        "\""
     } else {
-        eprintln!(Errors(rt); "rtnl: to show a recording: rtnl show {dashes}{name}")
-    }
+        ""
+    };
+    Errors(rt).say(&[
+        Text("to show a recording: rtnl show "),
+        Text(dashes),
+        Text(quote),
+        Escaped(file),
+        Text(quote),
+    ])
 }
 
 /// Prints help or the version on standard output.

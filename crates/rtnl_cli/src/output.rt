@@ -2,8 +2,9 @@
 
 ghost use Rattle.std.specs.Prelude.{◌≤◌, IfOk, length};
 
+use crate::pieces::{Piece, Pieces};
 use std::alloc::AllocError;
-use std::fmt;
+use std::fmt::Display;
 use std::io::{self, Eprint, ErrorKind, Stdout, Write};
 use std::thread::sleep;
 use std::time::Duration;
@@ -77,7 +78,7 @@ pub(crate) struct Errors<'a>(pub &'a HostRuntime);
 
 impl Errors<'_> {
     /// Writes a text, by one call where there is memory for it.
-    pub(crate) fn eprint<D: fmt::Display + Drop>(&self, text: D) -> io::Result<()> {
+    pub(crate) fn eprint<D: Display + Drop>(&self, text: D) -> io::Result<()> {
         let Errors(rt) = *self;
         match format!(in rt.alloc(); "{text}") {
             Ok(whole) => Waiting::new(rt, rt.stderr()).write_all(whole.as_bytes()),
@@ -85,8 +86,9 @@ impl Errors<'_> {
         }
     }
 
-    /// The same of a line, for `eprintln!`.
-    pub(crate) fn eprintln<D: fmt::Display + Drop>(&self, line: D) -> io::Result<()> {
-        self.eprint(format_args!("{line}\n"))
+    /// The same of a line, behind the name of the program.
+    pub(crate) fn say(&self, pieces: &[Piece<'_>]) -> io::Result<()> {
+        let text = Pieces(pieces);
+        self.eprint(format_args!("rtnl: {text}\n"))
     }
 }

@@ -3,6 +3,7 @@
 ghost use Rattle.std.specs.Prelude.{◌≤◌, length};
 
 use crate::output::Errors;
+use crate::pieces::Piece::{Number, Text};
 use memchr::memchr;
 use std::fs::File;
 use std::io::{self, BufRead, BufReader, ErrorKind, Read, Stdin};
@@ -137,7 +138,8 @@ impl<'a> Reading<'a> {
         if let Some(number) = self.lines.unnamed.take() {
             self.is_lossy = true;
             // A line that can't be written is not worth ending for.
-            let _ = eprintln!(Errors(self.rt); "rtnl: line {number}: messages were dropped here");
+            let place = Number("line ", number);
+            let _ = Errors(self.rt).say(&[place, Text(": messages were dropped here")]);
         }
     }
 }

@@ -1,8 +1,9 @@
 //! The fixed lines on standard error, the reasons behind them, and the exit statuses.
 
 use crate::hints::hint_too_long;
-use crate::name::Name;
 use crate::output::Errors;
+use crate::pieces::Name;
+use crate::pieces::Piece::{self, Failure, Reason, Text};
 use rtnl::{RunError, Verdict};
 use std::io::{self, ErrorKind};
 use std::process::ExitCode;
@@ -43,10 +44,7 @@ pub(crate) fn followed(_printed: io::Result<()>, status: ExitCode) -> ExitCode {
 pub(crate) fn after(rt: &HostRuntime, written: io::Result<()>, status: ExitCode) -> ExitCode {
     match written {
         Ok(()) => status,
-        Err(error) => followed(
-            eprintln!(Errors(rt); "rtnl: not explained: {error}"),
-            status,
-        ),
+        Err(error) => followed(Errors(rt).say(&[Reason("not explained: ", error)]), status),
     }
 }
 
@@ -61,20 +59,20 @@ pub(crate) fn outcome(rt: &HostRuntime, answer: Result<Verdict, RunError>) -> Ex
                 RunError::ReadFault | RunError::WriteFault => FAULT,
                 RunError::Memory => MEMORY,
             };
-            failed(eprintln!(Errors(rt); "rtnl: {error}"), status)
+            failed(Errors(rt).say(&[Failure(error)]), status)
         }
     }
 }
 
 /// Writes the system's reason behind the name of what failed.
 fn name_reason(rt: &HostRuntime, name: Name<'_>, error: io::Error) -> io::Result<()> {
-    eprintln!(Errors(rt); "rtnl: {name}: {error}")
+    Errors(rt).say(&[Piece::Name(name), Reason(": ", error)])
 }
 
 /// Names the file that a bad line stands in, if it is one.
 pub(crate) fn name_file(rt: &HostRuntime, name: Name<'_>) -> io::Result<()> {
     if name.is_file() {
-        eprintln!(Errors(rt); "rtnl: {name}: bad line")
+        Errors(rt).say(&[Piece::Name(name), Text(": bad line")])
     } else {
         Ok(())
     }

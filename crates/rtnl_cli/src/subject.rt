@@ -1,34 +1,37 @@
 //! What a head is that breaks a rule, and the heads in which it lies.
 
+use crate::pieces::write_number;
 use nl_attr::{Ctx, Event, SORT_MESSAGE, SORT_NEXT_HOP};
 use rtnl::frame::{BrokenHead, HeadKind};
 use rtnl::{KernelName, attribute_name, context_inside, message_name};
 use std::fmt;
 
-/// A name behind a blank, or nothing where there is none.
-#[derive(Clone, Copy)]
-struct Named(Option<KernelName>);
+/// Writes a name behind a blank.
+fn write_name<W: fmt::Write>(f: &mut fmt::Formatter<W>, name: KernelName) -> fmt::Result {
+    f.write_str(" ")?;
+    f.write_str(name.0)?;
+    f.write_str(name.1)
+}
 
-impl fmt::Display for Named {
-    fn fmt<W: fmt::Write>(&self, f: &mut fmt::Formatter<W>) -> fmt::Result {
-        match self.0 {
-            Some((front, end)) => write!(f, " {front}{end}"),
-            None => Ok(()),
-        }
+/// Writes the type of a message: its name, or its number where it has none.
+fn write_type<W: fmt::Write>(f: &mut fmt::Formatter<W>, number: u16) -> fmt::Result {
+    match message_name(number) {
+        Some(name) => write_name(f, name),
+        None => write_number(f, " of type ", u64::from(number)),
     }
 }
 
-/// The type of a message: its name, or its number where it has none.
-#[derive(Clone, Copy)]
-struct MessageType(u16);
-
-impl fmt::Display for MessageType {
-    fn fmt<W: fmt::Write>(&self, f: &mut fmt::Formatter<W>) -> fmt::Result {
-        let number = self.0;
-        match message_name(number) {
-            Some((front, end)) => write!(f, " {front}{end}"),
-            None => write!(f, " of type {number}"),
-        }
+/// Writes the number of an attribute behind a text, and its name where it has one.
+fn write_attribute<W: fmt::Write>(
+    f: &mut fmt::Formatter<W>,
+    text: &str,
+    context: Ctx,
+    number: u16,
+) -> fmt::Result {
+    write_number(f, text, u64::from(number))?;
+    match attribute_name(context, number) {
+        Some(name) => write_name(f, name),
+        None => Ok(()),
     }
 }
 
@@ -45,11 +48,6 @@ impl<'a> Subject<'a> {
     fn message_count(self) -> usize {
         let events = self.events.iter();
         events.filter(|event| event.sort == SORT_MESSAGE).count()
-    }
-
-    /// The number of a message that begins here, counted from 1.
-    fn next_number(self) -> usize {
-        self.message_count().saturating_add(1)
     }
 
     /// The message in which it lies: the last before it.
@@ -83,28 +81,22 @@ impl<'a> Subject<'a> {
 
     /// Writes what it is.
     fn write_kind<W: fmt::Write>(self, f: &mut fmt::Formatter<W>) -> fmt::Result {
-        let BrokenHead {
-            kind,
-            level,
-            number,
-            ..
-        } = self.head;
-        match (kind, number) {
-            (HeadKind::Message, Some(number)) => {
-                let (count, name) = (self.next_number(), MessageType(number));
-                write!(f, "message {count}{name}")
-            }
-            (HeadKind::Message, None) => {
-                let count = self.next_number();
-                write!(f, "message {count}")
+        match (self.head.kind, self.head.number) {
+            (HeadKind::Message, number) => {
+                let count = self.message_count() as u64;
+                write_number(f, "message ", count.saturating_add(1))?;
+                return match number {
+                    Some(number) => write_type(f, number),
+                    None => Ok(()),
+                };
             }
             (HeadKind::Attribute, Some(number)) => {
-                let name = Named(attribute_name(self.context(), number));
-                write!(f, "attribute {number}{name} at level {level}")
+                write_attribute(f, "attribute ", self.context(), number)?
             }
-            (HeadKind::Attribute, None) => write!(f, "attribute at level {level}"),
-            (HeadKind::NextHop, _) => write!(f, "next hop at level {level}"),
+            (HeadKind::Attribute, None) => f.write_str("attribute")?,
+            (HeadKind::NextHop, _) => f.write_str("next hop")?,
         }
+        write_number(f, " at level ", u64::from(self.head.level))
     }
 
     /// Writes the heads in which it lies, from the message on.
@@ -112,36 +104,33 @@ impl<'a> Subject<'a> {
         let Some(message) = self.message() else {
             return Ok(());
         };
-        let (count, place) = (self.message_count(), message.place);
-        let name = MessageType(message.number);
-        write!(f, ", in message {count}{name} at {place}")?;
+        write_number(f, ", in message ", self.message_count() as u64)?;
+        write_type(f, message.number)?;
+        write_number(f, " at ", u64::from(message.place))?;
         let mut context = context_inside(*message, Ctx::Plain);
         for level in 0..self.head.level {
             let Some(event) = self.outer(level) else {
                 return Ok(());
             };
-            let (number, place) = (event.number, event.place);
             if event.sort == SORT_NEXT_HOP {
-                write!(f, ", next hop at {place}")?;
+                f.write_str(", next hop")?;
             } else {
-                let name = Named(attribute_name(context, number));
-                write!(f, ", attribute {number}{name} at {place}")?;
+                write_attribute(f, ", attribute ", context, event.number)?;
             }
+            write_number(f, " at ", u64::from(event.place))?;
             context = context_inside(*event, context);
         }
         Ok(())
     }
-}
 
-/// What it is, its length, the bytes that are left for it, and the heads in which it lies.
-impl fmt::Display for Subject<'_> {
-    fn fmt<W: fmt::Write>(&self, f: &mut fmt::Formatter<W>) -> fmt::Result {
+    /// Writes what it is, its length, the bytes that are left for it, and the heads in which it lies.
+    pub(crate) fn write<W: fmt::Write>(self, f: &mut fmt::Formatter<W>) -> fmt::Result {
         self.write_kind(f)?;
         if let Some(len) = self.head.len {
-            write!(f, " of length {len}")?;
+            write_number(f, " of length ", u64::from(len))?;
         }
-        let left = self.head.left;
-        write!(f, ", {left} bytes left")?;
+        write_number(f, ", ", u64::from(self.head.left))?;
+        f.write_str(" bytes left")?;
         match self.head.kind {
             HeadKind::Message => Ok(()),
             HeadKind::Attribute | HeadKind::NextHop => self.write_way(f),

@@ -1,9 +1,12 @@
-//! Whether what is printed goes to a terminal.
+//! Whether what is printed goes to a terminal, and whether it is coloured.
 
+use crate::arguments::{Color, Format};
+use rtnl::RowFormat;
+use std::env::{self, VarError};
 use std::fs;
 
 /// What standard output is, as proc(5) has it.
-pub(crate) const STDOUT: &str = "/proc/self/fd/1";
+const STDOUT: &str = "/proc/self/fd/1";
 
 /// The same of standard error.
 pub(crate) const STDERR: &str = "/proc/self/fd/2";
@@ -19,5 +22,32 @@ pub(crate) fn is_terminal(rt: &HostRuntime, stream: &str) -> bool {
             TERMINALS.iter().any(|front| name.starts_with(*front))
         }
         Err(_) => false,
+    }
+}
+
+/// Whether the variable NO_COLOR is set to any text.
+fn is_unwanted(rt: &HostRuntime) -> bool {
+    match env::var(rt, "NO_COLOR") {
+        Ok(text) => !text.is_empty(),
+        Err(VarError::NotPresent) => false,
+        Err(VarError::NotUnicode | VarError::OutOfMemory) => true,
+    }
+}
+
+/// Whether text is coloured.
+pub(crate) fn is_coloured(rt: &HostRuntime, color: Color) -> bool {
+    match color {
+        Color::Auto => is_terminal(rt, STDOUT) && !is_unwanted(rt),
+        Color::Always => true,
+        Color::Never => false,
+    }
+}
+
+/// How the rows of bytes are printed.
+pub(crate) fn row_format(rt: &HostRuntime, color: Color, format: Format) -> RowFormat {
+    match format {
+        Format::Json => RowFormat::Json,
+        Format::Text if is_coloured(rt, color) => RowFormat::Coloured,
+        Format::Text => RowFormat::Text,
     }
 }
