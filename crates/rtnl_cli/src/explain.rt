@@ -75,12 +75,12 @@ fn hint_of_fault(input: &[u8], number: u32, line: &[u8], fault: LineFault) -> &'
 }
 
 /// Writes what is wrong with the line of this number, and what that tells.
-fn say_fault(
+fn say_fault<'a>(
     rt: &HostRuntime,
-    name: Name<'_>,
+    name: Name<'a>,
     number: u64,
     fault: LineFault,
-    hint: &str,
+    hint: &'a str,
 ) -> io::Result<()> {
     match fault {
         LineFault::Character { column, byte } => Errors(rt).say(&[
@@ -147,11 +147,11 @@ fn rule(reason: Reason) -> &'static str {
 }
 
 /// Writes what the head is that breaks a rule at a datagram's first fault, and where it lies.
-fn explain_head(
+fn explain_head<'a>(
     rt: &HostRuntime,
     number: usize,
-    datagram: &[u8],
-    subject: Subject<'_>,
+    datagram: &'a [u8],
+    subject: Subject<'a>,
 ) -> io::Result<()> {
     let fault = subject.head.fault;
     Errors(rt).say(&[

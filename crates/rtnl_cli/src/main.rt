@@ -168,13 +168,14 @@ fn followed_status(rt: &HostRuntime, ended: Ended, is_spoilt: bool) -> ExitCode 
     followed(counted, status)
 }
 
-/// Follows a recording as it comes; what is printed goes to standard output.
-fn perform_follow(rt: &HostRuntime, how: &Follow, explain: bool, file: Option<&str>) -> ExitCode {
-    let name = Name(file);
-    let mut reading = match Reading::open(rt, file) {
-        Ok(reading) => reading,
-        Err(error) => return unread(rt, name, error),
-    };
+/// Follows a recording as it is read; what is printed goes to standard output.
+fn follow_over(
+    rt: &HostRuntime,
+    name: Name<'_>,
+    mut reading: Reading<'_>,
+    how: &Follow,
+    explain: bool,
+) -> ExitCode {
     let mut writer = standard_output(rt);
     let mut source = ReadSource::new(&mut reading);
     let mut sink = WriteSink::new(&mut writer);
@@ -198,6 +199,15 @@ fn perform_follow(rt: &HostRuntime, how: &Follow, explain: bool, file: Option<&s
             };
             ended(rt, name, Err(fault), causes)
         }
+    }
+}
+
+/// Follows a recording as it comes.
+fn perform_follow(rt: &HostRuntime, how: &Follow, explain: bool, file: Option<&str>) -> ExitCode {
+    let name = Name(file);
+    match Reading::open(rt, file) {
+        Ok(reading) => follow_over(rt, name, reading, how, explain),
+        Err(error) => unread(rt, name, error),
     }
 }
 

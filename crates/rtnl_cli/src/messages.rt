@@ -12,7 +12,7 @@ use std::io::{self, Write};
 use std::process::ExitCode;
 
 /// Names the command that shows this file, on standard error.
-fn name_show(rt: &HostRuntime, dashes: &str, file: &str) -> io::Result<()> {
+fn name_show<'a>(rt: &HostRuntime, dashes: &'a str, file: &'a str) -> io::Result<()> {
     let quote = if file.is_empty() || file.contains(char::is_whitespace) {
         "\""
     } else {
