@@ -1,0 +1,329 @@
+//! The tables, and how they are read. `format/values.py` writes the blocks in `links`, `traffic`,
+//! `structs`, `names` and `choices` from the rows of `format/`.
+//!
+//! A block is written in braces: what it says of itself, its first row and how many rows it has;
+//! and behind a semicolon its rows. A name stands behind its place in the text of all names.
+
+ghost use Rattle.std.specs.Prelude.{◌≡◌, slice_get};
+ghost use Rattle.nl_values.specs.Tables.{IsName, IsPrefix, Says, row_at, row_in};
+
+mod choices;
+mod links;
+mod names;
+mod structs;
+mod traffic;
+
+use crate::choice::Choice;
+use crate::format::Format::{
+    Array, Bits, Bytes, Chosen, Counters, Fields, Flag, Headed, Hops, Ip, Ipv4, Ipv6, List, Mac,
+    Series, Text, Unsigned, Value,
+};
+use crate::format::{Format, Number, Selector};
+use crate::names::Names;
+use crate::set::{Attribute, Set};
+use crate::structs::Struct;
+use choices::choices;
+use links::links;
+use names::names;
+use structs::structs;
+use traffic::traffic;
+
+const U8: Format = Format::Integer(Number::U8);
+const U16: Format = Format::Integer(Number::U16);
+const U32: Format = Format::Integer(Number::U32);
+const U64: Format = Format::Integer(Number::U64);
+const I8: Format = Format::Integer(Number::I8);
+const I16: Format = Format::Integer(Number::I16);
+const I32: Format = Format::Integer(Number::I32);
+const I64: Format = Format::Integer(Number::I64);
+const NETWORK_U16: Format = Format::Integer(Number::NetworkU16);
+const NETWORK_U32: Format = Format::Integer(Number::NetworkU32);
+const NETWORK_U64: Format = Format::Integer(Number::NetworkU64);
+
+/// A part of a text: its offset, and its length.
+#[derive(Clone, Copy)]
+pub(crate) struct Label {
+    pub(crate) at: u16,
+    pub(crate) len: u8,
+}
+
+/// A set: what its names begin with, the number of its first attribute, and its rows.
+#[derive(Clone, Copy)]
+pub(crate) struct SetRow {
+    pub(crate) prefix: Label,
+    pub(crate) first: u16,
+    pub(crate) from: u16,
+    pub(crate) count: u16,
+}
+
+/// An attribute.
+#[derive(Clone, Copy)]
+pub(crate) struct AttributeRow {
+    pub(crate) label: Label,
+    pub(crate) format: Format,
+}
+
+/// A struct: the least and the most bytes that it has, and its fields.
+#[derive(Clone, Copy)]
+pub(crate) struct StructRow {
+    pub(crate) least: u16,
+    pub(crate) most: u16,
+    pub(crate) from: u16,
+    pub(crate) count: u16,
+}
+
+/// A field: its name, its offset, its size and its format.
+#[derive(Clone, Copy)]
+pub(crate) struct FieldRow {
+    pub(crate) label: Label,
+    pub(crate) place: u16,
+    pub(crate) size: u16,
+    pub(crate) format: Format,
+}
+
+/// An enumeration, or bits: what the names begin with, and the names.
+#[derive(Clone, Copy)]
+pub(crate) struct NamesRow {
+    pub(crate) prefix: Label,
+    pub(crate) from: u16,
+    pub(crate) count: u16,
+}
+
+/// A number with a name.
+#[derive(Clone, Copy)]
+pub(crate) struct NamedRow {
+    pub(crate) label: Label,
+    pub(crate) number: u32,
+}
+
+/// What a kind is.
+#[derive(Clone, Copy)]
+pub(crate) enum Kind {
+    Text,
+    Number,
+}
+
+/// A sub-message: what its kind is, and what it is where no case has that kind.
+#[derive(Clone, Copy)]
+pub(crate) struct ChoiceRow {
+    pub(crate) kind: Kind,
+    pub(crate) other: Format,
+    pub(crate) from: u16,
+    pub(crate) count: u16,
+}
+
+/// What a sub-message is at a kind, which is a text or a number.
+#[derive(Clone, Copy)]
+pub(crate) struct CaseRow {
+    pub(crate) label: Label,
+    pub(crate) number: u16,
+    pub(crate) format: Format,
+}
+
+macro_rules! text_of_sets {
+    ($({ $place:literal $prefix:literal $first:literal $from:literal $count:literal;
+        $($at:literal $name:literal $format:expr),* })*) => {
+        concat!($($prefix, $($name),*),*)
+    };
+}
+
+macro_rules! sets {
+    ($({ $place:literal $prefix:literal $first:literal $from:literal $count:literal;
+        $($at:literal $name:literal $format:expr),* })*) => {
+        [$(SetRow {
+            prefix: Label { at: $place, len: $prefix.len() as u8 },
+            first: $first,
+            from: $from,
+            count: $count,
+        }),*]
+    };
+}
+
+macro_rules! attributes {
+    ($({ $place:literal $prefix:literal $first:literal $from:literal $count:literal;
+        $($at:literal $name:literal $format:expr),* })*) => {
+        [$($(AttributeRow {
+            label: Label { at: $at, len: $name.len() as u8 },
+            format: $format,
+        }),*),*]
+    };
+}
+
+macro_rules! text_of_structs {
+    ($({ $least:literal $most:literal $from:literal $count:literal;
+        $($at:literal $name:literal $place:literal $size:literal $format:expr),* })*) => {
+        concat!($($($name),*),*)
+    };
+}
+
+macro_rules! struct_rows {
+    ($({ $least:literal $most:literal $from:literal $count:literal;
+        $($at:literal $name:literal $place:literal $size:literal $format:expr),* })*) => {
+        [$(StructRow {
+            least: $least,
+            most: $most,
+            from: $from,
+            count: $count,
+        }),*]
+    };
+}
+
+macro_rules! fields {
+    ($({ $least:literal $most:literal $from:literal $count:literal;
+        $($at:literal $name:literal $place:literal $size:literal $format:expr),* })*) => {
+        [$($(FieldRow {
+            label: Label { at: $at, len: $name.len() as u8 },
+            place: $place,
+            size: $size,
+            format: $format,
+        }),*),*]
+    };
+}
+
+macro_rules! text_of_names {
+    ($({ $place:literal $prefix:literal $from:literal $count:literal;
+        $($at:literal $name:literal $number:literal),* })*) => {
+        concat!($($prefix, $($name),*),*)
+    };
+}
+
+macro_rules! names_rows {
+    ($({ $place:literal $prefix:literal $from:literal $count:literal;
+        $($at:literal $name:literal $number:literal),* })*) => {
+        [$(NamesRow {
+            prefix: Label { at: $place, len: $prefix.len() as u8 },
+            from: $from,
+            count: $count,
+        }),*]
+    };
+}
+
+macro_rules! named_rows {
+    ($({ $place:literal $prefix:literal $from:literal $count:literal;
+        $($at:literal $name:literal $number:literal),* })*) => {
+        [$($(NamedRow {
+            label: Label { at: $at, len: $name.len() as u8 },
+            number: $number,
+        }),*),*]
+    };
+}
+
+macro_rules! text_of_choices {
+    ($({ $kind:ident $other:expr, $from:literal $count:literal;
+        $($at:literal $name:literal $number:literal $format:expr),* })*) => {
+        concat!($($($name),*),*)
+    };
+}
+
+macro_rules! choice_rows {
+    ($({ $kind:ident $other:expr, $from:literal $count:literal;
+        $($at:literal $name:literal $number:literal $format:expr),* })*) => {
+        [$(ChoiceRow {
+            kind: Kind::$kind,
+            other: $other,
+            from: $from,
+            count: $count,
+        }),*]
+    };
+}
+
+macro_rules! cases {
+    ($({ $kind:ident $other:expr, $from:literal $count:literal;
+        $($at:literal $name:literal $number:literal $format:expr),* })*) => {
+        [$($(CaseRow {
+            label: Label { at: $at, len: $name.len() as u8 },
+            number: $number,
+            format: $format,
+        }),*),*]
+    };
+}
+
+/// The names of all attributes, and their prefixes.
+pub(crate) static NAMES_OF_ATTRIBUTES: &str = links!(traffic text_of_sets);
+
+/// The sets.
+pub(crate) static SETS: [SetRow; 272] = links!(traffic sets);
+
+/// The attributes of all sets.
+pub(crate) static ATTRIBUTES: [AttributeRow; 1886] = links!(traffic attributes);
+
+/// The names of all fields.
+pub(crate) static NAMES_OF_FIELDS: &str = structs!(text_of_structs);
+
+/// The structs.
+pub(crate) static STRUCTS: [StructRow; 169] = structs!(struct_rows);
+
+/// The fields of all structs.
+pub(crate) static FIELDS: [FieldRow; 814] = structs!(fields);
+
+/// The names of all values and bits, and their prefixes.
+pub(crate) static NAMES_OF_VALUES: &str = names!(text_of_names);
+
+/// The enumerations and the bits.
+pub(crate) static NAMES: [NamesRow; 112] = names!(names_rows);
+
+/// The values of all enumerations, and all bits.
+pub(crate) static VALUES: [NamedRow; 787] = names!(named_rows);
+
+/// The names of all kinds.
+pub(crate) static NAMES_OF_KINDS: &str = choices!(text_of_choices);
+
+/// The sub-messages.
+pub(crate) static CHOICES: [ChoiceRow; 10] = choices!(choice_rows);
+
+/// The cases of all sub-messages.
+pub(crate) static CASES: [CaseRow; 136] = choices!(cases);
+
+/// The name that a label says.
+fn name_in(text: &'static str, label: Label) -> &'static str
+    ensures { IsName text.entry.now label result.now }
+{
+    let from = label.at as usize;
+    match text.get(from..from + label.len as usize) {
+        Some(name) => name,
+        None => "",
+    }
+}
+
+/// The prefix of a set.
+pub(crate) fn prefix_in(sets: &[SetRow], text: &'static str, set: u16) -> &'static str
+    ensures { IsPrefix sets.now text.entry.now set result.now }
+{
+    match sets.get(set as usize) {
+        Some(row) => name_in(text, row.prefix),
+        None => "",
+    }
+}
+
+impl SetRow {
+    /// The row of this number. An indexed array has no prefix, and its first row for all numbers.
+    fn row(self, rows: &[AttributeRow], number: u16) -> Option<AttributeRow>
+        ensures { result ≡ row_in self rows.now number }
+    {
+        let from = self.from as usize;
+        if self.prefix.len == 0 {
+            return rows.get(from).copied();
+        }
+        if number < self.first || number - self.first >= self.count {
+            return None;
+        }
+        rows.get(from + (number - self.first) as usize).copied()
+    }
+}
+
+/// What is said of the attribute of this number in a set.
+pub(crate) fn attribute_in(
+    sets: &[SetRow],
+    rows: &[AttributeRow],
+    text: &'static str,
+    set: u16,
+    number: u16,
+) -> Option<Attribute>
+    ensures { Says text.entry.now (row_at sets.now rows.now set number) result }
+{
+    let row = sets.get(set as usize)?.row(rows, number)?;
+    Some(Attribute {
+        name: name_in(text, row.label),
+        format: row.format,
+    })
+}
