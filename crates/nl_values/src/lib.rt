@@ -10,13 +10,21 @@
 
 mod choice;
 mod format;
+mod meaning;
 mod names;
+mod numbers;
+mod reading;
+mod rows;
 mod set;
 mod structs;
 mod tables;
+mod text;
 
 pub use choice::Choice;
 pub use format::{Format, Number, Selector};
+pub use meaning::{Meaning, Reading};
 pub use names::Names;
+pub use numbers::Integer;
+pub use reading::read_meaning;
 pub use set::{Attribute, Set};
 pub use structs::{Field, Struct};

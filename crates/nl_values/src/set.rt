@@ -1,9 +1,10 @@
 //! Sets of attributes.
 
-ghost use Rattle.nl_values.specs.Attributes.{HasPrefix, IsAttribute};
+ghost use Rattle.nl_values.specs.Known.{HasPrefix, IsAttribute};
 
 use crate::format::Format;
-use crate::tables::{ATTRIBUTES, NAMES_OF_ATTRIBUTES, SETS, attribute_in, prefix_in};
+use crate::rows::{attribute_in, prefix_in};
+use crate::tables::{ATTRIBUTES, NAMES_OF_ATTRIBUTES, SETS};
 
 /// A set of attributes, by its number in the tables.
 #[derive(Clone, Copy, Debug, PartialEq, Eq)]

@@ -1,11 +1,8 @@
-//! The tables, and how they are read. `format/values.py` writes the blocks in `links`, `traffic`,
+//! The tables. `format/values.py` writes the blocks in `links`, `traffic`,
 //! `structs`, `names` and `choices` from the rows of `format/`.
 //!
 //! A block is written in braces: what it says of itself, its first row and how many rows it has;
 //! and behind a semicolon its rows. A name stands behind its place in the text of all names.
-
-ghost use Rattle.std.specs.Prelude.{◌≡◌, slice_get};
-ghost use Rattle.nl_values.specs.Tables.{IsName, IsPrefix, Says, row_at, row_in};
 
 mod choices;
 mod links;
@@ -20,7 +17,10 @@ use crate::format::Format::{
 };
 use crate::format::{Format, Number, Selector};
 use crate::names::Names;
-use crate::set::{Attribute, Set};
+use crate::rows::{
+    AttributeRow, CaseRow, ChoiceRow, FieldRow, Kind, Label, NamedRow, NamesRow, SetRow, StructRow,
+};
+use crate::set::Set;
 use crate::structs::Struct;
 use choices::choices;
 use links::links;
@@ -39,86 +39,6 @@ const I64: Format = Format::Integer(Number::I64);
 const NETWORK_U16: Format = Format::Integer(Number::NetworkU16);
 const NETWORK_U32: Format = Format::Integer(Number::NetworkU32);
 const NETWORK_U64: Format = Format::Integer(Number::NetworkU64);
-
-/// A part of a text: its offset, and its length.
-#[derive(Clone, Copy)]
-pub(crate) struct Label {
-    pub(crate) at: u16,
-    pub(crate) len: u8,
-}
-
-/// A set: what its names begin with, the number of its first attribute, and its rows.
-#[derive(Clone, Copy)]
-pub(crate) struct SetRow {
-    pub(crate) prefix: Label,
-    pub(crate) first: u16,
-    pub(crate) from: u16,
-    pub(crate) count: u16,
-}
-
-/// An attribute.
-#[derive(Clone, Copy)]
-pub(crate) struct AttributeRow {
-    pub(crate) label: Label,
-    pub(crate) format: Format,
-}
-
-/// A struct: the least and the most bytes that it has, and its fields.
-#[derive(Clone, Copy)]
-pub(crate) struct StructRow {
-    pub(crate) least: u16,
-    pub(crate) most: u16,
-    pub(crate) from: u16,
-    pub(crate) count: u16,
-}
-
-/// A field: its name, its offset, its size and its format.
-#[derive(Clone, Copy)]
-pub(crate) struct FieldRow {
-    pub(crate) label: Label,
-    pub(crate) place: u16,
-    pub(crate) size: u16,
-    pub(crate) format: Format,
-}
-
-/// An enumeration, or bits: what the names begin with, and the names.
-#[derive(Clone, Copy)]
-pub(crate) struct NamesRow {
-    pub(crate) prefix: Label,
-    pub(crate) from: u16,
-    pub(crate) count: u16,
-}
-
-/// A number with a name.
-#[derive(Clone, Copy)]
-pub(crate) struct NamedRow {
-    pub(crate) label: Label,
-    pub(crate) number: u32,
-}
-
-/// What a kind is.
-#[derive(Clone, Copy)]
-pub(crate) enum Kind {
-    Text,
-    Number,
-}
-
-/// A sub-message: what its kind is, and what it is where no case has that kind.
-#[derive(Clone, Copy)]
-pub(crate) struct ChoiceRow {
-    pub(crate) kind: Kind,
-    pub(crate) other: Format,
-    pub(crate) from: u16,
-    pub(crate) count: u16,
-}
-
-/// What a sub-message is at a kind, which is a text or a number.
-#[derive(Clone, Copy)]
-pub(crate) struct CaseRow {
-    pub(crate) label: Label,
-    pub(crate) number: u16,
-    pub(crate) format: Format,
-}
 
 macro_rules! text_of_sets {
     ($({ $place:literal $prefix:literal $first:literal $from:literal $count:literal;
@@ -273,57 +193,3 @@ pub(crate) static CHOICES: [ChoiceRow; 10] = choices!(choice_rows);
 
 /// The cases of all sub-messages.
 pub(crate) static CASES: [CaseRow; 136] = choices!(cases);
-
-/// The name that a label says.
-fn name_in(text: &'static str, label: Label) -> &'static str
-    ensures { IsName text.entry.now label result.now }
-{
-    let from = label.at as usize;
-    match text.get(from..from + label.len as usize) {
-        Some(name) => name,
-        None => "",
-    }
-}
-
-/// The prefix of a set.
-pub(crate) fn prefix_in(sets: &[SetRow], text: &'static str, set: u16) -> &'static str
-    ensures { IsPrefix sets.now text.entry.now set result.now }
-{
-    match sets.get(set as usize) {
-        Some(row) => name_in(text, row.prefix),
-        None => "",
-    }
-}
-
-impl SetRow {
-    /// The row of this number. An indexed array has no prefix, and its first row for all numbers.
-    fn row(self, rows: &[AttributeRow], number: u16) -> Option<AttributeRow>
-        ensures { result ≡ row_in self rows.now number }
-    {
-        let from = self.from as usize;
-        if self.prefix.len == 0 {
-            return rows.get(from).copied();
-        }
-        if number < self.first || number - self.first >= self.count {
-            return None;
-        }
-        rows.get(from + (number - self.first) as usize).copied()
-    }
-}
-
-/// What is said of the attribute of this number in a set.
-pub(crate) fn attribute_in(
-    sets: &[SetRow],
-    rows: &[AttributeRow],
-    text: &'static str,
-    set: u16,
-    number: u16,
-) -> Option<Attribute>
-    ensures { Says text.entry.now (row_at sets.now rows.now set number) result }
-{
-    let row = sets.get(set as usize)?.row(rows, number)?;
-    Some(Attribute {
-        name: name_in(text, row.label),
-        format: row.format,
-    })
-}

@@ -1,4 +1,4 @@
-use Rattle.nl_values.specs.Attributes.{IsAttribute}
+use Rattle.nl_values.specs.Known.{IsAttribute}
 use Rattle.nl_values.proofs.set.Set.attribute.Goals as goal
 
 pub returns : goal.returns

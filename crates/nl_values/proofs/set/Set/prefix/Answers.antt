@@ -1,4 +1,4 @@
-use Rattle.nl_values.specs.Attributes.{HasPrefix}
+use Rattle.nl_values.specs.Known.{HasPrefix}
 use Rattle.nl_values.proofs.set.Set.prefix.Goals as goal
 
 pub returns : goal.returns
