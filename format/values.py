@@ -5,7 +5,7 @@ in its table. The tables are laid out here, and `rt fmt` leaves them so.
 import re
 from typing import Callable, Dict, Iterator, List, NamedTuple, Optional
 
-from named import CONTEXTS, SIZES, Blocks, Writer, numbered, put_lines
+from named import CONTEXTS, SIZES, Blocks, Missing, Writer, numbered, put_lines
 from rows import Block, Row
 
 # The most characters of a line.
@@ -15,6 +15,9 @@ BIG = "byte-order=big-endian"
 ADDRESSES = {"mac": "Mac", "ipv4": "Ip", "ipv6": "Ipv6"}
 SIMPLE = {"string": "Text", "flag": "Flag", "uint": "Unsigned"}
 LONGEST = 65535
+MESSAGES = "messages of families"
+# The sets that have a constant beside those of `CONTEXTS`.
+FURTHER = {"MESSAGES": MESSAGES, "EXTACK": "extack-attrs"}
 
 
 class Known(NamedTuple):
@@ -57,8 +60,15 @@ def struct_of(kind: str) -> Block:
     return Block("struct", kind, {"size": str(SIZES[kind])}, [Row("0", kind, [kind])])
 
 
+def messages_of(block: Block) -> Block:
+    """Message types as a set: what stands behind the header is a head and attributes."""
+    rows = [Row(it.value, it.name, ["message", *it.words]) for it in block.rows]
+    return Block("set", MESSAGES, block.said, rows)
+
+
 def made(blocks: Blocks) -> Iterator[Block]:
     """The blocks that rows need beside those that they name."""
+    yield messages_of(blocks["families"])
     for row in (it for block in blocks.values() for it in block.rows if it.words):
         kind, enum, bits = row.words[0], row.said("enum"), row.said("bits")
         if kind == "indexed-array":
@@ -114,12 +124,15 @@ class Speller(NamedTuple):
             return f"Bits(Number::{number}, {self.block('Names', 'bits of ' + row.said('bits'))})"
         return number.replace("Network", "NETWORK_")
 
+    def headed(self, struct: Optional[str], nested: Optional[str]) -> str:
+        return f"Headed({self.block('Struct', struct)}, {self.block('Set', nested)})"
+
     def binary(self, row: Row) -> str:
         struct, nested, kind = (row.said(it) for it in ("struct", "nested-attributes", "sub-type"))
         if struct == "rtnexthop":
             return f"Hops({self.block('Set', nested)})"
         if nested:
-            return f"Headed({self.block('Struct', struct or kind)}, {self.block('Set', nested)})"
+            return self.headed(struct or kind, nested)
         if struct and self.known.blocks[struct].sort == "array":
             number = self.number(self.known.blocks[struct].said["type"], row)
             return f"Counters(Number::{number}, {self.block('Names', struct)})"
@@ -135,9 +148,11 @@ class Speller(NamedTuple):
             return "Selector::Family"
         if name in self.beside:
             return f"Selector::Beside({self.beside[name]})"
-        above = next(it for block in self.known.blocks.values() for it in block.rows
-                     if block.sort == "set" and it.name == name)
-        return f"Selector::Above({above.number})"
+        sets = (it for it in self.known.blocks.values() if it.sort == "set")
+        numbers = [it.number for block in sets for it in block.rows if it.name == name]
+        if not numbers:
+            raise Missing(f"{name} has no row")
+        return f"Selector::Above({numbers[0]})"
 
     def format(self, row: Row) -> str:
         kind = row.words[0]
@@ -148,7 +163,9 @@ class Speller(NamedTuple):
         if kind == "indexed-array":
             name = f"each of {row.name}"
             return self.block("List(Set", f"tc-{name}" if row.name.startswith("TCA_") else name) + ")"
-        if kind == "sub-message" and "struct" not in "".join(row.words):
+        if kind == "message":
+            return self.headed(row.said("head"), row.said("set"))
+        if kind == "sub-message" and not row.said("struct"):
             choice = self.block("Choice", row.said("sub-message"))
             return f"Chosen({choice}, {self.selector(row.said('selector') or '')})"
         if kind == "bitfield32":
@@ -160,7 +177,7 @@ class Speller(NamedTuple):
         """What a row of a sub-message says."""
         struct, of = row.said("struct"), row.said("set")
         if struct and of:
-            return f"Headed({self.block('Struct', struct)}, {self.block('Set', of)})"
+            return self.headed(struct, of)
         if struct:
             return f"Fields({self.block('Struct', struct)})"
         return f"List({self.block('Set', of)})" if of else "Flag"
@@ -212,7 +229,7 @@ def rows_of(block: Block, spell: Speller, text: Text) -> Iterator[str]:
     number = block.rows[0].number
     for row in block.rows:
         for _ in range(number, row.number):
-            yield f"{text.put('')} Bytes"
+            yield f'{text.put("")} Bytes'
         yield f"{text.put(cut(row, block))} {spell.format(row)}"
         number = row.number + 1
 
@@ -284,10 +301,26 @@ def table(lines: Callable[[Blocks], str]) -> Writer:
         r"(?<= \$next! \{ \$\(\$rest\)\*\n).*?(?=^    \} \};$)", text, lines(blocks))
 
 
+def counted(lines: str) -> List[int]:
+    """How many blocks these lines have, and how many rows."""
+    rows = [int(it) for it in re.findall(r"(\d+);", lines)]
+    return [len(rows), sum(rows)]
+
+
+def counts(text: str, blocks: Blocks) -> str:
+    """How many blocks and rows the tables have, in their order there."""
+    parts = sets(blocks)
+    of = "".join(parts.values()), structs(blocks), names(blocks), choices(blocks)
+    many = iter([it for lines in of for it in counted(lines)])
+    table = re.compile(r"^pub\(crate\) static \w+: \[\w+; (?P<number>\d+)\]", re.M)
+    return numbered(table, text, lambda _: next(many))
+
+
 def constants(text: str, blocks: Blocks) -> str:
-    """The sets whose attributes rtnl has names for."""
+    """The sets that have a constant."""
     places = known(blocks).places
     of = {it.name.upper(): places[it.set] for it in CONTEXTS}
+    of.update({name: places[it] for name, it in FURTHER.items()})
     pattern = re.compile(r"pub const (?P<name>\w+): Set = Set\((?P<number>\d+)\);")
     return numbered(pattern, text, lambda it: of[it["name"]])
 
@@ -295,6 +328,7 @@ def constants(text: str, blocks: Blocks) -> str:
 FOLDER = "crates/nl_values/src"
 FILES: Dict[str, Writer] = {
     f"{FOLDER}/set.rt": constants,
+    f"{FOLDER}/tables/mod.rt": counts,
     f"{FOLDER}/tables/links.rt": table(lambda blocks: sets(blocks)[False]),
     f"{FOLDER}/tables/traffic.rt": table(lambda blocks: sets(blocks)[True]),
     f"{FOLDER}/tables/structs.rt": table(structs),

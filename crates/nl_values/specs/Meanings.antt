@@ -114,7 +114,7 @@ module _ (o : Order) (depth level : ℕ) where
   SaysHeaded None of set bs m = sense_of m ≡ unknown
   SaysHeaded (Some (least, most)) of set bs m =
       Chooses ((least ≤ length bs) × AreAttributes (drop (aligned least) bs))
-          (sense_of m ≡ headed of set (aligned least)) (sense_of m ≡ unknown)
+      (sense_of m ≡ headed of set (aligned least)) (sense_of m ≡ unknown)
 
   -- and what is visited for that
   abbrev pub VisitsHeaded : Option (ℕ × ℕ) → List ℕ → ℕ → Type 0

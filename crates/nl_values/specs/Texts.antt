@@ -1,5 +1,5 @@
 -- Which payloads are texts.
-use Rattle.std.specs.Prelude.{◌≡◌, ℕ, ◌==◌, ◌&&◌, not, nat_lt, nat_le, Bool, true, false, IsTrue, List, [], ◌∷◌, length, drop, Option, Some, None}
+use Rattle.std.specs.Prelude.{◌≡◌, ℕ, ◌==◌, ◌&&◌, not, nat_lt, nat_le, Bool, true, IsTrue, List, [], ◌∷◌, drop, Option, Some, None}
 use Rattle.std.specs.List.{list_all, before_first, position_or_len}
 use Rattle.std.specs.Str.{IsUtf8}
 use denote.Ref.{Bor}

@@ -215,22 +215,22 @@ fn scan_inside(region: &[u8], order: Order, level: u8, depth: Depth) -> Scan
             visits: 0,
         };
     }
-    let Tally { result, visits } =
-        scan_list_ordered(region, 0, Ctx::Plain, level + 1, depth, order);
+    let Tally { result, visits } = scan_list_ordered(
+        region,
+        0,
+        Ctx::Plain,
+        level + 1,
+        depth,
+        order,
+    );
     Scan {
         is_list: result.is_ok(),
         visits,
     }
 }
 
-fn read_attributes(
-    set: Set,
-    bytes: &[u8],
-    order: Order,
-    level: u8,
-    depth: Depth,
-) -> Reading<'_>
-    requires { length bytes.entry.now ≤ fixed.LONGEST_REGION }
+fn read_attributes(set: Set, bytes: &[u8], order: Order, level: u8, depth: Depth) -> Reading<'_>
+    requires { length bytes.now ≤ fixed.LONGEST_REGION }
     ensures means { Chooses (AreAttributes order depth level bytes.entry.now)
         (sense_of result.meaning ≡ sense.list set) (sense_of result.meaning ≡ unknown) }
     ensures visits { Visits order depth level bytes.entry.now result.visits }
@@ -265,7 +265,7 @@ fn read_behind(
     level: u8,
     depth: Depth,
 ) -> Reading<'_>
-    requires { length bytes.entry.now ≤ fixed.LONGEST_REGION }
+    requires { length bytes.now ≤ fixed.LONGEST_REGION }
     ensures means { SaysHeaded order depth level (Some (least, least)) of set bytes.entry.now
         result.meaning }
     ensures visits { VisitsHeaded order depth level (Some (least, least)) bytes.entry.now
@@ -294,7 +294,7 @@ fn read_headed(
     level: u8,
     depth: Depth,
 ) -> Reading<'_>
-    requires { length bytes.entry.now ≤ fixed.LONGEST_REGION }
+    requires { length bytes.now ≤ fixed.LONGEST_REGION }
     ensures means { SaysHeaded order depth level (bounds_of of) of set bytes.entry.now
         result.meaning }
     ensures visits { VisitsHeaded order depth level (bounds_of of) bytes.entry.now result.visits }
@@ -321,7 +321,7 @@ fn read_by<'a>(
     level: u8,
     depth: Depth,
 ) -> Reading<'a>
-    requires { length bytes.entry.now ≤ fixed.LONGEST_REGION }
+    requires { length bytes.now ≤ fixed.LONGEST_REGION }
     ensures means { Says order depth level bytes.entry.now format result.meaning }
     ensures visits { VisitsFor order depth level bytes.entry.now format result.visits }
     ensures bound { result.visits ≤ (depth - level) * length bytes.entry.now }
@@ -372,7 +372,7 @@ pub fn read_meaning<'a>(
     level: u8,
     depth: Depth,
 ) -> Reading<'a>
-    requires { length bytes.entry.now ≤ fixed.LONGEST_REGION }
+    requires { length bytes.now ≤ fixed.LONGEST_REGION }
     ensures means { Means order depth level bytes.entry.now format kind.now result.meaning }
     ensures visits { VisitsToRead order depth level bytes.entry.now format kind.now result.visits }
     // No byte is visited more often than there are levels below.

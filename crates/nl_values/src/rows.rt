@@ -325,9 +325,7 @@ pub(crate) fn format_in(
     match choices.get(of as usize) {
         Some(row) => {
             let from = row.from as usize;
-            let cases = cases
-                .get(from..from + row.count as usize)
-                .unwrap_or(&[]);
+            let cases = cases.get(from..from + row.count as usize).unwrap_or(&[]);
             case_in(cases, *row, text, order, kind)
         }
         None => Format::Bytes,

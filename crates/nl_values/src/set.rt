@@ -34,6 +34,11 @@ impl Set {
     pub const NEIGH: Set = Set(131);
     /// The attributes of a routing rule, `FRA_*`.
     pub const RULE: Set = Set(52);
+    /// The attributes of an acknowledgement or of an end of a dump, `NLMSGERR_ATTR_*`.
+    pub const EXTACK: Set = Set(51);
+    /// The types of the messages of rtnetlink, as `RTM_NEWLINK`. `Format::Headed` says which head
+    /// and which attributes a message of the type has.
+    pub const MESSAGES: Set = Set(169);
 
     /// What the kernel's names of its attributes begin with, as `IFLA_`.
     pub fn prefix(self) -> &'static str

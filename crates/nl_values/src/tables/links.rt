@@ -246,7 +246,7 @@ macro_rules! links {
     4518 "NETNS_IMMUTABLE" U8, 4533 "HEADROOM" U16, 4541 "TAILROOM" U16 }
     { 4549 "DPLL_A_" 1 481 1; 4556 "PIN_ID" U32 } // 62 link-dpll-pin-attrs
     // 63 link-offload-xstats
-    { 4562 "IFLA_OFFLOAD_XSTATS_" 1 482 3; 4582 "CPU_HIT" Bytes, 4589 "HW_S_INFO" List(Set(169)),
+    { 4562 "IFLA_OFFLOAD_XSTATS_" 1 482 3; 4582 "CPU_HIT" Bytes, 4589 "HW_S_INFO" List(Set(170)),
     4598 "L3_STATS" Fields(Struct(26)) }
     // 64 link-xstats-attrs
     { 4606 "LINK_XSTATS_TYPE_" 1 485 2; 4623 "BRIDGE" List(Set(33)), 4629 "BOND" List(Set(6)) }
@@ -267,7 +267,7 @@ macro_rules! links {
     // 69 linkinfo-bond-attrs
     { 4829 "IFLA_BOND_" 1 505 32; 4839 "MODE" Value(Number::U8, Names(48)),
     4843 "ACTIVE_SLAVE" U32, 4855 "MIIMON" U32, 4861 "UPDELAY" U32, 4868 "DOWNDELAY" U32,
-    4877 "USE_CARRIER" U8, 4888 "ARP_INTERVAL" U32, 4900 "ARP_IP_TARGET" List(Set(170)),
+    4877 "USE_CARRIER" U8, 4888 "ARP_INTERVAL" U32, 4900 "ARP_IP_TARGET" List(Set(171)),
     4913 "ARP_VALIDATE" U32, 4925 "ARP_ALL_TARGETS" U32, 4940 "PRIMARY" U32,
     4947 "PRIMARY_RESELECT" U8, 4963 "FAIL_OVER_MAC" U8,
     4976 "XMIT_HASH_POLICY" Value(Number::U8, Names(51)), 4992 "RESEND_IGMP" U32,
@@ -276,7 +276,7 @@ macro_rules! links {
     5083 "AD_SELECT" U8, 5092 "AD_INFO" List(Set(4)), 5099 "AD_ACTOR_SYS_PRIO" U16,
     5116 "AD_USER_PORT_KEY" U16, 5132 "AD_ACTOR_SYSTEM" Mac, 5147 "TLB_DYNAMIC_LB" U8,
     5161 "PEER_NOTIF_DELAY" U32, 5177 "AD_LACP_ACTIVE" U8, 5191 "MISSED_MAX" U8,
-    5201 "NS_IP6_TARGET" List(Set(171)), 5214 "COUPLED_CONTROL" U8 }
+    5201 "NS_IP6_TARGET" List(Set(172)), 5214 "COUPLED_CONTROL" U8 }
     // 70 linkinfo-bridge-attrs
     { 5229 "IFLA_BR_" 1 537 49; 5237 "FORWARD_DELAY" U32, 5250 "HELLO_TIME" U32,
     5260 "MAX_AGE" U32, 5267 "AGEING_TIME" U32, 5278 "STP_STATE" U32, 5287 "PRIORITY" U16,
@@ -453,7 +453,7 @@ macro_rules! links {
     8841 "HOPLIMIT" U8, 8849 "TC" U8, 8851 "FLAGS" NETWORK_U16, 8856 "PAD" Bytes,
     8859 "OPTS" List(Set(106)) }
     // 108 lwt-mpls-attrs
-    { 8863 "MPLS_IPTUNNEL_" 1 892 2; 8877 "DST" Fields(Struct(70)), 8880 "TTL" U8 }
+    { 8863 "MPLS_IPTUNNEL_" 1 892 2; 8877 "DST" Array(Struct(70)), 8880 "TTL" U8 }
     { 8883 "RPL_IPTUNNEL_" 1 894 1; 8896 "SRH" Fields(Struct(73)) } // 109 lwt-rpl-attrs
     { 8899 "SEG6_IPTUNNEL_" 1 895 1; 8913 "SRH" Fields(Struct(71)) } // 110 lwt-seg6-attrs
     // 111 lwt-seg6local-attrs
@@ -530,7 +530,7 @@ macro_rules! links {
     10100 "POLICY_IDX" U32, 10110 "POLICY_MAXTYPE" U32, 10124 "BITFIELD32_MASK" U32,
     10139 "PAD" Bytes, 10142 "MASK" U64 }
     // 135 nexthop-attrs
-    { 10146 "NHA_" 1 1018 17; 10150 "ID" U32, 10152 "GROUP" Fields(Struct(68)),
+    { 10146 "NHA_" 1 1018 17; 10150 "ID" U32, 10152 "GROUP" Array(Struct(68)),
     10157 "GROUP_TYPE" Value(Number::U16, Names(83)), 10167 "BLACKHOLE" Flag, 10176 "OIF" U32,
     10179 "GATEWAY" Ip, 10186 "ENCAP_TYPE" Value(Number::U16, Names(74)),
     10196 "ENCAP" Chosen(Choice(9), Selector::Beside(7)), 10201 "GROUPS" Flag, 10207 "MASTER" U32,
@@ -567,7 +567,7 @@ macro_rules! links {
     10686 "CACHEINFO" Fields(Struct(62)), 10695 "SESSION" Bytes, 10702 "MP_ALGO" Bytes,
     10709 "TABLE" Value(Number::U32, Names(69)), 10714 "MARK" U32,
     10718 "MFC_STATS" Fields(Struct(63)), 10727 "VIA" Fields(Struct(64)),
-    10730 "NEWDST" Fields(Struct(70)), 10736 "PREF" Value(Number::U8, Names(73)),
+    10730 "NEWDST" Array(Struct(70)), 10736 "PREF" Value(Number::U8, Names(73)),
     10740 "ENCAP_TYPE" Value(Number::U16, Names(74)),
     10750 "ENCAP" Chosen(Choice(9), Selector::Beside(21)), 10755 "EXPIRES" U32, 10762 "PAD" Bytes,
     10765 "UID" U32, 10768 "TTL_PROPAGATE" U8, 10781 "IP_PROTO" U8, 10789 "SPORT" U16,
@@ -649,9 +649,69 @@ macro_rules! links {
     { 12197 "IFLA_XDP_" 1 1211 8; 12206 "FD" I32, 12208 "ATTACHED" Value(Number::U8, Names(15)),
     12216 "FLAGS" Bits(Number::U32, Names(16)), 12221 "PROG_ID" U32, 12228 "DRV_PROG_ID" U32,
     12239 "SKB_PROG_ID" U32, 12250 "HW_PROG_ID" U32, 12260 "EXPECTED_FD" I32 }
-    { 12271 "" 0 1219 1; 12271 "" List(Set(53)) } // 169 each of IFLA_OFFLOAD_XSTATS_HW_S_INFO
-    { 12271 "" 0 1220 1; 12271 "" Ipv4 } // 170 each of IFLA_BOND_ARP_IP_TARGET
-    { 12271 "" 0 1221 1; 12271 "" Ipv6 } // 171 each of IFLA_BOND_NS_IP6_TARGET
+    // 169 messages of families
+    { 12271 "RTM_" 16 1219 107; 12275 "NEWLINK" Headed(Struct(5), Set(61)),
+    12282 "DELLINK" Headed(Struct(5), Set(61)), 12289 "GETLINK" Headed(Struct(5), Set(61)),
+    12296 "SETLINK" Headed(Struct(5), Set(61)), 12303 "NEWADDR" Headed(Struct(6), Set(0)),
+    12310 "DELADDR" Headed(Struct(6), Set(0)), 12317 "GETADDR" Headed(Struct(6), Set(0)),
+    12324 "" Bytes, 12324 "NEWROUTE" Headed(Struct(7), Set(145)),
+    12332 "DELROUTE" Headed(Struct(7), Set(145)), 12340 "GETROUTE" Headed(Struct(7), Set(145)),
+    12348 "" Bytes, 12348 "NEWNEIGH" Headed(Struct(8), Set(131)),
+    12356 "DELNEIGH" Headed(Struct(8), Set(131)), 12364 "GETNEIGH" Headed(Struct(8), Set(131)),
+    12372 "" Bytes, 12372 "NEWRULE" Headed(Struct(9), Set(52)),
+    12379 "DELRULE" Headed(Struct(9), Set(52)), 12386 "GETRULE" Headed(Struct(9), Set(52)),
+    12393 "" Bytes, 12393 "NEWQDISC" Headed(Struct(10), Set(195)),
+    12401 "DELQDISC" Headed(Struct(10), Set(195)), 12409 "GETQDISC" Headed(Struct(10), Set(195)),
+    12417 "" Bytes, 12417 "NEWTCLASS" Headed(Struct(10), Set(195)),
+    12426 "DELTCLASS" Headed(Struct(10), Set(195)),
+    12435 "GETTCLASS" Headed(Struct(10), Set(195)), 12444 "" Bytes,
+    12444 "NEWTFILTER" Headed(Struct(10), Set(195)),
+    12454 "DELTFILTER" Headed(Struct(10), Set(195)),
+    12464 "GETTFILTER" Headed(Struct(10), Set(195)), 12474 "" Bytes,
+    12474 "NEWACTION" Headed(Struct(11), Set(194)),
+    12483 "DELACTION" Headed(Struct(11), Set(194)),
+    12492 "GETACTION" Headed(Struct(11), Set(194)), 12501 "" Bytes,
+    12501 "NEWPREFIX" Headed(Struct(15), Set(142)), 12510 "" Bytes, 12510 "" Bytes,
+    12510 "" Bytes, 12510 "" Bytes, 12510 "" Bytes,
+    12510 "GETMULTICAST" Headed(Struct(6), Set(0)), 12522 "" Bytes, 12522 "" Bytes,
+    12522 "" Bytes, 12522 "GETANYCAST" Headed(Struct(6), Set(0)), 12532 "" Bytes,
+    12532 "NEWNEIGHTBL" Headed(Struct(12), Set(128)), 12543 "" Bytes,
+    12543 "GETNEIGHTBL" Headed(Struct(12), Set(128)),
+    12554 "SETNEIGHTBL" Headed(Struct(12), Set(128)),
+    12565 "NEWNDUSEROPT" Headed(Struct(16), Set(130)), 12577 "" Bytes, 12577 "" Bytes,
+    12577 "" Bytes, 12577 "NEWADDRLABEL" Headed(Struct(14), Set(1)),
+    12589 "DELADDRLABEL" Headed(Struct(14), Set(1)),
+    12601 "GETADDRLABEL" Headed(Struct(14), Set(1)), 12613 "" Bytes, 12613 "" Bytes,
+    12613 "" Bytes, 12613 "GETDCB" Headed(Struct(17), Set(37)),
+    12619 "SETDCB" Headed(Struct(17), Set(37)), 12625 "NEWNETCONF" Headed(Struct(13), Set(133)),
+    12635 "DELNETCONF" Headed(Struct(13), Set(133)),
+    12645 "GETNETCONF" Headed(Struct(13), Set(133)), 12655 "" Bytes,
+    12655 "NEWMDB" Headed(Struct(18), Set(114)), 12661 "DELMDB" Headed(Struct(18), Set(114)),
+    12667 "GETMDB" Headed(Struct(18), Set(114)), 12673 "" Bytes,
+    12673 "NEWNSID" Headed(Struct(4), Set(140)), 12680 "DELNSID" Headed(Struct(4), Set(140)),
+    12687 "GETNSID" Headed(Struct(4), Set(140)), 12694 "" Bytes,
+    12694 "NEWSTATS" Headed(Struct(20), Set(151)), 12702 "" Bytes,
+    12702 "GETSTATS" Headed(Struct(20), Set(151)), 12710 "SETSTATS" Headed(Struct(20), Set(151)),
+    12718 "NEWCACHEREPORT" Headed(Struct(4), Set(57)), 12732 "" Bytes, 12732 "" Bytes,
+    12732 "" Bytes, 12732 "NEWCHAIN" Headed(Struct(10), Set(195)),
+    12740 "DELCHAIN" Headed(Struct(10), Set(195)), 12748 "GETCHAIN" Headed(Struct(10), Set(195)),
+    12756 "" Bytes, 12756 "NEWNEXTHOP" Headed(Struct(21), Set(135)),
+    12766 "DELNEXTHOP" Headed(Struct(21), Set(135)),
+    12776 "GETNEXTHOP" Headed(Struct(21), Set(135)), 12786 "" Bytes,
+    12786 "NEWLINKPROP" Headed(Struct(5), Set(61)),
+    12797 "DELLINKPROP" Headed(Struct(5), Set(61)),
+    12808 "GETLINKPROP" Headed(Struct(5), Set(61)), 12819 "" Bytes,
+    12819 "NEWVLAN" Headed(Struct(19), Set(159)), 12826 "DELVLAN" Headed(Struct(19), Set(159)),
+    12833 "GETVLAN" Headed(Struct(19), Set(159)), 12840 "" Bytes,
+    12840 "NEWNEXTHOPBUCKET" Headed(Struct(21), Set(135)),
+    12856 "DELNEXTHOPBUCKET" Headed(Struct(21), Set(135)),
+    12872 "GETNEXTHOPBUCKET" Headed(Struct(21), Set(135)), 12888 "" Bytes,
+    12888 "NEWTUNNEL" Headed(Struct(22), Set(165)),
+    12897 "DELTUNNEL" Headed(Struct(22), Set(165)),
+    12906 "GETTUNNEL" Headed(Struct(22), Set(165)) }
+    { 12915 "" 0 1326 1; 12915 "" List(Set(53)) } // 170 each of IFLA_OFFLOAD_XSTATS_HW_S_INFO
+    { 12915 "" 0 1327 1; 12915 "" Ipv4 } // 171 each of IFLA_BOND_ARP_IP_TARGET
+    { 12915 "" 0 1328 1; 12915 "" Ipv6 } // 172 each of IFLA_BOND_NS_IP6_TARGET
     } };
 }
 

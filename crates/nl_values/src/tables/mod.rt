@@ -29,15 +29,25 @@ use structs::structs;
 use traffic::traffic;
 
 const U8: Format = Format::Integer(Number::U8);
+
 const U16: Format = Format::Integer(Number::U16);
+
 const U32: Format = Format::Integer(Number::U32);
+
 const U64: Format = Format::Integer(Number::U64);
+
 const I8: Format = Format::Integer(Number::I8);
+
 const I16: Format = Format::Integer(Number::I16);
+
 const I32: Format = Format::Integer(Number::I32);
+
 const I64: Format = Format::Integer(Number::I64);
+
 const NETWORK_U16: Format = Format::Integer(Number::NetworkU16);
+
 const NETWORK_U32: Format = Format::Integer(Number::NetworkU32);
+
 const NETWORK_U64: Format = Format::Integer(Number::NetworkU64);
 
 macro_rules! text_of_sets {
@@ -162,10 +172,10 @@ macro_rules! cases {
 pub(crate) static NAMES_OF_ATTRIBUTES: &str = links!(traffic text_of_sets);
 
 /// The sets.
-pub(crate) static SETS: [SetRow; 272] = links!(traffic sets);
+pub(crate) static SETS: [SetRow; 273] = links!(traffic sets);
 
 /// The attributes of all sets.
-pub(crate) static ATTRIBUTES: [AttributeRow; 1886] = links!(traffic attributes);
+pub(crate) static ATTRIBUTES: [AttributeRow; 1993] = links!(traffic attributes);
 
 /// The names of all fields.
 pub(crate) static NAMES_OF_FIELDS: &str = structs!(text_of_structs);

@@ -374,7 +374,7 @@ macro_rules! structs {
     // 125 tc-u32-sel
     { 16 65535 602 9; 5258 "flags" 0 1 U8, 5263 "offshift" 1 1 U8, 5271 "nkeys" 2 1 U8,
     5276 "offmask" 4 2 NETWORK_U16, 5283 "off" 6 2 U16, 5286 "offoff" 8 2 I16,
-    5292 "hoff" 10 2 I16, 5296 "hmask" 12 4 NETWORK_U32, 5301 "keys" 16 0 Fields(Struct(123)) }
+    5292 "hoff" 10 2 I16, 5296 "hmask" 12 4 NETWORK_U32, 5301 "keys" 16 0 Array(Struct(123)) }
     // 126 tc-u32-pcnt
     { 16 65535 611 3; 5305 "rcnt" 0 8 U64, 5309 "rhit" 8 8 U64,
     5313 "kcnts" 16 0 Series(Number::U64) }
@@ -403,7 +403,7 @@ macro_rules! structs {
     // 136 tc-pedit-sel
     { 24 65535 650 8; 5525 "index" 0 4 U32, 5530 "capab" 4 4 U32, 5535 "action" 8 4 I32,
     5541 "refcnt" 12 4 I32, 5547 "bindcnt" 16 4 I32, 5554 "nkeys" 20 1 U8, 5559 "flags" 21 1 U8,
-    5564 "keys" 24 0 Fields(Struct(137)) }
+    5564 "keys" 24 0 Array(Struct(137)) }
     // 137 tc-pedit-key
     { 24 24 658 6; 5568 "mask" 0 4 U32, 5572 "val" 4 4 U32, 5575 "off" 8 4 U32,
     5578 "at" 12 4 U32, 5580 "offmask" 16 4 U32, 5587 "shift" 20 4 U32 }
