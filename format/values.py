@@ -272,13 +272,15 @@ def number_in(row: Row, block: Block) -> int:
 
 
 def names(blocks: Blocks) -> str:
+    """The names of values and bits. The first name of a number counts."""
     found, lines = known(blocks), Lines(0, 0)
     every = (it for it in found.blocks.values() if it.sort in ("enum", "flags", "array"))
     for block in (it for it in every if it.name in found.places):
-        front = lines.text.put(block.said["prefix"])
-        kept = (it for it in block.rows if "unnamed" not in it.words)
+        front, kept = lines.text.put(block.said["prefix"]), {}
+        for row in (it for it in block.rows if "unnamed" not in it.words):
+            kept.setdefault(number_in(row, block), row)
         lines.put(block, front, [
-            f"{lines.text.put(cut(it, block))} {number_in(it, block)}" for it in kept])
+            f"{lines.text.put(cut(row, block))} {number}" for number, row in kept.items()])
     return lines.lines
 
 

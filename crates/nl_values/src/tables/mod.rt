@@ -193,7 +193,7 @@ pub(crate) static NAMES_OF_VALUES: &str = names!(text_of_names);
 pub(crate) static NAMES: [NamesRow; 112] = names!(names_rows);
 
 /// The values of all enumerations, and all bits.
-pub(crate) static VALUES: [NamedRow; 787] = names!(named_rows);
+pub(crate) static VALUES: [NamedRow; 783] = names!(named_rows);
 
 /// The names of all kinds.
 pub(crate) static NAMES_OF_KINDS: &str = choices!(text_of_choices);
