@@ -15,6 +15,9 @@ BIG = "byte-order=big-endian"
 ADDRESSES = {"mac": "Mac", "ipv4": "Ip", "ipv6": "Ipv6"}
 SIMPLE = {"string": "Text", "flag": "Flag", "uint": "Unsigned"}
 LONGEST = 65535
+BITS = "bits of "
+# The table of a sort of blocks, where it isn't called as the sort is.
+TABLES = {"each": "set", "flags": "names", "enum": "names", "array": "names"}
 MESSAGES = "messages of families"
 # The sets that have a constant beside those of `CONTEXTS`.
 FURTHER = {"MESSAGES": MESSAGES, "EXTACK": "extack-attrs"}
@@ -45,7 +48,7 @@ def each_of(row: Row) -> Block:
 def bits_of(block: Block) -> Block:
     """Bits, of which bit N has the name of row N."""
     rows = [Row(str(1 << row.number), row.name, []) for row in block.rows]
-    return Block("flags", f"bits of {block.name}", block.said, rows)
+    return Block("flags", f"{BITS}{block.name}", block.said, rows)
 
 
 def bitfield_of(block: Block, name: str) -> Block:
@@ -85,14 +88,13 @@ def known(blocks: Blocks) -> Known:
     every = {**blocks, **{it.name: it for it in made(blocks)}}
     rows = [it for block in every.values() if block.sort != "sub-message" for it in block.rows]
     used = {row.said("enum") for row in rows}
-    tables: Dict[str, List[str]] = {}
+    tables: Dict[str, List[str]] = {"traffic": []}
     for it in every.values():
-        is_named = it.sort == "array" or it.name in used or it.name.startswith("bits of ")
-        sort = {"each": "set", "flags": "names", "enum": "names", "array": "names"}.get(it.sort)
-        if sort != "names" or is_named:
-            is_traffic = sort == "set" or it.sort == "set"
-            kind = "traffic" if is_traffic and it.name.startswith(TRAFFIC) else sort or it.sort
-            tables.setdefault(kind, []).append(it.name)
+        sort = TABLES.get(it.sort, it.sort)
+        if it.sort in ("enum", "flags") and it.name not in used and not it.name.startswith(BITS):
+            continue
+        is_traffic = sort == "set" and it.name.startswith(TRAFFIC)
+        tables.setdefault("traffic" if is_traffic else sort, []).append(it.name)
     tables["set"] += tables.pop("traffic")
     places = {it: at for found in tables.values() for at, it in enumerate(found)}
     return Known(every, places)
@@ -121,7 +123,8 @@ class Speller(NamedTuple):
             sort = "Bits" if "enum-as-flags" in row.words else "Value"
             return f"{sort}(Number::{number}, {self.block('Names', row.said('enum'))})"
         if row.said("bits"):
-            return f"Bits(Number::{number}, {self.block('Names', 'bits of ' + row.said('bits'))})"
+            name = f"{BITS}{row.said('bits')}"
+            return f"Bits(Number::{number}, {self.block('Names', name)})"
         return number.replace("Network", "NETWORK_")
 
     def headed(self, struct: Optional[str], nested: Optional[str]) -> str:
@@ -137,7 +140,8 @@ class Speller(NamedTuple):
             number = self.number(self.known.blocks[struct].said["type"], row)
             return f"Counters(Number::{number}, {self.block('Names', struct)})"
         if struct:
-            return f"{'Array' if 'repeated' in row.words else 'Fields'}({self.block('Struct', struct)})"
+            sort = "Array" if "repeated" in row.words else "Fields"
+            return f"{sort}({self.block('Struct', struct)})"
         if kind:
             return f"Series(Number::{self.number(kind, row)})"
         hint = ADDRESSES.get(row.said("display-hint") or "", "Bytes")
@@ -158,11 +162,9 @@ class Speller(NamedTuple):
         kind = row.words[0]
         if kind in SIZES:
             return self.plain(kind, row)
-        if kind == "nest":
-            return self.block("List(Set", row.said("nested-attributes")) + ")"
-        if kind == "indexed-array":
-            name = f"each of {row.name}"
-            return self.block("List(Set", f"tc-{name}" if row.name.startswith("TCA_") else name) + ")"
+        if kind in ("nest", "indexed-array"):
+            name = each_of(row).name if kind == "indexed-array" else row.said("nested-attributes")
+            return f"List({self.block('Set', name)})"
         if kind == "message":
             return self.headed(row.said("head"), row.said("set"))
         if kind == "sub-message" and not row.said("struct"):
@@ -170,7 +172,8 @@ class Speller(NamedTuple):
             return f"Chosen({choice}, {self.selector(row.said('selector') or '')})"
         if kind == "bitfield32":
             enum = row.said("enum")
-            return f"Fields({self.block('Struct', f'bitfield of {enum}' if enum else 'nla-bitfield32')})"
+            name = f"bitfield of {enum}" if enum else "nla-bitfield32"
+            return f"Fields({self.block('Struct', name)})"
         return SIMPLE.get(kind) or (self.binary(row) if kind == "binary" else "Bytes")
 
     def chosen(self, row: Row) -> str:
@@ -276,7 +279,8 @@ def names(blocks: Blocks) -> str:
     found, lines = known(blocks), Lines(0, 0)
     every = (it for it in found.blocks.values() if it.sort in ("enum", "flags", "array"))
     for block in (it for it in every if it.name in found.places):
-        front, kept = lines.text.put(block.said["prefix"]), {}
+        front = lines.text.put(block.said["prefix"])
+        kept: Dict[int, Row] = {}
         for row in (it for it in block.rows if "unnamed" not in it.words):
             kept.setdefault(number_in(row, block), row)
         lines.put(block, front, [
@@ -291,9 +295,11 @@ def choices(blocks: Blocks) -> str:
         enums = [it for it in block.said.get("enum", "").split(",") if it]
         values = {row.name: row.value for it in enums for row in blocks[it].rows}
         other = next((spell.chosen(it) for it in block.rows if it.name == "*"), "Bytes")
-        lines.put(block, f"{'Number' if enums else 'Text'} {other},", [
-            f"{lines.text.put('' if enums else it.name)} {values.get(it.name, 0)} {spell.chosen(it)}"
-            for it in block.rows if it.name != "*"])
+        rows: List[str] = []
+        for row in (it for it in block.rows if it.name != "*"):
+            label = lines.text.put("" if enums else row.name)
+            rows.append(f"{label} {values.get(row.name, 0)} {spell.chosen(row)}")
+        lines.put(block, f"{'Number' if enums else 'Text'} {other},", rows)
     return lines.lines
 
 

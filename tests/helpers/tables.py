@@ -9,7 +9,8 @@ from named import SIZES, Blocks
 from rows import Block, Row
 
 # A block: the number and the name in the comment, what it says of itself, and its rows.
-BLOCK = re.compile(r"^    (?:// (\d+) (.*)\n    )?\{ ([^;{}]*); ([^{}]*) \}(?: // (\d+) (.*))?$", re.M)
+BLOCK = re.compile(
+    r"^    (?:// (\d+) (.*)\n    )?\{ ([^;{}]*); ([^{}]*) \}(?: // (\d+) (.*))?$", re.M)
 # What a row says that names a block, by what the rows of format/ say.
 NAMING = {"nested-attributes": "Set", "struct": "Struct", "enum": "Names", "sub-message": "Choice"}
 LABEL = re.compile(r'(\d+) "([^"]*)"')
@@ -82,8 +83,8 @@ class Tables:
         every = (self.sets, self.structs, self.names, self.choices)
         found = [it for table in every for it in table.faults]
         for table in every:
-            found += [f"{it.name} is not {it.number}" for at, it in enumerate(table.entries.values())
-                      if at != it.number]
+            blocks = enumerate(table.entries.values())
+            found += [f"{it.name} is at {at}" for at, it in blocks if at != it.number]
         return found
 
     def attribute(self, name: str, number: int) -> Optional[Cell]:
