@@ -210,7 +210,8 @@ pub(crate) fn value_name_in(
     of: u16,
     number: u64,
 ) -> Option<&'static str>
-    ensures { IsNameOf text.entry.now (label_of (named_rows names.now values.now of) number) result }
+    ensures { IsNameOf text.entry.now (label_of (named_rows names.now values.now of) number)
+        result }
 {
     let label = label_in(rows_in(names, values, of), number)?;
     Some(name_in(text, label))

@@ -1,6 +1,6 @@
 //! Structs of the kernel's headers.
 
-ghost use Rattle.std.specs.Prelude.{◌≡◌, ◌+◌, ◌≤◌, length};
+ghost use Rattle.std.specs.Prelude.{◌≡◌, ◌+◌};
 ghost use Rattle.nl_values.specs.Known.{IsField, bounds_of};
 ghost use Rattle.nl_values.specs.Fields.{IsPart};
 
