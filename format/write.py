@@ -20,11 +20,12 @@ import packages
 import page
 import rattle
 import shared
+import values
 from named import Blocks, Writer, constants
 from rows import read
 
 ROOT = os.path.dirname(HERE)
-PARTS = page, packages, rattle, heads, definitions, shared
+PARTS = page, packages, rattle, heads, definitions, shared, values
 # The files of crates/ that may have constants, and how these look.
 CONSTANTS = {"src/**/*.rt": rattle.CONSTANT, "specs/*.antt": definitions.CONSTANT}
 

@@ -17,6 +17,7 @@ compare() {
 }
 
 compare nl_attr attributes
+compare nl_values values
 compare nl_route families
 compare nl_frame datagrams
 compare nl_request requests

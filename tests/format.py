@@ -2,9 +2,9 @@
 """Compares the rows of format/ with the kernel's headers, by the C compiler: numbers, the places,
 sizes and signs of fields, and that no attribute is left out; with the YNL files of Debian's
 linux-source-6.12, and in the whole gate with its headers too, where that is installed; with one
-another; and with what format/write.py writes from them. Then it changes files that the script
-writes, and tries rows that are wrong. The last line is 'N passed, M failed', and the status is 1
-where one differs.
+another; with what format/write.py writes from them; and with the tables of crates/nl_values, which
+are read as the program does. Then it changes files that the script writes, and tries rows that are
+wrong. The last line is 'N passed, M failed', and the status is 1 where one differs.
 """
 import os
 import re
@@ -18,6 +18,7 @@ TESTS = os.path.dirname(os.path.realpath(__file__))
 sys.path[:0] = [f"{TESTS}/../format", f"{TESTS}/helpers", TESTS]
 import headers
 import rows
+import tables
 import write
 from counting import counted, whole
 from named import SIZES, Blocks
@@ -321,6 +322,8 @@ def main() -> int:
             cases["with the headers of Linux 6.12"] = list(Headers(blocks, folder).cases(blocks))
     cases["with one another"] = list(by_itself(blocks))
     cases["with what is written"] = list(of_written(blocks))
+    folder = f"{TESTS}/../crates/nl_values/src/tables"
+    cases["with the tables of nl_values"] = list(tables.cases(folder, blocks))
     cases["changed files"] = list(of_changed(blocks))
     wrong = lines_of("wrong") + (lines_of("wrong_by_ynl") if specs else [])
     cases["wrong rows"] = [(it, tried(it, blocks, installed, specs)) for it in wrong]

@@ -11,3 +11,4 @@ pub mod recordings;
 pub mod requests;
 pub mod streams;
 pub mod tables;
+pub mod values;
