@@ -81,7 +81,7 @@ same 'those who read regions look at none of their bytes' \
   "$(lines '\b(bytes|payload|rest|left|region)(\[|\.(iter|get|first|last|split|chunks|windows|copied|to_))' \
     "${stack[@]}" "$reading")" ''
 
-same 'lengths and types of attributes and next hops are read by the walkers alone, but for the length of the head at which a scan ends, and what is printed beside bytes; the front of a message reads its type, and a stream its flags' \
+same 'lengths and types of attributes and next hops are read by the walkers alone, but for the length of the head at which a scan ends, what is printed beside bytes, and what payloads mean; the front of a message reads its type, and a stream its flags' \
   "$(counts 'read_u16\(')" \
   'crates/nl_attr/src/broken.rt 1
 crates/nl_attr/src/order.rt 3
@@ -92,6 +92,8 @@ crates/nl_frame/src/front.rt 1
 crates/nl_frame/src/header.rt 2
 crates/nl_route/src/ifinfomsg.rt 1
 crates/nl_route/src/ndmsg.rt 1
+crates/nl_values/src/numbers.rt 5
+crates/nl_values/src/rows.rt 1
 crates/rtnl/src/bytes/json_lines.rt 2
 crates/rtnl/src/bytes/notation.rt 5
 crates/rtnl/src/bytes/view.rt 1
@@ -136,14 +138,15 @@ same 'a scan is one loop over heads that hold bytes, one over the others, one ov
 'heads: loop {
 'messages: while !left.is_empty() {"
 
-same 'a region is scanned by the calls that are made for it and once by the scan of a message, and in no reading' \
+same 'a region is scanned by the calls that are made for it, once by the scan of a message and once where a payload may be a list, and in no reading' \
   "$(counts '\b(scan_list_ordered|tape_(list|attrs|attrs_in|region|regions|open|deep|inside|inner|hops)|open_regions|pass_(top|front|leaves|like)|step_(attr|hop))\b.*\(')" \
   'crates/nl_attr/src/scanning.rt 2
 crates/nl_attr/src/taping/leaves.rt 5
 crates/nl_attr/src/taping/mod.rt 9
 crates/nl_attr/src/taping/regions.rt 20
 crates/nl_attr/src/taping/steps.rt 8
-crates/nl_frame/src/taping.rt 1'
+crates/nl_frame/src/taping.rt 1
+crates/nl_values/src/reading.rt 1'
 
 same 'a datagram is scanned by the calls that are made for it, and in no reading' \
   "$(counts '\b(scan_datagram|tape_datagram|scan_messages|tape_(messages?|ordered|little|big|ample|front|frame|body|object))(::)?(<[^(]*>)?\(')" \
@@ -174,7 +177,7 @@ crates/rtnl_c/src/find.rt 2'
 # A seed is of no datagram.
 same 'numbers are made of bytes by their order alone' \
   "$(lines 'from_(le|be|ne)_bytes|(Little|Big|Native)Endian' |
-    grep -vE '^crates/(nl_attr/src/order|nl_table/src/seed)\.rt:')" ''
+    grep -vE '^crates/(nl_attr/src/order|nl_table/src/seed|nl_values/src/numbers)\.rt:')" ''
 
 same 'calls that answer a tally' "$(counts '-> Tally<')" \
   'crates/nl_attr/src/fault.rt 2
@@ -256,7 +259,7 @@ crates/rtnl_c/src/stream.rt 1
 crates/rtnl_cli/src/explain.rt 1'
 
 same 'a mirror reads a datagram once, for its own call or for C' \
-  "$(counts '\b(self|mirror)\.read\(')" \
+  "$(counts '\b(self|mirror)\.read\(bytes\)')" \
   'crates/nl_mirror/src/mirror.rt 1
 crates/rtnl_c/src/hearing.rt 1'
 
