@@ -3,18 +3,23 @@ structs, the longest name, and the groups of notifications.
 """
 import re
 import textwrap
-from typing import Dict, List
+from typing import Dict, Iterable, List
 
 from named import CONTEXTS, Blocks, Missing, Writer
 from named import controls, families, first_types, named, numbered, put_in, put_lines
 
-# The structs whose fields `show --bytes` names, and those of the fields that have a rule alone.
-STRUCTS = """nlmsghdr ifinfomsg ifaddrmsg rtmsg ndmsg fib-rule-hdr rtgenmsg rtnexthop
-nlmsgerr""".split()
-ALONE = "nlmsg_len", "nlmsg_type", "rtnh_len", "msg"
-# What the schema says of the values of fields, and what else has such values.
-VALUES = {"u8": "u8", "u16": "u16", "u32": "u32", "s32": "i32", "pad": ""}
-OTHERS = {"s32": ["status"], "pad": ["payload", "tail", "padding"]}
+# The structs whose fields `show --bytes` names: those that only heads are, and those that stand in
+# payloads too, where a value may have a name; and those of the fields that have a rule alone.
+HEADS = "nlmsghdr", "rtnexthop"
+SHARED = """ifinfomsg ifaddrmsg rtmsg ndmsg fib-rule-hdr rtgenmsg nlmsgerr ifa-cacheinfo
+nda-cacheinfo rta-cacheinfo""".split()
+ALONE = "nlmsg_len nlmsg_type rtnh_len msg flags action cstamp tstamp".split()
+# What the schema says of the values of fields, and what else has such values: an action is of a
+# rule, or of a filter, where it has a sign.
+VALUES = {"u8": "u8", "u16": "u16", "u32": "u32", "s32": "i32"}
+ALSO_HEADS = {"s32": ["status"]}
+ALSO_SHARED = {"s32": ["action"]}
+BLANKS = ["tail", "padding"]
 WIDTH = 99
 
 
@@ -29,16 +34,25 @@ def enum(words: List[str], indent: int) -> str:
     return f'{{{front}  "enum": [{front}    {lines}{front}  ]{front}}}'
 
 
+def put_names(text: str, says: str, names: List[str]) -> str:
+    """Names of rows of bytes whose value the schema says so."""
+    behind = rf'"value": \{{ {re.escape(says)} \}},\n +"fault": \{{ "const": null \}}'
+    place = rf'(?<="name": )\{{\s+"enum"[^{{}}]+\}}(?=,\n +{behind})'
+    return put_lines(place, text, enum(names, 12))
+
+
 def fields(text: str, blocks: Blocks) -> str:
     """The fields of the rows of bytes, by their type."""
-    rows = [it for name in STRUCTS for it in blocks[name].rows if it.name not in ALONE]
+    def of(kind: str, structs: Iterable[str]) -> List[str]:
+        rows = [it for name in structs for it in blocks[name].rows if it.name not in ALONE]
+        return [it.name for it in rows if it.words[0] == kind]
+
     for kind, value in VALUES.items():
-        names = [it.name for it in rows if it.words[0] == kind] + OTHERS.get(kind, [])
-        says = rf'"\$ref": "#/\$defs/{value}"' if value else '"const": null'
-        behind = rf'"value": \{{ {says} \}},\n +"fault": \{{ "const": null \}}'
-        place = rf'(?<="name": )\{{\s+"enum"[^{{}}]+\}}(?=,\n +{behind})'
-        text = put_lines(place, text, enum(names, 12))
-    return text
+        is_number = f'"$ref": "#/$defs/{value}"'
+        is_told = f'"anyOf": [{{ {is_number} }}, {{ "$ref": "#/$defs/told" }}]'
+        text = put_names(text, is_number, of(kind, HEADS) + ALSO_HEADS.get(kind, []))
+        text = put_names(text, is_told, of(kind, SHARED) + ALSO_SHARED.get(kind, []))
+    return put_names(text, '"const": null', of("pad", SHARED) + BLANKS)
 
 
 def types(text: str, blocks: Blocks) -> str:
@@ -60,7 +74,7 @@ def kinds(blocks: Blocks) -> List[str]:
 def schema(text: str, blocks: Blocks) -> str:
     text = types(fields(text, blocks), blocks)
     fronts = dict.fromkeys(blocks[it.set].said["prefix"].split("_")[0] for it in CONTEXTS)
-    text = put_lines(r'(?<="pattern": "\^\()\w+(?:\|\w+)+(?=\)_\[)', text, "|".join(fronts))
+    text = put_lines(r'(?<="pattern": "\^\()IFLA(?:\|\w+)+(?=\)_\[)', text, "|".join(fronts))
     words = ", ".join(f'"{it}"' for it in kinds(blocks))
     return put_lines(r'(?<="Kind of a table", "enum": \[)[^]]+', text, words)
 
@@ -71,8 +85,18 @@ def completions(text: str, blocks: Blocks) -> str:
     return put_in(words, text, lambda found: found[1].join(kinds(blocks)))
 
 
+def errors(blocks: Blocks) -> str:
+    """The names of errors by their numbers, as lines of an object."""
+    words = ", ".join(f'"{it.value}": "{it.name}"' for it in blocks["errno"].rows)
+    # A number stays on the line of its name.
+    words, blank = words.replace(": ", ":\0"), "  "
+    text = textwrap.fill(words, WIDTH, initial_indent=blank, subsequent_indent=blank)
+    return text.replace("\0", " ")
+
+
 def module(text: str, blocks: Blocks) -> str:
-    """The bodies of a message, and a function for each kind."""
+    """The bodies of a message, a function for each kind, and the names of errors."""
+    text = put_lines(r"(?<=^def _errors: \{\n)[^}]+(?= \};$)", text, errors(blocks))
     bodies = "".join(f".{it} // " for it in kinds(blocks))
     text = put_lines(r"(?<=  \| )(?:\.\w+ // )+(?=\.get // )", text, bodies)
     lines = "".join(

@@ -15,12 +15,16 @@ BIG = "byte-order=big-endian"
 ADDRESSES = {"mac": "Mac", "ipv4": "Ip", "ipv6": "Ipv6"}
 SIMPLE = {"string": "Text", "flag": "Flag", "uint": "Unsigned"}
 LONGEST = 65535
+# What the byte of the address family is called in heads.
+FAMILIES = "ifi_family", "rtm_family"
 BITS = "bits of "
 # The table of a sort of blocks, where it isn't called as the sort is.
 TABLES = {"each": "set", "flags": "names", "enum": "names", "array": "names"}
 MESSAGES = "messages of families"
 # The sets that have a constant beside those of `CONTEXTS`.
 FURTHER = {"MESSAGES": MESSAGES, "EXTACK": "extack-attrs"}
+# The values that have a constant. No row names them.
+NAMED = {"ERRNO": "errno"}
 
 
 class Known(NamedTuple):
@@ -87,7 +91,7 @@ def made(blocks: Blocks) -> Iterator[Block]:
 def known(blocks: Blocks) -> Known:
     every = {**blocks, **{it.name: it for it in made(blocks)}}
     rows = [it for block in every.values() if block.sort != "sub-message" for it in block.rows]
-    used = {row.said("enum") for row in rows}
+    used = {*NAMED.values(), *(row.said("enum") for row in rows)}
     tables: Dict[str, List[str]] = {"traffic": []}
     for it in every.values():
         sort = TABLES.get(it.sort, it.sort)
@@ -148,7 +152,7 @@ class Speller(NamedTuple):
         return "Ipv4" if hint == "Ip" and row.said("len") == "4" else hint
 
     def selector(self, name: str) -> str:
-        if name == "ifi_family":
+        if name in FAMILIES:
             return "Selector::Family"
         if name in self.beside:
             return f"Selector::Beside({self.beside[name]})"
@@ -179,6 +183,8 @@ class Speller(NamedTuple):
     def chosen(self, row: Row) -> str:
         """What a row of a sub-message says."""
         struct, of = row.said("struct"), row.said("set")
+        if "binary" in row.words:
+            return self.binary(row)
         if struct and of:
             return self.headed(struct, of)
         if struct:
@@ -279,7 +285,7 @@ def names(blocks: Blocks) -> str:
     found, lines = known(blocks), Lines(0, 0)
     every = (it for it in found.blocks.values() if it.sort in ("enum", "flags", "array"))
     for block in (it for it in every if it.name in found.places):
-        front = lines.text.put(block.said["prefix"])
+        front = lines.text.put(block.said.get("prefix", ""))
         kept: Dict[int, Row] = {}
         for row in (it for it in block.rows if "unnamed" not in it.words):
             kept.setdefault(number_in(row, block), row)
@@ -324,18 +330,22 @@ def counts(text: str, blocks: Blocks) -> str:
     return numbered(table, text, lambda _: next(many))
 
 
-def constants(text: str, blocks: Blocks) -> str:
-    """The sets that have a constant."""
-    places = known(blocks).places
-    of = {it.name.upper(): places[it.set] for it in CONTEXTS}
-    of.update({name: places[it] for name, it in FURTHER.items()})
-    pattern = re.compile(r"pub const (?P<name>\w+): Set = Set\((?P<number>\d+)\);")
-    return numbered(pattern, text, lambda it: of[it["name"]])
+def constants(kind: str, of: Dict[str, str]) -> Writer:
+    """The blocks of a kind that have a constant: their names by its name."""
+    pattern = re.compile(rf"pub const (?P<name>\w+): {kind} = {kind}\((?P<number>\d+)\);")
+
+    def write(text: str, blocks: Blocks) -> str:
+        places = known(blocks).places
+        return numbered(pattern, text, lambda it: places[of[it["name"]]])
+
+    return write
 
 
+SETS = {**{it.name.upper(): it.set for it in CONTEXTS}, **FURTHER}
 FOLDER = "crates/nl_values/src"
 FILES: Dict[str, Writer] = {
-    f"{FOLDER}/set.rt": constants,
+    f"{FOLDER}/set.rt": constants("Set", SETS),
+    f"{FOLDER}/names.rt": constants("Names", NAMED),
     f"{FOLDER}/tables/mod.rt": counts,
     f"{FOLDER}/tables/links.rt": table(lambda blocks: sets(blocks)[False]),
     f"{FOLDER}/tables/traffic.rt": table(lambda blocks: sets(blocks)[True]),

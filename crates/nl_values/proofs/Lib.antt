@@ -1,2 +1,3 @@
-pub mod Scans
 pub mod Texts
+pub mod Ascii
+mod Words

@@ -1,12 +1,14 @@
 -- The bytes of a field in those of its struct.
-use Rattle.std.specs.Prelude.{◌≡◌, ℕ, ◌+◌, ◌<◌, ◌==◌, if◌then◌else◌, List, length, slice_range, Option, Some, None}
-use denote.Ref.{Bor}
+use Rattle.std.specs.Prelude.{ℕ, ◌+◌, ◌==◌, nat_lt, if◌then◌else◌, List, length, slice_range, Option, Some, None}
 
 -- where a field ends that has this size, or all bytes from its place on
 abbrev pub end_of : ℕ → ℕ → List ℕ → ℕ
 end_of place size bs = if size == 0 then length bs else place + size
 
--- the bytes of a field at a place
-abbrev pub IsPart : ℕ → ℕ → List ℕ → Option (Bor (List ℕ)) → Type 0
-IsPart place size bs None = length bs < (if size == 0 then place else place + size)
-IsPart place size bs (Some part) = part.now ≡ slice_range bs place (end_of place size bs)
+-- how many bytes a struct needs, so that it has the field
+abbrev pub needed_of : ℕ → ℕ → ℕ
+needed_of place size = if size == 0 then place else place + size
+
+-- the bytes of a field of this place and size; none where the struct has fewer
+abbrev pub part_in : ℕ → ℕ → List ℕ → Option (List ℕ)
+part_in place size bs = if nat_lt (length bs) (needed_of place size) then None else Some (slice_range bs place (end_of place size bs))

@@ -1,11 +1,10 @@
 -- What a payload means by what is said of it.
-use Rattle.std.specs.Prelude.{◌≡◌, ℕ, ℤ, ◌+◌, ◌≤◌, ◌<◌, ◌==◌, ◌&&◌, ◌%◌, not, nat_le, Bool, false, if◌then◌else◌, List, length, drop, Option, Some, None}
+use Rattle.std.specs.Prelude.{ℕ, ℤ, ◌+◌, ◌==◌, ◌&&◌, ◌%◌, not, nat_lt, nat_le, Bool, false, if◌then◌else◌, List, length, drop, Option, Some, None, is_ok}
+use Rattle.std.specs.Option.{option_map}
 use Rattle.nl_attr.specs.declared.order.Order.{Order}
 use Rattle.nl_attr.specs.declared.tree.Ctx.TheVariants.{Plain}
-use Rattle.nl_attr.specs.Layout.{Fits}
 use Rattle.nl_attr.specs.Numbers.{aligned}
-use Rattle.nl_attr.specs.Reading.{items_of_region}
-use Rattle.nl_attr.specs.Scanned.{without}
+use Rattle.nl_attr.specs.Reading.{Outcome, items_of_region}
 use Rattle.nl_attr.specs.Shape.{shape_of}
 use Rattle.nl_attr.specs.Tree.{Items}
 use Rattle.nl_values.specs.declared.format.Format.{Format}
@@ -17,9 +16,9 @@ use Rattle.nl_values.specs.declared.meaning.Meaning.TheVariants as meaning
 use Rattle.nl_values.specs.declared.names.Names.{Names}
 use Rattle.nl_values.specs.declared.set.Set.{Set}
 use Rattle.nl_values.specs.declared.structs.Struct.{Struct}
-use Rattle.nl_values.specs.Known.{HasName, bounds_of, chosen_format}
+use Rattle.nl_values.specs.Known.{bounds_of, chosen_format, name_of}
 use Rattle.nl_values.specs.Numbers.{integer_of, integer_view, raw_of, size_of}
-use Rattle.nl_values.specs.Texts.{IsText, stem_of}
+use Rattle.nl_values.specs.Texts.{is_text, stem_of}
 
 -- what a payload can mean
 pub data Sense : Type 0 where
@@ -27,7 +26,7 @@ pub data Sense : Type 0 where
   flag : Sense
   text : List ℕ → Sense
   integer : ℤ → Sense
-  value : ℤ → Sense
+  value : ℤ → Option (List ℕ) → Sense
   bits : ℕ → Names → Sense
   mac : List ℕ → Sense
   ipv4 : List ℕ → Sense
@@ -39,13 +38,13 @@ pub data Sense : Type 0 where
   headed : Struct → Set → ℕ → Sense
   list : Set → Sense
 
--- the sense of a meaning of the program, without the name of a value
+-- the sense of a meaning of the program
 abbrev pub sense_of : Meaning → Sense
 sense_of meaning.Unknown = unknown
 sense_of meaning.Flag = flag
 sense_of (meaning.Text t) = text t.now
 sense_of (meaning.Integer n) = integer (integer_view n)
-sense_of (meaning.Value n name) = value (integer_view n)
+sense_of (meaning.Value n name) = value (integer_view n) (option_map (λ r. r.now) name)
 sense_of (meaning.Bits n names) = bits n names
 sense_of (meaning.Mac address) = mac address
 sense_of (meaning.Ipv4 address) = ipv4 address
@@ -56,15 +55,6 @@ sense_of (meaning.Fields s) = fields s
 sense_of (meaning.Array s size) = array s size
 sense_of (meaning.Headed s set from) = headed s set from
 sense_of (meaning.List set) = list set
-
--- a value has the name that these names have for its bits
-abbrev pub IsNamed : Names → ℕ → Meaning → Type 0
-IsNamed names raw (meaning.Value n name) = HasName names raw name
-IsNamed names raw m = Unit {0}
-
--- one fact where this holds, and another where it does not
-abbrev pub Chooses : Type 0 → Type 0 → Type 0 → Type 0
-Chooses P A B = (P → A) × ((P → ⊥) → B)
 
 -- bytes within the least and the most that a struct has
 abbrev pub is_within : Option (ℕ × ℕ) → ℕ → Bool
@@ -99,63 +89,64 @@ ip_sense bs = if length bs == 4 then ipv4 bs else if length bs == 16 then ipv6 b
 
 -- A payload in a message of this order, in a list of this level, under this depth limit.
 module _ (o : Order) (depth level : ℕ) where
-  -- bytes are attributes, which are a level deeper
-  abbrev pub AreAttributes : List ℕ → Type 0
-  AreAttributes region = (level + 1 ≤ depth) × ((is : Items) × Fits (shape_of o depth) is region Plain (level + 1))
+  -- reading a region as attributes, which are a level deeper
+  abbrev pub reading_inside : List ℕ → Outcome Items
+  reading_inside region = items_of_region (shape_of o depth) Plain (level + 1) 0 region
 
-  -- so many bytes are visited to find that out: none at the last level, else those of a reading
-  abbrev pub Visits : List ℕ → ℕ → Type 0
-  Visits region visits =
-      (depth ≤ level → visits ≡ 0)
-      × (level < depth → (without (items_of_region (shape_of o depth) Plain (level + 1) 0 region)).1 ≡ visits)
+  -- bytes are attributes: the limit allows a level more, and they are read without a fault. A region
+  -- is read exactly where some list fits it, as `nl_attr` proves.
+  abbrev pub is_list : List ℕ → Bool
+  is_list region = nat_lt level depth && is_ok (reading_inside region).0
+
+  -- so many bytes are visited to find that out: none at the last level, else those of that reading
+  abbrev pub visits_inside : List ℕ → ℕ
+  visits_inside region = if nat_le depth level then 0 else (reading_inside region).1
 
   -- what a struct of this size means, and attributes behind it and its padding
-  abbrev pub SaysHeaded : Option (ℕ × ℕ) → Struct → Set → List ℕ → Meaning → Type 0
-  SaysHeaded None of set bs m = sense_of m ≡ unknown
-  SaysHeaded (Some (least, most)) of set bs m =
-      Chooses ((least ≤ length bs) × AreAttributes (drop (aligned least) bs))
-      (sense_of m ≡ headed of set (aligned least)) (sense_of m ≡ unknown)
+  abbrev pub headed_sense : Option (ℕ × ℕ) → Struct → Set → List ℕ → Sense
+  headed_sense None of set bs = unknown
+  headed_sense (Some (least, most)) of set bs =
+      if nat_le least (length bs) && is_list (drop (aligned least) bs) then headed of set (aligned least) else unknown
 
   -- and what is visited for that
-  abbrev pub VisitsHeaded : Option (ℕ × ℕ) → List ℕ → ℕ → Type 0
-  VisitsHeaded None bs visits = visits ≡ 0
-  VisitsHeaded (Some (least, most)) bs visits =
-      (length bs < least → visits ≡ 0) × (least ≤ length bs → Visits (drop (aligned least) bs) visits)
+  abbrev pub headed_visits : Option (ℕ × ℕ) → List ℕ → ℕ
+  headed_visits None bs = 0
+  headed_visits (Some (least, most)) bs =
+      if nat_le least (length bs) then visits_inside (drop (aligned least) bs) else 0
 
-  module _ (bs : List ℕ) where
-    -- these bytes have this meaning in a format
-    abbrev pub Says : Format → Meaning → Type 0
-    Says format.Bytes m = sense_of m ≡ unknown
-    Says format.Flag m = sense_of m ≡ (if length bs == 0 then flag else unknown)
-    Says format.Text m = Chooses (IsText bs) (sense_of m ≡ text (stem_of bs)) (sense_of m ≡ unknown)
-    Says (format.Integer n) m = sense_of m ≡ (if length bs == size_of n then integer (integer_of n o bs) else unknown)
-    Says format.Unsigned m = sense_of m ≡ unsigned_sense o bs
-    Says (format.Value n names) m =
-        (sense_of m ≡ (if length bs == size_of n then value (integer_of n o bs) else unknown)) × IsNamed names (raw_of n o bs) m
-    Says (format.Bits n names) m = sense_of m ≡ (if length bs == size_of n then bits (raw_of n o bs) names else unknown)
-    Says format.Mac m = sense_of m ≡ (if length bs == 6 then mac bs else unknown)
-    Says format.Ipv4 m = sense_of m ≡ (if length bs == 4 then ipv4 bs else unknown)
-    Says format.Ipv6 m = sense_of m ≡ (if length bs == 16 then ipv6 bs else unknown)
-    Says format.Ip m = sense_of m ≡ ip_sense bs
-    Says (format.Series n) m = sense_of m ≡ (if length bs % size_of n == 0 then series n else unknown)
-    Says (format.Counters n names) m = sense_of m ≡ (if length bs % size_of n == 0 then counters n names else unknown)
-    Says (format.Fields of) m = sense_of m ≡ (if is_within (bounds_of of) (length bs) then fields of else unknown)
-    Says (format.Array of) m = sense_of m ≡ array_sense of (bounds_of of) (length bs)
-    Says (format.Headed of set) m = SaysHeaded (bounds_of of) of set bs m
-    Says (format.List set) m = Chooses (AreAttributes bs) (sense_of m ≡ list set) (sense_of m ≡ unknown)
-    Says (format.Hops set) m = sense_of m ≡ unknown
-    Says (format.Chosen choice selector) m = sense_of m ≡ unknown
+  -- what these bytes mean in a format
+  abbrev pub meaning_of : List ℕ → Format → Sense
+  meaning_of bs format.Bytes = unknown
+  meaning_of bs format.Flag = if length bs == 0 then flag else unknown
+  meaning_of bs format.Text = if is_text bs then text (stem_of bs) else unknown
+  meaning_of bs (format.Integer n) = if length bs == size_of n then integer (integer_of n o bs) else unknown
+  meaning_of bs format.Unsigned = unsigned_sense o bs
+  meaning_of bs (format.Value n names) =
+      if length bs == size_of n then value (integer_of n o bs) (name_of names (raw_of n o bs)) else unknown
+  meaning_of bs (format.Bits n names) = if length bs == size_of n then bits (raw_of n o bs) names else unknown
+  meaning_of bs format.Mac = if length bs == 6 then mac bs else unknown
+  meaning_of bs format.Ipv4 = if length bs == 4 then ipv4 bs else unknown
+  meaning_of bs format.Ipv6 = if length bs == 16 then ipv6 bs else unknown
+  meaning_of bs format.Ip = ip_sense bs
+  meaning_of bs (format.Series n) = if length bs % size_of n == 0 then series n else unknown
+  meaning_of bs (format.Counters n names) = if length bs % size_of n == 0 then counters n names else unknown
+  meaning_of bs (format.Fields of) = if is_within (bounds_of of) (length bs) then fields of else unknown
+  meaning_of bs (format.Array of) = array_sense of (bounds_of of) (length bs)
+  meaning_of bs (format.Headed of set) = headed_sense (bounds_of of) of set bs
+  meaning_of bs (format.List set) = if is_list bs then list set else unknown
+  meaning_of bs (format.Hops set) = unknown
+  meaning_of bs (format.Chosen choice selector) = unknown
 
-    -- so many bytes are visited for it
-    abbrev pub VisitsFor : Format → ℕ → Type 0
-    VisitsFor (format.Headed of set) visits = VisitsHeaded (bounds_of of) bs visits
-    VisitsFor (format.List set) visits = Visits bs visits
-    VisitsFor f visits = visits ≡ 0
+  -- how many bytes are visited for it
+  abbrev pub visits_of : List ℕ → Format → ℕ
+  visits_of bs (format.Headed of set) = headed_visits (bounds_of of) bs
+  visits_of bs (format.List set) = visits_inside bs
+  visits_of bs f = 0
 
-    -- a payload of these bytes has this meaning, where these are the bytes of the kind
-    abbrev pub Means : Format → List ℕ → Meaning → Type 0
-    Means f kind m = Says (resolved_format o kind f) m
+  -- what a payload means in a format, where these are the bytes of the kind
+  abbrev pub sense_in : Format → List ℕ → List ℕ → Sense
+  sense_in f kind payload = meaning_of payload (resolved_format o kind f)
 
-    -- and so many bytes are visited
-    abbrev pub VisitsToRead : Format → List ℕ → ℕ → Type 0
-    VisitsToRead f kind visits = VisitsFor (resolved_format o kind f) visits
+  -- and how many bytes are visited
+  abbrev pub visits_in : Format → List ℕ → List ℕ → ℕ
+  visits_in f kind payload = visits_of payload (resolved_format o kind f)

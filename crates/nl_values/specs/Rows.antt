@@ -1,7 +1,6 @@
 -- How the tables are read. Each definition takes the tables that it reads.
-use Rattle.std.specs.Prelude.{◌≡◌, ℕ, ◌+◌, ◌-◌, ◌==◌, ◌||◌, nat_eq, nat_lt, nat_le, Bool, false, if◌then◌else◌, List, [], ◌∷◌, length}
-use Rattle.std.specs.Prelude.{slice_get, slice_range, bit_and, bit_xor, Option, Some, None}
-use Rattle.std.specs.Str.{IsCharBoundary}
+use Rattle.std.specs.Prelude.{ℕ, ◌+◌, ◌-◌, ◌==◌, ◌||◌, nat_eq, nat_lt, nat_le, Bool, false, if◌then◌else◌, List, [], ◌∷◌, length}
+use Rattle.std.specs.Prelude.{map, slice_get, slice_range, bit_and, bit_xor, Option, Some, None}
 use Rattle.std.specs.Cmp.Lexicographic.{pointwise}
 use denote.Ref.{Bor}
 use Rattle.nl_attr.specs.Numbers.{number_of}
@@ -24,19 +23,42 @@ use Rattle.nl_values.specs.declared.format.Format.TheVariants.{Bytes}
 use Rattle.nl_values.specs.declared.set.Attribute.{Attribute}
 use Rattle.nl_values.specs.declared.structs.Field.{Field}
 
+-- what is known of an attribute
+pub record KnownAttribute : Type 0 where
+  pub name : List ℕ
+  pub format : Format
+
+-- what is known of a field
+pub record KnownField : Type 0 where
+  pub name : List ℕ
+  pub place : ℕ
+  pub size : ℕ
+  pub format : Format
+
+-- what an attribute of the program says
+abbrev pub attribute_view : Attribute → KnownAttribute
+attribute_view it = record { name = it.name.now; format = it.format }
+
+-- what a field of the program says
+abbrev pub field_view : Field → KnownField
+field_view it = record { name = it.name.now; place = it.place; size = it.size; format = it.format }
+
+-- what a bit of the program says: its name, and its mask
+abbrev pub bit_view : Bor (List ℕ) × ℕ → List ℕ × ℕ
+bit_view bit = (bit.0.now, bit.1)
+
+-- a part of a list by its first place and its length; nothing where the list ends before
+abbrev pub part : {X : Type 0} → List X → ℕ → ℕ → List X
+part xs from count = if nat_lt (length xs) (from + count) then [] else slice_range xs from (from + count)
+
 -- a name is the part of the text that its label says
-abbrev pub IsName : List ℕ → Label → List ℕ → Type 0
-IsName text label name =
-    IsCharBoundary text label.at → IsCharBoundary text (label.at + label.len)
-    → name ≡ slice_range text label.at (label.at + label.len)
+abbrev pub name_at : List ℕ → Label → List ℕ
+name_at text label = part text label.at label.len
 
--- the prefix of the set of a number
-abbrev pub IsPrefixOf : List ℕ → Option SetRow → List ℕ → Type 0
-IsPrefixOf text None prefix = prefix ≡ []
-IsPrefixOf text (Some row) prefix = IsName text row.prefix prefix
-
-abbrev pub IsPrefix : List SetRow → List ℕ → ℕ → List ℕ → Type 0
-IsPrefix sets text set prefix = IsPrefixOf text (slice_get sets set) prefix
+-- the prefix of the set of a row
+abbrev pub prefix_by : List ℕ → Option SetRow → List ℕ
+prefix_by text None = []
+prefix_by text (Some row) = name_at text row.prefix
 
 -- the row of this number, which is as far behind the first row as the number is behind the first
 -- number; a set without a prefix has its first row for all numbers
@@ -54,29 +76,26 @@ row_of (Some set) rows number = row_in set rows number
 abbrev pub row_at : List SetRow → List AttributeRow → ℕ → ℕ → Option AttributeRow
 row_at sets rows set number = row_of (slice_get sets set) rows number
 
--- an attribute is what a row says
-abbrev pub Says : List ℕ → Option AttributeRow → Option Attribute → Type 0
-Says text None None = Unit {0}
-Says text None (Some it) = ⊥
-Says text (Some row) None = ⊥
-Says text (Some row) (Some it) = (it.format ≡ row.format) × IsName text row.label it.name.now
+-- what a row says of an attribute
+abbrev pub attribute_by : List ℕ → AttributeRow → KnownAttribute
+attribute_by text row = record { name = name_at text row.label; format = row.format }
 
--- the field of an index in a struct
-abbrev pub field_in : Option StructRow → List FieldRow → ℕ → Option FieldRow
-field_in None fields index = None
-field_in (Some row) fields index = if nat_le row.count index then None else slice_get fields (row.from + index)
+-- the rows of the fields of a struct
+abbrev pub field_rows_of : Option StructRow → List FieldRow → List FieldRow
+field_rows_of None fields = []
+field_rows_of (Some row) fields = part fields row.from row.count
 
--- the field of an index in the struct of a number
-abbrev pub field_at : List StructRow → List FieldRow → ℕ → ℕ → Option FieldRow
-field_at structs fields of index = field_in (slice_get structs of) fields index
+-- those of the struct of a number
+abbrev pub field_rows : List StructRow → List FieldRow → ℕ → List FieldRow
+field_rows structs fields of = field_rows_of (slice_get structs of) fields
 
--- a field is what a row says
-abbrev pub SaysField : List ℕ → Option FieldRow → Option Field → Type 0
-SaysField text None None = Unit {0}
-SaysField text None (Some it) = ⊥
-SaysField text (Some row) None = ⊥
-SaysField text (Some row) (Some it) =
-    (it.place ≡ row.place) × (it.size ≡ row.size) × (it.format ≡ row.format) × IsName text row.label it.name.now
+-- what a row says of a field
+abbrev pub field_by : List ℕ → FieldRow → KnownField
+field_by text row = record { name = name_at text row.label; place = row.place; size = row.size; format = row.format }
+
+-- the fields of the struct of a number, in their order
+abbrev pub fields_at : List StructRow → List FieldRow → List ℕ → ℕ → List KnownField
+fields_at structs fields text of = map (field_by text) (field_rows structs fields of)
 
 -- the least and the most bytes of a struct
 abbrev pub bounds_of : Option StructRow → Option (ℕ × ℕ)
@@ -86,10 +105,6 @@ bounds_of (Some row) = Some (row.least, row.most)
 -- those of the struct of a number
 abbrev pub bounds_at : List StructRow → ℕ → Option (ℕ × ℕ)
 bounds_at structs of = bounds_of (slice_get structs of)
-
--- a part of a list by its first place and its length; nothing where the list ends before
-abbrev pub part : {X : Type 0} → List X → ℕ → ℕ → List X
-part xs from count = if nat_lt (length xs) (from + count) then [] else slice_range xs from (from + count)
 
 -- the rows of names
 abbrev pub rows_of : Option NamesRow → List NamedRow → List NamedRow
@@ -105,33 +120,23 @@ abbrev pub label_of : List NamedRow → ℕ → Option Label
 label_of [] number = None
 label_of (row ∷ rows) number = if row.number == number then Some row.label else label_of rows number
 
--- the name that a label says, if there is one
-abbrev pub IsNameOf : List ℕ → Option Label → Option (Bor (List ℕ)) → Type 0
-IsNameOf text None None = Unit {0}
-IsNameOf text None (Some name) = ⊥
-IsNameOf text (Some label) None = ⊥
-IsNameOf text (Some label) (Some name) = IsName text label name.now
+-- what a row says of a bit: its name, and its mask
+abbrev pub bit_by : List ℕ → NamedRow → List ℕ × ℕ
+bit_by text row = (name_at text row.label, row.number)
 
--- the name and the mask of a bit are what a row says
-abbrev pub IsBit : List ℕ → Option NamedRow → Option (Bor (List ℕ) × ℕ) → Type 0
-IsBit text None None = Unit {0}
-IsBit text None (Some bit) = ⊥
-IsBit text (Some row) None = ⊥
-IsBit text (Some row) (Some bit) = IsName text row.label bit.0.now × (bit.1 ≡ row.number)
+-- the bits of the names of a number, in their order
+abbrev pub bits_at : List NamesRow → List NamedRow → List ℕ → ℕ → List (List ℕ × ℕ)
+bits_at names values text of = map (bit_by text) (named_rows names values of)
 
--- the prefix of names
-abbrev pub IsNamesPrefix : List ℕ → Option NamesRow → List ℕ → Type 0
-IsNamesPrefix text None prefix = prefix ≡ []
-IsNamesPrefix text (Some row) prefix = IsName text row.prefix prefix
+-- the prefix of the names of a row
+abbrev pub names_prefix_by : List ℕ → Option NamesRow → List ℕ
+names_prefix_by text None = []
+names_prefix_by text (Some row) = name_at text row.prefix
 
 -- the bits of a number without those of these rows
 abbrev pub rest_of : List NamedRow → ℕ → ℕ
 rest_of [] number = number
 rest_of (row ∷ rows) number = rest_of rows (bit_xor number (bit_and number row.number))
-
--- the bytes of a text that a label says
-abbrev pub part_of : List ℕ → Label → List ℕ
-part_of text label = part text label.at label.len
 
 -- the number that the bytes of a kind are
 abbrev pub kind_number_of : Order → List ℕ → Option ℕ
@@ -148,7 +153,7 @@ kind_equals (Some kind) number = kind == number
 
 -- the bytes of a kind are that of a case
 abbrev pub is_kind : Kind → List ℕ → Order → List ℕ → CaseRow → Bool
-is_kind Text text o bs row = pointwise nat_eq (part_of text row.label) (stem_of bs)
+is_kind Text text o bs row = pointwise nat_eq (name_at text row.label) (stem_of bs)
 is_kind Number text o bs row = kind_equals (kind_number_of o bs) row.number
 
 -- the format of the first case that passes a test

@@ -1,8 +1,7 @@
 -- Which payloads are texts.
-use Rattle.std.specs.Prelude.{◌≡◌, ℕ, ◌==◌, ◌&&◌, not, nat_lt, nat_le, Bool, true, IsTrue, List, [], ◌∷◌, drop, Option, Some, None}
+use Rattle.std.specs.Prelude.{ℕ, ◌==◌, ◌&&◌, not, nat_lt, nat_le, Bool, true, List, [], ◌∷◌, drop}
 use Rattle.std.specs.List.{list_all, before_first, position_or_len}
-use Rattle.std.specs.Str.{IsUtf8}
-use denote.Ref.{Bor}
+use Rattle.std.specs.Str.{is_utf8}
 
 -- the bytes in front of the first zero byte
 abbrev pub stem_of : List ℕ → List ℕ
@@ -22,12 +21,5 @@ has_plain before [] = true
 has_plain before (b ∷ bs) = is_plain before b && has_plain b bs
 
 -- these bytes are a text: valid UTF-8 without controls, and then maybe zero bytes
-pub record IsText (bs : List ℕ) : Type 0 where
-  pub ended : IsTrue (is_ended bs)
-  pub plain : IsTrue (has_plain 0 (stem_of bs))
-  pub utf8 : IsUtf8 (stem_of bs)
-
--- the text that they are, if they are one
-abbrev pub IfText : List ℕ → Option (Bor (List ℕ)) → Type 0
-IfText bs None = IsText bs → ⊥
-IfText bs (Some text) = IsText bs × (text.now ≡ stem_of bs)
+abbrev pub is_text : List ℕ → Bool
+is_text bs = is_ended bs && has_plain 0 (stem_of bs) && is_utf8 (stem_of bs)

@@ -45,7 +45,7 @@ impl Number {
     }
 
     /// The number in bytes of its size, in a message of this byte order.
-    pub(crate) fn integer(self, order: Order, bytes: &[u8]) -> Integer
+    pub fn integer(self, order: Order, bytes: &[u8]) -> Integer
         requires { length bytes.now ≡ size_of self }
         ensures { integer_view result ≡ integer_of self order bytes.now }
     {

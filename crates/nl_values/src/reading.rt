@@ -1,19 +1,18 @@
 //! Reading what a payload means by its format.
 
-ghost use Rattle.std.specs.Prelude.{◌≡◌, ◌+◌, ◌-◌, ◌*◌, ◌==◌, ◌%◌, ◌≤◌, ◌<◌, ◌↔◌, if◌then◌else◌};
-ghost use Rattle.std.specs.Prelude.{IsTrue, drop, length};
+ghost use Rattle.std.specs.Prelude.{◌≡◌, ◌-◌, ◌*◌, ◌==◌, ◌%◌, ◌≤◌, if◌then◌else◌};
+ghost use Rattle.std.specs.Prelude.{drop, length, Some};
 ghost use Rattle.nl_attr.specs.Fixed as fixed;
-ghost use Rattle.nl_values.specs.Known.{bounds_of};
+ghost use Rattle.nl_values.specs.Known.{bounds_of, name_of};
 ghost use Rattle.nl_values.specs.Meanings as sense;
-ghost use Rattle.nl_values.specs.Meanings.{AreAttributes, Chooses, IsNamed, Means, Says};
-ghost use Rattle.nl_values.specs.Meanings.{SaysHeaded};
-ghost use Rattle.nl_values.specs.Meanings.{Visits, VisitsFor, VisitsHeaded, VisitsToRead};
-ghost use Rattle.nl_values.specs.Meanings.{array_sense, bits, counters, fields, flag, integer};
-ghost use Rattle.nl_values.specs.Meanings.{ip_sense, ipv4, ipv6, is_repeated, is_within, mac};
-ghost use Rattle.nl_values.specs.Meanings.{resolved_format, sense_of, series, unknown};
-ghost use Rattle.nl_values.specs.Meanings.{unsigned_sense, value};
+ghost use Rattle.nl_values.specs.Meanings.{array_sense, bits, counters, fields, flag};
+ghost use Rattle.nl_values.specs.Meanings.{headed_sense, headed_visits, integer, ip_sense, ipv4};
+ghost use Rattle.nl_values.specs.Meanings.{ipv6, is_list, is_repeated, is_within, mac, meaning_of};
+ghost use Rattle.nl_values.specs.Meanings.{resolved_format, sense_in, sense_of, series, unknown};
+ghost use Rattle.nl_values.specs.Meanings.{unsigned_sense, value, visits_in, visits_inside};
+ghost use Rattle.nl_values.specs.Meanings.{visits_of};
 ghost use Rattle.nl_values.specs.Numbers.{integer_of, raw_of, size_of};
-ghost use Rattle.nl_values.specs.Texts.{IsText, stem_of};
+ghost use Rattle.nl_values.specs.Texts.{is_text, stem_of};
 
 use crate::format::{Format, Number};
 use crate::meaning::{Meaning, Reading};
@@ -41,8 +40,8 @@ fn flag_of(bytes: &[u8]) -> Meaning<'_>
 }
 
 fn text_of(bytes: &[u8]) -> Meaning<'_>
-    ensures { Chooses (IsText bytes.entry.now)
-        (sense_of result ≡ sense.text (stem_of bytes.entry.now)) (sense_of result ≡ unknown) }
+    ensures { sense_of result ≡ (if is_text bytes.entry.now
+        then sense.text (stem_of bytes.entry.now) else unknown) }
 {
     match text_in(bytes) {
         Some(text) => Meaning::Text(text),
@@ -71,9 +70,9 @@ fn unsigned_in(order: Order, bytes: &[u8]) -> Meaning<'_>
 }
 
 fn value_in(number: Number, names: Names, order: Order, bytes: &[u8]) -> Meaning<'_>
-    ensures sense { sense_of result ≡ (if length bytes.entry.now == size_of number
-        then value (integer_of number order bytes.entry.now) else unknown) }
-    ensures name { IsNamed names (raw_of number order bytes.entry.now) result }
+    ensures { sense_of result ≡ (if length bytes.entry.now == size_of number
+        then value (integer_of number order bytes.entry.now)
+        (name_of names (raw_of number order bytes.entry.now)) else unknown) }
 {
     if bytes.len() != number.size() {
         return Meaning::Unknown;
@@ -206,8 +205,8 @@ fn array_in(of: Struct, bytes: &[u8]) -> Meaning<'_>
 /// Scans bytes as attributes, a level deeper than the attribute that holds them.
 fn scan_inside(region: &[u8], order: Order, level: u8, depth: Depth) -> Scan
     requires { length region.now ≤ fixed.LONGEST_REGION }
-    ensures list { IsTrue result.is_list ↔ AreAttributes order depth level region.now }
-    ensures visits { Visits order depth level region.now result.visits }
+    ensures list { result.is_list ≡ is_list order depth level region.now }
+    ensures visits { result.visits ≡ visits_inside order depth level region.now }
     ensures bound { result.visits ≤ (depth - level) * length region.now }
 {
     if level >= depth.get() {
@@ -232,9 +231,9 @@ fn scan_inside(region: &[u8], order: Order, level: u8, depth: Depth) -> Scan
 
 fn read_attributes(set: Set, bytes: &[u8], order: Order, level: u8, depth: Depth) -> Reading<'_>
     requires { length bytes.now ≤ fixed.LONGEST_REGION }
-    ensures means { Chooses (AreAttributes order depth level bytes.entry.now)
-        (sense_of result.meaning ≡ sense.list set) (sense_of result.meaning ≡ unknown) }
-    ensures visits { Visits order depth level bytes.entry.now result.visits }
+    ensures means { sense_of result.meaning ≡ (if is_list order depth level bytes.entry.now
+        then sense.list set else unknown) }
+    ensures visits { result.visits ≡ visits_inside order depth level bytes.entry.now }
     ensures bound { result.visits ≤ (depth - level) * length bytes.entry.now }
 {
     let Scan { is_list, visits } = scan_inside(bytes, order, level, depth);
@@ -267,10 +266,10 @@ fn read_behind(
     depth: Depth,
 ) -> Reading<'_>
     requires { length bytes.now ≤ fixed.LONGEST_REGION }
-    ensures means { SaysHeaded order depth level (Some (least, least)) of set bytes.entry.now
-        result.meaning }
-    ensures visits { VisitsHeaded order depth level (Some (least, least)) bytes.entry.now
-        result.visits }
+    ensures means { sense_of result.meaning
+        ≡ headed_sense order depth level (Some (least, least)) of set bytes.entry.now }
+    ensures visits { result.visits
+        ≡ headed_visits order depth level (Some (least, least)) bytes.entry.now }
     ensures bound { result.visits ≤ (depth - level) * length bytes.entry.now }
 {
     if bytes.len() < usize::from(least) {
@@ -296,9 +295,10 @@ fn read_headed(
     depth: Depth,
 ) -> Reading<'_>
     requires { length bytes.now ≤ fixed.LONGEST_REGION }
-    ensures means { SaysHeaded order depth level (bounds_of of) of set bytes.entry.now
-        result.meaning }
-    ensures visits { VisitsHeaded order depth level (bounds_of of) bytes.entry.now result.visits }
+    ensures means { sense_of result.meaning
+        ≡ headed_sense order depth level (bounds_of of) of set bytes.entry.now }
+    ensures visits { result.visits
+        ≡ headed_visits order depth level (bounds_of of) bytes.entry.now }
     ensures bound { result.visits ≤ (depth - level) * length bytes.entry.now }
 {
     match of.bounds() {
@@ -323,8 +323,9 @@ fn read_by<'a>(
     depth: Depth,
 ) -> Reading<'a>
     requires { length bytes.now ≤ fixed.LONGEST_REGION }
-    ensures means { Says order depth level bytes.entry.now format result.meaning }
-    ensures visits { VisitsFor order depth level bytes.entry.now format result.visits }
+    ensures means { sense_of result.meaning
+        ≡ meaning_of order depth level bytes.entry.now format }
+    ensures visits { result.visits ≡ visits_of order depth level bytes.entry.now format }
     ensures bound { result.visits ≤ (depth - level) * length bytes.entry.now }
 {
     match format {
@@ -374,8 +375,10 @@ pub fn read_meaning<'a>(
     depth: Depth,
 ) -> Reading<'a>
     requires { length bytes.now ≤ fixed.LONGEST_REGION }
-    ensures means { Means order depth level bytes.entry.now format kind.now result.meaning }
-    ensures visits { VisitsToRead order depth level bytes.entry.now format kind.now result.visits }
+    ensures means { sense_of result.meaning
+        ≡ sense_in order depth level format kind.now bytes.entry.now }
+    ensures visits { result.visits
+        ≡ visits_in order depth level format kind.now bytes.entry.now }
     // No byte is visited more often than there are levels below.
     ensures bound { result.visits ≤ (depth - level) * length bytes.entry.now }
 {

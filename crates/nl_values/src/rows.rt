@@ -2,10 +2,12 @@
 //! proofs don't depend on how long one is.
 
 ghost use Rattle.std.specs.Prelude.{◌≡◌, slice_get};
-ghost use Rattle.nl_values.specs.Rows.{IsBit, IsName, IsNameOf, IsNamesPrefix, IsPrefix, Says};
-ghost use Rattle.nl_values.specs.Rows.{SaysField, bounds_at, case_of, field_at, format_at};
-ghost use Rattle.nl_values.specs.Rows.{is_kind, kind_number_of, label_of, named_rows, part_of};
-ghost use Rattle.nl_values.specs.Rows.{rest_of, row_at, row_in};
+ghost use Rattle.std.specs.Option.{option_map};
+ghost use Rattle.std.specs.Str.{IsAscii};
+ghost use Rattle.nl_values.specs.Rows.{attribute_by, attribute_view, bit_view, bits_at, bounds_at};
+ghost use Rattle.nl_values.specs.Rows.{case_of, field_rows, field_view, fields_at, format_at};
+ghost use Rattle.nl_values.specs.Rows.{is_kind, kind_number_of, label_of, name_at, named_rows};
+ghost use Rattle.nl_values.specs.Rows.{names_prefix_by, prefix_by, rest_of, row_at, row_in};
 
 use crate::format::Format;
 use crate::set::Attribute;
@@ -95,7 +97,8 @@ pub(crate) struct CaseRow {
 
 /// The name that a label says.
 fn name_in(text: &'static str, label: Label) -> &'static str
-    ensures { IsName text.entry.now label result.now }
+    requires ascii { IsAscii text.now }
+    ensures { result.now ≡ name_at text.entry.now label }
 {
     let from = label.at as usize;
     match text.get(from..from + label.len as usize) {
@@ -106,7 +109,8 @@ fn name_in(text: &'static str, label: Label) -> &'static str
 
 /// The prefix of a set.
 pub(crate) fn prefix_in(sets: &[SetRow], text: &'static str, set: u16) -> &'static str
-    ensures { IsPrefix sets.now text.entry.now set result.now }
+    requires ascii { IsAscii text.now }
+    ensures { result.now ≡ prefix_by text.entry.now (slice_get sets.now set) }
 {
     match sets.get(set as usize) {
         Some(row) => name_in(text, row.prefix),
@@ -138,7 +142,9 @@ pub(crate) fn attribute_in(
     set: u16,
     number: u16,
 ) -> Option<Attribute>
-    ensures { Says text.entry.now (row_at sets.now rows.now set number) result }
+    requires ascii { IsAscii text.now }
+    ensures { option_map attribute_view result
+        ≡ option_map (attribute_by text.entry.now) (row_at sets.now rows.now set number) }
 {
     let row = sets.get(set as usize)?.row(rows, number)?;
     Some(Attribute {
@@ -147,21 +153,36 @@ pub(crate) fn attribute_in(
     })
 }
 
-/// The fields of a struct with their names, by index.
+/// The rows of the fields of the struct of this number. None where the table has fewer.
+pub(crate) fn fields_in<'a>(
+    structs: &[StructRow],
+    fields: &'a [FieldRow],
+    of: u16,
+) -> &'a [FieldRow]
+    ensures { result.now ≡ field_rows structs.now fields.entry.now of }
+{
+    match structs.get(of as usize) {
+        Some(row) => {
+            let from = row.from as usize;
+            fields.get(from..from + row.count as usize).unwrap_or(&[])
+        }
+        None => &[],
+    }
+}
+
+/// The field of an index in a struct.
 pub(crate) fn field_in(
     structs: &[StructRow],
     fields: &[FieldRow],
     text: &'static str,
     of: u16,
-    index: u16,
+    index: usize,
 ) -> Option<Field>
-    ensures { SaysField text.entry.now (field_at structs.now fields.now of index) result }
+    requires ascii { IsAscii text.now }
+    ensures { option_map field_view result
+        ≡ slice_get (fields_at structs.now fields.now text.entry.now of) index }
 {
-    let row = structs.get(of as usize)?;
-    if index >= row.count {
-        return None;
-    }
-    let field = fields.get(row.from as usize + index as usize)?;
+    let field = fields_in(structs, fields, of).get(index)?;
     Some(Field {
         name: name_in(text, field.label),
         place: field.place,
@@ -179,7 +200,7 @@ pub(crate) fn bounds_in(structs: &[StructRow], of: u16) -> Option<(u16, u16)>
 }
 
 /// The rows of the names of this number. None where the table has fewer.
-fn rows_in<'a>(names: &[NamesRow], values: &'a [NamedRow], of: u16) -> &'a [NamedRow]
+pub(crate) fn rows_in<'a>(names: &[NamesRow], values: &'a [NamedRow], of: u16) -> &'a [NamedRow]
     ensures { result.now ≡ named_rows names.now values.entry.now of }
 {
     match names.get(of as usize) {
@@ -210,8 +231,9 @@ pub(crate) fn value_name_in(
     of: u16,
     number: u64,
 ) -> Option<&'static str>
-    ensures { IsNameOf text.entry.now (label_of (named_rows names.now values.now of) number)
-        result }
+    requires ascii { IsAscii text.now }
+    ensures { option_map (λ r. r.now) result ≡ option_map (name_at text.entry.now)
+        (label_of (named_rows names.now values.now of) number) }
 {
     let label = label_in(rows_in(names, values, of), number)?;
     Some(name_in(text, label))
@@ -223,17 +245,20 @@ pub(crate) fn bit_in(
     values: &[NamedRow],
     text: &'static str,
     of: u16,
-    index: u16,
+    index: usize,
 ) -> Option<(&'static str, u64)>
-    ensures { IsBit text.entry.now (slice_get (named_rows names.now values.now of) index) result }
+    requires ascii { IsAscii text.now }
+    ensures { option_map bit_view result
+        ≡ slice_get (bits_at names.now values.now text.entry.now of) index }
 {
-    let row = rows_in(names, values, of).get(index as usize)?;
+    let row = rows_in(names, values, of).get(index)?;
     Some((name_in(text, row.label), u64::from(row.number)))
 }
 
 /// The prefix of names.
 pub(crate) fn names_prefix_in(names: &[NamesRow], text: &'static str, of: u16) -> &'static str
-    ensures { IsNamesPrefix text.entry.now (slice_get names.now of) result.now }
+    requires ascii { IsAscii text.now }
+    ensures { result.now ≡ names_prefix_by text.entry.now (slice_get names.now of) }
 {
     match names.get(of as usize) {
         Some(row) => name_in(text, row.prefix),
@@ -261,7 +286,7 @@ pub(crate) fn unnamed_in(names: &[NamesRow], values: &[NamedRow], of: u16, numbe
 
 /// The part of a text that a label says, as bytes.
 fn part_in(text: &'static str, label: Label) -> &'static [u8]
-    ensures { result.now ≡ part_of text.entry.now label }
+    ensures { result.now ≡ name_at text.entry.now label }
 {
     let from = label.at as usize;
     text.as_bytes()

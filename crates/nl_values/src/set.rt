@@ -1,6 +1,8 @@
 //! Sets of attributes.
 
-ghost use Rattle.nl_values.specs.Known.{HasPrefix, IsAttribute};
+ghost use Rattle.std.specs.Prelude.{◌≡◌, IfSome, true};
+ghost use Rattle.std.specs.Option.{option_map};
+ghost use Rattle.nl_values.specs.Known.{attribute_of, attribute_view, is_word, prefix_of};
 
 use crate::format::Format;
 use crate::rows::{attribute_in, prefix_in};
@@ -42,14 +44,16 @@ impl Set {
 
     /// What the kernel's names of its attributes begin with, as `IFLA_`.
     pub fn prefix(self) -> &'static str
-        ensures { HasPrefix self result.now }
+        ensures { result.now ≡ prefix_of self }
     {
         prefix_in(&SETS, NAMES_OF_ATTRIBUTES, self.0)
     }
 
     /// What is said of the attribute of this number. `None` where the set has none.
     pub fn attribute(self, number: u16) -> Option<Attribute>
-        ensures { IsAttribute self number result }
+        ensures row { option_map attribute_view result ≡ attribute_of self number }
+        // The name is short, of letters, digits, `_` and `-`.
+        ensures word { IfSome result (λ it. is_word it.name.now ≡ true) }
     {
         attribute_in(&SETS, &ATTRIBUTES, NAMES_OF_ATTRIBUTES, self.0, number)
     }

@@ -1,11 +1,12 @@
 //! Structs of the kernel's headers.
 
-ghost use Rattle.std.specs.Prelude.{◌≡◌, ◌+◌};
-ghost use Rattle.nl_values.specs.Known.{IsField, bounds_of};
-ghost use Rattle.nl_values.specs.Fields.{IsPart};
+ghost use Rattle.std.specs.Prelude.{◌≡◌, length, slice_get};
+ghost use Rattle.std.specs.Option.{option_map};
+ghost use Rattle.nl_values.specs.Known.{bounds_of, field_view, fields_of};
+ghost use Rattle.nl_values.specs.Fields.{part_in};
 
 use crate::format::Format;
-use crate::rows::{bounds_in, field_in};
+use crate::rows::{bounds_in, field_in, fields_in};
 use crate::tables::{FIELDS, NAMES_OF_FIELDS, STRUCTS};
 
 /// A struct, by its number in the tables.
@@ -26,9 +27,16 @@ pub struct Field {
 }
 
 impl Struct {
+    /// How many fields it has.
+    pub fn len(self) -> usize
+        ensures { result ≡ length (fields_of self) }
+    {
+        fields_in(&STRUCTS, &FIELDS, self.0).len()
+    }
+
     /// The field of this index. `None` from the number of fields on.
-    pub fn field(self, index: u16) -> Option<Field>
-        ensures { IsField self index result }
+    pub fn field(self, index: usize) -> Option<Field>
+        ensures { option_map field_view result ≡ slice_get (fields_of self) index }
     {
         field_in(&STRUCTS, &FIELDS, NAMES_OF_FIELDS, self.0, index)
     }
@@ -44,7 +52,8 @@ impl Struct {
 impl Field {
     /// The bytes of the field in those of its struct. `None` where these are fewer.
     pub fn part<'a>(&self, bytes: &'a [u8]) -> Option<&'a [u8]>
-        ensures { IsPart self.now.place self.now.size bytes.entry.now result }
+        ensures { option_map (λ r. r.now) result
+            ≡ part_in self.now.place self.now.size bytes.entry.now }
     {
         let from = usize::from(self.place);
         if self.size == 0 {

@@ -1,8 +1,9 @@
 //! Texts: which payloads are one.
 
-ghost use Rattle.std.specs.Prelude.{◌≡◌, ◌==◌};
+ghost use Rattle.std.specs.Prelude.{◌≡◌, ◌==◌, None, Some, if◌then◌else◌};
 ghost use Rattle.std.specs.List.{list_all, position, position_or_len};
-ghost use Rattle.nl_values.specs.Texts.{IfText, has_plain, is_ended, is_plain, stem_of};
+ghost use Rattle.std.specs.Option.{option_map};
+ghost use Rattle.nl_values.specs.Texts.{has_plain, is_ended, is_plain, is_text, stem_of};
 
 /// The index of the first zero byte.
 fn zero_at(bytes: &[u8]) -> Option<usize>
@@ -65,7 +66,8 @@ fn is_free_of_controls(bytes: &[u8]) -> bool
 /// The text that a payload is, without zero bytes at its end. `None` where it is none: it isn't
 /// valid UTF-8, or it has a control character.
 pub(crate) fn text_in(bytes: &[u8]) -> Option<&str>
-    ensures { IfText bytes.entry.now result }
+    ensures { option_map (λ r. r.now) result
+        ≡ (if is_text bytes.entry.now then Some (stem_of bytes.entry.now) else None) }
 {
     let stem = stem(bytes);
     if !has_only_zeros_behind(bytes) || !is_free_of_controls(stem) {

@@ -6,8 +6,8 @@ macro_rules! links {
     // 0 addr-attrs
     { 0 "IFA_" 1 0 11; 4 "ADDRESS" Ip, 11 "LOCAL" Ip, 16 "LABEL" Text, 21 "BROADCAST" Ip,
     30 "ANYCAST" Ip, 37 "CACHEINFO" Fields(Struct(58)), 46 "MULTICAST" Ip,
-    55 "FLAGS" Bits(Number::U32, Names(61)), 60 "RT_PRIORITY" U32, 71 "TARGET_NETNSID" I32,
-    85 "PROTO" Value(Number::U8, Names(62)) }
+    55 "FLAGS" Bits(Number::U32, Names(70)), 60 "RT_PRIORITY" U32, 71 "TARGET_NETNSID" I32,
+    85 "PROTO" Value(Number::U8, Names(71)) }
     { 90 "IFAL_" 1 11 2; 95 "ADDRESS" Ipv6, 102 "LABEL" U32 } // 1 addrlabel-attrs
     // 2 af-spec-attrs
     { 107 "AF_" 2 13 44; 110 "INET" List(Set(54)), 114 "" Bytes, 114 "" Bytes, 114 "" Bytes,
@@ -30,12 +30,14 @@ macro_rules! links {
     { 323 "IFLA_BOND_SLAVE_" 1 72 12; 339 "STATE" Value(Number::U8, Names(50)),
     344 "MII_STATUS" Value(Number::U8, Names(49)), 354 "LINK_FAILURE_COUNT" U32,
     372 "PERM_HWADDR" Mac, 383 "QUEUE_ID" U16, 391 "AD_AGGREGATOR_ID" U16,
-    407 "AD_ACTOR_OPER_PORT_STATE" U8, 431 "AD_PARTNER_OPER_PORT_STATE" U16, 457 "PRIO" I32,
-    461 "ACTOR_PORT_PRIO" U16, 476 "AD_CHURN_ACTOR_STATE" U8, 496 "AD_CHURN_PARTNER_STATE" U8 }
+    407 "AD_ACTOR_OPER_PORT_STATE" Bits(Number::U8, Names(52)),
+    431 "AD_PARTNER_OPER_PORT_STATE" Bits(Number::U16, Names(52)), 457 "PRIO" I32,
+    461 "ACTOR_PORT_PRIO" U16, 476 "AD_CHURN_ACTOR_STATE" Value(Number::U8, Names(59)),
+    496 "AD_CHURN_PARTNER_STATE" Value(Number::U8, Names(59)) }
     { 518 "BOND_XSTATS_" 1 84 1; 530 "3AD" List(Set(3)) } // 6 bond-xstats-attrs
     // 7 bridge-af-spec-attrs
-    { 533 "IFLA_BRIDGE_" 0 85 7; 545 "FLAGS" Bits(Number::U16, Names(54)),
-    550 "MODE" Value(Number::U16, Names(53)), 554 "VLAN_INFO" Fields(Struct(53)),
+    { 533 "IFLA_BRIDGE_" 0 85 7; 545 "FLAGS" Bits(Number::U16, Names(62)),
+    550 "MODE" Value(Number::U16, Names(61)), 554 "VLAN_INFO" Fields(Struct(53)),
     563 "VLAN_TUNNEL_INFO" List(Set(32)), 579 "MRP" List(Set(18)), 582 "CFM" List(Set(8)),
     585 "MST" List(Set(29)) }
     // 8 bridge-cfm-attrs
@@ -110,14 +112,14 @@ macro_rules! links {
     { 2056 "IFLA_BRIDGE_MST_" 1 195 1; 2072 "ENTRY" List(Set(30)) } // 29 bridge-mst-attrs
     // 30 bridge-mst-entry-attrs
     { 2077 "IFLA_BRIDGE_MST_ENTRY_" 1 196 2; 2099 "MSTI" U16,
-    2103 "STATE" Value(Number::U8, Names(52)) }
+    2103 "STATE" Value(Number::U8, Names(60)) }
     // 31 bridge-querier-attrs
     { 2108 "BRIDGE_QUERIER_" 1 198 7; 2123 "IP_ADDRESS" Ipv4, 2133 "IP_PORT" U32,
     2140 "IP_OTHER_TIMER" U64, 2154 "PAD" Bytes, 2157 "IPV6_ADDRESS" Ipv6, 2169 "IPV6_PORT" U32,
     2178 "IPV6_OTHER_TIMER" U64 }
     // 32 bridge-vlan-tunnel-attrs
     { 2194 "IFLA_BRIDGE_VLAN_TUNNEL_" 1 205 3; 2218 "ID" U32, 2220 "VID" U16,
-    2223 "FLAGS" Bits(Number::U16, Names(55)) }
+    2223 "FLAGS" Bits(Number::U16, Names(63)) }
     // 33 bridge-xstats-attrs
     { 2228 "BRIDGE_XSTATS_" 1 208 4; 2242 "VLAN" Fields(Struct(54)),
     2246 "MCAST" Fields(Struct(56)), 2251 "PAD" Bytes, 2254 "STP" Fields(Struct(55)) }
@@ -145,28 +147,28 @@ macro_rules! links {
     // 39 dcb-cap-attrs
     { 2586 "DCB_CAP_ATTR_" 1 266 9; 2599 "ALL" Flag, 2602 "PG" U8, 2604 "PFC" U8, 2607 "UP2TC" U8,
     2612 "PG_TCS" U8, 2618 "PFC_TCS" U8, 2625 "GSP" U8, 2628 "BCN" U8, 2631 "DCBX" U8 }
-    { 2635 "DCB_ATTR_CEE_" 1 275 1; 2648 "APP" Fields(Struct(162)) } // 40 dcb-cee-app-attrs
+    { 2635 "DCB_ATTR_CEE_" 1 275 1; 2648 "APP" Fields(Struct(163)) } // 40 dcb-cee-app-attrs
     // 41 dcb-cee-attrs
-    { 2651 "DCB_ATTR_CEE_" 1 276 8; 2664 "PEER_PG" Fields(Struct(164)),
-    2671 "PEER_PFC" Fields(Struct(165)), 2679 "PEER_APP_TABLE" List(Set(42)),
+    { 2651 "DCB_ATTR_CEE_" 1 276 8; 2664 "PEER_PG" Fields(Struct(165)),
+    2671 "PEER_PFC" Fields(Struct(166)), 2679 "PEER_APP_TABLE" List(Set(42)),
     2693 "TX_PG" List(Set(48)), 2698 "RX_PG" List(Set(48)), 2703 "PFC" List(Set(47)),
     2706 "APP_TABLE" List(Set(40)), 2715 "FEAT" List(Set(43)) }
     // 42 dcb-cee-peer-app-attrs
-    { 2719 "DCB_ATTR_CEE_PEER_" 1 284 2; 2737 "APP_INFO" Fields(Struct(163)),
-    2745 "APP" Fields(Struct(162)) }
+    { 2719 "DCB_ATTR_CEE_PEER_" 1 284 2; 2737 "APP_INFO" Fields(Struct(164)),
+    2745 "APP" Fields(Struct(163)) }
     // 43 dcb-featcfg-attrs
     { 2748 "DCB_FEATCFG_ATTR_" 1 286 4; 2765 "ALL" Flag, 2768 "PG" U8, 2770 "PFC" U8,
     2773 "APP" U8 }
     // 44 dcb-ieee-app-attrs
-    { 2776 "DCB_ATTR_" 1 290 2; 2785 "IEEE_APP" Fields(Struct(162)),
-    2793 "DCB_APP" Fields(Struct(162)) }
+    { 2776 "DCB_ATTR_" 1 290 2; 2785 "IEEE_APP" Fields(Struct(163)),
+    2793 "DCB_APP" Fields(Struct(163)) }
     // 45 dcb-ieee-attrs
-    { 2800 "DCB_ATTR_" 1 292 12; 2809 "IEEE_ETS" Fields(Struct(156)),
-    2817 "IEEE_PFC" Fields(Struct(157)), 2825 "IEEE_APP_TABLE" List(Set(44)),
-    2839 "IEEE_PEER_ETS" Fields(Struct(156)), 2852 "IEEE_PEER_PFC" Fields(Struct(157)),
-    2865 "IEEE_PEER_APP" List(Set(44)), 2878 "IEEE_MAXRATE" Fields(Struct(158)),
-    2890 "IEEE_QCN" Fields(Struct(159)), 2898 "IEEE_QCN_STATS" Fields(Struct(160)),
-    2912 "DCB_BUFFER" Fields(Struct(161)), 2922 "DCB_APP_TRUST_TABLE" List(Set(44)),
+    { 2800 "DCB_ATTR_" 1 292 12; 2809 "IEEE_ETS" Fields(Struct(157)),
+    2817 "IEEE_PFC" Fields(Struct(158)), 2825 "IEEE_APP_TABLE" List(Set(44)),
+    2839 "IEEE_PEER_ETS" Fields(Struct(157)), 2852 "IEEE_PEER_PFC" Fields(Struct(158)),
+    2865 "IEEE_PEER_APP" List(Set(44)), 2878 "IEEE_MAXRATE" Fields(Struct(159)),
+    2890 "IEEE_QCN" Fields(Struct(160)), 2898 "IEEE_QCN_STATS" Fields(Struct(161)),
+    2912 "DCB_BUFFER" Fields(Struct(162)), 2922 "DCB_APP_TRUST_TABLE" List(Set(44)),
     2941 "DCB_REWR_TABLE" List(Set(44)) }
     // 46 dcb-numtcs-attrs
     { 2955 "DCB_NUMTCS_ATTR_" 1 304 3; 2971 "ALL" Flag, 2974 "PG" U8, 2976 "PFC" U8 }
@@ -193,11 +195,11 @@ macro_rules! links {
     { 3278 "FRA_" 1 350 25; 3282 "DST" Ip, 3285 "SRC" Ip, 3288 "IIFNAME" Text, 3295 "GOTO" U32,
     3299 "UNUSED2" Bytes, 3306 "PRIORITY" U32, 3314 "UNUSED3" Bytes, 3321 "UNUSED4" Bytes,
     3328 "UNUSED5" Bytes, 3335 "FWMARK" U32, 3341 "FLOW" U32, 3345 "TUN_ID" NETWORK_U64,
-    3351 "SUPPRESS_IFGROUP" U32, 3367 "SUPPRESS_PREFIXLEN" U32, 3385 "TABLE" U32,
-    3390 "FWMASK" U32, 3396 "OIFNAME" Text, 3403 "PAD" Bytes, 3406 "L3MDEV" U8,
-    3412 "UID_RANGE" Fields(Struct(66)), 3421 "PROTOCOL" Value(Number::U8, Names(67)),
-    3429 "IP_PROTO" U8, 3437 "SPORT_RANGE" Fields(Struct(67)),
-    3448 "DPORT_RANGE" Fields(Struct(67)), 3459 "DSCP" U8 }
+    3351 "SUPPRESS_IFGROUP" I32, 3367 "SUPPRESS_PREFIXLEN" I32,
+    3385 "TABLE" Value(Number::U32, Names(78)), 3390 "FWMASK" U32, 3396 "OIFNAME" Text,
+    3403 "PAD" Bytes, 3406 "L3MDEV" U8, 3412 "UID_RANGE" Fields(Struct(66)),
+    3421 "PROTOCOL" Value(Number::U8, Names(76)), 3429 "IP_PROTO" U8,
+    3437 "SPORT_RANGE" Fields(Struct(67)), 3448 "DPORT_RANGE" Fields(Struct(67)), 3459 "DSCP" U8 }
     // 53 hw-s-info-one
     { 3463 "IFLA_OFFLOAD_XSTATS_HW_S_INFO_" 1 375 2; 3493 "REQUEST" U8, 3500 "USED" U8 }
     { 3504 "IFLA_INET_" 1 377 1; 3514 "CONF" Counters(Number::I32, Names(20)) } // 54 ifla-attrs
@@ -206,7 +208,7 @@ macro_rules! links {
     { 3539 "IFLA_INET6_" 1 379 9; 3550 "FLAGS" U32, 3555 "CONF" Counters(Number::I32, Names(21)),
     3559 "STATS" Counters(Number::U64, Names(22)), 3564 "MCAST" Bytes,
     3569 "CACHEINFO" Fields(Struct(29)), 3578 "ICMP6STATS" Counters(Number::U64, Names(23)),
-    3588 "TOKEN" Bytes, 3593 "ADDR_GEN_MODE" Value(Number::U8, Names(19)), 3606 "RA_MTU" U32 }
+    3588 "TOKEN" Ipv6, 3593 "ADDR_GEN_MODE" Value(Number::U8, Names(19)), 3606 "RA_MTU" U32 }
     // 57 ipmr-cache-report-attrs
     { 3612 "IPMRA_CREPORT_" 1 388 6; 3626 "MSGTYPE" U8, 3633 "VIF_ID" U32, 3639 "SRC_ADDR" Ip,
     3647 "DST_ADDR" Ip, 3655 "PKT" Bytes, 3658 "TABLE" U32 }
@@ -268,15 +270,18 @@ macro_rules! links {
     { 4829 "IFLA_BOND_" 1 505 32; 4839 "MODE" Value(Number::U8, Names(48)),
     4843 "ACTIVE_SLAVE" U32, 4855 "MIIMON" U32, 4861 "UPDELAY" U32, 4868 "DOWNDELAY" U32,
     4877 "USE_CARRIER" U8, 4888 "ARP_INTERVAL" U32, 4900 "ARP_IP_TARGET" List(Set(171)),
-    4913 "ARP_VALIDATE" U32, 4925 "ARP_ALL_TARGETS" U32, 4940 "PRIMARY" U32,
-    4947 "PRIMARY_RESELECT" U8, 4963 "FAIL_OVER_MAC" U8,
+    4913 "ARP_VALIDATE" Value(Number::U32, Names(53)),
+    4925 "ARP_ALL_TARGETS" Value(Number::U32, Names(54)), 4940 "PRIMARY" U32,
+    4947 "PRIMARY_RESELECT" Value(Number::U8, Names(55)),
+    4963 "FAIL_OVER_MAC" Value(Number::U8, Names(56)),
     4976 "XMIT_HASH_POLICY" Value(Number::U8, Names(51)), 4992 "RESEND_IGMP" U32,
     5003 "NUM_PEER_NOTIF" U8, 5017 "ALL_SLAVES_ACTIVE" U8, 5034 "MIN_LINKS" U32,
-    5043 "LP_INTERVAL" U32, 5054 "PACKETS_PER_SLAVE" U32, 5071 "AD_LACP_RATE" U8,
-    5083 "AD_SELECT" U8, 5092 "AD_INFO" List(Set(4)), 5099 "AD_ACTOR_SYS_PRIO" U16,
-    5116 "AD_USER_PORT_KEY" U16, 5132 "AD_ACTOR_SYSTEM" Mac, 5147 "TLB_DYNAMIC_LB" U8,
-    5161 "PEER_NOTIF_DELAY" U32, 5177 "AD_LACP_ACTIVE" U8, 5191 "MISSED_MAX" U8,
-    5201 "NS_IP6_TARGET" List(Set(172)), 5214 "COUPLED_CONTROL" U8 }
+    5043 "LP_INTERVAL" U32, 5054 "PACKETS_PER_SLAVE" U32,
+    5071 "AD_LACP_RATE" Value(Number::U8, Names(57)),
+    5083 "AD_SELECT" Value(Number::U8, Names(58)), 5092 "AD_INFO" List(Set(4)),
+    5099 "AD_ACTOR_SYS_PRIO" U16, 5116 "AD_USER_PORT_KEY" U16, 5132 "AD_ACTOR_SYSTEM" Mac,
+    5147 "TLB_DYNAMIC_LB" U8, 5161 "PEER_NOTIF_DELAY" U32, 5177 "AD_LACP_ACTIVE" U8,
+    5191 "MISSED_MAX" U8, 5201 "NS_IP6_TARGET" List(Set(172)), 5214 "COUPLED_CONTROL" U8 }
     // 70 linkinfo-bridge-attrs
     { 5229 "IFLA_BR_" 1 537 49; 5237 "FORWARD_DELAY" U32, 5250 "HELLO_TIME" U32,
     5260 "MAX_AGE" U32, 5267 "AGEING_TIME" U32, 5278 "STP_STATE" U32, 5287 "PRIORITY" U16,
@@ -285,9 +290,10 @@ macro_rules! links {
     5343 "BRIDGE_ID" Fields(Struct(28)), 5352 "ROOT_PORT" U16, 5361 "ROOT_PATH_COST" U32,
     5375 "TOPOLOGY_CHANGE" U8, 5390 "TOPOLOGY_CHANGE_DETECTED" U8, 5414 "HELLO_TIMER" U64,
     5425 "TCN_TIMER" U64, 5434 "TOPOLOGY_CHANGE_TIMER" U64, 5455 "GC_TIMER" U64,
-    5463 "GROUP_ADDR" Mac, 5473 "FDB_FLUSH" Bytes, 5482 "MCAST_ROUTER" U8,
-    5494 "MCAST_SNOOPING" U8, 5508 "MCAST_QUERY_USE_IFADDR" U8, 5530 "MCAST_QUERIER" U8,
-    5543 "MCAST_HASH_ELASTICITY" U32, 5564 "MCAST_HASH_MAX" U32, 5578 "MCAST_LAST_MEMBER_CNT" U32,
+    5463 "GROUP_ADDR" Mac, 5473 "FDB_FLUSH" Bytes,
+    5482 "MCAST_ROUTER" Value(Number::U8, Names(65)), 5494 "MCAST_SNOOPING" U8,
+    5508 "MCAST_QUERY_USE_IFADDR" U8, 5530 "MCAST_QUERIER" U8, 5543 "MCAST_HASH_ELASTICITY" U32,
+    5564 "MCAST_HASH_MAX" U32, 5578 "MCAST_LAST_MEMBER_CNT" U32,
     5599 "MCAST_STARTUP_QUERY_CNT" U32, 5622 "MCAST_LAST_MEMBER_INTVL" U64,
     5645 "MCAST_MEMBERSHIP_INTVL" U64, 5667 "MCAST_QUERIER_INTVL" U64,
     5686 "MCAST_QUERY_INTVL" U64, 5703 "MCAST_QUERY_RESPONSE_INTVL" U64,
@@ -295,17 +301,17 @@ macro_rules! links {
     5787 "NF_CALL_ARPTABLES" U8, 5804 "VLAN_DEFAULT_PVID" U16, 5821 "PAD" Bytes,
     5824 "VLAN_STATS_ENABLED" U8, 5842 "MCAST_STATS_ENABLED" U8, 5861 "MCAST_IGMP_VERSION" U8,
     5879 "MCAST_MLD_VERSION" U8, 5896 "VLAN_STATS_PER_PORT" U8,
-    5915 "MULTI_BOOLOPT" Fields(Struct(52)), 5928 "MCAST_QUERIER_STATE" Bytes,
+    5915 "MULTI_BOOLOPT" Fields(Struct(52)), 5928 "MCAST_QUERIER_STATE" List(Set(31)),
     5947 "FDB_N_LEARNED" U32, 5960 "FDB_MAX_LEARNED" U32 }
     // 71 linkinfo-brport-attrs
-    { 5975 "IFLA_BRPORT_" 1 586 44; 5987 "STATE" Value(Number::U8, Names(52)),
+    { 5975 "IFLA_BRPORT_" 1 586 44; 5987 "STATE" Value(Number::U8, Names(60)),
     5992 "PRIORITY" U16, 6000 "COST" U32, 6004 "MODE" U8, 6008 "GUARD" U8, 6013 "PROTECT" U8,
     6020 "FAST_LEAVE" U8, 6030 "LEARNING" U8, 6038 "UNICAST_FLOOD" U8, 6051 "PROXYARP" U8,
     6059 "LEARNING_SYNC" U8, 6072 "PROXYARP_WIFI" U8, 6085 "ROOT_ID" Fields(Struct(28)),
     6092 "BRIDGE_ID" Fields(Struct(28)), 6101 "DESIGNATED_PORT" U16, 6116 "DESIGNATED_COST" U16,
     6131 "ID" U16, 6133 "NO" U16, 6135 "TOPOLOGY_CHANGE_ACK" U8, 6154 "CONFIG_PENDING" U8,
     6168 "MESSAGE_AGE_TIMER" U64, 6185 "FORWARD_DELAY_TIMER" U64, 6204 "HOLD_TIMER" U64,
-    6214 "FLUSH" Flag, 6219 "MULTICAST_ROUTER" Value(Number::U8, Names(57)), 6235 "PAD" Bytes,
+    6214 "FLUSH" Flag, 6219 "MULTICAST_ROUTER" Value(Number::U8, Names(65)), 6235 "PAD" Bytes,
     6238 "MCAST_FLOOD" U8, 6249 "MCAST_TO_UCAST" U8, 6263 "VLAN_TUNNEL" U8, 6274 "BCAST_FLOOD" U8,
     6285 "GROUP_FWD_MASK" U16, 6299 "NEIGH_SUPPRESS" U8, 6313 "ISOLATED" U8,
     6321 "BACKUP_PORT" U32, 6332 "MRP_RING_OPEN" U8, 6345 "MRP_IN_OPEN" U8,
@@ -429,11 +435,11 @@ macro_rules! links {
     // 100 lwt-ila-attrs
     { 8527 "ILA_ATTR_" 1 850 9; 8536 "LOCATOR" NETWORK_U64, 8543 "IDENTIFIER" U64,
     8553 "LOCATOR_MATCH" NETWORK_U64, 8566 "IFINDEX" I32, 8573 "DIR" U32, 8576 "PAD" Bytes,
-    8579 "CSUM_MODE" Value(Number::U8, Names(78)), 8588 "IDENT_TYPE" Value(Number::U8, Names(79)),
-    8598 "HOOK_TYPE" Value(Number::U8, Names(80)) }
+    8579 "CSUM_MODE" Value(Number::U8, Names(87)), 8588 "IDENT_TYPE" Value(Number::U8, Names(88)),
+    8598 "HOOK_TYPE" Value(Number::U8, Names(89)) }
     // 101 lwt-ioam6-attrs
-    { 8607 "IOAM6_IPTUNNEL_" 1 859 6; 8622 "MODE" Value(Number::U8, Names(77)), 8626 "DST" Ipv6,
-    8629 "TRACE" Fields(Struct(74)), 8634 "FREQ_K" U32, 8640 "FREQ_N" U32, 8646 "SRC" Ipv6 }
+    { 8607 "IOAM6_IPTUNNEL_" 1 859 6; 8622 "MODE" Value(Number::U8, Names(86)), 8626 "DST" Ipv6,
+    8629 "TRACE" Fields(Struct(75)), 8634 "FREQ_K" U32, 8640 "FREQ_N" U32, 8646 "SRC" Ipv6 }
     // 102 lwt-ip-attrs
     { 8649 "LWTUNNEL_IP_" 1 865 8; 8661 "ID" NETWORK_U64, 8663 "DST" Ipv4, 8666 "SRC" Ipv4,
     8669 "TTL" U8, 8672 "TOS" U8, 8675 "FLAGS" NETWORK_U16, 8680 "PAD" Bytes,
@@ -454,10 +460,10 @@ macro_rules! links {
     8859 "OPTS" List(Set(106)) }
     // 108 lwt-mpls-attrs
     { 8863 "MPLS_IPTUNNEL_" 1 892 2; 8877 "DST" Array(Struct(70)), 8880 "TTL" U8 }
-    { 8883 "RPL_IPTUNNEL_" 1 894 1; 8896 "SRH" Fields(Struct(73)) } // 109 lwt-rpl-attrs
+    { 8883 "RPL_IPTUNNEL_" 1 894 1; 8896 "SRH" Fields(Struct(74)) } // 109 lwt-rpl-attrs
     { 8899 "SEG6_IPTUNNEL_" 1 895 1; 8913 "SRH" Fields(Struct(71)) } // 110 lwt-seg6-attrs
     // 111 lwt-seg6local-attrs
-    { 8916 "SEG6_LOCAL_" 1 896 11; 8927 "ACTION" Value(Number::U32, Names(76)),
+    { 8916 "SEG6_LOCAL_" 1 896 11; 8927 "ACTION" Value(Number::U32, Names(85)),
     8933 "SRH" Fields(Struct(72)), 8936 "TABLE" U32, 8941 "NH4" Ipv4, 8944 "NH6" Ipv6,
     8947 "IIF" U32, 8950 "OIF" U32, 8953 "BPF" List(Set(147)), 8956 "VRFTABLE" U32,
     8964 "COUNTERS" List(Set(148)), 8972 "FLAVORS" List(Set(149)) }
@@ -469,25 +475,25 @@ macro_rules! links {
     { 9024 "MDBA_MDB_ENTRY_" 1 912 1; 9039 "INFO" Headed(Struct(57), Set(116)) }
     // 116 mdb-entry-info-attrs
     { 9043 "MDBA_MDB_EATTR_" 1 913 10; 9058 "TIMER" U32, 9063 "SRC_LIST" List(Set(126)),
-    9071 "GROUP_MODE" Value(Number::U8, Names(60)), 9081 "SOURCE" Ip,
-    9087 "RTPROT" Value(Number::U8, Names(67)), 9093 "DST" Ip, 9096 "DST_PORT" U16,
+    9071 "GROUP_MODE" Value(Number::U8, Names(69)), 9081 "SOURCE" Ip,
+    9087 "RTPROT" Value(Number::U8, Names(76)), 9093 "DST" Ip, 9096 "DST_PORT" U16,
     9104 "VNI" U32, 9107 "IFINDEX" U32, 9114 "SRC_VNI" U32 }
     // 117 mdb-get-attrs
     { 9121 "MDBA_GET_" 1 923 2; 9130 "ENTRY" Fields(Struct(57)),
     9135 "ENTRY_ATTRS" List(Set(122)) }
     { 9146 "MDBA_MDB_" 1 925 1; 9155 "ENTRY" List(Set(115)) } // 118 mdb-mdb-attrs
     // 119 mdb-router-attrs
-    { 9160 "MDBA_ROUTER_" 1 926 1; 9172 "PORT" Headed(Struct(166), Set(120)) }
+    { 9160 "MDBA_ROUTER_" 1 926 1; 9172 "PORT" Headed(Struct(167), Set(120)) }
     // 120 mdb-router-port-attrs
     { 9176 "MDBA_ROUTER_PATTR_" 1 927 5; 9194 "TIMER" U32,
-    9199 "TYPE" Value(Number::U8, Names(57)), 9203 "INET_TIMER" U32, 9213 "INET6_TIMER" U32,
+    9199 "TYPE" Value(Number::U8, Names(65)), 9203 "INET_TIMER" U32, 9213 "INET6_TIMER" U32,
     9224 "VID" U16 }
     // 121 mdb-set-attrs
     { 9227 "MDBA_SET_" 1 932 2; 9236 "ENTRY" Fields(Struct(57)),
     9241 "ENTRY_ATTRS" List(Set(122)) }
     // 122 mdb-set-entry-attrs
     { 9252 "MDBE_ATTR_" 1 934 10; 9262 "SOURCE" Ip, 9268 "SRC_LIST" List(Set(124)),
-    9276 "GROUP_MODE" Value(Number::U8, Names(60)), 9286 "RTPROT" Value(Number::U8, Names(67)),
+    9276 "GROUP_MODE" Value(Number::U8, Names(69)), 9286 "RTPROT" Value(Number::U8, Names(76)),
     9292 "DST" Ip, 9295 "DST_PORT" U16, 9303 "VNI" U32, 9306 "IFINDEX" I32, 9313 "SRC_VNI" U32,
     9320 "STATE_MASK" U8 }
     { 9330 "MDBE_SRCATTR_" 1 944 1; 9343 "ADDRESS" Ip } // 123 mdb-set-source-attrs
@@ -513,10 +519,10 @@ macro_rules! links {
     { 9742 "NDA_" 1 979 17; 9746 "DST" Ip, 9749 "LLADDR" Mac, 9755 "CACHEINFO" Fields(Struct(59)),
     9764 "PROBES" U32, 9770 "VLAN" U16, 9774 "PORT" NETWORK_U16, 9778 "VNI" U32,
     9781 "IFINDEX" U32, 9788 "MASTER" U32, 9794 "LINK_NETNSID" I32, 9806 "SRC_VNI" U32,
-    9813 "PROTOCOL" Value(Number::U8, Names(67)), 9821 "NH_ID" U32,
-    9826 "FDB_EXT_ATTRS" List(Set(132)), 9839 "FLAGS_EXT" Bits(Number::U32, Names(65)),
-    9848 "NDM_STATE_MASK" Bits(Number::U16, Names(63)),
-    9862 "NDM_FLAGS_MASK" Bits(Number::U8, Names(64)) }
+    9813 "PROTOCOL" Value(Number::U8, Names(76)), 9821 "NH_ID" U32,
+    9826 "FDB_EXT_ATTRS" List(Set(132)), 9839 "FLAGS_EXT" Bits(Number::U32, Names(74)),
+    9848 "NDM_STATE_MASK" Bits(Number::U16, Names(72)),
+    9862 "NDM_FLAGS_MASK" Bits(Number::U8, Names(73)) }
     // 132 neighbour-fdb-ext-attrs
     { 9876 "NFEA_" 1 996 2; 9881 "ACTIVITY_NOTIFY" U8, 9896 "DONT_REFRESH" Flag }
     // 133 netconf-attrs
@@ -531,12 +537,12 @@ macro_rules! links {
     10139 "PAD" Bytes, 10142 "MASK" U64 }
     // 135 nexthop-attrs
     { 10146 "NHA_" 1 1018 17; 10150 "ID" U32, 10152 "GROUP" Array(Struct(68)),
-    10157 "GROUP_TYPE" Value(Number::U16, Names(83)), 10167 "BLACKHOLE" Flag, 10176 "OIF" U32,
-    10179 "GATEWAY" Ip, 10186 "ENCAP_TYPE" Value(Number::U16, Names(74)),
-    10196 "ENCAP" Chosen(Choice(9), Selector::Beside(7)), 10201 "GROUPS" Flag, 10207 "MASTER" U32,
-    10213 "FDB" Flag, 10216 "RES_GROUP" List(Set(139)), 10225 "RES_BUCKET" List(Set(138)),
-    10235 "OP_FLAGS" Bits(Number::U32, Names(84)), 10243 "GROUP_STATS" List(Set(136)),
-    10254 "HW_STATS_ENABLE" U32, 10269 "HW_STATS_USED" U32 }
+    10157 "GROUP_TYPE" Value(Number::U16, Names(92)), 10167 "BLACKHOLE" Flag, 10176 "OIF" U32,
+    10179 "GATEWAY" Ip, 10186 "ENCAP_TYPE" Value(Number::U16, Names(83)),
+    10196 "ENCAP" Chosen(Choice(10), Selector::Beside(7)), 10201 "GROUPS" Flag,
+    10207 "MASTER" U32, 10213 "FDB" Flag, 10216 "RES_GROUP" List(Set(139)),
+    10225 "RES_BUCKET" List(Set(138)), 10235 "OP_FLAGS" Bits(Number::U32, Names(93)),
+    10243 "GROUP_STATS" List(Set(136)), 10254 "HW_STATS_ENABLE" U32, 10269 "HW_STATS_USED" U32 }
     // 136 nexthop-group-stats-attrs
     { 10282 "NHA_GROUP_STATS_" 1 1035 1; 10298 "ENTRY" List(Set(137)) }
     // 137 nexthop-group-stats-entry-attrs
@@ -561,22 +567,22 @@ macro_rules! links {
     // 144 proto-down-reason-attrs
     { 10587 "IFLA_PROTO_DOWN_REASON_" 1 1063 2; 10610 "MASK" U32, 10614 "VALUE" U32 }
     // 145 route-attrs
-    { 10619 "RTA_" 1 1065 30; 10623 "DST" Ip, 10626 "SRC" Ip, 10629 "IIF" U32, 10632 "OIF" U32,
-    10635 "GATEWAY" Ip, 10642 "PRIORITY" U32, 10650 "PREFSRC" Ip, 10657 "METRICS" List(Set(146)),
-    10664 "MULTIPATH" Hops(Set(145)), 10673 "PROTOINFO" Bytes, 10682 "FLOW" U32,
-    10686 "CACHEINFO" Fields(Struct(62)), 10695 "SESSION" Bytes, 10702 "MP_ALGO" Bytes,
-    10709 "TABLE" Value(Number::U32, Names(69)), 10714 "MARK" U32,
-    10718 "MFC_STATS" Fields(Struct(63)), 10727 "VIA" Fields(Struct(64)),
-    10730 "NEWDST" Array(Struct(70)), 10736 "PREF" Value(Number::U8, Names(73)),
-    10740 "ENCAP_TYPE" Value(Number::U16, Names(74)),
-    10750 "ENCAP" Chosen(Choice(9), Selector::Beside(21)), 10755 "EXPIRES" U32, 10762 "PAD" Bytes,
-    10765 "UID" U32, 10768 "TTL_PROPAGATE" U8, 10781 "IP_PROTO" U8, 10789 "SPORT" U16,
-    10794 "DPORT" U16, 10799 "NH_ID" U32 }
+    { 10619 "RTA_" 1 1065 30; 10623 "DST" Chosen(Choice(9), Selector::Family), 10626 "SRC" Ip,
+    10629 "IIF" U32, 10632 "OIF" U32, 10635 "GATEWAY" Ip, 10642 "PRIORITY" U32,
+    10650 "PREFSRC" Ip, 10657 "METRICS" List(Set(146)), 10664 "MULTIPATH" Hops(Set(145)),
+    10673 "PROTOINFO" Bytes, 10682 "FLOW" U32, 10686 "CACHEINFO" Fields(Struct(62)),
+    10695 "SESSION" Bytes, 10702 "MP_ALGO" Bytes, 10709 "TABLE" Value(Number::U32, Names(78)),
+    10714 "MARK" U32, 10718 "MFC_STATS" Fields(Struct(63)), 10727 "VIA" Fields(Struct(64)),
+    10730 "NEWDST" Array(Struct(70)), 10736 "PREF" Value(Number::U8, Names(82)),
+    10740 "ENCAP_TYPE" Value(Number::U16, Names(83)),
+    10750 "ENCAP" Chosen(Choice(10), Selector::Beside(21)), 10755 "EXPIRES" U32,
+    10762 "PAD" Bytes, 10765 "UID" U32, 10768 "TTL_PROPAGATE" U8, 10781 "IP_PROTO" U8,
+    10789 "SPORT" U16, 10794 "DPORT" U16, 10799 "NH_ID" U32 }
     // 146 rta-metrics
-    { 10804 "RTAX_" 1 1095 17; 10809 "LOCK" Bits(Number::U32, Names(108)), 10813 "MTU" U32,
+    { 10804 "RTAX_" 1 1095 17; 10809 "LOCK" Bits(Number::U32, Names(122)), 10813 "MTU" U32,
     10816 "WINDOW" U32, 10822 "RTT" U32, 10825 "RTTVAR" U32, 10831 "SSTHRESH" U32,
     10839 "CWND" U32, 10843 "ADVMSS" U32, 10849 "REORDERING" U32, 10859 "HOPLIMIT" U32,
-    10867 "INITCWND" U32, 10875 "FEATURES" Bits(Number::U32, Names(72)), 10883 "RTO_MIN" U32,
+    10867 "INITCWND" U32, 10875 "FEATURES" Bits(Number::U32, Names(81)), 10883 "RTO_MIN" U32,
     10890 "INITRWND" U32, 10898 "QUICKACK" U32, 10906 "CC_ALGO" Text,
     10913 "FASTOPEN_NO_COOKIE" U32 }
     // 147 seg6local-bpf-attrs
@@ -585,7 +591,7 @@ macro_rules! links {
     { 10959 "SEG6_LOCAL_CNT_" 1 1114 4; 10974 "PAD" Bytes, 10977 "PACKETS" U64, 10984 "BYTES" U64,
     10989 "ERRORS" U64 }
     // 149 seg6local-flavors-attrs
-    { 10995 "SEG6_LOCAL_FLV_" 1 1118 3; 11010 "OPERATION" Bits(Number::U32, Names(109)),
+    { 10995 "SEG6_LOCAL_FLV_" 1 1118 3; 11010 "OPERATION" Bits(Number::U32, Names(123)),
     11019 "LCBLOCK_BITS" U8, 11031 "LCNODE_FN_BITS" U8 }
     { 11045 "AF_" 28 1121 1; 11048 "MPLS" List(Set(127)) } // 150 stats-af-spec-attrs
     // 151 stats-attrs
@@ -617,11 +623,11 @@ macro_rules! links {
     { 11485 "BRIDGE_VLANDB_" 1 1159 2; 11499 "ENTRY" List(Set(161)),
     11504 "GLOBAL_OPTIONS" List(Set(162)) }
     // 160 vlandb-dump-attrs
-    { 11518 "BRIDGE_VLANDB_DUMP_" 1 1161 1; 11537 "FLAGS" Bits(Number::U32, Names(56)) }
+    { 11518 "BRIDGE_VLANDB_DUMP_" 1 1161 1; 11537 "FLAGS" Bits(Number::U32, Names(64)) }
     // 161 vlandb-entry-attrs
     { 11542 "BRIDGE_VLANDB_ENTRY_" 1 1162 9; 11562 "INFO" Fields(Struct(53)), 11566 "RANGE" U16,
-    11571 "STATE" Value(Number::U8, Names(52)), 11576 "TUNNEL_INFO" List(Set(164)),
-    11587 "STATS" List(Set(163)), 11592 "MCAST_ROUTER" Value(Number::U8, Names(57)),
+    11571 "STATE" Value(Number::U8, Names(60)), 11576 "TUNNEL_INFO" List(Set(164)),
+    11587 "STATS" List(Set(163)), 11592 "MCAST_ROUTER" Value(Number::U8, Names(65)),
     11604 "MCAST_N_GROUPS" U32, 11618 "MCAST_MAX_GROUPS" U32, 11634 "NEIGH_SUPPRESS" U8 }
     // 162 vlandb-global-options-attrs
     { 11648 "BRIDGE_VLANDB_GOPTS_" 1 1171 18; 11668 "ID" U16, 11670 "RANGE" U16,

@@ -181,25 +181,25 @@ pub(crate) static ATTRIBUTES: [AttributeRow; 1993] = links!(traffic attributes);
 pub(crate) static NAMES_OF_FIELDS: &str = structs!(text_of_structs);
 
 /// The structs.
-pub(crate) static STRUCTS: [StructRow; 169] = structs!(struct_rows);
+pub(crate) static STRUCTS: [StructRow; 170] = structs!(struct_rows);
 
 /// The fields of all structs.
-pub(crate) static FIELDS: [FieldRow; 814] = structs!(fields);
+pub(crate) static FIELDS: [FieldRow; 815] = structs!(fields);
 
 /// The names of all values and bits, and their prefixes.
 pub(crate) static NAMES_OF_VALUES: &str = names!(text_of_names);
 
 /// The enumerations and the bits.
-pub(crate) static NAMES: [NamesRow; 112] = names!(names_rows);
+pub(crate) static NAMES: [NamesRow; 126] = names!(names_rows);
 
 /// The values of all enumerations, and all bits.
-pub(crate) static VALUES: [NamedRow; 783] = names!(named_rows);
+pub(crate) static VALUES: [NamedRow; 963] = names!(named_rows);
 
 /// The names of all kinds.
 pub(crate) static NAMES_OF_KINDS: &str = choices!(text_of_choices);
 
 /// The sub-messages.
-pub(crate) static CHOICES: [ChoiceRow; 10] = choices!(choice_rows);
+pub(crate) static CHOICES: [ChoiceRow; 11] = choices!(choice_rows);
 
 /// The cases of all sub-messages.
-pub(crate) static CASES: [CaseRow; 136] = choices!(cases);
+pub(crate) static CASES: [CaseRow; 137] = choices!(cases);

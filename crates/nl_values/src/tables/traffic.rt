@@ -7,109 +7,110 @@ macro_rules! traffic {
     { 12915 "TCA_ACT_" 1 1329 10; 12923 "KIND" Text,
     12927 "OPTIONS" Chosen(Choice(3), Selector::Beside(1)), 12934 "INDEX" U32,
     12939 "STATS" List(Set(191)), 12944 "PAD" Bytes, 12947 "COOKIE" Bytes,
-    12953 "FLAGS" Fields(Struct(167)), 12958 "HW_STATS" Fields(Struct(23)),
+    12953 "FLAGS" Fields(Struct(168)), 12958 "HW_STATS" Fields(Struct(23)),
     12966 "USED_HW_STATS" Fields(Struct(23)), 12979 "IN_HW_COUNT" U32 }
     // 174 tc-act-bpf-attrs
-    { 12990 "TCA_ACT_BPF_" 1 1339 9; 13002 "TM" Fields(Struct(127)),
-    13004 "PARMS" Fields(Struct(139)), 13009 "OPS_LEN" U16, 13016 "OPS" Bytes, 13019 "FD" U32,
+    { 12990 "TCA_ACT_BPF_" 1 1339 9; 13002 "TM" Fields(Struct(128)),
+    13004 "PARMS" Fields(Struct(140)), 13009 "OPS_LEN" U16, 13016 "OPS" Bytes, 13019 "FD" U32,
     13021 "NAME" Text, 13025 "PAD" Bytes, 13028 "TAG" Bytes, 13031 "ID" U32 }
     // 175 tc-act-connmark-attrs
-    { 13033 "TCA_CONNMARK_" 1 1348 3; 13046 "PARMS" Fields(Struct(140)),
-    13051 "TM" Fields(Struct(127)), 13053 "PAD" Bytes }
+    { 13033 "TCA_CONNMARK_" 1 1348 3; 13046 "PARMS" Fields(Struct(141)),
+    13051 "TM" Fields(Struct(128)), 13053 "PAD" Bytes }
     // 176 tc-act-csum-attrs
-    { 13056 "TCA_CSUM_" 1 1351 3; 13065 "PARMS" Fields(Struct(141)),
-    13070 "TM" Fields(Struct(127)), 13072 "PAD" Bytes }
+    { 13056 "TCA_CSUM_" 1 1351 3; 13065 "PARMS" Fields(Struct(142)),
+    13070 "TM" Fields(Struct(128)), 13072 "PAD" Bytes }
     // 177 tc-act-ct-attrs
-    { 13075 "TCA_CT_" 1 1354 18; 13082 "PARMS" Fields(Struct(142)),
-    13087 "TM" Fields(Struct(127)), 13089 "ACTION" U16, 13095 "ZONE" U16, 13099 "MARK" U32,
+    { 13075 "TCA_CT_" 1 1354 18; 13082 "PARMS" Fields(Struct(143)),
+    13087 "TM" Fields(Struct(128)), 13089 "ACTION" U16, 13095 "ZONE" U16, 13099 "MARK" U32,
     13103 "MARK_MASK" U32, 13112 "LABELS" Bytes, 13118 "LABELS_MASK" Bytes,
-    13129 "NAT_IPV4_MIN" NETWORK_U32, 13141 "NAT_IPV4_MAX" NETWORK_U32,
-    13153 "NAT_IPV6_MIN" Bytes, 13165 "NAT_IPV6_MAX" Bytes, 13177 "NAT_PORT_MIN" NETWORK_U16,
-    13189 "NAT_PORT_MAX" NETWORK_U16, 13201 "PAD" Bytes, 13204 "HELPER_NAME" Text,
-    13215 "HELPER_FAMILY" U8, 13228 "HELPER_PROTO" U8 }
+    13129 "NAT_IPV4_MIN" Ipv4, 13141 "NAT_IPV4_MAX" Ipv4, 13153 "NAT_IPV6_MIN" Ipv6,
+    13165 "NAT_IPV6_MAX" Ipv6, 13177 "NAT_PORT_MIN" NETWORK_U16, 13189 "NAT_PORT_MAX" NETWORK_U16,
+    13201 "PAD" Bytes, 13204 "HELPER_NAME" Text, 13215 "HELPER_FAMILY" U8,
+    13228 "HELPER_PROTO" U8 }
     // 178 tc-act-ctinfo-attrs
-    { 13240 "TCA_CTINFO_" 1 1372 10; 13251 "PAD" Bytes, 13254 "TM" Fields(Struct(127)),
-    13256 "ACT" Fields(Struct(143)), 13259 "ZONE" U16, 13263 "PARMS_DSCP_MASK" U32,
+    { 13240 "TCA_CTINFO_" 1 1372 10; 13251 "PAD" Bytes, 13254 "TM" Fields(Struct(128)),
+    13256 "ACT" Fields(Struct(144)), 13259 "ZONE" U16, 13263 "PARMS_DSCP_MASK" U32,
     13278 "PARMS_DSCP_STATEMASK" U32, 13298 "PARMS_CPMARK_MASK" U32, 13315 "STATS_DSCP_SET" U64,
     13329 "STATS_DSCP_ERROR" U64, 13345 "STATS_CPMARK_SET" U64 }
     // 179 tc-act-gact-attrs
-    { 13361 "TCA_GACT_" 1 1382 4; 13370 "TM" Fields(Struct(127)),
-    13372 "PARMS" Fields(Struct(128)), 13377 "PROB" Fields(Struct(129)), 13381 "PAD" Bytes }
+    { 13361 "TCA_GACT_" 1 1382 4; 13370 "TM" Fields(Struct(128)),
+    13372 "PARMS" Fields(Struct(129)), 13377 "PROB" Fields(Struct(130)), 13381 "PAD" Bytes }
     // 180 tc-act-gate-attrs
-    { 13384 "TCA_GATE_" 1 1386 10; 13393 "TM" Fields(Struct(127)),
-    13395 "PARMS" Fields(Struct(144)), 13400 "PAD" Bytes, 13403 "PRIORITY" I32,
+    { 13384 "TCA_GATE_" 1 1386 10; 13393 "TM" Fields(Struct(128)),
+    13395 "PARMS" Fields(Struct(145)), 13400 "PAD" Bytes, 13403 "PRIORITY" I32,
     13411 "ENTRY_LIST" List(Set(226)), 13421 "BASE_TIME" U64, 13430 "CYCLE_TIME" U64,
     13440 "CYCLE_TIME_EXT" U64, 13454 "FLAGS" U32, 13459 "CLOCKID" I32 }
     // 181 tc-act-ife-attrs
-    { 13466 "TCA_IFE_" 1 1396 7; 13474 "PARMS" Fields(Struct(145)),
-    13479 "TM" Fields(Struct(127)), 13481 "DMAC" Bytes, 13485 "SMAC" Bytes, 13489 "TYPE" U16,
+    { 13466 "TCA_IFE_" 1 1396 7; 13474 "PARMS" Fields(Struct(146)),
+    13479 "TM" Fields(Struct(128)), 13481 "DMAC" Mac, 13485 "SMAC" Mac, 13489 "TYPE" U16,
     13493 "METALST" Bytes, 13500 "PAD" Bytes }
     // 182 tc-act-mirred-attrs
-    { 13503 "TCA_MIRRED_" 1 1403 4; 13514 "TM" Fields(Struct(127)),
-    13516 "PARMS" Fields(Struct(146)), 13521 "PAD" Bytes, 13524 "BLOCKID" U32 }
+    { 13503 "TCA_MIRRED_" 1 1403 4; 13514 "TM" Fields(Struct(128)),
+    13516 "PARMS" Fields(Struct(147)), 13521 "PAD" Bytes, 13524 "BLOCKID" U32 }
     // 183 tc-act-mpls-attrs
-    { 13531 "TCA_MPLS_" 1 1407 8; 13540 "TM" Fields(Struct(127)),
-    13542 "PARMS" Fields(Struct(134)), 13547 "PAD" Bytes, 13550 "PROTO" NETWORK_U16,
+    { 13531 "TCA_MPLS_" 1 1407 8; 13540 "TM" Fields(Struct(128)),
+    13542 "PARMS" Fields(Struct(135)), 13547 "PAD" Bytes, 13550 "PROTO" NETWORK_U16,
     13555 "LABEL" U32, 13560 "TC" U8, 13562 "TTL" U8, 13565 "BOS" U8 }
     // 184 tc-act-nat-attrs
-    { 13568 "TCA_NAT_" 1 1415 3; 13576 "PARMS" Fields(Struct(147)),
-    13581 "TM" Fields(Struct(127)), 13583 "PAD" Bytes }
+    { 13568 "TCA_NAT_" 1 1415 3; 13576 "PARMS" Fields(Struct(148)),
+    13581 "TM" Fields(Struct(128)), 13583 "PAD" Bytes }
     // 185 tc-act-pedit-attrs
-    { 13586 "TCA_PEDIT_" 1 1418 6; 13596 "TM" Fields(Struct(127)),
-    13598 "PARMS" Fields(Struct(136)), 13603 "PAD" Bytes, 13606 "PARMS_EX" Bytes,
+    { 13586 "TCA_PEDIT_" 1 1418 6; 13596 "TM" Fields(Struct(128)),
+    13598 "PARMS" Fields(Struct(137)), 13603 "PAD" Bytes, 13606 "PARMS_EX" Bytes,
     13614 "KEYS_EX" List(Set(239)), 13621 "KEY_EX" List(Set(238)) }
     // 186 tc-act-police-attrs
-    { 13627 "TCA_POLICE_" 1 1424 11; 13638 "TBF" Fields(Struct(135)), 13641 "RATE" Bytes,
-    13645 "PEAKRATE" Bytes, 13653 "AVRATE" U32, 13659 "RESULT" U32,
-    13665 "TM" Fields(Struct(127)), 13667 "PAD" Bytes, 13670 "RATE64" U64, 13676 "PEAKRATE64" U64,
-    13686 "PKTRATE64" U64, 13695 "PKTBURST64" U64 }
+    { 13627 "TCA_POLICE_" 1 1424 11; 13638 "TBF" Fields(Struct(136)),
+    13641 "RATE" Series(Number::U32), 13645 "PEAKRATE" Series(Number::U32), 13653 "AVRATE" U32,
+    13659 "RESULT" Value(Number::U32, Names(95)), 13665 "TM" Fields(Struct(128)),
+    13667 "PAD" Bytes, 13670 "RATE64" U64, 13676 "PEAKRATE64" U64, 13686 "PKTRATE64" U64,
+    13695 "PKTBURST64" U64 }
     // 187 tc-act-sample-attrs
-    { 13705 "TCA_SAMPLE_" 1 1435 6; 13716 "TM" Fields(Struct(127)),
-    13718 "PARMS" Fields(Struct(148)), 13723 "RATE" U32, 13727 "TRUNC_SIZE" U32,
+    { 13705 "TCA_SAMPLE_" 1 1435 6; 13716 "TM" Fields(Struct(128)),
+    13718 "PARMS" Fields(Struct(149)), 13723 "RATE" U32, 13727 "TRUNC_SIZE" U32,
     13737 "PSAMPLE_GROUP" U32, 13750 "PAD" Bytes }
     // 188 tc-act-simple-attrs
-    { 13753 "TCA_DEF_" 1 1441 4; 13761 "TM" Fields(Struct(127)),
-    13763 "PARMS" Fields(Struct(149)), 13768 "DATA" Text, 13772 "PAD" Bytes }
+    { 13753 "TCA_DEF_" 1 1441 4; 13761 "TM" Fields(Struct(128)),
+    13763 "PARMS" Fields(Struct(150)), 13768 "DATA" Text, 13772 "PAD" Bytes }
     // 189 tc-act-skbedit-attrs
-    { 13775 "TCA_SKBEDIT_" 1 1445 10; 13787 "TM" Fields(Struct(127)),
-    13789 "PARMS" Fields(Struct(150)), 13794 "PRIORITY" U32, 13802 "QUEUE_MAPPING" U16,
+    { 13775 "TCA_SKBEDIT_" 1 1445 10; 13787 "TM" Fields(Struct(128)),
+    13789 "PARMS" Fields(Struct(151)), 13794 "PRIORITY" U32, 13802 "QUEUE_MAPPING" U16,
     13815 "MARK" U32, 13819 "PAD" Bytes, 13822 "PTYPE" U16, 13827 "MASK" U32, 13831 "FLAGS" U64,
     13836 "QUEUE_MAPPING_MAX" U16 }
     // 190 tc-act-skbmod-attrs
-    { 13853 "TCA_SKBMOD_" 1 1455 6; 13864 "TM" Fields(Struct(127)),
-    13866 "PARMS" Fields(Struct(151)), 13871 "DMAC" Bytes, 13875 "SMAC" Bytes, 13879 "ETYPE" U16,
+    { 13853 "TCA_SKBMOD_" 1 1455 6; 13864 "TM" Fields(Struct(128)),
+    13866 "PARMS" Fields(Struct(152)), 13871 "DMAC" Mac, 13875 "SMAC" Mac, 13879 "ETYPE" U16,
     13884 "PAD" Bytes }
     // 191 tc-act-stats-attrs
-    { 13887 "TCA_STATS_" 1 1461 8; 13897 "BASIC" Fields(Struct(119)),
-    13902 "RATE_EST" Fields(Struct(120)), 13910 "QUEUE" Fields(Struct(122)), 13915 "APP" Bytes,
-    13918 "RATE_EST64" Fields(Struct(121)), 13928 "PAD" Bytes,
-    13931 "BASIC_HW" Fields(Struct(119)), 13939 "PKT64" U64 }
+    { 13887 "TCA_STATS_" 1 1461 8; 13897 "BASIC" Fields(Struct(120)),
+    13902 "RATE_EST" Fields(Struct(121)), 13910 "QUEUE" Fields(Struct(123)), 13915 "APP" Bytes,
+    13918 "RATE_EST64" Fields(Struct(122)), 13928 "PAD" Bytes,
+    13931 "BASIC_HW" Fields(Struct(120)), 13939 "PKT64" U64 }
     // 192 tc-act-tunnel-key-attrs
-    { 13944 "TCA_TUNNEL_KEY_" 1 1469 14; 13959 "TM" Fields(Struct(127)),
-    13961 "PARMS" Fields(Struct(152)), 13966 "ENC_IPV4_SRC" NETWORK_U32,
-    13978 "ENC_IPV4_DST" NETWORK_U32, 13990 "ENC_IPV6_SRC" Bytes, 14002 "ENC_IPV6_DST" Bytes,
-    14014 "ENC_KEY_ID" NETWORK_U32, 14024 "PAD" Bytes, 14027 "ENC_DST_PORT" NETWORK_U16,
-    14039 "NO_CSUM" U8, 14046 "ENC_OPTS" List(Set(255)), 14054 "ENC_TOS" U8, 14061 "ENC_TTL" U8,
+    { 13944 "TCA_TUNNEL_KEY_" 1 1469 14; 13959 "TM" Fields(Struct(128)),
+    13961 "PARMS" Fields(Struct(153)), 13966 "ENC_IPV4_SRC" Ipv4, 13978 "ENC_IPV4_DST" Ipv4,
+    13990 "ENC_IPV6_SRC" Ipv6, 14002 "ENC_IPV6_DST" Ipv6, 14014 "ENC_KEY_ID" NETWORK_U32,
+    14024 "PAD" Bytes, 14027 "ENC_DST_PORT" NETWORK_U16, 14039 "NO_CSUM" U8,
+    14046 "ENC_OPTS" List(Set(255)), 14054 "ENC_TOS" U8, 14061 "ENC_TTL" U8,
     14068 "NO_FRAG" Flag }
     // 193 tc-act-vlan-attrs
-    { 14075 "TCA_VLAN_" 1 1483 8; 14084 "TM" Fields(Struct(127)),
-    14086 "PARMS" Fields(Struct(138)), 14091 "PUSH_VLAN_ID" U16,
-    14103 "PUSH_VLAN_PROTOCOL" NETWORK_U16, 14121 "PAD" Bytes, 14124 "PUSH_VLAN_PRIORITY" U8,
-    14142 "PUSH_ETH_DST" Bytes, 14154 "PUSH_ETH_SRC" Bytes }
+    { 14075 "TCA_VLAN_" 1 1483 8; 14084 "TM" Fields(Struct(128)),
+    14086 "PARMS" Fields(Struct(139)), 14091 "PUSH_VLAN_ID" U16,
+    14103 "PUSH_VLAN_PROTOCOL" Value(Number::NetworkU16, Names(9)), 14121 "PAD" Bytes,
+    14124 "PUSH_VLAN_PRIORITY" U8, 14142 "PUSH_ETH_DST" Mac, 14154 "PUSH_ETH_SRC" Mac }
     // 194 tc-action-attrs
-    { 14166 "TCA_ROOT_" 1 1491 5; 14175 "TAB" List(Set(261)), 14178 "FLAGS" Fields(Struct(168)),
+    { 14166 "TCA_ROOT_" 1 1491 5; 14175 "TAB" List(Set(261)), 14178 "FLAGS" Fields(Struct(169)),
     14183 "COUNT" U32, 14188 "TIME_DELTA" U32, 14198 "EXT_WARN_MSG" Text }
     // 195 tc-attrs
     { 14210 "TCA_" 1 1496 16; 14214 "KIND" Text,
-    14218 "OPTIONS" Chosen(Choice(2), Selector::Beside(1)), 14225 "STATS" Fields(Struct(75)),
-    14230 "XSTATS" Chosen(Choice(4), Selector::Beside(1)), 14236 "RATE" Fields(Struct(105)),
+    14218 "OPTIONS" Chosen(Choice(2), Selector::Beside(1)), 14225 "STATS" Fields(Struct(76)),
+    14230 "XSTATS" Chosen(Choice(4), Selector::Beside(1)), 14236 "RATE" Fields(Struct(106)),
     14240 "FCNT" U32, 14244 "STATS2" List(Set(260)), 14250 "STAB" List(Set(259)),
     14254 "PAD" Bytes, 14257 "DUMP_INVISIBLE" Flag, 14271 "CHAIN" U32, 14276 "HW_OFFLOAD" U8,
     14286 "INGRESS_BLOCK" U32, 14299 "EGRESS_BLOCK" U32, 14311 "DUMP_FLAGS" Fields(Struct(23)),
     14321 "EXT_WARN_MSG" Text }
     // 196 tc-basic-attrs
     { 14333 "TCA_BASIC_" 1 1512 6; 14343 "CLASSID" U32, 14350 "EMATCHES" List(Set(207)),
-    14358 "ACT" List(Set(262)), 14361 "POLICE" List(Set(241)), 14367 "PCNT" Fields(Struct(132)),
+    14358 "ACT" List(Set(262)), 14361 "POLICE" List(Set(241)), 14367 "PCNT" Fields(Struct(133)),
     14371 "PAD" Bytes }
     // 197 tc-bpf-attrs
     { 14374 "TCA_BPF_" 1 1518 11; 14382 "ACT" List(Set(263)), 14385 "POLICE" List(Set(241)),
@@ -118,11 +119,11 @@ macro_rules! traffic {
     14431 "ID" U32 }
     // 198 tc-cake-attrs
     { 14433 "TCA_CAKE_" 1 1529 18; 14442 "PAD" Bytes, 14445 "BASE_RATE64" U64,
-    14456 "DIFFSERV_MODE" Value(Number::U32, Names(102)),
-    14469 "ATM" Value(Number::U32, Names(104)), 14472 "FLOW_MODE" Value(Number::U32, Names(101)),
+    14456 "DIFFSERV_MODE" Value(Number::U32, Names(115)),
+    14469 "ATM" Value(Number::U32, Names(117)), 14472 "FLOW_MODE" Value(Number::U32, Names(114)),
     14481 "OVERHEAD" I32, 14489 "RTT" U32, 14492 "TARGET" U32, 14498 "AUTORATE" U32,
     14506 "MEMORY" U32, 14512 "NAT" U32, 14515 "RAW" U32, 14518 "WASH" U32, 14522 "MPU" U32,
-    14525 "INGRESS" U32, 14532 "ACK_FILTER" Value(Number::U32, Names(103)), 14542 "SPLIT_GSO" U32,
+    14525 "INGRESS" U32, 14532 "ACK_FILTER" Value(Number::U32, Names(116)), 14542 "SPLIT_GSO" U32,
     14551 "FWMARK" U32 }
     // 199 tc-cake-stats-attrs
     { 14557 "TCA_CAKE_STATS_" 1 1547 16; 14572 "PAD" Bytes, 14575 "CAPACITY_ESTIMATE64" U64,
@@ -141,31 +142,31 @@ macro_rules! traffic {
     14977 "WAY_COLLISIONS" U32, 14991 "PEAK_DELAY_US" U32, 15004 "AVG_DELAY_US" U32,
     15016 "BASE_DELAY_US" U32, 15029 "SPARSE_FLOWS" U32, 15041 "BULK_FLOWS" U32,
     15051 "UNRESPONSIVE_FLOWS" U32, 15069 "MAX_SKBLEN" U32, 15079 "FLOW_QUANTUM" U32 }
-    { 15091 "TCA_CBS_" 1 1588 1; 15099 "PARMS" Fields(Struct(76)) } // 201 tc-cbs-attrs
+    { 15091 "TCA_CBS_" 1 1588 1; 15099 "PARMS" Fields(Struct(77)) } // 201 tc-cbs-attrs
     // 202 tc-cgroup-attrs
     { 15104 "TCA_CGROUP_" 1 1589 3; 15115 "ACT" List(Set(265)), 15118 "POLICE" List(Set(241)),
     15124 "EMATCHES" List(Set(207)) }
     // 203 tc-choke-attrs
-    { 15132 "TCA_CHOKE_" 1 1592 3; 15142 "PARMS" Fields(Struct(97)), 15147 "STAB" Bytes,
-    15151 "MAX_P" U32 }
+    { 15132 "TCA_CHOKE_" 1 1592 3; 15142 "PARMS" Fields(Struct(98)),
+    15147 "STAB" Series(Number::U8), 15151 "MAX_P" U32 }
     // 204 tc-codel-attrs
     { 15156 "TCA_CODEL_" 1 1595 5; 15166 "TARGET" U32, 15172 "LIMIT" U32, 15177 "INTERVAL" U32,
     15185 "ECN" U32, 15188 "CE_THRESHOLD" U32 }
     { 15200 "TCA_DRR_" 1 1600 1; 15208 "QUANTUM" U32 } // 205 tc-drr-attrs
     // 206 tc-em-meta-attrs
-    { 15215 "TCA_EM_META_" 1 1601 3; 15227 "HDR" Fields(Struct(153)), 15230 "LVALUE" Bytes,
+    { 15215 "TCA_EM_META_" 1 1601 3; 15227 "HDR" Fields(Struct(154)), 15230 "LVALUE" Bytes,
     15236 "RVALUE" Bytes }
     // 207 tc-ematch-attrs
-    { 15242 "TCA_EMATCH_TREE_" 1 1604 2; 15258 "HDR" Fields(Struct(130)),
+    { 15242 "TCA_EMATCH_TREE_" 1 1604 2; 15258 "HDR" Fields(Struct(131)),
     15261 "LIST" List(Set(266)) }
-    { 15265 "TCA_ETF_" 1 1606 1; 15273 "PARMS" Fields(Struct(77)) } // 208 tc-etf-attrs
+    { 15265 "TCA_ETF_" 1 1606 1; 15273 "PARMS" Fields(Struct(78)) } // 208 tc-etf-attrs
     // 209 tc-ets-attrs
     { 15278 "TCA_ETS_" 1 1607 6; 15286 "NBANDS" U8, 15292 "NSTRICT" U8,
     15299 "QUANTA" List(Set(209)), 15305 "QUANTA_BAND" U32, 15316 "PRIOMAP" List(Set(209)),
     15323 "PRIOMAP_BAND" U8 }
     // 210 tc-flow-attrs
-    { 15335 "TCA_FLOW_" 1 1613 12; 15344 "KEYS" Bits(Number::U32, Names(110)),
-    15348 "MODE" Value(Number::U32, Names(92)), 15352 "BASECLASS" U32, 15361 "RSHIFT" U32,
+    { 15335 "TCA_FLOW_" 1 1613 12; 15344 "KEYS" Bits(Number::U32, Names(124)),
+    15348 "MODE" Value(Number::U32, Names(105)), 15352 "BASECLASS" U32, 15361 "RSHIFT" U32,
     15367 "ADDEND" U32, 15373 "MASK" U32, 15377 "XOR" U32, 15380 "DIVISOR" U32,
     15387 "ACT" List(Set(267)), 15390 "POLICE" List(Set(241)), 15396 "EMATCHES" List(Set(207)),
     15404 "PERTURB" U32 }
@@ -178,44 +179,45 @@ macro_rules! traffic {
     15585 "KEY_IPV6_SRC_MASK" Ipv6, 15602 "KEY_IPV6_DST" Ipv6, 15614 "KEY_IPV6_DST_MASK" Ipv6,
     15631 "KEY_TCP_SRC" NETWORK_U16, 15642 "KEY_TCP_DST" NETWORK_U16,
     15653 "KEY_UDP_SRC" NETWORK_U16, 15664 "KEY_UDP_DST" NETWORK_U16,
-    15675 "FLAGS" Bits(Number::U32, Names(89)), 15680 "KEY_VLAN_ID" U16, 15691 "KEY_VLAN_PRIO" U8,
-    15704 "KEY_VLAN_ETH_TYPE" NETWORK_U16, 15721 "KEY_ENC_KEY_ID" NETWORK_U32,
-    15735 "KEY_ENC_IPV4_SRC" Ipv4, 15751 "KEY_ENC_IPV4_SRC_MASK" Ipv4,
-    15772 "KEY_ENC_IPV4_DST" Ipv4, 15788 "KEY_ENC_IPV4_DST_MASK" Ipv4,
-    15809 "KEY_ENC_IPV6_SRC" Ipv6, 15825 "KEY_ENC_IPV6_SRC_MASK" Ipv6,
-    15846 "KEY_ENC_IPV6_DST" Ipv6, 15862 "KEY_ENC_IPV6_DST_MASK" Ipv6,
-    15883 "KEY_TCP_SRC_MASK" NETWORK_U16, 15899 "KEY_TCP_DST_MASK" NETWORK_U16,
-    15915 "KEY_UDP_SRC_MASK" NETWORK_U16, 15931 "KEY_UDP_DST_MASK" NETWORK_U16,
-    15947 "KEY_SCTP_SRC_MASK" NETWORK_U16, 15964 "KEY_SCTP_DST_MASK" NETWORK_U16,
-    15981 "KEY_SCTP_SRC" NETWORK_U16, 15993 "KEY_SCTP_DST" NETWORK_U16,
-    16005 "KEY_ENC_UDP_SRC_PORT" NETWORK_U16, 16025 "KEY_ENC_UDP_SRC_PORT_MASK" NETWORK_U16,
-    16050 "KEY_ENC_UDP_DST_PORT" NETWORK_U16, 16070 "KEY_ENC_UDP_DST_PORT_MASK" NETWORK_U16,
-    16095 "KEY_FLAGS" Bits(Number::NetworkU32, Names(90)),
-    16104 "KEY_FLAGS_MASK" Bits(Number::NetworkU32, Names(90)), 16118 "KEY_ICMPV4_CODE" U8,
+    15675 "FLAGS" Bits(Number::U32, Names(102)), 15680 "KEY_VLAN_ID" U16,
+    15691 "KEY_VLAN_PRIO" U8, 15704 "KEY_VLAN_ETH_TYPE" NETWORK_U16,
+    15721 "KEY_ENC_KEY_ID" NETWORK_U32, 15735 "KEY_ENC_IPV4_SRC" Ipv4,
+    15751 "KEY_ENC_IPV4_SRC_MASK" Ipv4, 15772 "KEY_ENC_IPV4_DST" Ipv4,
+    15788 "KEY_ENC_IPV4_DST_MASK" Ipv4, 15809 "KEY_ENC_IPV6_SRC" Ipv6,
+    15825 "KEY_ENC_IPV6_SRC_MASK" Ipv6, 15846 "KEY_ENC_IPV6_DST" Ipv6,
+    15862 "KEY_ENC_IPV6_DST_MASK" Ipv6, 15883 "KEY_TCP_SRC_MASK" NETWORK_U16,
+    15899 "KEY_TCP_DST_MASK" NETWORK_U16, 15915 "KEY_UDP_SRC_MASK" NETWORK_U16,
+    15931 "KEY_UDP_DST_MASK" NETWORK_U16, 15947 "KEY_SCTP_SRC_MASK" NETWORK_U16,
+    15964 "KEY_SCTP_DST_MASK" NETWORK_U16, 15981 "KEY_SCTP_SRC" NETWORK_U16,
+    15993 "KEY_SCTP_DST" NETWORK_U16, 16005 "KEY_ENC_UDP_SRC_PORT" NETWORK_U16,
+    16025 "KEY_ENC_UDP_SRC_PORT_MASK" NETWORK_U16, 16050 "KEY_ENC_UDP_DST_PORT" NETWORK_U16,
+    16070 "KEY_ENC_UDP_DST_PORT_MASK" NETWORK_U16,
+    16095 "KEY_FLAGS" Bits(Number::NetworkU32, Names(103)),
+    16104 "KEY_FLAGS_MASK" Bits(Number::NetworkU32, Names(103)), 16118 "KEY_ICMPV4_CODE" U8,
     16133 "KEY_ICMPV4_CODE_MASK" U8, 16153 "KEY_ICMPV4_TYPE" U8, 16168 "KEY_ICMPV4_TYPE_MASK" U8,
     16188 "KEY_ICMPV6_CODE" U8, 16203 "KEY_ICMPV6_CODE_MASK" U8, 16223 "KEY_ICMPV6_TYPE" U8,
-    16238 "KEY_ICMPV6_TYPE_MASK" U8, 16258 "KEY_ARP_SIP" NETWORK_U32,
-    16269 "KEY_ARP_SIP_MASK" NETWORK_U32, 16285 "KEY_ARP_TIP" NETWORK_U32,
-    16296 "KEY_ARP_TIP_MASK" NETWORK_U32, 16312 "KEY_ARP_OP" U8, 16322 "KEY_ARP_OP_MASK" U8,
-    16337 "KEY_ARP_SHA" Mac, 16348 "KEY_ARP_SHA_MASK" Mac, 16364 "KEY_ARP_THA" Mac,
-    16375 "KEY_ARP_THA_MASK" Mac, 16391 "KEY_MPLS_TTL" U8, 16403 "KEY_MPLS_BOS" U8,
-    16415 "KEY_MPLS_TC" U8, 16426 "KEY_MPLS_LABEL" U32, 16440 "KEY_TCP_FLAGS" NETWORK_U16,
-    16453 "KEY_TCP_FLAGS_MASK" NETWORK_U16, 16471 "KEY_IP_TOS" U8, 16481 "KEY_IP_TOS_MASK" U8,
-    16496 "KEY_IP_TTL" U8, 16506 "KEY_IP_TTL_MASK" U8, 16521 "KEY_CVLAN_ID" U16,
-    16533 "KEY_CVLAN_PRIO" U8, 16547 "KEY_CVLAN_ETH_TYPE" NETWORK_U16, 16565 "KEY_ENC_IP_TOS" U8,
+    16238 "KEY_ICMPV6_TYPE_MASK" U8, 16258 "KEY_ARP_SIP" Ipv4, 16269 "KEY_ARP_SIP_MASK" Ipv4,
+    16285 "KEY_ARP_TIP" Ipv4, 16296 "KEY_ARP_TIP_MASK" Ipv4, 16312 "KEY_ARP_OP" U8,
+    16322 "KEY_ARP_OP_MASK" U8, 16337 "KEY_ARP_SHA" Mac, 16348 "KEY_ARP_SHA_MASK" Mac,
+    16364 "KEY_ARP_THA" Mac, 16375 "KEY_ARP_THA_MASK" Mac, 16391 "KEY_MPLS_TTL" U8,
+    16403 "KEY_MPLS_BOS" U8, 16415 "KEY_MPLS_TC" U8, 16426 "KEY_MPLS_LABEL" U32,
+    16440 "KEY_TCP_FLAGS" NETWORK_U16, 16453 "KEY_TCP_FLAGS_MASK" NETWORK_U16,
+    16471 "KEY_IP_TOS" U8, 16481 "KEY_IP_TOS_MASK" U8, 16496 "KEY_IP_TTL" U8,
+    16506 "KEY_IP_TTL_MASK" U8, 16521 "KEY_CVLAN_ID" U16, 16533 "KEY_CVLAN_PRIO" U8,
+    16547 "KEY_CVLAN_ETH_TYPE" NETWORK_U16, 16565 "KEY_ENC_IP_TOS" U8,
     16579 "KEY_ENC_IP_TOS_MASK" U8, 16598 "KEY_ENC_IP_TTL" U8, 16612 "KEY_ENC_IP_TTL_MASK" U8,
     16631 "KEY_ENC_OPTS" List(Set(218)), 16643 "KEY_ENC_OPTS_MASK" List(Set(218)),
     16660 "IN_HW_COUNT" U32, 16671 "KEY_PORT_SRC_MIN" NETWORK_U16,
     16687 "KEY_PORT_SRC_MAX" NETWORK_U16, 16703 "KEY_PORT_DST_MIN" NETWORK_U16,
-    16719 "KEY_PORT_DST_MAX" NETWORK_U16, 16735 "KEY_CT_STATE" Bits(Number::U16, Names(91)),
+    16719 "KEY_PORT_DST_MAX" NETWORK_U16, 16735 "KEY_CT_STATE" Bits(Number::U16, Names(104)),
     16747 "KEY_CT_STATE_MASK" U16, 16764 "KEY_CT_ZONE" U16, 16775 "KEY_CT_ZONE_MASK" U16,
     16791 "KEY_CT_MARK" U32, 16802 "KEY_CT_MARK_MASK" U32, 16818 "KEY_CT_LABELS" Bytes,
     16831 "KEY_CT_LABELS_MASK" Bytes, 16849 "KEY_MPLS_OPTS" List(Set(220)), 16862 "KEY_HASH" U32,
     16870 "KEY_HASH_MASK" U32, 16883 "KEY_NUM_OF_VLANS" U8, 16899 "KEY_PPPOE_SID" NETWORK_U16,
     16912 "KEY_PPP_PROTO" NETWORK_U16, 16925 "KEY_L2TPV3_SID" NETWORK_U32, 16939 "L2_MISS" U8,
     16946 "KEY_CFM" List(Set(212)), 16953 "KEY_SPI" NETWORK_U32, 16960 "KEY_SPI_MASK" NETWORK_U32,
-    16972 "KEY_ENC_FLAGS" Bits(Number::NetworkU32, Names(90)),
-    16985 "KEY_ENC_FLAGS_MASK" Bits(Number::NetworkU32, Names(90)) }
+    16972 "KEY_ENC_FLAGS" Bits(Number::NetworkU32, Names(103)),
+    16985 "KEY_ENC_FLAGS_MASK" Bits(Number::NetworkU32, Names(103)) }
     // 212 tc-flower-key-cfm-attrs
     { 17003 "TCA_FLOWER_KEY_CFM_" 1 1736 2; 17022 "MD_LEVEL" U8, 17030 "OPCODE" U8 }
     // 213 tc-flower-key-enc-opt-erspan-attrs
@@ -245,7 +247,7 @@ macro_rules! traffic {
     17426 "FLOW_MAX_RATE" U32, 17439 "BUCKETS_LOG" U32, 17450 "FLOW_REFILL_DELAY" U32,
     17467 "ORPHAN_MASK" U32, 17478 "LOW_RATE_THRESHOLD" U32, 17496 "CE_THRESHOLD" U32,
     17508 "TIMER_SLACK" U32, 17519 "HORIZON" U32, 17526 "HORIZON_DROP" U8,
-    17538 "PRIOMAP" Fields(Struct(96)), 17545 "WEIGHTS" Series(Number::I32) }
+    17538 "PRIOMAP" Fields(Struct(97)), 17545 "WEIGHTS" Series(Number::I32) }
     // 222 tc-fq-codel-attrs
     { 17552 "TCA_FQ_CODEL_" 1 1778 11; 17565 "TARGET" U32, 17571 "LIMIT" U32,
     17576 "INTERVAL" U32, 17584 "ECN" U32, 17587 "FLOWS" U32, 17592 "QUANTUM" U32,
@@ -265,66 +267,67 @@ macro_rules! traffic {
     // 226 tc-gate-entry-list-attrs
     { 17851 "TCA_GATE_ONE_" 1 1811 1; 17864 "ENTRY" List(Set(225)) }
     // 227 tc-gred-attrs
-    { 17869 "TCA_GRED_" 1 1812 6; 17878 "PARMS" Array(Struct(81)),
-    17883 "STAB" Series(Number::U8), 17887 "DPS" Fields(Struct(82)),
+    { 17869 "TCA_GRED_" 1 1812 6; 17878 "PARMS" Array(Struct(82)),
+    17883 "STAB" Series(Number::U8), 17887 "DPS" Fields(Struct(83)),
     17890 "MAX_P" Series(Number::U32), 17895 "LIMIT" U32, 17900 "VQ_LIST" List(Set(258)) }
     // 228 tc-hfsc-attrs
-    { 17907 "TCA_HFSC_" 1 1818 3; 17916 "RSC" Fields(Struct(84)), 17919 "FSC" Fields(Struct(84)),
-    17922 "USC" Fields(Struct(84)) }
+    { 17907 "TCA_HFSC_" 1 1818 3; 17916 "RSC" Fields(Struct(85)), 17919 "FSC" Fields(Struct(85)),
+    17922 "USC" Fields(Struct(85)) }
     // 229 tc-hhf-attrs
     { 17925 "TCA_HHF_" 1 1821 7; 17933 "BACKLOG_LIMIT" U32, 17946 "QUANTUM" U32,
     17953 "HH_FLOWS_LIMIT" U32, 17967 "RESET_TIMEOUT" U32, 17980 "ADMIT_BYTES" U32,
     17991 "EVICT_TIMEOUT" U32, 18004 "NON_HH_WEIGHT" U32 }
     // 230 tc-htb-attrs
-    { 18017 "TCA_HTB_" 1 1828 9; 18025 "PARMS" Fields(Struct(79)),
-    18030 "INIT" Fields(Struct(80)), 18034 "CTAB" Bytes, 18038 "RTAB" Bytes,
-    18042 "DIRECT_QLEN" U32, 18053 "RATE64" U64, 18059 "CEIL64" U64, 18065 "PAD" Bytes,
-    18068 "OFFLOAD" Flag }
+    { 18017 "TCA_HTB_" 1 1828 9; 18025 "PARMS" Fields(Struct(80)),
+    18030 "INIT" Fields(Struct(81)), 18034 "CTAB" Series(Number::U32),
+    18038 "RTAB" Series(Number::U32), 18042 "DIRECT_QLEN" U32, 18053 "RATE64" U64,
+    18059 "CEIL64" U64, 18065 "PAD" Bytes, 18068 "OFFLOAD" Flag }
     // 231 tc-matchall-attrs
     { 18075 "TCA_MATCHALL_" 1 1837 5; 18088 "CLASSID" U32, 18095 "ACT" List(Set(270)),
-    18098 "FLAGS" U32, 18103 "PCNT" Fields(Struct(133)), 18107 "PAD" Bytes }
+    18098 "FLAGS" U32, 18103 "PCNT" Fields(Struct(134)), 18107 "PAD" Bytes }
     // 232 tc-mqprio-attrs
-    { 18110 "TCA_MQPRIO_" 1 1842 5; 18121 "MODE" Value(Number::U16, Names(97)),
-    18125 "SHAPER" Value(Number::U16, Names(98)), 18131 "MIN_RATE64" List(Set(234)),
+    { 18110 "TCA_MQPRIO_" 1 1842 5; 18121 "MODE" Value(Number::U16, Names(110)),
+    18125 "SHAPER" Value(Number::U16, Names(111)), 18131 "MIN_RATE64" List(Set(234)),
     18141 "MAX_RATE64" List(Set(233)), 18151 "TC_ENTRY" List(Set(235)) }
     { 18159 "TCA_MQPRIO_" 4 1847 1; 18170 "MAX_RATE64" U64 } // 233 tc-mqprio-max-rate-attrs
     { 18180 "TCA_MQPRIO_" 3 1848 1; 18191 "MIN_RATE64" U64 } // 234 tc-mqprio-min-rate-attrs
     // 235 tc-mqprio-tc-entry-attrs
     { 18201 "TCA_MQPRIO_TC_ENTRY_" 1 1849 2; 18221 "INDEX" U32,
-    18226 "FP" Value(Number::U32, Names(99)) }
+    18226 "FP" Value(Number::U32, Names(112)) }
     // 236 tc-netem-attrs
-    { 18228 "TCA_NETEM_" 1 1851 14; 18238 "CORR" Fields(Struct(90)),
-    18242 "DELAY_DIST" Series(Number::I16), 18252 "REORDER" Fields(Struct(91)),
-    18259 "CORRUPT" Fields(Struct(92)), 18266 "LOSS" List(Set(237)),
-    18270 "RATE" Fields(Struct(93)), 18274 "ECN" U32, 18277 "RATE64" U64, 18283 "PAD" Bytes,
-    18286 "LATENCY64" I64, 18295 "JITTER64" I64, 18303 "SLOT" Fields(Struct(94)),
+    { 18228 "TCA_NETEM_" 1 1851 14; 18238 "CORR" Fields(Struct(91)),
+    18242 "DELAY_DIST" Series(Number::I16), 18252 "REORDER" Fields(Struct(92)),
+    18259 "CORRUPT" Fields(Struct(93)), 18266 "LOSS" List(Set(237)),
+    18270 "RATE" Fields(Struct(94)), 18274 "ECN" U32, 18277 "RATE64" U64, 18283 "PAD" Bytes,
+    18286 "LATENCY64" I64, 18295 "JITTER64" I64, 18303 "SLOT" Fields(Struct(95)),
     18307 "SLOT_DIST" Series(Number::I16), 18316 "PRNG_SEED" U64 }
     // 237 tc-netem-loss-attrs
-    { 18325 "NETEM_LOSS_" 1 1865 2; 18336 "GI" Fields(Struct(88)), 18338 "GE" Fields(Struct(89)) }
+    { 18325 "NETEM_LOSS_" 1 1865 2; 18336 "GI" Fields(Struct(89)), 18338 "GE" Fields(Struct(90)) }
     // 238 tc-pedit-key-ex-attrs
-    { 18340 "TCA_PEDIT_KEY_EX_" 1 1867 2; 18357 "HTYPE" Value(Number::U16, Names(106)),
-    18362 "CMD" Value(Number::U16, Names(107)) }
+    { 18340 "TCA_PEDIT_KEY_EX_" 1 1867 2; 18357 "HTYPE" Value(Number::U16, Names(119)),
+    18362 "CMD" Value(Number::U16, Names(120)) }
     { 18365 "TCA_PEDIT_" 6 1869 1; 18375 "KEY_EX" List(Set(238)) } // 239 tc-pedit-keys-ex-attrs
     // 240 tc-pie-attrs
     { 18381 "TCA_PIE_" 1 1870 8; 18389 "TARGET" U32, 18395 "LIMIT" U32, 18400 "TUPDATE" U32,
     18407 "ALPHA" U32, 18412 "BETA" U32, 18416 "ECN" U32, 18419 "BYTEMODE" U32,
     18427 "DQ_RATE_ESTIMATOR" U32 }
     // 241 tc-police-attrs
-    { 18444 "TCA_POLICE_" 1 1878 11; 18455 "TBF" Fields(Struct(135)), 18458 "RATE" Bytes,
-    18462 "PEAKRATE" Bytes, 18470 "AVRATE" U32, 18476 "RESULT" U32,
-    18482 "TM" Fields(Struct(127)), 18484 "PAD" Bytes, 18487 "RATE64" U64, 18493 "PEAKRATE64" U64,
-    18503 "PKTRATE64" U64, 18512 "PKTBURST64" U64 }
+    { 18444 "TCA_POLICE_" 1 1878 11; 18455 "TBF" Fields(Struct(136)),
+    18458 "RATE" Series(Number::U32), 18462 "PEAKRATE" Series(Number::U32), 18470 "AVRATE" U32,
+    18476 "RESULT" Value(Number::U32, Names(95)), 18482 "TM" Fields(Struct(128)),
+    18484 "PAD" Bytes, 18487 "RATE64" U64, 18493 "PEAKRATE64" U64, 18503 "PKTRATE64" U64,
+    18512 "PKTBURST64" U64 }
     { 18522 "TCA_QFQ_" 1 1889 2; 18530 "WEIGHT" U32, 18536 "LMAX" U32 } // 242 tc-qfq-attrs
     // 243 tc-red-attrs
-    { 18540 "TCA_RED_" 1 1891 6; 18548 "PARMS" Fields(Struct(97)), 18553 "STAB" Bytes,
-    18557 "MAX_P" U32, 18562 "FLAGS" Fields(Struct(23)), 18567 "EARLY_DROP_BLOCK" U32,
-    18583 "MARK_BLOCK" U32 }
+    { 18540 "TCA_RED_" 1 1891 6; 18548 "PARMS" Fields(Struct(98)),
+    18553 "STAB" Series(Number::U8), 18557 "MAX_P" U32, 18562 "FLAGS" Fields(Struct(23)),
+    18567 "EARLY_DROP_BLOCK" U32, 18583 "MARK_BLOCK" U32 }
     // 244 tc-route-attrs
     { 18593 "TCA_ROUTE4_" 1 1897 6; 18604 "CLASSID" U32, 18611 "TO" U32, 18613 "FROM" U32,
     18617 "IIF" U32, 18620 "POLICE" List(Set(241)), 18626 "ACT" List(Set(271)) }
-    { 18629 "TCA_SFB_" 1 1903 1; 18637 "PARMS" Fields(Struct(98)) } // 245 tc-sfb-attrs
+    { 18629 "TCA_SFB_" 1 1903 1; 18637 "PARMS" Fields(Struct(99)) } // 245 tc-sfb-attrs
     // 246 tc-taprio-attrs
-    { 18642 "TCA_TAPRIO_" 1 1904 12; 18653 "ATTR_PRIOMAP" Fields(Struct(85)),
+    { 18642 "TCA_TAPRIO_" 1 1904 12; 18653 "ATTR_PRIOMAP" Fields(Struct(86)),
     18665 "ATTR_SCHED_ENTRY_LIST" List(Set(248)), 18686 "ATTR_SCHED_BASE_TIME" I64,
     18706 "ATTR_SCHED_SINGLE_ENTRY" List(Set(249)), 18729 "ATTR_SCHED_CLOCKID" I32,
     18747 "PAD" Bytes, 18750 "ATTR_ADMIN_SCHED" List(Set(246)), 18766 "ATTR_SCHED_CYCLE_TIME" I64,
@@ -337,14 +340,14 @@ macro_rules! traffic {
     { 18909 "TCA_TAPRIO_SCHED_" 1 1919 1; 18926 "ENTRY" List(Set(249)) }
     // 249 tc-taprio-sched-entry
     { 18931 "TCA_TAPRIO_SCHED_ENTRY_" 1 1920 4; 18954 "INDEX" U32,
-    18959 "CMD" Value(Number::U8, Names(100)), 18962 "GATE_MASK" U32, 18971 "INTERVAL" U32 }
+    18959 "CMD" Value(Number::U8, Names(113)), 18962 "GATE_MASK" U32, 18971 "INTERVAL" U32 }
     // 250 tc-taprio-tc-entry-attrs
     { 18979 "TCA_TAPRIO_TC_ENTRY_" 1 1924 3; 18999 "INDEX" U32, 19004 "MAX_SDU" U32,
     19011 "FP" U32 }
     // 251 tc-tbf-attrs
-    { 19013 "TCA_TBF_" 1 1927 8; 19021 "PARMS" Fields(Struct(103)), 19026 "RTAB" Bytes,
-    19030 "PTAB" Bytes, 19034 "RATE64" U64, 19040 "PRATE64" U64, 19047 "BURST" U32,
-    19052 "PBURST" U32, 19058 "PAD" Bytes }
+    { 19013 "TCA_TBF_" 1 1927 8; 19021 "PARMS" Fields(Struct(104)),
+    19026 "RTAB" Series(Number::U32), 19030 "PTAB" Series(Number::U32), 19034 "RATE64" U64,
+    19040 "PRATE64" U64, 19047 "BURST" U32, 19052 "PBURST" U32, 19058 "PAD" Bytes }
     // 252 tc-tunnel-key-enc-opt-erspan-attrs
     { 19061 "TCA_TUNNEL_KEY_ENC_OPT_ERSPAN_" 1 1935 4; 19091 "VER" U8, 19094 "INDEX" NETWORK_U32,
     19099 "DIR" U8, 19102 "HWID" U8 }
@@ -358,9 +361,9 @@ macro_rules! traffic {
     19211 "VXLAN" List(Set(254)), 19216 "ERSPAN" List(Set(252)) }
     // 256 tc-u32-attrs
     { 19222 "TCA_U32_" 1 1946 12; 19230 "CLASSID" U32, 19237 "HASH" U32, 19241 "LINK" U32,
-    19245 "DIVISOR" U32, 19252 "SEL" Fields(Struct(125)), 19255 "POLICE" List(Set(241)),
-    19261 "ACT" List(Set(272)), 19264 "INDEV" Text, 19269 "PCNT" Fields(Struct(126)),
-    19273 "MARK" Fields(Struct(124)), 19277 "FLAGS" U32, 19282 "PAD" Bytes }
+    19245 "DIVISOR" U32, 19252 "SEL" Fields(Struct(126)), 19255 "POLICE" List(Set(241)),
+    19261 "ACT" List(Set(272)), 19264 "INDEV" Text, 19269 "PCNT" Fields(Struct(127)),
+    19273 "MARK" Fields(Struct(125)), 19277 "FLAGS" U32, 19282 "PAD" Bytes }
     // 257 tca-gred-vq-entry-attrs
     { 19285 "TCA_GRED_VQ_" 1 1958 12; 19297 "PAD" Bytes, 19300 "DP" U32, 19302 "STAT_BYTES" U64,
     19312 "STAT_PACKETS" U32, 19324 "STAT_BACKLOG" U32, 19336 "STAT_PROB_DROP" U32,
@@ -368,12 +371,13 @@ macro_rules! traffic {
     19396 "STAT_PDROP" U32, 19406 "STAT_OTHER" U32, 19416 "FLAGS" U32 }
     { 19421 "TCA_GRED_VQ_" 1 1970 1; 19433 "ENTRY" List(Set(257)) } // 258 tca-gred-vq-list-attrs
     // 259 tca-stab-attrs
-    { 19438 "TCA_STAB_" 1 1971 2; 19447 "BASE" Fields(Struct(104)), 19451 "DATA" Bytes }
+    { 19438 "TCA_STAB_" 1 1971 2; 19447 "BASE" Fields(Struct(105)),
+    19451 "DATA" Series(Number::U16) }
     // 260 tca-stats-attrs
-    { 19455 "TCA_STATS_" 1 1973 8; 19465 "BASIC" Fields(Struct(119)),
-    19470 "RATE_EST" Fields(Struct(120)), 19478 "QUEUE" Fields(Struct(122)),
-    19483 "APP" Chosen(Choice(4), Selector::Above(1)), 19486 "RATE_EST64" Fields(Struct(121)),
-    19496 "PAD" Bytes, 19499 "BASIC_HW" Fields(Struct(119)), 19507 "PKT64" U64 }
+    { 19455 "TCA_STATS_" 1 1973 8; 19465 "BASIC" Fields(Struct(120)),
+    19470 "RATE_EST" Fields(Struct(121)), 19478 "QUEUE" Fields(Struct(123)),
+    19483 "APP" Chosen(Choice(4), Selector::Above(1)), 19486 "RATE_EST64" Fields(Struct(122)),
+    19496 "PAD" Bytes, 19499 "BASIC_HW" Fields(Struct(120)), 19507 "PKT64" U64 }
     { 19512 "" 0 1981 1; 19512 "" List(Set(173)) } // 261 tc-each of TCA_ROOT_TAB
     { 19512 "" 0 1982 1; 19512 "" List(Set(173)) } // 262 tc-each of TCA_BASIC_ACT
     { 19512 "" 0 1983 1; 19512 "" List(Set(173)) } // 263 tc-each of TCA_BPF_ACT
