@@ -60,10 +60,10 @@ module _ {X : Type 0} (Is : List ℕ → X → Type 0) (one : (d : List ℕ) (x 
   same_found (d ∷ ds) (x ∷ xs) (y ∷ ys) p q = let e = one d x y p.0 q.0 in let f = same_found ds xs ys p.1 q.1 in λ i. e i ∷ f i
 
   -- datagrams of which one thing each is found have one text and one verdict
-  pub one_print : (text : ℕ → List ℕ → X → List ℕ) (is_taken : X → Bool) (ds : List (List ℕ)) (t u : List ℕ) (v w : Verdict) → Prints Is text is_taken ds t v → Prints Is text is_taken ds u w → (t ≡ u) × (v ≡ w)
-  one_print text is_taken ds t u v w p q =
+  pub one_print : (text : ℕ → List ℕ → X → List ℕ) (is_accepted : X → Bool) (ds : List (List ℕ)) (t u : List ℕ) (v w : Verdict) → Prints Is text is_accepted ds t v → Prints Is text is_accepted ds u w → (t ≡ u) × (v ≡ w)
+  one_print text is_accepted ds t u v w p q =
       let e = same_found ds p.0 q.0 p.1 q.1 in
-      (p.2 ∙ ap (texts_from text 1 ds) e ∙ sym q.2, p.3 ∙ ap (verdict_from is_taken Clean) e ∙ sym q.3)
+      (p.2 ∙ ap (texts_from text 1 ds) e ∙ sym q.2, p.3 ∙ ap (verdict_from is_accepted Clean) e ∙ sym q.3)
 
 -- a datagram of bytes has an answer
 pub some_answer : (b : Bounds) (d : List ℕ) → AreBytes d → (a : Answer) × Answers b d a

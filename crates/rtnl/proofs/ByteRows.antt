@@ -1,6 +1,6 @@
 -- Rows of bytes, one after another.
 use Rattle.std.proofs.Common.{◌≡◌, ◌<◌, ◌≤◌, ◌+◌, ◌==◌, if◌then◌else◌, ℕ, zero, suc, List, [], ◌∷◌, ◌++◌, length, take, drop, min, replicate, Bool, true, false, Option, Some, None, Ok, Err, is_some, not, refl, sym, ap, subst, ◌∙◌, arith, append_assoc}
-use Rattle.rtnl.proofs.Common.{flat_map, nat_tests, flat_map-append, Event, Order, ReadError, Bounds, Answer, Answers, Refuses, is_taken, refusal_text, AreEvents, IsAboutItsHead, IsRefusalOf, refusal_line, BytePart, Label, Mark, contexts_after, marks_of, parts_by, refused_marks, size_in, unread, AddsAllRows, AddsPart, AddsRows, refusal_ending}
+use Rattle.rtnl.proofs.Common.{flat_map, nat_tests, flat_map-append, Event, Order, ReadError, Bounds, Answer, Answers, Refuses, is_accepted as is_accepted_answer, refusal_text, AreEvents, IsAboutItsHead, IsRefusalOf, refusal_line, BytePart, Label, Mark, lists_after, marks_of, parts_by, refused_marks, size_in, unread, AddsAllRows, AddsPart, AddsRows, refusal_ending}
 use Rattle.std.proofs.lemmas.List.{append-nil, length-take-le, nil_from_length, take-append-drop}
 use Rattle.nl_attr.specs.declared.fault.Reason.{Reason}
 use Rattle.nl_attr.specs.Shape.{Shape}
@@ -167,7 +167,7 @@ module _ (print : ByteRow → List ℕ) where
 
   -- of one that is refused: those before the place, and those from there on
   pub both : (o : Order) (es : List Event) (d before behind old mid new : List ℕ) (e : ScanError) → d ≡ before ++ behind → length before ≡ min (refused_at e) (length d)
-      → AddsRows print 0 before None (marks_of o d es) old mid → AddsRows print (length before) behind (Some e) (refused_marks (contexts_after [] es) e) mid new
+      → AddsRows print 0 before None (marks_of o d es) old mid → AddsRows print (length before) behind (Some e) (refused_marks (lists_after o d [] es) e) mid new
       → AddsAllRows print o d es (Some e) old new
   both o es d before behind old mid new e whole at one two =
       let rows = one.0 ++ two.0 in
@@ -188,7 +188,7 @@ ending_is Text a o i = line_is a o i
 ending_is Coloured a o i = line_is a o i
 ending_is Json a o i = refl
 
-taken_is : (a : Answer) (o : Option ScanError) (taken : Bool) → IsRefusalOf a o → is_some o ≡ not taken → taken ≡ is_taken a
+taken_is : (a : Answer) (o : Option ScanError) (taken : Bool) → IsRefusalOf a o → is_some o ≡ not taken → taken ≡ is_accepted_answer a
 taken_is (Ok ms) None true i e = refl
 taken_is (Ok ms) None false i e = e
 taken_is (Ok ms) (Some x) taken i e = absurd i

@@ -1,7 +1,7 @@
 -- A text in colours is the plain one with escapes put in.
 use Rattle.std.proofs.Common.{◌≡◌, ℕ, ◌+◌, ◌-◌, List, [], ◌∷◌, ◌++◌, take, drop, length, map, refl, sym, ap, subst, ◌∙◌, append_assoc, append-nil, arith, codes, length-drop, inl, inr}
 use Rattle.rtnl.proofs.Common.{after_first, join_with_byte, position_or_len, prefix_len, starts_with, nat_eq, cases_Bool, cases_lt, drop-drop, drop_all, take-append-drop, join_with_byte-slice_split, Order, Bounds, Verdict, lines_of, Answer, Shows, datagram_text}
-use Rattle.rtnl.specs.ByteRows.{escape, painted as in_colour, red, unpaint}
+use Rattle.rtnl.specs.ByteRows.{painted as in_colour, red, unpaint}
 use Rattle.rtnl.specs.Painted.{Colours, nothing, byte, put_in, IsEscape, ShowsColoured, bold, coloured_text, cyan, first_in, is_space, painted, painted_line, painted_words, third, third_in}
 use Rattle.rtnl.specs.Runs.{texts_from}
 

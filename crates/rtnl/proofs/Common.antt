@@ -41,12 +41,13 @@ pub use Rattle.nl_mirror.specs.Seen.{held_seen}
 pub use Rattle.nl_route.specs.Families.{name_of, family_of, context_of}
 pub use Rattle.nl_route.specs.declared.family.Family.{Family}
 pub use Rattle.rtnl.specs.Attributes.{attribute_style, inner_context}
-pub use Rattle.rtnl.specs.ByteParts.{BytePart, Label, Mark, contexts_after, marks_of, parts_by, refused_marks, size_in, unread, fields, named, rest_of, context_at, contexts_behind, depth_inside, head_marks, level_inside, marks_from, padding}
+pub use Rattle.rtnl.specs.ByteParts.{AttrList, BytePart, lists_after, marks_of, parts_by, refused_marks, size_in, unread, rest_of, list_at, lists_behind, lists_entered, depth_inside, head_marks, marks_from}
+pub use Rattle.rtnl.specs.Marks.{Label, Mark, fields, gap, named, padding}
 pub use Rattle.rtnl.specs.ByteRows.{row_printed, cell}
-pub use Rattle.rtnl.specs.ByteViews.{AddsAllRows, AddsPart, AddsRows, refusal_ending, marks_in, piece_view, part_view}
+pub use Rattle.rtnl.specs.ByteViews.{AddsAllRows, AddsPart, AddsRows, attr_list_view, refusal_ending, marks_in, piece_view, part_view}
 pub use Rattle.rtnl.specs.Checked.{Finding, Finds}
 pub use Rattle.rtnl.specs.Followed.{LONGEST_LINE, HeardLine, Hears, Steps, TellsAsPrinted, alone, all_said, bad_at, bad_from, kept_of, line_says, never, refused_in, refused_one, said_by, said_of, Follows, FollowsAll, FollowsPiece, GoesOn, HasRead, Tells, TellsLine, TellsOne, TellsPart, TellsSome, TellsUpTo, with_part, IsCounted, Stops, TellsReads, ToldBehind, none_followed}
-pub use Rattle.rtnl.specs.FollowedDump.{Given, Reads, ends_dump, given_text, is_given, is_done, ending_at}
+pub use Rattle.rtnl.specs.FollowedDump.{Given, Reads, ends_dump, given_text, is_done, ending_at}
 pub use Rattle.rtnl.specs.Json.{IsUnescaped, is_unescaped, value_text}
 pub use Rattle.rtnl.specs.Lines.{compact, decoded, digits_at, fault_in, is_blank, is_comment, is_stray, line_at, line_fault_of, odd_of, lines_of, is_newline, lines_left, Rise, pieces, datagrams}
 pub use Rattle.rtnl.specs.Messages.{messages_text}
@@ -58,8 +59,8 @@ pub use Rattle.rtnl.specs.Names.{rest_text, are_unescaped, names_set, names_json
 pub use Rattle.rtnl.specs.Painted.{coloured_text, is_space}
 pub use Rattle.rtnl.specs.Parts.{joined}
 pub use Rattle.rtnl.specs.Runs.{Writes, FrontOfInput, OfInput, Prints}
-pub use Rattle.rtnl.specs.Said.{IsSaid, SaysInput}
-pub use Rattle.rtnl.specs.Shown.{Answer, Answers, Refuses, is_taken, refusal_text, Shows, datagram_text, datagram_json}
+pub use Rattle.rtnl.specs.Output.{IsSaid, SaysInput}
+pub use Rattle.rtnl.specs.Shown.{Answer, Answers, Refuses, is_accepted, refusal_text, Shows, datagram_text, datagram_json}
 pub use Rattle.rtnl.specs.Streams.{Gains, Read, StopsOnce, all_moved, one_more, AppendsPrefix, ConsumesAtMost}
 pub use Rattle.rtnl.specs.Structs.{field_view}
 pub use Rattle.rtnl.specs.Tabled.{Answered, HeadlineOfTables, calls_of, datagrams_of, feeds_after, Report, entries_text, ending_of, verdict_of, FeedsSome}
@@ -68,6 +69,6 @@ pub use Rattle.rtnl.specs.Trees.{indented, items_text, hops_text}
 pub use Rattle.rtnl.specs.Values.{Reading, reading_of, reading_view}
 pub use Rattle.rtnl.specs.declared.error.RunError.{RunError}
 pub use Rattle.rtnl.specs.declared.error.RunError.TheVariants.{ReadFault, WriteFault, Memory, BadLine}
-pub use Rattle.rtnl.specs.declared.error.Verdict.{Verdict}
-pub use Rattle.rtnl.specs.declared.error.Verdict.TheVariants.{Clean, Blemished}
+pub use Rattle.rtnl.specs.declared.verdict.Verdict.{Verdict}
+pub use Rattle.rtnl.specs.declared.verdict.Verdict.TheVariants.{Clean, NotClean}
 pub use Rattle.rtnl.specs.declared.runs.followed.Followed.{Followed}

@@ -1,6 +1,6 @@
 -- Over lines of which none is bad, what is followed are the datagrams that a recording has.
 use Rattle.std.proofs.Common.{◌≡◌, ◌==◌, ◌↔◌, ◌+◌, ◌≤◌, ℕ, Bool, true, false, if◌then◌else◌, List, [], ◌∷◌, ◌++◌, length, Option, Some, None, Result, Ok, Err, refl, sym, ap, ◌∙◌, subst, arith}
-use Rattle.rtnl.proofs.Common.{nat_le, sum_by, Appends, common_steps, nat_tests, sum_by-cons, decode_of, FromHexError, LONGEST_LINE, HeardLine, Hears, Steps, TellsAsPrinted, alone, all_said, bad_at, bad_from, kept_of, line_says, never, refused_in, refused_one, said_by, said_of, Verdict, Clean, Blemished, Followed}
+use Rattle.rtnl.proofs.Common.{nat_le, sum_by, Appends, common_steps, nat_tests, sum_by-cons, decode_of, FromHexError, LONGEST_LINE, HeardLine, Hears, Steps, TellsAsPrinted, alone, all_said, bad_at, bad_from, kept_of, line_says, never, refused_in, refused_one, said_by, said_of, Verdict, Clean, NotClean, Followed}
 use Rattle.std.specs.Result.{result_unwrap_or}
 use Rattle.rtnl.specs.Lines.{compact, datagrams_from, decoded, digits_at, is_comment, line_at, lines_of, with_first, ◌>>=◌}
 use Rattle.rtnl.specs.Runs.{EachIs, texts_from, verdict_from, with_one}
@@ -52,23 +52,23 @@ good_lines n (l ∷ ls) ds short is =
           let e = says d this in
           (ap (λ r. said_by r ++ all_said (line_at 0) ls) e ∙ ap (λ x. said_by (Ok d) ++ x) good.0 ∙ first_then d more ∙ ap (λ r. result_unwrap_or r []) is, λ m. ap (λ r. bad_at m (kept_of l) r ++ bad_from (line_at 0) (m + 1) ls) e ∙ good.1 (m + 1))
 
-module _ {X : Type 0} (Is : List ℕ → X → Type 0) (text : ℕ → List ℕ → X → List ℕ) (is_taken : X → Bool) where
-  stays : (b : Bool) → with_one Blemished b ≡ Blemished
+module _ {X : Type 0} (Is : List ℕ → X → Type 0) (text : ℕ → List ℕ → X → List ℕ) (is_accepted : X → Bool) where
+  stays : (b : Bool) → with_one NotClean b ≡ NotClean
   stays true = refl
   stays false = refl
 
-  blemished : (found : List X) → verdict_from is_taken Blemished found ≡ Blemished
-  blemished [] = refl
-  blemished (x ∷ found) = ap (λ v. verdict_from is_taken v found) (stays (is_taken x)) ∙ blemished found
+  not_clean : (found : List X) → verdict_from is_accepted NotClean found ≡ NotClean
+  not_clean [] = refl
+  not_clean (x ∷ found) = ap (λ v. verdict_from is_accepted v found) (stays (is_accepted x)) ∙ not_clean found
 
   -- nothing is refused where the verdict is clean
-  clean : (found : List X) → (verdict_from is_taken Clean found ≡ Clean) ↔ (refused_in is_taken found ≡ 0)
+  clean : (found : List X) → (verdict_from is_accepted Clean found ≡ Clean) ↔ (refused_in is_accepted found ≡ 0)
   clean [] = (λ e. refl, λ e. refl)
-  clean (x ∷ found) = by_case (is_taken x) (clean found) where
-    by_case : (b : Bool) → (verdict_from is_taken Clean found ≡ Clean) ↔ (refused_in is_taken found ≡ 0)
-        → (verdict_from is_taken (with_one Clean b) found ≡ Clean) ↔ (refused_one b + refused_in is_taken found ≡ 0)
-    by_case true rest = (λ e. let r : refused_in is_taken found ≡ 0 = rest.0 e in omega arith, λ e. rest.1 (omega arith))
-    by_case false rest = (λ e. let f : Blemished ≡ Clean = sym (blemished found) ∙ e in cc, λ e. absurd (omega arith))
+  clean (x ∷ found) = by_case (is_accepted x) (clean found) where
+    by_case : (b : Bool) → (verdict_from is_accepted Clean found ≡ Clean) ↔ (refused_in is_accepted found ≡ 0)
+        → (verdict_from is_accepted (with_one Clean b) found ≡ Clean) ↔ (refused_one b + refused_in is_accepted found ≡ 0)
+    by_case true rest = (λ e. let r : refused_in is_accepted found ≡ 0 = rest.0 e in omega arith, λ e. rest.1 (omega arith))
+    by_case false rest = (λ e. let f : NotClean ≡ Clean = sym (not_clean found) ∙ e in cc, λ e. absurd (omega arith))
 
   -- one after another, where nothing is kept, each is found by itself
   each_alone : (ds : List (List ℕ)) (found : List X) (a b : Unit {0}) → Steps (alone Is) never a ds found b → EachIs Is ds found
@@ -78,10 +78,10 @@ module _ {X : Type 0} (Is : List ℕ → X → Type 0) (text : ℕ → List ℕ 
   each_alone (d ∷ ds) (x ∷ found) a b steps = (steps.2, each_alone ds found steps.1 b steps.3)
 
   module _ {B : Type 0} (heard : B → Option (List HeardLine)) (is_over : B → Type 0) where
-    pub as_printed : TellsAsPrinted Is text is_taken heard is_over
+    pub as_printed : TellsAsPrinted Is text is_accepted heard is_over
     as_printed input ds s g h old new short good told =
         let are = good_lines 1 (lines_of input) ds (omega (arith, short, total-lines_of input)) good in
-        let verdict : Verdict = verdict_from is_taken Clean told.found in
+        let verdict : Verdict = verdict_from is_accepted Clean told.found in
         let found = each_alone ds told.found tt tt (subst (λ l. Steps (alone Is) never tt l told.found tt) are.0 told.each) in (
           texts_from text 1 ds told.found,
           verdict,

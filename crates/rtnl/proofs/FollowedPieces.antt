@@ -17,30 +17,30 @@ module _ {W : Type 0} (is_stalled : W → Type 0) (stalls failures : W → ℕ) 
   stops_later to_old to_mid to_new sound (inl h) = inl (h.0 ∙ ap one_more sound.0, h.1 ∙ sound.1)
   stops_later to_old to_mid to_new sound (inr h) = inr (h.0, h.1 ∙ ap one_more sound.1, h.2 ∙ sound.0)
 
-module _ {Y X T B : Type 0} (says : List ℕ → Result (Option Y) ℕ) (Is : T → Y → X → T → Type 0) (text : ℕ → Y → X → List ℕ) (is_taken : X → Bool) (ends : T → Bool) (heard : B → Option (List HeardLine)) (is_over : B → Type 0)
+module _ {Y X T B : Type 0} (says : List ℕ → Result (Option Y) ℕ) (Is : T → Y → X → T → Type 0) (text : ℕ → Y → X → List ℕ) (is_accepted : X → Bool) (ends : T → Bool) (heard : B → Option (List HeardLine)) (is_over : B → Type 0)
     {W : Type 0} (taken : W → Option (List ℕ)) (is_stalled : W → Type 0) (stalls failures : W → ℕ)
     (before done piece : List ℕ) (kept : Option (List ℕ)) (a m : T) (s : Followed) (g k : B) (old : Option (List ℕ)) (to_old to_mid : W)
-    (h : Follows says Is text is_taken ends heard is_over (before ++ done) kept a m s g k old (taken to_mid)) (on : GoesOn ends is_over m k) (sound : Sound is_stalled stalls failures to_old to_mid) where
+    (h : Follows says Is text is_accepted ends heard is_over (before ++ done) kept a m s g k old (taken to_mid)) (on : GoesOn ends is_over m k) (sound : Sound is_stalled stalls failures to_old to_mid) where
   module _ (part more : List ℕ) (one : lines_of part ≡ part ∷ []) (is : done ++ ((part ++ 10 ∷ []) ++ more) ≡ piece) where
     all : (before ++ done) ++ ((part ++ 10 ∷ []) ++ more) ≡ before ++ piece
     all = whole_piece before done (part ++ 10 ∷ []) more piece is
 
     -- a line was told of, and the next one follows
-    pub piece_more : (b : T) (t : Followed) (l : B) (to_new : W) → TellsOne says Is text is_taken ends heard is_over (with_part kept part) (said_of says (with_part kept part)) true m b s t k l (taken to_mid) (taken to_new)
-        → Follows says Is text is_taken ends heard is_over (before ++ (done ++ (part ++ 10 ∷ []))) (Some []) a b t g l old (taken to_new) × GoesOn ends is_over b l
+    pub piece_more : (b : T) (t : Followed) (l : B) (to_new : W) → TellsOne says Is text is_accepted ends heard is_over (with_part kept part) (said_of says (with_part kept part)) true m b s t k l (taken to_mid) (taken to_new)
+        → Follows says Is text is_accepted ends heard is_over (before ++ (done ++ (part ++ 10 ∷ []))) (Some []) a b t g l old (taken to_new) × GoesOn ends is_over b l
     piece_more b t l to_new told = (
-      subst (λ x. Follows says Is text is_taken ends heard is_over x (Some []) a b t g l old (taken to_new)) (append_assoc before done (part ++ 10 ∷ []))
-          (follows_line says Is text is_taken ends heard is_over (before ++ done) kept a m s g k old (taken to_mid) h on part one true b t l (taken to_new) told),
-      goes_more says Is text is_taken ends heard is_over (with_part kept part) m b s t k l (taken to_mid) (taken to_new) (said_of says (with_part kept part)) told on,
+      subst (λ x. Follows says Is text is_accepted ends heard is_over x (Some []) a b t g l old (taken to_new)) (append_assoc before done (part ++ 10 ∷ []))
+          (follows_line says Is text is_accepted ends heard is_over (before ++ done) kept a m s g k old (taken to_mid) h on part one true b t l (taken to_new) told),
+      goes_more says Is text is_accepted ends heard is_over (with_part kept part) m b s t k l (taken to_mid) (taken to_new) (said_of says (with_part kept part)) told on,
     )
 
     -- or what is told stops at it
-    pub piece_ended : (b : T) (t : Followed) (l : B) (to_new : W) (r : Option (List ℕ)) → TellsLine says Is text is_taken ends heard is_over taken is_stalled stalls failures (with_part kept part) m b s t k l to_mid to_new (Ok false)
-        → FollowsPiece says Is text is_taken ends heard is_over taken is_stalled stalls failures before piece r a b t g l old to_old to_new (Ok false)
+    pub piece_ended : (b : T) (t : Followed) (l : B) (to_new : W) (r : Option (List ℕ)) → TellsLine says Is text is_accepted ends heard is_over taken is_stalled stalls failures (with_part kept part) m b s t k l to_mid to_new (Ok false)
+        → FollowsPiece says Is text is_accepted ends heard is_over taken is_stalled stalls failures before piece r a b t g l old to_old to_new (Ok false)
     piece_ended b t l to_new r tells =
         record {
           follows = λ e. cc e;
-          ended = λ e. stops_at_line says Is text is_taken ends heard is_over (before ++ done) kept a m s g k old (taken to_mid) h on part one b t l (taken to_new) tells.told before piece more all (more_lines before done);
+          ended = λ e. stops_at_line says Is text is_accepted ends heard is_over (before ++ done) kept a m s g k old (taken to_mid) h on part one b t l (taken to_new) tells.told before piece more all (more_lines before done);
           memory = λ e. cc e;
           write_fault = λ e. cc e;
           sound = (tells.sound.0 ∙ sound.0, tells.sound.1 ∙ sound.1);
@@ -49,8 +49,8 @@ module _ {Y X T B : Type 0} (says : List ℕ → Result (Option Y) ℕ) (Is : T 
         }
 
     -- or the telling of it failed
-    pub piece_failed : (b : T) (t : Followed) (l : B) (to_new : W) (r : Option (List ℕ)) (u : Followed) (e : RunError) → TellsLine says Is text is_taken ends heard is_over taken is_stalled stalls failures (with_part kept part) m b s t k l to_mid to_new (Err e)
-        → FollowsPiece says Is text is_taken ends heard is_over taken is_stalled stalls failures before piece r a b u g l old to_old to_new (Err e)
+    pub piece_failed : (b : T) (t : Followed) (l : B) (to_new : W) (r : Option (List ℕ)) (u : Followed) (e : RunError) → TellsLine says Is text is_accepted ends heard is_over taken is_stalled stalls failures (with_part kept part) m b s t k l to_mid to_new (Err e)
+        → FollowsPiece says Is text is_accepted ends heard is_over taken is_stalled stalls failures before piece r a b u g l old to_old to_new (Err e)
     piece_failed b t l to_new r u e tells =
         record {
           follows = λ f. cc f;
@@ -58,16 +58,16 @@ module _ {Y X T B : Type 0} (says : List ℕ → Result (Option Y) ℕ) (Is : T 
           memory = λ f. (
             m,
             s,
-            subst (λ x. TellsSome says Is text is_taken ends heard is_over x a m s g l old (taken to_new)) all
-                (subst (λ w. TellsSome says Is text is_taken ends heard is_over ((before ++ done) ++ ((part ++ 10 ∷ []) ++ more)) a m s g l old (taken w)) (sym (tells.memory f))
-                (subst (λ c. TellsSome says Is text is_taken ends heard is_over ((before ++ done) ++ ((part ++ 10 ∷ []) ++ more)) a m s g c old (taken to_mid)) (sym tells.unheard)
-                (follows_some says Is text is_taken ends heard is_over (before ++ done) kept a m s g k old (taken to_mid) h ((part ++ 10 ∷ []) ++ more)))),
+            subst (λ x. TellsSome says Is text is_accepted ends heard is_over x a m s g l old (taken to_new)) all
+                (subst (λ w. TellsSome says Is text is_accepted ends heard is_over ((before ++ done) ++ ((part ++ 10 ∷ []) ++ more)) a m s g l old (taken w)) (sym (tells.memory f))
+                (subst (λ c. TellsSome says Is text is_accepted ends heard is_over ((before ++ done) ++ ((part ++ 10 ∷ []) ++ more)) a m s g c old (taken to_mid)) (sym tells.unheard)
+                (follows_some says Is text is_accepted ends heard is_over (before ++ done) kept a m s g k old (taken to_mid) h ((part ++ 10 ∷ []) ++ more)))),
             (on.0, subst (λ c. is_over c → ⊥) (sym tells.unheard) on.1),
           );
           write_fault = λ f.
               let w = (tells.write_fault f).1 in (
-                subst (λ x. TellsPart says Is text is_taken ends heard is_over x a b g l old (taken to_new)) all
-                    (part_of_line says Is text is_taken ends heard is_over (before ++ done) kept a m s g k old (taken to_mid) h on part more w.0 w.1 b l (taken to_new) one w.2 w.3 tells.unheard w.4),
+                subst (λ x. TellsPart says Is text is_accepted ends heard is_over x a b g l old (taken to_new)) all
+                    (part_of_line says Is text is_accepted ends heard is_over (before ++ done) kept a m s g k old (taken to_mid) h on part more w.0 w.1 b l (taken to_new) one w.2 w.3 tells.unheard w.4),
                 subst (λ c. is_over c → ⊥) (sym tells.unheard) on.1,
               );
           sound = tt;
@@ -80,12 +80,12 @@ module _ {Y X T B : Type 0} (says : List ℕ → Result (Option Y) ℕ) (Is : T 
     whole : (before ++ done) ++ left ≡ before ++ piece
     whole = append_assoc before done left ∙ ap (λ x. before ++ x) is
 
-    pub piece_kept : (r : Option (List ℕ)) → r ≡ with_part kept left → FollowsPiece says Is text is_taken ends heard is_over taken is_stalled stalls failures before piece r a m s g k old to_old to_mid (Ok true)
+    pub piece_kept : (r : Option (List ℕ)) → r ≡ with_part kept left → FollowsPiece says Is text is_accepted ends heard is_over taken is_stalled stalls failures before piece r a m s g k old to_old to_mid (Ok true)
     piece_kept r kept_is =
         record {
           follows = λ e. (
-            subst (λ x. Follows says Is text is_taken ends heard is_over x r a m s g k old (taken to_mid)) whole (subst (λ x. Follows says Is text is_taken ends heard is_over ((before ++ done) ++ left) x a m s g k old (taken to_mid)) (sym kept_is)
-                (follows_part says Is text is_taken ends heard is_over (before ++ done) kept a m s g k old (taken to_mid) h left one)),
+            subst (λ x. Follows says Is text is_accepted ends heard is_over x r a m s g k old (taken to_mid)) whole (subst (λ x. Follows says Is text is_accepted ends heard is_over ((before ++ done) ++ left) x a m s g k old (taken to_mid)) (sym kept_is)
+                (follows_part says Is text is_accepted ends heard is_over (before ++ done) kept a m s g k old (taken to_mid) h left one)),
             on,
           );
           ended = λ e. cc e;
@@ -97,12 +97,12 @@ module _ {Y X T B : Type 0} (says : List ℕ → Result (Option Y) ℕ) (Is : T 
         }
 
     -- or there is no memory for that
-    pub piece_lost : (r : Option (List ℕ)) → FollowsPiece says Is text is_taken ends heard is_over taken is_stalled stalls failures before piece r a m s g k old to_old to_mid (Err Memory)
+    pub piece_lost : (r : Option (List ℕ)) → FollowsPiece says Is text is_accepted ends heard is_over taken is_stalled stalls failures before piece r a m s g k old to_old to_mid (Err Memory)
     piece_lost r =
         record {
           follows = λ e. cc e;
           ended = λ e. cc e;
-          memory = λ e. (m, s, subst (λ x. TellsSome says Is text is_taken ends heard is_over x a m s g k old (taken to_mid)) whole (follows_some says Is text is_taken ends heard is_over (before ++ done) kept a m s g k old (taken to_mid) h left), on);
+          memory = λ e. (m, s, subst (λ x. TellsSome says Is text is_accepted ends heard is_over x a m s g k old (taken to_mid)) whole (follows_some says Is text is_accepted ends heard is_over (before ++ done) kept a m s g k old (taken to_mid) h left), on);
           write_fault = λ e. cc e;
           sound = tt;
           errors = inr refl;
@@ -115,7 +115,7 @@ module _ {Y X T B : Type 0} (says : List ℕ → Result (Option Y) ℕ) (Is : T 
 as_error : {A C : Type 0} (e d : RunError) → ◌≡◌ {A = Result A RunError} (Err e) (Err d) → ◌≡◌ {A = Result C RunError} (Err e) (Err d)
 as_error e d f = let same : e ≡ d = cc in ap Err same
 
-module _ {Y X T B : Type 0} (says : List ℕ → Result (Option Y) ℕ) (Is : T → Y → X → T → Type 0) (text : ℕ → Y → X → List ℕ) (is_taken : X → Bool) (ends : T → Bool) (heard : B → Option (List HeardLine)) (is_over : B → Type 0)
+module _ {Y X T B : Type 0} (says : List ℕ → Result (Option Y) ℕ) (Is : T → Y → X → T → Type 0) (text : ℕ → Y → X → List ℕ) (is_accepted : X → Bool) (ends : T → Bool) (heard : B → Option (List HeardLine)) (is_over : B → Type 0)
     {S W : Type 0} (left : S → Option (List ℕ)) (is_ended : S → Type 0) (failed_reads : S → ℕ) (reads_of : S → Option (List Read))
     (taken : W → Option (List ℕ)) (is_stalled : W → Type 0) (stalls failed_writes : W → ℕ)
     (from_old from_mid from_new : S) (to_old to_mid to_new : W) (a m b : T) (g k h : B) (input piece : List ℕ)
@@ -123,23 +123,23 @@ module _ {Y X T B : Type 0} (says : List ℕ → Result (Option Y) ℕ) (Is : T 
     (seen : Gains (reads_of from_mid) (reads_of from_new) (record { written = taken to_mid; moved = piece } ∷ []))
     (read : failed_reads from_mid ≡ failed_reads from_old) (same : failed_reads from_new ≡ failed_reads from_mid)
     (written : Sound is_stalled stalls failed_writes to_old to_mid)
-    (kept : Option (List ℕ)) (s : Followed) (follows : Follows says Is text is_taken ends heard is_over input kept a m s g k (taken to_old) (taken to_mid)) (on : GoesOn ends is_over m k) where
+    (kept : Option (List ℕ)) (s : Followed) (follows : Follows says Is text is_accepted ends heard is_over input kept a m s g k (taken to_old) (taken to_mid)) (on : GoesOn ends is_over m k) where
   -- the piece was read behind the input
   pub all_read : (now : HasRead says Is text ends left reads_of a (taken to_old) from_old from_new (input ++ piece)) × (now.reads ≡ before.reads ++ record { written = taken to_mid; moved = piece } ∷ [])
   all_read =
       read_more says Is text ends left reads_of a (taken to_old) (taken to_mid) from_old from_mid from_new input piece before
-      (told_behind says Is text is_taken ends heard is_over input kept a m s g k (taken to_old) (taken to_mid) follows on.0) next seen
+      (told_behind says Is text is_accepted ends heard is_over input kept a m s g k (taken to_old) (taken to_mid) follows on.0) next seen
 
   abbrev EndsSo : Result Followed RunError → Type 0
-  EndsSo = FollowsAll says Is text is_taken ends heard is_over left is_ended failed_reads reads_of taken is_stalled stalls failed_writes a b from_old from_new to_old to_new g h
+  EndsSo = FollowsAll says Is text is_accepted ends heard is_over left is_ended failed_reads reads_of taken is_stalled stalls failed_writes a b from_old from_new to_old to_new g h
 
   -- the lines behind the one at which what is told stops are not told
-  up_to : (t : Followed) → TellsUpTo says Is text is_taken ends heard is_over input piece a b t g h (taken to_old) (taken to_new) → (earlier : List Read) × (last : Read) × (all_read.0.reads ≡ earlier ++ last ∷ [])
-      × TellsUpTo says Is text is_taken ends heard is_over (all_moved earlier) last.moved a b t g h (taken to_old) (taken to_new)
-  up_to t tells = (before.reads, record { written = taken to_mid; moved = piece }, all_read.1, subst (λ i. TellsUpTo says Is text is_taken ends heard is_over i piece a b t g h (taken to_old) (taken to_new)) (sym before.moved) tells)
+  up_to : (t : Followed) → TellsUpTo says Is text is_accepted ends heard is_over input piece a b t g h (taken to_old) (taken to_new) → (earlier : List Read) × (last : Read) × (all_read.0.reads ≡ earlier ++ last ∷ [])
+      × TellsUpTo says Is text is_accepted ends heard is_over (all_moved earlier) last.moved a b t g h (taken to_old) (taken to_new)
+  up_to t tells = (before.reads, record { written = taken to_mid; moved = piece }, all_read.1, subst (λ i. TellsUpTo says Is text is_accepted ends heard is_over i piece a b t g h (taken to_old) (taken to_new)) (sym before.moved) tells)
 
   module _ (r : Option (List ℕ)) (t : Followed) where
-    pub all_ended : FollowsPiece says Is text is_taken ends heard is_over taken is_stalled stalls failed_writes input piece r a b t g h (taken to_old) to_mid to_new (Ok false) → EndsSo (Ok t)
+    pub all_ended : FollowsPiece says Is text is_accepted ends heard is_over taken is_stalled stalls failed_writes input piece r a b t g h (taken to_old) to_mid to_new (Ok false) → EndsSo (Ok t)
     all_ended p =
         record {
           input = input ++ piece;
@@ -153,7 +153,7 @@ module _ {Y X T B : Type 0} (says : List ℕ → Result (Option Y) ℕ) (Is : T 
         }
 
     -- a line of the piece was not told of whole
-    pub all_failed : (e : RunError) → FollowsPiece says Is text is_taken ends heard is_over taken is_stalled stalls failed_writes input piece r a b t g h (taken to_old) to_mid to_new (Err e) → EndsSo (Err e)
+    pub all_failed : (e : RunError) → FollowsPiece says Is text is_accepted ends heard is_over taken is_stalled stalls failed_writes input piece r a b t g h (taken to_old) to_mid to_new (Err e) → EndsSo (Err e)
     all_failed e p =
         record {
           input = input ++ piece;
@@ -168,21 +168,21 @@ module _ {Y X T B : Type 0} (says : List ℕ → Result (Option Y) ℕ) (Is : T 
 
   -- nothing more has come
   module _ (none : piece ≡ []) where
-    last : Follows says Is text is_taken ends heard is_over (input ++ piece) (with_part kept []) a m s g k (taken to_old) (taken to_mid)
-    last = subst (λ p. Follows says Is text is_taken ends heard is_over (input ++ p) (with_part kept []) a m s g k (taken to_old) (taken to_mid)) (sym none) (follows_part says Is text is_taken ends heard is_over input kept a m s g k (taken to_old) (taken to_mid) follows [] refl)
+    last : Follows says Is text is_accepted ends heard is_over (input ++ piece) (with_part kept []) a m s g k (taken to_old) (taken to_mid)
+    last = subst (λ p. Follows says Is text is_accepted ends heard is_over (input ++ p) (with_part kept []) a m s g k (taken to_old) (taken to_mid)) (sym none) (follows_part says Is text is_accepted ends heard is_over input kept a m s g k (taken to_old) (taken to_mid) follows [] refl)
 
     -- the last line was told of at the end of the input
-    pub all_told : (goes_on : Bool) (t : Followed) → TellsLine says Is text is_taken ends heard is_over taken is_stalled stalls failed_writes (with_part kept []) m b s t k h to_mid to_new (Ok goes_on) → is_ended from_new → IsAtEnd (left from_new) → EndsSo (Ok t)
+    pub all_told : (goes_on : Bool) (t : Followed) → TellsLine says Is text is_accepted ends heard is_over taken is_stalled stalls failed_writes (with_part kept []) m b s t k h to_mid to_new (Ok goes_on) → is_ended from_new → IsAtEnd (left from_new) → EndsSo (Ok t)
     all_told goes_on t tells end none_left = by_case goes_on tells.told where
-      told_by : (c : Bool) → TellsOne says Is text is_taken ends heard is_over (with_part kept []) (said_of says (with_part kept [])) c m b s t k h (taken to_mid) (taken to_new) → Tells says Is text is_taken ends heard is_over (lines_of (input ++ piece)) a b t g h (taken to_old) (taken to_new)
-      told_by c one = follows_last says Is text is_taken ends heard is_over (input ++ piece) (with_part kept []) a m s g k (taken to_old) (taken to_mid) last on c b t h (taken to_new) one
+      told_by : (c : Bool) → TellsOne says Is text is_accepted ends heard is_over (with_part kept []) (said_of says (with_part kept [])) c m b s t k h (taken to_mid) (taken to_new) → Tells says Is text is_accepted ends heard is_over (lines_of (input ++ piece)) a b t g h (taken to_old) (taken to_new)
+      told_by c one = follows_last says Is text is_accepted ends heard is_over (input ++ piece) (with_part kept []) a m s g k (taken to_old) (taken to_mid) last on c b t h (taken to_new) one
 
-      by_case : (c : Bool) → TellsOne says Is text is_taken ends heard is_over (with_part kept []) (said_of says (with_part kept [])) c m b s t k h (taken to_mid) (taken to_new) → EndsSo (Ok t)
+      by_case : (c : Bool) → TellsOne says Is text is_accepted ends heard is_over (with_part kept []) (said_of says (with_part kept [])) c m b s t k h (taken to_mid) (taken to_new) → EndsSo (Ok t)
       by_case true one =
           record {
             input = input ++ piece;
             read = all_read.0;
-            told = inl ((end, none_left, same ∙ read), told_by true one, goes_more says Is text is_taken ends heard is_over (with_part kept []) m b s t k h (taken to_mid) (taken to_new) (said_of says (with_part kept [])) one on);
+            told = inl ((end, none_left, same ∙ read), told_by true one, goes_more says Is text is_accepted ends heard is_over (with_part kept []) m b s t k h (taken to_mid) (taken to_new) (said_of says (with_part kept [])) one on);
             sound = (same ∙ read, tells.sound.0 ∙ written.0, tells.sound.1 ∙ written.1);
             errors = tt;
             read_fault = λ f. cc f;
@@ -193,7 +193,7 @@ module _ {Y X T B : Type 0} (says : List ℕ → Result (Option Y) ℕ) (Is : T 
           record {
             input = input ++ piece;
             read = all_read.0;
-            told = inr (up_to t (stops_at_last says Is text is_taken ends heard is_over (input ++ piece) (with_part kept []) a m s g k (taken to_old) (taken to_mid) last on input piece refl (more_lines input piece) b t h (taken to_new) one));
+            told = inr (up_to t (stops_at_last says Is text is_accepted ends heard is_over (input ++ piece) (with_part kept []) a m s g k (taken to_old) (taken to_mid) last on input piece refl (more_lines input piece) b t h (taken to_new) one));
             sound = (same ∙ read, tells.sound.0 ∙ written.0, tells.sound.1 ∙ written.1);
             errors = tt;
             read_fault = λ f. cc f;
@@ -202,7 +202,7 @@ module _ {Y X T B : Type 0} (says : List ℕ → Result (Option Y) ℕ) (Is : T 
           }
 
     -- or not whole
-    pub last_failed : (t : Followed) (e : RunError) → TellsLine says Is text is_taken ends heard is_over taken is_stalled stalls failed_writes (with_part kept []) m b s t k h to_mid to_new (Err e) → EndsSo (Err e)
+    pub last_failed : (t : Followed) (e : RunError) → TellsLine says Is text is_accepted ends heard is_over taken is_stalled stalls failed_writes (with_part kept []) m b s t k h to_mid to_new (Err e) → EndsSo (Err e)
     last_failed t e tells =
         record {
           input = input ++ piece;
@@ -215,7 +215,7 @@ module _ {Y X T B : Type 0} (says : List ℕ → Result (Option Y) ℕ) (Is : T 
               let w = tells.write_fault (as_error e WriteFault f) in (
                 same ∙ read,
                 stops_later is_stalled stalls failed_writes to_old to_mid to_new written w.0,
-                part_of_last says Is text is_taken ends heard is_over (input ++ piece) (with_part kept []) a m s g k (taken to_old) (taken to_mid) last on w.1.0 w.1.1 b h (taken to_new) w.1.2 w.1.3 tells.unheard w.1.4,
+                part_of_last says Is text is_accepted ends heard is_over (input ++ piece) (with_part kept []) a m s g k (taken to_old) (taken to_mid) last on w.1.0 w.1.1 b h (taken to_new) w.1.2 w.1.3 tells.unheard w.1.4,
                 subst (λ c. is_over c → ⊥) (sym tells.unheard) on.1,
               );
           memory = λ f. (
@@ -223,9 +223,9 @@ module _ {Y X T B : Type 0} (says : List ℕ → Result (Option Y) ℕ) (Is : T 
             (
               m,
               s,
-              subst (λ c. TellsSome says Is text is_taken ends heard is_over (input ++ piece) a m s g c (taken to_old) (taken to_new)) (sym tells.unheard)
-                  (subst (λ w. TellsSome says Is text is_taken ends heard is_over (input ++ piece) a m s g k (taken to_old) (taken w)) (sym (tells.memory (as_error e Memory f)))
-                  (follows_some says Is text is_taken ends heard is_over input kept a m s g k (taken to_old) (taken to_mid) follows piece)),
+              subst (λ c. TellsSome says Is text is_accepted ends heard is_over (input ++ piece) a m s g c (taken to_old) (taken to_new)) (sym tells.unheard)
+                  (subst (λ w. TellsSome says Is text is_accepted ends heard is_over (input ++ piece) a m s g k (taken to_old) (taken w)) (sym (tells.memory (as_error e Memory f)))
+                  (follows_some says Is text is_accepted ends heard is_over input kept a m s g k (taken to_old) (taken to_mid) follows piece)),
               (on.0, subst (λ c. is_over c → ⊥) (sym tells.unheard) on.1),
             ),
           );
@@ -238,26 +238,26 @@ consumes_none None y keeps = tt
 consumes_none (Some x) None keeps = absurd keeps
 consumes_none (Some x) (Some y) keeps = sym keeps
 
-module _ {Y X T B : Type 0} (says : List ℕ → Result (Option Y) ℕ) (Is : T → Y → X → T → Type 0) (text : ℕ → Y → X → List ℕ) (is_taken : X → Bool) (ends : T → Bool) (heard : B → Option (List HeardLine)) (is_over : B → Type 0)
+module _ {Y X T B : Type 0} (says : List ℕ → Result (Option Y) ℕ) (Is : T → Y → X → T → Type 0) (text : ℕ → Y → X → List ℕ) (is_accepted : X → Bool) (ends : T → Bool) (heard : B → Option (List HeardLine)) (is_over : B → Type 0)
     {S W : Type 0} (left : S → Option (List ℕ)) (is_ended : S → Type 0) (failed_reads : S → ℕ) (reads_of : S → Option (List Read))
     (taken : W → Option (List ℕ)) (is_stalled : W → Type 0) (stalls failed_writes : W → ℕ)
     (from_old from_mid from_new : S) (to_old to_mid : W) (a m : T) (g k : B) (input : List ℕ)
     (before : HasRead says Is text ends left reads_of a (taken to_old) from_old from_mid input) (keeps : Keeps (left from_mid) (left from_new))
     (seen : Gains (reads_of from_mid) (reads_of from_new) (record { written = taken to_mid; moved = [] } ∷ []))
     (read : failed_reads from_mid ≡ failed_reads from_old) (failed : failed_reads from_new ≡ one_more (failed_reads from_mid))
-    (kept : Option (List ℕ)) (s : Followed) (follows : Follows says Is text is_taken ends heard is_over input kept a m s g k (taken to_old) (taken to_mid)) (on : GoesOn ends is_over m k) where
+    (kept : Option (List ℕ)) (s : Followed) (follows : Follows says Is text is_accepted ends heard is_over input kept a m s g k (taken to_old) (taken to_mid)) (on : GoesOn ends is_over m k) where
   -- the whole lines of what was read are told
-  pub read_failed : FollowsAll says Is text is_taken ends heard is_over left is_ended failed_reads reads_of taken is_stalled stalls failed_writes a m from_old from_new to_old to_mid g k (Err ReadFault)
+  pub read_failed : FollowsAll says Is text is_accepted ends heard is_over left is_ended failed_reads reads_of taken is_stalled stalls failed_writes a m from_old from_new to_old to_mid g k (Err ReadFault)
   read_failed =
       record {
         input = input ++ [];
         read =
             (read_more says Is text ends left reads_of a (taken to_old) (taken to_mid) from_old from_mid from_new input [] before
-            (told_behind says Is text is_taken ends heard is_over input kept a m s g k (taken to_old) (taken to_mid) follows on.0) (consumes_none (left from_mid) (left from_new) keeps) seen).0;
+            (told_behind says Is text is_accepted ends heard is_over input kept a m s g k (taken to_old) (taken to_mid) follows on.0) (consumes_none (left from_mid) (left from_new) keeps) seen).0;
         told = tt;
         sound = tt;
         errors = inl refl;
-        read_fault = λ f. (inl (failed ∙ ap one_more read), (kept, s, subst (λ x. Follows says Is text is_taken ends heard is_over x kept a m s g k (taken to_old) (taken to_mid)) (sym (append-nil input)) follows, on));
+        read_fault = λ f. (inl (failed ∙ ap one_more read), (kept, s, subst (λ x. Follows says Is text is_accepted ends heard is_over x kept a m s g k (taken to_old) (taken to_mid)) (sym (append-nil input)) follows, on));
         write_fault = λ f. cc f;
         memory = λ f. cc f;
       }

@@ -93,7 +93,7 @@ hears_more heard is_over g m h [] line same on more = (subst (λ k. is_over k �
 hears_more heard is_over g m h (l ∷ ls) line first on more = (first.0, first.1, first.2, hears_more heard is_over first.1 m h ls line first.3 on more)
 
 -- what is told goes on behind a line that says so, and stops at one that doesn't
-module _ {Y X T B : Type 0} (says : List ℕ → Result (Option Y) ℕ) (Is : T → Y → X → T → Type 0) (text : ℕ → Y → X → List ℕ) (is_taken : X → Bool) (ends : T → Bool) (heard : B → Option (List HeardLine)) (is_over : B → Type 0)
+module _ {Y X T B : Type 0} (says : List ℕ → Result (Option Y) ℕ) (Is : T → Y → X → T → Type 0) (text : ℕ → Y → X → List ℕ) (is_accepted : X → Bool) (ends : T → Bool) (heard : B → Option (List HeardLine)) (is_over : B → Type 0)
     (line : Option (List ℕ)) (a b : T) (s t : Followed) (g h : B) (old new : Option (List ℕ)) where
   negated : (c : Bool) → true ≡ not c → c ≡ false
   negated true e = cc e
@@ -103,17 +103,17 @@ module _ {Y X T B : Type 0} (says : List ℕ → Result (Option Y) ℕ) (Is : T 
   affirmed true e = refl
   affirmed false e = cc e
 
-  pub goes_more : (r : Result (Option Y) ℕ) → TellsOne says Is text is_taken ends heard is_over line r true a b s t g h old new → GoesOn ends is_over a g → GoesOn ends is_over b h
+  pub goes_more : (r : Result (Option Y) ℕ) → TellsOne says Is text is_accepted ends heard is_over line r true a b s t g h old new → GoesOn ends is_over a g → GoesOn ends is_over b h
   goes_more (Ok None) one on = (ap ends one.0 ∙ on.0, subst (λ k. is_over k → ⊥) (sym one.2) on.1)
   goes_more (Ok (Some d)) one on = (negated (ends b) one.5, subst (λ k. is_over k → ⊥) (sym one.3) on.1)
   goes_more (Err e) one on = (ap ends one.0 ∙ on.0, λ over. let same : true ≡ false = one.4.0 over in cc)
 
-  pub stops_so : (r : Result (Option Y) ℕ) → TellsOne says Is text is_taken ends heard is_over line r false a b s t g h old new → GoesOn ends is_over a g → Stops ends is_over r b h
+  pub stops_so : (r : Result (Option Y) ℕ) → TellsOne says Is text is_accepted ends heard is_over line r false a b s t g h old new → GoesOn ends is_over a g → Stops ends is_over r b h
   stops_so (Ok None) one on = cc one.4
   stops_so (Ok (Some d)) one on = (affirmed (ends b) one.5, subst (λ k. is_over k → ⊥) (sym one.3) on.1)
   stops_so (Err e) one on = (ap ends one.0 ∙ on.0, one.4.1 refl)
 
-module _ {Y X T B : Type 0} (says : List ℕ → Result (Option Y) ℕ) (Is : T → Y → X → T → Type 0) (text : ℕ → Y → X → List ℕ) (is_taken : X → Bool) (ends : T → Bool) (heard : B → Option (List HeardLine)) (is_over : B → Type 0) where
+module _ {Y X T B : Type 0} (says : List ℕ → Result (Option Y) ℕ) (Is : T → Y → X → T → Type 0) (text : ℕ → Y → X → List ℕ) (is_accepted : X → Bool) (ends : T → Bool) (heard : B → Option (List HeardLine)) (is_over : B → Type 0) where
   -- of one thing more that was said it is found so
   each_more : (a m b : T) (ds : List Y) (found : List X) (d : Y) (x : X) → Steps Is ends a ds found m → ends m ≡ false → Is m d x b → Steps Is ends a (ds ++ d ∷ []) (found ++ x ∷ []) b
   each_more a m b [] [] d x each on is = (subst (λ k. ends k ≡ false) each on, b, subst (λ k. Is k d x b) each is, refl)
@@ -132,7 +132,7 @@ module _ {Y X T B : Type 0} (says : List ℕ → Result (Option Y) ℕ) (Is : T 
       ap (λ t. text n e y ++ t) (text_more (n + 1) each.1 b ds found d x each.3 ∙ ap (λ k. texts_from text (n + 1) ds found ++ text k d x) same)
       ∙ sym (append_assoc (text n e y) (texts_from text (n + 1) ds found) (text (n + length (e ∷ ds)) d x))
 
-  refused_more : (found : List X) (x : X) → refused_in is_taken (found ++ x ∷ []) ≡ refused_in is_taken found + refused_one (is_taken x)
+  refused_more : (found : List X) (x : X) → refused_in is_accepted (found ++ x ∷ []) ≡ refused_in is_accepted found + refused_one (is_accepted x)
   refused_more [] x = omega arith
   refused_more (y ∷ found) x = omega (arith, refused_more found x)
 
@@ -160,16 +160,16 @@ module _ {Y X T B : Type 0} (says : List ℕ → Result (Option Y) ℕ) (Is : T 
 
   -- the counts of lines, by what is found of what they say
   abbrev counted : List (List ℕ) → List X → Followed
-  counted lines found = record { lines = length lines; datagrams = length (all_said says lines); refused = refused_in is_taken found; bad_lines = length (bad_from says 1 lines) }
+  counted lines found = record { lines = length lines; datagrams = length (all_said says lines); refused = refused_in is_accepted found; bad_lines = length (bad_from says 1 lines) }
 
   -- what one line more says is told of it
   module _ (lines : List (List ℕ)) (line : List ℕ) (a m b : T) (s t : Followed) (g k h : B) (old mid new : Option (List ℕ))
-      (told : Tells says Is text is_taken ends heard is_over lines a m s g k old mid) (on : GoesOn ends is_over m k) where
+      (told : Tells says Is text is_accepted ends heard is_over lines a m s g k old mid) (on : GoesOn ends is_over m k) where
     long : length (lines ++ line ∷ []) ≡ length lines + 1
     long = length-append lines (line ∷ [])
 
-    more_by : (r : Result (Option Y) ℕ) (goes_on : Bool) → line_says says line ≡ r → TellsOne says Is text is_taken ends heard is_over (kept_of line) r goes_on m b s t k h mid new
-        → Tells says Is text is_taken ends heard is_over (lines ++ line ∷ []) a b t g h old new
+    more_by : (r : Result (Option Y) ℕ) (goes_on : Bool) → line_says says line ≡ r → TellsOne says Is text is_accepted ends heard is_over (kept_of line) r goes_on m b s t k h mid new
+        → Tells says Is text is_accepted ends heard is_over (lines ++ line ∷ []) a b t g h old new
     more_by (Ok None) goes_on is one =
         let ds = said_without lines line (Ok None) is refl in
         let bs = bad_without lines line None is in
@@ -180,7 +180,7 @@ module _ {Y X T B : Type 0} (says : List ℕ → Result (Option Y) ℕ) (Is : T 
           bad = subst (λ l. Hears heard is_over g l h) (sym bs) (subst (λ c. Hears heard is_over g (bad_from says 1 lines) c) (sym one.2) told.bad);
           counts =
               one.1 ∙ ap (λ (x : Followed). record x { lines = x.lines + 1 }) told.counts
-              ∙ λ i. record { lines = sym long i; datagrams = length (sym ds i); refused = refused_in is_taken told.found; bad_lines = length (sym bs i) };
+              ∙ λ i. record { lines = sym long i; datagrams = length (sym ds i); refused = refused_in is_accepted told.found; bad_lines = length (sym bs i) };
         }
     more_by (Ok (Some d)) goes_on is one =
         let ds = said_with lines line d is in
@@ -189,14 +189,14 @@ module _ {Y X T B : Type 0} (says : List ℕ → Result (Option Y) ℕ) (Is : T 
         let many : s.datagrams + 1 ≡ length (all_said says lines) + 1 = ap (λ (y : Followed). y.datagrams + 1) told.counts in
         let texts = Appends-trans old mid new (texts_from text 1 (all_said says lines) told.found) (text (s.datagrams + 1) d x) told.written one.4 in
         let size : length (all_said says lines) + 1 ≡ length (all_said says (lines ++ line ∷ [])) = sym (ap length ds ∙ length-append (all_said says lines) (d ∷ [])) in
-        let turned : refused_in is_taken told.found + refused_one (is_taken x) ≡ refused_in is_taken (told.found ++ x ∷ []) = sym (refused_more told.found x) in
+        let turned : refused_in is_accepted told.found + refused_one (is_accepted x) ≡ refused_in is_accepted (told.found ++ x ∷ []) = sym (refused_more told.found x) in
         record {
           found = told.found ++ x ∷ [];
           each = each_with lines line d is a m b told.found x told.each on.0 one.1;
           written = subst (Appends old new) (ap (λ k. texts_from text 1 (all_said says lines) told.found ++ text k d x) many ∙ text_with lines line d is a m told.found x told.each) texts;
           bad = subst (λ l. Hears heard is_over g l h) (sym bs) (subst (λ c. Hears heard is_over g (bad_from says 1 lines) c) (sym one.3) told.bad);
           counts =
-              one.2 ∙ ap (λ (y : Followed). record y { lines = y.lines + 1; datagrams = y.datagrams + 1; refused = y.refused + refused_one (is_taken x) }) told.counts
+              one.2 ∙ ap (λ (y : Followed). record y { lines = y.lines + 1; datagrams = y.datagrams + 1; refused = y.refused + refused_one (is_accepted x) }) told.counts
               ∙ λ i. record { lines = sym long i; datagrams = size i; refused = turned i; bad_lines = length (sym bs i) };
         }
     more_by (Err e) goes_on is one =
@@ -213,10 +213,10 @@ module _ {Y X T B : Type 0} (says : List ℕ → Result (Option Y) ℕ) (Is : T 
           bad = subst (λ l. Hears heard is_over g l h) (sym bs) (hears_more heard is_over g k h (bad_from says 1 lines) (record { number = 1 + length lines; line = kept_of line }) told.bad on.1 this);
           counts =
               one.1 ∙ ap (λ (y : Followed). record y { lines = y.lines + 1; bad_lines = y.bad_lines + 1 }) told.counts
-              ∙ λ i. record { lines = sym long i; datagrams = length (sym ds i); refused = refused_in is_taken told.found; bad_lines = size i };
+              ∙ λ i. record { lines = sym long i; datagrams = length (sym ds i); refused = refused_in is_accepted told.found; bad_lines = size i };
         }
 
-    pub tells_more : (goes_on : Bool) → TellsOne says Is text is_taken ends heard is_over (kept_of line) (line_says says line) goes_on m b s t k h mid new → Tells says Is text is_taken ends heard is_over (lines ++ line ∷ []) a b t g h old new
+    pub tells_more : (goes_on : Bool) → TellsOne says Is text is_accepted ends heard is_over (kept_of line) (line_says says line) goes_on m b s t k h mid new → Tells says Is text is_accepted ends heard is_over (lines ++ line ∷ []) a b t g h old new
     tells_more goes_on one = more_by (line_says says line) goes_on refl one
 
 -- ---- an input so far
@@ -241,9 +241,9 @@ first_ended part more one = by_case (lines_of more) refl (some_line more) where
   by_case [] is some = absurd some
   by_case (l ∷ ls) is some = (l ∷ ls, lines_more (part ++ 10 ∷ []) more (part ∷ []) [] l ls (one_ended part one) is)
 
-module _ {Y X T B : Type 0} (says : List ℕ → Result (Option Y) ℕ) (Is : T → Y → X → T → Type 0) (text : ℕ → Y → X → List ℕ) (is_taken : X → Bool) (ends : T → Bool) (heard : B → Option (List HeardLine)) (is_over : B → Type 0) where
+module _ {Y X T B : Type 0} (says : List ℕ → Result (Option Y) ℕ) (Is : T → Y → X → T → Type 0) (text : ℕ → Y → X → List ℕ) (is_accepted : X → Bool) (ends : T → Bool) (heard : B → Option (List HeardLine)) (is_over : B → Type 0) where
   -- nothing is read yet
-  pub follows_none : (a : T) (g : B) (old : Option (List ℕ)) → Follows says Is text is_taken ends heard is_over [] (Some []) a a none_followed g g old old
+  pub follows_none : (a : T) (g : B) (old : Option (List ℕ)) → Follows says Is text is_accepted ends heard is_over [] (Some []) a a none_followed g g old old
   unfolding texts_from
   follows_none a g old =
       record {
@@ -254,9 +254,9 @@ module _ {Y X T B : Type 0} (says : List ℕ → Result (Option Y) ℕ) (Is : T 
         tells = record { found = []; each = refl; written = Appends-nil old; bad = refl; counts = refl };
       }
 
-  module _ (input : List ℕ) (kept : Option (List ℕ)) (a m : T) (s : Followed) (g k : B) (old mid : Option (List ℕ)) (h : Follows says Is text is_taken ends heard is_over input kept a m s g k old mid) where
+  module _ (input : List ℕ) (kept : Option (List ℕ)) (a m : T) (s : Followed) (g k : B) (old mid : Option (List ℕ)) (h : Follows says Is text is_accepted ends heard is_over input kept a m s g k old mid) where
     -- a part without a newline has come
-    pub follows_part : (part : List ℕ) → lines_of part ≡ part ∷ [] → Follows says Is text is_taken ends heard is_over (input ++ part) (with_part kept part) a m s g k old mid
+    pub follows_part : (part : List ℕ) → lines_of part ≡ part ∷ [] → Follows says Is text is_accepted ends heard is_over (input ++ part) (with_part kept part) a m s g k old mid
     follows_part part one =
         record {
           lines = h.lines;
@@ -279,7 +279,7 @@ module _ {Y X T B : Type 0} (says : List ℕ → Result (Option Y) ℕ) (Is : T 
     first_of more (l ∷ ls) is some = ((h.rest ++ l) ∷ ls, lines_more input more h.lines h.rest l ls h.cut is)
 
     -- the other lines are not told, whatever comes
-    pub follows_some : (more : List ℕ) → TellsSome says Is text is_taken ends heard is_over (input ++ more) a m s g k old mid
+    pub follows_some : (more : List ℕ) → TellsSome says Is text is_accepted ends heard is_over (input ++ more) a m s g k old mid
     follows_some more =
         let f = first_of more (lines_of more) refl (some_line more) in
         record { lines = h.lines; others = f.0; cut = f.1; tells = h.tells }
@@ -287,14 +287,14 @@ module _ {Y X T B : Type 0} (says : List ℕ → Result (Option Y) ℕ) (Is : T 
     module _ (on : GoesOn ends is_over m k) where
       -- a line has ended, and was told of
       module _ (part : List ℕ) (one : lines_of part ≡ part ∷ []) (goes_on : Bool) (b : T) (t : Followed) (l : B) (new : Option (List ℕ))
-          (told : TellsOne says Is text is_taken ends heard is_over (with_part kept part) (said_of says (with_part kept part)) goes_on m b s t k l mid new) where
-        told_whole : TellsOne says Is text is_taken ends heard is_over (kept_of (h.rest ++ part)) (line_says says (h.rest ++ part)) goes_on m b s t k l mid new
-        told_whole = subst (λ r. TellsOne says Is text is_taken ends heard is_over r (said_of says r) goes_on m b s t k l mid new) (keeps_with part) told
+          (told : TellsOne says Is text is_accepted ends heard is_over (with_part kept part) (said_of says (with_part kept part)) goes_on m b s t k l mid new) where
+        told_whole : TellsOne says Is text is_accepted ends heard is_over (kept_of (h.rest ++ part)) (line_says says (h.rest ++ part)) goes_on m b s t k l mid new
+        told_whole = subst (λ r. TellsOne says Is text is_accepted ends heard is_over r (said_of says r) goes_on m b s t k l mid new) (keeps_with part) told
 
-        tells_line : Tells says Is text is_taken ends heard is_over (h.lines ++ (h.rest ++ part) ∷ []) a b t g l old new
-        tells_line = tells_more says Is text is_taken ends heard is_over h.lines (h.rest ++ part) a m b s t g k l old mid new h.tells on goes_on told_whole
+        tells_line : Tells says Is text is_accepted ends heard is_over (h.lines ++ (h.rest ++ part) ∷ []) a b t g l old new
+        tells_line = tells_more says Is text is_accepted ends heard is_over h.lines (h.rest ++ part) a m b s t g k l old mid new h.tells on goes_on told_whole
 
-        pub follows_line : Follows says Is text is_taken ends heard is_over (input ++ (part ++ 10 ∷ [])) (Some []) a b t g l old new
+        pub follows_line : Follows says Is text is_accepted ends heard is_over (input ++ (part ++ 10 ∷ [])) (Some []) a b t g l old new
         follows_line =
             record {
               lines = h.lines ++ (h.rest ++ part) ∷ [];
@@ -306,8 +306,8 @@ module _ {Y X T B : Type 0} (says : List ℕ → Result (Option Y) ℕ) (Is : T 
 
       -- and what is told stops at it
       module _ (part : List ℕ) (one : lines_of part ≡ part ∷ []) (b : T) (t : Followed) (l : B) (new : Option (List ℕ))
-          (told : TellsOne says Is text is_taken ends heard is_over (with_part kept part) (said_of says (with_part kept part)) false m b s t k l mid new) where
-        up_to : (before piece : List ℕ) (others : List (List ℕ)) → lines_of (before ++ piece) ≡ h.lines ++ (h.rest ++ part) ∷ others → length (lines_of before) ≤ length (lines_of input) → TellsUpTo says Is text is_taken ends heard is_over before piece a b t g l old new
+          (told : TellsOne says Is text is_accepted ends heard is_over (with_part kept part) (said_of says (with_part kept part)) false m b s t k l mid new) where
+        up_to : (before piece : List ℕ) (others : List (List ℕ)) → lines_of (before ++ piece) ≡ h.lines ++ (h.rest ++ part) ∷ others → length (lines_of before) ≤ length (lines_of input) → TellsUpTo says Is text is_accepted ends heard is_over before piece a b t g l old new
         up_to before piece others cut fewer =
             let size : length (lines_of input) ≡ length h.lines + 1 = ap (length {A = List ℕ}) h.cut ∙ length-append h.lines (h.rest ∷ []) in
             record {
@@ -315,31 +315,31 @@ module _ {Y X T B : Type 0} (says : List ℕ → Result (Option Y) ℕ) (Is : T 
               line = h.rest ++ part;
               others = others;
               cut = cut ∙ sym (append_assoc h.lines ((h.rest ++ part) ∷ []) others);
-              stops = stops_so says Is text is_taken ends heard is_over (kept_of (h.rest ++ part)) m b s t k l mid new (line_says says (h.rest ++ part)) (told_whole part one false b t l new told) on;
+              stops = stops_so says Is text is_accepted ends heard is_over (kept_of (h.rest ++ part)) m b s t k l mid new (line_says says (h.rest ++ part)) (told_whole part one false b t l new told) on;
               tells = tells_line part one false b t l new told;
               soon = omega (arith, fewer, size);
             }
 
         -- in the middle of an input
-        pub stops_at_line : (before piece more : List ℕ) → input ++ ((part ++ 10 ∷ []) ++ more) ≡ before ++ piece → length (lines_of before) ≤ length (lines_of input) → TellsUpTo says Is text is_taken ends heard is_over before piece a b t g l old new
+        pub stops_at_line : (before piece more : List ℕ) → input ++ ((part ++ 10 ∷ []) ++ more) ≡ before ++ piece → length (lines_of before) ≤ length (lines_of input) → TellsUpTo says Is text is_accepted ends heard is_over before piece a b t g l old new
         stops_at_line before piece more is fewer =
             let f = first_ended part more one in
             up_to before piece f.0 (ap lines_of (sym is) ∙ lines_more input ((part ++ 10 ∷ []) ++ more) h.lines h.rest part f.0 h.cut f.1) fewer
 
       -- the last line was told of
-      module _ (goes_on : Bool) (b : T) (t : Followed) (l : B) (new : Option (List ℕ)) (told : TellsOne says Is text is_taken ends heard is_over kept (said_of says kept) goes_on m b s t k l mid new) where
-        told_last : TellsOne says Is text is_taken ends heard is_over (kept_of h.rest) (line_says says h.rest) goes_on m b s t k l mid new
-        told_last = subst (λ r. TellsOne says Is text is_taken ends heard is_over r (said_of says r) goes_on m b s t k l mid new) h.keeps told
+      module _ (goes_on : Bool) (b : T) (t : Followed) (l : B) (new : Option (List ℕ)) (told : TellsOne says Is text is_accepted ends heard is_over kept (said_of says kept) goes_on m b s t k l mid new) where
+        told_last : TellsOne says Is text is_accepted ends heard is_over (kept_of h.rest) (line_says says h.rest) goes_on m b s t k l mid new
+        told_last = subst (λ r. TellsOne says Is text is_accepted ends heard is_over r (said_of says r) goes_on m b s t k l mid new) h.keeps told
 
-        tells_last : Tells says Is text is_taken ends heard is_over (h.lines ++ h.rest ∷ []) a b t g l old new
-        tells_last = tells_more says Is text is_taken ends heard is_over h.lines h.rest a m b s t g k l old mid new h.tells on goes_on told_last
+        tells_last : Tells says Is text is_accepted ends heard is_over (h.lines ++ h.rest ∷ []) a b t g l old new
+        tells_last = tells_more says Is text is_accepted ends heard is_over h.lines h.rest a m b s t g k l old mid new h.tells on goes_on told_last
 
-        pub follows_last : Tells says Is text is_taken ends heard is_over (lines_of input) a b t g l old new
-        follows_last = subst (λ ls. Tells says Is text is_taken ends heard is_over ls a b t g l old new) (sym h.cut) tells_last
+        pub follows_last : Tells says Is text is_accepted ends heard is_over (lines_of input) a b t g l old new
+        follows_last = subst (λ ls. Tells says Is text is_accepted ends heard is_over ls a b t g l old new) (sym h.cut) tells_last
 
       -- and what is told stops at it
       pub stops_at_last : (before piece : List ℕ) → input ≡ before ++ piece → length (lines_of before) ≤ length (lines_of input) → (b : T) (t : Followed) (l : B) (new : Option (List ℕ))
-          → TellsOne says Is text is_taken ends heard is_over kept (said_of says kept) false m b s t k l mid new → TellsUpTo says Is text is_taken ends heard is_over before piece a b t g l old new
+          → TellsOne says Is text is_accepted ends heard is_over kept (said_of says kept) false m b s t k l mid new → TellsUpTo says Is text is_accepted ends heard is_over before piece a b t g l old new
       stops_at_last before piece is fewer b t l new told =
           let size : length (lines_of input) ≡ length h.lines + 1 = ap (length {A = List ℕ}) h.cut ∙ length-append h.lines (h.rest ∷ []) in
           record {
@@ -347,14 +347,14 @@ module _ {Y X T B : Type 0} (says : List ℕ → Result (Option Y) ℕ) (Is : T 
             line = h.rest;
             others = [];
             cut = ap lines_of (sym is) ∙ h.cut ∙ sym (append-nil (h.lines ++ h.rest ∷ []));
-            stops = stops_so says Is text is_taken ends heard is_over (kept_of h.rest) m b s t k l mid new (line_says says h.rest) (told_last false b t l new told) on;
+            stops = stops_so says Is text is_accepted ends heard is_over (kept_of h.rest) m b s t k l mid new (line_says says h.rest) (told_last false b t l new told) on;
             tells = tells_last false b t l new told;
             soon = omega (arith, fewer, size);
           }
 
       -- the line that has ended says something, and of the text of that a front was written
       module _ (line : List ℕ) (others : List (List ℕ)) (all : List ℕ) (cut : lines_of all ≡ h.lines ++ line ∷ others) where
-        follows_front : (d : Y) (x : X) (b : T) (l : B) (w : Option (List ℕ)) → line_says says line ≡ Ok (Some d) → Is m d x b → l ≡ k → AppendsPrefix mid w (text (s.datagrams + 1) d x) → TellsPart says Is text is_taken ends heard is_over all a b g l old w
+        follows_front : (d : Y) (x : X) (b : T) (l : B) (w : Option (List ℕ)) → line_says says line ≡ Ok (Some d) → Is m d x b → l ≡ k → AppendsPrefix mid w (text (s.datagrams + 1) d x) → TellsPart says Is text is_accepted ends heard is_over all a b g l old w
         follows_front d x b l w told is same front =
             let t = h.tells in
             let many : s.datagrams + 1 ≡ length (all_said says h.lines) + 1 = ap (λ (y : Followed). y.datagrams + 1) t.counts in
@@ -363,22 +363,22 @@ module _ {Y X T B : Type 0} (says : List ℕ → Result (Option Y) ℕ) (Is : T 
               others = others;
               cut = cut ∙ sym (append_assoc h.lines (line ∷ []) others);
               found = t.found ++ x ∷ [];
-              each = each_with says Is text is_taken ends heard is_over h.lines line d told a m b t.found x t.each on.0 is;
+              each = each_with says Is text is_accepted ends heard is_over h.lines line d told a m b t.found x t.each on.0 is;
               written =
-                  subst (AppendsPrefix old w) (ap (λ n. texts_from text 1 (all_said says h.lines) t.found ++ text n d x) many ∙ text_with says Is text is_taken ends heard is_over h.lines line d told a m t.found x t.each)
+                  subst (AppendsPrefix old w) (ap (λ n. texts_from text 1 (all_said says h.lines) t.found ++ text n d x) many ∙ text_with says Is text is_accepted ends heard is_over h.lines line d told a m t.found x t.each)
                   (prefix_more old mid w (texts_from text 1 (all_said says h.lines) t.found) (text (s.datagrams + 1) d x) t.written front);
-              bad = subst (λ ls. Hears heard is_over g ls l) (sym (bad_without says Is text is_taken ends heard is_over h.lines line (Some d) told)) (subst (λ c. Hears heard is_over g (bad_from says 1 h.lines) c) (sym same) t.bad);
+              bad = subst (λ ls. Hears heard is_over g ls l) (sym (bad_without says Is text is_accepted ends heard is_over h.lines line (Some d) told)) (subst (λ c. Hears heard is_over g (bad_from says 1 h.lines) c) (sym same) t.bad);
             }
 
       -- so it is with a line in the middle
       pub part_of_line : (part more : List ℕ) (d : Y) (x : X) (b : T) (l : B) (w : Option (List ℕ)) → lines_of part ≡ part ∷ [] → said_of says (with_part kept part) ≡ Ok (Some d) → Is m d x b → l ≡ k
-          → AppendsPrefix mid w (text (s.datagrams + 1) d x) → TellsPart says Is text is_taken ends heard is_over (input ++ ((part ++ 10 ∷ []) ++ more)) a b g l old w
+          → AppendsPrefix mid w (text (s.datagrams + 1) d x) → TellsPart says Is text is_accepted ends heard is_over (input ++ ((part ++ 10 ∷ []) ++ more)) a b g l old w
       part_of_line part more d x b l w one said is same front =
           let f = first_ended part more one in
           follows_front (h.rest ++ part) f.0 (input ++ ((part ++ 10 ∷ []) ++ more)) (lines_more input ((part ++ 10 ∷ []) ++ more) h.lines h.rest part f.0 h.cut f.1) d x b l w (sym (ap (said_of says) (keeps_with part)) ∙ said) is same front
 
       -- and with the last
-      pub part_of_last : (d : Y) (x : X) (b : T) (l : B) (w : Option (List ℕ)) → said_of says kept ≡ Ok (Some d) → Is m d x b → l ≡ k → AppendsPrefix mid w (text (s.datagrams + 1) d x) → TellsPart says Is text is_taken ends heard is_over input a b g l old w
+      pub part_of_last : (d : Y) (x : X) (b : T) (l : B) (w : Option (List ℕ)) → said_of says kept ≡ Ok (Some d) → Is m d x b → l ≡ k → AppendsPrefix mid w (text (s.datagrams + 1) d x) → TellsPart says Is text is_accepted ends heard is_over input a b g l old w
       part_of_last d x b l w said is same front = follows_front h.rest [] input h.cut d x b l w (sym (ap (said_of says) h.keeps) ∙ said) is same front
 
 -- ---- reads
@@ -444,19 +444,19 @@ module _ {Y : Type 0} (says : List ℕ → Result (Option Y) ℕ) where
   fewer_bad n [] = omega arith
   fewer_bad n (l ∷ ls) = omega (arith, length-append (bad_at n (kept_of l) (line_says says l)) (bad_from says (n + 1) ls), few_bad n (kept_of l) (line_says says l), fewer_bad (n + 1) ls)
 
-module _ {Y X T B : Type 0} (says : List ℕ → Result (Option Y) ℕ) (Is : T → Y → X → T → Type 0) (text : ℕ → Y → X → List ℕ) (is_taken : X → Bool) (ends : T → Bool) (heard : B → Option (List HeardLine)) (is_over : B → Type 0) where
+module _ {Y X T B : Type 0} (says : List ℕ → Result (Option Y) ℕ) (Is : T → Y → X → T → Type 0) (text : ℕ → Y → X → List ℕ) (is_accepted : X → Bool) (ends : T → Bool) (heard : B → Option (List HeardLine)) (is_over : B → Type 0) where
   one_refused : (b : Bool) → refused_one b ≤ 1
   one_refused true = omega arith
   one_refused false = omega arith
 
-  fewer_refused : (a b : T) (ds : List Y) (found : List X) → Steps Is ends a ds found b → refused_in is_taken found ≤ length ds
+  fewer_refused : (a b : T) (ds : List Y) (found : List X) → Steps Is ends a ds found b → refused_in is_accepted found ≤ length ds
   fewer_refused a b [] [] each = omega arith
   fewer_refused a b [] (x ∷ found) each = absurd each
   fewer_refused a b (d ∷ ds) [] each = absurd each
-  fewer_refused a b (d ∷ ds) (x ∷ found) each = omega (arith, one_refused (is_taken x), fewer_refused each.1 b ds found each.3)
+  fewer_refused a b (d ∷ ds) (x ∷ found) each = omega (arith, one_refused (is_accepted x), fewer_refused each.1 b ds found each.3)
 
   -- no count is greater than that of the lines
-  is_counted : (lines : List (List ℕ)) (a b : T) (s : Followed) (g h : B) (old new : Option (List ℕ)) (n : ℕ) → Tells says Is text is_taken ends heard is_over lines a b s g h old new → length lines + n < 2 ^ 64 → IsCounted n s
+  is_counted : (lines : List (List ℕ)) (a b : T) (s : Followed) (g h : B) (old new : Option (List ℕ)) (n : ℕ) → Tells says Is text is_accepted ends heard is_over lines a b s g h old new → length lines + n < 2 ^ 64 → IsCounted n s
   is_counted lines a b s g h old new n told few =
       let e = told.counts in
       record {
@@ -467,15 +467,15 @@ module _ {Y X T B : Type 0} (says : List ℕ → Result (Option Y) ℕ) (Is : T 
       }
 
   -- lines are no more than the bytes of their input, and one
-  pub follows_counted : (input : List ℕ) (kept : Option (List ℕ)) (a b : T) (s : Followed) (g h : B) (old new : Option (List ℕ)) (n : ℕ) → Follows says Is text is_taken ends heard is_over input kept a b s g h old new → length input + n < 2 ^ 64 → IsCounted n s
+  pub follows_counted : (input : List ℕ) (kept : Option (List ℕ)) (a b : T) (s : Followed) (g h : B) (old new : Option (List ℕ)) (n : ℕ) → Follows says Is text is_accepted ends heard is_over input kept a b s g h old new → length input + n < 2 ^ 64 → IsCounted n s
   follows_counted input kept a b s g h old new n f few =
       let lines : length f.lines + 1 ≡ length (lines_of input) = sym (ap (length {A = List ℕ}) f.cut ∙ length-append f.lines (f.rest ∷ [])) in
       is_counted f.lines a b s g h old new n f.tells (omega (arith, lines, length-lines_of input))
 
   -- one line more is counted
   pub tells_counted : (line : Option (List ℕ)) (r : Result (Option Y) ℕ) (goes_on : Bool) (a b : T) (s t : Followed) (g h : B) (old new : Option (List ℕ)) (n : ℕ) → IsCounted (n + 1) s
-      → TellsOne says Is text is_taken ends heard is_over line r goes_on a b s t g h old new → IsCounted n t
+      → TellsOne says Is text is_accepted ends heard is_over line r goes_on a b s t g h old new → IsCounted n t
   tells_counted line (Ok None) goes_on a b s t g h old new n c told = rw told.1 (record { lines = omega (arith, c.lines); datagrams = omega (arith, c.datagrams); refused = c.refused; bad_lines = omega (arith, c.bad_lines) })
   tells_counted line (Ok (Some d)) goes_on a b s t g h old new n c told =
-      rw told.2 (record { lines = omega (arith, c.lines); datagrams = omega (arith, c.datagrams); refused = omega (arith, c.refused, one_refused (is_taken told.0)); bad_lines = omega (arith, c.bad_lines) })
+      rw told.2 (record { lines = omega (arith, c.lines); datagrams = omega (arith, c.datagrams); refused = omega (arith, c.refused, one_refused (is_accepted told.0)); bad_lines = omega (arith, c.bad_lines) })
   tells_counted line (Err e) goes_on a b s t g h old new n c told = rw told.1 (record { lines = omega (arith, c.lines); datagrams = omega (arith, c.datagrams); refused = c.refused; bad_lines = omega (arith, c.bad_lines) })

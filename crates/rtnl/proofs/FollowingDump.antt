@@ -1,5 +1,6 @@
 -- A dump that is followed: what is told of a datagram, and what is written before it and behind it.
-use Rattle.rtnl.proofs.Common.{◌≡◌, ◌≢◌, ◌+◌, ◌++◌, ℕ, Bool, true, false, not, List, length, map, Option, Some, Result, Ok, Err, refl, sym, ap, ◌∙◌, subst, inl, inr, length-map, Appends, Order, message_view, Given, Reads, ends_dump, given_text, is_given, Writes, AppendsPrefix, StopsOnce, RunError, WriteFault, Memory}
+use Rattle.rtnl.proofs.Common.{◌≡◌, ◌≢◌, ◌+◌, ◌++◌, ℕ, Bool, true, false, not, List, length, map, Option, Some, Result, Ok, Err, refl, sym, ap, ◌∙◌, subst, inl, inr, length-map, Appends, Order, message_view, Given, Reads, ends_dump, given_text, Writes, AppendsPrefix, StopsOnce, RunError, WriteFault, Memory}
+use Rattle.rtnl.specs.FollowedDump.{is_accepted}
 use Rattle.nl_dump.specs.declared.dump.ItemsRead.{ItemsRead}
 use Rattle.nl_dump.specs.declared.errors.FeedError.{FeedError}
 use Rattle.nl_dump.specs.declared.errors.FeedError.TheVariants as feed
@@ -12,7 +13,7 @@ use Rattle.rtnl.specs.declared.runs.open_dump.OpenDump.{OpenDump}
 module _ (t : Report) (o : Order) (number : ℕ) (said : Result (Option (List ℕ)) ℕ) (a b : OpenDump) (d old new : List ℕ) (is : said ≡ Ok (Some d)) (taken goes_on : Bool) where
   -- it gave something
   abbrev pub Gives : Type 0
-  Gives = (y : List ℕ) × (x : Given) × (said ≡ Ok (Some y)) × Reads a y x b × (new ≡ old ++ given_text t o number y x) × (taken ≡ is_given x) × (goes_on ≡ not (ends_dump b))
+  Gives = (y : List ℕ) × (x : Given) × (said ≡ Ok (Some y)) × Reads a y x b × (new ≡ old ++ given_text t o number y x) × (taken ≡ is_accepted x) × (goes_on ≡ not (ends_dump b))
 
   -- its items
   pub gives_items : (r : ItemsRead) → StreamRead a.stream d (Ok r) b.stream → b.items ≡ a.items + length r.items.items

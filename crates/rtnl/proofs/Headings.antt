@@ -1,12 +1,12 @@
 -- The line that names a dump: its words, its digits, and how it is put together of them.
 use Rattle.std.proofs.Common.{◌≡◌, ◌≢◌, ℕ, zero, suc, ◌<◌, ◌≤◌, ◌^◌, ◌==◌, ◌&&◌, not, nat_lt, if◌then◌else◌, Bool, true, false, Option, Some, None, List, [], ◌∷◌, ◌++◌, All, MatchOption, length, take, drop, arith, append_assoc, refl, sym, ap, ◌∙◌, rules, cond, codes, option_map}
-use Rattle.rtnl.proofs.Common.{Bor, list_all, SomeIff, option_copied, ltb-true, Decides-eqb, eqb_tells, IsAscii-from_digits, take-append-drop, find, Family, name_of}
+use Rattle.rtnl.proofs.Common.{Bor, list_all, SomeIff, option_copied, ltb-true, IsAscii-from_digits, take-append-drop, find, Family, name_of}
 use Rattle.std.specs.Char.{digit_value, is_ascii_digit}
 use Rattle.std.specs.Str.{IsUtf8}
 use Rattle.std.specs.Str.Parse.{AllDigits, IsNumeral, digits_value}
 use Rattle.std.proofs.lemmas.Str.{IsUtf8-from_ascii}
 use Rattle.std.proofs.lemmas.Str.Parse.{digit_from_value}
-use Rattle.rtnl.specs.Heading.{◌>>=◌, Names, are_blanks, behind, digit_count, is_named, is_numeral, kind_at_end, kind_named, kind_text, kinds, number_at, number_if, number_in, only_blanks}
+use Rattle.rtnl.specs.Heading.{◌>>=◌, Names, all_blank, behind, leading_digits, is_named, is_numeral, kind_at_end, kind_named, kind_text, kinds, number_at, number_if, number_in, only_blanks}
 
 -- a numeral's bytes are those from '0' to '9'
 pub bytes_of_digits : (ds : List ℕ) → AllDigits 10 ds → All (λ byte. (48 ≤ byte) × (byte ≤ 57)) ds
@@ -127,7 +127,7 @@ number_stands s k (Some v) n r e h =
     record { digits = take k s; stands = sym (take-append-drop k s) ∙ ap (λ x. take k s ++ x) rest; is = (is.0, is.1 ∙ value) }
 
 number_behind : (s : List ℕ) (n : ℕ) (r : List ℕ) → number_at s ≡ Some (n, r) → NumberAt s n r
-number_behind s n r e = number_stands s (digit_count s) (number_in (take (digit_count s) s)) n r refl e
+number_behind s n r e = number_stands s (leading_digits s) (number_in (take (leading_digits s) s)) n r refl e
 
 find_one : (x : Family) (t : Bool) (r : Option Family) (k : Family) (P : Family → Bool) → P x ≡ t → (r ≡ Some k → P k ≡ true) → cond t (Some x) r ≡ Some k → P k ≡ true
 find_one x true r k P e more h = let same : x ≡ k = cc in rw (← same) e
@@ -141,9 +141,9 @@ find_holds P (x ∷ xs) k e = find_one x (P x) (find P xs) k P refl (λ h. find_
 record KindAtEnd (s : List ℕ) (kind : Option Family) : Type 0 where
   pub blanks : List ℕ
   pub stands : s ≡ kind_text kind ++ blanks
-  pub blank : are_blanks blanks ≡ true
+  pub blank : all_blank blanks ≡ true
 
-named_behind : (words : List ℕ) (k : Family) (m : Option (List ℕ)) → behind (name_of k) words ≡ m → only_blanks m ≡ true → (blanks : List ℕ) × (words ≡ name_of k ++ blanks) × (are_blanks blanks ≡ true)
+named_behind : (words : List ℕ) (k : Family) (m : Option (List ℕ)) → behind (name_of k) words ≡ m → only_blanks m ≡ true → (blanks : List ℕ) × (words ≡ name_of k ++ blanks) × (all_blank blanks ≡ true)
 named_behind words k None e h = cc
 named_behind words k (Some rest) e h = (rest, behind_is (name_of k) words rest e, h)
 
@@ -158,7 +158,7 @@ kind_behind : (s : List ℕ) (m : Option (List ℕ)) (kind : Option Family) → 
 kind_behind s None kind e h = cc
 kind_behind s (Some words) kind e h = kind_in s words (kind_named words) kind (behind_is (codes " kind ") s words e) refl h
 
-kind_end : (s : List ℕ) (t : Bool) (kind : Option Family) → are_blanks s ≡ t → (if t then Some None else option_map Some (behind (codes " kind ") s >>= kind_named)) ≡ Some kind → KindAtEnd s kind
+kind_end : (s : List ℕ) (t : Bool) (kind : Option Family) → all_blank s ≡ t → (if t then Some None else option_map Some (behind (codes " kind ") s >>= kind_named)) ≡ Some kind → KindAtEnd s kind
 kind_end s true kind e h = let same : None ≡ kind = cc in rw (← same) (record { blanks = s; stands = refl; blank = e })
 kind_end s false kind e h = kind_behind s (behind (codes " kind ") s) kind refl h
 
@@ -171,7 +171,7 @@ pub named : (line a b c d : List ℕ) (seq port : ℕ) (kind : Option Family) �
 named line a b c d seq port kind front first mid second end =
     let s = number_behind a seq b first in
     let p = number_behind c port d second in
-    let k = kind_end d (are_blanks d) kind refl end in (
+    let k = kind_end d (all_blank d) kind refl end in (
       k.blanks,
       record {
         seq_digits = s.digits;
@@ -182,6 +182,6 @@ named line a b c d seq port kind front first mid second end =
             ∙ grouped (codes "# seq ") s.digits (codes " port ") p.digits (kind_text kind) k.blanks;
         is_seq = s.is;
         is_port = p.is;
-        are_blanks = k.blank;
+        all_blank = k.blank;
       },
     )

@@ -1,5 +1,6 @@
 -- What is written of a line, a token after another.
-use Rattle.std.proofs.Common.{◌≡◌, ◌+◌, ℕ, [], ◌∷◌, ◌++◌, Bool, true, false, cond, List, drop, arith, append_assoc, append-nil, ap, ap₂, codes, decimal, refl, sym, ◌∙◌}
+use Rattle.std.specs.Fmt.{signed_decimal}
+use Rattle.std.proofs.Common.{◌≡◌, ◌+◌, ℕ, ℤ, [], ◌∷◌, ◌++◌, Bool, true, false, cond, List, Some, drop, arith, append_assoc, append-nil, ap, ap₂, codes, decimal, refl, sym, ◌∙◌}
 use Rattle.rtnl.proofs.Common.{and_parts, items_tokens, json_tokens, members_tokens, encode_lower}
 use Rattle.json.specs.Json.{Json}
 use Rattle.json.specs.Print.{begins, ends, escape, escape_byte, print, print_from, quoted, separator, token_text}
@@ -7,10 +8,11 @@ use Rattle.json.specs.Run.{is_plain}
 use Rattle.json.specs.Token.{Token, begin_array, begin_object, boolean, end_array, end_object, key, null}
 use Rattle.json.specs.Token as token
 use Rattle.json.proofs.Printed.Strings.{escape_byte_plain}
+use Rattle.rtnl.specs.Data.{value_json}
 use Rattle.rtnl.specs.MessagesJson.{form_tokens, reading_fields, reading_json}
 use Rattle.rtnl.specs.Values.{Reading, ipv4_text, ipv6_text}
 use Rattle.rtnl.specs.Values as values
-use Rattle.rtnl.specs.Json.{Field, IsUnescaped, Line, ◌⊕◌, array, behind, closed, comma, fields_tokens, is_unescaped, items_of, json_line, members_of, number, object, object_behind, opened, put, string, value_text, values_tokens}
+use Rattle.rtnl.specs.Json.{Field, IsUnescaped, Line, ◌⊕◌, array, behind, closed, comma, fields_tokens, is_unescaped, items_of, json_line, members_of, number, object, object_behind, opened, put, signed, string, value_text, values_tokens}
 
 -- a byte that stands for itself
 one_byte : (x : ℕ) → is_plain x ≡ true → escape_byte x ≡ x ∷ []
@@ -120,6 +122,10 @@ no_more w = refl
 pub an_object : (w a b c : Line) (fields : List Field) → a ≡ w ⊕ (begin_object ∷ []) → b ≡ a ⊕ fields_tokens fields → c ≡ b ⊕ (end_object ∷ []) → c ≡ w ⊕ json_tokens (object fields)
 an_object w a b c fields begun written ended = rw (ended, written, begun) (simp (more, tokens_object))
 
+-- an array
+pub an_array : (w a b c : Line) (values : List Json) → a ≡ w ⊕ (begin_array ∷ []) → b ≡ a ⊕ values_tokens values → c ≡ b ⊕ (end_array ∷ []) → c ≡ w ⊕ json_tokens (array values)
+an_array w a b c values begun written ended = rw (ended, written, begun) (simp (more, tokens_array))
+
 -- the name of a field, and then its value
 pub named_value : (w a d : Line) (name : List ℕ) (value : Json) → a ≡ w ⊕ (key name ∷ []) → d ≡ a ⊕ json_tokens value → d ≡ w ⊕ fields_tokens ((name, value) ∷ [])
 named_value w a d name value named written = rw (written, named) (simp (more, one_field))
@@ -219,6 +225,24 @@ key_written w name plain =
     sym (one_token w (opened w (codes "\"") false) (codes "\"") (name ++ codes "\":") false (key name) _ refl (append_assoc _ name (codes "\":")) refl
     (ap (λ s. 34 ∷ (s ++ codes "\":")) (sym (no_escape name plain)) ∙ sym (append_assoc (34 ∷ escape name) (codes "\"") (codes ":"))) refl)
 
+-- the name of a field, of which some bytes may need an escape
+pub name_written : (w : Line) (name : List ℕ) → w ⊕ (key name ∷ []) ≡ record { text = ((w.text ++ (comma w.after ++ [])) ++ quoted name) ++ codes ":"; after = false }
+name_written w name =
+    sym (one_token w (opened w [] false) [] (quoted name ++ codes ":") false (key name) _ refl (append_assoc _ (quoted name) (codes ":")) refl refl refl)
+
+-- the name of the field that says what bytes mean
+pub data_named : (w : Line) → opened w (codes "\"data\":") false ≡ w ⊕ (key (codes "data") ∷ [])
+unfolding print_from escape_byte
+data_named w = opens w (key (codes "data")) [] (codes "\"data\":") false refl refl refl
+
+-- the number of a place as the name of a field
+pub place_written : (w line : Line) (place : ℕ) (text : List ℕ) → IsUnescaped (decimal place) → line ≡ opened w (codes "\"" ++ (decimal place ++ [])) false → text ≡ line.text ++ codes "\":"
+    → record { text = text; after = line.after } ≡ w ⊕ (key (decimal place) ∷ [])
+place_written w line place text plain is grown =
+    let digits = decimal place in
+    one_token w line (codes "\"" ++ (digits ++ [])) (codes "\":") false (key digits) text is grown refl
+    (ap (λ s. 34 ∷ (s ++ codes "\":")) (append-nil digits ∙ sym (no_escape digits plain)) ∙ sym (append_assoc (34 ∷ escape digits) (codes "\"") (codes ":"))) refl
+
 -- a text in quotes
 pub quoted_behind : (out text : List ℕ) → IsUnescaped text → out ++ quoted text ≡ ((out ++ codes "\"") ++ text) ++ codes "\""
 quoted_behind out text plain = rw (no_escape text plain) (simp append_assoc)
@@ -257,6 +281,15 @@ value_together w (values.ipv4 address) = opens w (token.string (ipv4_text addres
 value_together w (values.ipv6 address) = opens w (token.string (ipv6_text address)) [] _ true refl refl refl
 value_together w (values.hex bytes) = opens w (token.string (encode_lower bytes)) [] _ true refl refl refl
 
+-- a number that is put together
+pub signed_together : (w : Line) (z : ℤ) → opened w (signed_decimal z ++ []) true ≡ w ⊕ json_tokens (signed z)
+unfolding print_from
+signed_together w z = opens w (token.number (signed_decimal z)) [] _ true refl refl refl
+
+-- a string that is put together
+pub string_together : (w : Line) (text : List ℕ) → opened w (value_text (string text) ++ []) true ≡ w ⊕ json_tokens (string text)
+string_together w text = ap (λ words. opened w words true) (append-nil (value_text (string text))) ∙ opens w (token.string text) [] _ true refl refl refl
+
 -- a field with a number that is put together
 pub number_field : (w : Line) (name : List ℕ) (n : ℕ) → IsUnescaped name → w ⊕ fields_tokens ((name, number n) ∷ []) ≡ opened w (codes "\"" ++ (name ++ (codes "\":" ++ (decimal n ++ [])))) true
 unfolding fields_tokens print_from
@@ -267,6 +300,30 @@ number_field w name n plain =
     let words : (codes "\"" ++ (name ++ (codes "\":" ++ digits))) ≡ print (fields_tokens ((name, number n) ∷ [])) =
     ap (λ t. 34 ∷ t) (sym (append_assoc name (codes "\":") digits)) ∙ ap (λ t. t ++ digits) named in
     sym (fields_together w ((name, number n) ∷ []) _ words refl)
+
+-- a field with a signed number that is put together
+pub signed_field : (w : Line) (name : List ℕ) (z : ℤ) → IsUnescaped name
+    → (w ⊕ (key name ∷ [])) ⊕ json_tokens (signed z) ≡ opened w (codes "\"" ++ (name ++ (codes "\":" ++ (signed_decimal z ++ [])))) true
+unfolding print_from
+signed_field w name z plain =
+    let digits = signed_decimal z ++ [] in
+    let named : 34 ∷ (name ++ codes "\":") ≡ token_text (key name) =
+    ap (λ t. 34 ∷ (t ++ codes "\":")) (sym (no_escape name plain)) ∙ sym (append_assoc (34 ∷ escape name) (codes "\"") (codes ":")) in
+    let words : (codes "\"" ++ (name ++ (codes "\":" ++ digits))) ≡ print (key name ∷ json_tokens (signed z)) =
+    ap (λ t. 34 ∷ t) (sym (append_assoc name (codes "\":") digits)) ∙ ap (λ t. t ++ digits) named in
+    more w (key name ∷ []) (json_tokens (signed z)) ∙ sym (opens w (key name) (json_tokens (signed z)) _ true refl words refl)
+
+-- a value of an enumeration and its name that are put together
+pub brief_value : (w : Line) (z : ℤ) (name : List ℕ) → IsUnescaped name
+    → w ⊕ json_tokens (value_json z (Some name)) ≡ opened w (codes "{\"number\":" ++ (signed_decimal z ++ (codes ",\"name\":\"" ++ (name ++ (codes "\"}" ++ []))))) true
+unfolding value_json object print_from escape_byte
+brief_value w z name plain =
+    let tokens = key (codes "number") ∷ token.number (signed_decimal z) ∷ key (codes "name") ∷ token.string name ∷ end_object ∷ [] in
+    let ending : (escape name ++ codes "\"") ++ codes "}" ≡ name ++ codes "\"}" =
+    append_assoc (escape name) (codes "\"") (codes "}") ∙ ap (λ t. t ++ codes "\"}") (no_escape name plain) in
+    let words : codes "{\"number\":" ++ (signed_decimal z ++ (codes ",\"name\":\"" ++ (name ++ (codes "\"}" ++ [])))) ≡ print (begin_object ∷ tokens) =
+    ap (λ t. codes "{\"number\":" ++ (signed_decimal z ++ (codes ",\"name\":\"" ++ t))) (sym ending) in
+    sym (opens w begin_object tokens _ true refl words refl)
 
 -- an object that is put together of its front, what is behind it, and its end
 pub together : (w : Line) (front value : List ℕ) → closed (opened (opened w front true) value true) (codes "}") ≡ opened w (front ++ (44 ∷ (value ++ codes "}"))) true

@@ -3,15 +3,15 @@ use Rattle.std.proofs.Common.{◌≡◌, ℕ, Bool, true, false, List, [], ◌�
 use Rattle.std.proofs.lemmas.Option.{slice_get-map}
 use Rattle.rtnl.proofs.Common.{Order, Family, MessageVal, Item, Held, held_seen, Report, is_comment}
 use Rattle.nl_mirror.specs.Five.{Mirrored, EachHearsBy, IsUpdate}
-use Rattle.rtnl.specs.Mirroring.{Comes, Hearing, HearsAll, Outcome, Passed, Passes, Step, Progress, answer_text, answers_text, begins_well, comment_says, entry_at, fed_by, is_heard, is_passed, kind_text, of_shown, outcome_text, standing, step_in, step_of, step_text, stood_in, unbegun_by, where_so}
-use Rattle.rtnl.specs.declared.runs.steps.Said.{Said}
+use Rattle.rtnl.specs.Mirroring.{Comes, Hearing, HearsAll, Outcome, Passed, Passes, Step, MirrorReport, answer_text, answers_text, begins_well, comment_says, entry_at, fed_by, is_accepted, kind_text, of_shown, outcome_is_accepted, outcome_text, state_in, step_in, step_of, step_text, table_states, unbegun_by, where_so}
+use Rattle.rtnl.specs.declared.runs.steps.StepKind.{StepKind}
 use Rattle.rtnl.specs.declared.runs.mirrored.MirrorSettings.{MirrorSettings}
 use Rattle.rtnl.specs.declared.runs.mirrored.MirrorSoFar.{MirrorSoFar}
 
 -- ---- what a line says
 
 -- what a comment says is its step
-pub comment_step : (family : ℕ) (line bytes : List ℕ) (r : Option Said) → is_comment line ≡ true → option_map (step_of bytes) r ≡ comment_says family line
+pub comment_step : (family : ℕ) (line bytes : List ℕ) (r : Option StepKind) → is_comment line ≡ true → option_map (step_of bytes) r ≡ comment_says family line
     → step_in family line ≡ Ok (option_map (step_of bytes) r)
 comment_step family line bytes r is says = rw is (ap Ok (sym says))
 
@@ -42,7 +42,7 @@ hears_one f g [] (k ∷ hs) m h all hears is = absurd all
 hears_one f g (n ∷ ms) [] m h all hears is = absurd all
 hears_one f g (n ∷ ms) (k ∷ hs) m h all hears is = (all.0, all.1, hears_one k.mirror g ms hs m h all.2 hears is)
 
-module _ (t : Report) (r : Progress) (o : Order) (only : Option Family) where
+module _ (t : Report) (r : MirrorReport) (o : Order) (only : Option Family) where
   answers_both : (hs ks : List Hearing) → answers_text t r o only (hs ++ ks) ≡ answers_text t r o only hs ++ answers_text t r o only ks
   answers_both [] ks = refl
   answers_both (h ∷ hs) ks = ap (λ x. answer_text t r o only h.mirror h.answer ++ x) (answers_both hs ks) ∙ sym (append_assoc (answer_text t r o only h.mirror h.answer) (answers_text t r o only hs) (answers_text t r o only ks))
@@ -60,17 +60,17 @@ module _ (t : Report) (r : Progress) (o : Order) (only : Option Family) where
 
 -- ---- a step
 
-module _ (t : Report) (r : Progress) (s : MirrorSettings) (a b : MirrorSoFar) (step : Step) (old mid new : List ℕ) (taken : Bool) where
+module _ (t : Report) (r : MirrorReport) (s : MirrorSettings) (a b : MirrorSoFar) (step : Step) (old mid new : List ℕ) (taken : Bool) where
   -- what is found of it
   abbrev pub FindsStep : Type 0
-  FindsStep = (x : Passed) × Passes s.limits a step x b × (new ≡ old ++ step_text t r s.limits.shape.order s step x) × (taken ≡ is_passed x)
+  FindsStep = (x : Passed) × Passes s.limits a step x b × (new ≡ old ++ step_text t r s.limits.shape.order s step x) × (taken ≡ is_accepted x)
 
   pub finds_step : (o : Outcome) → Comes s.limits a.mirror step o b.mirror → b.datagrams ≡ fed_by step a.datagrams → b.unbegun ≡ unbegun_by (begins_well o) a.unbegun
       → mid ≡ old ++ outcome_text t r s.limits.shape.order s step b.datagrams o
-      → new ≡ mid ++ where_so s.changes (of_shown s.kind (λ k. kind_text t r s.limits.shape.order (stood_in (standing a.mirror) k) b.mirror k)) → taken ≡ is_heard o → FindsStep
+      → new ≡ mid ++ where_so s.changes (of_shown s.kind (λ k. kind_text t r s.limits.shape.order (state_in (table_states a.mirror) k) b.mirror k)) → taken ≡ outcome_is_accepted o → FindsStep
   unfolding step_text
   finds_step o comes datagrams unbegun first rest is =
-      let kinds : List ℕ = where_so s.changes (of_shown s.kind (λ k. kind_text t r s.limits.shape.order (stood_in (standing a.mirror) k) b.mirror k)) in (
+      let kinds : List ℕ = where_so s.changes (of_shown s.kind (λ k. kind_text t r s.limits.shape.order (state_in (table_states a.mirror) k) b.mirror k)) in (
         record { before = a.mirror; outcome = o; after = b.mirror; datagrams = b.datagrams },
         record { before = refl; comes = comes; after = refl; datagrams = datagrams; number = refl; unbegun = unbegun },
         rest ∙ ap (λ x. x ++ kinds) first ∙ append_assoc old (outcome_text t r s.limits.shape.order s step b.datagrams o) kinds,

@@ -1,7 +1,7 @@
 -- The lemmas that the goals of several functions want, by the names under which their attributes bring them.
 use Rattle.std.proofs.Common.{append_assoc, append-nil}
 use Rattle.std.proofs.Math.ListN.{drop_of_length-le}
-use Rattle.rtnl.proofs.Json.{more, more_fields, no_more, one_field, tokens_array, tokens_object}
+use Rattle.rtnl.proofs.Json.{more, more_fields, no_field, no_more, one_field, tokens_array, tokens_object}
 use Rattle.rtnl.proofs.Unescaped.{short_name}
 use Rattle.std.proofs.KnownBytes.{Consumes-trans}
 use Rattle.rtnl.proofs.KnownBytes.{appends_more, appends_none, prefix_of, whole}
@@ -33,3 +33,6 @@ pub ruleset whole_value = (more, one_field, tokens_object, tokens_array, append_
 
 -- values of which none is left
 pub ruleset all_written = (drop_of_length-le, no_more)
+
+-- fields of which none is left
+pub ruleset no_field_left = (drop_of_length-le, no_field)

@@ -19,7 +19,8 @@ use Rattle.rtnl.specs.declared.names.types.FlagNames.TheVariants.{Common, Get, N
 use Rattle.rtnl.specs.Types.{controls, name_for, type_name, verb_name}
 use Rattle.rtnl.specs.Values as values
 use Rattle.rtnl.specs.Values.{group_at, groups_text, ipv4_text, ipv6_text}
-use Rattle.rtnl.proofs.Digits.{four_digits}
+use Rattle.rtnl.proofs.Digits.{four_digits, two_digits}
+use Rattle.rtnl.specs.Data.{byte_behind, mac_text}
 
 both : (a b : Bool) → a ≡ true → b ≡ true → (a && b) ≡ true
 both a b p q = rw (p, q) refl
@@ -47,7 +48,7 @@ digit : (d : ℕ) → d < 10 → is_plain (48 + d) ≡ true
 digit d small = grind arith
 
 -- a number
-decimal_unescaped : (n : ℕ) → n < 2 ^ 64 → IsUnescaped (decimal n)
+pub decimal_unescaped : (n : ℕ) → n < 2 ^ 64 → IsUnescaped (decimal n)
 decimal_unescaped =
     decimal_by_steps (λ n ds. IsUnescaped ds)
     (λ n small. both _ _ (digit n small) refl)
@@ -88,10 +89,6 @@ both_of_name c number = and_parts _ _ (found (codes "-") (attribute_rows c) numb
 -- the name of an attribute is short
 pub short_name : (c : Ctx) (number : ℕ) → length (attribute_name c number) ≤ 16
 short_name c number = search (rules, (both_of_name c number).0)
-
--- and stands for itself
-pub unescaped_name : (c : Ctx) (number : ℕ) → IsUnescaped (attribute_name c number)
-unescaped_name c number = (both_of_name c number).1
 
 -- the name of a family
 pub unescaped_family : (g : Family) → IsUnescaped (name_of g)
@@ -171,6 +168,21 @@ groups i bytes fits =
 pub ipv6_unescaped : (bytes : List ℕ) → ((i : ℕ) → slice_index bytes i < 256) → IsUnescaped (ipv6_text bytes)
 unfolding ipv6_text colon
 ipv6_unescaped bytes fits = (two (groups_text 0 bytes, groups 0 bytes fits) (two colon (groups_text 8 bytes, groups 8 bytes fits))).1
+
+alone : (a : ℕ) → a < 256 → (i : ℕ) → slice_index (a ∷ []) i < 256
+alone a p zero = p
+alone a p (suc i) = search rules
+
+one_byte : (k : ℕ) (bytes : List ℕ) → ((i : ℕ) → slice_index bytes i < 256) → IsUnescaped (padded_hex 2 (slice_index bytes k))
+one_byte k bytes fits = rw (two_digits (slice_index bytes k) (fits k)) (digits_unescaped (slice_index bytes k ∷ []) (alone (slice_index bytes k) (fits k)))
+
+-- a hardware address
+pub mac_unescaped : (bytes : List ℕ) → ((i : ℕ) → slice_index bytes i < 256) → IsUnescaped (mac_text bytes)
+unfolding mac_text byte_behind colon
+mac_unescaped bytes fits =
+    let one : ℕ → Unescaped = λ k. (padded_hex 2 (slice_index bytes k), one_byte k bytes fits) in
+    let more : ℕ → Unescaped = λ k. two colon (one k) in
+    (two (one 0) (two (more 1) (two (more 2) (two (more 3) (two (more 4) (more 5)))))).1
 
 -- ---- texts of plain bytes
 

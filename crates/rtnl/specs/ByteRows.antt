@@ -12,13 +12,14 @@ use Rattle.nl_frame.specs.declared.scanning.ScanError.TheVariants.{TooLarge, Lay
 use Rattle.nl_frame.specs.Limits.{Bounds}
 use Rattle.rtnl.specs.declared.bytes.rows.RowFormat.{RowFormat}
 use Rattle.rtnl.specs.declared.bytes.rows.RowFormat.TheVariants.{Text, Coloured, Json}
-use Rattle.rtnl.specs.declared.error.Verdict.{Verdict}
-use Rattle.rtnl.specs.ByteParts.{BytePart, Label, contexts_after, marks_of, Mark, parts_by, refused_marks}
+use Rattle.rtnl.specs.declared.verdict.Verdict.{Verdict}
+use Rattle.rtnl.specs.ByteParts.{BytePart, lists_after, marks_of, parts_by, refused_marks}
 use Rattle.rtnl.specs.Datagrams.{datagram_line, reason_text}
 use Rattle.rtnl.specs.Json.{Field, digits, json_line, number, object, string}
+use Rattle.rtnl.specs.Marks.{Label, Mark}
 use Rattle.rtnl.specs.Notations.{value_behind, value_json}
 use Rattle.rtnl.specs.Runs.{Prints}
-use Rattle.rtnl.specs.Shown.{Answer, Answers, is_taken, refusal_text}
+use Rattle.rtnl.specs.Shown.{Answer, Answers, is_accepted as is_accepted_answer, refusal_text}
 use Rattle.rtnl.specs.Tape.{AreEvents, IsAboutItsHead, IsRefusalOf}
 use Rattle.rtnl.specs.Text.{◌⨟◌, padded_hex}
 
@@ -185,7 +186,7 @@ HasAllRows o d es None rows = HasRows 0 d None (marks_of o d es) rows
 HasAllRows o d es (Some e) rows =
     (before behind : List ℕ) × (d ≡ before ++ behind) × (length before ≡ min (refused_at e) (length d))
     × (front end : List ByteRow) × (rows ≡ front ++ end)
-    × HasRows 0 before None (marks_of o d es) front × HasRows (length before) behind (Some e) (refused_marks (contexts_after [] es) e) end
+    × HasRows 0 before None (marks_of o d es) front × HasRows (length before) behind (Some e) (refused_marks (lists_after o d [] es) e) end
 
 -- one of the bytes stands where the datagram is refused
 abbrev pub IsAtByte : List ℕ → Option ScanError → Type 0
@@ -228,7 +229,7 @@ abbrev pub viewed_text : RowFormat → Order → ℕ → List ℕ → Viewed →
 viewed_text f o n d v = opening f n d ++ (flat_map (row_printed f o n) v.rows ++ ending f v.answer)
 
 abbrev pub is_accepted : Viewed → Bool
-is_accepted v = is_taken v.answer
+is_accepted v = is_accepted_answer v.answer
 
 -- what is shown of datagrams in bytes, and the verdict on them
 abbrev pub ShowsBytes : RowFormat → Bounds → List (List ℕ) → List ℕ → Verdict → Type 0

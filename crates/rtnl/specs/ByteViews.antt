@@ -10,7 +10,9 @@ use Rattle.rtnl.specs.declared.bytes.rows.Label.{Label as HeldLabel}
 use Rattle.rtnl.specs.declared.bytes.rows.ByteRow.{ByteRow as HeldRow}
 use Rattle.rtnl.specs.declared.bytes.rows.RowFormat.{RowFormat}
 use Rattle.rtnl.specs.declared.bytes.rows.RowFormat.TheVariants.{Text, Coloured, Json}
-use Rattle.rtnl.specs.ByteParts.{BytePart, Label, Mark}
+use Rattle.rtnl.specs.declared.bytes.lists.AttrList.{AttrList as HeldList}
+use Rattle.rtnl.specs.ByteParts.{AttrList, BytePart}
+use Rattle.rtnl.specs.Marks.{Label, Mark}
 use Rattle.rtnl.specs.ByteRows.{AreRows, ByteRow, HasAllRows, HasRows}
 use Rattle.rtnl.specs.Kernel.{kernel_name}
 use Rattle.rtnl.specs.Tape.{refusal_line}
@@ -29,6 +31,10 @@ piece_view p = record { extent = p.extent; label = label_view p.label }
 
 abbrev pub marks_in : List Piece → List Mark
 marks_in = map piece_view
+
+-- what is known of a list
+abbrev pub attr_list_view : HeldList → AttrList
+attr_list_view a = record { context = a.context; set = a.set; events = a.events.now; left = a.left; family = a.family.now }
 
 -- the row that one of the program is
 abbrev pub row_view : HeldRow → ByteRow

@@ -10,7 +10,7 @@ use Rattle.rtnl.specs.Text.{◌⨟◌}
 use Rattle.rtnl.specs.Json.{Field, boolean, json_line}
 use Rattle.rtnl.specs.Shown.{Refuses, datagram_object, refusal_fields, refusal_text}
 use Rattle.rtnl.specs.Runs.{Prints}
-use Rattle.rtnl.specs.declared.error.Verdict.{Verdict}
+use Rattle.rtnl.specs.declared.verdict.Verdict.{Verdict}
 
 -- whether an accepted datagram is canonical, or why it is refused
 abbrev pub Finding : Type 0

@@ -6,8 +6,8 @@ use Rattle.rtnl.specs.Runs.{LONGEST_INPUT, Prints, texts_from}
 use Rattle.rtnl.specs.Streams.{AppendsPrefix, ConsumesMoreThan, Gains, IsRead, Read, StopsOnce, all_moved, one_more}
 use Rattle.rtnl.specs.declared.error.RunError.{RunError}
 use Rattle.rtnl.specs.declared.error.RunError.TheVariants.{BadLine, ReadFault, WriteFault, Memory}
-use Rattle.rtnl.specs.declared.error.Verdict.{Verdict}
-use Rattle.rtnl.specs.declared.error.Verdict.TheVariants.{Clean}
+use Rattle.rtnl.specs.declared.verdict.Verdict.{Verdict}
+use Rattle.rtnl.specs.declared.verdict.Verdict.TheVariants.{Clean}
 use Rattle.rtnl.specs.declared.runs.followed.Followed.{Followed}
 use Rattle.rtnl.specs.declared.runs.per_line.Told.{Told}
 
@@ -67,8 +67,8 @@ refused_one false = 1
 
 -- how many are not taken
 abbrev pub refused_in : {X : Type 0} → (X → Bool) → List X → ℕ
-refused_in is_taken [] = 0
-refused_in is_taken (x ∷ found) = refused_one (is_taken x) + refused_in is_taken found
+refused_in is_accepted [] = 0
+refused_in is_accepted (x ∷ found) = refused_one (is_accepted x) + refused_in is_accepted found
 
 -- nothing is followed yet
 abbrev pub none_followed : Followed
@@ -145,13 +145,13 @@ module _ {Y X T : Type 0} (says : List ℕ → Result (Option Y) ℕ) (Is : T �
     pub told : TellsReads a old [] reads
 
 -- what is told, by what a line says, what is found of that, its text, whether it is taken, and whether what is kept then ends it; and by what hears of bad lines says of itself: what it heard, and whether it ends it
-module _ {Y X T B : Type 0} (says : List ℕ → Result (Option Y) ℕ) (Is : T → Y → X → T → Type 0) (text : ℕ → Y → X → List ℕ) (is_taken : X → Bool) (ends : T → Bool) (heard : B → Option (List HeardLine)) (is_over : B → Type 0) where
+module _ {Y X T B : Type 0} (says : List ℕ → Result (Option Y) ℕ) (Is : T → Y → X → T → Type 0) (text : ℕ → Y → X → List ℕ) (is_accepted : X → Bool) (ends : T → Bool) (heard : B → Option (List HeardLine)) (is_over : B → Type 0) where
   -- what one line more does, of which this is kept and which says that: to what is kept of what lines say, to the counts, to what hears of bad lines, and to what is written; and whether the next line is told
   abbrev pub TellsOne : Option (List ℕ) → Result (Option Y) ℕ → Bool → T → T → Followed → Followed → B → B → Option (List ℕ) → Option (List ℕ) → Type 0
   TellsOne line (Ok None) goes_on a b s t g h old new =
       (b ≡ a) × (t ≡ record s { lines = s.lines + 1 }) × (h ≡ g) × (new ≡ old) × (goes_on ≡ true)
   TellsOne line (Ok (Some y)) goes_on a b s t g h old new =
-      (x : X) × Is a y x b × (t ≡ record s { lines = s.lines + 1; datagrams = s.datagrams + 1; refused = s.refused + refused_one (is_taken x) })
+      (x : X) × Is a y x b × (t ≡ record s { lines = s.lines + 1; datagrams = s.datagrams + 1; refused = s.refused + refused_one (is_accepted x) })
       × (h ≡ g) × Appends old new (text (s.datagrams + 1) y x) × (goes_on ≡ not (ends b))
   TellsOne line (Err _) goes_on a b s t g h old new =
       (b ≡ a) × (t ≡ one_bad s) × Gains (heard g) (heard h) (record { number = s.lines + 1; line = line } ∷ []) × (new ≡ old) × (is_over h ↔ (goes_on ≡ false))
@@ -162,7 +162,7 @@ module _ {Y X T B : Type 0} (says : List ℕ → Result (Option Y) ℕ) (Is : T 
     pub each : Steps Is ends a (all_said says lines) found b
     pub written : Appends old new (texts_from text 1 (all_said says lines) found)
     pub bad : Hears heard is_over g (bad_from says 1 lines) h
-    pub counts : s ≡ record { lines = length lines; datagrams = length (all_said says lines); refused = refused_in is_taken found; bad_lines = length (bad_from says 1 lines) }
+    pub counts : s ≡ record { lines = length lines; datagrams = length (all_said says lines); refused = refused_in is_accepted found; bad_lines = length (bad_from says 1 lines) }
 
   -- the lines of an input so far are told, but for the last, of which this is kept
   pub record Follows (input : List ℕ) (kept : Option (List ℕ)) (a b : T) (s : Followed) (g h : B) (old new : Option (List ℕ)) : Type 0 where
@@ -251,19 +251,19 @@ module _ {Y X T B : Type 0} (says : List ℕ → Result (Option Y) ℕ) (Is : T 
           × ((m : T) × (s : Followed) × TellsSome input a m s g h (taken to_old) (taken to_new) × GoesOn ends is_over m h)
 
 -- over a recording that the other commands take, what is told of its lines is what they print of its datagrams, and none of them is bad
-module _ {X B : Type 0} (Is : List ℕ → X → Type 0) (text : ℕ → List ℕ → X → List ℕ) (is_taken : X → Bool) (heard : B → Option (List HeardLine)) (is_over : B → Type 0) where
+module _ {X B : Type 0} (Is : List ℕ → X → Type 0) (text : ℕ → List ℕ → X → List ℕ) (is_accepted : X → Bool) (heard : B → Option (List HeardLine)) (is_over : B → Type 0) where
   abbrev pub TellsAsPrinted : Type 0
   TellsAsPrinted = (input : List ℕ) (ds : List (List ℕ)) (s : Followed) (g h : B) (old new : Option (List ℕ)) → length input ≤ LONGEST_INPUT → datagrams input ≡ Ok ds
-      → Tells (line_at 0) (alone Is) text is_taken never heard is_over (lines_of input) tt tt s g h old new
-      → (printed : List ℕ) × (verdict : Verdict) × Prints Is text is_taken ds printed verdict × Appends old new printed × (h ≡ g) × ((verdict ≡ Clean) ↔ (s.refused ≡ 0)) × (s.bad_lines ≡ 0)
+      → Tells (line_at 0) (alone Is) text is_accepted never heard is_over (lines_of input) tt tt s g h old new
+      → (printed : List ℕ) × (verdict : Verdict) × Prints Is text is_accepted ds printed verdict × Appends old new printed × (h ≡ g) × ((verdict ≡ Clean) ↔ (s.refused ≡ 0)) × (s.bad_lines ≡ 0)
 
--- ---- for private clauses: what a teller answers of a line
+-- ---- for private clauses: what a command (`PerLine`) answers of a line
 
-module _ {Y X T : Type 0} (Is : T → Y → X → T → Type 0) (text : Y → X → List ℕ) (is_taken : X → Bool) (ends : T → Bool) (said : Result (Option Y) ℕ) (a b : T) (old new : List ℕ) where
+module _ {Y X T : Type 0} (Is : T → Y → X → T → Type 0) (text : Y → X → List ℕ) (is_accepted : X → Bool) (ends : T → Bool) (said : Result (Option Y) ℕ) (a b : T) (old new : List ℕ) where
   -- a line that says this has its text written; or it says nothing, and nothing changed
   abbrev pub TellsSaid : Option Told → Type 0
   TellsSaid None = (said ≡ Ok None) × (b ≡ a) × (new ≡ old)
-  TellsSaid (Some told) = (y : Y) × (x : X) × (said ≡ Ok (Some y)) × Is a y x b × (new ≡ old ++ text y x) × (told.taken ≡ is_taken x) × (told.goes_on ≡ not (ends b))
+  TellsSaid (Some told) = (y : Y) × (x : X) × (said ≡ Ok (Some y)) × Is a y x b × (new ≡ old ++ text y x) × (told.taken ≡ is_accepted x) × (told.goes_on ≡ not (ends b))
 
   -- or it is bad, and nothing changed; or memory ran out
   abbrev pub TellsSo : Result (Option Told) RunError → Type 0

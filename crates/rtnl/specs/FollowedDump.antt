@@ -44,13 +44,13 @@ answer_given t o number before (Err e) = t.refusal number e
 abbrev pub given_text : Report → Order → ℕ → List ℕ → Given → List ℕ
 given_text t o number d g = answer_given t o number g.before g.answer
 
--- a datagram was taken
-abbrev pub is_read : Result (List MessageVal) FeedError → Bool
-is_read (Ok ms) = true
-is_read (Err e) = false
+-- a datagram was accepted
+abbrev pub answer_is_accepted : Result (List MessageVal) FeedError → Bool
+answer_is_accepted (Ok ms) = true
+answer_is_accepted (Err e) = false
 
-abbrev pub is_given : Given → Bool
-is_given g = is_read g.answer
+abbrev pub is_accepted : Given → Bool
+is_accepted g = answer_is_accepted g.answer
 
 -- no dump waits
 abbrev pub is_done : State → Bool
@@ -75,7 +75,7 @@ module _ {S W B : Type 0} (left : S → Option (List ℕ)) (is_ended : S → Typ
     (t : Report) (bounds : Bounds) (d : Dump) (from_old from_new : S) (to_old to_new : W) (g h : B) where
   -- what is told of the lines, from one state of the sink and of the dump to another
   abbrev pub Told : OpenDump → OpenDump → W → W → Result Followed RunError → Type 0
-  Told a b v w = FollowsAll (line_at 0) Reads (given_text t bounds.shape.order) is_given ends_dump heard is_over left is_ended failed_reads reads_of taken is_stalled stalls failed_writes a b from_old from_new v w g h
+  Told a b v w = FollowsAll (line_at 0) Reads (given_text t bounds.shape.order) is_accepted ends_dump heard is_over left is_ended failed_reads reads_of taken is_stalled stalls failed_writes a b from_old from_new v w g h
 
   -- it could not be written which dump is read, and nothing else was done
   pub record NotBegun (error : RunError) : Type 0 where

@@ -15,8 +15,8 @@ kind_text None = []
 kind_text (Some kind) = codes " kind " ++ name_of kind
 
 -- blanks, and nothing else
-abbrev pub are_blanks : List ℕ → Bool
-are_blanks bytes = list_all is_blank bytes
+abbrev pub all_blank : List ℕ → Bool
+all_blank bytes = list_all is_blank bytes
 
 -- a line `# seq N port N`, or `# seq N port N kind KIND`, of these numbers and this kind, and blanks behind it
 pub record Names (line : List ℕ) (seq port : ℕ) (kind : Option Family) (blanks : List ℕ) : Type 0 where
@@ -25,7 +25,7 @@ pub record Names (line : List ℕ) (seq port : ℕ) (kind : Option Family) (blan
   pub stands : line ≡ codes "# seq " ++ seq_digits ++ codes " port " ++ port_digits ++ kind_text kind ++ blanks
   pub is_seq : IsNumeral 10 seq_digits × (digits_value 10 seq_digits ≡ seq)
   pub is_port : IsNumeral 10 port_digits × (digits_value 10 port_digits ≡ port)
-  pub are_blanks : are_blanks blanks ≡ true
+  pub all_blank : all_blank blanks ≡ true
 
 -- ---- what such a line says, from left to right
 
@@ -40,8 +40,8 @@ or_all bytes None = length bytes
 or_all bytes (Some place) = place
 
 -- how many digits stand at the front
-abbrev pub digit_count : List ℕ → ℕ
-digit_count bytes = or_all bytes (position (λ byte. not (is_ascii_digit byte)) bytes)
+abbrev pub leading_digits : List ℕ → ℕ
+leading_digits bytes = or_all bytes (position (λ byte. not (is_ascii_digit byte)) bytes)
 
 -- digits alone, and at least one
 abbrev pub is_numeral : List ℕ → Bool
@@ -57,11 +57,11 @@ number_in digits = number_if (is_numeral digits && nat_lt (digits_value 10 digit
 
 -- the number at the front, and what is behind it
 abbrev pub number_at : List ℕ → Option (ℕ × List ℕ)
-number_at bytes = let n = digit_count bytes in option_map (λ number. (number, drop n bytes)) (number_in (take n bytes))
+number_at bytes = let n = leading_digits bytes in option_map (λ number. (number, drop n bytes)) (number_in (take n bytes))
 
 abbrev pub only_blanks : Option (List ℕ) → Bool
 only_blanks None = false
-only_blanks (Some rest) = are_blanks rest
+only_blanks (Some rest) = all_blank rest
 
 -- the name of this kind, and blanks
 abbrev pub is_named : List ℕ → Family → Bool
@@ -83,7 +83,7 @@ None >>= f = None
 
 -- the kind that a line's end says, or that it says none; it may end in nothing else
 abbrev pub kind_at_end : List ℕ → Option (Option Family)
-kind_at_end rest = if are_blanks rest then Some None else option_map Some (behind (codes " kind ") rest >>= kind_named)
+kind_at_end rest = if all_blank rest then Some None else option_map Some (behind (codes " kind ") rest >>= kind_named)
 
 -- what a line of this form says; no other line says anything
 unfoldable pub heading : List ℕ → Option Heading

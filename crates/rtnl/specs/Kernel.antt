@@ -1,5 +1,5 @@
 -- The names that the kernel's headers give message types and attributes, and what a head says of the attributes in it.
-use Rattle.std.specs.Prelude.{ℕ, ◌++◌, ◌==◌, if◌then◌else◌, List, Option, Some, None, codes}
+use Rattle.std.specs.Prelude.{ℕ, ◌++◌, ◌==◌, if◌then◌else◌, List, [], ◌∷◌, Option, Some, None, codes}
 use Rattle.std.specs.Borrow.{Bor}
 use Rattle.nl_attr.specs.declared.tree.Ctx.{Ctx}
 use Rattle.nl_attr.specs.declared.tree.Ctx.TheVariants.{Link, LinkInfo, Addr, Route, Metrics, Neigh, Rule, Plain}
@@ -9,7 +9,10 @@ use Rattle.nl_route.specs.declared.family.RouteType.{RouteType}
 use Rattle.nl_route.specs.declared.family.Verb.{Verb}
 use Rattle.nl_route.specs.declared.family.Verb.TheVariants.{New, Del, Get, Set}
 use Rattle.nl_route.specs.Types.{route_type}
+use Rattle.nl_values.specs.Known.{message_set, prefix_of as set_prefix}
+use Rattle.nl_values.specs.declared.set.Set.{Set as AttributeSet}
 use Rattle.rtnl.specs.Attributes.{row_of}
+use Rattle.rtnl.specs.Data.{known}
 use Rattle.rtnl.specs.Further.{further_rows}
 use Rattle.rtnl.specs.Named.{find_named}
 
@@ -67,3 +70,21 @@ name_for n (Some t) = Some (verb_front t.verb ++ family_end t.family)
 -- the name of a message type
 abbrev pub message_name : ℕ → Option (List ℕ)
 message_name n = name_for n (route_type n)
+
+-- a name behind this, if there is one
+abbrev pub behind_prefix : List ℕ → List ℕ → Option (List ℕ)
+behind_prefix front [] = None
+behind_prefix front (c ∷ cs) = Some (front ++ c ∷ cs)
+
+-- the name of an attribute of a set, if it has one
+abbrev pub set_name : Option AttributeSet → ℕ → Option (List ℕ)
+set_name None n = None
+set_name (Some set) n = behind_prefix (set_prefix set) (known (Some set) n).name
+
+abbrev pub or_else : Option (List ℕ) → Option (List ℕ) → Option (List ℕ)
+or_else None other = other
+or_else (Some name) other = Some name
+
+-- the name of a message type of any kind
+abbrev pub any_message_name : ℕ → Option (List ℕ)
+any_message_name n = or_else (message_name n) (set_name (Some message_set) n)

@@ -1,12 +1,12 @@
 -- A mirror that is kept by the lines of a recording: what a line says, what becomes of the mirror, and what is told of it.
-use Rattle.std.specs.Prelude.{◌≡◌, ℕ, ◌+◌, ◌-◌, ◌^◌, ◌==◌, ◌||◌, ◌&&◌, not, if◌then◌else◌, Bool, true, false, List, [], ◌∷◌, ◌++◌, codes, length, min, slice_get, Option, Some, None, option_map, is_some, Result, Ok, Err, IfOk}
+use Rattle.std.specs.Prelude.{◌≡◌, ℕ, ◌+◌, ◌==◌, ◌||◌, ◌&&◌, not, if◌then◌else◌, Bool, true, false, List, [], ◌∷◌, ◌++◌, codes, length, slice_get, Option, Some, None, option_map, is_some, Result, Ok, Err, IfOk}
 use Rattle.std.specs.Fmt.{decimal}
 use Rattle.nl_attr.specs.declared.order.Order.{Order}
 use Rattle.nl_route.specs.declared.family.Family.{Family}
 use Rattle.nl_route.specs.declared.family.Family.TheVariants.{Link, Addr, Route, Neigh, Rule}
 use Rattle.nl_route.specs.Families.{name_of, same_family}
 use Rattle.nl_frame.specs.Limits.{Bounds}
-use Rattle.nl_frame.specs.Message.{MessageVal, object}
+use Rattle.nl_frame.specs.Message.{MessageVal}
 use Rattle.nl_frame.specs.declared.reading.ReadError.{ReadError}
 use Rattle.nl_dump.specs.declared.dump.Dump.{Dump}
 use Rattle.nl_dump.specs.Codes.{read_error}
@@ -27,6 +27,7 @@ use Rattle.nl_mirror.specs.Replicated.{stale_of}
 use Rattle.rtnl.specs.Heading.{behind, heading}
 use Rattle.rtnl.specs.Lines.{Fails, is_blank, is_comment, line_at}
 use Rattle.rtnl.specs.Shown.{Answers}
+use Rattle.rtnl.specs.Streams.{one_more}
 use Rattle.rtnl.specs.Tabled.{Report, entries_text, item_text}
 use Rattle.rtnl.specs.Text.{◌⨟◌}
 use Rattle.rtnl.specs.declared.recordings.heading.Heading.{Heading}
@@ -34,10 +35,10 @@ use Rattle.rtnl.specs.declared.recordings.heading.Numbers.{Numbers}
 use Rattle.rtnl.specs.declared.error.RunError.{RunError}
 use Rattle.rtnl.specs.declared.runs.mirrored.MirrorSettings.{MirrorSettings}
 use Rattle.rtnl.specs.declared.runs.mirrored.MirrorSoFar.{MirrorSoFar}
-use Rattle.rtnl.specs.declared.runs.mirrored.Stood.{Stood}
-use Rattle.rtnl.specs.declared.runs.mirrored.Standing.{Standing}
-use Rattle.rtnl.specs.declared.runs.steps.Said.{Said}
-use Rattle.rtnl.specs.declared.runs.steps.Said.TheVariants as said
+use Rattle.rtnl.specs.declared.runs.mirrored.TableState.{TableState}
+use Rattle.rtnl.specs.declared.runs.mirrored.TableStates.{TableStates}
+use Rattle.rtnl.specs.declared.runs.steps.StepKind.{StepKind}
+use Rattle.rtnl.specs.declared.runs.steps.StepKind.TheVariants as step_kind
 
 -- ---- what a line says
 
@@ -119,10 +120,6 @@ pub record Passed : Type 0 where
   pub after : Mirrored
   pub datagrams : ℕ
 
--- one more, in 64 bits
-abbrev pub one_more : ℕ → ℕ
-one_more n = min (n + 1) (2 ^ 64 - 1)
-
 -- how many datagrams were fed behind a step
 abbrev pub fed_by : Step → ℕ → ℕ
 fed_by (feeds d) n = one_more n
@@ -156,19 +153,19 @@ pub record Passes (b : Bounds) (old : MirrorSoFar) (s : Step) (x : Passed) (new 
   pub number : x.datagrams ≡ new.datagrams
   pub unbegun : new.unbegun ≡ unbegun_by (begins_well x.outcome) old.unbegun
 
--- a datagram was taken
-abbrev pub is_heard : Outcome → Bool
-is_heard (refused e) = false
-is_heard (heard hs) = true
-is_heard (began r) = true
-is_heard lost = true
+-- a datagram was accepted, or the step had none
+abbrev pub outcome_is_accepted : Outcome → Bool
+outcome_is_accepted (refused e) = false
+outcome_is_accepted (heard hs) = true
+outcome_is_accepted (began r) = true
+outcome_is_accepted lost = true
 
-abbrev pub is_passed : Passed → Bool
-is_passed x = is_heard x.outcome
+abbrev pub is_accepted : Passed → Bool
+is_accepted x = outcome_is_accepted x.outcome
 
--- no step ends it
-abbrev pub goes_on : MirrorSoFar → Bool
-goes_on s = false
+-- no line ends the run of a mirror
+abbrev pub never_ends : MirrorSoFar → Bool
+never_ends s = false
 
 -- nothing was heard by a mirror that is set so
 pub record IsUnheard (set : MirrorSettings) (s : MirrorSoFar) : Type 0 where
@@ -191,12 +188,12 @@ abbrev pub runs : Family → Mirrored → Bool
 runs k m = is_some (follower_at k m).listening.dump
 
 -- how the table of a kind stands: whether a dump of it runs, and whether it is stale
-abbrev pub stood : Family → Mirrored → Stood
-stood k m = record { runs = runs k m; doubted = is_some (doubt k m) }
+abbrev pub table_state : Family → Mirrored → TableState
+table_state k m = record { dump_running = runs k m; stale = is_some (doubt k m) }
 
--- a dump of a kind that stood so ran, and none runs now
-abbrev pub has_ended : Stood → Mirrored → Family → Bool
-has_ended was m k = was.runs && not (runs k m)
+-- a dump of a kind ran, whose table was in this state, and none runs now
+abbrev pub has_ended : TableState → Mirrored → Family → Bool
+has_ended was m k = was.dump_running && not (runs k m)
 
 -- the entry at a place
 abbrev pub entry_at : ℕ → Held Item → Option Item
@@ -211,7 +208,7 @@ is_shown (Some only) k = same_family only k
 
 -- how it is told: a dump that doesn't begin; an entry that is new, that is told anew, with what it was, or that is gone; that a table was renewed, of so many
 -- entries; that one is stale; and, at the end, which table follows, and how it stands
-pub record Progress : Type 0 where
+pub record MirrorReport : Type 0 where
   pub unbegun : Dump → List ℕ
   pub added : Order → Family → ℕ → Item → List ℕ
   pub changed : Order → Family → ℕ → Item → Item → List ℕ
@@ -235,7 +232,7 @@ of_shown only text =
     where_so (is_shown only Link) (text Link) ⨟ where_so (is_shown only Addr) (text Addr) ⨟ where_so (is_shown only Route) (text Route)
     ⨟ where_so (is_shown only Neigh) (text Neigh) ⨟ where_so (is_shown only Rule) (text Rule)
 
-module _ (t : Report) (r : Progress) (o : Order) where
+module _ (t : Report) (r : MirrorReport) (o : Order) where
   -- what was made of a table, which holds this now
   abbrev pub effect_text : Family → Held Item → Effect Item → List ℕ
   effect_text k h (Added place) = where_some (r.added o k (place + 1)) (entry_at place h)
@@ -262,10 +259,10 @@ module _ (t : Report) (r : Progress) (o : Order) where
   abbrev pub renewed_text : Family → Held Item → List ℕ
   renewed_text k h = r.renewed k (length h.entries) ++ entries_text t o 1 h.entries
 
-  -- what a step made of the table of a kind that stood so before it, beside single entries: its dump has ended; it is stale, and wasn't, or its dump has just ended
-  abbrev pub kind_text : Stood → Mirrored → Family → List ℕ
+  -- what a step made of the table of a kind that was in this state before it, beside single entries: its dump has ended; it is stale, and wasn't, or its dump has just ended
+  abbrev pub kind_text : TableState → Mirrored → Family → List ℕ
   kind_text was m k =
-      where_so (has_ended was m k) (renewed_text k (table_of k m)) ++ where_so (has_ended was m k || not was.doubted) (where_some (r.doubted k) (doubt k m))
+      where_so (has_ended was m k) (renewed_text k (table_of k m)) ++ where_so (has_ended was m k || not was.stale) (where_some (r.doubted k) (doubt k m))
 
   -- what came of a step by itself, the datagram being of this number: refusals, whether changes are told or not
   abbrev pub outcome_text : MirrorSettings → Step → ℕ → Outcome → List ℕ
@@ -279,7 +276,7 @@ module _ (t : Report) (r : Progress) (o : Order) where
   -- what is told of a step
   unfoldable pub step_text : MirrorSettings → Step → Passed → List ℕ
   step_text s step x =
-      outcome_text s step x.datagrams x.outcome ++ where_so s.changes (of_shown s.kind (λ k. kind_text (stood k x.before) x.after k))
+      outcome_text s step x.datagrams x.outcome ++ where_so s.changes (of_shown s.kind (λ k. kind_text (table_state k x.before) x.after k))
 
   -- the table of a kind at the end, and how it stands
   abbrev pub table_text : Family → Held Item → Option Stale → List ℕ
@@ -331,7 +328,7 @@ unfoldable pub standing_line : ℕ → ℕ → Option Stale → List ℕ
 standing_line entries missed why =
     codes "entries " ⨟ decimal entries ⨟ codes " missed " ⨟ decimal missed ⨟ codes " current " ⨟ current_text why ⨟ codes "\n"
 
-abbrev pub in_text : Progress
+abbrev pub in_text : MirrorReport
 in_text = record {
   unbegun = unbegun_line;
   added = λ o k n x. change_line (codes "+ ") k n ++ item_text o x;
@@ -346,23 +343,23 @@ in_text = record {
 -- ---- for private clauses
 
 -- the step that a line says, its datagram being these bytes
-abbrev pub step_of : List ℕ → Said → Step
-step_of bytes said.Datagram = feeds bytes
-step_of bytes (said.Dump d) = begins d
-step_of bytes said.Loss = loses
+abbrev pub step_of : List ℕ → StepKind → Step
+step_of bytes step_kind.Datagram = feeds bytes
+step_of bytes (step_kind.Dump d) = begins d
+step_of bytes step_kind.Loss = loses
 
 -- a line was read; or it is bad, or memory ran out
-abbrev pub ReadsStep : ℕ → List ℕ → List ℕ → Result (Option Said) RunError → Type 0
-ReadsStep family line bytes (Ok said) = step_in family line ≡ Ok (option_map (step_of bytes) said)
+abbrev pub ReadsStep : ℕ → List ℕ → List ℕ → Result (Option StepKind) RunError → Type 0
+ReadsStep family line bytes (Ok kind) = step_in family line ≡ Ok (option_map (step_of bytes) kind)
 ReadsStep family line bytes (Err e) = Fails e (step_in family line)
 
 -- how the tables of all kinds stand
-abbrev pub standing : Mirrored → Standing
-standing m = record { link = stood Link m; addr = stood Addr m; route = stood Route m; neigh = stood Neigh m; rule = stood Rule m }
+abbrev pub table_states : Mirrored → TableStates
+table_states m = record { link = table_state Link m; addr = table_state Addr m; route = table_state Route m; neigh = table_state Neigh m; rule = table_state Rule m }
 
-abbrev pub stood_in : Standing → Family → Stood
-stood_in s Link = s.link
-stood_in s Addr = s.addr
-stood_in s Route = s.route
-stood_in s Neigh = s.neigh
-stood_in s Rule = s.rule
+abbrev pub state_in : TableStates → Family → TableState
+state_in s Link = s.link
+state_in s Addr = s.addr
+state_in s Route = s.route
+state_in s Neigh = s.neigh
+state_in s Rule = s.rule

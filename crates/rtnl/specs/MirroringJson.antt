@@ -1,5 +1,5 @@
 -- What is told of a mirror, as lines of JSON.
-use Rattle.std.specs.Prelude.{ℕ, List, [], ◌∷◌, ◌++◌, codes, Bool, true, false, Option, Some, None}
+use Rattle.std.specs.Prelude.{ℕ, List, [], ◌∷◌, ◌++◌, codes, true, false, Option, Some, None}
 use Rattle.nl_attr.specs.declared.order.Order.{Order}
 use Rattle.nl_route.specs.declared.family.Family.{Family}
 use Rattle.nl_route.specs.Families.{name_of}
@@ -9,7 +9,7 @@ use Rattle.nl_mirror.specs.declared.stale.Stale.{Stale}
 use Rattle.nl_mirror.specs.Names.{stale_name}
 use Rattle.rtnl.specs.Json.{Field, boolean, json_line, number, object, string}
 use Rattle.rtnl.specs.MessagesJson.{item_field}
-use Rattle.rtnl.specs.Mirroring.{Progress}
+use Rattle.rtnl.specs.Mirroring.{MirrorReport}
 use Rattle.rtnl.specs.TabledJson.{dump_fields}
 
 -- the sign of a change
@@ -53,7 +53,7 @@ unfoldable pub standing_json : Family → ℕ → ℕ → Option Stale → List 
 standing_json kind entries missed why =
     json_line (object ((codes "table", string (name_of kind)) ∷ (codes "entries", number entries) ∷ (codes "missed", number missed) ∷ current_fields why))
 
-abbrev pub in_json : Progress
+abbrev pub in_json : MirrorReport
 in_json = record {
   unbegun = unbegun_json;
   added = λ o k n x. added_json o n x;

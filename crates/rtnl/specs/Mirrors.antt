@@ -1,7 +1,7 @@
 -- A recording that keeps a mirror: what is told of its lines one after another, and behind them.
 use Rattle.std.specs.Prelude.{◌≡◌, ◌⊎◌, ℕ, List, Option, Result, Ok, Err, IfOk}
 use Rattle.rtnl.specs.Followed.{FollowsAll, HeardLine}
-use Rattle.rtnl.specs.Mirroring.{IsUnheard, Passes, Progress, end_text, goes_on, is_current, is_passed, step_in, step_text}
+use Rattle.rtnl.specs.Mirroring.{IsUnheard, Passes, MirrorReport, end_text, is_accepted, is_current, never_ends, step_in, step_text}
 use Rattle.rtnl.specs.Runs.{Writes}
 use Rattle.rtnl.specs.Streams.{Read}
 use Rattle.rtnl.specs.Tabled.{Report}
@@ -18,11 +18,11 @@ followed s kept counts = record { counts = record counts { datagrams = kept.data
 
 module _ {S W B : Type 0} (left : S → Option (List ℕ)) (is_ended : S → Type 0) (failed_reads : S → ℕ) (reads_of : S → Option (List Read))
     (taken : W → Option (List ℕ)) (is_stalled : W → Type 0) (stalls failed_writes : W → ℕ) (heard : B → Option (List HeardLine)) (is_over : B → Type 0)
-    (t : Report) (r : Progress) (s : MirrorSettings) (from_old from_new : S) (to_old to_new : W) (g h : B) where
+    (t : Report) (r : MirrorReport) (s : MirrorSettings) (from_old from_new : S) (to_old to_new : W) (g h : B) where
   -- what is told of the lines, from one state of the mirror to another, and what is written by then
   abbrev pub Told : MirrorSoFar → MirrorSoFar → W → Result Followed RunError → Type 0
   Told a b w =
-      FollowsAll (step_in s.family) (Passes s.limits) (λ number. step_text t r s.limits.shape.order s) is_passed goes_on heard is_over
+      FollowsAll (step_in s.family) (Passes s.limits) (λ number. step_text t r s.limits.shape.order s) is_accepted never_ends heard is_over
       left is_ended failed_reads reads_of taken is_stalled stalls failed_writes a b from_old from_new to_old w g h
 
   -- all lines were followed, and behind that the tables were written, where changes were not

@@ -6,9 +6,9 @@ use Rattle.nl_frame.specs.Limits.{Bounds}
 use Rattle.rtnl.specs.ByteRows.{escape, painted as in_colour, red}
 use Rattle.rtnl.specs.Lines.{lines_of}
 use Rattle.rtnl.specs.Runs.{Prints}
-use Rattle.rtnl.specs.Shown.{Answer, Answers, datagram_text, is_taken}
+use Rattle.rtnl.specs.Shown.{Answer, Answers, datagram_text, is_accepted}
 use Rattle.rtnl.specs.Text.{◌⨟◌}
-use Rattle.rtnl.specs.declared.error.Verdict.{Verdict}
+use Rattle.rtnl.specs.declared.verdict.Verdict.{Verdict}
 
 -- what begins bold words, and cyan ones
 abbrev pub bold : List ℕ
@@ -70,4 +70,4 @@ coloured_text o number d a = painted (datagram_text o number d a)
 
 -- what is shown of datagrams in colours, and the verdict on them
 abbrev pub ShowsColoured : Bounds → List (List ℕ) → List ℕ → Verdict → Type 0
-ShowsColoured b = Prints (Answers b) (coloured_text b.shape.order) is_taken
+ShowsColoured b = Prints (Answers b) (coloured_text b.shape.order) is_accepted

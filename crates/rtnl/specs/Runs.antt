@@ -5,8 +5,8 @@ use Rattle.rtnl.specs.Lines.{datagrams}
 use Rattle.rtnl.specs.Streams.{AppendsPrefix, ConsumesAtMost, ConsumesMoreThan, IsRead, StopsOnce, one_more}
 use Rattle.rtnl.specs.declared.error.RunError.{RunError}
 use Rattle.rtnl.specs.declared.error.RunError.TheVariants.{BadLine, ReadFault, WriteFault, Memory}
-use Rattle.rtnl.specs.declared.error.Verdict.{Verdict}
-use Rattle.rtnl.specs.declared.error.Verdict.TheVariants.{Clean, Blemished}
+use Rattle.rtnl.specs.declared.verdict.Verdict.{Verdict}
+use Rattle.rtnl.specs.declared.verdict.Verdict.TheVariants.{Clean, NotClean}
 
 -- the longest input that is read, in bytes: this project's own limit
 abbrev pub LONGEST_INPUT : ℕ
@@ -28,17 +28,17 @@ texts_from text number (y ∷ ys) (x ∷ found) = text number y x ++ texts_from 
 -- a verdict, and a datagram more
 abbrev pub with_one : Verdict → Bool → Verdict
 with_one verdict true = verdict
-with_one verdict false = Blemished
+with_one verdict false = NotClean
 
 -- clean exactly where each datagram is taken, and the verdict before was clean
 abbrev pub verdict_from : {X : Type 0} → (X → Bool) → Verdict → List X → Verdict
-verdict_from is_taken verdict [] = verdict
-verdict_from is_taken verdict (x ∷ found) = verdict_from is_taken (with_one verdict (is_taken x)) found
+verdict_from is_accepted verdict [] = verdict
+verdict_from is_accepted verdict (x ∷ found) = verdict_from is_accepted (with_one verdict (is_accepted x)) found
 
 -- the text of datagrams, and the verdict on them
 abbrev pub Prints : {X : Type 0} → (List ℕ → X → Type 0) → (ℕ → List ℕ → X → List ℕ) → (X → Bool) → List (List ℕ) → List ℕ → Verdict → Type 0
-Prints {X} Is text is_taken ds printed verdict =
-    (found : List X) × EachIs Is ds found × (printed ≡ texts_from text 1 ds found) × (verdict ≡ verdict_from is_taken Clean found)
+Prints {X} Is text is_accepted ds printed verdict =
+    (found : List X) × EachIs Is ds found × (printed ≡ texts_from text 1 ds found) × (verdict ≡ verdict_from is_accepted Clean found)
 
 -- the bytes that were consumed are an input of whose datagrams this is what was appended
 abbrev pub OfInput : (List (List ℕ) → List ℕ → Verdict → Type 0) → Option (List ℕ) → Option (List ℕ) → Option (List ℕ) → Option (List ℕ) → Verdict → Type 0

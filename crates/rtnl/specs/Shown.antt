@@ -13,7 +13,7 @@ use Rattle.rtnl.specs.Datagrams.{datagram_line, reason_text, refused_line, too_l
 use Rattle.rtnl.specs.Json.{Field, array, json_line, number, object, string}
 use Rattle.rtnl.specs.Messages.{messages_text}
 use Rattle.rtnl.specs.MessagesJson.{messages_json}
-use Rattle.rtnl.specs.declared.error.Verdict.{Verdict}
+use Rattle.rtnl.specs.declared.verdict.Verdict.{Verdict}
 
 -- the messages of a datagram, or why it is refused
 abbrev pub Answer : Type 0
@@ -46,13 +46,13 @@ abbrev pub datagram_text : Order → ℕ → List ℕ → Answer → List ℕ
 datagram_text o number d a = datagram_line number (length d) ++ answer_text o a
 
 -- the datagram was accepted
-abbrev pub is_taken : Answer → Bool
-is_taken (Ok _) = true
-is_taken (Err _) = false
+abbrev pub is_accepted : Answer → Bool
+is_accepted (Ok _) = true
+is_accepted (Err _) = false
 
 -- what is shown of datagrams, and the verdict on them
 abbrev pub Shows : Bounds → List (List ℕ) → List ℕ → Verdict → Type 0
-Shows b = Prints (Answers b) (datagram_text b.shape.order) is_taken
+Shows b = Prints (Answers b) (datagram_text b.shape.order) is_accepted
 
 -- why a datagram is refused
 unfoldable pub refusal_fields : ReadError → List Field
@@ -75,4 +75,4 @@ datagram_json o n d a = json_line (datagram_object n (answer_fields o (length d)
 
 -- the same of datagrams as lines of JSON
 abbrev pub ShowsJson : Bounds → List (List ℕ) → List ℕ → Verdict → Type 0
-ShowsJson b = Prints (Answers b) (datagram_json b.shape.order) is_taken
+ShowsJson b = Prints (Answers b) (datagram_json b.shape.order) is_accepted

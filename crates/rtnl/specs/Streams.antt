@@ -1,14 +1,14 @@
 -- What calls of a source or a sink do to its known bytes and to its counts.
 use Rattle.std.specs.Prelude.{◌≡◌, ℕ, ◌+◌, ◌-◌, ◌<◌, ◌≤◌, ◌^◌, ◌⊎◌, min, List, [], ◌∷◌, ◌++◌, Option, Some, None, Result, Ok, Err, length, take}
 use Rattle.std.specs.Io.KnownBytes.{Appends, Consumes, IsAtEnd}
-use Rattle.rtnl.specs.declared.streams.calls.Broken.{Broken}
+use Rattle.rtnl.specs.declared.streams.errors.IoFailed.{IoFailed}
 
 -- one more, up to the greatest count
 abbrev pub one_more : ℕ → ℕ
 one_more count = min (count + 1) (2 ^ 64 - 1)
 
 -- a call over a slice of this size moved no byte of some
-abbrev pub MovesNone : Result ℕ Broken → ℕ → Type 0
+abbrev pub MovesNone : Result ℕ IoFailed → ℕ → Type 0
 MovesNone (Ok count) size = (count ≡ 0) × (0 < size)
 MovesNone (Err e) size = ⊥
 
@@ -46,12 +46,12 @@ pub record Read : Type 0 where
   pub moved : List ℕ
 
 -- the bytes that a call over this buffer moved
-abbrev pub moved_by : Result ℕ Broken → List ℕ → List ℕ
+abbrev pub moved_by : Result ℕ IoFailed → List ℕ → List ℕ
 moved_by (Ok count) buffer = take count buffer
 moved_by (Err _) buffer = []
 
 -- known reads grow by one
-abbrev pub AddsRead : Option (List Read) → Option (List Read) → Option (List ℕ) → Result ℕ Broken → List ℕ → Type 0
+abbrev pub AddsRead : Option (List Read) → Option (List Read) → Option (List ℕ) → Result ℕ IoFailed → List ℕ → Type 0
 AddsRead old new written result buffer = Gains old new (record { written = written; moved = moved_by result buffer } ∷ [])
 
 -- the bytes that reads moved, one after another

@@ -1,9 +1,9 @@
 -- The fields of the kernel's structs, in their order and by their names in its headers.
-use Rattle.std.specs.Prelude.{ℕ, List, [], ◌∷◌, codes}
+use Rattle.std.specs.Prelude.{ℕ, List, [], ◌∷◌, codes, Option}
 use Rattle.std.specs.Borrow.{Bor}
-use Rattle.nl_attr.specs.declared.tree.Ctx.{Ctx}
 use Rattle.nl_route.specs.declared.family.Family.{Family}
 use Rattle.nl_route.specs.declared.family.Family.TheVariants.{Link, Addr, Route, Neigh, Rule}
+use Rattle.nl_values.specs.declared.set.Set.{Set}
 use Rattle.rtnl.specs.declared.names.flags.Bits.TheVariants as bits
 use Rattle.rtnl.specs.declared.names.types.FlagNames.{FlagNames}
 use Rattle.rtnl.specs.declared.bytes.notation.Notation.{Notation}
@@ -26,11 +26,11 @@ nlmsghdr names =
     ∷ (codes "nlmsg_seq", 4, Decimal)
     ∷ (codes "nlmsg_pid", 4, Decimal) ∷ []
 
--- rtattr of linux/rtnetlink.h, of an attribute of this context
-unfoldable pub rtattr : Ctx → List Field
-rtattr ctx =
+-- rtattr of linux/rtnetlink.h, of an attribute of this set
+unfoldable pub rtattr : Option Set → List Field
+rtattr set =
     (codes "rta_len", 2, Decimal)
-    ∷ (codes "rta_type", 2, AttrType ctx) ∷ []
+    ∷ (codes "rta_type", 2, AttrType set) ∷ []
 
 -- rtnexthop of linux/rtnetlink.h
 unfoldable pub rtnexthop : List Field

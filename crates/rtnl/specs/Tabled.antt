@@ -24,8 +24,8 @@ use Rattle.rtnl.specs.Datagrams.{refused_line, too_large_line}
 use Rattle.rtnl.specs.Lines.{datagrams}
 use Rattle.rtnl.specs.Messages.{body_text}
 use Rattle.rtnl.specs.Text.{◌⨟◌}
-use Rattle.rtnl.specs.declared.error.Verdict.{Verdict}
-use Rattle.rtnl.specs.declared.error.Verdict.TheVariants.{Clean, Blemished}
+use Rattle.rtnl.specs.declared.verdict.Verdict.{Verdict}
+use Rattle.rtnl.specs.declared.verdict.Verdict.TheVariants.{Clean, NotClean}
 use Rattle.rtnl.specs.declared.ending.Ending.{Ending}
 
 -- the dump that is read
@@ -174,7 +174,7 @@ pub record FeedsSome (u : View) (ds : List (List ℕ)) (fed : List Answered) (re
 -- whether a dump is complete, as a verdict
 abbrev pub verdict_of : Bool → Verdict
 verdict_of true = Clean
-verdict_of false = Blemished
+verdict_of false = NotClean
 
 -- a session in which a dump waits is fed these datagrams in order, until the dump has ended: the report of it, and whether the dump is complete
 pub record ReportsFrom (t : Report) (o : Order) (d : Dump) (u : View) (ds : List (List ℕ)) (text : List ℕ) (verdict : Verdict) (v : View) : Type 0 where

@@ -13,10 +13,10 @@ use Rattle.nl_dump.specs.declared.errors.FeedError.{FeedError}
 use Rattle.nl_dump.specs.declared.errors.FeedError.TheVariants as feed
 use Rattle.nl_dump.specs.declared.standing.Standing.{Standing}
 use Rattle.rtnl.specs.Json.{Field, boolean, json_line, number, object, signed, string}
-use Rattle.rtnl.specs.MessagesJson.{body_field}
+use Rattle.rtnl.specs.MessagesJson.{body_fields}
 use Rattle.rtnl.specs.Shown.{datagram_object, refusal_fields}
 use Rattle.rtnl.specs.Tabled.{Report, TablesBy}
-use Rattle.rtnl.specs.declared.error.Verdict.{Verdict}
+use Rattle.rtnl.specs.declared.verdict.Verdict.{Verdict}
 use Rattle.rtnl.specs.declared.ending.Ending.{Ending}
 
 -- a datagram was refused, since all datagrams would be too large
@@ -33,7 +33,7 @@ refusal_json n feed.Memory = []
 
 -- the line of the entry of this number
 unfoldable pub entry_json : Order → ℕ → BodyVal → List ℕ
-entry_json o n body = json_line (object ((codes "entry", number n) ∷ body_field o body ∷ []))
+entry_json o n body = json_line (object ((codes "entry", number n) ∷ body_fields o 0 0 body))
 
 -- the dump that is read
 unfoldable pub dump_fields : Dump → List Field

@@ -9,13 +9,13 @@ ghost use Rattle.rtnl.specs.Checked.{Checks, ChecksJson, Finding, Finds};
 ghost use Rattle.rtnl.specs.Lines.{line_at, line_fault_of};
 ghost use Rattle.rtnl.specs.Painted.{Colours, ShowsColoured, coloured_text, painted};
 ghost use Rattle.rtnl.specs.Shown.{Answer, Answers, Shows, ShowsJson};
-ghost use Rattle.rtnl.specs.Shown.{datagram_json, datagram_text, is_taken};
+ghost use Rattle.rtnl.specs.Shown.{datagram_json, datagram_text, is_accepted as is_accepted_answer};
 ghost use Rattle.rtnl.specs.Followed.{TellsAsPrinted};
 ghost use Rattle.rtnl.specs.declared.bytes.rows.RowFormat.{RowFormat};
 ghost use Rattle.rtnl.specs.Tabled.{HeadlineOfTables};
-ghost use Rattle.rtnl.specs.declared.error.Verdict.{Verdict};
+ghost use Rattle.rtnl.specs.declared.verdict.Verdict.{Verdict};
 
-use crate::runs::followed::OnBadLine;
+use crate::runs::followed::FollowListener;
 
 /// A datagram has one answer: its one layout, or its one refusal. A check finds one thing of it.
 #[tactic(auto, using(crate::proofs::Answers::some_answer, crate::proofs::Answers::same_answer, crate::proofs::Answers::same_finding))]
@@ -49,13 +49,13 @@ pub fn bad_lines()
 /// Over a recording that `run_show` takes, what `run_follow` tells of its lines is what `run_show`
 /// writes, with no bad line, and nothing is refused where the verdict is Clean; and so in colours,
 /// in JSON, and in bytes.
-pub fn follow_is_show<B: OnBadLine>()
+pub fn follow_is_show<B: FollowListener>()
     ensures text { (b : Bounds) → TellsAsPrinted (Answers b) (datagram_text b.shape.order)
-        is_taken B.heard B.is_ended }
+        is_accepted_answer B.heard B.is_ended }
     ensures coloured { (b : Bounds) → TellsAsPrinted (Answers b) (coloured_text b.shape.order)
-        is_taken B.heard B.is_ended }
+        is_accepted_answer B.heard B.is_ended }
     ensures json { (b : Bounds) → TellsAsPrinted (Answers b) (datagram_json b.shape.order)
-        is_taken B.heard B.is_ended }
+        is_accepted_answer B.heard B.is_ended }
     ensures bytes { (f : RowFormat) (b : Bounds) → TellsAsPrinted (Views b)
         (viewed_text f b.shape.order) is_accepted B.heard B.is_ended }
 {}

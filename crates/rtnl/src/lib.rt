@@ -1,13 +1,15 @@
 //! Shows recordings of rtnetlink datagrams. The rooms, each standing on those before it:
 //! `streams`, where bytes come from and go to; `recordings`, lines to datagrams; `pieces` of text;
 //! `names`, numbers to words; `text` and `json_lines`, what is printed of a datagram, file for file,
-//! and `bytes`, its bytes beside what they are, in both; `runs`, the commands over a recording.
+//! and `bytes`, its bytes beside what they are, in both; `kernel_errors`, what the kernel says of an
+//! error; `runs`, the commands over a recording.
 #![tactic(auto)]
 
 mod bytes;
 mod ending;
 mod error;
 mod json_lines;
+mod kernel_errors;
 pub mod laws;
 mod names;
 mod pieces;
@@ -15,10 +17,12 @@ mod recordings;
 mod runs;
 mod streams;
 mod text;
+mod verdict;
 
 pub use bytes::rows::RowFormat;
 pub use bytes::tape::{Tape, context_inside, tape_of};
-pub use error::{RunError, Verdict};
+pub use error::RunError;
+pub use kernel_errors::{KernelError, error_name, kernel_error, request_name};
 pub use names::kernel::{KernelName, attribute_name, message_name};
 pub use nl_dump as dump;
 pub use nl_frame as frame;
@@ -29,7 +33,7 @@ pub use recordings::unfinished::LONGEST_LINE;
 pub use runs::check::{run_check, run_check_json};
 pub use runs::follow::{run_follow, run_follow_bytes, run_follow_coloured, run_follow_json};
 pub use runs::follow_dump::{DumpFollowed, run_follow_dump, run_follow_dump_json};
-pub use runs::followed::{Followed, OnBadLine};
+pub use runs::followed::{FollowListener, Followed};
 pub use runs::mirror::{MirrorFollowed, run_mirror, run_mirror_json};
 pub use runs::mirrored::MirrorSettings;
 pub use runs::request::{run_request, run_request_ordered};
@@ -38,6 +42,7 @@ pub use runs::show::{
 };
 pub use runs::show_bytes::run_show_bytes;
 pub use runs::table::{run_table, run_table_json, run_table_with_seed};
-pub use streams::calls::Broken;
+pub use streams::errors::IoFailed;
 pub use streams::sink::{Sink, VecSink, WriteSink};
 pub use streams::source::{LONGEST_INPUT, LiveSource, ReadSource, SliceSource, Source};
+pub use verdict::Verdict;

@@ -4,7 +4,7 @@ use Rattle.nl_frame.specs.Calls.{and_message, with_message}
 use Rattle.nl_frame.specs.Draft.{Draft, Holds, nothing_put}
 use Rattle.nl_frame.proofs.Ends.{finishes}
 use Rattle.nl_frame.proofs.Puts.{neither}
-use Rattle.rtnl_c.specs.Asked.{IsAlone, PutsAlone, alone, finished, standard_in}
+use Rattle.rtnl_c.specs.ChangeRequests.{IsAlone, PutsAlone, alone, finished, standard_in}
 
 are_limits : (o : Order) → AreLimits (standard_in o)
 are_limits o = (lit≤ tt, refl, lit≤ tt, lit≤ tt, lit≤ tt, lit≤ tt)

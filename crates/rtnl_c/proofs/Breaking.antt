@@ -1,4 +1,4 @@
--- The head that breaks a rule, by what a scan answered.
+-- The header that breaks a rule, by what a scan answered.
 use Rattle.std.proofs.Common.{◌≡◌, ◌<◌, ◌↔◌, ℕ, List, length, Result, Ok, Err, IfOk, IfErr, refl, subst}
 use Rattle.nl_frame.specs.declared.scanning.ScanError.{ScanError}
 use Rattle.nl_frame.specs.declared.scanning.ScanError.TheVariants.{TooLarge, Layout as Fails}

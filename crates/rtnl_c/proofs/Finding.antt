@@ -114,7 +114,7 @@ attr_same : {p s t n m : ℕ} {f g : AttrFlags} {a b : List ℕ} → s ≡ t →
 attr_same e f g h = rw (e, f, g, h) refl
 
 module _ (o : Order) (bytes : List ℕ) where
-  -- the answer of an attribute by the fields of its head
+  -- the answer of an attribute by the fields of its header
   part_is : (p : ℕ) (q : Part) → IsPart q (record { order = o; place = p; left = drop p bytes })
       → attr_found p (Some (Ok q)) ≡ attr_of p (span_of o 2 (drop p bytes)) (kind_of o (drop p bytes) % 16384) (flags_of (kind_of o (drop p bytes))) (payload_of o 4 2 (drop p bytes))
   part_is p q i = attr_same i.span i.number i.flags i.payload
@@ -201,7 +201,7 @@ module _ (S : Shape) (ctx : Ctx) (l : ℕ) (bytes : List ℕ) (number : ℕ) whe
     stood : (a : AttrAt) → AttrStands S.order bytes place a → a ≡ attr_of place (span_of S.order 2 (drop place bytes)) n flags fits.3
     stood a s = attr_by S.order bytes fits.0 fits.2 fits.3 place n flags a s.0 (omega (arith, long)) at_front s.1 s.2
 
-    -- the payload lies behind the head
+    -- the payload lies behind the header
     payload_is : take (length fits.3) (drop (place + 4) bytes) ≡ fits.3
     payload_is =
         let k = kind_number n flags in
@@ -247,7 +247,7 @@ module _ (S : Shape) (ctx : Ctx) (l : ℕ) (bytes : List ℕ) (number : ℕ) whe
           stands = subst (λ (t : Bool). Fits S (cond t (item n flags v more) (from_first more number)) (drop a.place bytes) ctx l) (sym differ) first.stands;
         }
 
-    -- its head breaks no rule
+    -- its header breaks no rule
     sound : (a : AttrAt) → AttrStands S.order bytes place a → a.code ≡ 0
     sound a s = ap (λ (x : AttrAt). x.code) (stood a s)
 

@@ -1,4 +1,4 @@
--- A builder that C keeps: its heads, and the way back.
+-- A builder that C keeps: its headers, and the way back.
 use Rattle.std.proofs.Common.{◌≡◌, ◌≢◌, ◌==◌, ℕ, ◌+◌, ◌-◌, ◌<◌, ◌≤◌, ◌⊎◌, List, [], ◌∷◌, length, slice_index_or, slice_set, drop, length-drop, Option, Some, None, Result, Ok, Err, refl, sym, ap, subst, ◌∙◌, arith, inl, inr}
 use Rattle.std.specs.Prelude.{IfOk, IfSome, MatchOption}
 use Rattle.rtnl_c.proofs.Common.{get_or-set_same, get_or-set_other, Order, BuildError, Built, AreOpen, levels_in, order_of, top, BuilderTop, Bounds, AreLimits, bounds_of, Opens, heads_after, left_with, parts_with, over, order_in}
@@ -10,7 +10,7 @@ use Rattle.nl_attr.specs.declared.tree.Content.TheVariants as content
 use Rattle.nl_frame.specs.declared.building.OpenHead.{OpenHead}
 use Rattle.nl_frame.specs.declared.building.refusal.BuildError.TheVariants.{Mismatch, TooDeep, TooLong, TooLarge, NoRoom, NothingOpen, StillOpen}
 use Rattle.nl_frame.proofs.Opens.{are_open_more}
-use Rattle.rtnl_c.specs.declared.building.KeptBuilder.{KeptBuilder}
+use Rattle.rtnl_c.specs.declared.building.BuilderState.{BuilderState}
 use Rattle.rtnl_c.specs.Building.{AreKept, HasNone, IsInnermost, IsKept, IsNone, IsTopOf, Calls, on_none, calls, content_in, content_number, left_closed, order_by, order_number, refusal_in, refusal_number, with_opened}
 
 -- ---- numbers
@@ -67,9 +67,9 @@ content_said n (content.List Neigh) e = grind arith
 content_said n (content.List Rule) e = grind arith
 content_said n (content.List Plain) e = grind arith
 
--- ---- heads that are kept
+-- ---- headers that are kept
 
--- two heads of one place and one content are one
+-- two headers of one place and one content are one
 same_head : (h g : OpenHead) → h.start ≡ g.start → h.content ≡ g.content → h ≡ g
 same_head h g e f = ap (λ s. record h { start = s }) e ∙ ap (λ (k : Content). record g { content = k }) f
 
@@ -79,7 +79,7 @@ same_content k l e =
     cc
 
 module _ (ss cs : List ℕ) where
-  -- so many heads are kept in one way
+  -- so many headers are kept in one way
   pub same_heads : (hs gs : List OpenHead) → length hs ≡ length gs → AreKept ss cs hs → AreKept ss cs gs → hs ≡ gs
   same_heads [] [] e a b = refl
   same_heads [] (g ∷ gs) e a b = absurd (omega (arith, e))
@@ -90,7 +90,7 @@ module _ (ss cs : List ℕ) where
       let number : content_number h.content ≡ content_number g.content = sym a.1 ∙ ap (λ k. slice_index_or cs k 0) len ∙ b.1 in
       ap (λ (x : OpenHead). x ∷ hs) (same_head h g start (same_content h.content g.content number)) ∙ ap (λ (xs : List OpenHead). g ∷ xs) (same_heads hs gs len a.2 b.2)
 
-  -- the heads up to one of them
+  -- the headers up to one of them
   pub record IsAt (D n i : ℕ) : Type 0 where
     pub head : OpenHead
     pub outer : List OpenHead
@@ -105,7 +105,7 @@ module _ (ss cs : List ℕ) where
     by_case (inl e) further = record { head = h; outer = hs; count = sym e; kept = a; open_heads = o }
     by_case (inr l) further = further l
 
-  -- one more of the heads that are kept, inside those up to it
+  -- one more of the headers that are kept, inside those up to it
   pub one_more : (D n i s : ℕ) (c : Content) (head : Option OpenHead)
       → ((hs : List OpenHead) × (i ≡ length hs) × AreKept ss cs hs × AreOpen D n hs × (top hs ≡ head))
       → slice_index_or ss i 0 ≡ s → slice_index_or cs i 0 ≡ content_number c → s + 4 ≤ n → i + levels_in c ≤ D
@@ -118,7 +118,7 @@ module _ (ss cs : List ℕ) where
     refl,
   )
 
--- heads that are open are no more than the levels and one
+-- headers that are open are no more than the levels and one
 pub few_heads : (D n : ℕ) (hs : List OpenHead) → AreOpen D n hs → length hs ≤ D + 1
 few_heads D n [] o = omega arith
 few_heads D n (h ∷ hs) o = omega (arith, o.1)
@@ -147,14 +147,14 @@ kept_order big Little e = ap order_kept e
 kept_order big Big e = ap order_kept e
 
 -- a call in the order that is kept is one in the builder's order
-pub ordered : (call : Order → Built → Built) (old new : KeptBuilder) (before after : List ℕ) (code : ℕ)
+pub ordered : (call : Order → Built → Built) (old new : BuilderState) (before after : List ℕ) (code : ℕ)
     → Calls (call (order_in (old.big == 1))) old before new after code → Calls (λ b. call (order_of b) b) old before new after code
 ordered call old new before after code (on_none n) = on_none n
 ordered call old new before after code (calls p q is kept bytes e k) =
     calls p q is kept bytes (e ∙ ap (λ o. call o (over p before)) (kept_order old.big p.bounds.shape.order is.big)) k
 
 -- what is kept is a builder's, of which a call needs this
-pub topped : (k : KeptBuilder) (room : ℕ) (o : Order) (r : Option BuildError) (head : Option OpenHead) → order_by k.big ≡ Some o → refusal_in k.refusal ≡ Some r
+pub topped : (k : BuilderState) (room : ℕ) (o : Order) (r : Option BuildError) (head : Option OpenHead) → order_by k.big ≡ Some o → refusal_in k.refusal ≡ Some r
     → AreLimits (bounds_of o k.depth k.datagram k.total k.entries) → k.len ≤ k.datagram → k.len ≤ room → IsInnermost k head
     → IsTopOf k room (record { limits = bounds_of o k.depth k.datagram k.total k.entries; len = k.len; head = head; refusal = r })
 topped k room o r head big code limits size fits (hs, h, e) = (
@@ -175,8 +175,8 @@ topped k room o r head big code limits size fits (hs, h, e) = (
   e,
 )
 
--- no builder has heads that none has
-pub not_topped : (k : KeptBuilder) (room : ℕ) → HasNone k → IsNone k room
+-- no builder has headers that none has
+pub not_topped : (k : BuilderState) (room : ℕ) → HasNone k → IsNone k room
 not_topped k room none p has =
     none p.heads (record {
       count = has.count;
@@ -184,36 +184,36 @@ not_topped k room none p has =
       open_heads = subst (λ D. AreOpen D k.len p.heads) (sym has.depth) (subst (λ n. AreOpen p.bounds.shape.depth n p.heads) (sym has.len) has.parts.2);
     })
 
--- a call that opens and closes no head leaves a builder's
-pub kept_more : (k new : KeptBuilder) (room size : ℕ) (t u : BuilderTop) (hs : List OpenHead) → IsKept k room (parts_with t hs) → u.limits ≡ t.limits → t.len ≤ u.len
+-- a call that opens and closes no header leaves a builder's
+pub kept_more : (k new : BuilderState) (room size : ℕ) (t u : BuilderTop) (hs : List OpenHead) → IsKept k room (parts_with t hs) → u.limits ≡ t.limits → t.len ≤ u.len
     → u.len ≤ size → u.len ≤ u.limits.datagram → new ≡ record k { len = u.len; refusal = refusal_number u.refusal } → IsKept new size (parts_with u hs)
 kept_more k new room size t u hs is bounds more fits limit e =
     record {
-      total = ap (λ (x : KeptBuilder). x.total) e ∙ is.total ∙ sym (ap (λ (b : Bounds). b.total) bounds);
-      entries = ap (λ (x : KeptBuilder). x.entries) e ∙ is.entries ∙ sym (ap (λ (b : Bounds). b.entries) bounds);
-      datagram = ap (λ (x : KeptBuilder). x.datagram) e ∙ is.datagram ∙ sym (ap (λ (b : Bounds). b.datagram) bounds);
-      depth = ap (λ (x : KeptBuilder). x.depth) e ∙ is.depth ∙ sym (ap (λ (b : Bounds). b.shape.depth) bounds);
-      big = ap (λ (x : KeptBuilder). x.big) e ∙ is.big ∙ sym (ap (λ (b : Bounds). order_number b.shape.order) bounds);
-      len = ap (λ (x : KeptBuilder). x.len) e;
-      count = ap (λ (x : KeptBuilder). x.count) e ∙ is.count;
-      heads = subst (λ (x : KeptBuilder). AreKept x.starts x.contents hs) (sym e) is.heads;
-      refusal = ap (λ (x : KeptBuilder). x.refusal) e;
+      total = ap (λ (x : BuilderState). x.total) e ∙ is.total ∙ sym (ap (λ (b : Bounds). b.total) bounds);
+      entries = ap (λ (x : BuilderState). x.entries) e ∙ is.entries ∙ sym (ap (λ (b : Bounds). b.entries) bounds);
+      datagram = ap (λ (x : BuilderState). x.datagram) e ∙ is.datagram ∙ sym (ap (λ (b : Bounds). b.datagram) bounds);
+      depth = ap (λ (x : BuilderState). x.depth) e ∙ is.depth ∙ sym (ap (λ (b : Bounds). b.shape.depth) bounds);
+      big = ap (λ (x : BuilderState). x.big) e ∙ is.big ∙ sym (ap (λ (b : Bounds). order_number b.shape.order) bounds);
+      len = ap (λ (x : BuilderState). x.len) e;
+      count = ap (λ (x : BuilderState). x.count) e ∙ is.count;
+      heads = subst (λ (x : BuilderState). AreKept x.starts x.contents hs) (sym e) is.heads;
+      refusal = ap (λ (x : BuilderState). x.refusal) e;
       parts = (subst AreLimits (sym bounds) is.parts.0, limit, subst (λ (b : Bounds). AreOpen b.shape.depth u.len hs) (sym bounds) (are_open_more _ _ _ _ more is.parts.2));
       fits = fits;
     }
 
--- a call that opens a head, or is refused, keeps the limits
+-- a call that opens a header, or is refused, keeps the limits
 pub same_limits : (t u : BuilderTop) (out new : List ℕ) (r : Result OpenHead BuildError) → Opens t u out new r → u.limits ≡ t.limits
 same_limits t u out new (Ok h) o = ap (λ (x : BuilderTop). x.limits) o.rest
 same_limits t u out new (Err e) o = ap (λ (x : BuilderTop). x.limits) o.0
 
--- there is a place for one more head
+-- there is a place for one more header
 pub few_after : (D n : ℕ) (hs : List OpenHead) (count : ℕ) (r : Result OpenHead BuildError) → count ≡ length hs → D ≤ 32 → AreOpen D n (heads_after r hs) → IfOk r (λ h. count ≤ 32)
 few_after D n hs count (Ok h) e l o = omega (arith, e, l, few_heads D n (h ∷ hs) o)
 few_after D n hs count (Err x) e l o = tt
 
 -- and it leaves a builder's
-pub kept_opened : (k new : KeptBuilder) (room size : ℕ) (t u : BuilderTop) (r : Result OpenHead BuildError) (hs : List OpenHead) → IsKept k room (parts_with t hs) → u.limits ≡ t.limits
+pub kept_opened : (k new : BuilderState) (room size : ℕ) (t u : BuilderTop) (r : Result OpenHead BuildError) (hs : List OpenHead) → IsKept k room (parts_with t hs) → u.limits ≡ t.limits
     → u.len ≤ size → u.len ≤ u.limits.datagram → AreOpen t.limits.shape.depth u.len (heads_after r hs) → IfOk r (λ h. (k.count < length k.starts) × (k.count < length k.contents))
     → new ≡ record (with_opened k r) { len = u.len; refusal = refusal_number u.refusal } → IsKept new size (parts_with u (heads_after r hs))
 kept_opened k new room size t u (Ok h) hs is bounds fits limit inside a e =
@@ -222,34 +222,34 @@ kept_opened k new room size t u (Ok h) hs is bounds fits limit inside a e =
     let one = keeps_one k.starts k.contents h hs lt ct is.heads in
     let at = subst (λ i. AreKept (slice_set k.starts i h.start) (slice_set k.contents i (content_number h.content)) (h ∷ hs)) (sym is.count) one in
     record {
-      total = ap (λ (x : KeptBuilder). x.total) e ∙ is.total ∙ sym (ap (λ (b : Bounds). b.total) bounds);
-      entries = ap (λ (x : KeptBuilder). x.entries) e ∙ is.entries ∙ sym (ap (λ (b : Bounds). b.entries) bounds);
-      datagram = ap (λ (x : KeptBuilder). x.datagram) e ∙ is.datagram ∙ sym (ap (λ (b : Bounds). b.datagram) bounds);
-      depth = ap (λ (x : KeptBuilder). x.depth) e ∙ is.depth ∙ sym (ap (λ (b : Bounds). b.shape.depth) bounds);
-      big = ap (λ (x : KeptBuilder). x.big) e ∙ is.big ∙ sym (ap (λ (b : Bounds). order_number b.shape.order) bounds);
-      len = ap (λ (x : KeptBuilder). x.len) e;
-      count = omega (arith, ap (λ (x : KeptBuilder). x.count) e, is.count);
-      heads = subst (λ (x : KeptBuilder). AreKept x.starts x.contents (h ∷ hs)) (sym e) at;
-      refusal = ap (λ (x : KeptBuilder). x.refusal) e;
+      total = ap (λ (x : BuilderState). x.total) e ∙ is.total ∙ sym (ap (λ (b : Bounds). b.total) bounds);
+      entries = ap (λ (x : BuilderState). x.entries) e ∙ is.entries ∙ sym (ap (λ (b : Bounds). b.entries) bounds);
+      datagram = ap (λ (x : BuilderState). x.datagram) e ∙ is.datagram ∙ sym (ap (λ (b : Bounds). b.datagram) bounds);
+      depth = ap (λ (x : BuilderState). x.depth) e ∙ is.depth ∙ sym (ap (λ (b : Bounds). b.shape.depth) bounds);
+      big = ap (λ (x : BuilderState). x.big) e ∙ is.big ∙ sym (ap (λ (b : Bounds). order_number b.shape.order) bounds);
+      len = ap (λ (x : BuilderState). x.len) e;
+      count = omega (arith, ap (λ (x : BuilderState). x.count) e, is.count);
+      heads = subst (λ (x : BuilderState). AreKept x.starts x.contents (h ∷ hs)) (sym e) at;
+      refusal = ap (λ (x : BuilderState). x.refusal) e;
       parts = (subst AreLimits (sym bounds) is.parts.0, limit, subst (λ (b : Bounds). AreOpen b.shape.depth u.len (h ∷ hs)) (sym bounds) inside);
       fits = fits;
     }
 kept_opened k new room size t u (Err x) hs is bounds fits limit inside a e =
     record {
-      total = ap (λ (x : KeptBuilder). x.total) e ∙ is.total ∙ sym (ap (λ (b : Bounds). b.total) bounds);
-      entries = ap (λ (x : KeptBuilder). x.entries) e ∙ is.entries ∙ sym (ap (λ (b : Bounds). b.entries) bounds);
-      datagram = ap (λ (x : KeptBuilder). x.datagram) e ∙ is.datagram ∙ sym (ap (λ (b : Bounds). b.datagram) bounds);
-      depth = ap (λ (x : KeptBuilder). x.depth) e ∙ is.depth ∙ sym (ap (λ (b : Bounds). b.shape.depth) bounds);
-      big = ap (λ (x : KeptBuilder). x.big) e ∙ is.big ∙ sym (ap (λ (b : Bounds). order_number b.shape.order) bounds);
-      len = ap (λ (x : KeptBuilder). x.len) e;
-      count = ap (λ (x : KeptBuilder). x.count) e ∙ is.count;
-      heads = subst (λ (x : KeptBuilder). AreKept x.starts x.contents hs) (sym e) is.heads;
-      refusal = ap (λ (x : KeptBuilder). x.refusal) e;
+      total = ap (λ (x : BuilderState). x.total) e ∙ is.total ∙ sym (ap (λ (b : Bounds). b.total) bounds);
+      entries = ap (λ (x : BuilderState). x.entries) e ∙ is.entries ∙ sym (ap (λ (b : Bounds). b.entries) bounds);
+      datagram = ap (λ (x : BuilderState). x.datagram) e ∙ is.datagram ∙ sym (ap (λ (b : Bounds). b.datagram) bounds);
+      depth = ap (λ (x : BuilderState). x.depth) e ∙ is.depth ∙ sym (ap (λ (b : Bounds). b.shape.depth) bounds);
+      big = ap (λ (x : BuilderState). x.big) e ∙ is.big ∙ sym (ap (λ (b : Bounds). order_number b.shape.order) bounds);
+      len = ap (λ (x : BuilderState). x.len) e;
+      count = ap (λ (x : BuilderState). x.count) e ∙ is.count;
+      heads = subst (λ (x : BuilderState). AreKept x.starts x.contents hs) (sym e) is.heads;
+      refusal = ap (λ (x : BuilderState). x.refusal) e;
       parts = (subst AreLimits (sym bounds) is.parts.0, limit, subst (λ (b : Bounds). AreOpen b.shape.depth u.len hs) (sym bounds) inside);
       fits = fits;
     }
 
--- the heads around the innermost are kept where they are
+-- the headers around the innermost are kept where they are
 pub fewer_kept : (ss cs : List ℕ) (hs : List OpenHead) → AreKept ss cs hs → AreKept ss cs (drop 1 hs)
 fewer_kept ss cs [] a = tt
 fewer_kept ss cs (h ∷ hs) a = a.2
@@ -258,39 +258,39 @@ pub fewer_open : (D n : ℕ) (hs : List OpenHead) → AreOpen D n hs → AreOpen
 fewer_open D n [] o = tt
 fewer_open D n (h ∷ hs) o = o.2
 
--- a call that closes the innermost head, or is refused, leaves a builder's
-pub kept_fewer : (k new : KeptBuilder) (room size : ℕ) (t : BuilderTop) (r : Option BuildError) (hs : List OpenHead) → IsKept k room (parts_with t hs)
+-- a call that closes the innermost header, or is refused, leaves a builder's
+pub kept_fewer : (k new : BuilderState) (room size : ℕ) (t : BuilderTop) (r : Option BuildError) (hs : List OpenHead) → IsKept k room (parts_with t hs)
     → t.len ≤ size → new ≡ record k { count = k.count - left_closed r; refusal = refusal_number r } → IsKept new size (left_with t r hs)
 kept_fewer k new room size t None hs is fits e =
     record {
-      total = ap (λ (x : KeptBuilder). x.total) e ∙ is.total;
-      entries = ap (λ (x : KeptBuilder). x.entries) e ∙ is.entries;
-      datagram = ap (λ (x : KeptBuilder). x.datagram) e ∙ is.datagram;
-      depth = ap (λ (x : KeptBuilder). x.depth) e ∙ is.depth;
-      big = ap (λ (x : KeptBuilder). x.big) e ∙ is.big;
-      len = ap (λ (x : KeptBuilder). x.len) e ∙ is.len;
-      count = omega (arith, ap (λ (x : KeptBuilder). x.count) e, is.count, length-drop 1 hs);
-      heads = subst (λ (x : KeptBuilder). AreKept x.starts x.contents (drop 1 hs)) (sym e) (fewer_kept k.starts k.contents hs is.heads);
-      refusal = ap (λ (x : KeptBuilder). x.refusal) e;
+      total = ap (λ (x : BuilderState). x.total) e ∙ is.total;
+      entries = ap (λ (x : BuilderState). x.entries) e ∙ is.entries;
+      datagram = ap (λ (x : BuilderState). x.datagram) e ∙ is.datagram;
+      depth = ap (λ (x : BuilderState). x.depth) e ∙ is.depth;
+      big = ap (λ (x : BuilderState). x.big) e ∙ is.big;
+      len = ap (λ (x : BuilderState). x.len) e ∙ is.len;
+      count = omega (arith, ap (λ (x : BuilderState). x.count) e, is.count, length-drop 1 hs);
+      heads = subst (λ (x : BuilderState). AreKept x.starts x.contents (drop 1 hs)) (sym e) (fewer_kept k.starts k.contents hs is.heads);
+      refusal = ap (λ (x : BuilderState). x.refusal) e;
       parts = (is.parts.0, is.parts.1, fewer_open _ _ hs is.parts.2);
       fits = fits;
     }
 kept_fewer k new room size t (Some r) hs is fits e =
     record {
-      total = ap (λ (x : KeptBuilder). x.total) e ∙ is.total;
-      entries = ap (λ (x : KeptBuilder). x.entries) e ∙ is.entries;
-      datagram = ap (λ (x : KeptBuilder). x.datagram) e ∙ is.datagram;
-      depth = ap (λ (x : KeptBuilder). x.depth) e ∙ is.depth;
-      big = ap (λ (x : KeptBuilder). x.big) e ∙ is.big;
-      len = ap (λ (x : KeptBuilder). x.len) e ∙ is.len;
-      count = omega (arith, ap (λ (x : KeptBuilder). x.count) e, is.count);
-      heads = subst (λ (x : KeptBuilder). AreKept x.starts x.contents hs) (sym e) is.heads;
-      refusal = ap (λ (x : KeptBuilder). x.refusal) e;
+      total = ap (λ (x : BuilderState). x.total) e ∙ is.total;
+      entries = ap (λ (x : BuilderState). x.entries) e ∙ is.entries;
+      datagram = ap (λ (x : BuilderState). x.datagram) e ∙ is.datagram;
+      depth = ap (λ (x : BuilderState). x.depth) e ∙ is.depth;
+      big = ap (λ (x : BuilderState). x.big) e ∙ is.big;
+      len = ap (λ (x : BuilderState). x.len) e ∙ is.len;
+      count = omega (arith, ap (λ (x : BuilderState). x.count) e, is.count);
+      heads = subst (λ (x : BuilderState). AreKept x.starts x.contents hs) (sym e) is.heads;
+      refusal = ap (λ (x : BuilderState). x.refusal) e;
       parts = is.parts;
       fits = fits;
     }
 
--- the innermost head is within what is accepted
+-- the innermost header is within what is accepted
 pub top_inside : (D n : ℕ) (hs : List OpenHead) (h : Option OpenHead) → AreOpen D n hs → top hs ≡ h → IfSome h (λ x. x.start + 4 ≤ n)
 top_inside D n [] h o e = subst (λ (y : Option OpenHead). IfSome y (λ x. x.start + 4 ≤ n)) e tt
 top_inside D n (k ∷ hs) h o e = subst (λ (y : Option OpenHead). IfSome y (λ x. x.start + 4 ≤ n)) e o.0

@@ -15,7 +15,7 @@ use Rattle.nl_dump.specs.Request.{request_of}
 use Rattle.nl_dump.specs.Standing.{IsPossible}
 use Rattle.rtnl_c.specs.declared.put.Put.{Put}
 use Rattle.rtnl_c.specs.declared.status.Last.{Last}
-use Rattle.rtnl_c.specs.declared.stream.Kept.{Kept}
+use Rattle.rtnl_c.specs.declared.stream.StreamState.{StreamState}
 use Rattle.rtnl_c.specs.Kinds.{family_in}
 use Rattle.rtnl_c.specs.Status.{last_dump, last_of}
 use Rattle.rtnl_c.specs.Streams.{flag_of, big_of, kept_of, flag_in, state_by, state_in, standing_by, standing_in, IsKept, PutsBegun}
@@ -46,7 +46,7 @@ family_back Rule = refl
 
 module _ (s : Standing) where
   -- all of it, with this for its last dump
-  abbrev kept_with : Last → Kept
+  abbrev kept_with : Last → StreamState
   kept_with l = record {
     total = s.limits.total;
     received = s.received;

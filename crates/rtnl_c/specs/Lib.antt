@@ -10,7 +10,7 @@ pub mod Numbers
 pub mod Kinds
 pub mod Put
 pub mod Names
-pub mod Requests
+pub mod DumpRequest
 pub mod Fed
 pub mod Status
 pub mod Held
@@ -19,4 +19,4 @@ pub mod Entries
 pub mod Mirrors
 pub mod Streams
 pub mod Building
-pub mod Asked
+pub mod ChangeRequests

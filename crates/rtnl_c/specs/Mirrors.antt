@@ -31,7 +31,7 @@ use Rattle.nl_mirror.specs.Hearing.{Follows}
 use Rattle.nl_mirror.specs.Replicated.{stale_of}
 use Rattle.rtnl_c.specs.declared.hearing.Change.{Change}
 use Rattle.rtnl_c.specs.declared.hearing.Heard.{Heard}
-use Rattle.rtnl_c.specs.declared.mirrored.Mirrored.{Mirrored as Standing}
+use Rattle.rtnl_c.specs.declared.mirrored.MirrorTableInfo.{MirrorTableInfo}
 use Rattle.rtnl_c.specs.declared.options.Options.{Options}
 use Rattle.rtnl_c.specs.declared.put.Put.{Put}
 use Rattle.rtnl_c.specs.declared.tables.FoundEntry.{FoundEntry}
@@ -243,10 +243,10 @@ abbrev pub number_of : Option Dump → ℕ
 number_of None = 0
 number_of (Some d) = d.seq
 
-abbrev pub unmirrored : ℕ → Standing
+abbrev pub unmirrored : ℕ → MirrorTableInfo
 unmirrored code = record { missed = 0; count = 0; limit = 0; seq = 0; stale = 0; dumps = false; code = code }
 
-abbrev pub standing : Follows → Standing
+abbrev pub standing : Follows → MirrorTableInfo
 standing f = record {
   missed = f.replica.table.missed;
   count = length f.replica.table.entries;
@@ -257,11 +257,11 @@ standing f = record {
   code = 0;
 }
 
-abbrev pub standing_at : Mirrored → Option Family → Standing
+abbrev pub standing_at : Mirrored → Option Family → MirrorTableInfo
 standing_at m None = unmirrored no_kind
 standing_at m (Some k) = standing (follower_at k m)
 
-abbrev pub standing_in : Option Mirrored → Option Family → Standing
+abbrev pub standing_in : Option Mirrored → Option Family → MirrorTableInfo
 standing_in None kind = unmirrored no_mirror
 standing_in (Some m) kind = standing_at m kind
 

@@ -35,7 +35,7 @@ context_in n =
     if n == 7 then Some Rule else (
     if n == 8 then Some Plain else None)))))))
 
--- the size of a family's head and the context behind it; nothing of other bodies
+-- the size of a family's header and the context behind it; nothing of other bodies
 abbrev pub family_answer : Form → BodyHead
 family_answer (form.Object g) = record { head_size = head_size g; context = context_number (context_of g) }
 family_answer form.Noop = record { head_size = 0; context = 0 }

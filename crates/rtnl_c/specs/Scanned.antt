@@ -23,12 +23,12 @@ place_of (Fails b) = b.fault.place
 abbrev pub refused : ℕ → ℕ → ℕ → Scanned
 refused visits place code = record { visits = visits; place = place; code = code }
 
--- the same of a scan into a buffer, which counted so many heads
+-- the same of a scan into a buffer, which counted so many headers
 abbrev pub untaped : ℕ → ℕ → ℕ → ℕ → Taped
 untaped count visits place code = record { count = count; visits = visits; place = place; code = code }
 
 module _ (b : Bounds) (d : List ℕ) where
-  -- what a scan finds: the datagram is too large; or it has a layout, and these are the visits of all heads; or this is its first fault, and these are the
+  -- what a scan finds: the datagram is too large; or it has a layout, and these are the visits of all headers; or this is its first fault, and these are the
   -- visits up to it
   pub data Scans : Scanned → Type 0 where
     too_large : b.datagram < length d → Scans (refused 0 0 6)
@@ -37,7 +37,7 @@ module _ (b : Bounds) (d : List ℕ) where
     faulty : length d ≤ b.datagram → (place : ℕ) (why : Reason) → IsFirstFault b.shape (whole d) place why → (v : ℕ) → Visits b.shape (whole d) place v
         → Scans (refused v place (reason_code why))
 
-  -- the same; and the events of the heads, up to the fault where there is one, stand in the buffer and are counted
+  -- the same; and the events of the headers, up to the fault where there is one, stand in the buffer and are counted
   pub data Tapes (old : List Event) : List Event → Taped → Type 0 where
     too_large : b.datagram < length d → Tapes old old (untaped 0 0 0 6)
     accepted : length d ≤ b.datagram → (ms : List MessageVal) → Layout b.shape ms d → (v : ℕ) → Visits b.shape (whole d) (length d) v

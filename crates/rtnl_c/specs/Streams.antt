@@ -23,7 +23,7 @@ use Rattle.rtnl_c.specs.declared.fed.Fed.{Fed}
 use Rattle.rtnl_c.specs.declared.options.Options.{Options}
 use Rattle.rtnl_c.specs.declared.put.Put.{Put}
 use Rattle.rtnl_c.specs.declared.status.Status.{Status}
-use Rattle.rtnl_c.specs.declared.stream.Kept.{Kept}
+use Rattle.rtnl_c.specs.declared.stream.StreamState.{StreamState}
 use Rattle.rtnl_c.specs.Codes.{no_kind, no_room, no_stream}
 use Rattle.rtnl_c.specs.Fed.{stream_fed, untaken}
 use Rattle.rtnl_c.specs.Kinds.{family_in}
@@ -40,7 +40,7 @@ abbrev pub big_of : Order → ℕ
 big_of Little = 0
 big_of Big = 1
 
-abbrev pub kept_of : Standing → Kept
+abbrev pub kept_of : Standing → StreamState
 kept_of s = record {
   total = s.limits.total;
   received = s.received;
@@ -76,15 +76,15 @@ begun_in n status d =
     if n == 5 then Some (Ended d Abandoned) else None))))
 
 -- before the first dump nothing else of it is looked at
-abbrev pub state_by : Kept → Option Family → Option State
+abbrev pub state_by : StreamState → Option Family → Option State
 state_by k None = if k.state == 0 then Some Idle else None
 state_by k (Some g) = if k.state == 0 then Some Idle else begun_in k.state k.status (dump_of g k.family k.seq k.port)
 
-abbrev pub state_in : Kept → Option State
+abbrev pub state_in : StreamState → Option State
 state_in k = state_by k (family_in (route_type k.kind))
 
 -- all of it, where each flag is one
-abbrev pub standing_by : Kept → Option State → Option Bool → Option Bool → Option Bool → Option Standing
+abbrev pub standing_by : StreamState → Option State → Option Bool → Option Bool → Option Bool → Option Standing
 standing_by k (Some s) (Some big) (Some damaged) (Some interrupted) = Some (record {
   limits = bounds_of (order_in big) k.depth k.datagram k.total k.entries;
   state = s;
@@ -99,25 +99,25 @@ standing_by k (Some s) None damaged interrupted = None
 standing_by k (Some s) (Some big) None interrupted = None
 standing_by k (Some s) (Some big) (Some damaged) None = None
 
-abbrev pub standing_in : Kept → Option Standing
+abbrev pub standing_in : StreamState → Option Standing
 standing_in k = standing_by k (state_in k) (flag_in k.big) (flag_in k.damaged) (flag_in k.interrupted)
 
 -- what is kept is a stream's
-abbrev pub IsKept : Kept → Standing → Type 0
+abbrev pub IsKept : StreamState → Standing → Type 0
 IsKept k s = (standing_in k ≡ Some s) × IsPossible s
 
 -- or no stream can be so
-abbrev pub IsNone : Kept → Type 0
+abbrev pub IsNone : StreamState → Type 0
 IsNone k = (s : Standing) → IsKept k s → ⊥
 
-abbrev pub Restores : Kept → Option Standing → Type 0
+abbrev pub Restores : StreamState → Option Standing → Type 0
 Restores k (Some s) = IsKept k s
 Restores k None = IsNone k
 
 -- ---- calls: each is one of the stream that is kept, and what it becomes is kept in its place; where none is, nothing is changed
 
 -- a new stream of these limits, unless one of them is out of its range
-abbrev pub News : Options → Kept → ℕ → Kept → Type 0
+abbrev pub News : Options → StreamState → ℕ → StreamState → Type 0
 News o old code new =
     (AreLimits (bounds_in o) → (code ≡ 0) × (new ≡ kept_of (new_standing (bounds_in o))) × IsKept new (new_standing (bounds_in o)))
     × ((AreLimits (bounds_in o) → ⊥) → (code ≡ 12) × (new ≡ old))
@@ -132,7 +132,7 @@ abbrev pub BeginsOne : Standing → Dump → List ℕ → Standing → List ℕ 
 BeginsOne s d before t after a = (r : Result (Unit {0}) BeginError) × StreamBegan s d r t × IsPossible t × PutsBegun (request_of s.limits.shape.order d) r before after a
 
 -- where there is a stream, the family and room for the request
-pub data Begins (old : Kept) (kind : Option Family) (family seq port : ℕ) (before : List ℕ) : Kept → List ℕ → Put → Type 0 where
+pub data Begins (old : StreamState) (kind : Option Family) (family seq port : ℕ) (before : List ℕ) : StreamState → List ℕ → Put → Type 0 where
   on_none : IsNone old → Begins old kind family seq port before old before (not_put no_stream)
   of_none : (s : Standing) → IsKept old s → kind ≡ None → Begins old kind family seq port before old before (not_put no_kind)
   lacks : (s : Standing) → IsKept old s → (g : Family) → kind ≡ Some g → (n : ℕ) → n ≡ length (request_of s.limits.shape.order (dump_of g family seq port)) → length before < n
@@ -142,7 +142,7 @@ pub data Begins (old : Kept) (kind : Option Family) (family seq port : ℕ) (bef
       → Begins old kind family seq port before (kept_of t) after a
 
 -- a datagram is fed as `Stream::feed` has it
-pub data Feeds (old : Kept) (bytes : List ℕ) (before : List Event) : Kept → List Event → Fed → Type 0 where
+pub data Feeds (old : StreamState) (bytes : List ℕ) (before : List Event) : StreamState → List Event → Fed → Type 0 where
   on_none : IsNone old → Feeds old bytes before old before (untaken 0 0 no_stream)
   feeds : (s t : Standing) → IsKept old s → (after : List Event) (r : Result Streamed StreamError) → StreamFed s bytes before r t after → EveryStreamed s bytes before r t
       → IsKept (kept_of t) t → Feeds old bytes before (kept_of t) after (stream_fed r)
@@ -152,11 +152,11 @@ abandon_code (Ok u) = 0
 abandon_code (Err e) = 8
 
 -- a dump is abandoned
-pub data Abandons (old : Kept) : Kept → ℕ → Type 0 where
+pub data Abandons (old : StreamState) : StreamState → ℕ → Type 0 where
   on_none : IsNone old → Abandons old old no_stream
   abandons : (s t : Standing) → IsKept old s → (r : Result (Unit {0}) NotWaiting) → StreamAbandons s r t → IsKept (kept_of t) t → Abandons old (kept_of t) (abandon_code r)
 
 -- where the dump stands
-pub data Tells (old : Kept) : Status → Type 0 where
+pub data Tells (old : StreamState) : Status → Type 0 where
   on_none : IsNone old → Tells old (no_status no_stream)
   tells : (s : Standing) → IsKept old s → Tells old (status_by s (whole_of s))

@@ -92,7 +92,7 @@ fn head_at_fault(bytes: &[u8], limits: &Limits) -> Broken
     }
 }
 
-/// The head that breaks a rule at the datagram's first fault, or that there is none; 12 where one
+/// The header that breaks a rule at the datagram's first fault, or that there is none; 12 where one
 /// of the limits is out of its range.
 #[unsafe(no_mangle)]
 pub extern "C" fn rtnlc_broken(bytes: &[u8], options: &Options) -> Broken

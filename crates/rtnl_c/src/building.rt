@@ -28,7 +28,7 @@ const MOST_OPEN: u8 = 33;
 /// A builder's state, as C stores it in `struct rtnlc_builder` of include/rtnlc.h.
 #[repr(C)]
 #[derive(Clone, Copy)]
-pub struct KeptBuilder {
+pub struct BuilderState {
     /// The total limit, as in `Options`. A builder doesn't use it.
     pub total: u64,
     /// The limit on entries, which a builder doesn't use either.
@@ -132,7 +132,7 @@ fn code_of(refusal: Option<BuildError>) -> u8
 }
 
 /// Stores a new builder of these limits.
-fn keep_new(limits: &Limits, kept: &mut KeptBuilder)
+fn keep_new(limits: &Limits, kept: &mut BuilderState)
     ensures { (room : ℕ) → IsKept kept.new room (new_parts limits.now) }
 {
     kept.total = limits.total();
@@ -147,7 +147,7 @@ fn keep_new(limits: &Limits, kept: &mut KeptBuilder)
 
 /// The innermost open header, if any. The outer `None` is for a state that no builder has.
 #[inline(always)]
-fn innermost(kept: &KeptBuilder) -> Option<Option<OpenHead>>
+fn innermost(kept: &BuilderState) -> Option<Option<OpenHead>>
     requires { kept.now.depth ≤ 32 }
     ensures { MatchOption result (HasNone kept.now) (IsInnermost kept.now) }
 {
@@ -176,7 +176,7 @@ fn innermost(kept: &KeptBuilder) -> Option<Option<OpenHead>>
 /// The builder in the struct, over a slice of `room` bytes, without the outer open headers. `None`
 /// where the struct holds no builder's state.
 #[inline(always)]
-fn top_of(kept: &KeptBuilder, room: usize) -> Option<BuilderTop>
+fn top_of(kept: &BuilderState, room: usize) -> Option<BuilderTop>
     ensures { MatchOption result (IsNone kept.now room) (IsTopOf kept.now room) }
 {
     let len = kept.len as usize;
@@ -207,7 +207,7 @@ fn top_of(kept: &KeptBuilder, room: usize) -> Option<BuilderTop>
 /// Stores what a call changed that opened and closed no header. It answers the error's number, or
 /// 0.
 #[inline(always)]
-fn keep_top(top: &BuilderTop, kept: &mut KeptBuilder) -> u8
+fn keep_top(top: &BuilderTop, kept: &mut BuilderState) -> u8
     requires { top.now.len ≤ fixed.LONGEST_REGION }
     ensures kept { kept.new ≡ record kept.old {
       len = top.now.len;
@@ -223,7 +223,11 @@ fn keep_top(top: &BuilderTop, kept: &mut KeptBuilder) -> u8
 /// Stores what a call changed that opened a header, or its error. It answers the error's number,
 /// or 0.
 #[inline(always)]
-fn keep_opened(top: &BuilderTop, opened: Result<OpenHead, BuildError>, kept: &mut KeptBuilder) -> u8
+fn keep_opened(
+    top: &BuilderTop,
+    opened: Result<OpenHead, BuildError>,
+    kept: &mut BuilderState,
+) -> u8
     requires size { top.now.len ≤ fixed.LONGEST_REGION }
     requires few { IfOk opened (λ h. kept.old.count ≤ 32) }
     ensures places { IfOk opened (λ h. (kept.old.count < length kept.old.starts)
@@ -245,7 +249,7 @@ fn keep_opened(top: &BuilderTop, opened: Result<OpenHead, BuildError>, kept: &mu
 
 /// Stores that the innermost header is closed, or the error. It answers the error's number, or 0.
 #[inline(always)]
-fn keep_fewer(refusal: Option<BuildError>, kept: &mut KeptBuilder) -> u8
+fn keep_fewer(refusal: Option<BuildError>, kept: &mut BuilderState) -> u8
     ensures kept { kept.new ≡ record kept.old {
       count = kept.old.count - left_closed refusal;
       refusal = refusal_number refusal;
@@ -280,7 +284,7 @@ fn number_of_type(kind: u16) -> u16
 
 /// Puts an attribute of these bytes.
 #[inline(always)]
-fn put_bytes(kept: &mut KeptBuilder, out: &mut [u8], kind: u16, bytes: &[u8]) -> u8
+fn put_bytes(kept: &mut BuilderState, out: &mut [u8], kind: u16, bytes: &[u8]) -> u8
     ensures { Calls (λ b. put b (number_in kind) (flags_in kind) bytes.now)
         kept.old out.old kept.new out.new result }
 {
@@ -293,7 +297,7 @@ fn put_bytes(kept: &mut KeptBuilder, out: &mut [u8], kind: u16, bytes: &[u8]) ->
 
 /// Keeps a new builder of these limits; 12 where one of them is out of its range.
 #[unsafe(no_mangle)]
-pub extern "C" fn rtnlc_builder_new(kept: &mut KeptBuilder, options: &Options) -> u8
+pub extern "C" fn rtnlc_builder_new(kept: &mut BuilderState, options: &Options) -> u8
     ensures { News options.now kept.old result kept.new }
 {
     match limits(options) {
@@ -305,10 +309,10 @@ pub extern "C" fn rtnlc_builder_new(kept: &mut KeptBuilder, options: &Options) -
     }
 }
 
-/// Begins a message, whose body's head is in these bytes.
+/// Begins a message, whose body's header is in these bytes.
 #[unsafe(no_mangle)]
 pub extern "C" fn rtnlc_builder_begin(
-    kept: &mut KeptBuilder,
+    kept: &mut BuilderState,
     out: &mut [u8],
     kind: u16,
     flags: u16,
@@ -329,7 +333,7 @@ pub extern "C" fn rtnlc_builder_begin(
 /// Puts an attribute of these bytes.
 #[unsafe(no_mangle)]
 pub extern "C" fn rtnlc_builder_put(
-    kept: &mut KeptBuilder,
+    kept: &mut BuilderState,
     out: &mut [u8],
     kind: u16,
     bytes: &[u8],
@@ -343,7 +347,7 @@ pub extern "C" fn rtnlc_builder_put(
 /// Puts an attribute of this text, with one zero byte behind it.
 #[unsafe(no_mangle)]
 pub extern "C" fn rtnlc_builder_put_text(
-    kept: &mut KeptBuilder,
+    kept: &mut BuilderState,
     out: &mut [u8],
     kind: u16,
     text: &[u8],
@@ -361,7 +365,7 @@ pub extern "C" fn rtnlc_builder_put_text(
 /// Puts an attribute of this number in one byte.
 #[unsafe(no_mangle)]
 pub extern "C" fn rtnlc_builder_put_u8(
-    kept: &mut KeptBuilder,
+    kept: &mut BuilderState,
     out: &mut [u8],
     kind: u16,
     value: u8,
@@ -375,7 +379,7 @@ pub extern "C" fn rtnlc_builder_put_u8(
 /// Puts an attribute of this number in 2 bytes of the builder's order.
 #[unsafe(no_mangle)]
 pub extern "C" fn rtnlc_builder_put_u16(
-    kept: &mut KeptBuilder,
+    kept: &mut BuilderState,
     out: &mut [u8],
     kind: u16,
     value: u16,
@@ -390,7 +394,7 @@ pub extern "C" fn rtnlc_builder_put_u16(
 /// Puts an attribute of this number in 2 bytes of network order.
 #[unsafe(no_mangle)]
 pub extern "C" fn rtnlc_builder_put_be16(
-    kept: &mut KeptBuilder,
+    kept: &mut BuilderState,
     out: &mut [u8],
     kind: u16,
     value: u16,
@@ -405,7 +409,7 @@ pub extern "C" fn rtnlc_builder_put_be16(
 /// Puts an attribute of this number in 4 bytes of the builder's order.
 #[unsafe(no_mangle)]
 pub extern "C" fn rtnlc_builder_put_u32(
-    kept: &mut KeptBuilder,
+    kept: &mut BuilderState,
     out: &mut [u8],
     kind: u16,
     value: u32,
@@ -420,7 +424,7 @@ pub extern "C" fn rtnlc_builder_put_u32(
 /// Puts an attribute of this number in 4 bytes of network order.
 #[unsafe(no_mangle)]
 pub extern "C" fn rtnlc_builder_put_be32(
-    kept: &mut KeptBuilder,
+    kept: &mut BuilderState,
     out: &mut [u8],
     kind: u16,
     value: u32,
@@ -435,7 +439,7 @@ pub extern "C" fn rtnlc_builder_put_be32(
 /// Puts an attribute of this number in 8 bytes of the builder's order.
 #[unsafe(no_mangle)]
 pub extern "C" fn rtnlc_builder_put_u64(
-    kept: &mut KeptBuilder,
+    kept: &mut BuilderState,
     out: &mut [u8],
     kind: u16,
     value: u64,
@@ -450,7 +454,7 @@ pub extern "C" fn rtnlc_builder_put_u64(
 /// Puts an attribute of this number in 8 bytes of network order.
 #[unsafe(no_mangle)]
 pub extern "C" fn rtnlc_builder_put_be64(
-    kept: &mut KeptBuilder,
+    kept: &mut BuilderState,
     out: &mut [u8],
     kind: u16,
     value: u64,
@@ -464,7 +468,7 @@ pub extern "C" fn rtnlc_builder_put_be64(
 
 /// Opens an attribute that holds attributes or next hops.
 #[unsafe(no_mangle)]
-pub extern "C" fn rtnlc_builder_open(kept: &mut KeptBuilder, out: &mut [u8], kind: u16) -> u8
+pub extern "C" fn rtnlc_builder_open(kept: &mut BuilderState, out: &mut [u8], kind: u16) -> u8
     ensures { Calls (λ b. open_attr b (number_in kind) (flags_in kind))
         kept.old out.old kept.new out.new result }
 {
@@ -479,7 +483,7 @@ pub extern "C" fn rtnlc_builder_open(kept: &mut KeptBuilder, out: &mut [u8], kin
 /// Opens a next hop.
 #[unsafe(no_mangle)]
 pub extern "C" fn rtnlc_builder_open_hop(
-    kept: &mut KeptBuilder,
+    kept: &mut BuilderState,
     out: &mut [u8],
     flags: u8,
     hops: u8,
@@ -496,7 +500,7 @@ pub extern "C" fn rtnlc_builder_open_hop(
 
 /// Closes the innermost attribute or next hop.
 #[unsafe(no_mangle)]
-pub extern "C" fn rtnlc_builder_close(kept: &mut KeptBuilder, out: &mut [u8]) -> u8
+pub extern "C" fn rtnlc_builder_close(kept: &mut BuilderState, out: &mut [u8]) -> u8
     ensures { Calls (λ b. close b) kept.old out.old kept.new out.new result }
 {
     let Some(top) = top_of(kept, out.len()) else {
@@ -508,7 +512,7 @@ pub extern "C" fn rtnlc_builder_close(kept: &mut KeptBuilder, out: &mut [u8]) ->
 
 /// Ends the message.
 #[unsafe(no_mangle)]
-pub extern "C" fn rtnlc_builder_end(kept: &mut KeptBuilder, out: &mut [u8]) -> u8
+pub extern "C" fn rtnlc_builder_end(kept: &mut BuilderState, out: &mut [u8]) -> u8
     ensures { Calls (λ b. end b) kept.old out.old kept.new out.new result }
 {
     let Some(top) = top_of(kept, out.len()) else {
@@ -521,7 +525,7 @@ pub extern "C" fn rtnlc_builder_end(kept: &mut KeptBuilder, out: &mut [u8]) -> u
 /// Puts a whole message of no family, whose body is these bytes.
 #[unsafe(no_mangle)]
 pub extern "C" fn rtnlc_builder_message(
-    kept: &mut KeptBuilder,
+    kept: &mut BuilderState,
     out: &mut [u8],
     kind: u16,
     flags: u16,
@@ -541,7 +545,7 @@ pub extern "C" fn rtnlc_builder_message(
 
 /// How many bytes the datagram has, at the front of the buffer; or why there is none.
 #[unsafe(no_mangle)]
-pub extern "C" fn rtnlc_builder_finish(kept: &KeptBuilder, out: &[u8]) -> Put
+pub extern "C" fn rtnlc_builder_finish(kept: &BuilderState, out: &[u8]) -> Put
     ensures { Finishes kept.now out.now result }
 {
     let Some(top) = top_of(kept, out.len()) else {

@@ -138,7 +138,7 @@ pub extern "C" fn rtnlc_message_at(bytes: &[u8], place: u32, big: bool) -> Messa
     }
 }
 
-/// The attribute whose head stands at a place of a region; 255 at the end and behind it, 6 where
+/// The attribute whose header stands at a place of a region; 255 at the end and behind it, 6 where
 /// the region is above 1,048,576 bytes.
 #[unsafe(no_mangle)]
 pub extern "C" fn rtnlc_attr_at(bytes: &[u8], place: u32, big: bool) -> AttrAt
@@ -164,8 +164,8 @@ pub extern "C" fn rtnlc_attr_at(bytes: &[u8], place: u32, big: bool) -> AttrAt
     }
 }
 
-/// The next hop whose head stands at a place of a region; 255 at the end and behind it, 6 where the
-/// region is above 1,048,576 bytes.
+/// The next hop whose header stands at a place of a region; 255 at the end and behind it, 6 where
+/// the region is above 1,048,576 bytes.
 #[unsafe(no_mangle)]
 pub extern "C" fn rtnlc_hop_at(bytes: &[u8], place: u32, big: bool) -> HopAt
     ensures stands { length bytes.now ≤ fixed.LONGEST_REGION

@@ -65,7 +65,7 @@ impl Fed {
     {
         match fed {
             Ok(progress) => Fed::taken(0, progress),
-            Err(error) => Fed::untaken(0, place(error), error.code()),
+            Err(error) => Fed::untaken(0, offset_in_error(error), error.code()),
         }
     }
 
@@ -81,7 +81,7 @@ impl Fed {
 }
 
 /// The offset in a session's error, or 0.
-fn place(error: FeedError) -> u32
+fn offset_in_error(error: FeedError) -> u32
     ensures { result ≡ feed_place error }
 {
     match error {

@@ -15,10 +15,10 @@ use crate::cursors::{AttrAt, rtnlc_attr_at};
 use nl_attr::LONGEST_REGION;
 
 /// The first attribute of a number at a place of a region or behind it; 255 where none stands
-/// there, with the place where the search ended; 1 or 2 at the first head that breaks a rule, with
-/// its place; 6, with the place that was asked for, where the region is above 1,048,576 bytes.
+/// there, with the place where the search ended; 1 or 2 at the first header that breaks a rule,
+/// with its place; 6, with the place that was asked for, where the region is above 1,048,576 bytes.
 ///
-/// The number has no flag bits. Heads before it are looked at, one after another, their payloads
+/// The number has no flag bits. Headers before it are looked at, one after another, their payloads
 /// are not. Where the region is accepted as a list, that is the attribute that counts for every
 /// view of the list.
 #[unsafe(no_mangle)]

@@ -284,7 +284,7 @@ fn hear_each(
 }
 
 /// The offset in an error, or 0.
-fn place(error: ReadError) -> u32
+fn offset_in_error(error: ReadError) -> u32
     ensures { result ≡ fault_place error }
 {
     match error {
@@ -320,7 +320,7 @@ fn feed(
         Ok(messages) => hear_each(alloc, mirror, messages, visits, changes, before),
         Err(error) => {
             mirror.refused(error);
-            unheard(visits, place(error), error.code())
+            unheard(visits, offset_in_error(error), error.code())
         }
     }
 }

@@ -2,8 +2,8 @@
 //! header says what a caller in C owes. A `code` is a number of the header's `enum rtnlc_code`, 0
 //! for success. `codes` has those that no library below has.
 //!
-//! - Without memory: `scan`, `broken`, `cursors`, `find`, `numbers`, `names`, `request`,
-//!   `requests`. With memory while they run: `check` and `show`.
+//! - Without memory: `scan`, `broken`, `cursors`, `find`, `numbers`, `names`,
+//!   `dump_request`, `change_requests`. With memory while they run: `check` and `show`.
 //! - Sessions: `session`, `tables`, `handle`. Mirrors: `mirror`, `hearing`, `mirrored`,
 //!   `mirror_handle`. Both: `entry`, `loose`.
 //! - Streams and builders, which C stores as plain structs: `stream` and `building`.
@@ -13,9 +13,11 @@
 
 mod broken;
 mod building;
+mod change_requests;
 mod check;
 mod codes;
 mod cursors;
+mod dump_request;
 mod entry;
 mod fed;
 mod find;
@@ -30,8 +32,6 @@ mod names;
 mod numbers;
 mod options;
 mod put;
-mod request;
-mod requests;
 mod scan;
 mod session;
 mod show;

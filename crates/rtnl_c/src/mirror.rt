@@ -152,20 +152,20 @@ fn begin(
 pub extern "C" fn rtnlc_mirror_begin(
     alloc: Global,
     handle: &mut MirrorHandle,
-    kind: u16,
+    message_type: u16,
     family: u8,
     seq: u32,
     port: u32,
     out: &mut [u8],
 ) -> Put
-    ensures { Begins handle.old.mirror (family_in (route_type kind)) family seq port
+    ensures { Begins handle.old.mirror (family_in (route_type message_type)) family seq port
         out.old out.new result handle.new.mirror }
 {
     match handle.take(alloc) {
         None => Put::none(NO_MIRROR),
         Some(mirror) => {
             let mut mirror = mirror;
-            let begun = begin(&mut mirror, family_of(kind), family, seq, port, out);
+            let begun = begin(&mut mirror, family_of(message_type), family, seq, port, out);
             *handle = MirrorHandle::of(mirror);
             begun
         }

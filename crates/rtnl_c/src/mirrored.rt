@@ -15,7 +15,7 @@ use crate::entry::entry_in;
 use crate::kinds::family_of;
 use crate::mirror_handle::MirrorHandle;
 use crate::put::Put;
-use crate::tables::{FoundEntry, TableSize, found, size};
+use crate::tables::{FoundEntry, TableSize, found_entry, table_size};
 use nl_dump::match_table;
 use nl_frame::WriteError;
 use nl_mirror::{Mirror, Stale};
@@ -25,7 +25,7 @@ use std::alloc::Global;
 /// A table's size, and whether it is current: `struct rtnlc_mirrored` of include/rtnlc.h.
 #[repr(C)]
 #[derive(Clone, Copy)]
-pub struct Mirrored {
+pub struct MirrorTableInfo {
     /// How many new keys it had no room for since its last whole dump.
     pub missed: u64,
     /// How many entries it has.
@@ -43,10 +43,10 @@ pub struct Mirrored {
 }
 
 /// The answer where there is no table: the error of this number.
-fn mirrored_none(code: u8) -> Mirrored
+fn mirrored_none(code: u8) -> MirrorTableInfo
     ensures { result ≡ unmirrored code }
 {
-    Mirrored {
+    MirrorTableInfo {
         missed: 0,
         count: 0,
         limit: 0,
@@ -78,11 +78,11 @@ fn stale_number(stale: Option<Stale>) -> u8
 fn size_in(mirror: &Mirror, kind: Family) -> TableSize
     ensures { result ≡ size_of (table_at kind mirror.now) }
 {
-    match_table!(kind, mirror, table => size(table))
+    match_table!(kind, mirror, table => table_size(table))
 }
 
 /// How the table of a family stands.
-fn standing(mirror: &Mirror, kind: Family) -> Mirrored
+fn standing(mirror: &Mirror, kind: Family) -> MirrorTableInfo
     ensures { result ≡ standing_of (follower_at kind mirror.now) }
 {
     let size = size_in(mirror, kind);
@@ -90,7 +90,7 @@ fn standing(mirror: &Mirror, kind: Family) -> Mirrored
         Some(dump) => (true, dump.seq),
         None => (false, 0),
     };
-    Mirrored {
+    MirrorTableInfo {
         missed: size.missed,
         count: size.count,
         limit: size.limit,
@@ -106,15 +106,15 @@ fn standing(mirror: &Mirror, kind: Family) -> Mirrored
 pub extern "C" fn rtnlc_mirror_table(
     alloc: Global,
     handle: &mut MirrorHandle,
-    kind: u16,
-) -> Mirrored
-    ensures table { result ≡ standing_in handle.old.mirror (family_in (route_type kind)) }
+    message_type: u16,
+) -> MirrorTableInfo
+    ensures table { result ≡ standing_in handle.old.mirror (family_in (route_type message_type)) }
     ensures stays { handle.new.mirror ≡ handle.old.mirror }
 {
     match handle.take(alloc) {
         None => mirrored_none(NO_MIRROR),
         Some(mirror) => {
-            let stands = match family_of(kind) {
+            let stands = match family_of(message_type) {
                 Some(kind) => standing(&mirror, kind),
                 None => mirrored_none(NO_KIND),
             };
@@ -126,7 +126,7 @@ pub extern "C" fn rtnlc_mirror_table(
 
 /// The entry at an index of the table of a family, as its message is written; none from the
 /// table's length on.
-fn entry(
+fn entry_message(
     alloc: Global,
     mirror: &Mirror,
     kind: Family,
@@ -148,7 +148,7 @@ fn entry(
 fn put_entry(alloc: Global, mirror: &Mirror, kind: Family, index: u32, out: &mut [u8]) -> Put
     ensures { PutsEntry index (table_at kind mirror.now) kind out.old out.new result }
 {
-    match entry(alloc, mirror, kind, index) {
+    match entry_message(alloc, mirror, kind, index) {
         Ok(Some(bytes)) => Put::all(bytes.as_slice(), out),
         Ok(None) => Put::none(END),
         Err(error) => Put::none(error.code()),
@@ -162,18 +162,18 @@ fn put_entry(alloc: Global, mirror: &Mirror, kind: Family, index: u32, out: &mut
 pub extern "C" fn rtnlc_mirror_entry(
     alloc: Global,
     handle: &mut MirrorHandle,
-    kind: u16,
+    message_type: u16,
     index: u32,
     out: &mut [u8],
 ) -> Put
-    ensures entry { OfTable (PutsEntry index) handle.old.mirror (family_in (route_type kind))
-        out.old out.new result }
+    ensures entry { OfTable (PutsEntry index) handle.old.mirror
+        (family_in (route_type message_type)) out.old out.new result }
     ensures stays { handle.new.mirror ≡ handle.old.mirror }
 {
     match handle.take(alloc) {
         None => Put::none(NO_MIRROR),
         Some(mirror) => {
-            let put = match family_of(kind) {
+            let put = match family_of(message_type) {
                 Some(kind) => put_entry(alloc, &mirror, kind, index, out),
                 None => Put::none(NO_KIND),
             };
@@ -184,7 +184,7 @@ pub extern "C" fn rtnlc_mirror_entry(
 }
 
 /// The key of the entry at an index of the table of a family.
-fn key(mirror: &Mirror, kind: Family, index: u32) -> Option<&[u8]>
+fn entry_key(mirror: &Mirror, kind: Family, index: u32) -> Option<&[u8]>
     ensures { option_copied result ≡ key_bytes index (table_at kind mirror.now) }
 {
     match_table!(kind, mirror, table => table.key_at(index))
@@ -194,7 +194,7 @@ fn key(mirror: &Mirror, kind: Family, index: u32) -> Option<&[u8]>
 fn put_key(mirror: &Mirror, kind: Family, index: u32, out: &mut [u8]) -> Put
     ensures { PutsKey index (table_at kind mirror.now) kind out.old out.new result }
 {
-    match key(mirror, kind, index) {
+    match entry_key(mirror, kind, index) {
         Some(bytes) => Put::all(bytes, out),
         None => Put::none(END),
     }
@@ -207,18 +207,18 @@ fn put_key(mirror: &Mirror, kind: Family, index: u32, out: &mut [u8]) -> Put
 pub extern "C" fn rtnlc_mirror_key(
     alloc: Global,
     handle: &mut MirrorHandle,
-    kind: u16,
+    message_type: u16,
     index: u32,
     out: &mut [u8],
 ) -> Put
-    ensures key { OfTable (PutsKey index) handle.old.mirror (family_in (route_type kind))
-        out.old out.new result }
+    ensures key { OfTable (PutsKey index) handle.old.mirror
+        (family_in (route_type message_type)) out.old out.new result }
     ensures stays { handle.new.mirror ≡ handle.old.mirror }
 {
     match handle.take(alloc) {
         None => Put::none(NO_MIRROR),
         Some(mirror) => {
-            let put = match family_of(kind) {
+            let put = match family_of(message_type) {
                 Some(kind) => put_key(&mirror, kind, index, out),
                 None => Put::none(NO_KIND),
             };
@@ -230,7 +230,7 @@ pub extern "C" fn rtnlc_mirror_key(
 
 /// The place of a key in the table of a family.
 #[tactic(auto, using(crate::proofs::Mirrors::keys_held))]
-fn place(mirror: &Mirror, kind: Family, key: &[u8]) -> Option<u32>
+fn index_of_key(mirror: &Mirror, kind: Family, key: &[u8]) -> Option<u32>
     ensures { result ≡ place_of key.now (table_at kind mirror.now) }
 {
     match_table!(kind, mirror, table => table.find(key))
@@ -241,11 +241,11 @@ fn find(mirror: &Mirror, kind: Option<Family>, key: &[u8]) -> FoundEntry
     ensures { result ≡ found_of mirror.now kind key.now }
 {
     let Some(kind) = kind else {
-        return found(0, NO_KIND);
+        return found_entry(0, NO_KIND);
     };
-    match place(mirror, kind, key) {
-        Some(index) => found(index, 0),
-        None => found(0, END),
+    match index_of_key(mirror, kind, key) {
+        Some(index) => found_entry(index, 0),
+        None => found_entry(0, END),
     }
 }
 
@@ -255,16 +255,17 @@ fn find(mirror: &Mirror, kind: Option<Family>, key: &[u8]) -> FoundEntry
 pub extern "C" fn rtnlc_mirror_find(
     alloc: Global,
     handle: &mut MirrorHandle,
-    kind: u16,
+    message_type: u16,
     key: &[u8],
 ) -> FoundEntry
-    ensures found { result ≡ found_in handle.old.mirror (family_in (route_type kind)) key.now }
+    ensures found { result ≡ found_in handle.old.mirror
+        (family_in (route_type message_type)) key.now }
     ensures stays { handle.new.mirror ≡ handle.old.mirror }
 {
     match handle.take(alloc) {
-        None => found(0, NO_MIRROR),
+        None => found_entry(0, NO_MIRROR),
         Some(mirror) => {
-            let found = find(&mirror, family_of(kind), key);
+            let found = find(&mirror, family_of(message_type), key);
             *handle = MirrorHandle::of(mirror);
             found
         }

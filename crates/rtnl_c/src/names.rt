@@ -25,10 +25,10 @@ fn put_name(name: Option<KernelName>, out: &mut [u8]) -> Put
 
 /// Puts the name of a message type into `out`; 255 where it has none, 17 where `out` has less room.
 #[unsafe(no_mangle)]
-pub extern "C" fn rtnlc_type_name(kind: u16, out: &mut [u8]) -> Put
-    ensures { PutsFound (kernel.message_name kind) nothing_there out.old out.new result }
+pub extern "C" fn rtnlc_type_name(message_type: u16, out: &mut [u8]) -> Put
+    ensures { PutsFound (kernel.message_name message_type) nothing_there out.old out.new result }
 {
-    put_name(message_name(kind), out)
+    put_name(message_name(message_type), out)
 }
 
 /// Puts the name of an attribute in the context of this number into `out`; 255 where it has none or

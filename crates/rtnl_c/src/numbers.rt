@@ -85,10 +85,10 @@ fn answer(content: Content) -> Holds
 
 /// What the body of a message of this type begins with.
 #[unsafe(no_mangle)]
-pub extern "C" fn rtnlc_family_of(kind: u16) -> BodyHead
-    ensures { result ≡ family_answer (form_of kind) }
+pub extern "C" fn rtnlc_family_of(message_type: u16) -> BodyHead
+    ensures { result ≡ family_answer (form_of message_type) }
 {
-    match Form::of(kind) {
+    match Form::of(message_type) {
         Form::Object(family) => {
             let row = family.row();
             BodyHead {

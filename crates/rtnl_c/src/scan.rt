@@ -38,7 +38,7 @@ pub struct Taped {
 }
 
 /// The offset in an error, or 0.
-fn place(error: ScanError) -> u32
+fn offset_in_error(error: ScanError) -> u32
     ensures { result ≡ place_of error }
 {
     match error {
@@ -60,7 +60,7 @@ fn scan(bytes: &[u8], limits: &Limits) -> Scanned
         },
         Err(error) => Scanned {
             visits,
-            place: place(error),
+            place: offset_in_error(error),
             code: error.code(),
         },
     }
@@ -85,7 +85,7 @@ fn tape(bytes: &[u8], limits: &Limits, out: &mut [Event]) -> Taped
         Err(error) => Taped {
             count,
             visits,
-            place: place(error),
+            place: offset_in_error(error),
             code: error.code(),
         },
     }
@@ -109,7 +109,7 @@ pub extern "C" fn rtnlc_scan(bytes: &[u8], options: &Options) -> Scanned
     }
 }
 
-/// Scans a datagram as `rtnlc_scan` does, and puts the event of each head into `out`, in the
+/// Scans a datagram as `rtnlc_scan` does, and puts the event of each header into `out`, in the
 /// order of their places and as far as `out` goes.
 #[unsafe(no_mangle)]
 pub extern "C" fn rtnlc_tape(bytes: &[u8], options: &Options, out: &mut [Event]) -> Taped

@@ -108,20 +108,27 @@ fn begin_kind(
 pub extern "C" fn rtnlc_session_begin(
     alloc: Global,
     handle: &mut Handle,
-    kind: u16,
+    message_type: u16,
     family: u8,
     seq: u32,
     port: u32,
     out: &mut [u8],
 ) -> Put
-    ensures { Begins handle.old.session (family_in (route_type kind)) family seq port
+    ensures { Begins handle.old.session (family_in (route_type message_type)) family seq port
         out.old out.new result handle.new.session }
 {
     match handle.take(alloc) {
         None => Put::none(NO_SESSION),
         Some(session) => {
             let mut session = session;
-            let begun = begin_kind(&mut session, family_of(kind), family, seq, port, out);
+            let begun = begin_kind(
+                &mut session,
+                family_of(message_type),
+                family,
+                seq,
+                port,
+                out,
+            );
             *handle = Handle::of(session);
             begun
         }

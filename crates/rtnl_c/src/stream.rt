@@ -19,7 +19,7 @@ use nl_route::Family;
 /// A stream's state, as C stores it in `struct rtnlc_stream` of include/rtnlc.h.
 #[repr(C)]
 #[derive(Clone, Copy)]
-pub struct Kept {
+pub struct StreamState {
     /// How many bytes all datagrams may have: 0 to 2^40.
     pub total: u64,
     pub received: u64,
@@ -71,14 +71,14 @@ fn begun_state(state: u8, status: i32, dump: Dump) -> Option<State>
 }
 
 /// The state in the struct. `None` where it is none of a stream.
-fn state_of(kept: &Kept) -> Option<State>
+fn state_of(kept: &StreamState) -> Option<State>
     ensures { result ≡ state_in kept.now }
 {
     if kept.state == 0 {
         return Some(State::Idle);
     }
     let kind = family_of(kept.kind)?;
-    let Kept {
+    let StreamState {
         family,
         seq,
         port,
@@ -97,7 +97,7 @@ fn state_of(kept: &Kept) -> Option<State>
 }
 
 /// The stream in the struct. `None` where it holds no stream's state.
-fn restore(kept: &Kept) -> Option<Stream>
+fn restore(kept: &StreamState) -> Option<Stream>
     ensures { Restores kept.now result }
 {
     let state = state_of(kept)?;
@@ -118,7 +118,7 @@ fn restore(kept: &Kept) -> Option<Stream>
 }
 
 /// The state of a stream, as C stores it.
-fn keep(stream: &Stream) -> Kept
+fn to_state(stream: &Stream) -> StreamState
     ensures { result ≡ kept_of stream.now }
 {
     let standing = stream.standing();
@@ -131,7 +131,7 @@ fn keep(stream: &Stream) -> Kept
         family,
         state,
     } = Last::of(standing.state);
-    Kept {
+    StreamState {
         total: limits.total(),
         received: standing.received,
         visits: standing.visits,
@@ -153,12 +153,12 @@ fn keep(stream: &Stream) -> Kept
 
 /// Keeps a new stream of these limits; 12 where one of them is out of its range.
 #[unsafe(no_mangle)]
-pub extern "C" fn rtnlc_stream_new(kept: &mut Kept, options: &Options) -> u8
+pub extern "C" fn rtnlc_stream_new(kept: &mut StreamState, options: &Options) -> u8
     ensures { News options.now kept.old result kept.new }
 {
     match limits(options) {
         Ok(limits) => {
-            *kept = keep(&Stream::new(limits));
+            *kept = to_state(&Stream::new(limits));
             0
         }
         Err(fault) => fault.code(),
@@ -182,20 +182,20 @@ fn begin_dump(stream: &mut Stream, dump: Dump, out: &mut [u8]) -> Put
 /// one: then nothing has begun.
 #[unsafe(no_mangle)]
 pub extern "C" fn rtnlc_stream_begin(
-    kept: &mut Kept,
-    kind: u16,
+    kept: &mut StreamState,
+    message_type: u16,
     family: u8,
     seq: u32,
     port: u32,
     out: &mut [u8],
 ) -> Put
-    ensures { Begins kept.old (family_in (route_type kind)) family seq port out.old
+    ensures { Begins kept.old (family_in (route_type message_type)) family seq port out.old
         kept.new out.new result }
 {
     let Some(restored) = restore(kept) else {
         return Put::none(NO_STREAM);
     };
-    let Some(kind) = family_of(kind) else {
+    let Some(kind) = family_of(message_type) else {
         return Put::none(NO_KIND);
     };
     let dump = Dump {
@@ -210,13 +210,13 @@ pub extern "C" fn rtnlc_stream_begin(
     }
     let mut stream = restored;
     let begun = begin_dump(&mut stream, dump, out);
-    *kept = keep(&stream);
+    *kept = to_state(&stream);
     begun
 }
 
 /// Feeds a datagram to the stream that is kept.
 #[unsafe(no_mangle)]
-pub extern "C" fn rtnlc_stream_feed(kept: &mut Kept, bytes: &[u8], out: &mut [Event]) -> Fed
+pub extern "C" fn rtnlc_stream_feed(kept: &mut StreamState, bytes: &[u8], out: &mut [Event]) -> Fed
     ensures { Feeds kept.old bytes.now out.old kept.new out.new result }
 {
     let Some(restored) = restore(kept) else {
@@ -224,13 +224,13 @@ pub extern "C" fn rtnlc_stream_feed(kept: &mut Kept, bytes: &[u8], out: &mut [Ev
     };
     let mut stream = restored;
     let fed = stream.feed(bytes, out);
-    *kept = keep(&stream);
+    *kept = to_state(&stream);
     Fed::by_stream(fed)
 }
 
 /// Ends the dump that waits in the stream that is kept, as abandoned; 8 where none does.
 #[unsafe(no_mangle)]
-pub extern "C" fn rtnlc_stream_abandon(kept: &mut Kept) -> u8
+pub extern "C" fn rtnlc_stream_abandon(kept: &mut StreamState) -> u8
     ensures { Abandons kept.old kept.new result }
 {
     let Some(restored) = restore(kept) else {
@@ -238,7 +238,7 @@ pub extern "C" fn rtnlc_stream_abandon(kept: &mut Kept) -> u8
     };
     let mut stream = restored;
     let abandoned = stream.abandon();
-    *kept = keep(&stream);
+    *kept = to_state(&stream);
     match abandoned {
         Ok(()) => 0,
         Err(error) => error.code(),
@@ -247,7 +247,7 @@ pub extern "C" fn rtnlc_stream_abandon(kept: &mut Kept) -> u8
 
 /// Where the dump of the stream that is kept stands.
 #[unsafe(no_mangle)]
-pub extern "C" fn rtnlc_stream_status(kept: &Kept) -> Status
+pub extern "C" fn rtnlc_stream_status(kept: &StreamState) -> Status
     ensures { Tells kept.now result }
 {
     match restore(kept) {

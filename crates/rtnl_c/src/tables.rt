@@ -55,7 +55,7 @@ fn table_none(code: u8) -> TableSize
 }
 
 /// The size of a table.
-pub(crate) fn size<T: Entry>(table: &Table<T>) -> TableSize
+pub(crate) fn table_size<T: Entry>(table: &Table<T>) -> TableSize
     ensures { result ≡ sized (length table.now.entries) table.now.missed table.now.limit }
 {
     TableSize {
@@ -71,7 +71,7 @@ pub(crate) fn size<T: Entry>(table: &Table<T>) -> TableSize
 fn size_in(session: &Session, kind: Family) -> TableSize
     ensures { result ≡ size_of (table_at kind session.now.tables) }
 {
-    match_table!(kind, session, table => size(table))
+    match_table!(kind, session, table => table_size(table))
 }
 
 /// The size of the table of a family, where the family is known.
@@ -86,14 +86,18 @@ fn size_of_kind(session: &Session, kind: Option<Family>) -> TableSize
 
 /// The size of the table of the family of a message type.
 #[unsafe(no_mangle)]
-pub extern "C" fn rtnlc_session_table(alloc: Global, handle: &mut Handle, kind: u16) -> TableSize
-    ensures table { result ≡ table_in handle.old.session (family_in (route_type kind)) }
+pub extern "C" fn rtnlc_session_table(
+    alloc: Global,
+    handle: &mut Handle,
+    message_type: u16,
+) -> TableSize
+    ensures table { result ≡ table_in handle.old.session (family_in (route_type message_type)) }
     ensures stays { handle.new.session ≡ handle.old.session }
 {
     match handle.take(alloc) {
         None => table_none(NO_SESSION),
         Some(session) => {
-            let size = size_of_kind(&session, family_of(kind));
+            let size = size_of_kind(&session, family_of(message_type));
             *handle = Handle::of(session);
             size
         }
@@ -102,7 +106,7 @@ pub extern "C" fn rtnlc_session_table(alloc: Global, handle: &mut Handle, kind: 
 
 /// The entry at an index of the table of a family, as its message is written; none from the
 /// table's length on.
-fn entry(
+fn entry_message(
     alloc: Global,
     session: &Session,
     kind: Family,
@@ -124,7 +128,7 @@ fn entry(
 fn put_entry(alloc: Global, session: &Session, kind: Family, index: u32, out: &mut [u8]) -> Put
     ensures { PutsEntry index (table_at kind session.now.tables) kind out.old out.new result }
 {
-    match entry(alloc, session, kind, index) {
+    match entry_message(alloc, session, kind, index) {
         Ok(Some(bytes)) => Put::all(bytes.as_slice(), out),
         Ok(None) => Put::none(END),
         Err(error) => Put::none(error.code()),
@@ -138,18 +142,18 @@ fn put_entry(alloc: Global, session: &Session, kind: Family, index: u32, out: &m
 pub extern "C" fn rtnlc_session_entry(
     alloc: Global,
     handle: &mut Handle,
-    kind: u16,
+    message_type: u16,
     index: u32,
     out: &mut [u8],
 ) -> Put
-    ensures entry { OfTable (PutsEntry index) handle.old.session (family_in (route_type kind))
-        out.old out.new result }
+    ensures entry { OfTable (PutsEntry index) handle.old.session
+        (family_in (route_type message_type)) out.old out.new result }
     ensures stays { handle.new.session ≡ handle.old.session }
 {
     match handle.take(alloc) {
         None => Put::none(NO_SESSION),
         Some(session) => {
-            let put = match family_of(kind) {
+            let put = match family_of(message_type) {
                 Some(kind) => put_entry(alloc, &session, kind, index, out),
                 None => Put::none(NO_KIND),
             };
@@ -160,7 +164,7 @@ pub extern "C" fn rtnlc_session_entry(
 }
 
 /// The key of the entry at an index of the table of a family.
-fn key(session: &Session, kind: Family, index: u32) -> Option<&[u8]>
+fn entry_key(session: &Session, kind: Family, index: u32) -> Option<&[u8]>
     ensures { option_copied result ≡ key_bytes index (table_at kind session.now.tables) }
 {
     match_table!(kind, session, table => table.key_at(index))
@@ -170,7 +174,7 @@ fn key(session: &Session, kind: Family, index: u32) -> Option<&[u8]>
 fn put_key(session: &Session, kind: Family, index: u32, out: &mut [u8]) -> Put
     ensures { PutsKey index (table_at kind session.now.tables) kind out.old out.new result }
 {
-    match key(session, kind, index) {
+    match entry_key(session, kind, index) {
         Some(bytes) => Put::all(bytes, out),
         None => Put::none(END),
     }
@@ -183,18 +187,18 @@ fn put_key(session: &Session, kind: Family, index: u32, out: &mut [u8]) -> Put
 pub extern "C" fn rtnlc_session_key(
     alloc: Global,
     handle: &mut Handle,
-    kind: u16,
+    message_type: u16,
     index: u32,
     out: &mut [u8],
 ) -> Put
-    ensures key { OfTable (PutsKey index) handle.old.session (family_in (route_type kind))
-        out.old out.new result }
+    ensures key { OfTable (PutsKey index) handle.old.session
+        (family_in (route_type message_type)) out.old out.new result }
     ensures stays { handle.new.session ≡ handle.old.session }
 {
     match handle.take(alloc) {
         None => Put::none(NO_SESSION),
         Some(session) => {
-            let put = match family_of(kind) {
+            let put = match family_of(message_type) {
                 Some(kind) => put_key(&session, kind, index, out),
                 None => Put::none(NO_KIND),
             };
@@ -205,7 +209,7 @@ pub extern "C" fn rtnlc_session_key(
 }
 
 /// Where an entry stands, or why none does.
-pub(crate) fn found(index: u32, code: u8) -> FoundEntry
+pub(crate) fn found_entry(index: u32, code: u8) -> FoundEntry
     ensures { result ≡ found_at index code }
 {
     FoundEntry { index, code }
@@ -213,7 +217,7 @@ pub(crate) fn found(index: u32, code: u8) -> FoundEntry
 
 /// The place of a key in the table of a family.
 #[tactic(auto, using(crate::proofs::Seen::keys_seen))]
-fn place(session: &Session, kind: Family, key: &[u8]) -> Option<u32>
+fn index_of_key(session: &Session, kind: Family, key: &[u8]) -> Option<u32>
     ensures { result ≡ place_of key.now (table_at kind session.now.tables) }
 {
     match_table!(kind, session, table => table.find(key))
@@ -224,11 +228,11 @@ fn find(session: &Session, kind: Option<Family>, key: &[u8]) -> FoundEntry
     ensures { result ≡ found_of session.now kind key.now }
 {
     let Some(kind) = kind else {
-        return found(0, NO_KIND);
+        return found_entry(0, NO_KIND);
     };
-    match place(session, kind, key) {
-        Some(index) => found(index, 0),
-        None => found(0, END),
+    match index_of_key(session, kind, key) {
+        Some(index) => found_entry(index, 0),
+        None => found_entry(0, END),
     }
 }
 
@@ -238,16 +242,17 @@ fn find(session: &Session, kind: Option<Family>, key: &[u8]) -> FoundEntry
 pub extern "C" fn rtnlc_session_find(
     alloc: Global,
     handle: &mut Handle,
-    kind: u16,
+    message_type: u16,
     key: &[u8],
 ) -> FoundEntry
-    ensures found { result ≡ found_in handle.old.session (family_in (route_type kind)) key.now }
+    ensures found { result ≡ found_in handle.old.session
+        (family_in (route_type message_type)) key.now }
     ensures stays { handle.new.session ≡ handle.old.session }
 {
     match handle.take(alloc) {
-        None => found(0, NO_SESSION),
+        None => found_entry(0, NO_SESSION),
         Some(session) => {
-            let found = find(&session, family_of(kind), key);
+            let found = find(&session, family_of(message_type), key);
             *handle = Handle::of(session);
             found
         }

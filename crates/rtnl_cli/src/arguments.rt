@@ -28,9 +28,9 @@ const MOST_FOLLOWED: u64 = 1 << 40;
 /// The options whose value is a number.
 const NUMBERS: [&str; 6] = ["seq", "port", "family", "depth", "entries", "waiting"];
 
-/// What is done with a recording.
+/// A command that reads a recording to its end before it prints.
 #[derive(Clone, Copy)]
-pub(crate) enum Engine {
+pub(crate) enum WholeCommand {
     /// Print each datagram, coloured or not.
     Show(Color),
     /// Print the bytes of each datagram beside what they are, coloured or not.
@@ -99,17 +99,17 @@ impl Sought {
     }
 }
 
-/// What is done with a recording, how it is printed, and under which limits.
+/// A command over a whole recording, how what it finds is printed, and under which limits.
 #[derive(Clone, Copy)]
-pub(crate) struct Work {
-    pub engine: Engine,
+pub(crate) struct WholeRun {
+    pub command: WholeCommand,
     pub format: Format,
     pub limits: Limits,
 }
 
 /// What is printed of a recording that is followed.
 #[derive(Clone, Copy)]
-pub(crate) enum What {
+pub(crate) enum FollowOutput {
     /// Each datagram, coloured or not.
     Each(Color),
     /// The bytes of each datagram beside what they are, coloured or not.
@@ -123,7 +123,7 @@ pub(crate) enum What {
 /// How a recording is followed, and under which limits.
 #[derive(Clone, Copy)]
 pub(crate) struct Follow {
-    pub what: What,
+    pub output: FollowOutput,
     pub format: Format,
     pub limits: Limits,
     /// Whether it ends at the first bad line.
@@ -134,7 +134,7 @@ impl Follow {
     /// Whether messages that were dropped spoil what is printed, whatever comes behind them. A
     /// mirror says itself which table they are missing of, and until when.
     pub(crate) fn is_spoilt_by_loss(&self) -> bool {
-        !matches!(self.what, What::Mirror(_))
+        !matches!(self.output, FollowOutput::Mirror(_))
     }
 }
 
@@ -162,7 +162,7 @@ impl Mirror {
         ensures limits { result.limits ≡ self.now.limits }
     {
         Follow {
-            what: What::Mirror(MirrorSettings {
+            output: FollowOutput::Mirror(MirrorSettings {
                 limits: self.limits,
                 waiting: self.waiting,
                 seed,
@@ -187,9 +187,9 @@ pub(crate) struct Table {
 
 impl Table {
     /// What is done with this recording, where the options or it say which dump it answers.
-    pub(crate) fn work(&self, input: &[u8], seed: Seed) -> Option<Work>
-        ensures asked { IfSome result (λ work. (work.format ≡ self.now.format)
-            × (work.limits ≡ self.now.limits)) }
+    pub(crate) fn whole_run(&self, input: &[u8], seed: Seed) -> Option<WholeRun>
+        ensures asked { IfSome result (λ run. (run.format ≡ self.now.format)
+            × (run.limits ≡ self.now.limits)) }
         ensures whole { IsSome self.now.sought.kind → IsSome self.now.sought.seq
             → IsSome self.now.sought.port → IsSome result }
     {
@@ -198,8 +198,8 @@ impl Table {
         } else {
             heading_in(input)
         };
-        Some(Work {
-            engine: Engine::Table(self.sought.dump(found)?, seed),
+        Some(WholeRun {
+            command: WholeCommand::Table(self.sought.dump(found)?, seed),
             format: self.format,
             limits: self.limits,
         })
@@ -208,9 +208,9 @@ impl Table {
 
 /// What is done with a recording.
 #[derive(Clone, Copy)]
-pub(crate) enum Job {
+pub(crate) enum RecordingJob {
     /// Read it.
-    Work(Work),
+    Whole(WholeRun),
     /// Print each datagram of it when it comes, or what it says of one dump.
     Follow(Follow),
     /// Keep tables current by its dumps and notifications.
@@ -224,7 +224,7 @@ pub(crate) enum Job {
 pub(crate) enum Task {
     /// Read a file, or standard input where none or `-` is named.
     Recording {
-        job: Job,
+        job: RecordingJob,
         explain: bool,
         file: Option<String>,
     },
@@ -288,9 +288,9 @@ fn format_of(matches: &ArgMatches<'_>) -> Option<Format> {
     }
 }
 
-fn table_of(matches: &ArgMatches<'_>) -> Option<Job> {
+fn table_of(matches: &ArgMatches<'_>) -> Option<RecordingJob> {
     let total = Limits::standard().total();
-    Some(Job::Table(Table {
+    Some(RecordingJob::Table(Table {
         sought: sought_of(matches)?,
         format: format_of(matches)?,
         limits: limits_of(matches, total, matches.get_one("entries")?)?,
@@ -316,22 +316,22 @@ fn dump_of(matches: &ArgMatches<'_>) -> Option<Dump> {
     })
 }
 
-fn follow_of(matches: &ArgMatches<'_>) -> Option<Job> {
-    let what = match dump_of(matches) {
-        Some(dump) => What::Dump(dump),
-        None if matches.get_flag("bytes") => What::Bytes(color_of(matches)?),
-        None => What::Each(color_of(matches)?),
+fn follow_of(matches: &ArgMatches<'_>) -> Option<RecordingJob> {
+    let output = match dump_of(matches) {
+        Some(dump) => FollowOutput::Dump(dump),
+        None if matches.get_flag("bytes") => FollowOutput::Bytes(color_of(matches)?),
+        None => FollowOutput::Each(color_of(matches)?),
     };
-    Some(Job::Follow(Follow {
-        what,
+    Some(RecordingJob::Follow(Follow {
+        output,
         format: format_of(matches)?,
         limits: limits_of(matches, MOST_FOLLOWED, Limits::standard().entries())?,
         is_strict: matches.get_flag("strict"),
     }))
 }
 
-fn mirror_of(matches: &ArgMatches<'_>) -> Option<Job> {
-    Some(Job::Mirror(Mirror {
+fn mirror_of(matches: &ArgMatches<'_>) -> Option<RecordingJob> {
+    Some(RecordingJob::Mirror(Mirror {
         kind: matches.get_one("kind"),
         family: matches.get_one("family")?,
         waiting: matches.get_one("waiting")?,
@@ -352,18 +352,18 @@ fn request_of(matches: &ArgMatches<'_>) -> Option<Task> {
 }
 
 /// What a command does with a recording, or none where its name or a value of it isn't known.
-fn job_of(name: &str, matches: &ArgMatches<'_>) -> Option<Job> {
-    let engine = match name {
-        "show" if matches.get_flag("bytes") => Engine::ShowBytes(color_of(matches)?),
-        "show" => Engine::Show(color_of(matches)?),
-        "check" => Engine::Check,
+fn job_of(name: &str, matches: &ArgMatches<'_>) -> Option<RecordingJob> {
+    let command = match name {
+        "show" if matches.get_flag("bytes") => WholeCommand::ShowBytes(color_of(matches)?),
+        "show" => WholeCommand::Show(color_of(matches)?),
+        "check" => WholeCommand::Check,
         "follow" => return follow_of(matches),
         "mirror" => return mirror_of(matches),
         "table" => return table_of(matches),
         _ => return None,
     };
-    Some(Job::Work(Work {
-        engine,
+    Some(RecordingJob::Whole(WholeRun {
+        command,
         format: format_of(matches)?,
         limits: Limits::standard().with_order(matches.get_one("order")?),
     }))
@@ -372,13 +372,13 @@ fn job_of(name: &str, matches: &ArgMatches<'_>) -> Option<Job> {
 /// The task of the whole program, or none where a name or a value isn't known.
 fn task_of(alloc: Global, matches: &ArgMatches<'_>) -> Result<Option<Task>, AllocError> {
     let Some((name, inner)) = matches.subcommand() else {
-        let work = Work {
-            engine: Engine::Show(Color::Auto),
+        let whole = WholeRun {
+            command: WholeCommand::Show(Color::Auto),
             format: Format::Text,
             limits: Limits::standard(),
         };
         return Ok(Some(Task::Recording {
-            job: Job::Work(work),
+            job: RecordingJob::Whole(whole),
             explain: false,
             file: None,
         }));

@@ -2,15 +2,16 @@
 
 ghost use Rattle.std.specs.Prelude.{◌≡◌, ◌↔◌, ◌⊎◌, [], ◌∷◌, IsTrue, take};
 
-use crate::arguments::{Engine, Work};
+use crate::arguments::{WholeCommand, WholeRun};
+use crate::errors_told::{may_say_error, tell_errors};
 use crate::hints::{hint_ignored, hint_kind, hint_missed, hint_too_long};
-use crate::kinds::begins_otherwise;
 use crate::output::Errors;
 use crate::pieces::Name;
 use crate::pieces::Piece::{self, Byte, Number, Text};
+use crate::senders::begins_otherwise;
 use crate::standard_error::name_file;
 use crate::subject::Subject;
-use nl_attr::Reason;
+use nl_attr::{Event, Reason};
 use rtnl::dump::{Dump, FeedError, Seed, Session};
 use rtnl::frame::{Limits, ScanError};
 use rtnl::{LONGEST_LINE, LineFault, RunError, Tape, Verdict, datagrams, line_fault, tape_of};
@@ -167,8 +168,27 @@ fn explain_head<'a>(
     ])
 }
 
+/// Writes why the datagram of this number was refused.
+fn explain_scan(
+    rt: &HostRuntime,
+    number: usize,
+    datagram: &[u8],
+    limits: &Limits,
+    events: &[Event],
+    error: ScanError,
+) -> io::Result<()> {
+    match error {
+        ScanError::Layout(head) => explain_head(rt, number, datagram, Subject { head, events }),
+        ScanError::TooLarge => Errors(rt).say(&[
+            Number("datagram ", number as u64),
+            Number(": too large: ", datagram.len() as u64),
+            Number(" bytes, and the limit is ", u64::from(limits.datagram())),
+        ]),
+    }
+}
+
 /// Writes why the datagram of this number was refused, if it was.
-pub(crate) fn explain_datagram(
+pub(crate) fn explain_refused(
     rt: &HostRuntime,
     number: usize,
     datagram: &[u8],
@@ -177,18 +197,23 @@ pub(crate) fn explain_datagram(
     let Tape { events, refusal } = tape_of(rt.alloc(), datagram, limits)?;
     match refusal {
         None => Ok(()),
-        Some(ScanError::Layout(head)) => {
-            let subject = Subject {
-                head,
-                events: events.as_slice(),
-            };
-            explain_head(rt, number, datagram, subject)
-        }
-        Some(ScanError::TooLarge) => Errors(rt).say(&[
-            Number("datagram ", number as u64),
-            Number(": too large: ", datagram.len() as u64),
-            Number(" bytes, and the limit is ", u64::from(limits.datagram())),
-        ]),
+        Some(error) => explain_scan(rt, number, datagram, limits, events.as_slice(), error),
+    }
+}
+
+/// Writes why the datagram of this number was refused; or, if it wasn't, what the kernel says of
+/// the errors in it.
+pub(crate) fn explain_datagram(
+    rt: &HostRuntime,
+    number: usize,
+    datagram: &[u8],
+    limits: &Limits,
+) -> io::Result<()> {
+    let Tape { events, refusal } = tape_of(rt.alloc(), datagram, limits)?;
+    match refusal {
+        None if events.iter().any(may_say_error) => tell_errors(rt, number, datagram, limits),
+        None => Ok(()),
+        Some(error) => explain_scan(rt, number, datagram, limits, events.as_slice(), error),
     }
 }
 
@@ -202,7 +227,7 @@ fn explain_refusal(
 ) -> io::Result<()> {
     match error {
         FeedError::Layout(_) | FeedError::TooLarge => {
-            explain_datagram(rt, number, datagram, limits)
+            explain_refused(rt, number, datagram, limits)
         }
         FeedError::Total => Errors(rt).say(&[
             Number("datagram ", number as u64),
@@ -214,15 +239,17 @@ fn explain_refusal(
     }
 }
 
-/// Writes why datagrams were refused that answer a dump, up to its end, what can be done about what
-/// was missed or ignored, and of which kind the answers are where it is another. A new session
-/// begins each dump, so only memory can be refused.
+/// Writes of the datagrams that answer a dump, up to its end, why they were refused and what the
+/// kernel says of errors; and of a dump that is in doubt what can be done about what was missed or
+/// ignored, and of which kind the answers are where it is another. A new session begins each dump,
+/// so only memory can be refused.
 fn tell_dump(
     rt: &HostRuntime,
     found: &[Vec<u8>],
     limits: &Limits,
     (dump, seed): (Dump, Seed),
     detail: Detail,
+    is_doubted: bool,
 ) -> io::Result<()> {
     let mut session = Session::with_seed(rt.alloc(), *limits, seed)?;
     if session
@@ -233,6 +260,7 @@ fn tell_dump(
     }
     for (index, datagram) in found.iter().enumerate() {
         match session.feed(datagram) {
+            Ok(_) if detail == Detail::All => explain_datagram(rt, index + 1, datagram, limits)?,
             Ok(_) => continue,
             Err(FeedError::NotWaiting) => break,
             Err(FeedError::Memory) => return Err(AllocError.into()),
@@ -241,6 +269,9 @@ fn tell_dump(
             }
             Err(_) => continue,
         }
+    }
+    if !is_doubted {
+        return Ok(());
     }
     if detail != Detail::Least {
         hint_missed(rt, &session, dump, limits)?;
@@ -254,24 +285,37 @@ fn tell_dump(
 fn tell_datagrams(
     rt: &HostRuntime,
     input: &[u8],
-    work: &Work,
+    whole: &WholeRun,
     verdict: Verdict,
     detail: Detail,
 ) -> io::Result<()> {
-    let (alloc, limits) = (rt.alloc(), &work.limits);
-    let is_other = match work.engine {
-        Engine::Table(dump, _) => begins_otherwise(alloc, input, dump, limits)?,
+    let (alloc, limits) = (rt.alloc(), &whole.limits);
+    let is_other = match whole.command {
+        WholeCommand::Table(dump, _) => begins_otherwise(alloc, input, dump, limits)?,
         _ => false,
     };
-    if !is_other && (verdict == Verdict::Clean || detail == Detail::Least) {
+    let is_doubted = is_other || verdict != Verdict::Clean;
+    let is_told = match detail {
+        Detail::Least => is_other,
+        Detail::Hints => is_doubted,
+        Detail::All => true,
+    };
+    if !is_told {
         return Ok(());
     }
     let Ok(found) = datagrams(alloc, input) else {
         return Err(AllocError.into());
     };
-    match (work.engine, detail) {
-        (Engine::Table(dump, seed), _) => {
-            tell_dump(rt, found.as_slice(), limits, (dump, seed), detail)
+    match (whole.command, detail) {
+        (WholeCommand::Table(dump, seed), _) => {
+            tell_dump(
+                rt,
+                found.as_slice(),
+                limits,
+                (dump, seed),
+                detail,
+                is_doubted,
+            )
         }
         (_, Detail::All) => found.iter().enumerate().try_for_each(|(
             index,
@@ -287,12 +331,12 @@ pub(crate) fn tell(
     rt: &HostRuntime,
     name: Name<'_>,
     input: &[u8],
-    work: &Work,
+    whole: &WholeRun,
     answer: Result<Verdict, RunError>,
     detail: Detail,
 ) -> io::Result<()> {
     match (answer, detail) {
-        (Ok(verdict), _) => tell_datagrams(rt, input, work, verdict, detail),
+        (Ok(verdict), _) => tell_datagrams(rt, input, whole, verdict, detail),
         (Err(RunError::ReadFault), _) => hint_too_long(rt, name),
         (Err(RunError::BadLine(number)), Detail::All) => explain_line(rt, name, input, number),
         (Err(RunError::BadLine(_)), _) => name_file(rt, name),

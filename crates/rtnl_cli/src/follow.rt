@@ -2,8 +2,8 @@
 
 ghost use Rattle.std.specs.Prelude.{◌≡◌, false};
 
-use crate::arguments::{Follow, Format, What};
-use crate::explain::{explain_datagram, explain_one_line};
+use crate::arguments::{Follow, FollowOutput, Format};
+use crate::explain::{explain_datagram, explain_one_line, explain_refused};
 use crate::output::Errors;
 use crate::pieces::Name;
 use crate::pieces::Piece::{Number, Text};
@@ -11,15 +11,16 @@ use crate::standard_error::name_file;
 use crate::terminal::{is_coloured, row_format};
 use rtnl::frame::Limits;
 use rtnl::{
-    DumpFollowed, Followed, LiveSource, MirrorFollowed, OnBadLine, RunError, Sink, run_follow,
+    DumpFollowed, FollowListener, Followed, LiveSource, MirrorFollowed, RunError, Sink, run_follow,
     run_follow_bytes, run_follow_coloured, run_follow_dump, run_follow_dump_json, run_follow_json,
     run_mirror, run_mirror_json,
 };
 use std::io;
 
-/// Names bad lines on standard error.
+/// Names bad lines on standard error, and says why datagrams are refused, and what the kernel says
+/// of errors, where that is asked for.
 #[derive(Drop)]
-pub(crate) struct Named<'a> {
+pub(crate) struct BadLineReporter<'a> {
     pub rt: &'a HostRuntime,
     pub name: Name<'a>,
     pub explain: bool,
@@ -29,7 +30,7 @@ pub(crate) struct Named<'a> {
     pub is_ended: bool,
 }
 
-impl Named<'_> {
+impl BadLineReporter<'_> {
     /// Writes that the line of this number is bad, and why where that is asked for.
     fn name_line(&self, number: u64, line: Option<&[u8]>) -> io::Result<()> {
         let (rt, name) = (self.rt, self.name);
@@ -42,21 +43,27 @@ impl Named<'_> {
     }
 }
 
-impl OnBadLine for Named<'_> {
+impl FollowListener for BadLineReporter<'_> {
     ghost use Rattle.std.specs.Prelude.{IsTrue, None};
 
     ghost heard = { λ _. None };
 
-    ghost is_ended = { λ named. IsTrue named.is_ended };
+    ghost is_ended = { λ reporter. IsTrue reporter.is_ended };
 
-    fn hear(&mut self, number: u64, line: Option<&[u8]>) -> bool {
+    fn bad_line(&mut self, number: u64, line: Option<&[u8]>) -> bool {
         // A line that can't be written is not worth ending for.
         let _ = self.name_line(number, line);
         self.is_ended = self.is_strict;
         !self.is_ended
     }
 
-    fn see_refused(&self, number: u64, datagram: &[u8]) {
+    fn refused_datagram(&self, number: u64, datagram: &[u8]) {
+        if self.explain {
+            let _ = explain_refused(self.rt, number as usize, datagram, self.limits);
+        }
+    }
+
+    fn taken_datagram(&self, number: u64, datagram: &[u8]) {
         if self.explain {
             let _ = explain_datagram(self.rt, number as usize, datagram, self.limits);
         }
@@ -95,38 +102,38 @@ impl Ended {
 pub(crate) fn follow<S: LiveSource<W>, W: Sink>(
     source: &mut S,
     sink: &mut W,
-    named: &mut Named<'_>,
+    reporter: &mut BadLineReporter<'_>,
     follow: &Follow,
 ) -> Result<Ended, RunError>
-    requires { named.old.is_ended ≡ false }
+    requires { reporter.old.is_ended ≡ false }
 {
-    let (rt, limits) = (named.rt, &follow.limits);
+    let (rt, limits) = (reporter.rt, &follow.limits);
     let alloc = rt.alloc();
-    match (follow.what, follow.format) {
-        (What::Each(color), Format::Text) if is_coloured(rt, color) => {
-            run_follow_coloured(alloc, source, sink, named, limits).map(Ended::of_each)
+    match (follow.output, follow.format) {
+        (FollowOutput::Each(color), Format::Text) if is_coloured(rt, color) => {
+            run_follow_coloured(alloc, source, sink, reporter, limits).map(Ended::of_each)
         }
-        (What::Each(_), Format::Text) => {
-            run_follow(alloc, source, sink, named, limits).map(Ended::of_each)
+        (FollowOutput::Each(_), Format::Text) => {
+            run_follow(alloc, source, sink, reporter, limits).map(Ended::of_each)
         }
-        (What::Each(_), Format::Json) => {
-            run_follow_json(alloc, source, sink, named, limits).map(Ended::of_each)
+        (FollowOutput::Each(_), Format::Json) => {
+            run_follow_json(alloc, source, sink, reporter, limits).map(Ended::of_each)
         }
-        (What::Bytes(color), format) => {
+        (FollowOutput::Bytes(color), format) => {
             let rows = row_format(rt, color, format);
-            run_follow_bytes(alloc, source, sink, named, limits, rows).map(Ended::of_each)
+            run_follow_bytes(alloc, source, sink, reporter, limits, rows).map(Ended::of_each)
         }
-        (What::Dump(dump), Format::Text) => {
-            run_follow_dump(alloc, source, sink, named, dump, limits).map(Ended::of_dump)
+        (FollowOutput::Dump(dump), Format::Text) => {
+            run_follow_dump(alloc, source, sink, reporter, dump, limits).map(Ended::of_dump)
         }
-        (What::Dump(dump), Format::Json) => {
-            run_follow_dump_json(alloc, source, sink, named, dump, limits).map(Ended::of_dump)
+        (FollowOutput::Dump(dump), Format::Json) => {
+            run_follow_dump_json(alloc, source, sink, reporter, dump, limits).map(Ended::of_dump)
         }
-        (What::Mirror(settings), Format::Text) => {
-            run_mirror(alloc, source, sink, named, &settings).map(Ended::of_mirror)
+        (FollowOutput::Mirror(settings), Format::Text) => {
+            run_mirror(alloc, source, sink, reporter, &settings).map(Ended::of_mirror)
         }
-        (What::Mirror(settings), Format::Json) => {
-            run_mirror_json(alloc, source, sink, named, &settings).map(Ended::of_mirror)
+        (FollowOutput::Mirror(settings), Format::Json) => {
+            run_mirror_json(alloc, source, sink, reporter, &settings).map(Ended::of_mirror)
         }
     }
 }

@@ -1,10 +1,10 @@
 //! What a user can do about a table that isn't what was meant, or a recording that is too long.
 
 use crate::commands::MOST_ENTRIES;
-use crate::kinds::{kind_answered, senders_of};
 use crate::output::Errors;
 use crate::pieces::Name;
 use crate::pieces::Piece::{self, Number, Text};
+use crate::senders::{kind_answered, senders_of};
 use nl_dump::match_table;
 use rtnl::dump::{Dump, Session};
 use rtnl::frame::Limits;

@@ -4,24 +4,27 @@
 
 mod arguments;
 mod commands;
+mod errors_told;
 mod explain;
 mod follow;
 mod given;
+mod help;
 mod hints;
-mod kinds;
-mod messages;
 mod output;
 mod pieces;
 mod reading;
+mod senders;
 mod standard_error;
 mod subject;
 mod terminal;
 
-use arguments::{Engine, Follow, Format, Job, Mirror, Parsed, Table, Task, Work};
+use arguments::{
+    Follow, Format, Mirror, Parsed, RecordingJob, Table, Task, WholeCommand, WholeRun,
+};
 use explain::{Detail, tell};
-use follow::{Ended, Named, follow};
+use follow::{BadLineReporter, Ended, follow};
 use given::{Given, read_given};
-use messages::{print_message, print_unnamed};
+use help::{print_message, print_unnamed};
 use nl_attr::Order;
 use output::{Errors, standard_output};
 use pieces::Name;
@@ -34,7 +37,8 @@ use rtnl::{
     run_show_coloured, run_show_json, run_table_json, run_table_with_seed,
 };
 use standard_error::{
-    BLEMISHED, Causes, USAGE, after, ended, failed, followed, outcome, unread, unwritten,
+    Causes, NOT_CLEAN, USAGE, exit_after_explaining, exit_after_message, exit_of_result,
+    exit_of_run, exit_read_error, exit_with, exit_write_error,
 };
 use std::alloc::{AllocError, Global};
 use std::io::{self, ErrorKind, Read, Write};
@@ -42,46 +46,51 @@ use std::process::ExitCode;
 use std::random::RandomSource;
 use terminal::{STDERR, is_coloured, is_terminal, row_format};
 
-/// Runs an engine over a source; what it prints goes to a sink.
+/// Runs a command over a source; what it prints goes to a sink.
 fn run<S: Source, W: Sink>(
     rt: &HostRuntime,
     source: &mut S,
     sink: &mut W,
-    work: &Work,
+    whole: &WholeRun,
 ) -> Result<Verdict, RunError> {
     let alloc = rt.alloc();
-    let limits = &work.limits;
-    match (work.engine, work.format) {
-        (Engine::Show(color), Format::Text) if is_coloured(rt, color) => {
+    let limits = &whole.limits;
+    match (whole.command, whole.format) {
+        (WholeCommand::Show(color), Format::Text) if is_coloured(rt, color) => {
             run_show_coloured(alloc, source, sink, limits)
         }
-        (Engine::Show(_), Format::Text) => run_show(alloc, source, sink, limits),
-        (Engine::Show(_), Format::Json) => run_show_json(alloc, source, sink, limits),
-        (Engine::ShowBytes(color), format) => {
+        (WholeCommand::Show(_), Format::Text) => run_show(alloc, source, sink, limits),
+        (WholeCommand::Show(_), Format::Json) => run_show_json(alloc, source, sink, limits),
+        (WholeCommand::ShowBytes(color), format) => {
             run_show_bytes(alloc, source, sink, limits, row_format(rt, color, format))
         }
-        (Engine::Check, Format::Text) => run_check(alloc, source, sink, limits),
-        (Engine::Check, Format::Json) => run_check_json(alloc, source, sink, limits),
-        (Engine::Table(dump, seed), Format::Text) => {
+        (WholeCommand::Check, Format::Text) => run_check(alloc, source, sink, limits),
+        (WholeCommand::Check, Format::Json) => run_check_json(alloc, source, sink, limits),
+        (WholeCommand::Table(dump, seed), Format::Text) => {
             run_table_with_seed(alloc, source, sink, dump, limits, seed)
         }
-        (Engine::Table(dump, seed), Format::Json) => {
+        (WholeCommand::Table(dump, seed), Format::Json) => {
             run_table_json(alloc, source, sink, dump, limits, seed)
         }
     }
 }
 
 /// Runs over a recording as it is read; what is printed goes to standard output.
-fn run_over(rt: &HostRuntime, name: Name<'_>, mut reading: Reading<'_>, work: &Work) -> ExitCode {
+fn run_over(
+    rt: &HostRuntime,
+    name: Name<'_>,
+    mut reading: Reading<'_>,
+    whole: &WholeRun,
+) -> ExitCode {
     let mut writer = standard_output(rt);
     let mut source = ReadSource::new(&mut reading);
     let mut sink = WriteSink::new(&mut writer);
-    let answer = run(rt, &mut source, &mut sink, work);
+    let answer = run(rt, &mut source, &mut sink, whole);
     let causes = Causes {
         read: reading.error,
         written: writer.error,
     };
-    ended(rt, name, answer, causes)
+    exit_of_run(rt, name, answer, causes)
 }
 
 /// All of a recording, up to the longest input and one byte more.
@@ -94,56 +103,61 @@ fn read_all(alloc: Global, reading: Reading<'_>) -> io::Result<Vec<u8>> {
 }
 
 /// Runs over an input in memory, and says what can be done about what was missed.
-fn run_kept(rt: &HostRuntime, name: Name<'_>, input: &[u8], work: &Work) -> ExitCode {
+fn run_kept(rt: &HostRuntime, name: Name<'_>, input: &[u8], whole: &WholeRun) -> ExitCode {
     let mut writer = standard_output(rt);
     let mut source = SliceSource::new(input);
     let mut sink = WriteSink::new(&mut writer);
-    let answer = run(rt, &mut source, &mut sink, work);
+    let answer = run(rt, &mut source, &mut sink, whole);
     if answer == Err(RunError::WriteFault) {
-        return unwritten(rt, writer.error);
+        return exit_write_error(rt, writer.error);
     }
     let detail = if is_terminal(rt, STDERR) {
         Detail::Hints
     } else {
         Detail::Least
     };
-    let status = outcome(rt, answer);
-    let told = tell(rt, name, input, work, answer, detail);
-    after(rt, told, status)
+    let status = exit_of_result(rt, answer);
+    let told = tell(rt, name, input, whole, answer, detail);
+    exit_after_explaining(rt, told, status)
 }
 
 /// Runs over an input in memory, and explains on standard error what failed or was refused.
-fn run_explained(rt: &HostRuntime, name: Name<'_>, input: &[u8], work: &Work) -> ExitCode {
+fn run_explained(rt: &HostRuntime, name: Name<'_>, input: &[u8], whole: &WholeRun) -> ExitCode {
     let mut source = SliceSource::new(input);
     let mut sink = VecSink::new(rt.alloc());
     // A sink in memory fails for memory alone.
-    let answer = match run(rt, &mut source, &mut sink, work) {
+    let answer = match run(rt, &mut source, &mut sink, whole) {
         Err(RunError::WriteFault) => Err(RunError::Memory),
         answer => answer,
     };
     if answer.is_ok()
         && let Err(error) = standard_output(rt).write_all(sink.bytes.as_slice())
     {
-        return unwritten(rt, Some(error));
+        return exit_write_error(rt, Some(error));
     }
-    let status = outcome(rt, answer);
-    let told = tell(rt, name, input, work, answer, Detail::All);
-    after(rt, told, status)
+    let status = exit_of_result(rt, answer);
+    let told = tell(rt, name, input, whole, answer, Detail::All);
+    exit_after_explaining(rt, told, status)
 }
 
 /// Does with a recording what is asked for.
-fn perform_work(rt: &HostRuntime, work: &Work, explain: bool, file: Option<&str>) -> ExitCode {
+fn perform_whole(
+    rt: &HostRuntime,
+    whole: &WholeRun,
+    explain: bool,
+    file: Option<&str>,
+) -> ExitCode {
     let name = Name(file);
     let reading = match Reading::open(rt, file) {
         Ok(reading) => reading,
-        Err(error) => return unread(rt, name, error),
+        Err(error) => return exit_read_error(rt, name, error),
     };
     if !explain {
-        return run_over(rt, name, reading, work);
+        return run_over(rt, name, reading, whole);
     }
     match read_all(rt.alloc(), reading) {
-        Ok(input) => run_explained(rt, name, input.as_slice(), work),
-        Err(error) => unread(rt, name, error),
+        Ok(input) => run_explained(rt, name, input.as_slice(), whole),
+        Err(error) => exit_read_error(rt, name, error),
     }
 }
 
@@ -153,7 +167,7 @@ fn followed_status(rt: &HostRuntime, ended: Ended, is_spoilt: bool) -> ExitCode 
     let status = if ended.is_clean && !is_spoilt {
         ExitCode::SUCCESS
     } else {
-        ExitCode::from(BLEMISHED)
+        ExitCode::from(NOT_CLEAN)
     };
     if !is_terminal(rt, STDERR) {
         return status;
@@ -165,7 +179,7 @@ fn followed_status(rt: &HostRuntime, ended: Ended, is_spoilt: bool) -> ExitCode 
         Number(" refused, ", counts.bad_lines),
         Text(" bad lines"),
     ]);
-    followed(counted, status)
+    exit_with(counted, status)
 }
 
 /// Follows a recording as it is read; what is printed goes to standard output.
@@ -179,7 +193,7 @@ fn follow_over(
     let mut writer = standard_output(rt);
     let mut source = ReadSource::new(&mut reading);
     let mut sink = WriteSink::new(&mut writer);
-    let mut named = Named {
+    let mut reporter = BadLineReporter {
         rt,
         name,
         explain,
@@ -187,7 +201,7 @@ fn follow_over(
         limits: &how.limits,
         is_ended: false,
     };
-    match follow(&mut source, &mut sink, &mut named, how) {
+    match follow(&mut source, &mut sink, &mut reporter, how) {
         Ok(counted) => {
             let is_spoilt = reading.is_lossy && how.is_spoilt_by_loss();
             followed_status(rt, counted, is_spoilt)
@@ -197,7 +211,7 @@ fn follow_over(
                 read: reading.error,
                 written: writer.error,
             };
-            ended(rt, name, Err(fault), causes)
+            exit_of_run(rt, name, Err(fault), causes)
         }
     }
 }
@@ -207,7 +221,7 @@ fn perform_follow(rt: &HostRuntime, how: &Follow, explain: bool, file: Option<&s
     let name = Name(file);
     match Reading::open(rt, file) {
         Ok(reading) => follow_over(rt, name, reading, how, explain),
-        Err(error) => unread(rt, name, error),
+        Err(error) => exit_read_error(rt, name, error),
     }
 }
 
@@ -230,24 +244,24 @@ fn perform_table(rt: &HostRuntime, table: &Table, explain: bool, file: Option<&s
         Err(error) if !sought.is_whole() && error.kind() != ErrorKind::OutOfMemory => {
             return print_unnamed(rt, sought, None, name, Some(&error));
         }
-        Err(error) => return unread(rt, name, error),
+        Err(error) => return exit_read_error(rt, name, error),
     };
     let input = match read_all(rt.alloc(), reading) {
         Ok(input) => input,
-        Err(error) => return unread(rt, name, error),
+        Err(error) => return exit_read_error(rt, name, error),
     };
     let seed = match random_seed(rt) {
         Ok(seed) => seed,
-        Err(error) => return unread(rt, RANDOM_BYTES, error),
+        Err(error) => return exit_read_error(rt, RANDOM_BYTES, error),
     };
-    let Some(work) = table.work(input.as_slice(), seed) else {
+    let Some(whole) = table.whole_run(input.as_slice(), seed) else {
         let found = heading_in(input.as_slice());
         return print_unnamed(rt, sought, found, name, None);
     };
     if explain {
-        run_explained(rt, name, input.as_slice(), &work)
+        run_explained(rt, name, input.as_slice(), &whole)
     } else {
-        run_kept(rt, name, input.as_slice(), &work)
+        run_kept(rt, name, input.as_slice(), &whole)
     }
 }
 
@@ -256,8 +270,8 @@ fn perform_request(rt: &HostRuntime, kind: Kind, family: u8, seq: u32, order: Or
     let mut writer = standard_output(rt);
     let mut sink = WriteSink::new(&mut writer);
     match run_request_ordered(rt.alloc(), &mut sink, kind, family, seq, order) {
-        Err(RunError::WriteFault) => unwritten(rt, writer.error),
-        answer => outcome(rt, answer),
+        Err(RunError::WriteFault) => exit_write_error(rt, writer.error),
+        answer => exit_of_result(rt, answer),
     }
 }
 
@@ -274,13 +288,13 @@ fn perform(rt: &HostRuntime, task: &Task) -> ExitCode {
     };
     let file = file.map(String::as_str);
     match job {
-        Job::Work(work) => perform_work(rt, work, explain, file),
-        Job::Follow(follow) => perform_follow(rt, follow, explain, file),
-        Job::Mirror(mirror) => match random_seed(rt) {
+        RecordingJob::Whole(whole) => perform_whole(rt, whole, explain, file),
+        RecordingJob::Follow(follow) => perform_follow(rt, follow, explain, file),
+        RecordingJob::Mirror(mirror) => match random_seed(rt) {
             Ok(seed) => perform_follow(rt, &mirror.follow(seed), explain, file),
-            Err(error) => unread(rt, RANDOM_BYTES, error),
+            Err(error) => exit_read_error(rt, RANDOM_BYTES, error),
         },
-        Job::Table(table) => perform_table(rt, table, explain, file),
+        RecordingJob::Table(table) => perform_table(rt, table, explain, file),
     }
 }
 
@@ -289,7 +303,7 @@ fn perform_given(rt: &HostRuntime, arguments: &[String]) -> ExitCode {
     match arguments::parse(rt.alloc(), arguments) {
         Ok(Parsed::Task(task)) => perform(rt, &task),
         Ok(Parsed::Message(message)) => print_message(rt, &message, arguments),
-        Err(AllocError) => outcome(rt, Err(RunError::Memory)),
+        Err(AllocError) => exit_of_result(rt, Err(RunError::Memory)),
     }
 }
 
@@ -298,8 +312,8 @@ fn main(rt: HostRuntime) -> ExitCode {
         Ok(Given::Texts(arguments)) => perform_given(&rt, arguments.as_slice()),
         Ok(Given::NoText(shown)) => {
             let read = " is not UTF-8; a file of such a name is read by rtnl show <FILE";
-            failed(Errors(&rt).say(&[Text(shown.as_str()), Text(read)]), USAGE)
+            exit_after_message(Errors(&rt).say(&[Text(shown.as_str()), Text(read)]), USAGE)
         }
-        Err(AllocError) => outcome(&rt, Err(RunError::Memory)),
+        Err(AllocError) => exit_of_result(&rt, Err(RunError::Memory)),
     }
 }

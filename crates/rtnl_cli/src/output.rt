@@ -17,16 +17,16 @@ const LONGEST_WAIT: u64 = 64;
 /// A writer that is tried again where it is full and doesn't wait itself, as a pipe that another
 /// process made non-blocking. It notes why its last write failed.
 #[derive(Drop)]
-pub(crate) struct Waiting<'a, W> {
+pub(crate) struct RetryingWriter<'a, W> {
     rt: &'a HostRuntime,
     inner: W,
     pub(crate) error: Option<io::Error>,
 }
 
-impl<'a, W> Waiting<'a, W> {
+impl<'a, W> RetryingWriter<'a, W> {
     /// No write has failed.
     pub(crate) fn new(rt: &'a HostRuntime, inner: W) -> Self {
-        Waiting {
+        RetryingWriter {
             rt,
             inner,
             error: None,
@@ -34,7 +34,7 @@ impl<'a, W> Waiting<'a, W> {
     }
 }
 
-impl<W: Write> Waiting<'_, W> {
+impl<W: Write> RetryingWriter<'_, W> {
     /// Writes once, and once more behind each wait.
     fn write_on(&mut self, bytes: &[u8]) -> io::Result<usize>
         ensures { IfOk result (λ count. count ≤ length bytes.now) }
@@ -53,7 +53,7 @@ impl<W: Write> Waiting<'_, W> {
     }
 }
 
-impl<W: Write> Write for Waiting<'_, W> {
+impl<W: Write> Write for RetryingWriter<'_, W> {
     fn write(&mut self, bytes: &[u8]) -> io::Result<usize> {
         let result = self.write_on(bytes);
         if let Err(error) = &result {
@@ -68,8 +68,8 @@ impl<W: Write> Write for Waiting<'_, W> {
 }
 
 /// Standard output.
-pub(crate) fn standard_output(rt: &HostRuntime) -> Waiting<'_, Stdout> {
-    Waiting::new(rt, rt.stdout())
+pub(crate) fn standard_output(rt: &HostRuntime) -> RetryingWriter<'_, Stdout> {
+    RetryingWriter::new(rt, rt.stdout())
 }
 
 /// Standard error.
@@ -81,7 +81,7 @@ impl Errors<'_> {
     pub(crate) fn eprint<D: Display + Drop>(&self, text: D) -> io::Result<()> {
         let Errors(rt) = *self;
         match format!(in rt.alloc(); "{text}") {
-            Ok(whole) => Waiting::new(rt, rt.stderr()).write_all(whole.as_bytes()),
+            Ok(whole) => RetryingWriter::new(rt, rt.stderr()).write_all(whole.as_bytes()),
             Err(AllocError) => rt.eprint(text),
         }
     }

@@ -4,9 +4,10 @@ ghost use Rattle.std.specs.Prelude.{◌≡◌, ◌↔◌, ◌⊎◌, IsTrue, is_
 ghost use Rattle.std.specs.Char.{is_control};
 ghost use Rattle.ucd_category.specs.GeneralCategory.{general_category};
 
+use crate::errors_told::write_error;
 use crate::subject::Subject;
 use nl_attr::Fault;
-use rtnl::RunError;
+use rtnl::{KernelError, RunError};
 use std::fmt::{self, Display};
 use std::io;
 use ucd_category::GeneralCategory;
@@ -52,6 +53,8 @@ pub(crate) enum Piece<'a> {
     Subject(Subject<'a>),
     /// The bytes around this place.
     Around(&'a [u8], usize),
+    /// What the kernel says of an error.
+    KernelError(KernelError<'a>),
 }
 
 fn is_quote(character: char) -> bool
@@ -127,7 +130,8 @@ fn write_escaped<W: fmt::Write>(f: &mut fmt::Formatter<W>, text: &str) -> fmt::R
     Ok(())
 }
 
-fn write_raw<W: fmt::Write>(f: &mut fmt::Formatter<W>, bytes: &[u8]) -> fmt::Result {
+/// Writes bytes as a text is escaped; of what is no text each byte.
+pub(crate) fn write_raw<W: fmt::Write>(f: &mut fmt::Formatter<W>, bytes: &[u8]) -> fmt::Result {
     for chunk in bytes.utf8_chunks() {
         write_escaped(f, chunk.valid())?;
         for byte in chunk.invalid() {
@@ -187,6 +191,7 @@ impl Display for Piece<'_> {
             Piece::Fault(fault) => fault.fmt(f),
             Piece::Subject(subject) => subject.write(f),
             Piece::Around(bytes, place) => write_around(f, bytes, place),
+            Piece::KernelError(error) => write_error(f, error),
         }
     }
 }

@@ -9,7 +9,7 @@ use std::io::{self, ErrorKind};
 use std::process::ExitCode;
 
 /// A datagram was refused, a dump is not complete, or a line is bad.
-pub(crate) const BLEMISHED: u8 = 1;
+pub(crate) const NOT_CLEAN: u8 = 1;
 
 /// A usage error.
 pub(crate) const USAGE: u8 = 2;
@@ -31,35 +31,39 @@ pub(crate) struct Causes {
 }
 
 /// An exit status, after a message on standard error, be it printed or not.
-pub(crate) fn failed(_printed: io::Result<()>, status: u8) -> ExitCode {
+pub(crate) fn exit_after_message(_printed: io::Result<()>, status: u8) -> ExitCode {
     ExitCode::from(status)
 }
 
 /// This exit status, after one more line on standard error, be it printed or not.
-pub(crate) fn followed(_printed: io::Result<()>, status: ExitCode) -> ExitCode {
+pub(crate) fn exit_with(_printed: io::Result<()>, status: ExitCode) -> ExitCode {
     status
 }
 
 /// The exit status of a run of which more was to be said.
-pub(crate) fn after(rt: &HostRuntime, written: io::Result<()>, status: ExitCode) -> ExitCode {
+pub(crate) fn exit_after_explaining(
+    rt: &HostRuntime,
+    written: io::Result<()>,
+    status: ExitCode,
+) -> ExitCode {
     match written {
         Ok(()) => status,
-        Err(error) => followed(Errors(rt).say(&[Reason("not explained: ", error)]), status),
+        Err(error) => exit_with(Errors(rt).say(&[Reason("not explained: ", error)]), status),
     }
 }
 
 /// The exit status of a run, with the fixed line where it failed.
-pub(crate) fn outcome(rt: &HostRuntime, answer: Result<Verdict, RunError>) -> ExitCode {
+pub(crate) fn exit_of_result(rt: &HostRuntime, answer: Result<Verdict, RunError>) -> ExitCode {
     match answer {
         Ok(Verdict::Clean) => ExitCode::SUCCESS,
-        Ok(Verdict::Blemished) => ExitCode::from(BLEMISHED),
+        Ok(Verdict::NotClean) => ExitCode::from(NOT_CLEAN),
         Err(error) => {
             let status = match error {
-                RunError::BadLine(_) => BLEMISHED,
+                RunError::BadLine(_) => NOT_CLEAN,
                 RunError::ReadFault | RunError::WriteFault => FAULT,
                 RunError::Memory => MEMORY,
             };
-            failed(Errors(rt).say(&[Failure(error)]), status)
+            exit_after_message(Errors(rt).say(&[Failure(error)]), status)
         }
     }
 }
@@ -79,42 +83,42 @@ pub(crate) fn name_file(rt: &HostRuntime, name: Name<'_>) -> io::Result<()> {
 }
 
 /// The exit status where a recording of this name couldn't be opened or read.
-pub(crate) fn unread(rt: &HostRuntime, name: Name<'_>, error: io::Error) -> ExitCode {
+pub(crate) fn exit_read_error(rt: &HostRuntime, name: Name<'_>, error: io::Error) -> ExitCode {
     if error.kind() == ErrorKind::OutOfMemory {
-        return outcome(rt, Err(RunError::Memory));
+        return exit_of_result(rt, Err(RunError::Memory));
     }
-    let status = outcome(rt, Err(RunError::ReadFault));
-    followed(name_reason(rt, name, error), status)
+    let status = exit_of_result(rt, Err(RunError::ReadFault));
+    exit_with(name_reason(rt, name, error), status)
 }
 
 /// The exit status where standard output took no more, for this reason where the system said one.
-pub(crate) fn unwritten(rt: &HostRuntime, error: Option<io::Error>) -> ExitCode {
-    let status = outcome(rt, Err(RunError::WriteFault));
+pub(crate) fn exit_write_error(rt: &HostRuntime, error: Option<io::Error>) -> ExitCode {
+    let status = exit_of_result(rt, Err(RunError::WriteFault));
     match error {
-        Some(error) => followed(name_reason(rt, STANDARD_OUTPUT, error), status),
+        Some(error) => exit_with(name_reason(rt, STANDARD_OUTPUT, error), status),
         None => status,
     }
 }
 
 /// The exit status of a run over a recording of this name, with the fixed line where it failed and
 /// the reason behind it.
-pub(crate) fn ended(
+pub(crate) fn exit_of_run(
     rt: &HostRuntime,
     name: Name<'_>,
     answer: Result<Verdict, RunError>,
     causes: Causes,
 ) -> ExitCode {
     match (answer, causes.read) {
-        (Err(RunError::ReadFault), Some(error)) => return unread(rt, name, error),
-        (Err(RunError::WriteFault), _) => return unwritten(rt, causes.written),
+        (Err(RunError::ReadFault), Some(error)) => return exit_read_error(rt, name, error),
+        (Err(RunError::WriteFault), _) => return exit_write_error(rt, causes.written),
         _ => {}
     }
-    let status = outcome(rt, answer);
+    let status = exit_of_result(rt, answer);
     let said = match answer {
         // No read failed.
         Err(RunError::ReadFault) => hint_too_long(rt, name),
         Err(RunError::BadLine(_)) => name_file(rt, name),
         _ => Ok(()),
     };
-    followed(said, status)
+    exit_with(said, status)
 }

@@ -6,11 +6,19 @@ use rtnl::frame::{BrokenHead, HeadKind};
 use rtnl::{KernelName, attribute_name, context_inside, message_name};
 use std::fmt;
 
+/// Writes a name in two parts.
+pub(crate) fn write_kernel_name<W: fmt::Write>(
+    f: &mut fmt::Formatter<W>,
+    name: KernelName,
+) -> fmt::Result {
+    f.write_str(name.0)?;
+    f.write_str(name.1)
+}
+
 /// Writes a name behind a blank.
 fn write_name<W: fmt::Write>(f: &mut fmt::Formatter<W>, name: KernelName) -> fmt::Result {
     f.write_str(" ")?;
-    f.write_str(name.0)?;
-    f.write_str(name.1)
+    write_kernel_name(f, name)
 }
 
 /// Writes the type of a message: its name, or its number where it has none.

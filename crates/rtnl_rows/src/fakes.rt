@@ -3,7 +3,7 @@
 ghost use Rattle.std.specs.Prelude.{None, ◌≡◌, ◌≤◌, IfSome, IsTrue, false};
 ghost use Rattle.rtnl.specs.Streams.{one_more};
 
-use rtnl::{Broken, Sink, Source};
+use rtnl::{IoFailed, Sink, Source};
 
 /// Gives some bytes, and then fails at each call.
 #[derive(Drop)]
@@ -23,11 +23,11 @@ impl Source for BrokenSource<'_> {
         self.failures
     }
 
-    fn take(&mut self, buffer: &mut [u8]) -> Result<usize, Broken> {
+    fn take(&mut self, buffer: &mut [u8]) -> Result<usize, IoFailed> {
         let count = self.left.len().min(buffer.len());
         if count == 0 {
             self.failures = self.failures.saturating_add(1);
-            return Err(Broken);
+            return Err(IoFailed);
         }
         let (next, rest) = self.left.split_at(count);
         let (room, _) = buffer.split_at_mut(count);
@@ -54,7 +54,7 @@ impl Source for EndlessSource {
         0
     }
 
-    fn take(&mut self, buffer: &mut [u8]) -> Result<usize, Broken> {
+    fn take(&mut self, buffer: &mut [u8]) -> Result<usize, IoFailed> {
         buffer.fill(b' ');
         self.given = self.given.saturating_add(buffer.len() as u64);
         Ok(buffer.len())
@@ -87,13 +87,13 @@ impl TightSink {
         if self.fails { None } else { Some(0) }
     }
 
-    fn fail(&mut self) -> Broken
+    fn fail(&mut self) -> IoFailed
         ensures failed { self.new.failures ≡ one_more self.old.failures }
         ensures stalls { (self.new.stalled ≡ false) × (self.new.stalls ≡ self.old.stalls) }
     {
         self.stalled = false;
         self.failures = self.failures.saturating_add(1);
-        Broken
+        IoFailed
     }
 }
 
@@ -114,7 +114,7 @@ impl Sink for TightSink {
         self.stalls
     }
 
-    fn give(&mut self, bytes: &[u8]) -> Result<usize, Broken> {
+    fn give(&mut self, bytes: &[u8]) -> Result<usize, IoFailed> {
         let Some(count) = self.count(bytes.len()) else {
             return Err(self.fail());
         };

@@ -1,8 +1,6 @@
 //! Files that are read and written in short calls, and end or fail.
 
-use crate::stop::Stop;
-use crate::words::Words;
-use std::alloc::Global;
+use crate::row::Row;
 use std::io::{self, ErrorKind, Read, Write};
 
 /// A file of bytes, and of blanks behind them. A call reads up to `each` bytes; behind all of them
@@ -16,14 +14,14 @@ pub struct ShortReader<'a> {
 }
 
 impl<'a> ShortReader<'a> {
-    /// The file of these bytes that words name: `EACH [blanks COUNT] [broken]`.
-    pub(crate) fn of(words: &mut Words<'_>, bytes: &'a [u8]) -> Result<ShortReader<'a>, Stop> {
-        Ok(ShortReader {
+    /// The file of these bytes that is asked.
+    pub(crate) fn of(row: &mut Row<'_>, bytes: &'a [u8]) -> ShortReader<'a> {
+        ShortReader {
             bytes,
-            each: words.number()?,
-            blanks: words.number_of("blanks", 0)?,
-            is_broken: words.has("broken"),
-        })
+            each: row.int::<usize>(),
+            blanks: row.int::<usize>(),
+            is_broken: row.number() != 0,
+        }
     }
 
     /// How many bytes were not read.
@@ -65,14 +63,14 @@ pub struct ShortWriter {
 }
 
 impl ShortWriter {
-    /// The file that words name: `EACH ROOM [broken]`.
-    pub(crate) fn of(alloc: Global, words: &mut Words<'_>) -> Result<ShortWriter, Stop> {
-        Ok(ShortWriter {
-            bytes: Vec::new(alloc),
-            each: words.number()?,
-            room: words.number()?,
-            is_broken: words.has("broken"),
-        })
+    /// The file that is asked.
+    pub(crate) fn of(row: &mut Row<'_>) -> ShortWriter {
+        ShortWriter {
+            bytes: Vec::new(row.alloc),
+            each: row.int::<usize>(),
+            room: row.int::<usize>(),
+            is_broken: row.number() != 0,
+        }
     }
 }
 

@@ -1,15 +1,10 @@
 //! The laws of faults, tables, sessions and streams.
 
-use crate::rows::Row;
-use crate::said::say;
-use crate::stop::Stop;
+use crate::row::Row;
 use nl_route::{Addr, Link, Neigh, Route, Rule};
 
-/// Makes the call of a row, if it is `laws`: each law is called, for each family where it has one.
-pub(crate) fn has_answered(rt: &HostRuntime, row: &mut Row<'_>) -> Result<bool, Stop> {
-    if row.call != "laws" {
-        return Ok(false);
-    }
+/// Calls each law, for each family where it has one.
+pub(crate) fn answer(row: &mut Row<'_>) {
     nl_attr::laws::one_first_fault();
     nl_attr::laws::one_head_at_fault();
     nl_frame::laws::one_first_fault();
@@ -27,6 +22,5 @@ pub(crate) fn has_answered(rt: &HostRuntime, row: &mut Row<'_>) -> Result<bool, 
     nl_dump::laws::headline_of_calls();
     nl_dump::laws::stream_is_session();
     nl_dump::laws::one_header_for_each_item();
-    say(rt, "hold")?;
-    Ok(true)
+    row.put(1);
 }

@@ -1,101 +1,108 @@
 //! Messages, and what they hold.
 
-use crate::rows::Row;
-use crate::said::{Hex, Indent, Maybe, say};
-use crate::shown::Shown;
-use crate::stop::{Stop, Wrong};
-use crate::trees::say_family;
+use crate::row::{Row, put_fields, unsigned};
+use crate::views::put_object;
 use nl_attr::Tally;
-use nl_frame::{Body, Message, read_datagram};
+use nl_frame::{Body, Header, Message, is_canonical, read_datagram};
+use nl_route::match_object;
 
-/// Makes the call of a row, if it is one of these. Whether it is.
-pub(crate) fn has_answered(rt: &HostRuntime, row: &mut Row<'_>) -> Result<bool, Stop> {
-    match row.call {
-        "read_datagram" => read(rt, row)?,
-        _ => return Ok(false),
-    }
-    Ok(true)
-}
-
-/// Tells all of a body, a level to the right of its message: the head of a family and its
-/// attributes, or what else it holds.
-pub(crate) fn say_body(rt: &HostRuntime, body: &Body) -> Result<(), Stop> {
-    match body {
-        Body::Link(link) => say_family(rt, Shown(&link.head), link.attrs.as_slice(), 1),
-        Body::Addr(addr) => say_family(rt, Shown(&addr.head), addr.attrs.as_slice(), 1),
-        Body::Route(route) => say_family(rt, Shown(&route.head), route.attrs.as_slice(), 1),
-        Body::Neigh(neigh) => say_family(rt, Shown(&neigh.head), neigh.attrs.as_slice(), 1),
-        Body::Rule(rule) => say_family(rt, Shown(&rule.head), rule.attrs.as_slice(), 1),
-        _ => say_plain(rt, body),
+pub(crate) fn answer(row: &mut Row<'_>) {
+    match row.number() {
+        0 => read(row),
+        1 => compare(row),
+        2 => tell_canonical(row),
+        _ => row.fail(),
     }
 }
 
-/// Tells all of a body of no family.
-fn say_plain(rt: &HostRuntime, body: &Body) -> Result<(), Stop> {
-    let indent = Indent(1);
-    match body {
-        Body::Noop(payload) => {
-            let payload = Hex(payload.as_slice());
-            say(rt, format_args!("{indent}noop {payload}"))
+pub(crate) fn put_header(row: &mut Row<'_>, header: &Header) {
+    put_fields!(row, header, len kind flags seq port);
+}
+
+/// Answers all of a body, behind its sort: a family's head and attributes, or what else it holds.
+pub(crate) fn put_body(row: &mut Row<'_>, body: &Body) {
+    match_object!(body, Body, object => put_object(row, object), {
+        _ => put_plain(row, body),
+    })
+}
+
+/// The same of a body of no family.
+fn put_plain(row: &mut Row<'_>, body: &Body) {
+    let tail = match body {
+        Body::Noop(tail) => {
+            row.put(5);
+            tail
         }
         Body::Error {
             code,
             answered,
             tail,
         } => {
-            let (answered, tail) = (Shown(answered), Hex(tail.as_slice()));
-            say(
-                rt,
-                format_args!("{indent}error {code} to {answered} tail {tail}"),
-            )
+            row.put_all(&[6, unsigned(*code)]);
+            put_header(row, answered);
+            tail
         }
         Body::Done { status, tail } => {
-            let (status, tail) = (Maybe(*status), Hex(tail.as_slice()));
-            say(rt, format_args!("{indent}done {status} tail {tail}"))
+            row.put(7);
+            row.put_maybe(status.map(|status| unsigned(status)));
+            tail
         }
-        Body::Overrun(payload) => {
-            let payload = Hex(payload.as_slice());
-            say(rt, format_args!("{indent}overrun {payload}"))
+        Body::Overrun(tail) => {
+            row.put(8);
+            tail
         }
         Body::Get { family, tail } => {
-            let tail = Hex(tail.as_slice());
-            say(rt, format_args!("{indent}get family {family} tail {tail}"))
+            row.put_all(&[9, *family as u64]);
+            tail
         }
-        Body::Other(payload) => {
-            let payload = Hex(payload.as_slice());
-            say(rt, format_args!("{indent}other {payload}"))
+        Body::Other(tail) => {
+            row.put(10);
+            tail
         }
-        _ => Err(Stop::Wrong(Wrong::Input)),
-    }
+        _ => return row.fail(),
+    };
+    row.put_bytes(tail.as_slice());
 }
 
-/// Tells all of a message: the fields of its header but for the length, and its body.
-pub(crate) fn say_message(rt: &HostRuntime, message: &Message) -> Result<(), Stop> {
-    let (kind, flags) = (message.kind, message.flags);
-    let (seq, port) = (message.seq, message.port);
-    say(
-        rt,
-        format_args!("message {kind} flags 0x{flags:04x} seq {seq} port {port}"),
-    )?;
-    say_body(rt, &message.body)
-}
-
-/// Tells all of the messages of a datagram.
-pub(crate) fn say_messages(rt: &HostRuntime, messages: &[Message]) -> Result<(), Stop> {
+/// Answers how many messages there are, and all of each.
+pub(crate) fn put_messages(row: &mut Row<'_>, messages: &[Message]) {
+    row.put(messages.len() as u64);
     for message in messages {
-        say_message(rt, message)?;
+        put_fields!(row, message, kind flags seq port);
+        put_body(row, &message.body);
     }
-    Ok(())
 }
 
-/// `read_datagram [LIMITS]`: the visits, and the messages or why they were not read.
-fn read(rt: &HostRuntime, row: &mut Row<'_>) -> Result<(), Stop> {
-    let limits = row.words.limits()?;
-    let bytes = row.bytes(rt.alloc())?;
-    let Tally { result, visits } = read_datagram(rt.alloc(), bytes.as_slice(), &limits);
-    say(rt, format_args!("visits {visits}"))?;
+/// The visits, and the messages of a datagram or why they were not read.
+fn read(row: &mut Row<'_>) {
+    let (limits, bytes) = (row.limits(), row.bytes());
+    let Tally { result, visits } = read_datagram(row.alloc, bytes, &limits);
+    row.put(visits);
     match result {
-        Ok(messages) => say_messages(rt, messages.as_slice()),
-        Err(error) => say(rt, error),
+        Ok(messages) => {
+            row.put(0);
+            put_messages(row, messages.as_slice());
+        }
+        Err(error) => row.refuse(error.code(), error),
+    }
+}
+
+/// Whether two datagrams have the same messages.
+fn compare(row: &mut Row<'_>) {
+    let limits = row.limits();
+    let one = read_datagram(row.alloc, row.bytes(), &limits).into_result();
+    let other = read_datagram(row.alloc, row.bytes(), &limits).into_result();
+    match (one, other) {
+        (Ok(one), Ok(other)) => row.put((one == other) as u64),
+        _ => row.fail(),
+    }
+}
+
+/// Whether the bytes are what their messages are written as.
+fn tell_canonical(row: &mut Row<'_>) {
+    let (limits, bytes) = (row.limits(), row.bytes());
+    match is_canonical(row.alloc, bytes, &limits) {
+        Ok(canonical) => row.put_all(&[0, canonical as u64]),
+        Err(error) => row.refuse(error.code(), error),
     }
 }

@@ -1,59 +1,80 @@
-//! Scans of datagrams, the events of tapes, and cursors.
+//! Scans and tapes of datagrams and lists, and the head that breaks a rule, at which they end where
+//! reading does.
 
-use crate::rows::Row;
-use crate::said::{Hex, say};
-use crate::shown::Shown;
-use crate::stop::Stop;
-use crate::walkers::{say_hop, say_part};
-use nl_attr::{Event, Order, Tally, attr_at, hop_at};
-use nl_frame::{Counted, message_at, read_datagram, scan_datagram, tape_datagram};
+use crate::row::{Row, put_fields};
+use nl_attr::{BrokenHead, Event, Tally, read_list_ordered, scan_list_ordered, tape_list};
+use nl_frame::{Counted, ScanError, read_datagram, scan_datagram, tape_datagram};
 
-/// Makes the call of a row, if it is one of these. Whether it is.
-pub(crate) fn has_answered(rt: &HostRuntime, row: &mut Row<'_>) -> Result<bool, Stop> {
-    match row.call {
-        "scan" => scan(rt, row)?,
-        "tape" => tape(rt, row)?,
-        "message_at" => find_message(rt, row)?,
-        "attr_at" => find_attr(rt, row)?,
-        "hop_at" => find_hop(rt, row)?,
-        _ => return Ok(false),
+pub(crate) fn answer(row: &mut Row<'_>) {
+    match row.number() {
+        0 => scan(row),
+        1 => scan_list(row),
+        2 => tape(row),
+        _ => row.fail(),
     }
-    Ok(true)
 }
 
-/// `scan [LIMITS]`: what a scan, a tape without room and reading answer: the visits, how many heads
-/// the tape has counted, and why they refuse, behind its number.
-fn scan(rt: &HostRuntime, row: &mut Row<'_>) -> Result<(), Stop> {
-    let limits = row.words.limits()?;
-    let bytes = row.bytes(rt.alloc())?;
-    let bytes = bytes.as_slice();
-    let Tally { result, visits } = scan_datagram(bytes, &limits);
-    match result {
-        Ok(()) => say(rt, format_args!("scan visits {visits}"))?,
+/// Answers the head that breaks a rule.
+fn put_broken(row: &mut Row<'_>, head: BrokenHead) {
+    row.show(head.fault);
+    row.put(head.kind as u64);
+    row.put_maybe(head.number.map(u64::from));
+    row.put_maybe(head.len.map(u64::from));
+    row.put_all(&[head.left as u64, head.level as u64]);
+}
+
+/// Answers 0, or why a scan refuses its input and the head that breaks a rule.
+fn put_scanned(row: &mut Row<'_>, scanned: Result<(), ScanError>) {
+    match scanned {
+        Ok(()) => row.put(0),
         Err(error) => {
-            let code = error.code();
-            say(rt, format_args!("scan visits {visits}, {code} {error}"))?;
+            row.refuse(error.code(), error);
+            match error {
+                ScanError::Layout(head) => put_broken(row, head),
+                ScanError::TooLarge => row.put_none(),
+            }
         }
     }
+}
+
+/// What reading, a scan and a tape without room answer to a datagram: the visits, and why they
+/// refuse it; of the tape also how many heads it has counted.
+fn scan(row: &mut Row<'_>) {
+    let (limits, bytes) = (row.limits(), row.bytes());
+    let Tally { result, visits } = read_datagram(row.alloc, bytes, &limits);
+    row.put(visits);
+    match result {
+        Ok(_) => row.put(0),
+        Err(error) => row.refuse(error.code(), error),
+    }
+    let Tally { result, visits } = scan_datagram(bytes, &limits);
+    row.put(visits);
+    put_scanned(row, result);
     let Counted { scan, count } = tape_datagram(bytes, &limits, &mut []);
     let Tally { result, visits } = scan;
-    match result {
-        Ok(()) => say(rt, format_args!("tape visits {visits} heads {count}"))?,
-        Err(error) => {
-            let code = error.code();
-            say(
-                rt,
-                format_args!("tape visits {visits} heads {count}, {code} {error}"),
-            )?;
-        }
+    row.put_all(&[visits, count as u64]);
+    put_scanned(row, result);
+}
+
+/// Why reading, a scan and a tape without room refuse a list, the last with the head that it
+/// answers.
+fn scan_list(row: &mut Row<'_>) {
+    let (order, ctx, base) = (row.order(), row.context(), row.base());
+    let (level, depth, bytes) = (row.int::<u8>(), row.depth(), row.bytes());
+    if level > depth.get() {
+        return row.fail();
     }
-    let Tally { result, visits } = read_datagram(rt.alloc(), bytes, &limits);
-    match result.err() {
-        None => say(rt, format_args!("read visits {visits}")),
-        Some(error) => {
-            let code = error.code();
-            say(rt, format_args!("read visits {visits}, {code} {error}"))
-        }
+    match read_list_ordered(row.alloc, bytes, base, ctx, level, depth, order).into_result() {
+        Ok(_) => row.put(0),
+        Err(error) => row.refuse(error.code(), error),
+    }
+    match scan_list_ordered(bytes, base, ctx, level, depth, order).into_result() {
+        Ok(()) => row.put(0),
+        Err(fault) => row.refuse(fault.code(), fault),
+    }
+    match tape_list(bytes, base, ctx, level, depth, order, &mut [], 0).broken {
+        None => row.put_none(),
+        Some(head) => put_broken(row, head),
     }
 }
 
@@ -68,65 +89,30 @@ pub(crate) const UNTOUCHED: Event = Event {
     net: true,
 };
 
-/// `tape ROOM [LIMITS]`: what a tape into a buffer with this room answers, and the buffer then.
-fn tape(rt: &HostRuntime, row: &mut Row<'_>) -> Result<(), Stop> {
-    let room: u8 = row.words.number()?;
-    let limits = row.words.limits()?;
-    let bytes = row.bytes(rt.alloc())?;
-    let mut buffer = vec![in rt.alloc(); UNTOUCHED; room as usize]?;
-    let Counted { scan, count } = tape_datagram(bytes.as_slice(), &limits, buffer.as_mut_slice());
-    match scan.into_result() {
-        Ok(()) => say(rt, format_args!("heads {count}"))?,
-        Err(error) => say(rt, format_args!("heads {count}, {error}"))?,
-    }
-    for event in buffer.as_slice() {
-        if *event == UNTOUCHED {
-            say(rt, "untouched")?;
-        } else {
-            say(rt, Shown(event))?;
-        }
-    }
-    Ok(())
-}
-
-/// `message_at PLACE [ORDER]`.
-fn find_message(rt: &HostRuntime, row: &mut Row<'_>) -> Result<(), Stop> {
-    let place: u32 = row.words.number()?;
-    let order = row.words.order().unwrap_or(Order::Little);
-    let bytes = row.bytes(rt.alloc())?;
-    match message_at(bytes.as_slice(), place, order) {
-        None => say(rt, "none"),
-        Some(Err(fault)) => say(rt, fault),
-        Some(Ok(frame)) => {
-            say(rt, Shown(&frame.header))?;
-            let (form, span) = (Shown(&frame.form), frame.span);
-            let (payload, rest) = (Hex(frame.payload), Hex(frame.rest));
-            say(
-                rt,
-                format_args!("{form} span {span} payload {payload} rest {rest}"),
-            )
+/// Room for so many events.
+pub(crate) fn room_for(row: &mut Row<'_>, count: usize) -> Vec<Event> {
+    match vec![in row.alloc; UNTOUCHED; count] {
+        Ok(events) => events,
+        Err(_) => {
+            row.run_out();
+            Vec::new(row.alloc)
         }
     }
 }
 
-/// `attr_at PLACE [ORDER]`.
-fn find_attr(rt: &HostRuntime, row: &mut Row<'_>) -> Result<(), Stop> {
-    let place: u32 = row.words.number()?;
-    let order = row.words.order().unwrap_or(Order::Little);
-    let bytes = row.bytes(rt.alloc())?;
-    match attr_at(bytes.as_slice(), place, order) {
-        None => say(rt, "none"),
-        Some(given) => say_part(rt, given),
+/// Answers all of each event.
+pub(crate) fn put_events(row: &mut Row<'_>, events: &[Event]) {
+    for event in events {
+        put_fields!(row, event, place sort number nested net len level);
     }
 }
 
-/// `hop_at PLACE [ORDER]`.
-fn find_hop(rt: &HostRuntime, row: &mut Row<'_>) -> Result<(), Stop> {
-    let place: u32 = row.words.number()?;
-    let order = row.words.order().unwrap_or(Order::Little);
-    let bytes = row.bytes(rt.alloc())?;
-    match hop_at(bytes.as_slice(), place, order) {
-        None => say(rt, "none"),
-        Some(given) => say_hop(rt, given),
-    }
+/// What a tape into a buffer with this room answers, and the buffer then.
+fn tape(row: &mut Row<'_>) {
+    let (room, limits, bytes) = (row.int::<u8>(), row.limits(), row.bytes());
+    let mut events = room_for(row, room as usize);
+    let Counted { scan, count } = tape_datagram(bytes, &limits, events.as_mut_slice());
+    row.put(count as u64);
+    put_scanned(row, scan.into_result());
+    put_events(row, events.as_slice());
 }

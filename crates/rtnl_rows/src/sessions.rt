@@ -1,223 +1,133 @@
 //! Sessions, and what they answer step by step.
 
-use crate::cuts::say_line;
-use crate::entries::{say_entries, tables_of};
-use crate::rows::Row;
-use crate::said::{Hex, OUT_OF_MEMORY, say, yes_or_no};
-use crate::shown::Shown;
-use crate::stop::{Stop, Wrong};
-use crate::words::Words;
-use nl_dump::{BeginError, FeedError, Kind, Progress, Session, Standing, match_table};
-use nl_frame::Limits;
-use std::alloc::Global;
+use crate::entries::put_entries;
+use crate::plain::put_limits;
+use crate::row::{Row, put_calls, put_fields, unsigned};
+use nl_dump::{Dump, End, FeedError, Progress, Session, Standing, State, match_table};
 
-/// Makes the call of a row, if it is one of these. Whether it is.
-pub(crate) fn has_answered(rt: &HostRuntime, row: &mut Row<'_>) -> Result<bool, Stop> {
-    match row.call {
-        "session" => run(rt, row)?,
-        "fresh" => feed_each(rt, row)?,
-        _ => return Ok(false),
-    }
-    Ok(true)
-}
-
-/// `session [LIMITS]`: what a new session answers to each line of input, a step.
-fn run(rt: &HostRuntime, row: &mut Row<'_>) -> Result<(), Stop> {
-    let limits = row.words.limits()?;
-    let lines = row.lines();
-    let Ok(mut session) = Session::new(rt.alloc(), limits) else {
-        return say(rt, OUT_OF_MEMORY);
+/// What a new session answers to each step.
+pub(crate) fn answer(row: &mut Row<'_>) {
+    let limits = row.limits();
+    let Ok(mut session) = Session::new(row.alloc, limits) else {
+        row.skip();
+        return row.put_none();
     };
-    for line in lines {
-        step(rt, &mut session, row, line)?;
-    }
-    Ok(())
-}
-
-/// Makes a step: `begin KIND FAMILY SEQ PORT`, `feed BYTES`, `feed cuts BYTES`, `tries BYTES`,
-/// `abandon`, `shows`, or `table KIND`.
-fn step(rt: &HostRuntime, session: &mut Session, row: &Row<'_>, line: &str) -> Result<(), Stop> {
-    let (name, rest) = line.split_once(' ').unwrap_or((line, ""));
-    let mut words = Words::of(rest);
-    match name {
-        "feed" => return say_line(rt, row, rest, |bytes| fed(rt.alloc(), session, bytes)),
-        "tries" => return feed_until_taken(rt, session, row, rest),
-        "begin" => begin(rt, session, &mut words)?,
-        "abandon" => abandon(rt, session)?,
-        "shows" => show(rt, session)?,
-        "table" => match_table!(words.family()?, session, table => say_entries(rt, table)?),
-        _ => return Err(Stop::Wrong(Wrong::Word)),
-    }
-    if words.is_empty() {
-        return Ok(());
-    }
-    Err(Stop::Wrong(Wrong::MoreWords))
-}
-
-/// What a session answers of its last dump, and all that its tables hold.
-#[derive(Drop)]
-struct Answers {
-    standing: Standing,
-    tables: Vec<u8>,
-}
-
-impl Answers {
-    fn of(alloc: Global, session: &Session) -> Result<Answers, Stop> {
-        Ok(Answers {
-            standing: session.standing(),
-            tables: tables_of(alloc, session)?,
-        })
-    }
-
-    /// The word for whether a session answers the same, and holds the same.
-    fn word(&self, alloc: Global, session: &Session) -> Result<&'static str, Stop> {
-        let Answers { standing, tables } = Answers::of(alloc, session)?;
-        Ok(if standing == self.standing && tables == self.tables {
-            "as before"
-        } else {
-            "changed"
-        })
+    put_session(row, &session);
+    for _ in 0..row.number() {
+        step(row, &mut session);
+        put_session(row, &session);
     }
 }
 
-/// Begins a dump, and once more where memory ran out. Tells its request, or why it was not begun.
-fn begin(rt: &HostRuntime, session: &mut Session, words: &mut Words<'_>) -> Result<(), Stop> {
-    let kind = words.family()?;
-    let family: u8 = words.number()?;
-    let (seq, port): (u32, u32) = (words.number()?, words.number()?);
-    let before = Answers::of(rt.alloc(), session)?;
-    let mut answer = session.begin(kind, family, seq, port);
-    if let Err(BeginError::Memory) = answer {
-        let kept = before.word(rt.alloc(), session)?;
-        say(rt, format_args!("{OUT_OF_MEMORY}, session {kept}"))?;
-        answer = session.begin(kind, family, seq, port);
+fn step(row: &mut Row<'_>, session: &mut Session) {
+    match row.number() {
+        0 => feed(row, session),
+        1 => begin(row, session),
+        2 => row.put(session.abandon().is_err() as u64),
+        3 => show(row, session),
+        4 => match_table!(row.family(), session, table => put_entries(row, table)),
+        _ => row.fail(),
     }
+}
+
+/// The dump that is asked.
+pub(crate) fn dump_in(row: &mut Row<'_>) -> Dump {
+    Dump {
+        kind: row.family(),
+        family: row.int::<u8>(),
+        seq: row.int::<u32>(),
+        port: row.int::<u32>(),
+    }
+}
+
+/// Answers where a session stands, and how many entries its tables have.
+fn put_session(row: &mut Row<'_>, session: &Session) {
+    put_standing(row, session.standing());
+    row.put_all(&[
+        session.complete() as u64,
+        session.links().len() as u64,
+        session.addrs().len() as u64,
+        session.routes().len() as u64,
+        session.neighs().len() as u64,
+        session.rules().len() as u64,
+    ]);
+}
+
+/// Answers where a session or a stream stands.
+pub(crate) fn put_standing(row: &mut Row<'_>, standing: Standing) {
+    put_limits(row, standing.limits);
+    put_state(row, standing.state);
+    put_fields!(row, standing, received visits ignored damaged interrupted);
+}
+
+pub(crate) fn put_state(row: &mut Row<'_>, state: State) {
+    match state {
+        State::Idle => row.put(0),
+        State::Waiting(dump) => {
+            row.put(1);
+            put_dump(row, dump);
+        }
+        State::Ended(dump, end) => {
+            row.put(2);
+            put_dump(row, dump);
+            put_end(row, end);
+        }
+    }
+}
+
+fn put_dump(row: &mut Row<'_>, dump: Dump) {
+    put_fields!(row, dump, kind family seq port);
+}
+
+fn put_end(row: &mut Row<'_>, end: End) {
+    match end {
+        End::Done(status) => row.put_all(&[0, unsigned(status)]),
+        End::Error(code) => row.put_all(&[1, unsigned(code)]),
+        End::Overrun => row.put(2),
+        End::Abandoned => row.put(3),
+    }
+}
+
+/// Answers what became of a datagram.
+pub(crate) fn put_progress(row: &mut Row<'_>, answer: Result<Progress, FeedError>) {
     match answer {
+        Ok(progress) => put_items(row, progress),
+        Err(error) => row.refuse(error.code(), error),
+    }
+}
+
+/// Answers 0 and what became of the messages.
+pub(crate) fn put_items(row: &mut Row<'_>, progress: Progress) {
+    row.put(0);
+    put_fields!(row, progress, items ignored ended);
+}
+
+/// Begins a dump. Answers its request, or why it was not begun.
+fn begin(row: &mut Row<'_>, session: &mut Session) {
+    let (is_asked, dump) = (row.is_asked(), dump_in(row));
+    if !is_asked {
+        return row.put_none();
+    }
+    match session.begin(dump.kind, dump.family, dump.seq, dump.port) {
         Ok(request) => {
-            let request = Hex(request.as_slice());
-            say(rt, format_args!("request {request}"))
+            row.put(0);
+            row.put_bytes(request.as_slice());
         }
-        Err(error) => say(rt, error),
+        Err(error) => row.refuse(error.code(), error),
     }
 }
 
-fn abandon(rt: &HostRuntime, session: &mut Session) -> Result<(), Stop> {
-    match session.abandon() {
-        Ok(()) => say(rt, "abandoned"),
-        Err(error) => say(rt, error),
+/// All that a session answers.
+fn show(row: &mut Row<'_>, session: &Session) {
+    put_state(row, session.state());
+    put_calls!(row, session, received visits ignored damaged interrupted complete);
+}
+
+fn feed(row: &mut Row<'_>, session: &mut Session) {
+    let (is_asked, bytes) = (row.is_asked(), row.bytes());
+    if !is_asked {
+        return row.put_none();
     }
-}
-
-/// How many links, addresses, routes, neighbours and rules a session holds.
-fn counts(alloc: Global, session: &Session) -> Result<String, Stop> {
-    let (links, addrs) = (session.links().len(), session.addrs().len());
-    let (routes, neighs) = (session.routes().len(), session.neighs().len());
-    let rules = session.rules().len();
-    Ok(format!(in alloc; "entries {links} {addrs} {routes} {neighs} {rules}")?)
-}
-
-/// Tells all that a session answers, of its tables how many entries they have.
-fn show(rt: &HostRuntime, session: &Session) -> Result<(), Stop> {
-    let state = session.state();
-    say(rt, Shown(&state))?;
-    let (received, visits, ignored) = (session.received(), session.visits(), session.ignored());
-    say(
-        rt,
-        format_args!("received {received} visits {visits} ignored {ignored}"),
-    )?;
-    let (damaged, interrupted) = (session.damaged(), session.interrupted());
-    let (damaged, interrupted) = (yes_or_no(damaged), yes_or_no(interrupted));
-    let complete = yes_or_no(session.complete());
-    say(
-        rt,
-        format_args!("damaged {damaged} interrupted {interrupted} complete {complete}"),
-    )?;
-    let counts = counts(rt.alloc(), session)?;
-    say(rt, counts.as_str())
-}
-
-/// Feeds a datagram to a session. What became of it, the visits, whether all of its bytes were
-/// received, and what the session then says.
-fn fed(alloc: Global, session: &mut Session, bytes: &[u8]) -> Result<String, Stop> {
-    let before = session.standing();
     let answer = session.feed(bytes);
-    told(alloc, session, before, bytes, answer)
-}
-
-/// What became of a datagram that was fed to a session with this standing.
-fn told(
-    alloc: Global,
-    session: &Session,
-    before: Standing,
-    bytes: &[u8],
-    answer: Result<Progress, FeedError>,
-) -> Result<String, Stop> {
-    let received = session.received().saturating_sub(before.received) == bytes.len() as u64;
-    let visits = session.visits().saturating_sub(before.visits);
-    let (received, damaged) = (yes_or_no(received), yes_or_no(session.damaged()));
-    let (complete, counts) = (yes_or_no(session.complete()), counts(alloc, session)?);
-    let counts = counts.as_str();
-    let rest = format_args!(
-        "visits {visits} received {received} damaged {damaged} complete {complete} {counts}"
-    );
-    match answer {
-        Ok(progress) => {
-            let progress = Shown(&progress);
-            Ok(format!(in alloc; "{progress}, {rest}")?)
-        }
-        Err(error) => Ok(format!(in alloc; "{error}, {rest}")?),
-    }
-}
-
-/// `tries BYTES`: feeds a datagram, and tells what became of it. Where memory ran out, tells whether
-/// the dump's answer and all tables are as before, but for what was received and visited and the
-/// damage, and feeds it once more. At last tells where the dump stands.
-fn feed_until_taken(
-    rt: &HostRuntime,
-    session: &mut Session,
-    row: &Row<'_>,
-    input: &str,
-) -> Result<(), Stop> {
-    let bytes = row.bytes_of(rt.alloc(), input)?;
-    let bytes = bytes.as_slice();
-    let mut before = Answers::of(rt.alloc(), session)?;
-    let answer = session.feed(bytes);
-    let said = told(rt.alloc(), session, before.standing, bytes, answer)?;
-    say(rt, said.as_str())?;
-    if answer == Err(FeedError::Memory) {
-        before.standing.received = session.received();
-        before.standing.visits = session.visits();
-        before.standing.damaged = session.damaged();
-        let kept = before.word(rt.alloc(), session)?;
-        say(rt, format_args!("answer and tables {kept}"))?;
-        let said = fed(rt.alloc(), session, bytes)?;
-        say(rt, said.as_str())?;
-    }
-    let state = session.state();
-    say(rt, Shown(&state))
-}
-
-/// Feeds a datagram to a new session whose dump waits.
-fn fed_first(alloc: Global, kind: Kind, limits: Limits, bytes: &[u8]) -> Result<String, Stop> {
-    let mut session = Session::new(alloc, limits)?;
-    match session.begin(kind, 0, 1, 12_345) {
-        Ok(_request) => fed(alloc, &mut session, bytes),
-        Err(error) => Err(Stop::behind(error.code())),
-    }
-}
-
-/// `fresh KIND [LIMITS]`: what becomes of each line, a datagram, in a session of its own, whose
-/// dump of all entries of this kind has the sequence number 1 and the port id 12345.
-fn feed_each(rt: &HostRuntime, row: &mut Row<'_>) -> Result<(), Stop> {
-    let kind = row.words.family()?;
-    let limits = row.words.limits()?;
-    for line in row.lines() {
-        say_line(
-            rt,
-            row,
-            line,
-            |bytes| fed_first(rt.alloc(), kind, limits, bytes),
-        )?;
-    }
-    Ok(())
+    put_progress(row, answer);
 }

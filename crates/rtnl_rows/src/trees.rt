@@ -1,246 +1,166 @@
 //! Trees of attributes, and what is read of one attribute.
 
-ghost use Rattle.std.specs.Prelude.{◌≤◌, ◌+◌, length};
-
-use crate::rows::Row;
-use crate::said::{Flags, Hex, Indent, Maybe, OUT_OF_MEMORY, say, yes_or_no};
-use crate::shown::Shown;
-use crate::stop::{Stop, Wrong};
+use crate::row::{Row, unsigned};
 use nl_attr::{
-    Attr, Content, Ctx, Depth, FARTHEST_END, Hop, LONGEST_REGION, ListError, Order, Payload, Tally,
-    Value, find, holds, read_list, read_list_ordered,
+    Attr, Content, Hop, Order, Payload, Tally, Value, find, holds, read_list, read_list_ordered,
 };
-use std::alloc::{AllocFailed, Global};
-use std::fmt;
+use std::alloc::AllocFailed;
 
-/// Makes the call of a row, if it is one of these. Whether it is.
-pub(crate) fn has_answered(rt: &HostRuntime, row: &mut Row<'_>) -> Result<bool, Stop> {
-    match row.call {
-        "read_list" => read(rt, row)?,
-        "views" => view(rt, row)?,
-        "holds" => tell_content(rt, row)?,
-        "payload" => keep(rt, row)?,
-        "same_payload" => compare_payloads(rt, row)?,
-        _ => return Ok(false),
-    }
-    Ok(true)
-}
-
-/// Tells all of an attribute, each line behind so many levels.
-#[cycle(telling)]
-fn say_attr(rt: &HostRuntime, attr: &Attr, level: usize) -> Result<(), Stop> {
-    let (number, flags, indent) = (attr.number, Flags(attr.flags), Indent(level));
-    let head = format_args!("{indent}{number}{flags}");
-    match &attr.value {
-        Value::Bytes(payload) => {
-            let payload = Hex(payload.as_slice());
-            say(rt, format_args!("{head} {payload}"))
-        }
-        Value::List(attrs) => {
-            say(rt, format_args!("{head} list"))?;
-            say_attrs(rt, attrs.as_slice(), level.saturating_add(1))
-        }
-        Value::Hops(hops) => {
-            say(rt, format_args!("{head} hops"))?;
-            say_hops(rt, hops.as_slice(), level.saturating_add(1))
-        }
+pub(crate) fn answer(row: &mut Row<'_>) {
+    match row.number() {
+        0 => read(row),
+        1 => view(row),
+        2 => tell_content(row),
+        3 => keep(row),
+        4 => compare_payloads(row),
+        _ => row.fail(),
     }
 }
 
-/// Tells all of a next hop.
-#[cycle(telling)]
-fn say_hop(rt: &HostRuntime, hop: &Hop, level: usize) -> Result<(), Stop> {
-    let (flags, hops, ifindex, indent) = (hop.flags, hop.hops, hop.ifindex, Indent(level));
-    say(
-        rt,
-        format_args!("{indent}hop flags 0x{flags:02x} hops {hops} ifindex {ifindex}"),
-    )?;
-    say_attrs(rt, hop.attrs.as_slice(), level.saturating_add(1))
-}
-
-/// Tells all of next hops, each line behind so many levels.
-#[cycle(telling)]
-pub(crate) fn say_hops(rt: &HostRuntime, hops: &[Hop], level: usize) -> Result<(), Stop> {
-    for hop in hops {
-        say_hop(rt, hop, level)?;
-    }
-    Ok(())
-}
-
-/// Tells all of a list of attributes, each line behind so many levels: the number of an attribute,
-/// its flags, and its bytes, or below it what it holds.
-#[cycle(telling)]
-pub(crate) fn say_attrs(rt: &HostRuntime, attrs: &[Attr], level: usize) -> Result<(), Stop> {
+/// Answers how many attributes there are, and all of each: its number, its flags, and what it
+/// holds behind a number for that, bytes, attributes or next hops.
+#[cycle(putting)]
+pub(crate) fn put_attrs(row: &mut Row<'_>, attrs: &[Attr]) {
+    row.put(attrs.len() as u64);
     for attr in attrs {
-        say_attr(rt, attr, level)?;
-    }
-    Ok(())
-}
-
-/// Tells all of a family's body: its head, and its attributes a level further to the right.
-pub(crate) fn say_family<H: fmt::Display + Drop>(
-    rt: &HostRuntime,
-    head: H,
-    attrs: &[Attr],
-    level: usize,
-) -> Result<(), Stop> {
-    let indent = Indent(level);
-    say(rt, format_args!("{indent}{head}"))?;
-    say_attrs(rt, attrs, level.saturating_add(1))
-}
-
-/// Where a list of attributes stands, and how it is read.
-#[derive(Clone, Copy)]
-struct Place {
-    order: Option<Order>,
-    ctx: Ctx,
-    base: u32,
-    level: u8,
-    depth: Depth,
-}
-
-impl Place {
-    /// The place that words name: `[ORDER] CONTEXT [base PLACE] [level LEVEL] [depth LEVELS]`.
-    fn of(row: &mut Row<'_>) -> Result<Place, Stop> {
-        Ok(Place {
-            order: row.words.order(),
-            ctx: row.words.context()?,
-            base: row.words.number_of("base", 0)?,
-            level: row.words.number_of("level", 0)?,
-            depth: row.words.depth()?,
-        })
-    }
-
-    /// What the call for the order, or the one that names none, answers over a region.
-    fn read(self, alloc: Global, bytes: &[u8]) -> Result<Tally<Vec<Attr>, ListError>, Stop>
-        requires { length bytes.now ≤ LONGEST_REGION }
-    {
-        let Place {
-            order,
-            ctx,
-            base,
-            level,
-            depth,
-        } = self;
-        if base > FARTHEST_END - LONGEST_REGION as u32 || level > depth.get() {
-            return Err(Stop::Wrong(Wrong::Range));
-        }
-        Ok(match order {
-            Some(order) => read_list_ordered(alloc, bytes, base, ctx, level, depth, order),
-            None => read_list(alloc, bytes, base, ctx, level, depth),
-        })
-    }
-}
-
-/// `read_list` and a place: the visits, and the tree or why it was not read.
-fn read(rt: &HostRuntime, row: &mut Row<'_>) -> Result<(), Stop> {
-    let place = Place::of(row)?;
-    let bytes = row.bytes(rt.alloc())?;
-    let Tally { result, visits } = place.read(rt.alloc(), bytes.as_slice())?;
-    say(rt, format_args!("visits {visits}"))?;
-    match result {
-        Ok(attrs) => say_attrs(rt, attrs.as_slice(), 0),
-        Err(error) => say(rt, error),
-    }
-}
-
-/// Tells all that is read of an attribute.
-fn say_views(rt: &HostRuntime, attr: &Attr) -> Result<(), Stop> {
-    let bytes = Maybe(attr.bytes().map(Hex));
-    let text = Maybe(attr.text().map(Hex));
-    say(rt, format_args!("bytes {bytes} text {text}"))?;
-    let u8_value = Maybe(attr.u8_value());
-    let be16_value = Maybe(attr.be16_value());
-    say(rt, format_args!("u8 {u8_value} be16 {be16_value}"))?;
-    let (u16_value, u32_value) = (Maybe(attr.u16_value()), Maybe(attr.u32_value()));
-    say(rt, format_args!("u16 {u16_value} u32 {u32_value}"))?;
-    say_ordered(rt, attr, Order::Little)?;
-    say_ordered(rt, attr, Order::Big)
-}
-
-/// Tells the numbers that are read of an attribute in an order.
-fn say_ordered(rt: &HostRuntime, attr: &Attr, order: Order) -> Result<(), Stop> {
-    let u16_value = Maybe(attr.u16_value_ordered(order));
-    let u32_value = Maybe(attr.u32_value_ordered(order));
-    say(rt, format_args!("{order} u16 {u16_value} u32 {u32_value}"))
-}
-
-/// `views NUMBER` and a place: what is read of the first attribute of this number in a region.
-fn view(rt: &HostRuntime, row: &mut Row<'_>) -> Result<(), Stop> {
-    let number: u16 = row.words.number()?;
-    let place = Place::of(row)?;
-    let bytes = row.bytes(rt.alloc())?;
-    match place.read(rt.alloc(), bytes.as_slice())?.into_result() {
-        Ok(attrs) => match find(attrs.as_slice(), number) {
-            Some(attr) => say_views(rt, attr),
-            None => say(rt, "none"),
-        },
-        Err(error) => say(rt, error),
-    }
-}
-
-/// The word for a context.
-pub(crate) fn context_word(ctx: Ctx) -> &'static str {
-    match ctx {
-        Ctx::Link => "link",
-        Ctx::LinkInfo => "linkinfo",
-        Ctx::Addr => "addr",
-        Ctx::Route => "route",
-        Ctx::Metrics => "metrics",
-        Ctx::Neigh => "neigh",
-        Ctx::Rule => "rule",
-        Ctx::Plain => "plain",
-    }
-}
-
-/// `holds CONTEXT NUMBER [FLAGS]`.
-fn tell_content(rt: &HostRuntime, row: &mut Row<'_>) -> Result<(), Stop> {
-    let ctx = row.words.context()?;
-    let number: u16 = row.words.number()?;
-    match holds(ctx, number, row.words.flags()) {
-        Content::Bytes => say(rt, "bytes"),
-        Content::List(inner) => {
-            let inner = context_word(inner);
-            say(rt, format_args!("list {inner}"))
-        }
-        Content::Hops => say(rt, "hops"),
-    }
-}
-
-/// `payload`: the bytes kept as a payload, and taken out of it.
-fn keep(rt: &HostRuntime, row: &mut Row<'_>) -> Result<(), Stop> {
-    let bytes = row.bytes(rt.alloc())?;
-    let Ok(payload) = Payload::from_slice(rt.alloc(), bytes.as_slice()) else {
-        return say(rt, OUT_OF_MEMORY);
-    };
-    let (len, is_empty) = (payload.len(), yes_or_no(payload.is_empty()));
-    let kept = Hex(payload.as_slice());
-    say(rt, format_args!("len {len} empty {is_empty} kept {kept}"))?;
-    let taken = payload.into_vec(rt.alloc());
-    let again = Payload::from(bytes).into_vec(rt.alloc());
-    let (taken, again) = (Shown(&taken), Shown(&again));
-    say(rt, format_args!("taken {taken} again {again}"))
-}
-
-/// The bytes that were taken out of a payload, or where memory ran out those that it still has.
-impl fmt::Display for Shown<'_, Result<Vec<u8>, AllocFailed<Payload>>> {
-    fn fmt<W: fmt::Write>(&self, f: &mut fmt::Formatter<W>) -> fmt::Result {
-        match self.0 {
-            Ok(bytes) => Hex(bytes.as_slice()).fmt(f),
-            Err(AllocFailed { value }) => {
-                let left = Hex(value.as_slice());
-                write!(f, "{OUT_OF_MEMORY} left {left}")
+        let flags = attr.flags;
+        row.put_all(&[attr.number as u64, flags.nested as u64, flags.net as u64]);
+        match &attr.value {
+            Value::Bytes(payload) => row.put_bytes(payload.as_slice()),
+            Value::List(attrs) => {
+                row.put(0);
+                put_attrs(row, attrs.as_slice());
+            }
+            Value::Hops(hops) => {
+                row.put(1);
+                put_hops(row, hops.as_slice());
             }
         }
     }
 }
 
-/// `same_payload`: whether the bytes of two lines are one payload, in both directions and by bytes.
-fn compare_payloads(rt: &HostRuntime, row: &mut Row<'_>) -> Result<(), Stop> {
-    let (first, second) = row.two_bytes(rt.alloc())?;
-    let one = Payload::from_slice(rt.alloc(), first.as_slice())?;
-    let is_so = yes_or_no(one.is(second.as_slice()));
-    let other = Payload::from(second);
-    let (equal, same) = (yes_or_no(one == other), yes_or_no(other == one));
-    say(rt, format_args!("is {is_so} equal {equal} back {same}"))
+/// The same of next hops.
+#[cycle(putting)]
+pub(crate) fn put_hops(row: &mut Row<'_>, hops: &[Hop]) {
+    row.put(hops.len() as u64);
+    for hop in hops {
+        row.put_all(&[hop.flags as u64, hop.hops as u64, unsigned(hop.ifindex)]);
+        put_attrs(row, hop.attrs.as_slice());
+    }
+}
+
+/// The list that is asked, by the call for its order, or by its twin. The visits are answered, and
+/// why it was not read, or 0.
+fn read_asked(row: &mut Row<'_>) -> Option<Vec<Attr>> {
+    let (order, ctx, base) = (row.twin(), row.context(), row.base());
+    let (level, depth, bytes) = (row.int::<u8>(), row.depth(), row.bytes());
+    if level > depth.get() {
+        row.fail();
+        return None;
+    }
+    let Tally { result, visits } = match order {
+        Some(order) => read_list_ordered(row.alloc, bytes, base, ctx, level, depth, order),
+        None => read_list(row.alloc, bytes, base, ctx, level, depth),
+    };
+    row.put(visits);
+    match result {
+        Ok(attrs) => {
+            row.put(0);
+            Some(attrs)
+        }
+        Err(error) => {
+            row.refuse(error.code(), error);
+            None
+        }
+    }
+}
+
+fn read(row: &mut Row<'_>) {
+    if let Some(attrs) = read_asked(row) {
+        put_attrs(row, attrs.as_slice());
+    }
+}
+
+/// What is read of the first attribute of a number.
+fn view(row: &mut Row<'_>) {
+    let number = row.int::<u16>();
+    if let Some(attrs) = read_asked(row) {
+        match find(attrs.as_slice(), number) {
+            Some(attr) => put_views(row, attr),
+            None => row.put_none(),
+        }
+    }
+}
+
+fn put_views(row: &mut Row<'_>, attr: &Attr) {
+    row.put(0);
+    row.put_found(attr.bytes());
+    row.put_found(attr.text());
+    row.put_maybe(attr.u8_value().map(u64::from));
+    row.put_maybe(attr.be16_value().map(u64::from));
+    row.put_maybe(attr.u16_value().map(u64::from));
+    row.put_maybe(attr.u32_value().map(u64::from));
+    row.put_maybe(attr.u16_value_ordered(Order::Little).map(u64::from));
+    row.put_maybe(attr.u32_value_ordered(Order::Little).map(u64::from));
+    row.put_maybe(attr.u16_value_ordered(Order::Big).map(u64::from));
+    row.put_maybe(attr.u32_value_ordered(Order::Big).map(u64::from));
+}
+
+fn tell_content(row: &mut Row<'_>) {
+    let (ctx, number, flags) = (row.context(), row.int::<u16>(), row.flags());
+    match holds(ctx, number, flags) {
+        Content::Bytes => row.put(0),
+        Content::List(inner) => row.put_all(&[1, inner as u64]),
+        Content::Hops => row.put(2),
+    }
+}
+
+/// Answers the bytes that were taken out of a payload, or where memory ran out those that it still
+/// has.
+fn put_taken(row: &mut Row<'_>, taken: Result<Vec<u8>, AllocFailed<Payload>>) {
+    match taken {
+        Ok(bytes) => {
+            row.put(0);
+            row.put_bytes(bytes.as_slice());
+        }
+        Err(AllocFailed { value }) => {
+            row.put(1);
+            row.put_bytes(value.as_slice());
+        }
+    }
+}
+
+/// The bytes kept as a payload, and taken out of it; and out of one that their buffer became.
+fn keep(row: &mut Row<'_>) {
+    let bytes = row.bytes();
+    let Ok(whole) = Vec::from_slice(row.alloc, bytes) else {
+        return row.run_out();
+    };
+    let Ok(payload) = Payload::from_slice(row.alloc, bytes) else {
+        return row.put_none();
+    };
+    row.put_all(&[payload.len() as u64, payload.is_empty() as u64]);
+    row.put_bytes(payload.as_slice());
+    let taken = payload.into_vec(row.alloc);
+    let again = Payload::from(whole).into_vec(row.alloc);
+    put_taken(row, taken);
+    put_taken(row, again);
+}
+
+/// Whether two are one payload, in both directions and by bytes.
+fn compare_payloads(row: &mut Row<'_>) {
+    let (first, second) = (row.bytes(), row.bytes());
+    let one = Payload::from_slice(row.alloc, first);
+    let other = Vec::from_slice(row.alloc, second);
+    match (one, other) {
+        (Ok(one), Ok(other)) => {
+            let other = Payload::from(other);
+            row.put_all(&[
+                one.is(second) as u64,
+                (one == other) as u64,
+                (other == one) as u64,
+            ]);
+        }
+        _ => row.run_out(),
+    }
 }

@@ -1,17 +1,11 @@
 //! The callers of `rtnl_uses`.
 
-ghost use Rattle.std.specs.Prelude.{◌≤◌, length};
-
-use crate::rows::Row;
-use crate::runs::{Told, say_written};
-use crate::said::{Hex, Maybe, Outcome, say, yes_or_no};
-use crate::scans::UNTOUCHED;
-use crate::stop::{Stop, Wrong};
-use nl_attr::{Depth, LONGEST_REGION};
-use nl_dump::{Dump, Kind, Session, Stream};
+use crate::row::Row;
+use crate::scans::room_for;
+use nl_dump::{Dump, FeedError, Kind, Session, Stream};
 use nl_frame::Limits;
 use nl_route::Link;
-use nl_table::{Put, Table};
+use nl_table::Table;
 use rtnl_uses::attributes::count_of;
 use rtnl_uses::datagrams::{message_count, mtu_of};
 use rtnl_uses::dumps::take_answer;
@@ -20,152 +14,150 @@ use rtnl_uses::links::links_of;
 use rtnl_uses::recordings::show_text;
 use rtnl_uses::streams::count_through;
 use rtnl_uses::tables::keep;
-use std::alloc::Global;
 
-/// Makes the call of a row, if it is one of these. Whether it is.
-pub(crate) fn has_answered(rt: &HostRuntime, row: &mut Row<'_>) -> Result<bool, Stop> {
-    match row.call {
-        "count_of" => count_attributes(rt, row)?,
-        "message_count" => count_messages(rt, row)?,
-        "mtu_of" => tell_mtu(rt, row)?,
-        "read_named" => tell_named(rt, row)?,
-        "show_text" => show_recording(rt, row)?,
-        "links_of" => tell_links(rt, row)?,
-        "keep" => keep_links(rt, row)?,
-        "take_answer" => answer_dump(rt, row)?,
-        "count_through" => count_routes(rt, row)?,
-        _ => return Ok(false),
+pub(crate) fn answer(row: &mut Row<'_>) {
+    match row.number() {
+        0 => count_attributes(row),
+        1 => count_messages(row),
+        2 => tell_mtu(row),
+        3 => tell_named(row),
+        4 => show_recording(row),
+        5 => tell_links(row),
+        6 => keep_links(row),
+        7 => answer_dump(row),
+        8 => count_routes(row),
+        _ => row.fail(),
     }
-    Ok(true)
 }
 
-/// `count_of NUMBER`.
-fn count_attributes(rt: &HostRuntime, row: &mut Row<'_>) -> Result<(), Stop> {
-    let number: u16 = row.words.number()?;
-    let bytes = row.bytes(rt.alloc())?;
-    say(rt, Outcome(count_of(bytes.as_slice(), number)))
+/// How many attributes of a number a region has.
+fn count_attributes(row: &mut Row<'_>) {
+    let (number, bytes) = (row.int::<u16>(), row.bytes());
+    match count_of(bytes, number) {
+        Ok(count) => row.put_all(&[0, count as u64]),
+        Err(fault) => row.refuse(fault.code(), fault),
+    }
 }
 
-/// `message_count [LIMITS]`.
-fn count_messages(rt: &HostRuntime, row: &mut Row<'_>) -> Result<(), Stop> {
-    let limits = row.words.limits()?;
-    let bytes = row.bytes(rt.alloc())?;
-    say(
-        rt,
-        Outcome(message_count(rt.alloc(), bytes.as_slice(), &limits)),
-    )
+fn count_messages(row: &mut Row<'_>) {
+    let (limits, bytes) = (row.limits(), row.bytes());
+    match message_count(row.alloc, bytes, &limits) {
+        Ok(count) => row.put_all(&[0, count as u64]),
+        Err(error) => row.refuse(error.code(), error),
+    }
 }
 
 /// The link of a body.
-fn link_of(alloc: Global, bytes: &[u8], limits: &Limits) -> Result<Link, Stop>
-    requires { length bytes.now ≤ LONGEST_REGION }
-{
+fn link_in(row: &mut Row<'_>, limits: &Limits) -> Option<Link> {
+    let bytes = row.bytes();
     if bytes.len() < 16 {
-        return Err(Stop::Wrong(Wrong::Input));
+        row.fail();
+        return None;
     }
-    Link::read_body_ordered(alloc, bytes, 0, limits.depth(), limits.order())
-        .into_result()
-        .map_err(|_| Stop::Wrong(Wrong::Refused))
+    let tally = Link::read_body_ordered(row.alloc, bytes, 0, limits.depth(), limits.order());
+    match tally.into_result() {
+        Ok(link) => Some(link),
+        Err(error) => {
+            row.stop(error.code());
+            None
+        }
+    }
 }
 
-/// `mtu_of [LIMITS]`: what the caller answers of a link's body, and the plain view.
-fn tell_mtu(rt: &HostRuntime, row: &mut Row<'_>) -> Result<(), Stop> {
-    let limits = row.words.limits()?;
-    let bytes = row.bytes(rt.alloc())?;
-    let link = link_of(rt.alloc(), bytes.as_slice(), &limits)?;
-    let (mtu, plain) = (Maybe(mtu_of(&link, &limits)), Maybe(link.mtu()));
-    say(rt, format_args!("{mtu} plain {plain}"))
+/// What the caller answers of a link's body, and the plain view.
+fn tell_mtu(row: &mut Row<'_>) {
+    let limits = row.limits();
+    if let Some(link) = link_in(row, &limits) {
+        row.put_maybe(mtu_of(&link, &limits).map(u64::from));
+        row.put_maybe(link.mtu().map(u64::from));
+    }
 }
 
-/// `read_named [depth LEVELS]`, of a link's body.
-fn tell_named(rt: &HostRuntime, row: &mut Row<'_>) -> Result<(), Stop> {
-    let depth: Depth = row.words.depth()?;
-    let bytes = row.bytes(rt.alloc())?;
-    let bytes = bytes.as_slice();
+/// The name and the MTU of a link's body.
+fn tell_named(row: &mut Row<'_>) {
+    let (depth, bytes) = (row.depth(), row.bytes());
     if bytes.len() < 16 {
-        return Err(Stop::Wrong(Wrong::Input));
+        return row.fail();
     }
-    match read_named(rt.alloc(), bytes, depth) {
+    match read_named(row.alloc, bytes, depth) {
         Ok(named) => {
-            let name = Maybe(named.name.as_ref().map(|name| Hex(name.as_slice())));
-            let mtu = Maybe(named.mtu);
-            say(rt, format_args!("name {name} mtu {mtu}"))
+            row.put(0);
+            row.put_found(named.name.as_ref().map(|name| name.as_slice()));
+            row.put_maybe(named.mtu.map(u64::from));
         }
-        Err(error) => say(rt, error),
+        Err(error) => row.refuse(error.code(), error),
     }
 }
 
-/// `show_text [LIMITS]`, of the recording in the lines.
-fn show_recording(rt: &HostRuntime, row: &mut Row<'_>) -> Result<(), Stop> {
-    let limits = row.words.limits()?;
-    let recording = row.text(rt.alloc())?;
-    match show_text(rt.alloc(), recording.as_slice(), &limits) {
+fn show_recording(row: &mut Row<'_>) {
+    let (limits, recording) = (row.limits(), row.text());
+    match show_text(row.alloc, recording, &limits) {
         Ok((text, verdict)) => {
-            say_written(rt, text.as_slice())?;
-            say(rt, Told(verdict))
+            row.put_all(&[0, verdict as u64]);
+            row.put_bytes(text.as_slice());
         }
-        Err(error) => say(rt, error),
+        Err(error) => row.refuse(error.code(), error),
     }
 }
 
-/// `links_of [LIMITS]`, of the recording in the lines.
-fn tell_links(rt: &HostRuntime, row: &mut Row<'_>) -> Result<(), Stop> {
-    let limits = row.words.limits()?;
-    let recording = row.text(rt.alloc())?;
-    match links_of(rt.alloc(), recording.as_slice(), &limits) {
+fn tell_links(row: &mut Row<'_>) {
+    let (limits, recording) = (row.limits(), row.text());
+    match links_of(row.alloc, recording, &limits) {
         Ok(links) => {
+            row.put_all(&[0, links.len() as u64]);
             for (name, mtu) in links.as_slice() {
-                let (name, mtu) = (Hex(name.as_slice()), Maybe(*mtu));
-                say(rt, format_args!("name {name} mtu {mtu}"))?;
+                row.put_bytes(name.as_slice());
+                row.put_maybe(mtu.map(u64::from));
             }
-            Ok(())
         }
-        Err(error) => say(rt, error),
+        Err(error) => row.refuse(1, error),
     }
 }
 
-/// `keep ENTRIES`: what becomes of the link of each line's body in a table of so many entries.
-fn keep_links(rt: &HostRuntime, row: &mut Row<'_>) -> Result<(), Stop> {
-    let entries: u32 = row.words.number()?;
-    let mut table = Table::new(rt.alloc(), entries)?;
-    for line in row.lines() {
-        let bytes = row.bytes_of(rt.alloc(), line)?;
-        let link = link_of(rt.alloc(), bytes.as_slice(), &Limits::standard())?;
-        say(
-            rt,
-            match keep(rt.alloc(), &mut table, link)? {
-                Put::Added => "added",
-                Put::Replaced => "replaced",
-                Put::Missed => "missed",
-            },
-        )?;
+/// What becomes of the links of bodies in a table of so many entries.
+fn keep_links(row: &mut Row<'_>) {
+    let Ok(mut table) = Table::new(row.alloc, row.int::<u32>()) else {
+        return row.run_out();
+    };
+    for _ in 0..row.number() {
+        let Some(link) = link_in(row, &Limits::standard()) else {
+            return;
+        };
+        match keep(row.alloc, &mut table, link) {
+            Ok(put) => row.put(put as u64),
+            Err(_) => return row.run_out(),
+        }
     }
-    Ok(())
 }
 
-/// `take_answer PORT`: a datagram is taken before a dump of links to this port is begun, and then
-/// again. Tells whether the dump still waits.
-fn answer_dump(rt: &HostRuntime, row: &mut Row<'_>) -> Result<(), Stop> {
-    let port: u32 = row.words.number()?;
-    let bytes = row.bytes(rt.alloc())?;
-    let mut session = Session::new(rt.alloc(), Limits::standard())?;
-    let before = take_answer(&mut session, bytes.as_slice()).map(yes_or_no);
-    say(rt, Outcome(before))?;
+fn put_taken(row: &mut Row<'_>, taken: Result<bool, FeedError>) {
+    match taken {
+        Ok(waits) => row.put_all(&[0, waits as u64]),
+        Err(error) => row.refuse(error.code(), error),
+    }
+}
+
+/// A datagram is taken before a dump of links to a port is begun, and then again. Answers whether
+/// the dump still waits.
+fn answer_dump(row: &mut Row<'_>) {
+    let (port, bytes) = (row.int::<u32>(), row.bytes());
+    let Ok(mut session) = Session::new(row.alloc, Limits::standard()) else {
+        return row.run_out();
+    };
+    let before = take_answer(&mut session, bytes);
+    put_taken(row, before);
     if session.begin(Kind::Link, 0, 1, port).is_err() {
-        return Err(Stop::Wrong(Wrong::Refused));
+        return row.fail();
     }
-    say(
-        rt,
-        Outcome(take_answer(&mut session, bytes.as_slice()).map(yes_or_no)),
-    )
+    let taken = take_answer(&mut session, bytes);
+    put_taken(row, taken);
 }
 
-/// `count_through INTERFACE ROOM [LIMITS]`: how many routes of each line, a datagram, leave by the
-/// interface, in one dump of routes with the sequence number 1 and the port id 12345.
-fn count_routes(rt: &HostRuntime, row: &mut Row<'_>) -> Result<(), Stop> {
-    let interface: u32 = row.words.number()?;
-    let room: u8 = row.words.number()?;
-    let mut stream = Stream::new(row.words.limits()?);
+/// How many routes of each datagram leave by an interface, in one dump of routes with the sequence
+/// number 1 and the port id 12345.
+fn count_routes(row: &mut Row<'_>) {
+    let (interface, room) = (row.int::<u32>(), row.int::<u8>());
+    let mut stream = Stream::new(row.limits());
     let dump = Dump {
         kind: Kind::Route,
         family: 0,
@@ -173,18 +165,13 @@ fn count_routes(rt: &HostRuntime, row: &mut Row<'_>) -> Result<(), Stop> {
         port: 12_345,
     };
     if stream.begin(dump).is_err() {
-        return Err(Stop::Wrong(Wrong::Refused));
+        return row.fail();
     }
-    let mut events = vec![in rt.alloc(); UNTOUCHED; room as usize]?;
-    for line in row.lines() {
-        let bytes = row.bytes_of(rt.alloc(), line)?;
-        let count = count_through(
-            &mut stream,
-            bytes.as_slice(),
-            interface,
-            events.as_mut_slice(),
-        );
-        say(rt, Outcome(count))?;
+    let mut events = room_for(row, room as usize);
+    for _ in 0..row.number() {
+        match count_through(&mut stream, row.bytes(), interface, events.as_mut_slice()) {
+            Ok(count) => row.put_all(&[0, count as u64]),
+            Err(error) => row.refuse(error.code(), error),
+        }
     }
-    Ok(())
 }

@@ -1,158 +1,145 @@
-//! Walks over the parts of a region.
+//! Walks over the parts of a region, and cursors into one.
 
-ghost use Rattle.std.specs.Prelude.{◌≤◌, length};
+use crate::messages::put_header;
+use crate::plain::put_form;
+use crate::row::{Row, put_fields, unsigned};
+use nl_attr::{Attrs, Fault, HopPart, HopParts, LONGEST_REGION, Part, align4, attr_at, hop_at};
+use nl_frame::message_at;
 
-use crate::rows::Row;
-use crate::said::{Flags, Hex, say, yes_or_no};
-use crate::stop::{Stop, Wrong};
-use nl_attr::{Attrs, Fault, HopPart, HopParts, LONGEST_REGION, Order, Part, align4};
-
-/// Makes the call of a row, if it is one of these. Whether it is.
-pub(crate) fn has_answered(rt: &HostRuntime, row: &mut Row<'_>) -> Result<bool, Stop> {
-    match row.call {
-        "align4" => align(rt, row)?,
-        "attrs" => walk_attrs(rt, row)?,
-        "hops" => walk_hops(rt, row)?,
-        "same_part" => compare_parts(rt, row)?,
-        "same_hop" => compare_hops(rt, row)?,
-        _ => return Ok(false),
+pub(crate) fn answer(row: &mut Row<'_>) {
+    match row.number() {
+        0 => align(row),
+        1 => walk_attrs(row),
+        2 => walk_hops(row),
+        3 => compare_parts(row),
+        4 => compare_hops(row),
+        5 => find_attr(row),
+        6 => find_hop(row),
+        7 => find_message(row),
+        _ => row.fail(),
     }
-    Ok(true)
 }
 
 /// The greatest number that is aligned.
 const GREATEST: u32 = 4_294_967_292;
 
-/// `align4 NUMBER`.
-fn align(rt: &HostRuntime, row: &mut Row<'_>) -> Result<(), Stop> {
-    let number: u32 = row.words.number()?;
+fn align(row: &mut Row<'_>) {
+    let number: u32 = row.int();
     if number > GREATEST {
-        return Err(Stop::Wrong(Wrong::Number));
+        return row.fail();
     }
-    say(rt, align4(number))
+    row.put(align4(number) as u64);
 }
 
-/// A walk by the call for the order, or the one that names none.
-fn attrs_of(bytes: &[u8], order: Option<Order>) -> Attrs<'_>
-    requires { length bytes.now ≤ LONGEST_REGION }
-{
-    match order {
+fn put_part(row: &mut Row<'_>, given: Result<Part<'_>, Fault>) {
+    match given {
+        Ok(part) => {
+            row.put_all(&[0, part.number as u64]);
+            put_fields!(row, part.flags, nested net);
+            put_fields!(row, part, place span);
+            row.put_bytes(part.payload);
+        }
+        Err(fault) => row.refuse(fault.code(), fault),
+    }
+}
+
+fn put_hop(row: &mut Row<'_>, given: Result<HopPart<'_>, Fault>) {
+    match given {
+        Ok(hop) => {
+            row.put_all(&[0, hop.flags as u64, hop.hops as u64, unsigned(hop.ifindex)]);
+            put_fields!(row, hop, place span);
+            row.put_bytes(hop.rest);
+        }
+        Err(fault) => row.refuse(fault.code(), fault),
+    }
+}
+
+/// All that a walk gives, whether it gives nothing from then on, and how much it has seen.
+fn walk_attrs(row: &mut Row<'_>) {
+    let (order, bytes) = (row.twin(), row.bytes());
+    let mut walk = match order {
         Some(order) => Attrs::of_ordered(bytes, order),
         None => Attrs::of(bytes),
+    };
+    for _ in 0..=LONGEST_REGION {
+        match walk.next() {
+            Some(given) => put_part(row, given),
+            None => break,
+        }
     }
+    row.put_none();
+    row.put(walk.next().is_none() as u64);
+    row.put(walk.seen());
 }
 
 /// The same over next hops.
-fn hops_of(bytes: &[u8], order: Option<Order>) -> HopParts<'_>
-    requires { length bytes.now ≤ LONGEST_REGION }
-{
-    match order {
+fn walk_hops(row: &mut Row<'_>) {
+    let (order, bytes) = (row.twin(), row.bytes());
+    let mut walk = match order {
         Some(order) => HopParts::of_ordered(bytes, order),
         None => HopParts::of(bytes),
-    }
-}
-
-/// Tells what a walk over attributes gives.
-pub(crate) fn say_part(rt: &HostRuntime, given: Result<Part<'_>, Fault>) -> Result<(), Stop> {
-    match given {
-        Ok(part) => {
-            let (flags, payload) = (Flags(part.flags), Hex(part.payload));
-            let (number, place, span) = (part.number, part.place, part.span);
-            say(
-                rt,
-                format_args!("{number}{flags} place {place} span {span} payload {payload}"),
-            )
-        }
-        Err(fault) => say(rt, fault),
-    }
-}
-
-/// Tells what a walk over next hops gives.
-pub(crate) fn say_hop(rt: &HostRuntime, given: Result<HopPart<'_>, Fault>) -> Result<(), Stop> {
-    match given {
-        Ok(hop) => {
-            let (flags, hops, ifindex) = (hop.flags, hop.hops, hop.ifindex);
-            let (place, span, rest) = (hop.place, hop.span, Hex(hop.rest));
-            let head = format_args!("hop flags 0x{flags:02x} hops {hops} ifindex {ifindex}");
-            say(
-                rt,
-                format_args!("{head} place {place} span {span} rest {rest}"),
-            )
-        }
-        Err(fault) => say(rt, fault),
-    }
-}
-
-/// Tells how a walk ended, and whether it gives nothing from then on.
-fn say_end(rt: &HostRuntime, seen: u64, stays: bool) -> Result<(), Stop> {
-    let stays = yes_or_no(stays);
-    say(rt, format_args!("end stays {stays} seen {seen}"))
-}
-
-/// `attrs [ORDER]`: all that the walk gives.
-fn walk_attrs(rt: &HostRuntime, row: &mut Row<'_>) -> Result<(), Stop> {
-    let order = row.words.order();
-    let bytes = row.bytes(rt.alloc())?;
-    let mut walk = attrs_of(bytes.as_slice(), order);
+    };
     for _ in 0..=LONGEST_REGION {
         match walk.next() {
-            Some(given) => say_part(rt, given)?,
+            Some(given) => put_hop(row, given),
             None => break,
         }
     }
-    let stays = walk.next().is_none();
-    say_end(rt, walk.seen(), stays)
+    row.put_none();
+    row.put(walk.next().is_none() as u64);
+    row.put(walk.seen());
 }
 
-/// `hops [ORDER]`: all that the walk gives.
-fn walk_hops(rt: &HostRuntime, row: &mut Row<'_>) -> Result<(), Stop> {
-    let order = row.words.order();
-    let bytes = row.bytes(rt.alloc())?;
-    let mut walk = hops_of(bytes.as_slice(), order);
-    for _ in 0..=LONGEST_REGION {
-        match walk.next() {
-            Some(given) => say_hop(rt, given)?,
-            None => break,
-        }
-    }
-    let stays = walk.next().is_none();
-    say_end(rt, walk.seen(), stays)
-}
-
-/// The part of this number, counted from 0, of a region.
-fn part_of(bytes: &[u8], count: usize) -> Result<Part<'_>, Stop>
-    requires { length bytes.now ≤ LONGEST_REGION }
-{
-    match Attrs::of(bytes).nth(count) {
-        Some(Ok(part)) => Ok(part),
-        _ => Err(Stop::Wrong(Wrong::Absent)),
+/// Whether a part of one region, by its number from 0, is that of another.
+fn compare_parts(row: &mut Row<'_>) {
+    let (first, second) = (row.int::<usize>(), row.int::<usize>());
+    let one = Attrs::of(row.bytes()).nth(first);
+    let other = Attrs::of(row.bytes()).nth(second);
+    match (one, other) {
+        (Some(Ok(one)), Some(Ok(other))) => row.put((one == other) as u64),
+        _ => row.fail(),
     }
 }
 
 /// The same of next hops.
-fn hop_of(bytes: &[u8], count: usize) -> Result<HopPart<'_>, Stop>
-    requires { length bytes.now ≤ LONGEST_REGION }
-{
-    match HopParts::of(bytes).nth(count) {
-        Some(Ok(hop)) => Ok(hop),
-        _ => Err(Stop::Wrong(Wrong::Absent)),
+fn compare_hops(row: &mut Row<'_>) {
+    let (first, second) = (row.int::<usize>(), row.int::<usize>());
+    let one = HopParts::of(row.bytes()).nth(first);
+    let other = HopParts::of(row.bytes()).nth(second);
+    match (one, other) {
+        (Some(Ok(one)), Some(Ok(other))) => row.put((one == other) as u64),
+        _ => row.fail(),
     }
 }
 
-/// `same_part COUNT COUNT`: whether a part of the region of one line is that of the other line's.
-fn compare_parts(rt: &HostRuntime, row: &mut Row<'_>) -> Result<(), Stop> {
-    let (first, second): (usize, usize) = (row.words.number()?, row.words.number()?);
-    let (one, other) = row.two_bytes(rt.alloc())?;
-    let one = part_of(one.as_slice(), first)?;
-    let other = part_of(other.as_slice(), second)?;
-    say(rt, yes_or_no(one == other))
+fn find_attr(row: &mut Row<'_>) {
+    let (place, order, bytes) = (row.int::<u32>(), row.order(), row.bytes());
+    match attr_at(bytes, place, order) {
+        None => row.put_none(),
+        Some(given) => put_part(row, given),
+    }
 }
 
-/// `same_hop COUNT COUNT`: the same of next hops.
-fn compare_hops(rt: &HostRuntime, row: &mut Row<'_>) -> Result<(), Stop> {
-    let (first, second): (usize, usize) = (row.words.number()?, row.words.number()?);
-    let (one, other) = row.two_bytes(rt.alloc())?;
-    let one = hop_of(one.as_slice(), first)?;
-    let other = hop_of(other.as_slice(), second)?;
-    say(rt, yes_or_no(one == other))
+fn find_hop(row: &mut Row<'_>) {
+    let (place, order, bytes) = (row.int::<u32>(), row.order(), row.bytes());
+    match hop_at(bytes, place, order) {
+        None => row.put_none(),
+        Some(given) => put_hop(row, given),
+    }
+}
+
+fn find_message(row: &mut Row<'_>) {
+    let (place, order, bytes) = (row.int::<u32>(), row.order(), row.bytes());
+    match message_at(bytes, place, order) {
+        None => row.put_none(),
+        Some(Err(fault)) => row.refuse(fault.code(), fault),
+        Some(Ok(frame)) => {
+            row.put(0);
+            put_header(row, &frame.header);
+            put_form(row, frame.form);
+            row.put(frame.span as u64);
+            row.put_bytes(frame.payload);
+            row.put_bytes(frame.rest);
+        }
+    }
 }

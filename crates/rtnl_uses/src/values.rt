@@ -1,9 +1,9 @@
 //! A caller of `nl_values`.
 
-ghost use Rattle.std.specs.Prelude.{◌≡◌, ◌≤◌, length, IfNone, IfSome, None, Some};
-ghost use Rattle.nl_values.specs.Known.{IsAttribute};
-ghost use Rattle.nl_values.specs.Meanings.{Means};
-ghost use Rattle.nl_values.specs.declared.set.Attribute.{Attribute};
+ghost use Rattle.std.specs.Prelude.{◌≡◌, ◌≤◌, length};
+ghost use Rattle.std.specs.Option.{option_map};
+ghost use Rattle.nl_values.specs.Known.{attribute_of};
+ghost use Rattle.nl_values.specs.Meanings.{sense_in, sense_of};
 
 use nl_attr::{Depth, LONGEST_REGION, Order};
 use nl_values::{Meaning, Set, read_meaning};
@@ -20,10 +20,12 @@ pub fn shown<'a>(
     depth: Depth,
 ) -> Option<(&'static str, Meaning<'a>)>
     requires { length payload.now ≤ LONGEST_REGION }
-    // Both are by the row that the tables have for it.
-    ensures row { IfSome result (λ it. (row : Attribute) × IsAttribute set number (Some row)
-        × (it.0 ≡ row.name) × Means order depth level payload.entry.now row.format kind.now it.1) }
-    ensures none { IfNone result (IsAttribute set number None) }
+    // Both are by what the tables say of it.
+    ensures name { option_map (λ it. it.0.now) result
+        ≡ option_map (λ row. row.name) (attribute_of set number) }
+    ensures sense { option_map (λ it. sense_of it.1) result
+        ≡ option_map (λ row. sense_in order depth level row.format kind.now payload.entry.now)
+        (attribute_of set number) }
 {
     let attribute = set.attribute(number)?;
     let read = read_meaning(attribute.format, payload, kind, order, level, depth);

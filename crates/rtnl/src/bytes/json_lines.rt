@@ -4,20 +4,24 @@ ghost use Rattle.std.specs.Prelude.{◌≡◌, ◌∷◌, [], ◌++◌, OnOk, co
 ghost use Rattle.json.specs.Json.{null};
 ghost use Rattle.rtnl.specs.ByteRows.{first_fields, label_fields, place_fields, refusal_json, row_json};
 ghost use Rattle.rtnl.specs.ByteViews.{label_view, row_view};
+ghost use Rattle.rtnl.specs.Data.{data_json};
 ghost use Rattle.rtnl.specs.Json.{IsUnescaped, ◌⊕◌, fields_tokens};
 ghost use Rattle.rtnl.specs.Kernel.{kernel_name};
-ghost use Rattle.rtnl.specs.Notations.{name_or, number_json, payload_json, value_json};
+ghost use Rattle.rtnl.specs.Notations.{name_or, number_json, or_null, payload_json, value_json};
 ghost use Rattle.rtnl.specs.Values.{reading_view};
 
 use crate::bytes::notation::{Notation, number};
 use crate::bytes::rows::{ByteRow, Label};
+use crate::json_lines::data::inside::{is_known, meaning_at, push_meaning};
+use crate::json_lines::data::kinds::Scope;
 use crate::json_lines::line::Line;
 use crate::json_lines::values::push_value;
-use crate::names::kernel::{KernelName, attribute_name, message_name};
+use crate::names::kernel::{KernelName, any_message_name, set_name};
 use crate::names::reasons::reason_name;
 use crate::names::values::{Reading, read_payload};
 use nl_attr::{NUMBERS, Order};
 use nl_frame::ScanError;
+use nl_values::Format;
 use std::alloc::{AllocError, Global};
 
 /// Writes that there is no value.
@@ -75,6 +79,25 @@ fn push_payload(line: &mut Line, reading: Reading<'_>) -> Result<(), AllocError>
     push_value(line, reading)
 }
 
+/// Writes what bytes of a format mean.
+fn push_meaning_of(
+    line: &mut Line,
+    order: Order,
+    format: Format,
+    bytes: &[u8],
+) -> Result<(), AllocError>
+    ensures { OnOk result (line.new ≡ line.old
+        ⊕ fields_tokens ((codes "value", or_null (data_json order [] 1 format [] [] bytes.now)) ∷ [])) }
+{
+    let meaning = meaning_at(order, 1, format, &[], bytes);
+    if !is_known(meaning) {
+        return push_null(line, "value");
+    }
+    let scope = Scope { order, family: &[] };
+    line.key("value")?;
+    push_meaning(line, scope, 0, &[], meaning, bytes)
+}
+
 /// Writes the value of the bytes of a part.
 #[tactic(auto, unfolding(crate::specs::Notations::value_json))]
 fn push_value_field(
@@ -95,16 +118,17 @@ fn push_value_field(
         Notation::Signed if bytes.len() == 4 => line.signed("value", order.read_i32(bytes)),
         Notation::MessageType if bytes.len() == 2 => {
             let kind = order.read_u16(bytes);
-            push_name(alloc, line, kind, message_name(kind))
+            push_name(alloc, line, kind, any_message_name(kind))
         }
-        Notation::AttrType(ctx) if bytes.len() == 2 => {
+        Notation::AttrType(set) if bytes.len() == 2 => {
             let number = order.read_u16(bytes) % NUMBERS;
-            push_name(alloc, line, number, attribute_name(ctx, number))
+            push_name(alloc, line, number, set_name(set, number))
         }
         Notation::Signed | Notation::MessageType | Notation::AttrType(_) => {
             push_null(line, "value")
         }
         Notation::Payload(style, net) => push_payload(line, read_payload(order, style, net, bytes)),
+        Notation::Meaning(format) => push_meaning_of(line, order, format, bytes),
     }
 }
 

@@ -5,7 +5,9 @@ ghost use Rattle.rtnl.specs.ByteRows.{opening, refused_at, row_printed};
 ghost use Rattle.rtnl.specs.ByteViews.{AddsAllRows, refusal_ending};
 ghost use Rattle.rtnl.specs.Tape.{refusal_line};
 
+mod inside;
 mod json_lines;
+mod lists;
 pub(crate) mod notation;
 mod parts;
 pub(crate) mod rows;
@@ -62,9 +64,9 @@ fn push_refused(
 {
     let stop = refused_at(error).min(bytes.len());
     let (before, behind) = bytes.split_at(stop);
-    let View { pieces, contexts } = view_events(alloc, how.order, bytes, events)?;
+    let View { pieces, lists } = view_events(alloc, how.order, bytes, events)?;
     push_parts(alloc, out, how, 0, before, None, &pieces)?;
-    let broken = view_refused(alloc, &contexts, error)?;
+    let broken = view_refused(alloc, &lists, error)?;
     push_parts(alloc, out, how, stop, behind, Some(error), &broken)
 }
 

@@ -3,22 +3,31 @@
 ghost use Rattle.std.specs.Prelude.{◌≡◌, ◌++◌, OnOk, codes, decimal, option_map};
 ghost use Rattle.std.specs.Fmt.{signed_decimal};
 ghost use Rattle.nl_attr.specs.Walk.{flags_of};
+ghost use Rattle.nl_values.specs.Known.{bits_of};
+ghost use Rattle.nl_values.specs.Meanings.{sense_of};
+ghost use Rattle.nl_values.specs.Numbers.{integer_view};
+ghost use Rattle.rtnl.specs.Data.{mac_text};
 ghost use Rattle.rtnl.specs.Kernel.{kernel_name};
 ghost use Rattle.rtnl.specs.NamedBits.{bit_names};
 ghost use Rattle.rtnl.specs.Notations.{all_digits, all_flags, attr_behind, bits_behind};
 ghost use Rattle.rtnl.specs.Notations.{digits_behind, flags_behind, name_behind, number_in};
-ghost use Rattle.rtnl.specs.Notations.{reading_behind, type_behind, value_behind, word_if};
+ghost use Rattle.rtnl.specs.Names.{names_text};
+ghost use Rattle.rtnl.specs.Notations.{reading_behind, sense_behind, type_behind, value_behind};
+ghost use Rattle.rtnl.specs.Notations.{word_if};
 ghost use Rattle.rtnl.specs.Values.{reading_view};
 
+use crate::json_lines::data::inside::meaning_at;
+use crate::json_lines::data::leaves::{put_integer, put_mac};
 use crate::names::attributes::Style;
 use crate::names::flags::Bits;
-use crate::names::kernel::{KernelName, attribute_name, message_name};
+use crate::names::kernel::{KernelName, any_message_name, set_name};
 use crate::names::values::{Reading, read_payload};
 use crate::pieces::push;
 use crate::pieces::segment::Segment;
-use crate::text::flags::push_names;
+use crate::text::flags::{push_bits_of, push_names};
 use crate::text::values::push_value;
-use nl_attr::{AttrFlags, Ctx, NLA_F_NESTED, NLA_F_NET_BYTEORDER, NUMBERS, Order};
+use nl_attr::{AttrFlags, NLA_F_NESTED, NLA_F_NET_BYTEORDER, NUMBERS, Order};
+use nl_values::{Format, Integer, Meaning, Names, Set};
 use std::alloc::AllocError;
 
 /// How the bytes of a part are read, and what is printed of them.
@@ -36,11 +45,13 @@ pub(crate) enum Notation {
     Flags(Bits),
     /// The type of a message, and its name.
     MessageType,
-    /// The type of an attribute of this context, its name and its flag bits.
-    AttrType(Ctx),
+    /// The type of an attribute of this set, its name and its flag bits.
+    AttrType(Option<Set>),
     /// The payload of an attribute in this style; whether its type has the flag of the network's
     /// order.
     Payload(Style, bool),
+    /// What bytes of this format mean.
+    Meaning(Format),
 }
 
 /// The number that one, two or four bytes are.
@@ -69,7 +80,7 @@ fn push_signed(out: &mut Vec<u8>, number: i32) -> Result<(), AllocError>
     ensures { OnOk result (out.new.items ≡ out.old.items ++ (codes " " ++ signed_decimal number)) }
 {
     let mut text = Segment::new();
-    text.put_signed(number);
+    text.put_signed(number.into());
     text.put(" ");
     text.push_to(out)
 }
@@ -182,7 +193,7 @@ fn push_type(out: &mut Vec<u8>, kind: u16) -> Result<(), AllocError>
     ensures { OnOk result (out.new.items ≡ out.old.items ++ type_behind kind) }
 {
     push_number(out, kind as u32)?;
-    push_name(out, message_name(kind))
+    push_name(out, any_message_name(kind))
 }
 
 /// Writes a word, where it holds.
@@ -211,14 +222,14 @@ fn flags_in(kind: u16) -> AttrFlags
     }
 }
 
-/// Writes the type of an attribute of this context.
+/// Writes the type of an attribute of this set.
 #[tactic(auto, unfolding(crate::specs::Notations::attr_behind), using(crate::proofs::Sets::joins))]
-fn push_attr_type(out: &mut Vec<u8>, ctx: Ctx, kind: u16) -> Result<(), AllocError>
-    ensures { OnOk result (out.new.items ≡ out.old.items ++ attr_behind ctx kind) }
+fn push_attr_type(out: &mut Vec<u8>, set: Option<Set>, kind: u16) -> Result<(), AllocError>
+    ensures { OnOk result (out.new.items ≡ out.old.items ++ attr_behind set kind) }
 {
     let number = kind % NUMBERS;
     push_number(out, number as u32)?;
-    push_name(out, attribute_name(ctx, number))?;
+    push_name(out, set_name(set, number))?;
     push_bits(out, flags_in(kind))
 }
 
@@ -233,6 +244,86 @@ fn push_reading(out: &mut Vec<u8>, reading: Reading<'_>) -> Result<(), AllocErro
     }
     push(out, " ")?;
     push_value(out, reading)
+}
+
+/// Writes a number.
+fn push_integer(out: &mut Vec<u8>, number: Integer) -> Result<(), AllocError>
+    ensures { OnOk result (out.new.items
+        ≡ out.old.items ++ (codes " " ++ signed_decimal (integer_view number))) }
+{
+    let mut text = Segment::new();
+    put_integer(&mut text, number);
+    text.put(" ");
+    text.push_to(out)
+}
+
+/// Writes a value of an enumeration, and its name, where it has one.
+fn push_enumerated(out: &mut Vec<u8>, number: Integer, name: Option<&str>) -> Result<(), AllocError>
+    ensures { OnOk result (out.new.items ≡ out.old.items
+        ++ (codes " " ++ (signed_decimal (integer_view number)
+        ++ name_behind (option_map (λ r. r.now) name.entry)))) }
+{
+    push_integer(out, number)?;
+    match name {
+        None => Ok(()),
+        Some(name) => {
+            push(out, " ")?;
+            push(out, name)
+        }
+    }
+}
+
+/// Writes a hardware address.
+fn push_mac(out: &mut Vec<u8>, address: [u8; 6]) -> Result<(), AllocError>
+    ensures { OnOk result (out.new.items ≡ out.old.items ++ (codes " " ++ mac_text address)) }
+{
+    let mut text = Segment::new();
+    put_mac(&mut text, &address);
+    text.put(" ");
+    text.push_to(out)
+}
+
+/// Writes a number, and the names of its bits.
+fn push_named_bits(out: &mut Vec<u8>, number: u64, names: Names) -> Result<(), AllocError>
+    ensures { OnOk result (out.new.items ≡ out.old.items
+        ++ (codes " " ++ (decimal number ++ (codes " " ++ names_text (bits_of names) number)))) }
+{
+    let mut text = Segment::new();
+    text.put(" ");
+    text.put_number(number);
+    text.put(" ");
+    text.push_to(out)?;
+    push_bits_of(out, names, number)
+}
+
+/// Writes what bytes mean that are one part, or nothing.
+#[tactic(auto, unfolding(crate::specs::Notations::sense_behind, crate::specs::Notations::reading_behind, crate::specs::Values::reading_of), using(crate::proofs::Sets::joins))]
+fn push_meaning(out: &mut Vec<u8>, meaning: Meaning<'_>) -> Result<(), AllocError>
+    ensures { OnOk result (out.new.items ≡ out.old.items ++ sense_behind (sense_of meaning.entry)) }
+{
+    match meaning {
+        Meaning::Text(text) => {
+            let order = Order::Little;
+            push_reading(
+                out,
+                read_payload(order, Style::Text, false, text.as_bytes()),
+            )
+        }
+        Meaning::Integer(number) => push_integer(out, number),
+        Meaning::Value(number, name) => push_enumerated(out, number, name),
+        Meaning::Bits(number, names) => push_named_bits(out, number, names),
+        Meaning::Mac(address) => push_mac(out, address),
+        Meaning::Ipv4(address) => push_reading(out, Reading::Ipv4(address)),
+        Meaning::Ipv6(address) => push_reading(out, Reading::Ipv6(address)),
+        Meaning::Unknown
+        | Meaning::Flag
+        | Meaning::Series(_)
+        | Meaning::Counters(_, _)
+        | Meaning::Fields(_)
+        | Meaning::Array(_, _)
+        | Meaning::Headed(_, _, _)
+        | Meaning::List(_) => Ok(()),
+    }
 }
 
 /// Writes the value of the bytes of a part behind a blank, or nothing.
@@ -256,10 +347,11 @@ pub(super) fn push_value_behind(
         Notation::Digits => push_digits(out, order, bytes),
         Notation::Flags(bits) => push_flags(out, order, bits, bytes),
         Notation::MessageType if bytes.len() == 2 => push_type(out, order.read_u16(bytes)),
-        Notation::AttrType(ctx) if bytes.len() == 2 => {
-            push_attr_type(out, ctx, order.read_u16(bytes))
+        Notation::AttrType(set) if bytes.len() == 2 => {
+            push_attr_type(out, set, order.read_u16(bytes))
         }
         Notation::Signed | Notation::MessageType | Notation::AttrType(_) => Ok(()),
         Notation::Payload(style, net) => push_reading(out, read_payload(order, style, net, bytes)),
+        Notation::Meaning(format) => { push_meaning(out, meaning_at(order, 1, format, &[], bytes)) }
     }
 }

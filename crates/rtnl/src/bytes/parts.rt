@@ -1,8 +1,10 @@
 //! The pieces of bytes, one after another, and the rows of the parts that they are.
 
 ghost use Rattle.std.specs.Prelude.{◌≡◌, ◌<◌, ◌+◌, ◌++◌, ◌∷◌, ◌^◌, [], length, map, OnOk};
-ghost use Rattle.rtnl.specs.ByteParts as marks;
-ghost use Rattle.rtnl.specs.ByteParts.{indent_of, level_of, named, padding, size_from};
+ghost use Rattle.rtnl.specs.ByteParts.{size_from};
+ghost use Rattle.rtnl.specs.Inside.{deeper};
+ghost use Rattle.rtnl.specs.Marks as marks;
+ghost use Rattle.rtnl.specs.Marks.{gap, indent_of, level_of, named, padding, padding_of};
 ghost use Rattle.rtnl.specs.ByteRows.{row_printed};
 ghost use Rattle.rtnl.specs.ByteViews.{AddsRows, marks_in, piece_view};
 ghost use Rattle.rtnl.specs.Kernel.{kernel_name};
@@ -44,12 +46,12 @@ pub(crate) enum Depth {
     /// In a body, beside its attributes.
     Body,
     /// In an attribute or a next hop of this level.
-    Level(u8),
+    Level(u16),
 }
 
 impl Depth {
     /// How many levels of attributes they lie in.
-    fn level(self) -> u8
+    fn level(self) -> u16
         ensures { result ≡ level_of self }
     {
         match self {
@@ -59,13 +61,24 @@ impl Depth {
     }
 
     /// How many blanks stand before their name.
-    fn indent(self) -> u16
+    fn indent(self) -> u32
         ensures { result ≡ indent_of self }
     {
         match self {
             Depth::Header => 0,
             Depth::Body => 2,
-            Depth::Level(level) => 2 * level as u16 + 4,
+            Depth::Level(level) => 2 * u32::from(level) + 4,
+        }
+    }
+
+    /// How deep attributes lie in bytes of this depth.
+    pub(super) fn deeper(self) -> Depth
+        requires { level_of self < 1000 }
+        ensures { result ≡ deeper self }
+    {
+        match self {
+            Depth::Header | Depth::Body => Depth::Level(0),
+            Depth::Level(level) => Depth::Level(level + 1),
         }
     }
 }
@@ -116,6 +129,21 @@ pub(super) fn push_named(
     push_piece(pieces, Piece { extent, label })
 }
 
+/// Padding of this extent.
+fn push_padding_of(pieces: &mut Vec<Piece>, depth: Depth, extent: Extent) -> Result<(), AllocError>
+    ensures { OnOk result
+        (marks_in pieces.new.items ≡ marks_in pieces.old.items ++ padding_of depth extent ∷ []) }
+{
+    let label = Label {
+        level: depth.level(),
+        indent: depth.indent(),
+        name: ("padding", ""),
+        notation: Notation::Blank,
+        is_aside: true,
+    };
+    push_piece(pieces, Piece { extent, label })
+}
+
 /// Padding up to a place.
 pub(super) fn push_padding(
     pieces: &mut Vec<Piece>,
@@ -125,15 +153,19 @@ pub(super) fn push_padding(
     ensures { OnOk result
         (marks_in pieces.new.items ≡ marks_in pieces.old.items ++ padding depth end ∷ []) }
 {
-    let extent = Extent::UpTo(end);
-    let label = Label {
-        level: depth.level(),
-        indent: depth.indent(),
-        name: ("padding", ""),
-        notation: Notation::Blank,
-        is_aside: true,
-    };
-    push_piece(pieces, Piece { extent, label })
+    push_padding_of(pieces, depth, Extent::UpTo(end))
+}
+
+/// So many bytes of padding.
+pub(super) fn push_gap(
+    pieces: &mut Vec<Piece>,
+    depth: Depth,
+    count: usize,
+) -> Result<(), AllocError>
+    ensures { OnOk result
+        (marks_in pieces.new.items ≡ marks_in pieces.old.items ++ gap depth count ∷ []) }
+{
+    push_padding_of(pieces, depth, Extent::Bytes(count))
 }
 
 /// The fields of a struct.

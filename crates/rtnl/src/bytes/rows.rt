@@ -34,9 +34,9 @@ pub enum RowFormat {
 #[derive(Clone, Copy)]
 pub(crate) struct Label {
     /// How many levels of attributes they lie in.
-    pub level: u8,
+    pub level: u16,
     /// How many blanks stand before the name.
-    pub indent: u16,
+    pub indent: u32,
     pub name: KernelName,
     pub notation: Notation,
     /// Whether they are padding, or were not read.

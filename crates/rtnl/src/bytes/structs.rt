@@ -7,8 +7,8 @@ ghost use Rattle.rtnl.specs.Structs.{field_view};
 use crate::bytes::notation::Notation;
 use crate::names::flags::Bits;
 use crate::names::types::FlagNames;
-use nl_attr::Ctx;
 use nl_route::Family;
+use nl_values::Set;
 
 /// A field: its name, how many bytes it has, and how they are read.
 pub(crate) type Field = (&'static str, usize, Notation);
@@ -27,14 +27,14 @@ pub(super) fn nlmsghdr(names: FlagNames) -> [Field; 5]
     ]
 }
 
-/// `rtattr` of linux/rtnetlink.h, of an attribute of this context.
+/// `rtattr` of linux/rtnetlink.h, of an attribute of this set.
 #[tactic(auto, unfolding(crate::specs::Structs::rtattr))]
-pub(super) fn rtattr(context: Ctx) -> [Field; 2]
-    ensures { map field_view result ≡ structs.rtattr context }
+pub(super) fn rtattr(set: Option<Set>) -> [Field; 2]
+    ensures { map field_view result ≡ structs.rtattr set }
 {
     [
         ("rta_len", 2, Notation::Decimal),
-        ("rta_type", 2, Notation::AttrType(context)),
+        ("rta_type", 2, Notation::AttrType(set)),
     ]
 }
 

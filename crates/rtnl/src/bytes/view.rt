@@ -1,31 +1,44 @@
 //! The pieces of a datagram, by the events of its tape.
 
-ghost use Rattle.std.specs.Prelude.{◌≡◌, ◌<◌, ◌^◌, ◌++◌, ◌∷◌, [], IfOk, OnOk, take};
+ghost use Rattle.std.specs.Prelude.{◌≡◌, ◌<◌, ◌≤◌, ◌^◌, ◌++◌, ◌∷◌, [], IfOk, OnOk, map, take};
 ghost use Rattle.rtnl.specs.ByteParts as marks;
-ghost use Rattle.rtnl.specs.ByteParts.{contexts_after, fields, head_marks, header};
-ghost use Rattle.rtnl.specs.ByteParts.{broken_by, marks_of, refused_marks, rest_of, type_in};
-ghost use Rattle.rtnl.specs.ByteViews.{marks_in};
+ghost use Rattle.rtnl.specs.ByteParts.{broken_by, done_marks, echo_marks, error_marks, flags_at};
+ghost use Rattle.rtnl.specs.ByteParts.{head_marks, header, lists_after, marks_of, number_at};
+ghost use Rattle.rtnl.specs.ByteParts.{other_body, refused_marks, rest_of, tail_marks};
+ghost use Rattle.rtnl.specs.ByteViews.{attr_list_view, marks_in};
+ghost use Rattle.rtnl.specs.Marks.{fields};
 ghost use Rattle.rtnl.specs.Structs.{rtnexthop};
-ghost use Rattle.rtnl.specs.Tape.{context_in};
 
+use crate::bytes::inside::{payload_name, push_inside, push_sense, push_whole, resolved};
+use crate::bytes::lists::{
+    AttrList, content_of, kind_here, known_here, list_at, list_behind, list_inside,
+};
 use crate::bytes::notation::Notation;
-use crate::bytes::parts::{Depth, Extent, Piece, push_fields, push_named, push_padding};
+use crate::bytes::parts::{Depth, Extent, Piece, push_fields, push_gap, push_named, push_padding};
 use crate::bytes::structs::{NLMSGERR, RTGENMSG, RTNEXTHOP, STATUS, head_of, nlmsghdr, rtattr};
-use crate::bytes::tape::context_inside;
+use crate::json_lines::body::{echo_of, has_attributes};
+use crate::json_lines::data::inside::{LEVELS, known};
+use crate::json_lines::data::kinds::Scope;
+use crate::json_lines::data::leaves::{bytes_from, bytes_up_to};
+use crate::json_lines::tree::meaning_beside;
 use crate::names::attributes::attribute;
-use crate::names::kernel::attribute_name;
 use crate::names::types::message_type;
-use nl_attr::{BrokenHead, Ctx, Event, HeadKind, Order, SORT_BYTES, SORT_MESSAGE, SORT_NEXT_HOP};
+use crate::names::values::read_payload;
+use nl_attr::{
+    BrokenHead, Event, HeadKind, LONGEST_REGION, Order, SORT_BYTES, SORT_MESSAGE, SORT_NEXT_HOP,
+    align4,
+};
 use nl_frame::{Form, ScanError};
+use nl_values::{Format, Set};
 use std::alloc::{AllocError, Global};
 
 /// What the events of a datagram say of its bytes.
 #[derive(Drop)]
-pub(super) struct View {
+pub(super) struct View<'a> {
     /// What they are, from the first on.
     pub pieces: Vec<Piece>,
-    /// The contexts in the heads that are open behind the last, the outermost first.
-    pub contexts: Vec<Ctx>,
+    /// The lists that are open behind the last, the outermost first.
+    pub lists: Vec<AttrList<'a>>,
 }
 
 /// The header of a message of this type.
@@ -60,27 +73,153 @@ fn push_rest(pieces: &mut Vec<Piece>, event: &Event, name: &'static str) -> Resu
     )
 }
 
-/// The message type in a header that ends in these bytes; 0 where there are fewer than it has.
-fn type_in(order: Order, bytes: &[u8]) -> u16
-    ensures { result ≡ type_in order bytes.now }
+/// A number of two bytes in front of these; 0 where there are fewer.
+fn u16_at(order: Order, bytes: &[u8]) -> u16
+    ensures { result ≡ number_at order 2 bytes.now }
 {
-    if bytes.len() >= 2 {
-        order.read_u16(bytes)
-    } else {
-        0
+    if bytes.len() < 2 {
+        return 0;
     }
+    order.read_u16(bytes)
 }
 
-/// The message type in the header that an error answers.
-fn answered(order: Order, bytes: &[u8], event: &Event) -> u16
-    ensures { result ≡ marks.answered order bytes.now event.now }
+/// A number of four bytes in front of these; 0 where there are fewer.
+fn u32_at(order: Order, bytes: &[u8]) -> u32
+    ensures { result ≡ number_at order 4 bytes.now }
 {
-    let (_, behind) = bytes.split_at((body_place(event) + 8).min(bytes.len()));
-    type_in(order, behind)
+    if bytes.len() < 4 {
+        return 0;
+    }
+    order.read_u32(bytes)
+}
+
+/// The flags in a message's header.
+fn flags_at(order: Order, bytes: &[u8], event: &Event) -> u16
+    ensures { result ≡ flags_at order bytes.now event.now }
+{
+    u16_at(order, bytes_from(bytes, event.place as usize + 6))
+}
+
+/// A payload of a type that isn't typed, by what messages of the type have.
+fn push_other(
+    pieces: &mut Vec<Piece>,
+    order: Order,
+    kind: u16,
+    content: &[u8],
+) -> Result<(), AllocError>
+    ensures { OnOk result (marks_in pieces.new.items
+        ≡ marks_in pieces.old.items ++ other_body order kind content.now) }
+{
+    let scope = Scope {
+        order,
+        family: bytes_up_to(content, 1),
+    };
+    let format = known(Some(Set::MESSAGES), kind).format;
+    let name = ("payload", "");
+    push_inside(
+        pieces,
+        scope,
+        LEVELS,
+        Depth::Body,
+        name,
+        format,
+        &[],
+        &[],
+        content,
+    )
+}
+
+/// What stands behind an answer with a code, or behind the end of a dump, of a message with these
+/// flags.
+fn push_tail(
+    pieces: &mut Vec<Piece>,
+    order: Order,
+    flags: u16,
+    tail: &[u8],
+) -> Result<(), AllocError>
+    ensures { OnOk result (marks_in pieces.new.items
+        ≡ marks_in pieces.old.items ++ tail_marks order flags tail.now) }
+{
+    let name = ("tail", "");
+    if !has_attributes(flags) {
+        return push_whole(pieces, Depth::Body, name, Notation::Blank, tail.len());
+    }
+    let scope = Scope { order, family: &[] };
+    let format = Format::List(Set::EXTACK);
+    push_inside(
+        pieces,
+        scope,
+        LEVELS,
+        Depth::Body,
+        name,
+        format,
+        &[],
+        &[],
+        tail,
+    )
+}
+
+/// The request's payload, of which so many bytes come back, and what stands behind it.
+fn push_echo(
+    pieces: &mut Vec<Piece>,
+    order: Order,
+    flags: u16,
+    kind: u16,
+    size: u32,
+    tail: &[u8],
+) -> Result<(), AllocError>
+    requires { size ≤ 4294967279 }
+    ensures { OnOk result (marks_in pieces.new.items
+        ≡ marks_in pieces.old.items ++ echo_marks order flags kind size tail.now) }
+{
+    let echo = bytes_up_to(tail, size as usize);
+    let end = align4(size) as usize;
+    push_other(pieces, order, kind, echo)?;
+    let padding = bytes_up_to(tail, end).len().saturating_sub(echo.len());
+    push_gap(pieces, Depth::Body, padding)?;
+    push_tail(pieces, order, flags, bytes_from(tail, end))
+}
+
+/// An answer with a code, of which this is the body.
+#[tactic(auto, unfolding(crate::specs::Structs::nlmsgerr), using(crate::proofs::Sets::joins))]
+fn push_error(
+    pieces: &mut Vec<Piece>,
+    order: Order,
+    flags: u16,
+    content: &[u8],
+) -> Result<(), AllocError>
+    ensures { OnOk result (marks_in pieces.new.items
+        ≡ marks_in pieces.old.items ++ error_marks order flags content.now) }
+{
+    let is_ack = u32_at(order, content) == 0;
+    let len = u32_at(order, bytes_from(content, 4));
+    let kind = u16_at(order, bytes_from(content, 8));
+    push_fields(pieces, Depth::Body, &NLMSGERR)?;
+    push_header(pieces, Depth::Body, kind)?;
+    let size = echo_of(flags, is_ack, len);
+    push_echo(pieces, order, flags, kind, size, bytes_from(content, 20))
+}
+
+/// The end of a dump, of which this is the body.
+#[tactic(auto, unfolding(crate::specs::Structs::status), using(crate::proofs::Sets::joins))]
+fn push_done(
+    pieces: &mut Vec<Piece>,
+    order: Order,
+    flags: u16,
+    content: &[u8],
+) -> Result<(), AllocError>
+    ensures { OnOk result (marks_in pieces.new.items
+        ≡ marks_in pieces.old.items ++ done_marks order flags content.now) }
+{
+    if content.len() < 4 {
+        return push_tail(pieces, order, flags, content);
+    }
+    push_fields(pieces, Depth::Body, &STATUS)?;
+    push_tail(pieces, order, flags, bytes_from(content, 4))
 }
 
 /// The body of a message, by its form; of a family's its head.
-#[tactic(auto, unfolding(crate::specs::Structs::nlmsgerr, crate::specs::Structs::status, crate::specs::Structs::rtgenmsg), using(crate::proofs::Sets::joins))]
+#[tactic(auto, unfolding(crate::specs::Structs::rtgenmsg), using(crate::proofs::Sets::joins))]
 fn push_body(
     pieces: &mut Vec<Piece>,
     order: Order,
@@ -91,24 +230,17 @@ fn push_body(
     ensures { OnOk result (marks_in pieces.new.items
         ≡ marks_in pieces.old.items ++ marks.body order bytes.now event.now form) }
 {
+    let content = content_of(bytes, 16, event);
     match form {
         Form::Object(family) => push_fields(pieces, Depth::Body, head_of(family)),
-        Form::Error => {
-            push_fields(pieces, Depth::Body, &NLMSGERR)?;
-            push_header(pieces, Depth::Body, answered(order, bytes, event))?;
-            push_rest(pieces, event, "tail")
-        }
-        Form::Done => {
-            if event.len >= 4 {
-                push_fields(pieces, Depth::Body, &STATUS)?;
-            }
-            push_rest(pieces, event, "tail")
-        }
+        Form::Error => push_error(pieces, order, flags_at(order, bytes, event), content),
+        Form::Done => push_done(pieces, order, flags_at(order, bytes, event), content),
         Form::Get => {
             push_fields(pieces, Depth::Body, &RTGENMSG)?;
             push_rest(pieces, event, "tail")
         }
-        Form::Noop | Form::Overrun | Form::Other => push_rest(pieces, event, "payload"),
+        Form::Noop | Form::Overrun => push_rest(pieces, event, "payload"),
+        Form::Other => push_other(pieces, order, event.number, content),
     }
 }
 
@@ -127,27 +259,63 @@ fn push_message(
     push_body(pieces, order, bytes, event, Form::of(event.number))
 }
 
-/// The payload of an attribute of this context.
-fn push_payload(pieces: &mut Vec<Piece>, context: Ctx, event: &Event) -> Result<(), AllocError>
-    ensures { OnOk result (marks_in pieces.new.items
-        ≡ marks_in pieces.old.items ++ marks.payload context event.now ∷ []) }
+/// The payload of an attribute of a list, by what it means, or else in its style.
+fn push_payload(
+    pieces: &mut Vec<Piece>,
+    order: Order,
+    bytes: &[u8],
+    list: &AttrList<'_>,
+    event: &Event,
+) -> Result<(), AllocError>
+    ensures { OnOk result (marks_in pieces.new.items ≡ marks_in pieces.old.items
+        ++ marks.payload order bytes.now (attr_list_view list.now) event.now) }
 {
-    let extent = Extent::Bytes(event.len as usize);
-    let name = attribute_name(context, event.number).unwrap_or(("payload", ""));
-    let (_, style) = attribute(context, event.number);
-    let notation = Notation::Payload(style, event.net);
-    push_named(pieces, Depth::Level(event.level), extent, name, notation)
+    let content = content_of(bytes, 4, event);
+    let depth = Depth::Level(event.level.into());
+    let name = payload_name(list.set, event.number);
+    let (_, style) = attribute(list.context, event.number);
+    let plain = Notation::Payload(style, event.net);
+    if content.len() > LONGEST_REGION {
+        return push_whole(pieces, depth, name, plain, content.len());
+    }
+    let scope = Scope {
+        order,
+        family: list.family,
+    };
+    let format = known_here(list, event).format;
+    let kind = kind_here(bytes, list, event);
+    let reading = read_payload(order, style, event.net, content);
+    let meaning = meaning_beside(scope, reading, event.net, format, kind, content);
+    let own = Notation::Meaning(resolved(format, order, kind));
+    push_sense(
+        pieces,
+        scope,
+        LEVELS - 1,
+        depth,
+        name,
+        &[],
+        content,
+        plain,
+        own,
+        meaning,
+    )
 }
 
 /// An attribute's head, and its payload where it holds bytes.
 #[tactic(auto, using(crate::proofs::Sets::joins))]
-fn push_attr(pieces: &mut Vec<Piece>, context: Ctx, event: &Event) -> Result<(), AllocError>
-    ensures { OnOk result (marks_in pieces.new.items
-        ≡ marks_in pieces.old.items ++ marks.attribute context event.now) }
+fn push_attr(
+    pieces: &mut Vec<Piece>,
+    order: Order,
+    bytes: &[u8],
+    list: &AttrList<'_>,
+    event: &Event,
+) -> Result<(), AllocError>
+    ensures { OnOk result (marks_in pieces.new.items ≡ marks_in pieces.old.items
+        ++ marks.attribute order bytes.now (attr_list_view list.now) event.now) }
 {
-    push_fields(pieces, Depth::Level(event.level), &rtattr(context))?;
+    push_fields(pieces, Depth::Level(event.level.into()), &rtattr(list.set))?;
     match event.sort {
-        SORT_BYTES => push_payload(pieces, context, event),
+        SORT_BYTES => push_payload(pieces, order, bytes, list, event),
         _ => Ok(()),
     }
 }
@@ -161,85 +329,98 @@ fn push_hop(pieces: &mut Vec<Piece>, depth: Depth) -> Result<(), AllocError>
     push_fields(pieces, depth, &RTNEXTHOP)
 }
 
-/// A head, which stands itself in this context, with what stands in it but for further heads.
+/// A head in a list, with what stands in it but for further heads.
 fn push_head(
     pieces: &mut Vec<Piece>,
     order: Order,
     bytes: &[u8],
-    context: Ctx,
+    list: &AttrList<'_>,
     event: &Event,
 ) -> Result<(), AllocError>
-    ensures { OnOk result (marks_in pieces.new.items
-        ≡ marks_in pieces.old.items ++ head_marks order bytes.now context event.now) }
+    ensures { OnOk result (marks_in pieces.new.items ≡ marks_in pieces.old.items
+        ++ head_marks order bytes.now (attr_list_view list.now) event.now) }
 {
     match event.sort {
         SORT_MESSAGE => push_message(pieces, order, bytes, event),
-        SORT_NEXT_HOP => push_hop(pieces, Depth::Level(event.level)),
-        _ => push_attr(pieces, context, event),
+        SORT_NEXT_HOP => push_hop(pieces, Depth::Level(event.level.into())),
+        _ => push_attr(pieces, order, bytes, list, event),
     }
 }
 
-/// The level of what stands in a head.
-fn level_inside(event: &Event) -> usize
-    ensures { result ≡ marks.level_inside event.now }
-{
-    match event.sort {
-        SORT_MESSAGE => 0,
-        _ => event.level as usize + 1,
-    }
-}
-
-/// How deep that lies, and the padding behind it.
+/// How deep what stands in a head lies, and the padding behind it.
 fn depth_inside(event: &Event) -> Depth
     ensures { result ≡ marks.depth_inside event.now }
 {
     match event.sort {
         SORT_MESSAGE => Depth::Body,
-        _ => Depth::Level(event.level),
+        _ => Depth::Level(event.level.into()),
     }
 }
 
-/// The context of the attributes of a level.
-fn context_at(contexts: &[Ctx], level: u8) -> Ctx
-    ensures { result ≡ marks.context_at contexts.now level }
+/// Closes the lists that a head in a list ends, and notes what is known of its own behind it.
+fn close<'a>(
+    lists: &mut Vec<AttrList<'a>>,
+    list: AttrList<'a>,
+    event: &Event,
+) -> Result<(), AllocError>
+    ensures { OnOk result (map attr_list_view lists.new.items
+        ≡ marks.lists_closed (map attr_list_view lists.old.items)
+        (attr_list_view list.entry) event.now) }
 {
-    contexts.get(level as usize).copied().unwrap_or(Ctx::Plain)
+    if event.sort == SORT_MESSAGE {
+        lists.truncate(0);
+        return Ok(());
+    }
+    lists.truncate(event.level as usize);
+    lists.push(list_behind(list, event))?;
+    Ok(())
 }
 
-/// Goes into a head, which stands itself in this context.
-fn enter(contexts: &mut Vec<Ctx>, context: Ctx, event: &Event) -> Result<(), AllocError>
-    ensures { OnOk result (contexts.new.items
-        ≡ take (marks.level_inside event.now) contexts.old.items
-        ++ context_in event.now context ∷ []) }
+/// Goes into a head in a list, where these are the events behind it.
+fn enter<'a>(
+    lists: &mut Vec<AttrList<'a>>,
+    order: Order,
+    bytes: &'a [u8],
+    list: AttrList<'a>,
+    event: &Event,
+    behind: &'a [Event],
+) -> Result<(), AllocError>
+    ensures { OnOk result (map attr_list_view lists.new.items
+        ≡ marks.lists_entered order bytes.entry.now (map attr_list_view lists.old.items)
+        (attr_list_view list.entry) event.now behind.entry.now) }
 {
-    contexts.truncate(level_inside(event));
-    contexts.push(context_inside(*event, context))?;
+    close(lists, list, event)?;
+    lists.push(list_inside(order, bytes, &list, event, behind))?;
     Ok(())
 }
 
 /// What stands in a datagram with these events.
-pub(super) fn view_events(
+pub(super) fn view_events<'a>(
     alloc: Global,
     order: Order,
-    bytes: &[u8],
-    events: &[Event],
-) -> Result<View, AllocError>
+    bytes: &'a [u8],
+    events: &'a [Event],
+) -> Result<View<'a>, AllocError>
     ensures pieces { IfOk result
-        (λ v. marks_in v.pieces.items ≡ marks_of order bytes.now events.now) }
-    ensures contexts { IfOk result (λ v. v.contexts.items ≡ contexts_after [] events.now) }
+        (λ v. marks_in v.pieces.items ≡ marks_of order bytes.entry.now events.entry.now) }
+    ensures lists { IfOk result
+        (λ v. map attr_list_view v.lists.items
+        ≡ lists_after order bytes.entry.now [] events.entry.now) }
 {
     let mut pieces = Vec::new(alloc);
-    let mut contexts = Vec::new(alloc);
+    let mut lists = Vec::new(alloc);
     let mut depth = Depth::Header;
-    for event in events {
+    let mut left = events;
+    while let Some((event, behind)) = left.split_first() {
         push_padding(&mut pieces, depth, event.place as usize)?;
-        let context = context_at(&contexts, event.level);
-        push_head(&mut pieces, order, bytes, context, event)?;
-        enter(&mut contexts, context, event)?;
+        let list = list_at(&lists, event.level);
+        push_head(&mut pieces, order, bytes, &list, event)?;
+        enter(&mut lists, order, bytes, list, event, behind)?;
         depth = depth_inside(event);
+        left = behind;
     }
     push_padding(&mut pieces, depth, bytes.len())?;
-    Ok(View { pieces, contexts })
+    Ok(View { pieces, lists })
 }
 
 /// How deep a head lies that breaks a rule.
@@ -248,7 +429,7 @@ fn broken_depth(kind: HeadKind, level: u8) -> Depth
 {
     match kind {
         HeadKind::Message => Depth::Header,
-        HeadKind::Attribute | HeadKind::NextHop => Depth::Level(level),
+        HeadKind::Attribute | HeadKind::NextHop => Depth::Level(level.into()),
     }
 }
 
@@ -263,14 +444,14 @@ fn cut_name(kind: HeadKind) -> &'static str
     }
 }
 
-/// What stands in a head that breaks a rule, where the heads are open that have these contexts.
+/// What stands in a head that breaks a rule, where these lists are open.
 fn push_broken(
     pieces: &mut Vec<Piece>,
-    contexts: &[Ctx],
+    lists: &[AttrList<'_>],
     head: BrokenHead,
 ) -> Result<(), AllocError>
     ensures { OnOk result (marks_in pieces.new.items
-        ≡ marks_in pieces.old.items ++ broken_by contexts.now head head.len) }
+        ≡ marks_in pieces.old.items ++ broken_by (map attr_list_view lists.now) head head.len) }
 {
     let depth = broken_depth(head.kind, head.level);
     if head.len.is_none() {
@@ -285,11 +466,7 @@ fn push_broken(
     }
     match head.kind {
         HeadKind::Message => push_header(pieces, depth, head.number.unwrap_or(0)),
-        HeadKind::Attribute => push_fields(
-            pieces,
-            depth,
-            &rtattr(context_at(contexts, head.level)),
-        ),
+        HeadKind::Attribute => push_fields(pieces, depth, &rtattr(list_at(lists, head.level).set)),
         HeadKind::NextHop => push_hop(pieces, depth),
     }
 }
@@ -297,14 +474,15 @@ fn push_broken(
 /// What stands from where a datagram is refused on.
 pub(super) fn view_refused(
     alloc: Global,
-    contexts: &[Ctx],
+    lists: &[AttrList<'_>],
     error: ScanError,
 ) -> Result<Vec<Piece>, AllocError>
-    ensures { IfOk result (λ p. marks_in p.items ≡ refused_marks contexts.now error) }
+    ensures { IfOk result
+        (λ p. marks_in p.items ≡ refused_marks (map attr_list_view lists.now) error) }
 {
     let mut pieces = Vec::new(alloc);
     if let ScanError::Layout(head) = error {
-        push_broken(&mut pieces, contexts, head)?;
+        push_broken(&mut pieces, lists, head)?;
     }
     Ok(pieces)
 }

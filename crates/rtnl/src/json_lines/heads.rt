@@ -1,5 +1,9 @@
 //! The families' bodies as fields.
 
+ghost use Rattle.std.specs.Prelude.{◌≡◌};
+ghost use Rattle.rtnl.specs.MessagesJson.{set_of};
+
+use crate::json_lines::data::kinds::Scope;
 use crate::json_lines::flags::push_names;
 use crate::json_lines::line::Line;
 use crate::json_lines::tree::push_attrs;
@@ -7,14 +11,32 @@ use crate::names::families::{FamilyHead, TableItem};
 use crate::names::flags::Bits;
 use crate::pieces::segment::Segment;
 use nl_attr::Order;
-use nl_route::{AddrHead, LinkHead, NeighHead, Object, RouteHead, RuleHead};
+use nl_route::{AddrHead, Family, LinkHead, NeighHead, Object, RouteHead, RuleHead};
+use nl_values::Set;
 use std::alloc::AllocError;
+
+/// The set of a family's attributes.
+pub(crate) fn set_of(family: Family) -> Set
+    ensures { result ≡ set_of family }
+{
+    match family {
+        Family::Link => Set::LINK,
+        Family::Addr => Set::ADDR,
+        Family::Route => Set::ROUTE,
+        Family::Neigh => Set::NEIGH,
+        Family::Rule => Set::RULE,
+    }
+}
 
 /// The head of a family, as it is written in JSON.
 pub(crate) trait HeadFields: FamilyHead {
     ghost use Rattle.std.specs.Prelude.{◌≡◌, OnOk};
     ghost use Rattle.rtnl.specs.Json.{◌⊕◌, fields_tokens};
-    ghost use Rattle.rtnl.specs.MessagesJson.{head_fields};
+    ghost use Rattle.rtnl.specs.MessagesJson.{address_family, head_fields};
+
+    /// The address family that it says, a byte.
+    fn address_family(&self) -> u8
+        ensures { result ≡ address_family (Self.FamilyHead.as_any self.now) };
 
     /// Writes the fields of the head.
     fn push_fields(&self, line: &mut Line) -> Result<(), AllocError>
@@ -44,7 +66,13 @@ impl<H: HeadFields> ItemField for Object<H> {
     fn push_value(&self, line: &mut Line, order: Order) -> Result<(), AllocError> {
         line.begin_object()?;
         self.head.push_fields(line)?;
-        push_attrs(line, "attrs", order, H::context(), &self.attrs)?;
+        let family = [self.head.address_family()];
+        let scope = Scope {
+            order,
+            family: &family,
+        };
+        let set = Some(set_of(H::family()));
+        push_attrs(line, "attrs", scope, set, H::context(), &self.attrs)?;
         line.end_object()
     }
 
@@ -55,11 +83,15 @@ impl<H: HeadFields> ItemField for Object<H> {
 }
 
 impl HeadFields for LinkHead {
+    fn address_family(&self) -> u8 {
+        self.family
+    }
+
     #[tactic(auto, unfolding(crate::specs::Link::link_head_fields), using(crate::proofs::Sets::field))]
     fn push_fields(&self, line: &mut Line) -> Result<(), AllocError> {
         let mut piece = Segment::new();
         piece.put_field(",\"flags\":", self.flags as u64);
-        piece.put_signed(self.index);
+        piece.put_signed(self.index.into());
         piece.put(",\"index\":");
         piece.put_field(",\"type\":", self.hardware as u64);
         piece.put_small("\"family\":", self.family);
@@ -70,6 +102,10 @@ impl HeadFields for LinkHead {
 }
 
 impl HeadFields for AddrHead {
+    fn address_family(&self) -> u8 {
+        self.family
+    }
+
     fn push_fields(&self, line: &mut Line) -> Result<(), AllocError> {
         let mut piece = Segment::new();
         piece.put_field(",\"index\":", self.index as u64);
@@ -82,6 +118,10 @@ impl HeadFields for AddrHead {
 }
 
 impl HeadFields for RouteHead {
+    fn address_family(&self) -> u8 {
+        self.family
+    }
+
     fn push_fields(&self, line: &mut Line) -> Result<(), AllocError> {
         let mut piece = Segment::new();
         piece.put_field(",\"flags\":", self.flags as u64);
@@ -98,11 +138,15 @@ impl HeadFields for RouteHead {
 }
 
 impl HeadFields for NeighHead {
+    fn address_family(&self) -> u8 {
+        self.family
+    }
+
     #[tactic(auto, unfolding(crate::specs::Neigh::neigh_head_fields), using(crate::proofs::Sets::field))]
     fn push_fields(&self, line: &mut Line) -> Result<(), AllocError> {
         let mut piece = Segment::new();
         piece.put_field(",\"state\":", self.state as u64);
-        piece.put_signed(self.ifindex);
+        piece.put_signed(self.ifindex.into());
         piece.put(",\"index\":");
         piece.put_small("\"family\":", self.family);
         line.piece(&mut piece, true)?;
@@ -114,6 +158,10 @@ impl HeadFields for NeighHead {
 }
 
 impl HeadFields for RuleHead {
+    fn address_family(&self) -> u8 {
+        self.family
+    }
+
     fn push_fields(&self, line: &mut Line) -> Result<(), AllocError> {
         let mut piece = Segment::new();
         piece.put_field(",\"flags\":", self.flags as u64);

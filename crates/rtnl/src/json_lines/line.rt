@@ -1,6 +1,6 @@
 //! Lines of JSON.
 
-ghost use Rattle.std.specs.Prelude.{◌≡◌, ◌≤◌, ℕ, ◌+◌, List, [], ◌∷◌, ◌++◌, length, OnOk, IfOk};
+ghost use Rattle.std.specs.Prelude.{◌≡◌, ◌≤◌, ℕ, ◌+◌, List, [], ◌∷◌, ◌++◌, codes, decimal, length, OnOk, IfOk};
 ghost use Rattle.json.specs.Json.{null};
 ghost use Rattle.json.specs.Print.{quoted};
 ghost use Rattle.json.specs.Run.{is_plain};
@@ -30,7 +30,12 @@ fn is_plain(byte: u8) -> bool
 pub(crate) fn is_unescaped(text: &[u8]) -> bool
     ensures { result ≡ is_unescaped text.now }
 {
-    text.iter().all(|byte| is_plain(*byte))
+    for byte in text {
+        if !is_plain(*byte) {
+            return false;
+        }
+    }
+    true
 }
 
 /// Appends a text as a string of JSON, in which some bytes are escaped.
@@ -191,6 +196,36 @@ impl Line {
         push(&mut self.text, "\":")
     }
 
+    /// The name of the field that says what bytes mean.
+    #[inline(always)]
+    #[tactic(auto, using(crate::proofs::Json::data_named))]
+    pub(crate) fn data_key(&mut self) -> Result<(), AllocError>
+        ensures { OnOk result (self.new ≡ self.old ⊕ (key (codes "data") ∷ [])) }
+    {
+        self.open("\"data\":", false)
+    }
+
+    /// The name of a field, of which some bytes may need an escape.
+    #[tactic(auto, using(crate::proofs::Json::name_written))]
+    pub(crate) fn name(&mut self, name: &str) -> Result<(), AllocError>
+        ensures { OnOk result (self.new ≡ self.old ⊕ (key name.now ∷ [])) }
+    {
+        self.open("", false)?;
+        push_string(&mut self.text, name)?;
+        push(&mut self.text, ":")
+    }
+
+    /// The number of a place as the name of a field.
+    #[tactic(auto, using(crate::proofs::Json::key_written))]
+    pub(crate) fn place(&mut self, place: u64) -> Result<(), AllocError>
+        ensures { OnOk result (self.new ≡ self.old ⊕ (key (decimal place) ∷ [])) }
+    {
+        let mut piece = Segment::new();
+        piece.put_field("\"", place);
+        self.piece(&mut piece, false)?;
+        push(&mut self.text, "\":")
+    }
+
     /// A string.
     #[tactic(auto, using(crate::proofs::Json::quoted_written))]
     pub(crate) fn string(&mut self, text: &str) -> Result<(), AllocError>
@@ -229,7 +264,7 @@ impl Line {
         ensures { OnOk result (self.new ≡ self.old ⊕ json_tokens (signed z)) }
     {
         let mut piece = Segment::new();
-        piece.put_signed(z);
+        piece.put_signed(z.into());
         self.piece(&mut piece, true)
     }
 
@@ -245,7 +280,7 @@ impl Line {
 
     /// True or false.
     #[tactic(auto, using(crate::proofs::Json::truth_written, crate::proofs::Json::falsehood_written))]
-    fn truth(&mut self, b: bool) -> Result<(), AllocError>
+    pub(crate) fn truth(&mut self, b: bool) -> Result<(), AllocError>
         ensures { OnOk result (self.new ≡ self.old ⊕ json_tokens (boolean b)) }
     {
         if b {

@@ -57,7 +57,7 @@ fn push_message(line: &mut Line, order: Order, message: &Message) -> Result<(), 
 {
     line.begin_object()?;
     push_header(line, message)?;
-    push_body(line, order, &message.body)?;
+    push_body(line, order, message.kind, message.flags, &message.body)?;
     line.end_object()
 }
 

@@ -1,6 +1,7 @@
 //! What is printed as lines of JSON.
 
 pub(crate) mod body;
+pub(crate) mod data;
 pub(crate) mod datagram;
 pub(crate) mod dump;
 pub(crate) mod flags;

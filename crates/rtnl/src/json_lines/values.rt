@@ -42,7 +42,7 @@ fn put_digits(piece: &mut Segment, bytes: &[u8])
 /// Puts an address of IPv4 in front, as a string.
 #[inline(always)]
 #[tactic(auto, using(crate::proofs::Json::string_text, crate::proofs::Sets::joins, crate::proofs::Unescaped::ipv4_unescaped))]
-fn put_ipv4_string(piece: &mut Segment, address: &[u8; 4])
+pub(crate) fn put_ipv4_string(piece: &mut Segment, address: &[u8; 4])
     requires { 35 + length piece.old ≤ 248 }
     ensures text { piece.new ≡ value_text (string (ipv4_text address.now)) ++ piece.old }
     ensures len { length piece.new ≤ 17 + length piece.old }
@@ -55,7 +55,7 @@ fn put_ipv4_string(piece: &mut Segment, address: &[u8; 4])
 /// Puts an address of IPv6 in front, as a string.
 #[inline(always)]
 #[tactic(auto, using(crate::proofs::Json::string_text, crate::proofs::Sets::joins, crate::proofs::Unescaped::ipv6_unescaped))]
-fn put_ipv6_string(piece: &mut Segment, address: &[u8; 16])
+pub(crate) fn put_ipv6_string(piece: &mut Segment, address: &[u8; 16])
     requires { 41 + length piece.old ≤ 248 }
     ensures text { piece.new ≡ value_text (string (ipv6_text address.now)) ++ piece.old }
     ensures len { length piece.new ≤ 41 + length piece.old }

@@ -21,6 +21,7 @@ pub(crate) enum Bits {
 pub(crate) struct Number(pub u32);
 
 impl Flags for Number {
+    // The crate bitflags calls the type of the number so: it is not the enum above.
     type Bits = u32;
 
     ghost exact = { ⊤ };

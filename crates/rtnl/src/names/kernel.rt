@@ -1,16 +1,19 @@
 //! The names that the kernel's headers give message types and attributes, in two parts.
 
 ghost use Rattle.std.specs.Prelude.{◌≡◌, option_map, None};
-ghost use Rattle.rtnl.specs.Kernel.{attribute_name, control_name, family_end, kernel_name};
+ghost use Rattle.rtnl.specs.Kernel.{any_message_name, attribute_name, control_name, family_end};
+ghost use Rattle.rtnl.specs.Kernel.{kernel_name, set_name};
 ghost use Rattle.rtnl.specs.Kernel.{message_name, named_in, prefix_of, verb_front};
 ghost use Rattle.rtnl.specs.Further.{further_rows};
 ghost use Rattle.rtnl.specs.Named.{find_named};
 
+use crate::json_lines::data::inside::known;
 use crate::names::attributes::find;
 use crate::names::further::further;
 use crate::names::named::find_named;
 use nl_attr::Ctx;
 use nl_route::{Family, RouteType, Verb};
+use nl_values::Set;
 
 /// A name, whose second part stands right behind the first: `IFLA_` and `IFNAME`.
 pub type KernelName = (&'static str, &'static str);
@@ -101,5 +104,29 @@ pub fn message_name(kind: u16) -> Option<KernelName>
     match RouteType::of(kind) {
         Some(of) => Some((verb_name(of.verb), family_name(of.family))),
         None => control_name(kind),
+    }
+}
+
+/// The name of an attribute of a set in the kernel's headers; none where it has none here.
+pub(crate) fn set_name(set: Option<Set>, number: u16) -> Option<KernelName>
+    ensures { option_map kernel_name result ≡ set_name set number }
+{
+    let Some(of) = set else {
+        return None;
+    };
+    let name = known(set, number).name;
+    if name.is_empty() {
+        return None;
+    }
+    Some((of.prefix(), name))
+}
+
+/// The name of a message type of any kind, as `RTM_NEWQDISC`; none where it has none here.
+pub(crate) fn any_message_name(kind: u16) -> Option<KernelName>
+    ensures { option_map kernel_name result ≡ any_message_name kind }
+{
+    match message_name(kind) {
+        Some(name) => Some(name),
+        None => set_name(Some(Set::MESSAGES), kind),
     }
 }

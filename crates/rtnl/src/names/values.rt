@@ -57,7 +57,7 @@ fn u32_of(order: Order, net: bool, bytes: &[u8]) -> Reading<'_>
 }
 
 /// The bytes without one zero byte at their end.
-fn stem(bytes: &[u8]) -> &[u8]
+pub(crate) fn stem(bytes: &[u8]) -> &[u8]
     ensures { result.now ≡ stem_of bytes.entry.now }
 {
     match bytes.split_last() {

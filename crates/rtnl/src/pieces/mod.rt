@@ -40,8 +40,8 @@ fn digit(number: u8) -> u8
     }
 }
 
-/// Writes bytes in hexadecimal digits. No digit hangs on a table, so that a processor makes many at
-/// a time.
+/// Writes bytes in hexadecimal digits. Without table look-ups, so that the compiler can vectorize
+/// the loop.
 #[inline(always)]
 pub(crate) fn encode(bytes: &[u8], digits: &mut [u8])
     requires { length digits.old ≡ 2 * length bytes.now }

@@ -69,12 +69,12 @@ impl Segment {
     /// Puts a signed number in front, in decimal.
     #[inline(always)]
     #[tactic(auto, using(crate::proofs::Digits::below_zero, crate::proofs::Digits::not_below_zero))]
-    pub(crate) fn put_signed(&mut self, number: i32)
+    pub(crate) fn put_signed(&mut self, number: i64)
         requires { 21 + length self.old ≤ 248 }
         ensures text { self.new ≡ signed_decimal number ++ self.old }
         ensures len { length self.new ≤ 21 + length self.old }
     {
-        self.put_number(number.unsigned_abs() as u64);
+        self.put_number(number.unsigned_abs());
         if number < 0 {
             self.put("-");
         }
@@ -99,6 +99,27 @@ impl Segment {
         ensures len { length self.new ≤ length words.now + 3 + length self.old }
     {
         self.put_field(words, number as u64);
+    }
+
+    /// Puts a number of two bytes in front, in decimal.
+    #[inline(always)]
+    fn put_u16(&mut self, number: u16)
+        requires { 5 + length self.old ≤ 248 }
+        ensures text { self.new ≡ decimal number ++ self.old }
+        ensures len { length self.new ≤ 5 + length self.old }
+    {
+        self.start = write_digits(number as u64, &mut self.buffer, self.start);
+    }
+
+    /// Puts a number of two bytes in front, behind its words.
+    #[inline(always)]
+    pub(crate) fn put_short(&mut self, words: &str, number: u16)
+        requires { length words.now + 5 + length self.old ≤ 248 }
+        ensures text { self.new ≡ words.now ++ (decimal number ++ self.old) }
+        ensures len { length self.new ≤ length words.now + 5 + length self.old }
+    {
+        self.put_u16(number);
+        self.put(words);
     }
 
     /// Puts bytes in front, in hexadecimal digits.

@@ -6,8 +6,8 @@ ghost use Rattle.hex.specs.Hex.{decode_sized, hex_digit_value};
 /// More than the value of any digit.
 const NO_DIGIT: u8 = 16;
 
-/// The value of a digit; at least 16 for any other byte. It is the least of three numbers, so that
-/// nothing hangs on the byte but these, and a processor finds many at a time.
+/// The value of a digit; at least 16 for any other byte. It is the least of three numbers. Without
+/// table look-ups, so that the compiler can vectorize the loop.
 #[inline(always)]
 fn value(byte: u8) -> u8
     ensures { result < 16 → hex_digit_value byte ≡ Some result }

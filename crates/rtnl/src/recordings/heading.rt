@@ -6,10 +6,10 @@ ghost use Rattle.std.specs.Char.{is_ascii_digit};
 ghost use Rattle.std.specs.List.{position};
 ghost use Rattle.std.specs.Option.{SomeIff};
 ghost use Rattle.std.specs.Str.Parse.{IsNumeral, digits_value};
-ghost use Rattle.rtnl.specs.Heading.{Names, are_blanks, behind, digit_count, heading, is_named};
-ghost use Rattle.rtnl.specs.Heading.{kind_at_end, kind_named, number_at};
+ghost use Rattle.rtnl.specs.Heading.{Names, all_blank, behind, heading, is_named};
+ghost use Rattle.rtnl.specs.Heading.{kind_at_end, kind_named, leading_digits, number_at};
 
-use crate::recordings::lines::is_blank_byte;
+use crate::recordings::lines::is_blank;
 use nl_route::Family;
 use std::str;
 
@@ -63,8 +63,8 @@ fn other_place(bytes: &[u8]) -> Option<usize>
 }
 
 /// How many digits stand at the front.
-fn digit_count(bytes: &[u8]) -> usize
-    ensures count { result ≡ digit_count bytes.now }
+fn leading_digits(bytes: &[u8]) -> usize
+    ensures count { result ≡ leading_digits bytes.now }
     ensures within { result ≤ length bytes.now }
 {
     match other_place(bytes) {
@@ -78,15 +78,15 @@ fn digit_count(bytes: &[u8]) -> usize
 fn number_at(bytes: &[u8]) -> Option<(u32, &[u8])>
     ensures { option_map (λ p. (p.0, p.1.now)) result ≡ number_at bytes.now }
 {
-    let (digits, rest) = bytes.split_at(digit_count(bytes));
+    let (digits, rest) = bytes.split_at(leading_digits(bytes));
     let number = number_of(str::from_utf8(digits).ok()?)?;
     Some((number, rest))
 }
 
-fn is_blank(bytes: &[u8]) -> bool
-    ensures { result ≡ are_blanks bytes.now }
+fn all_blank(bytes: &[u8]) -> bool
+    ensures { result ≡ all_blank bytes.now }
 {
-    bytes.iter().all(|byte| is_blank_byte(*byte))
+    bytes.iter().all(|byte| is_blank(*byte))
 }
 
 /// Whether the name of this kind stands here, and blanks behind it.
@@ -94,7 +94,7 @@ fn is_named(words: &[u8], kind: Family) -> bool
     ensures { result ≡ is_named words.now kind }
 {
     match behind(kind.row().name.as_bytes(), words) {
-        Some(rest) => is_blank(rest),
+        Some(rest) => all_blank(rest),
         None => false,
     }
 }
@@ -125,7 +125,7 @@ fn kind_named(words: &[u8]) -> Option<Family>
 fn kind_at_end(rest: &[u8]) -> Option<Option<Family>>
     ensures { result ≡ kind_at_end rest.now }
 {
-    if is_blank(rest) {
+    if all_blank(rest) {
         return Some(None);
     }
     let kind = kind_named(behind(b" kind ", rest)?)?;

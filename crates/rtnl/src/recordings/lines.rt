@@ -17,7 +17,7 @@ use crate::streams::source::LONGEST_INPUT;
 use memchr::{memchr, memchr3};
 use std::alloc::{AllocError, Global};
 
-pub(crate) fn is_blank_byte(byte: u8) -> bool
+pub(crate) fn is_blank(byte: u8) -> bool
     ensures { result ≡ is_blank byte }
 {
     matches!(byte, b' ' | b'\t' | b'\r')
@@ -34,7 +34,7 @@ fn without_blanks(alloc: Global, line: &[u8]) -> Result<Vec<u8>, AllocError>
 {
     line.iter()
         .copied()
-        .filter(|byte| !is_blank_byte(*byte))
+        .filter(|byte| !is_blank(*byte))
         .collect(alloc)
 }
 
@@ -58,7 +58,7 @@ pub enum LineFault {
 fn is_stray_byte(byte: u8) -> bool
     ensures { result ≡ is_stray byte }
 {
-    !byte.is_ascii_hexdigit() && !is_blank_byte(byte)
+    !byte.is_ascii_hexdigit() && !is_blank(byte)
 }
 
 /// The place of the first byte of a line that is neither a digit nor a blank.
@@ -69,10 +69,10 @@ fn stray_place(line: &[u8]) -> Option<usize>
 }
 
 /// How many bytes of a line are no blanks.
-fn digit_count(line: &[u8]) -> usize
+fn nonblank_count(line: &[u8]) -> usize
     ensures { result ≡ length (compact line.now) }
 {
-    line.iter().filter(|byte| !is_blank_byte(**byte)).count()
+    line.iter().filter(|byte| !is_blank(**byte)).count()
 }
 
 /// What is wrong with a line of a recording, handed in without the newline that ends it; none where
@@ -89,7 +89,7 @@ pub fn line_fault(line: &[u8]) -> Option<LineFault>
             byte: line[place],
         });
     }
-    let digits = digit_count(line);
+    let digits = nonblank_count(line);
     if digits % 2 == 1 {
         return Some(LineFault::Odd { digits });
     }

@@ -5,7 +5,7 @@ ghost use Rattle.rtnl.specs.Checked.{Checks};
 ghost use Rattle.rtnl.specs.Checked.{ChecksJson, finding_text};
 ghost use Rattle.rtnl.specs.Runs.{Runs};
 
-use crate::error::{RunError, Verdict};
+use crate::error::RunError;
 use crate::json_lines;
 use crate::json_lines::line::Line;
 use crate::pieces::push;
@@ -14,6 +14,7 @@ use crate::runs::run_each::run_each;
 use crate::streams::sink::Sink;
 use crate::streams::source::Source;
 use crate::text::datagram::{push_number, push_refusal};
+use crate::verdict::Verdict;
 use nl_frame::{Limits, is_canonical};
 use std::alloc::{AllocError, Global};
 
@@ -115,7 +116,7 @@ impl PerDatagram for CheckJson {
 ///
 /// The text is made as the input is read, and it is written once the input has come to its end and
 /// no line is bad. After a bad line, a read fault or the end of memory nothing was written; after a
-/// write fault a prefix of the text was. The verdict is Blemished exactly where a datagram was
+/// write fault a prefix of the text was. The verdict is NotClean exactly where a datagram was
 /// refused.
 pub fn run_check<S: Source, W: Sink>(
     alloc: Global,

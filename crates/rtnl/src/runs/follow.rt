@@ -4,12 +4,13 @@ ghost use Rattle.rtnl.specs.ByteRows.{Views, is_accepted, viewed_text};
 ghost use Rattle.rtnl.specs.Followed.{FollowsAll, alone, never};
 ghost use Rattle.rtnl.specs.Lines.{line_at};
 ghost use Rattle.rtnl.specs.Painted.{coloured_text};
-ghost use Rattle.rtnl.specs.Shown.{Answers, datagram_json, datagram_text, is_taken};
+ghost use Rattle.rtnl.specs.Shown.{Answers, datagram_json, datagram_text};
+ghost use Rattle.rtnl.specs.Shown.{is_accepted as is_accepted_answer};
 
 use crate::bytes::rows::RowFormat;
 use crate::error::RunError;
 use crate::runs::follow_lines::follow;
-use crate::runs::followed::{Followed, OnBadLine};
+use crate::runs::followed::{FollowListener, Followed};
 use crate::runs::show::{Show, ShowColoured, ShowJson};
 use crate::runs::show_bytes::ShowBytes;
 use crate::streams::sink::Sink;
@@ -21,83 +22,83 @@ use std::alloc::Global;
 /// it reads on. Numbers of datagrams and lines are counted from 1.
 ///
 /// The input may have any length: no more of it is kept than what one read gives and one line, of
-/// which at most `LONGEST_LINE` bytes. Of a bad line `bad_lines` hears, which says whether the lines
+/// which at most `LONGEST_LINE` bytes. `listener` hears of a bad line, and says whether the lines
 /// behind it are followed; where none is bad, what is written is what `run_show` writes.
 ///
 /// After a read fault the texts of all whole lines before it were written, after the end of memory
 /// those of some first lines, after a write fault a prefix of these.
-pub fn run_follow<S: LiveSource<W>, W: Sink, B: OnBadLine>(
+pub fn run_follow<S: LiveSource<W>, W: Sink, B: FollowListener>(
     alloc: Global,
     source: &mut S,
     sink: &mut W,
-    bad_lines: &mut B,
+    listener: &mut B,
     limits: &Limits,
 ) -> Result<Followed, RunError>
-    requires { B.is_ended bad_lines.old → ⊥ }
+    requires { B.is_ended listener.old → ⊥ }
     ensures { FollowsAll (line_at 0) (alone (Answers limits.now)) (datagram_text limits.now.shape.order)
-        is_taken never B.heard B.is_ended S.remaining S.is_ended S.failure_count S.reads
+        is_accepted_answer never B.heard B.is_ended S.remaining S.is_ended S.failure_count S.reads
         W.contents W.is_stalled W.stall_count W.failure_count tt tt
-        source.old source.new sink.old sink.new bad_lines.old bad_lines.new result }
+        source.old source.new sink.old sink.new listener.old listener.new result }
 {
     let each = Show { limits: *limits };
-    follow(alloc, source, sink, bad_lines, &each, &mut ())
+    follow(alloc, source, sink, listener, &each, &mut ())
 }
 
 /// Follows the lines as `run_follow` does, and writes of each datagram what `run_show_coloured`
 /// writes.
-pub fn run_follow_coloured<S: LiveSource<W>, W: Sink, B: OnBadLine>(
+pub fn run_follow_coloured<S: LiveSource<W>, W: Sink, B: FollowListener>(
     alloc: Global,
     source: &mut S,
     sink: &mut W,
-    bad_lines: &mut B,
+    listener: &mut B,
     limits: &Limits,
 ) -> Result<Followed, RunError>
-    requires { B.is_ended bad_lines.old → ⊥ }
+    requires { B.is_ended listener.old → ⊥ }
     ensures { FollowsAll (line_at 0) (alone (Answers limits.now)) (coloured_text limits.now.shape.order)
-        is_taken never B.heard B.is_ended S.remaining S.is_ended S.failure_count S.reads
+        is_accepted_answer never B.heard B.is_ended S.remaining S.is_ended S.failure_count S.reads
         W.contents W.is_stalled W.stall_count W.failure_count tt tt
-        source.old source.new sink.old sink.new bad_lines.old bad_lines.new result }
+        source.old source.new sink.old sink.new listener.old listener.new result }
 {
     let each = ShowColoured { limits: *limits };
-    follow(alloc, source, sink, bad_lines, &each, &mut ())
+    follow(alloc, source, sink, listener, &each, &mut ())
 }
 
 /// Follows the lines as `run_follow` does, and writes of each datagram what `run_show_json` writes.
-pub fn run_follow_json<S: LiveSource<W>, W: Sink, B: OnBadLine>(
+pub fn run_follow_json<S: LiveSource<W>, W: Sink, B: FollowListener>(
     alloc: Global,
     source: &mut S,
     sink: &mut W,
-    bad_lines: &mut B,
+    listener: &mut B,
     limits: &Limits,
 ) -> Result<Followed, RunError>
-    requires { B.is_ended bad_lines.old → ⊥ }
+    requires { B.is_ended listener.old → ⊥ }
     ensures { FollowsAll (line_at 0) (alone (Answers limits.now)) (datagram_json limits.now.shape.order)
-        is_taken never B.heard B.is_ended S.remaining S.is_ended S.failure_count S.reads
+        is_accepted_answer never B.heard B.is_ended S.remaining S.is_ended S.failure_count S.reads
         W.contents W.is_stalled W.stall_count W.failure_count tt tt
-        source.old source.new sink.old sink.new bad_lines.old bad_lines.new result }
+        source.old source.new sink.old sink.new listener.old listener.new result }
 {
     let each = ShowJson { limits: *limits };
-    follow(alloc, source, sink, bad_lines, &each, &mut ())
+    follow(alloc, source, sink, listener, &each, &mut ())
 }
 
 /// Follows the lines as `run_follow` does, and writes of each datagram what `run_show_bytes` writes.
-pub fn run_follow_bytes<S: LiveSource<W>, W: Sink, B: OnBadLine>(
+pub fn run_follow_bytes<S: LiveSource<W>, W: Sink, B: FollowListener>(
     alloc: Global,
     source: &mut S,
     sink: &mut W,
-    bad_lines: &mut B,
+    listener: &mut B,
     limits: &Limits,
     format: RowFormat,
 ) -> Result<Followed, RunError>
-    requires { B.is_ended bad_lines.old → ⊥ }
+    requires { B.is_ended listener.old → ⊥ }
     ensures { FollowsAll (line_at 0) (alone (Views limits.now)) (viewed_text format limits.now.shape.order)
         is_accepted never B.heard B.is_ended S.remaining S.is_ended S.failure_count S.reads
         W.contents W.is_stalled W.stall_count W.failure_count tt tt
-        source.old source.new sink.old sink.new bad_lines.old bad_lines.new result }
+        source.old source.new sink.old sink.new listener.old listener.new result }
 {
     let each = ShowBytes {
         limits: *limits,
         format,
     };
-    follow(alloc, source, sink, bad_lines, &each, &mut ())
+    follow(alloc, source, sink, listener, &each, &mut ())
 }

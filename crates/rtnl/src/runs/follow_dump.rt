@@ -9,7 +9,7 @@ ghost use Rattle.rtnl.specs.TabledJson.{in_json};
 use crate::ending::Ending;
 use crate::error::RunError;
 use crate::runs::follow_lines::follow;
-use crate::runs::followed::{Followed, OnBadLine};
+use crate::runs::followed::{FollowListener, Followed};
 use crate::runs::open_dump::OpenDump;
 use crate::runs::per_line::{PerLine, Told, read_datagram_of};
 use crate::runs::report::{InJson, InText, ReportFormat};
@@ -96,12 +96,12 @@ struct TellDump<F> {
 
 impl<F: ReportFormat> PerLine for TellDump<F> {
     ghost use Rattle.std.specs.Prelude.{ℕ, List};
-    ghost use Rattle.rtnl.specs.FollowedDump.{Given, Reads, ends_dump, given_text, is_given};
+    ghost use Rattle.rtnl.specs.FollowedDump.{Given, Reads, ends_dump, given_text, is_accepted};
     ghost use Rattle.rtnl.specs.Lines.{line_at};
 
     type Kept = OpenDump;
 
-    ghost Said = { List ℕ };
+    ghost Content = { List ℕ };
 
     ghost says = { λ _. line_at 0 };
 
@@ -111,7 +111,7 @@ impl<F: ReportFormat> PerLine for TellDump<F> {
 
     ghost text = { λ e. given_text F.report e.order };
 
-    ghost takes = { is_given };
+    ghost takes = { is_accepted };
 
     ghost ends = { ends_dump };
 
@@ -150,19 +150,19 @@ impl<F: ReportFormat> PerLine for TellDump<F> {
 }
 
 /// Follows a dump, and reports of it in this form.
-fn follow_dump<F: ReportFormat, S: LiveSource<W>, W: Sink, B: OnBadLine>(
+fn follow_dump<F: ReportFormat, S: LiveSource<W>, W: Sink, B: FollowListener>(
     alloc: Global,
     source: &mut S,
     sink: &mut W,
-    bad_lines: &mut B,
+    listener: &mut B,
     dump: Dump,
     limits: &Limits,
 ) -> Result<DumpFollowed, RunError>
-    requires { B.is_ended bad_lines.old → ⊥ }
+    requires { B.is_ended listener.old → ⊥ }
     ensures { FollowsDump S.remaining S.is_ended S.failure_count S.reads
         W.contents W.is_stalled W.stall_count W.failure_count B.heard B.is_ended
         F.report limits.now dump source.old source.new sink.old sink.new
-        bad_lines.old bad_lines.new result }
+        listener.old listener.new result }
 {
     let mut text = Vec::new(alloc);
     F::push_front(alloc, &mut text, &dump)?;
@@ -172,7 +172,7 @@ fn follow_dump<F: ReportFormat, S: LiveSource<W>, W: Sink, B: OnBadLine>(
         order: limits.order(),
         report: PhantomData,
     };
-    let counts = follow(alloc, source, sink, bad_lines, &each, &mut kept)?;
+    let counts = follow(alloc, source, sink, listener, &each, &mut kept)?;
     let ending = ending_of(&kept);
     text.clear();
     F::push_ending(alloc, &mut text, &dump, &ending)?;
@@ -192,38 +192,38 @@ fn follow_dump<F: ReportFormat, S: LiveSource<W>, W: Sink, B: OnBadLine>(
 /// It keeps no table: the entries are the items as they come, and none is missed. It reads bad
 /// lines, and ends where a read, a write or memory fails, as `run_follow` does; then nothing is
 /// written of how the dump ended.
-pub fn run_follow_dump<S: LiveSource<W>, W: Sink, B: OnBadLine>(
+pub fn run_follow_dump<S: LiveSource<W>, W: Sink, B: FollowListener>(
     alloc: Global,
     source: &mut S,
     sink: &mut W,
-    bad_lines: &mut B,
+    listener: &mut B,
     dump: Dump,
     limits: &Limits,
 ) -> Result<DumpFollowed, RunError>
-    requires { B.is_ended bad_lines.old → ⊥ }
+    requires { B.is_ended listener.old → ⊥ }
     ensures { FollowsDump S.remaining S.is_ended S.failure_count S.reads
         W.contents W.is_stalled W.stall_count W.failure_count B.heard B.is_ended
         in_text limits.now dump source.old source.new sink.old sink.new
-        bad_lines.old bad_lines.new result }
+        listener.old listener.new result }
 {
-    follow_dump::<InText, _, _, _>(alloc, source, sink, bad_lines, dump, limits)
+    follow_dump::<InText, _, _, _>(alloc, source, sink, listener, dump, limits)
 }
 
 /// Follows the lines as `run_follow_dump` does, and writes the dump as lines of JSON, as
 /// `run_table_json` does.
-pub fn run_follow_dump_json<S: LiveSource<W>, W: Sink, B: OnBadLine>(
+pub fn run_follow_dump_json<S: LiveSource<W>, W: Sink, B: FollowListener>(
     alloc: Global,
     source: &mut S,
     sink: &mut W,
-    bad_lines: &mut B,
+    listener: &mut B,
     dump: Dump,
     limits: &Limits,
 ) -> Result<DumpFollowed, RunError>
-    requires { B.is_ended bad_lines.old → ⊥ }
+    requires { B.is_ended listener.old → ⊥ }
     ensures { FollowsDump S.remaining S.is_ended S.failure_count S.reads
         W.contents W.is_stalled W.stall_count W.failure_count B.heard B.is_ended
         in_json limits.now dump source.old source.new sink.old sink.new
-        bad_lines.old bad_lines.new result }
+        listener.old listener.new result }
 {
-    follow_dump::<InJson, _, _, _>(alloc, source, sink, bad_lines, dump, limits)
+    follow_dump::<InJson, _, _, _>(alloc, source, sink, listener, dump, limits)
 }

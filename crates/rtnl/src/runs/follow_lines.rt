@@ -7,9 +7,9 @@ ghost use Rattle.rtnl.specs.Followed as fixed;
 
 use crate::error::RunError;
 use crate::recordings::unfinished::{LONGEST_LINE, Unfinished};
-use crate::runs::followed::{Followed, OnBadLine, Progress, tell_bad, tell_line};
+use crate::runs::followed::{FollowListener, Followed, Progress, tell_bad, tell_line};
 use crate::runs::per_line::PerLine;
-use crate::streams::calls::Broken;
+use crate::streams::errors::IoFailed;
 use crate::streams::sink::Sink;
 use crate::streams::source::LiveSource;
 use memchr::memchr;
@@ -17,58 +17,58 @@ use std::alloc::Global;
 
 /// How far a recording is followed.
 #[derive(Drop)]
-struct Follower {
+struct FollowState {
     unfinished: Unfinished,
-    telling: Progress,
+    progress: Progress,
 }
 
-impl Follower {
+impl FollowState {
     ghost use Rattle.rtnl.specs.Followed.{none_followed};
 
     /// Nothing is followed yet.
-    fn new(alloc: Global) -> Follower
+    fn new(alloc: Global) -> FollowState
         ensures unfinished { result.unfinished ≡ Some [] }
-        ensures counts { result.telling.counts ≡ none_followed }
+        ensures counts { result.progress.counts ≡ none_followed }
     {
-        Follower {
+        FollowState {
             unfinished: Unfinished::new(alloc),
-            telling: Progress::new(alloc),
+            progress: Progress::new(alloc),
         }
     }
 }
 
 /// Tells of the line that ends behind this part, and answers whether the lines behind it are told.
 /// Of a line that came in one part nothing is copied.
-fn end_line<W: Sink, B: OnBadLine, E: PerLine>(
+fn end_line<W: Sink, B: FollowListener, E: PerLine>(
     alloc: Global,
     each: &E,
     kept: &mut E::Kept,
     sink: &mut W,
-    bad_lines: &mut B,
-    following: &mut Follower,
+    listener: &mut B,
+    state: &mut FollowState,
     part: &[u8],
 ) -> Result<bool, RunError>
-    requires counted { IsCounted 1 following.old.telling.counts }
+    requires counted { IsCounted 1 state.old.progress.counts }
     requires short { length part.now ≤ fixed.LONGEST_LINE }
-    requires going { GoesOn E.ends B.is_ended kept.old bad_lines.old }
+    requires going { GoesOn E.ends B.is_ended kept.old listener.old }
     ensures tells { TellsLine (E.says each.now) (E.finds each.now) (E.text each.now) E.takes E.ends
         B.heard B.is_ended W.contents W.is_stalled W.stall_count W.failure_count
-        (with_part following.old.unfinished part.now) kept.old kept.new
-        following.old.telling.counts following.new.telling.counts
-        bad_lines.old bad_lines.new sink.old sink.new result }
-    ensures cleared { OnOk result (following.new.unfinished ≡ Some []) }
+        (with_part state.old.unfinished part.now) kept.old kept.new
+        state.old.progress.counts state.new.progress.counts
+        listener.old listener.new sink.old sink.new result }
+    ensures cleared { OnOk result (state.new.unfinished ≡ Some []) }
 {
-    let Follower {
+    let FollowState {
         unfinished,
-        telling,
-    } = following;
+        progress,
+    } = state;
     if let Some([]) = unfinished.line() {
-        return tell_line(alloc, each, kept, sink, bad_lines, telling, part);
+        return tell_line(alloc, each, kept, sink, listener, progress, part);
     }
     unfinished.push(part)?;
     let goes_on = match unfinished.line() {
-        Some(line) => tell_line(alloc, each, kept, sink, bad_lines, telling, line)?,
-        None => tell_bad(bad_lines, &mut telling.counts, None),
+        Some(line) => tell_line(alloc, each, kept, sink, listener, progress, line)?,
+        None => tell_bad(listener, &mut progress.counts, None),
     };
     unfinished.clear();
     Ok(goes_on)
@@ -76,37 +76,37 @@ fn end_line<W: Sink, B: OnBadLine, E: PerLine>(
 
 /// Tells of the lines that end in a piece of the input, and keeps what is behind them. It answers
 /// whether following goes on.
-fn follow_piece<W: Sink, B: OnBadLine, E: PerLine>(
+fn follow_piece<W: Sink, B: FollowListener, E: PerLine>(
     alloc: Global,
     each: &E,
     kept: &mut E::Kept,
     sink: &mut W,
-    bad_lines: &mut B,
-    following: &mut Follower,
+    listener: &mut B,
+    state: &mut FollowState,
     piece: &[u8],
 ) -> Result<bool, RunError>
-    requires counted { IsCounted (length piece.now) following.old.telling.counts }
+    requires counted { IsCounted (length piece.now) state.old.progress.counts }
     requires short { length piece.now ≤ fixed.LONGEST_LINE }
-    requires going { GoesOn E.ends B.is_ended kept.old bad_lines.old }
+    requires going { GoesOn E.ends B.is_ended kept.old listener.old }
     ensures { (before : List ℕ) (first : E.Kept) (unheard : B) (old : Option (List ℕ))
         → Follows (E.says each.now) (E.finds each.now) (E.text each.now) E.takes E.ends B.heard B.is_ended
-        before following.old.unfinished first kept.old following.old.telling.counts
-        unheard bad_lines.old old (W.contents sink.old)
+        before state.old.unfinished first kept.old state.old.progress.counts
+        unheard listener.old old (W.contents sink.old)
         → FollowsPiece (E.says each.now) (E.finds each.now) (E.text each.now) E.takes E.ends B.heard B.is_ended
         W.contents W.is_stalled W.stall_count W.failure_count before piece.now
-        following.new.unfinished first kept.new following.new.telling.counts
-        unheard bad_lines.new old sink.old sink.new result }
+        state.new.unfinished first kept.new state.new.progress.counts
+        unheard listener.new old sink.old sink.new result }
 {
     let mut left = piece;
     while let Some(end) = memchr(b'\n', left) {
         let (part, rest) = left.split_at(end);
-        if !end_line(alloc, each, kept, sink, bad_lines, following, part)? {
+        if !end_line(alloc, each, kept, sink, listener, state, part)? {
             return Ok(false);
         }
         let (_newline, behind) = rest.split_at(1);
         left = behind;
     }
-    following.unfinished.push(left)?;
+    state.unfinished.push(left)?;
     Ok(true)
 }
 
@@ -119,34 +119,34 @@ const MOST_FOLLOWED: u64 = u64::MAX - 65_536;
 /// What is told of a line is written before the next read. No more is kept of the input than a
 /// piece and a line. After a read fault or the end of memory the texts of whole lines were written,
 /// after a write fault a prefix of that.
-pub(crate) fn follow<S: LiveSource<W>, W: Sink, B: OnBadLine, E: PerLine>(
+pub(crate) fn follow<S: LiveSource<W>, W: Sink, B: FollowListener, E: PerLine>(
     alloc: Global,
     source: &mut S,
     sink: &mut W,
-    bad_lines: &mut B,
+    listener: &mut B,
     each: &E,
     kept: &mut E::Kept,
 ) -> Result<Followed, RunError>
-    requires going { GoesOn E.ends B.is_ended kept.old bad_lines.old }
+    requires going { GoesOn E.ends B.is_ended kept.old listener.old }
     ensures { FollowsAll (E.says each.now) (E.finds each.now) (E.text each.now) E.takes E.ends B.heard B.is_ended
         S.remaining S.is_ended S.failure_count S.reads
         W.contents W.is_stalled W.stall_count W.failure_count kept.old kept.new
-        source.old source.new sink.old sink.new bad_lines.old bad_lines.new result }
+        source.old source.new sink.old sink.new listener.old listener.new result }
 {
-    let mut following = Follower::new(alloc);
+    let mut state = FollowState::new(alloc);
     let mut buffer = [0u8; 8192];
     let mut received = 0;
     while received <= MOST_FOLLOWED {
         match source.take_behind(sink, &mut buffer) {
-            Err(Broken) => return Err(RunError::ReadFault),
+            Err(IoFailed) => return Err(RunError::ReadFault),
             Ok(0) => {
-                end_line(alloc, each, kept, sink, bad_lines, &mut following, b"")?;
-                return Ok(following.telling.counts);
+                end_line(alloc, each, kept, sink, listener, &mut state, b"")?;
+                return Ok(state.progress.counts);
             }
             Ok(count) => {
                 let piece = &buffer[..count];
-                if !follow_piece(alloc, each, kept, sink, bad_lines, &mut following, piece)? {
-                    return Ok(following.telling.counts);
+                if !follow_piece(alloc, each, kept, sink, listener, &mut state, piece)? {
+                    return Ok(state.progress.counts);
                 }
                 received += count as u64;
             }

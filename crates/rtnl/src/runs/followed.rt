@@ -1,4 +1,5 @@
-//! The counts of a recording that is followed, and the listener to its bad lines.
+//! The counts of a recording that is followed, and the listener to its bad lines and to its
+//! datagrams.
 
 ghost use Rattle.std.specs.Prelude.{◌≡◌, ◌↔◌, ◌∷◌, [], List, Option, Some, false};
 ghost use Rattle.std.specs.Option.{option_copied};
@@ -23,8 +24,8 @@ pub struct Followed {
     pub bad_lines: u64,
 }
 
-/// A listener to the bad lines of a recording that is followed.
-pub trait OnBadLine {
+/// A listener to the bad lines and to the datagrams of a recording that is followed.
+pub trait FollowListener {
     ghost use Rattle.std.specs.Prelude.{◌≡◌, ◌↔◌, ◌∷◌, [], List, Option, false};
     ghost use Rattle.std.specs.Option.{option_copied};
     ghost use Rattle.rtnl.specs.Streams.{Gains};
@@ -39,7 +40,7 @@ pub trait OnBadLine {
     /// Hears that the line of this number, counted from 1, is bad, and answers whether the lines
     /// behind it are followed. The line is handed in without its newline; there is none where it
     /// is longer than `LONGEST_LINE`. Behind an answer that they aren't it is not called again.
-    fn hear(&mut self, number: u64, line: Option<&[u8]>) -> bool
+    fn bad_line(&mut self, number: u64, line: Option<&[u8]>) -> bool
         requires { is_ended self.old → ⊥ }
         ensures heard { Gains (heard self.old) (heard self.new)
             (record { number = number; line = option_copied line.entry } ∷ []) }
@@ -47,7 +48,10 @@ pub trait OnBadLine {
 
     /// Sees a datagram that was refused, by its number among the datagrams, counted from 1, behind
     /// its text. It can change nothing of what clauses speak of, and none says that it is called.
-    fn see_refused(&self, number: u64, datagram: &[u8]);
+    fn refused_datagram(&self, number: u64, datagram: &[u8]);
+
+    /// Sees a datagram that was taken, as one that was refused.
+    fn taken_datagram(&self, number: u64, datagram: &[u8]);
 }
 
 /// What was counted so far, and room that is used again for each line: for the bytes of its
@@ -80,47 +84,48 @@ impl Progress {
 }
 
 /// Tells of a line that is bad, and answers whether the lines behind it are followed.
-pub(crate) fn tell_bad<B: OnBadLine>(
-    bad_lines: &mut B,
+pub(crate) fn tell_bad<B: FollowListener>(
+    listener: &mut B,
     counts: &mut Followed,
     line: Option<&[u8]>,
 ) -> bool
     requires counted { IsCounted 1 counts.old }
-    requires going { B.is_ended bad_lines.old → ⊥ }
+    requires going { B.is_ended listener.old → ⊥ }
     ensures counted { counts.new ≡ one_bad counts.old }
-    ensures heard { Gains (B.heard bad_lines.old) (B.heard bad_lines.new)
+    ensures heard { Gains (B.heard listener.old) (B.heard listener.new)
         (record { number = counts.new.lines; line = option_copied line.entry } ∷ []) }
-    ensures ended { B.is_ended bad_lines.new ↔ (result ≡ false) }
+    ensures ended { B.is_ended listener.new ↔ (result ≡ false) }
 {
     counts.lines += 1;
     counts.bad_lines += 1;
-    bad_lines.hear(counts.lines, line)
+    listener.bad_line(counts.lines, line)
 }
 
 /// Tells of a line: writes the text of what it says, if it says anything, or says that it is bad.
 /// It answers whether the lines behind it are told.
-pub(crate) fn tell_line<W: Sink, B: OnBadLine, E: PerLine>(
+pub(crate) fn tell_line<W: Sink, B: FollowListener, E: PerLine>(
     alloc: Global,
     each: &E,
     kept: &mut E::Kept,
     sink: &mut W,
-    bad_lines: &mut B,
-    telling: &mut Progress,
+    listener: &mut B,
+    progress: &mut Progress,
     line: &[u8],
 ) -> Result<bool, RunError>
-    requires counted { IsCounted 1 telling.old.counts }
-    requires going { GoesOn E.ends B.is_ended kept.old bad_lines.old }
+    requires counted { IsCounted 1 progress.old.counts }
+    requires going { GoesOn E.ends B.is_ended kept.old listener.old }
     ensures { TellsLine (E.says each.now) (E.finds each.now) (E.text each.now) E.takes E.ends B.heard B.is_ended
         W.contents W.is_stalled W.stall_count W.failure_count
-        (Some line.now) kept.old kept.new telling.old.counts telling.new.counts
-        bad_lines.old bad_lines.new sink.old sink.new result }
+        (Some line.now) kept.old kept.new progress.old.counts progress.new.counts
+        listener.old listener.new sink.old sink.new result }
 {
     let Progress {
         counts,
         bytes,
         text,
-    } = telling;
+    } = progress;
     text.clear();
+    bytes.clear();
     let number = counts.datagrams + 1;
     let told = match each.tell(alloc, kept, text, bytes, number as usize, line) {
         Ok(Some(told)) => told,
@@ -128,12 +133,14 @@ pub(crate) fn tell_line<W: Sink, B: OnBadLine, E: PerLine>(
             counts.lines += 1;
             return Ok(true);
         }
-        Err(RunError::BadLine(_)) => return Ok(tell_bad(bad_lines, counts, Some(line))),
+        Err(RunError::BadLine(_)) => return Ok(tell_bad(listener, counts, Some(line))),
         Err(error) => return Err(error),
     };
     give_all(sink, text.as_slice())?;
     if !told.taken {
-        bad_lines.see_refused(told.number, bytes.as_slice());
+        listener.refused_datagram(told.number, bytes.as_slice());
+    } else if !bytes.is_empty() {
+        listener.taken_datagram(told.number, bytes.as_slice());
     }
     counts.lines += 1;
     counts.datagrams = number;

@@ -5,22 +5,23 @@ ghost use Rattle.nl_mirror.specs.Five.{Began};
 ghost use Rattle.nl_mirror.specs.declared.errors.BeginError.{BeginError as AnyBeginError};
 ghost use Rattle.rtnl.specs.Mirrors.{FollowsMirror, Keeps, followed};
 ghost use Rattle.rtnl.specs.Mirroring.{Comes, IsUnheard, end_text, Outcome, begins_well, fed_by, feeds};
-ghost use Rattle.rtnl.specs.Mirroring.{in_text, is_begun, is_heard, one_more, outcome_text};
-ghost use Rattle.rtnl.specs.Mirroring.{step_of, unbegun_by, where_so};
+ghost use Rattle.rtnl.specs.Mirroring.{in_text, is_begun, outcome_is_accepted};
+ghost use Rattle.rtnl.specs.Mirroring.{outcome_text, step_of, unbegun_by, where_so};
 ghost use Rattle.rtnl.specs.MirroringJson as lines_of_json;
 ghost use Rattle.rtnl.specs.Runs.{Writes};
+ghost use Rattle.rtnl.specs.Streams.{one_more};
 ghost use Rattle.rtnl.specs.Tabled as tabled;
 ghost use Rattle.rtnl.specs.TabledJson as tabled_json;
 
 use crate::error::RunError;
 use crate::runs::follow_lines::follow;
-use crate::runs::followed::{Followed, OnBadLine};
+use crate::runs::followed::{FollowListener, Followed};
 use crate::runs::mirror_format::MirrorFormat;
 use crate::runs::mirrored::{MirrorSettings, MirrorSoFar};
-use crate::runs::mirroring::{hear_all, is_current, push_end, push_kinds, standing};
+use crate::runs::mirroring::{hear_all, is_current, push_all_table_states, push_end, table_states};
 use crate::runs::per_line::{PerLine, Told};
 use crate::runs::report::{InJson, InText};
-use crate::runs::steps::{Said, read_step};
+use crate::runs::steps::{StepKind, read_step};
 use crate::streams::sink::{Sink, give_all};
 use crate::streams::source::LiveSource;
 use nl_dump::Dump;
@@ -65,7 +66,7 @@ fn feed<F: MirrorFormat>(
         × Comes settings.now.limits mirror.old (feeds datagram.now) o mirror.new
         × (out.new.items ≡ out.old.items ++ outcome_text F.report F.telling
         settings.now.limits.shape.order settings.now (feeds datagram.now) number o)
-        × (taken ≡ is_heard o) × (begins_well o ≡ true)) }
+        × (taken ≡ outcome_is_accepted o) × (begins_well o ≡ true)) }
 {
     match read_datagram(alloc, datagram, &settings.limits).into_result() {
         Ok(messages) => {
@@ -146,20 +147,20 @@ fn take_step<F: MirrorFormat>(
     out: &mut Vec<u8>,
     settings: &MirrorSettings,
     kept: &mut MirrorSoFar,
-    said: Said,
+    step: StepKind,
     datagram: &[u8],
 ) -> Result<bool, AllocError>
     ensures { IfOk result (λ taken. (o : Outcome)
-        × Comes settings.now.limits kept.old.mirror (step_of datagram.now said) o kept.new.mirror
-        × (kept.new.datagrams ≡ fed_by (step_of datagram.now said) kept.old.datagrams)
+        × Comes settings.now.limits kept.old.mirror (step_of datagram.now step) o kept.new.mirror
+        × (kept.new.datagrams ≡ fed_by (step_of datagram.now step) kept.old.datagrams)
         × (kept.new.unbegun ≡ unbegun_by (begins_well o) kept.old.unbegun)
         × (out.new.items ≡ out.old.items ++ outcome_text F.report F.telling
-        settings.now.limits.shape.order settings.now (step_of datagram.now said)
+        settings.now.limits.shape.order settings.now (step_of datagram.now step)
         kept.new.datagrams o)
-        × (taken ≡ is_heard o)) }
+        × (taken ≡ outcome_is_accepted o)) }
 {
-    match said {
-        Said::Datagram => {
+    match step {
+        StepKind::Datagram => {
             kept.datagrams = kept.datagrams.saturating_add(1);
             feed::<F>(
                 alloc,
@@ -170,11 +171,11 @@ fn take_step<F: MirrorFormat>(
                 datagram,
             )
         }
-        Said::Dump(dump) => {
+        StepKind::Dump(dump) => {
             begin::<F>(alloc, out, kept, dump)?;
             Ok(true)
         }
-        Said::Loss => {
+        StepKind::Loss => {
             kept.mirror.lost();
             Ok(true)
         }
@@ -189,12 +190,12 @@ struct TellMirror<F> {
 }
 
 impl<F: MirrorFormat> PerLine for TellMirror<F> {
-    ghost use Rattle.rtnl.specs.Mirroring.{Passed, Passes, Step, goes_on, is_passed};
+    ghost use Rattle.rtnl.specs.Mirroring.{Passed, Passes, Step, is_accepted, never_ends};
     ghost use Rattle.rtnl.specs.Mirroring.{step_in, step_text};
 
     type Kept = MirrorSoFar;
 
-    ghost Said = { Step };
+    ghost Content = { Step };
 
     ghost says = { λ t. step_in t.settings.family };
 
@@ -205,9 +206,9 @@ impl<F: MirrorFormat> PerLine for TellMirror<F> {
     ghost text = { λ t number. step_text F.report F.telling t.settings.limits.shape.order
         t.settings };
 
-    ghost takes = { is_passed };
+    ghost takes = { is_accepted };
 
-    ghost ends = { goes_on };
+    ghost ends = { never_ends };
 
     fn tell(
         &self,
@@ -219,12 +220,12 @@ impl<F: MirrorFormat> PerLine for TellMirror<F> {
         line: &[u8],
     ) -> Result<Option<Told>, RunError> {
         let settings = &self.settings;
-        let Some(said) = read_step(alloc, bytes, settings.family, line)? else {
+        let Some(step) = read_step(alloc, bytes, settings.family, line)? else {
             return Ok(None);
         };
-        let was = standing(&kept.mirror);
-        let taken = take_step::<F>(alloc, out, settings, kept, said, bytes.as_slice())?;
-        push_kinds::<F>(alloc, out, settings, &was, &kept.mirror)?;
+        let was = table_states(&kept.mirror);
+        let taken = take_step::<F>(alloc, out, settings, kept, step, bytes.as_slice())?;
+        push_all_table_states::<F>(alloc, out, settings, &was, &kept.mirror)?;
         Ok(Some(Told {
             taken,
             number: kept.datagrams,
@@ -260,44 +261,44 @@ fn finish<F: MirrorFormat, W: Sink>(
 }
 
 /// Keeps this mirror by the lines of a recording, and tells of it in this form.
-fn keep<F: MirrorFormat, S: LiveSource<W>, W: Sink, B: OnBadLine>(
+fn keep<F: MirrorFormat, S: LiveSource<W>, W: Sink, B: FollowListener>(
     alloc: Global,
     source: &mut S,
     sink: &mut W,
-    bad_lines: &mut B,
+    listener: &mut B,
     settings: &MirrorSettings,
     kept: &mut MirrorSoFar,
 ) -> Result<MirrorFollowed, RunError>
-    requires { B.is_ended bad_lines.old → ⊥ }
+    requires { B.is_ended listener.old → ⊥ }
     ensures { Keeps S.remaining S.is_ended S.failure_count S.reads
         W.contents W.is_stalled W.stall_count W.failure_count B.heard B.is_ended
         F.report F.telling settings.now source.old source.new sink.old sink.new
-        bad_lines.old bad_lines.new kept.old kept.new result }
+        listener.old listener.new kept.old kept.new result }
 {
     let each = TellMirror::<F> {
         settings: *settings,
         report: PhantomData,
     };
-    let counts = follow(alloc, source, sink, bad_lines, &each, kept)?;
+    let counts = follow(alloc, source, sink, listener, &each, kept)?;
     finish::<F, _>(alloc, sink, settings, kept, counts)
 }
 
-/// Keeps a new mirror so. It alone owns one, which is dear to prove.
-fn run<F: MirrorFormat, S: LiveSource<W>, W: Sink, B: OnBadLine>(
+/// Runs with a new mirror. A separate function because owning one makes proofs slow.
+fn run<F: MirrorFormat, S: LiveSource<W>, W: Sink, B: FollowListener>(
     alloc: Global,
     source: &mut S,
     sink: &mut W,
-    bad_lines: &mut B,
+    listener: &mut B,
     settings: &MirrorSettings,
 ) -> Result<MirrorFollowed, RunError>
-    requires { B.is_ended bad_lines.old → ⊥ }
+    requires { B.is_ended listener.old → ⊥ }
     ensures { FollowsMirror S.remaining S.is_ended S.failure_count S.reads
         W.contents W.is_stalled W.stall_count W.failure_count B.heard B.is_ended
         F.report F.telling settings.now source.old source.new sink.old sink.new
-        bad_lines.old bad_lines.new result }
+        listener.old listener.new result }
 {
     let mut kept = unheard(alloc, settings)?;
-    keep::<F, _, _, _>(alloc, source, sink, bad_lines, settings, &mut kept)
+    keep::<F, _, _, _>(alloc, source, sink, listener, settings, &mut kept)
 }
 
 /// Keeps a mirror by the lines that a source gives, of any length: each datagram is fed to it, a
@@ -309,35 +310,35 @@ fn run<F: MirrorFormat, S: LiveSource<W>, W: Sink, B: OnBadLine>(
 ///
 /// What is kept is the mirror, within its limits. It reads bad lines, and ends where a read, a write
 /// or memory fails, as `run_follow` does; then no table is written.
-pub fn run_mirror<S: LiveSource<W>, W: Sink, B: OnBadLine>(
+pub fn run_mirror<S: LiveSource<W>, W: Sink, B: FollowListener>(
     alloc: Global,
     source: &mut S,
     sink: &mut W,
-    bad_lines: &mut B,
+    listener: &mut B,
     settings: &MirrorSettings,
 ) -> Result<MirrorFollowed, RunError>
-    requires { B.is_ended bad_lines.old → ⊥ }
+    requires { B.is_ended listener.old → ⊥ }
     ensures { FollowsMirror S.remaining S.is_ended S.failure_count S.reads
         W.contents W.is_stalled W.stall_count W.failure_count B.heard B.is_ended
         tabled.in_text in_text settings.now source.old source.new sink.old sink.new
-        bad_lines.old bad_lines.new result }
+        listener.old listener.new result }
 {
-    run::<InText, _, _, _>(alloc, source, sink, bad_lines, settings)
+    run::<InText, _, _, _>(alloc, source, sink, listener, settings)
 }
 
 /// Keeps a mirror as `run_mirror` does, and writes lines of JSON (RFC 8259) in place of text.
-pub fn run_mirror_json<S: LiveSource<W>, W: Sink, B: OnBadLine>(
+pub fn run_mirror_json<S: LiveSource<W>, W: Sink, B: FollowListener>(
     alloc: Global,
     source: &mut S,
     sink: &mut W,
-    bad_lines: &mut B,
+    listener: &mut B,
     settings: &MirrorSettings,
 ) -> Result<MirrorFollowed, RunError>
-    requires { B.is_ended bad_lines.old → ⊥ }
+    requires { B.is_ended listener.old → ⊥ }
     ensures { FollowsMirror S.remaining S.is_ended S.failure_count S.reads
         W.contents W.is_stalled W.stall_count W.failure_count B.heard B.is_ended
         tabled_json.in_json lines_of_json.in_json settings.now source.old source.new
-        sink.old sink.new bad_lines.old bad_lines.new result }
+        sink.old sink.new listener.old listener.new result }
 {
-    run::<InJson, _, _, _>(alloc, source, sink, bad_lines, settings)
+    run::<InJson, _, _, _>(alloc, source, sink, listener, settings)
 }

@@ -15,9 +15,9 @@ use std::alloc::{AllocError, Global};
 /// What is told of a mirror: a dump that didn't begin, the changes, and how its tables stand.
 pub(crate) trait MirrorFormat: ReportFormat {
     ghost use Rattle.std.specs.Prelude.{◌≡◌, ◌++◌, OnOk};
-    ghost use Rattle.rtnl.specs.Mirroring.{Progress};
+    ghost use Rattle.rtnl.specs.Mirroring.{MirrorReport};
 
-    ghost telling: { Progress };
+    ghost telling: { MirrorReport };
 
     /// Writes that a dump didn't begin, since its sequence number is not above those before.
     fn push_unbegun(alloc: Global, out: &mut Vec<u8>, dump: &Dump) -> Result<(), AllocError>

@@ -33,19 +33,19 @@ pub(crate) struct MirrorSoFar {
 
 /// How the table of a kind stands.
 #[derive(Clone, Copy)]
-pub(crate) struct Stood {
+pub(crate) struct TableState {
     /// Whether a dump of it runs.
-    pub(crate) runs: bool,
+    pub(crate) dump_running: bool,
     /// Whether it is stale.
-    pub(crate) doubted: bool,
+    pub(crate) stale: bool,
 }
 
 /// How the tables of all kinds stand.
 #[derive(Clone, Copy)]
-pub(crate) struct Standing {
-    pub(crate) link: Stood,
-    pub(crate) addr: Stood,
-    pub(crate) route: Stood,
-    pub(crate) neigh: Stood,
-    pub(crate) rule: Stood,
+pub(crate) struct TableStates {
+    pub(crate) link: TableState,
+    pub(crate) addr: TableState,
+    pub(crate) route: TableState,
+    pub(crate) neigh: TableState,
+    pub(crate) rule: TableState,
 }

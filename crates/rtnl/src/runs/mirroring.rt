@@ -8,14 +8,14 @@ ghost use Rattle.nl_mirror.specs.Seen.{held_seen};
 ghost use Rattle.rtnl.specs.Mirroring.{Hearing, HearsAll, answer_text, answers_text, doubt};
 ghost use Rattle.rtnl.specs.Mirroring.{effect_text, end_text, entry_at, has_ended};
 ghost use Rattle.rtnl.specs.Mirroring.{is_current, is_shown, kind_text};
-ghost use Rattle.rtnl.specs.Mirroring.{of_shown, renewed_text, standing as standing_of, stands};
-ghost use Rattle.rtnl.specs.Mirroring.{stood, stood_in, table_of, table_text, update_text};
+ghost use Rattle.rtnl.specs.Mirroring.{of_shown, renewed_text, stands, state_in, table_of};
+ghost use Rattle.rtnl.specs.Mirroring.{table_state, table_states, table_text, update_text};
 ghost use Rattle.rtnl.specs.Mirroring.{where_so, where_some};
 
 use crate::json_lines::heads::ItemField;
 use crate::runs::entries::push_entries;
 use crate::runs::mirror_format::MirrorFormat;
-use crate::runs::mirrored::{MirrorSettings, Standing, Stood};
+use crate::runs::mirrored::{MirrorSettings, TableState, TableStates};
 use crate::text::heads::ItemLines;
 use nl_attr::Order;
 use nl_dump::match_table;
@@ -100,7 +100,7 @@ fn push_effect<F: MirrorFormat, T: Entry + ItemLines + ItemField + Drop>(
     }
 }
 
-/// The same, where that kind is shown.
+/// Writes what was made of a table of this kind, if `--kind` shows it.
 fn push_shown<F: MirrorFormat, T: Entry + ItemLines + ItemField + Drop>(
     alloc: Global,
     out: &mut Vec<u8>,
@@ -153,7 +153,8 @@ fn push_update<F: MirrorFormat>(
     }
 }
 
-/// The same of what was answered of a message.
+/// Writes what a message made of a mirror's tables, by what was answered of it, where changes are
+/// told.
 fn push_answer<F: MirrorFormat>(
     alloc: Global,
     out: &mut Vec<u8>,
@@ -194,25 +195,25 @@ pub(crate) fn hear_all<F: MirrorFormat>(
 }
 
 /// How the table of a kind stands.
-fn stood(mirror: &Mirror, kind: Family) -> Stood
-    ensures { result ≡ stood kind mirror.now }
+fn table_state(mirror: &Mirror, kind: Family) -> TableState
+    ensures { result ≡ table_state kind mirror.now }
 {
-    Stood {
-        runs: mirror.dump(kind).is_some(),
-        doubted: mirror.stale(kind).is_some(),
+    TableState {
+        dump_running: mirror.dump(kind).is_some(),
+        stale: mirror.stale(kind).is_some(),
     }
 }
 
 /// How the tables of all kinds stand.
-pub(crate) fn standing(mirror: &Mirror) -> Standing
-    ensures { result ≡ standing_of mirror.now }
+pub(crate) fn table_states(mirror: &Mirror) -> TableStates
+    ensures { result ≡ table_states mirror.now }
 {
-    Standing {
-        link: stood(mirror, Family::Link),
-        addr: stood(mirror, Family::Addr),
-        route: stood(mirror, Family::Route),
-        neigh: stood(mirror, Family::Neigh),
-        rule: stood(mirror, Family::Rule),
+    TableStates {
+        link: table_state(mirror, Family::Link),
+        addr: table_state(mirror, Family::Addr),
+        route: table_state(mirror, Family::Route),
+        neigh: table_state(mirror, Family::Neigh),
+        rule: table_state(mirror, Family::Rule),
     }
 }
 
@@ -246,7 +247,7 @@ fn push_renewed_kind<F: MirrorFormat>(
     match_table!(kind, mirror, table => push_renewed::<F, _>(alloc, out, order, kind, table))
 }
 
-/// The same, where its dump has ended.
+/// Writes the whole table of a kind, if the dump that renewed it has ended.
 fn push_ended<F: MirrorFormat>(
     alloc: Global,
     out: &mut Vec<u8>,
@@ -281,7 +282,7 @@ fn push_doubt<F: MirrorFormat>(
     }
 }
 
-/// The same, where that is news.
+/// Writes why the table of a kind is stale, if it is, and that is news.
 fn push_new_doubt<F: MirrorFormat>(
     alloc: Global,
     out: &mut Vec<u8>,
@@ -299,20 +300,21 @@ fn push_new_doubt<F: MirrorFormat>(
     }
 }
 
-/// Whether a dump of a kind that stood so ran, and none runs now.
-fn has_ended(was: Stood, mirror: &Mirror, kind: Family) -> bool
+/// Whether a dump of a kind ran, whose table was in this state, and none runs now.
+fn has_ended(was: TableState, mirror: &Mirror, kind: Family) -> bool
     ensures { result ≡ has_ended was mirror.now kind }
 {
-    was.runs && mirror.dump(kind).is_none()
+    was.dump_running && mirror.dump(kind).is_none()
 }
 
-/// Writes what a step made of the table of a kind that stood so before it, beside single entries.
+/// Writes what a step made of the table of a kind that was in this state before it, beside single
+/// entries.
 #[tactic(auto, using(crate::proofs::Sets::joins))]
 fn push_news<F: MirrorFormat>(
     alloc: Global,
     out: &mut Vec<u8>,
     order: Order,
-    was: Stood,
+    was: TableState,
     mirror: &Mirror,
     kind: Family,
 ) -> Result<(), AllocError>
@@ -321,15 +323,15 @@ fn push_news<F: MirrorFormat>(
 {
     let has_ended = has_ended(was, mirror, kind);
     push_ended::<F>(alloc, out, order, mirror, kind, has_ended)?;
-    push_new_doubt::<F>(alloc, out, mirror, kind, has_ended || !was.doubted)
+    push_new_doubt::<F>(alloc, out, mirror, kind, has_ended || !was.stale)
 }
 
-/// The same, where that kind is shown.
-fn push_kind<F: MirrorFormat>(
+/// Writes a table's new state, if `--kind` shows it.
+fn push_table_state<F: MirrorFormat>(
     alloc: Global,
     out: &mut Vec<u8>,
     settings: &MirrorSettings,
-    was: Stood,
+    was: TableState,
     mirror: &Mirror,
     kind: Family,
 ) -> Result<(), AllocError>
@@ -344,39 +346,39 @@ fn push_kind<F: MirrorFormat>(
     }
 }
 
-/// The same of all kinds.
-fn push_each_kind<F: MirrorFormat>(
+/// Writes the new state of each table that `--kind` shows.
+fn push_each_table_state<F: MirrorFormat>(
     alloc: Global,
     out: &mut Vec<u8>,
     settings: &MirrorSettings,
-    was: &Standing,
+    was: &TableStates,
     mirror: &Mirror,
 ) -> Result<(), AllocError>
     ensures { OnOk result (out.new.items ≡ out.old.items
         ++ of_shown settings.now.kind (λ k. kind_text F.report F.telling
-        settings.now.limits.shape.order (stood_in was.now k) mirror.now k)) }
+        settings.now.limits.shape.order (state_in was.now k) mirror.now k)) }
 {
-    push_kind::<F>(alloc, out, settings, was.link, mirror, Family::Link)?;
-    push_kind::<F>(alloc, out, settings, was.addr, mirror, Family::Addr)?;
-    push_kind::<F>(alloc, out, settings, was.route, mirror, Family::Route)?;
-    push_kind::<F>(alloc, out, settings, was.neigh, mirror, Family::Neigh)?;
-    push_kind::<F>(alloc, out, settings, was.rule, mirror, Family::Rule)
+    push_table_state::<F>(alloc, out, settings, was.link, mirror, Family::Link)?;
+    push_table_state::<F>(alloc, out, settings, was.addr, mirror, Family::Addr)?;
+    push_table_state::<F>(alloc, out, settings, was.route, mirror, Family::Route)?;
+    push_table_state::<F>(alloc, out, settings, was.neigh, mirror, Family::Neigh)?;
+    push_table_state::<F>(alloc, out, settings, was.rule, mirror, Family::Rule)
 }
 
-/// The same, where changes are told.
-pub(crate) fn push_kinds<F: MirrorFormat>(
+/// Writes the new state of each table that `--kind` shows, where changes are told.
+pub(crate) fn push_all_table_states<F: MirrorFormat>(
     alloc: Global,
     out: &mut Vec<u8>,
     settings: &MirrorSettings,
-    was: &Standing,
+    was: &TableStates,
     mirror: &Mirror,
 ) -> Result<(), AllocError>
     ensures { OnOk result (out.new.items ≡ out.old.items
         ++ where_so settings.now.changes (of_shown settings.now.kind (λ k. kind_text
-        F.report F.telling settings.now.limits.shape.order (stood_in was.now k) mirror.now k))) }
+        F.report F.telling settings.now.limits.shape.order (state_in was.now k) mirror.now k))) }
 {
     if settings.changes {
-        push_each_kind::<F>(alloc, out, settings, was, mirror)
+        push_each_table_state::<F>(alloc, out, settings, was, mirror)
     } else {
         Ok(())
     }
@@ -414,7 +416,7 @@ fn push_table_kind<F: MirrorFormat>(
     match_table!(kind, mirror, table => push_table::<F, _>(alloc, out, order, kind, table, why))
 }
 
-/// The same, where that kind is shown.
+/// Writes the whole table of a kind and how it stands, if `--kind` shows it.
 fn push_shown_table<F: MirrorFormat>(
     alloc: Global,
     out: &mut Vec<u8>,
@@ -433,7 +435,7 @@ fn push_shown_table<F: MirrorFormat>(
     }
 }
 
-/// The same of all kinds.
+/// Writes each whole table that `--kind` shows, and how it stands.
 fn push_tables<F: MirrorFormat>(
     alloc: Global,
     out: &mut Vec<u8>,

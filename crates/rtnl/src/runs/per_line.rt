@@ -13,8 +13,8 @@ use std::alloc::Global;
 pub(crate) struct Told {
     /// Whether it is taken.
     pub(crate) taken: bool,
-    /// The number of the line's datagram, counted from 1 among the datagrams, by which it is seen
-    /// if it is not taken. No clause speaks of it.
+    /// The number of the line's datagram, if there is one, counted from 1 among the datagrams, by
+    /// which it is seen. No clause speaks of it.
     pub(crate) number: u64,
     /// Whether the lines behind it are told.
     pub(crate) goes_on: bool,
@@ -29,32 +29,32 @@ pub(crate) trait PerLine {
     type Kept;
 
     // What a line may say.
-    ghost Said: { Type 0 };
+    ghost Content: { Type 0 };
 
     // What a line says, if it says anything; or it is bad.
-    ghost says: { Self → List ℕ → Result (Option Said) ℕ };
+    ghost says: { Self → List ℕ → Result (Option Content) ℕ };
 
     // What may be found of what a line says.
     ghost Found: { Type 0 };
 
-    // Whether it is found of that, behind what was kept, and what is kept then.
-    ghost finds: { Self → Self.Kept → Said → Found → Self.Kept → Type 0 };
+    // It relates the state before the line, the content, the result, and the state after it.
+    ghost finds: { Self → Self.Kept → Content → Found → Self.Kept → Type 0 };
 
     // The text of what the line of this number says, of which it is found: lines are counted that
     // say something.
-    ghost text: { Self → ℕ → Said → Found → List ℕ };
+    ghost text: { Self → ℕ → Content → Found → List ℕ };
 
     // Whether what is found is taken.
     ghost takes: { Found → Bool };
 
-    // Whether nothing is told behind what is kept so.
+    // Whether in this state no further line is handled.
     ghost ends: { Self.Kept → Bool };
 
     /// Writes the text of what a line says, if it says anything: so many lines have said something
     /// then, with this one. It answers whether that is taken, and whether the lines behind it are
     /// told. Of a bad line (`BadLine`, its number may be any) nothing is kept or written. Without
-    /// memory `kept` and `out` may be anything. `bytes` is room that is used again for each line:
-    /// behind the call it has the line's datagram, if that is not taken.
+    /// memory `kept` and `out` may be anything. `bytes` is room that is used again for each line,
+    /// without a byte: behind the call it has the line's datagram, if there is one.
     fn tell(
         &self,
         alloc: Global,
@@ -89,7 +89,7 @@ impl<E: PerDatagram> PerLine for E {
 
     type Kept = ();
 
-    ghost Said = { List ℕ };
+    ghost Content = { List ℕ };
 
     ghost says = { λ _. line_at 0 };
 

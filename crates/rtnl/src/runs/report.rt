@@ -1,7 +1,7 @@
 //! The report of a dump.
 
 use crate::ending::Ending;
-use crate::json_lines::body::push_body as push_body_field;
+use crate::json_lines::body::push_body as push_body_fields;
 use crate::json_lines::dump as fields;
 use crate::json_lines::heads::ItemField;
 use crate::json_lines::line::Line;
@@ -163,7 +163,7 @@ impl ReportFormat for InJson {
         }
     }
 
-    #[tactic(auto, unfolding(crate::specs::TabledJson::entry_json, crate::specs::MessagesJson::body_field), using(crate::proofs::Sets::field))]
+    #[tactic(auto, unfolding(crate::specs::TabledJson::entry_json, crate::specs::MessagesJson::body_fields), using(crate::proofs::Sets::field))]
     fn push_entry<T: ItemLines + ItemField>(
         alloc: Global,
         out: &mut Vec<u8>,
@@ -187,7 +187,7 @@ impl ReportFormat for InJson {
     ) -> Result<(), AllocError> {
         let mut line = Line::begin(alloc, out)?;
         line.number("entry", number)?;
-        push_body_field(&mut line, order, body)?;
+        push_body_fields(&mut line, order, 0, 0, body)?;
         line.end(out)
     }
 

@@ -7,9 +7,10 @@ ghost use Rattle.nl_dump.specs.View.{View};
 ghost use Rattle.rtnl.specs.Requested.{bytes_alone, requested};
 ghost use Rattle.rtnl.specs.Runs.{Writes};
 
-use crate::error::{RunError, Verdict};
+use crate::error::RunError;
 use crate::pieces::{push, push_hex};
 use crate::streams::sink::{Sink, give_all};
+use crate::verdict::Verdict;
 use nl_attr::Order;
 use nl_dump::{BeginError, Dump, Seed, Session};
 use nl_frame::Limits;

@@ -4,17 +4,18 @@
 ghost use Rattle.std.specs.Prelude.{IfOk};
 ghost use Rattle.rtnl.specs.Runs.{Runs};
 
-use crate::error::{RunError, Verdict};
+use crate::error::RunError;
 use crate::recordings::lines::read_datagrams;
 use crate::recordings::recording::Datagrams;
 use crate::streams::sink::{Sink, give_all};
 use crate::streams::source::{Source, read_input};
+use crate::verdict::Verdict;
 use std::alloc::{AllocError, Global};
 
 /// A command over the datagrams of a recording: their text, and the verdict on them.
 pub(crate) trait Command {
     ghost use Rattle.std.specs.Prelude.{ℕ, List, IfOk};
-    ghost use Rattle.rtnl.specs.declared.error.Verdict.{Verdict};
+    ghost use Rattle.rtnl.specs.declared.verdict.Verdict.{Verdict};
 
     // The text of datagrams, and the verdict on them.
     ghost says: { Self → List (List ℕ) → List ℕ → Verdict → Type 0 };

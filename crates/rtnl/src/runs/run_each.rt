@@ -5,15 +5,16 @@ ghost use Rattle.std.specs.Io.KnownBytes.{Consumes};
 ghost use Rattle.rtnl.specs.Runs as fixed;
 ghost use Rattle.rtnl.specs.Lines.{datagrams};
 ghost use Rattle.rtnl.specs.Runs.{Prints, Runs};
-ghost use Rattle.rtnl.specs.Said.{IsSaid};
+ghost use Rattle.rtnl.specs.Output.{IsSaid};
 ghost use Rattle.rtnl.specs.Streams.{ConsumesAtMost, ConsumesMoreThan, IsRead, one_more};
 
-use crate::error::{RunError, Verdict};
+use crate::error::RunError;
 use crate::runs::output::Output;
 use crate::runs::per_datagram::PerDatagram;
-use crate::streams::calls::Broken;
+use crate::streams::errors::IoFailed;
 use crate::streams::sink::{Sink, give_parts};
 use crate::streams::source::{LONGEST_INPUT, Source};
+use crate::verdict::Verdict;
 use std::alloc::Global;
 
 /// What is said of the datagrams of all that a source gives up to its end, of which at most
@@ -46,7 +47,7 @@ fn say_input<S: Source, E: PerDatagram>(
     while received <= LONGEST_INPUT {
         let room = buffer.len().min(LONGEST_INPUT + 1 - received);
         match source.take(&mut buffer[..room]) {
-            Err(Broken) => return Err(RunError::ReadFault),
+            Err(IoFailed) => return Err(RunError::ReadFault),
             Ok(0) => {
                 so_far.end_line(alloc, each, b"")?;
                 return Ok(so_far);

@@ -3,10 +3,10 @@
 ghost use Rattle.std.specs.Prelude.{◌≡◌, ◌++◌, IfOk, OnErr};
 ghost use Rattle.rtnl.specs.Painted.{ShowsColoured};
 ghost use Rattle.rtnl.specs.Runs.{Runs};
-ghost use Rattle.rtnl.specs.Shown.{Answer, Answers, datagram_json, datagram_text, is_taken};
+ghost use Rattle.rtnl.specs.Shown.{Answer, Answers, datagram_json, datagram_text, is_accepted};
 ghost use Rattle.rtnl.specs.Shown.{Shows, ShowsJson};
 
-use crate::error::{RunError, Verdict};
+use crate::error::RunError;
 use crate::json_lines;
 use crate::json_lines::line::Line;
 use crate::runs::per_datagram::PerDatagram;
@@ -16,6 +16,7 @@ use crate::streams::source::Source;
 use crate::text::datagram::{push_datagram_line, push_refusal};
 use crate::text::message::push_messages;
 use crate::text::painting::push_in_colours;
+use crate::verdict::Verdict;
 use nl_frame::{Limits, read_datagram};
 use std::alloc::{AllocError, Global};
 
@@ -34,7 +35,7 @@ pub fn push_datagram(
     ensures text { IfOk result (λ taken. (answer : Answer) × Answers limits.now bytes.now answer
         × (out.new.items ≡ out.old.items
         ++ datagram_text limits.now.shape.order number bytes.now answer)
-        × (taken ≡ is_taken answer)) }
+        × (taken ≡ is_accepted answer)) }
     ensures unchanged { OnErr result (out.new.items ≡ out.old.items) }
 {
     let mut text = Vec::new(alloc);
@@ -59,7 +60,7 @@ pub fn push_datagram_json(
     ensures text { IfOk result (λ taken. (answer : Answer) × Answers limits.now bytes.now answer
         × (out.new.items ≡ out.old.items
         ++ datagram_json limits.now.shape.order number bytes.now answer)
-        × (taken ≡ is_taken answer)) }
+        × (taken ≡ is_accepted answer)) }
     ensures unchanged { OnErr result (out.new.items ≡ out.old.items) }
 {
     let mut text = Vec::new(alloc);
@@ -75,7 +76,7 @@ pub(crate) struct Show {
 }
 
 impl PerDatagram for Show {
-    ghost use Rattle.rtnl.specs.Shown.{Answer, Answers, datagram_text, is_taken};
+    ghost use Rattle.rtnl.specs.Shown.{Answer, Answers, datagram_text, is_accepted};
 
     ghost Found = { Answer };
 
@@ -83,7 +84,7 @@ impl PerDatagram for Show {
 
     ghost text = { λ s. datagram_text s.limits.shape.order };
 
-    ghost takes = { is_taken };
+    ghost takes = { is_accepted };
 
     fn push(
         &self,
@@ -114,7 +115,7 @@ pub(crate) struct ShowColoured {
 
 impl PerDatagram for ShowColoured {
     ghost use Rattle.rtnl.specs.Painted.{coloured_text};
-    ghost use Rattle.rtnl.specs.Shown.{Answer, Answers, is_taken};
+    ghost use Rattle.rtnl.specs.Shown.{Answer, Answers, is_accepted};
 
     ghost Found = { Answer };
 
@@ -122,7 +123,7 @@ impl PerDatagram for ShowColoured {
 
     ghost text = { λ s. coloured_text s.limits.shape.order };
 
-    ghost takes = { is_taken };
+    ghost takes = { is_accepted };
 
     fn push(
         &self,
@@ -148,7 +149,7 @@ pub(crate) struct ShowJson {
 }
 
 impl PerDatagram for ShowJson {
-    ghost use Rattle.rtnl.specs.Shown.{Answer, Answers, datagram_json, is_taken};
+    ghost use Rattle.rtnl.specs.Shown.{Answer, Answers, datagram_json, is_accepted};
 
     ghost Found = { Answer };
 
@@ -156,7 +157,7 @@ impl PerDatagram for ShowJson {
 
     ghost text = { λ s. datagram_json s.limits.shape.order };
 
-    ghost takes = { is_taken };
+    ghost takes = { is_accepted };
 
     fn push(
         &self,
@@ -192,7 +193,7 @@ impl PerDatagram for ShowJson {
 ///
 /// The text is made as the input is read, and it is written once the input has come to its end and
 /// no line is bad. After a bad line, a read fault or the end of memory nothing was written; after a
-/// write fault a prefix of the text was. The verdict is Blemished exactly where a datagram was
+/// write fault a prefix of the text was. The verdict is NotClean exactly where a datagram was
 /// refused.
 pub fn run_show<S: Source, W: Sink>(
     alloc: Global,

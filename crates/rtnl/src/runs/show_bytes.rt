@@ -7,11 +7,12 @@ ghost use Rattle.rtnl.specs.Runs.{Runs};
 use crate::bytes::rows::{Printing, RowFormat};
 use crate::bytes::tape::tape_of;
 use crate::bytes::{push_ending, push_opening, push_rows};
-use crate::error::{RunError, Verdict};
+use crate::error::RunError;
 use crate::runs::per_datagram::PerDatagram;
 use crate::runs::run_each::run_each;
 use crate::streams::sink::Sink;
 use crate::streams::source::Source;
+use crate::verdict::Verdict;
 use nl_frame::Limits;
 use std::alloc::{AllocError, Global};
 

@@ -5,14 +5,14 @@ ghost use Rattle.rtnl.specs.Mirroring.{ReadsStep, comment_says, ends_word, says_
 
 use crate::error::RunError;
 use crate::recordings::heading::{behind, heading_of};
-use crate::recordings::lines::{begins_comment, is_blank_byte};
+use crate::recordings::lines::{begins_comment, is_blank};
 use crate::runs::per_line::read_datagram_of;
 use nl_dump::Dump;
 use std::alloc::Global;
 
 /// What a line says: that its datagram came, that a dump was asked for, or that messages were lost.
 #[derive(Clone, Copy)]
-pub(crate) enum Said {
+pub(crate) enum StepKind {
     Datagram,
     Dump(Dump),
     Loss,
@@ -24,7 +24,7 @@ fn ends_word(rest: &[u8]) -> bool
 {
     match rest {
         [] => true,
-        [byte, ..] => is_blank_byte(*byte) || *byte == b':',
+        [byte, ..] => is_blank(*byte) || *byte == b':',
     }
 }
 
@@ -39,16 +39,16 @@ fn says_loss(line: &[u8]) -> bool
 }
 
 /// What a comment says, if anything. A dump asks for this address family.
-fn comment_says(family: u8, line: &[u8]) -> Option<Said>
+fn comment_says(family: u8, line: &[u8]) -> Option<StepKind>
     ensures { (bytes : List ℕ)
         → option_map (step_of bytes) result ≡ comment_says family line.now }
 {
     if says_loss(line) {
-        return Some(Said::Loss);
+        return Some(StepKind::Loss);
     }
     let heading = heading_of(line)?;
     let kind = heading.kind?;
-    Some(Said::Dump(Dump {
+    Some(StepKind::Dump(Dump {
         kind,
         family,
         seq: heading.numbers.seq,
@@ -62,14 +62,14 @@ pub(crate) fn read_step(
     bytes: &mut Vec<u8>,
     family: u8,
     line: &[u8],
-) -> Result<Option<Said>, RunError>
+) -> Result<Option<StepKind>, RunError>
     ensures { ReadsStep family line.now bytes.new.items result }
 {
     if begins_comment(line) {
         return Ok(comment_says(family, line));
     }
     if read_datagram_of(alloc, bytes, line)? {
-        Ok(Some(Said::Datagram))
+        Ok(Some(StepKind::Datagram))
     } else {
         Ok(None)
     }

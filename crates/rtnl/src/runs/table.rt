@@ -10,7 +10,7 @@ ghost use Rattle.rtnl.specs.TabledJson.{TablesJson};
 ghost use Rattle.rtnl.specs.Tabled.{Answered, FeedsSome, IsReported, ReportsFrom, Tables};
 ghost use Rattle.rtnl.specs.Tabled.{answer_text, refusals_text, verdict_of};
 
-use crate::error::{RunError, Verdict};
+use crate::error::RunError;
 use crate::recordings::recording::Datagrams;
 use crate::runs::entries::{ending_of, push_table};
 use crate::runs::report::{InJson, InText, ReportFormat};
@@ -18,6 +18,7 @@ use crate::runs::request::begun;
 use crate::runs::run::{Command, run};
 use crate::streams::sink::Sink;
 use crate::streams::source::Source;
+use crate::verdict::Verdict;
 use nl_dump::{Dump, Seed, Session, State};
 use nl_frame::Limits;
 use std::alloc::{AllocError, Global};
@@ -89,7 +90,7 @@ fn verdict(complete: bool) -> Verdict
     if complete {
         Verdict::Clean
     } else {
-        Verdict::Blemished
+        Verdict::NotClean
     }
 }
 
@@ -148,7 +149,7 @@ impl<F: ReportFormat> Command for Tabulate<F> {
 ///
 /// The input is read to its end and all lines are checked, then the text is made, then it is
 /// written. After a bad line, a read fault or the end of memory nothing was written; after a write
-/// fault a prefix of the text was. The verdict is Blemished exactly where the dump is not complete.
+/// fault a prefix of the text was. The verdict is NotClean exactly where the dump is not complete.
 ///
 /// The session's tables hash under a seed that everybody knows: `run_table_with_seed` is for
 /// recordings whose content others choose.

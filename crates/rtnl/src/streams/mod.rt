@@ -1,5 +1,5 @@
 //! Sources and sinks of bytes.
 
-pub(crate) mod calls;
+pub(crate) mod errors;
 pub(crate) mod sink;
 pub(crate) mod source;

@@ -8,7 +8,7 @@ ghost use Rattle.rtnl.specs.Parts.{joined};
 ghost use Rattle.rtnl.specs.Streams.{AppendsPrefix, MovesNone, StopsOnce, one_more};
 
 use crate::error::RunError;
-use crate::streams::calls::{Broken, moves_none};
+use crate::streams::errors::{IoFailed, moves_none};
 use std::alloc::Global;
 use std::io::{self, ErrorKind, Write};
 
@@ -35,7 +35,7 @@ pub trait Sink {
         ensures { result ≡ stall_count self.now };
 
     /// Takes bytes from the front of `bytes`, and answers how many. A call that fails takes none.
-    fn give(&mut self, bytes: &[u8]) -> Result<usize, Broken>
+    fn give(&mut self, bytes: &[u8]) -> Result<usize, IoFailed>
         ensures fits { IfOk result (λ count. count ≤ length bytes.now) }
         ensures bytes { WriteAppends (contents self.old) (contents self.new) result bytes.now }
         ensures stalled { is_stalled self.new ↔ MovesNone result (length bytes.now) }
@@ -86,12 +86,12 @@ impl Sink for VecSink {
         0
     }
 
-    fn give(&mut self, bytes: &[u8]) -> Result<usize, Broken> {
+    fn give(&mut self, bytes: &[u8]) -> Result<usize, IoFailed> {
         match self.bytes.extend_from_slice(bytes) {
             Ok(()) => Ok(bytes.len()),
             Err(_) => {
                 self.failures = self.failures.saturating_add(1);
-                Err(Broken)
+                Err(IoFailed)
             }
         }
     }
@@ -156,7 +156,7 @@ impl<W: Write> Sink for WriteSink<W> {
         self.stalls
     }
 
-    fn give(&mut self, bytes: &[u8]) -> Result<usize, Broken> {
+    fn give(&mut self, bytes: &[u8]) -> Result<usize, IoFailed> {
         match write_on(&mut self.writer, bytes) {
             Ok(count) => {
                 self.stalled = moves_none(count, bytes.len());
@@ -168,7 +168,7 @@ impl<W: Write> Sink for WriteSink<W> {
             Err(_) => {
                 self.stalled = false;
                 self.failures = self.failures.saturating_add(1);
-                Err(Broken)
+                Err(IoFailed)
             }
         }
     }
@@ -192,7 +192,7 @@ pub(crate) fn give_all<W: Sink>(sink: &mut W, text: &[u8]) -> Result<(), RunErro
     while done < text.len() {
         let (_, rest) = text.split_at(done);
         match sink.give(rest) {
-            Err(Broken) | Ok(0) => return Err(RunError::WriteFault),
+            Err(IoFailed) | Ok(0) => return Err(RunError::WriteFault),
             Ok(count) => done += count,
         }
     }

@@ -8,7 +8,7 @@ ghost use Rattle.rtnl.specs.Runs as fixed;
 ghost use Rattle.rtnl.specs.Streams.{ConsumesAtMost, ConsumesMoreThan, IsRead, MovesNone, one_more};
 
 use crate::error::RunError;
-use crate::streams::calls::{Broken, moves_none};
+use crate::streams::errors::{IoFailed, moves_none};
 use crate::streams::sink::Sink;
 use std::alloc::Global;
 use std::io::{self, ErrorKind, Read};
@@ -30,7 +30,7 @@ pub trait Source {
 
     /// Moves the next bytes to the front of `buffer`, and answers how many they are. 0 for a
     /// buffer that isn't empty is the end of the input. A call that fails moves no byte.
-    fn take(&mut self, buffer: &mut [u8]) -> Result<usize, Broken>
+    fn take(&mut self, buffer: &mut [u8]) -> Result<usize, IoFailed>
         ensures fits { IfOk result (λ count. count ≤ length buffer.old) }
         ensures bytes { ReadConsumes (remaining self.old) (remaining self.new) result buffer.new }
         ensures end { is_ended self.new ↔ MovesNone result (length buffer.old) }
@@ -52,7 +52,7 @@ pub trait LiveSource<W: Sink>: Source {
     ghost reads: { Self → Option (List Read) };
 
     /// Moves the next bytes as `take` does.
-    fn take_behind(&mut self, sink: &W, buffer: &mut [u8]) -> Result<usize, Broken>
+    fn take_behind(&mut self, sink: &W, buffer: &mut [u8]) -> Result<usize, IoFailed>
         ensures fits { IfOk result (λ count. count ≤ length buffer.old) }
         ensures bytes { ReadConsumes (Self.remaining self.old) (Self.remaining self.new)
             result buffer.new }
@@ -97,7 +97,7 @@ impl Source for SliceSource<'_> {
         0
     }
 
-    fn take(&mut self, buffer: &mut [u8]) -> Result<usize, Broken> {
+    fn take(&mut self, buffer: &mut [u8]) -> Result<usize, IoFailed> {
         let count = self.bytes.len().min(buffer.len());
         let (next, rest) = self.bytes.split_at(count);
         let (room, _) = buffer.split_at_mut(count);
@@ -113,7 +113,7 @@ impl<W: Sink> LiveSource<W> for SliceSource<'_> {
 
     ghost reads = { λ _. None };
 
-    fn take_behind(&mut self, _sink: &W, buffer: &mut [u8]) -> Result<usize, Broken> {
+    fn take_behind(&mut self, _sink: &W, buffer: &mut [u8]) -> Result<usize, IoFailed> {
         self.take(buffer)
     }
 }
@@ -168,7 +168,7 @@ impl<R: Read> Source for ReadSource<R> {
         self.failures
     }
 
-    fn take(&mut self, buffer: &mut [u8]) -> Result<usize, Broken> {
+    fn take(&mut self, buffer: &mut [u8]) -> Result<usize, IoFailed> {
         match read_on(&mut self.reader, buffer) {
             Ok(count) => {
                 self.ended = moves_none(count, buffer.len());
@@ -177,7 +177,7 @@ impl<R: Read> Source for ReadSource<R> {
             Err(_) => {
                 self.ended = false;
                 self.failures = self.failures.saturating_add(1);
-                Err(Broken)
+                Err(IoFailed)
             }
         }
     }
@@ -188,7 +188,7 @@ impl<R: Read, W: Sink> LiveSource<W> for ReadSource<R> {
 
     ghost reads = { λ _. None };
 
-    fn take_behind(&mut self, _sink: &W, buffer: &mut [u8]) -> Result<usize, Broken> {
+    fn take_behind(&mut self, _sink: &W, buffer: &mut [u8]) -> Result<usize, IoFailed> {
         self.take(buffer)
     }
 }
@@ -225,7 +225,7 @@ pub(crate) fn read_input<S: Source>(alloc: Global, source: &mut S) -> Result<Vec
     while input.len() <= LONGEST_INPUT {
         let room = buffer.len().min(LONGEST_INPUT + 1 - input.len());
         match source.take(&mut buffer[..room]) {
-            Err(Broken) => return Err(RunError::ReadFault),
+            Err(IoFailed) => return Err(RunError::ReadFault),
             Ok(0) => return Ok(input),
             Ok(count) => input.extend_from_slice(&buffer[..count])?,
         }

@@ -38,7 +38,7 @@ fn push_error(
     front.put(" flags 0x");
     front.put_field(" type ", answered.kind as u64);
     front.put_field(" answers len ", answered.len as u64);
-    front.put_signed(code);
+    front.put_signed(code.into());
     front.put("  error code ");
     front.push_to(out)?;
     push_tail(out, tail)
@@ -49,7 +49,7 @@ fn push_done(out: &mut Vec<u8>, status: i32, tail: &[u8]) -> Result<(), AllocErr
     ensures { OnOk result (out.new.items ≡ out.old.items ++ done_line status tail.now) }
 {
     let mut front = Segment::new();
-    front.put_signed(status);
+    front.put_signed(status.into());
     front.put("  done status ");
     front.push_to(out)?;
     push_tail(out, tail)

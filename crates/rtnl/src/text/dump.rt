@@ -79,7 +79,7 @@ fn push_coded(out: &mut Vec<u8>, words: &str, code: i32) -> Result<(), AllocErro
 {
     let mut end = Segment::new();
     end.put("\n");
-    end.put_signed(code);
+    end.put_signed(code.into());
     push(out, words)?;
     end.push_to(out)
 }

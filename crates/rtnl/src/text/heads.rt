@@ -45,7 +45,7 @@ impl HeadLine for LinkHead {
         front.put(" ");
         front.put_hex8(self.flags);
         front.put(" flags 0x");
-        front.put_signed(self.index);
+        front.put_signed(self.index.into());
         front.put(" index ");
         front.put_field(" type ", self.hardware as u64);
         front.put_field("  link family ", self.family as u64);
@@ -100,7 +100,7 @@ impl HeadLine for NeighHead {
         front.put(" ");
         front.put_hex4(self.state);
         front.put(" state 0x");
-        front.put_signed(self.ifindex);
+        front.put_signed(self.ifindex.into());
         front.put(" index ");
         front.put_field("  neigh family ", self.family as u64);
         front.push_to(out)?;

@@ -183,7 +183,7 @@ fn push_hop_line(
     push_names(out, Bits::NextHop, flags as u32)?;
     let mut end = Segment::new();
     end.put("\n");
-    end.put_signed(index);
+    end.put_signed(index.into());
     end.put(" index ");
     end.put_field(" hops ", hops as u64);
     end.push_to(out)

@@ -30,4 +30,4 @@ returns-in-Err c =
     feeds (λ s. omega (arith, is_enough n q x c.needed.ensures.some c.if-changes-needed.false s.0, s.1)) (Err c.in-Err.error) d.result.visits c.refused.new.self
     (c.refused.ensures, subst (IsRead b c.args.bytes.now) c.in-Err.is d.ensures.read) (large_in_err c.in-Err.error d.result.result _ c.in-Err.is d.ensures.large) d.ensures.bound
     old out a.result
-    (a.ensures ∙ (λ i. unheard d.result.visits (c.place.ensures i) (c.code.ensures i)), refl, refl)
+    (a.ensures ∙ (λ i. unheard d.result.visits (c.offset_in_error.ensures i) (c.code.ensures i)), refl, refl)

@@ -9,4 +9,4 @@ returns-in-Ok c =
 pub returns-in-Err : goal.returns-in-Err
 returns-in-Err c =
     let e = c.scan_datagram-result.ensures in
-    rw (c.place.ensures, c.code.ensures) (scans_err c.args.limits.now c.args.bytes.now c.scan_datagram-result.result.result c.in-Err.error c.scan_datagram-result.result.visits c.in-Err.is (e.large, e.fits, e.first, e.visits))
+    rw (c.offset_in_error.ensures, c.code.ensures) (scans_err c.args.limits.now c.args.bytes.now c.scan_datagram-result.result.result c.in-Err.error c.scan_datagram-result.result.visits c.in-Err.is (e.large, e.fits, e.first, e.visits))

@@ -12,5 +12,5 @@ pub returns-in-Err-clause-tapes : goal.returns-in-Err-clause-tapes
 returns-in-Err-clause-tapes c =
     let t = c.tape_datagram-visits in
     let s = t.ensures.scans in
-    rw (c.place.ensures, c.code.ensures) (tapes_err c.args.limits.now c.args.bytes.now c.args.out.now t.new.out t.result.count t.ensures.untouched t.ensures.events t.ensures.count
+    rw (c.offset_in_error.ensures, c.code.ensures) (tapes_err c.args.limits.now c.args.bytes.now c.args.out.now t.new.out t.result.count t.ensures.untouched t.ensures.events t.ensures.count
     t.result.scan.result c.in-Err.error t.result.scan.visits c.in-Err.is (s.large, s.fits, s.first, s.visits))

@@ -9,9 +9,9 @@ returns-in_default c = on_none c.in_default.ensures
 pub returns-in-Ok : goal.returns-in-Ok
 returns-in-Ok c =
     let t = c.abandon-abandoned in
-    rw (c.keep.ensures) (subst (Abandons c.args.kept.now (kept_of t.new.self)) (ap abandon_code c.in-Ok.is) (abandons c.in-Some.restored t.new.self c.in-Some.ensures t.result t.ensures.step (keeps t.new.self t.ensures.possible)))
+    rw (c.to_state.ensures) (subst (Abandons c.args.kept.now (kept_of t.new.self)) (ap abandon_code c.in-Ok.is) (abandons c.in-Some.restored t.new.self c.in-Some.ensures t.result t.ensures.step (keeps t.new.self t.ensures.possible)))
 
 pub returns-in-Err : goal.returns-in-Err
 returns-in-Err c =
     let t = c.abandon-abandoned in
-    rw (c.keep.ensures) (subst (Abandons c.args.kept.now (kept_of t.new.self)) (ap abandon_code c.in-Err.is ∙ sym c.code.ensures) (abandons c.in-Some.restored t.new.self c.in-Some.ensures t.result t.ensures.step (keeps t.new.self t.ensures.possible)))
+    rw (c.to_state.ensures) (subst (Abandons c.args.kept.now (kept_of t.new.self)) (ap abandon_code c.in-Err.is ∙ sym c.code.ensures) (abandons c.in-Some.restored t.new.self c.in-Some.ensures t.result t.ensures.step (keeps t.new.self t.ensures.possible)))

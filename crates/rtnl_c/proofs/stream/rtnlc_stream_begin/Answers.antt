@@ -22,5 +22,5 @@ returns c =
     let t = b.new.stream in
     let room : c.request_len-len.result ≤ length c.args.out.now = c.if-out-len.false in
     let fits : length (request_of s.limits.shape.order (dump_of c.in-Some-family_of.kind c.args.family c.args.seq c.args.port)) ≤ length c.args.out.now = omega (arith, room, c.request_len-len.ensures.request s.limits.shape.order) in
-    rw (c.keep.ensures)
+    rw (c.to_state.ensures)
     (begins s t c.in-Some.ensures c.in-Some-family_of.kind (sym c.family_of.ensures ∙ c.in-Some-family_of.is) fits b.new.out b.result b.ensures (keeps t b.ensures.2))

@@ -8,5 +8,5 @@ returns-in_default c = rw (c.untaken.ensures) (on_none c.in_default.ensures)
 pub returns : goal.returns
 returns c =
     let t = c.feed-fed in
-    rw (c.keep.ensures, c.by_stream.ensures)
+    rw (c.to_state.ensures, c.by_stream.ensures)
     (feeds c.in-Some.restored t.new.self c.in-Some.ensures t.new.out t.result t.ensures.step t.ensures.every (keeps t.new.self t.ensures.possible))

@@ -10,4 +10,4 @@ returns-in_ok-push_fields-in-Get c =
     let old = marks_in a.pieces.now.items in
     let said : marks_in c.push_fields-in-Get.new.pieces.items ≡ old ++ fields Body rtgenmsg = c.in_ok-push_fields-in-Get.ensures in
     let rest = rest_of a.event.now (codes "tail") in
-    rw c.in-Get.is (on_ok_weaker c.push_rest-in-Get.result (λ e. e ∙ ap (λ (t : List Mark). t ++ rest) said ∙ append_assoc old (fields Body rtgenmsg) rest) c.push_rest-in-Get.ensures)
+    rw c.in-Get.is (on_ok_weaker c.push_rest.result (λ e. e ∙ ap (λ (t : List Mark). t ++ rest) said ∙ append_assoc old (fields Body rtgenmsg) rest) c.push_rest.ensures)

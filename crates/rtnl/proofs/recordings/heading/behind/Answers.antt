@@ -1,6 +1,5 @@
-use Rattle.rtnl.proofs.Common.{◌≡◌, Option, Some, None, sym, ap, ◌∙◌, List, ℕ, ◌++◌, ◌≢◌, MatchOption, Bor, option_copied, Decides-eqb}
+use Rattle.rtnl.proofs.Common.{Decides-eqb}
 use Rattle.std.proofs.lemmas.Slice.Eq.{strip_prefix_is}
-use Rattle.rtnl.specs.Heading.{behind}
 use Rattle.rtnl.proofs.Headings.{stripped}
 use Rattle.rtnl.proofs.recordings.heading.behind.Goals as goal
 

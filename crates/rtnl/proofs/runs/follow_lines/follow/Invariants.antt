@@ -8,9 +8,9 @@ invariant-loop-received g l =
       input : List ℕ;
       read : HasRead (g.E.PerLine.says l.each) (g.E.PerLine.finds l.each) (g.E.PerLine.text l.each) g.E.PerLine.ends g.S.Source.remaining g.S.LiveSource.reads l.initial.kept (g.W.Sink.contents l.initial.sink) l.initial.source l.source input;
       size : l.received ≡ length input;
-      follows : Follows (g.E.PerLine.says l.each) (g.E.PerLine.finds l.each) (g.E.PerLine.text l.each) g.E.PerLine.takes g.E.PerLine.ends g.B.OnBadLine.heard g.B.OnBadLine.is_ended input l.following.unfinished l.initial.kept l.kept l.following.telling.counts
-          l.initial.bad_lines l.bad_lines (g.W.Sink.contents l.initial.sink) (g.W.Sink.contents l.sink);
-      going : GoesOn g.E.PerLine.ends g.B.OnBadLine.is_ended l.kept l.bad_lines;
+      follows : Follows (g.E.PerLine.says l.each) (g.E.PerLine.finds l.each) (g.E.PerLine.text l.each) g.E.PerLine.takes g.E.PerLine.ends g.B.FollowListener.heard g.B.FollowListener.is_ended input l.state.unfinished l.initial.kept l.kept l.state.progress.counts
+          l.initial.listener l.listener (g.W.Sink.contents l.initial.sink) (g.W.Sink.contents l.sink);
+      going : GoesOn g.E.PerLine.ends g.B.FollowListener.is_ended l.kept l.listener;
       room : length l.buffer ≡ 8192;
       sound : g.S.Source.failure_count l.source ≡ g.S.Source.failure_count l.initial.source;
       written : (g.W.Sink.failure_count l.sink ≡ g.W.Sink.failure_count l.initial.sink) × (g.W.Sink.stall_count l.sink ≡ g.W.Sink.stall_count l.initial.sink);

@@ -1,4 +1,4 @@
-use Rattle.rtnl.proofs.Common.{◌≡◌, Some, None, option_map, held_of, held_seen, entry_at}
+use Rattle.rtnl.proofs.Common.{◌≡◌, Some, None, held_of, held_seen, entry_at}
 use Rattle.std.proofs.Common.{rules}
 use Rattle.rtnl.proofs.Mirrors.{entry_seen}
 use Rattle.rtnl.proofs.runs.mirroring.push_changed.Goals as goal

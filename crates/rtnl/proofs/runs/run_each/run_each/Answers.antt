@@ -1,7 +1,7 @@
 use Rattle.std.proofs.Common.{◌≡◌, ◌++◌, ◌∙◌, None, ap, rules, subst, sym}
 use Rattle.rtnl.proofs.Common.{datagrams, joined, FrontOfInput, OfInput, Prints}
 use Rattle.rtnl.proofs.Parts.{joined_more}
-use Rattle.rtnl.proofs.Said.{good_said}
+use Rattle.rtnl.proofs.Output.{good_said}
 use Rattle.rtnl.proofs.runs.run_each.run_each.Goals as goal
 
 pub returns-in_err-give_parts : goal.returns-in_err-give_parts

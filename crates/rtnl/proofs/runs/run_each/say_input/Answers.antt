@@ -1,7 +1,7 @@
 use Rattle.std.proofs.Common.{◌≡◌, ◌++◌, ℕ, [], arith, drop, length-append, refl, rules, subst, sym, take}
 use Rattle.rtnl.proofs.Common.{Consumes, Consumes-trans, length-take, take-append-le}
 use Rattle.rtnl.proofs.KnownBytes.{at_most_more}
-use Rattle.rtnl.proofs.Said.{few_lines, none_said}
+use Rattle.rtnl.proofs.Output.{few_lines, none_said}
 use Rattle.rtnl.proofs.runs.run_each.say_input.Goals as goal
 
 pub loop-received-init : goal.loop-received-init

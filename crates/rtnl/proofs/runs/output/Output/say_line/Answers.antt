@@ -1,7 +1,7 @@
 use Rattle.std.proofs.Common.{◌≡◌, ◌+◌, [], false, true, Err, Ok, arith, length, refl, rules, subst}
 use Rattle.std.specs.Option.{is_some}
 use Rattle.rtnl.specs.Lines.{Adds, line_at}
-use Rattle.rtnl.proofs.Said.{behind_bad, has_none, has_one, is_bad}
+use Rattle.rtnl.proofs.Output.{behind_bad, has_none, has_one, is_bad}
 use Rattle.rtnl.proofs.runs.output.Output.say_line.Goals as goal
 
 pub returns-then-is_some-clause-said : goal.returns-then-is_some-clause-said

@@ -1,7 +1,7 @@
 use Rattle.std.proofs.Common.{◌≡◌, ◌≤◌, ◌+◌, ◌++◌, ◌∷◌, [], ◌∙◌, ap, append_assoc, arith, drop, length, length-drop, refl, subst, sym}
 use Rattle.rtnl.proofs.Common.{drop-drop, lines_of, SaysInput}
 use Rattle.rtnl.proofs.Cuts.{first_line, last_line, line_parts}
-use Rattle.rtnl.proofs.Said.{line_said, part_kept}
+use Rattle.rtnl.proofs.Output.{line_said, part_kept}
 use Rattle.rtnl.proofs.runs.output.Output.say_piece.Goals as goal
 
 pub loop-end-preserved : goal.loop-end-preserved

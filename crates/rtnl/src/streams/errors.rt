@@ -1,0 +1,18 @@
+//! The error of a call of a source or of a sink, and calls that move no byte.
+
+ghost use Rattle.std.specs.Prelude.{◌↔◌, IsTrue, Ok};
+ghost use Rattle.rtnl.specs.Streams.{MovesNone};
+
+use thiserror::Error;
+
+/// A call of a source or of a sink failed, and moved no byte.
+#[derive(Clone, Copy, Debug, PartialEq, Eq, Error)]
+#[error("a read or a write failed")]
+pub struct IoFailed;
+
+/// Whether a call over so many bytes that moved `count` of them moved none of some.
+pub(crate) fn moves_none(count: usize, size: usize) -> bool
+    ensures { IsTrue result ↔ MovesNone (Ok count) size }
+{
+    count == 0 && size > 0
+}
