@@ -33,6 +33,7 @@ from crates import ROOT, Crates, listed
 from datagrams import HEADER, datagrams_of, messages
 from recording import KINDS, recorded
 from replaying import ORDERS, Compared, Keeper, compare_forwarding, compare_tables, early_of, steps
+from standing import MIRROR
 
 BROKEN, PROGRAM = "nl_mirror", "rtnl_rows"
 EDITS = f"{ROOT}/crates/{BROKEN}/edits", f"{HERE}/mirror_rules"
@@ -52,8 +53,8 @@ RULES = {
     "a bridge's forwarding entry counts as a neighbour": "bridge_covered",
     "a forwarding entry is known by its port": "forwarding_by_port",
 }
-# The line of the program's main that hands a row to a module, and what it names there.
-ANSWERS = re.compile(r"^ *(?:\|\| )?\w+::has_answered\(rt, row\)\?,?\n", re.M)
+# The line of the program's main that hands a row to a module of this number.
+ANSWERS = re.compile(r"^ *\d+ => (\w+)::answer\(row\),\n", re.M)
 MULTI, INTERRUPTED = 2, 0x10
 # How many runs are recorded at a time.
 LANES = 5
@@ -82,8 +83,8 @@ def changed(path: str, old: str, new: str) -> None:
 
 
 def copied(room: str, crates: Crates) -> Crates:
-    """Copies the text of the program, and that of nl_mirror once for each edit, with a call for
-    each: so one reading serves all. The calls that keep no mirror are left out."""
+    """Copies the text of the program, and that of nl_mirror once for each edit, with a module for
+    each: so one reading serves all. The modules that keep no mirror are not called."""
     top = f"{room}/crates/{PROGRAM}/src"
     shutil.copytree(f"{ROOT}/crates/{PROGRAM}/src", top)
     names = [*RULES.values()]
@@ -93,11 +94,10 @@ def copied(room: str, crates: Crates) -> Crates:
         edited(copy, name)
         shutil.copy(f"{top}/mirrors.rt", f"{top}/mirrors_{name}.rt")
         changed(f"{top}/mirrors_{name}.rt", f"use {BROKEN}::", f"use {BROKEN}_{name}::")
-        changed(f"{top}/mirrors_{name}.rt", '"mirror" =>', f'"mirror_{name}" =>')
     with open(f"{top}/main.rt", encoding="utf-8") as file:
         text = file.read()
-    calls = "\n|| ".join(f"{it}::has_answered(rt, row)?" for it in modules(names))
-    text = ANSWERS.sub("", text).replace("    Ok(\n", f"    Ok(\n{calls},\n", 1)
+    arms = "".join(f"{MIRROR + at} => {it}::answer(row),\n" for at, it in enumerate(modules(names)))
+    text = ANSWERS.sub(lambda it: arms if it[1] == "mirrors" else "", text)
     text = text.replace("mod mirrors;", "\n".join(f"mod {it};" for it in modules(names)), 1)
     with open(f"{top}/main.rt", "w", encoding="utf-8") as file:
         file.write(text)
@@ -196,7 +196,7 @@ def main() -> None:
                        "dumps read late: amid changes", "at the end",
                        "forwarding entries: amid changes", "at the end", "all")]
         for what, name in {"nothing": "", **RULES}.items():
-            keeper = Keeper(program, f"mirror_{name}" if name else "mirror")
+            keeper = Keeper(program, MIRROR + ["", *RULES.values()].index(name))
             rows.append(row(what, [*lanes.map(lambda it: judged(keeper, it), runs)]))
         table(*rows)
 
