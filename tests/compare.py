@@ -1,9 +1,10 @@
 #!/usr/bin/env python3
 """Compares the built program with the second reading of docs/FORMAT.md, in both byte orders: what
-`show`, `check` and `table` print of the datagrams and the dumps of datagrams.py, and `mirror` of
-the recordings of notifications.py, as text and as lines of JSON, and the requests of `request`. The text must also be what is written from the
-program's JSON alone, and each line of JSON one that share/rtnl.schema.json allows. The last line
-is 'N passed, M failed', and the status is 1 where a case failed.
+`show`, `check` and `table` print of the datagrams and the dumps of datagrams.py, `show` of those of
+payloads.py and hostile_payloads.py, and `mirror` of the recordings of notifications.py, as text and
+as lines of JSON, and the requests of `request`. The text must also be what is written from the
+program's JSON alone, and each line of JSON one that share/rtnl.schema.json allows. The last line is
+'N passed, M failed', and the status is 1 where a case failed.
 """
 import itertools
 import json
@@ -15,7 +16,9 @@ from concurrent.futures import ProcessPoolExecutor
 sys.dont_write_bytecode = True
 sys.path.insert(0, f"{os.path.dirname(os.path.realpath(__file__))}/helpers")
 import datagrams
+import hostile_payloads
 import notifications
+import payloads
 import proved
 import reference
 import reference_lines
@@ -180,6 +183,17 @@ def of_bad_line(arguments, recording, line):
     return {it: difference(wanted, ran(recording, *arguments, *ways[it])) for it in ways}
 
 
+def in_tables(lines_schema, order):
+    """The same payloads in the entries of tables, of a dump and of a mirror."""
+    (_, found), *_ = payloads.groups(ORDERS[order])
+    sequence, port = payloads.IDS
+    for kind in reference.NEW:
+        yield of_table(lines_schema, order, (kind, *payloads.IDS, 8, 4096), found)
+        heading = f"# seq {sequence} port {port} kind {kind}\n"
+        recording = (heading + as_lines(found)).encode()
+        yield of_mirror(lines_schema, order, {"kind": kind}, recording, True)
+
+
 def runs(lines_schema, order):
     """The name of each group of runs, and what differs in each of these, by what is compared."""
     of = ORDERS[order]
@@ -191,6 +205,9 @@ def runs(lines_schema, order):
     for command in ("check", "show"):
         files = datagrams.recorded_files()
         yield f"{command} of files", (of_each(lines_schema, order, command, *it) for it in files)
+    for name, found in itertools.chain(payloads.groups(of), hostile_payloads.groups(of)):
+        yield f"show of {name}", [of_each(lines_schema, order, "show", as_lines(found), found)]
+    yield "payloads in tables", in_tables(lines_schema, order)
     for name, found in datagrams.table_groups(of):
         yield f"table of {name} datagrams", (of_table(lines_schema, order, *it) for it in found)
     for name, found in notifications.groups(of):

@@ -1,11 +1,13 @@
 #!/usr/bin/env python3
 """Compares the rows of format/ with the kernel's headers, by the C compiler: numbers, the places,
 sizes and signs of fields, and that no attribute is left out; with the YNL files of Debian's
-linux-source-6.12, and in the whole gate with its headers too, where that is installed; with one
-another; with what format/write.py writes from them; and with the tables of crates/nl_values, which
-are read as the program does. Then it changes files that the script writes, and tries rows that are
-wrong. The last line is 'N passed, M failed', and the status is 1 where one differs.
+linux-source-6.12, where that is installed, and in the whole gate, which installs it, with its
+headers too; with one another; with what format/write.py writes from them; and with the tables of
+crates/nl_values, which are read as the program does. Then it changes files that the script writes,
+and tries rows that are wrong. The last line is 'N passed, M failed', and the status is 1 where one
+differs.
 """
+import importlib.util
 import os
 import re
 import subprocess
@@ -20,18 +22,14 @@ import headers
 import rows
 import tables
 import write
-from counting import counted, whole
+from counting import IS_WHOLE, counted, whole
 from named import SIZES, Blocks
 from rows import Block, Row
 
-try:
-    import yaml
-except ImportError:
-    yaml = None  # type: ignore[assignment]
-    print("left out: YNL, for which python3-yaml isn't here", file=sys.stderr)
-
 Case = Tuple[str, List[str]]
 SOURCE = "/usr/src/linux-source-6.12.tar.xz"
+# The Python of Debian, to which its package for YAML belongs.
+DEBIAN, YAML = "/usr/bin/python3", "/usr/lib/python3/dist-packages/yaml"
 SPECS = ("rt_link", "rt_addr", "rt_route", "tc")
 # Under these keys a row names another block.
 KEYS = "struct nested-attributes sub-message enum bits set head request class".split()
@@ -53,7 +51,8 @@ def of_field(struct: str, row: Row) -> Claim:
     field, size = f"((struct {struct} *)0)->{row.name}", row.said("len") or SIZES.get(row.words[0])
     says = [f"offsetof(struct {struct}, {row.name}) == {row.value}"]
     says += [f"sizeof({field}) == {size}"] if size else []
-    if row.words[0] in SIZES:
+    # A number with a length stands there as bytes, which have no sign.
+    if row.words[0] in SIZES and not row.said("len"):
         says.append(f"((__typeof__({field}))-1 < 0) == {int(row.words[0].startswith('s'))}")
     return Claim(f"{struct}.{row.name}", " && ".join(says), [struct, *row.name.split(".")])
 
@@ -87,9 +86,14 @@ class Headers:
             ["cc", *self.options, "-E", "-dD", "-x", "c", "-"], input="\n".join(self.includes),
             capture_output=True, text=True, check=True).stdout
         self.words = set(re.findall(r"\w+", text))
+        # The numbers of errors stand in no enum, but in two headers that define nothing else.
+        files = re.split(r'^# \d+ "([^"]*)".*$', text, flags=re.M)
+        named_files = zip(files[1::2], files[2::2])
+        errors = "".join(of for path, of in named_files if "generic/errno" in path)
         text = re.sub(r"^#.*$", "", text, flags=re.M)
         enums = re.findall(r"\benum\b[^;{}]*\{(.*?)\}", text, re.S)
         self.enums = [re.findall(r"(?:^|,)\s*(\w+)", it) for it in enums]
+        self.enums.append(re.findall(r"^#define (E\w+) \w+$", errors, re.M))
 
     def left_out(self, block: Block) -> Iterator[Claim]:
         """That what else is in the enum of a block marks its begin or end, or is newer than 6.12,
@@ -135,11 +139,54 @@ def unpacked(folder: str, *paths: str, is_first: bool = False) -> bool:
     return True
 
 
+def with_source() -> None:
+    """Installs the kernel's source and a reader of YAML, where these are missing. A Python that
+    has the reader goes on."""
+    has_yaml = bool(importlib.util.find_spec("yaml"))
+    wanted = [SOURCE, "linux-source-6.12", *([] if has_yaml else [YAML, "python3-yaml"])]
+    subprocess.run([f"{TESTS}/helpers/install_packages.sh", *wanted], check=False)
+    is_other = os.path.realpath(sys.executable) != os.path.realpath(DEBIAN)
+    if not has_yaml and is_other and os.path.exists(YAML):
+        os.execv(DEBIAN, [DEBIAN, *sys.argv])
+    importlib.invalidate_caches()
+
+
+def plain_header(folder: str, name: str) -> None:
+    """Puts what a header of the kernel's own says of numbers where the compiler finds it, without
+    its code, which isn't for programs."""
+    with open(f"{folder}/include/{name}", encoding="utf-8") as file:
+        text = file.read()
+    kept = re.findall(r"^#define \w+[ \t(](?:[^\n]*\\\n)*[^\n]*$", text, re.M)
+    enums = re.findall(r"^(?:typedef )?enum\b[^{;]*{([^}]*)}", text, re.M)
+    kept += (f"enum {{{it}}};" for it in enums)
+    os.makedirs(os.path.dirname(f"{folder}/none/{name}"), exist_ok=True)
+    with open(f"{folder}/none/{name}", "w", encoding="utf-8") as file:
+        file.write("\n".join(kept) + "\n")
+
+
+def kernel_headers(blocks: Blocks, folder: str) -> bool:
+    """Unpacks the headers of Linux 6.12 that rows name; whether they are here."""
+    own = {it.said["header"] for it in blocks.values() if it.said.get("header", "")[:4] == "net/"}
+    if not unpacked(folder, "include/uapi", *(f"include/{it}" for it in sorted(own))):
+        return False
+    os.makedirs(f"{folder}/none/linux")
+    for name in ("compiler", "compiler_types"):
+        with open(f"{folder}/none/linux/{name}.h", "w", encoding="utf-8") as file:
+            file.write("#define __user\n#define __force\n#define __counted_by(member)\n")
+    for name in own:
+        plain_header(folder, name)
+    return True
+
+
 def ynl(folder: str) -> List[Any]:
     """The files of YNL, where they are."""
     paths = [f"Documentation/netlink/specs/{it}.yaml" for it in SPECS]
-    if yaml is None or not unpacked(folder, *paths, is_first=True):
+    if not importlib.util.find_spec("yaml"):
+        print("left out: YNL, for which python3-yaml isn't here", file=sys.stderr)
         return []
+    if not unpacked(folder, *paths, is_first=True):
+        return []
+    yaml: Any = importlib.import_module("yaml")
     loader = getattr(yaml, "CSafeLoader", yaml.SafeLoader)
     return [yaml.load(open(f"{folder}/{it}", "rb"), loader) for it in paths]
 
@@ -308,17 +355,15 @@ def tried(line: str, blocks: Blocks, installed: Headers, specs: List[Any]) -> Li
 
 
 def main() -> int:
+    if IS_WHOLE:
+        with_source()
     blocks = rows.read()
     installed = Headers(blocks)
     cases = {"with the installed headers": list(installed.cases(blocks))}
     with tempfile.TemporaryDirectory() as folder:
         specs = ynl(folder)
         cases["with YNL"] = list(of_ynl(specs, blocks))
-        if whole("rows and the headers of Linux 6.12") and unpacked(folder, "include/uapi"):
-            os.makedirs(f"{folder}/none/linux")
-            for name in ("compiler", "compiler_types"):
-                with open(f"{folder}/none/linux/{name}.h", "w", encoding="utf-8") as file:
-                    file.write("#define __user\n#define __force\n#define __counted_by(member)\n")
+        if whole("rows and the headers of Linux 6.12") and kernel_headers(blocks, folder):
             cases["with the headers of Linux 6.12"] = list(Headers(blocks, folder).cases(blocks))
     cases["with one another"] = list(by_itself(blocks))
     cases["with what is written"] = list(of_written(blocks))

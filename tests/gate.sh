@@ -41,8 +41,8 @@ judges() { says "$1: $2 passed, $3 failed; [0-9.]+ minutes(, [0-9.]+ of the proc
 
 # with_step STATUS LINE PASSED FAILED: one step ends so, and all others pass.
 with_step() {
-  all_pass && made "$small/tests/rows.sh" "$1" "$2" && counts "$((${#scripts[@]} + $3))" "$4" &&
-    judges rows.sh "$3" "$4"
+  all_pass && made "$small/tests/rows.py" "$1" "$2" && counts "$((${#scripts[@]} + $3))" "$4" &&
+    judges rows.py "$3" "$4"
 }
 # not_started WHY COMMAND..: a step that the command changes can't be started, whole and quick.
 not_started() {
@@ -57,13 +57,13 @@ all_do() { all_pass && counts "$((${#scripts[@]} + 1))" 0 && counts "${#quick[@]
 tells_quick() {
   # shellcheck disable=SC2016
   all_pass && made "$small/launch/build.py" 0 'what $1 builds' &&
-    made "$small/tests/rows.sh" 0 '1 passed, 0 failed' && made "$small/tests/pages.py" 0 \
+    made "$small/tests/rows.py" 0 '1 passed, 0 failed' && made "$small/tests/pages.py" 0 \
     '$RTNL_QUICK of ${RTNL_PROGRAM#what path builds}${RTNL_PROVE-} passed
 $RTNL_QUICK passed, 0 failed' && RTNL_PROVE=1 counts "${#quick[@]}" 0 --quick &&
     grep -qx '1 of  passed' "$small/out/tests/pages.py.log"
 }
 # Without its proofs, or without what they are over, nothing else is run.
-runs_none() { counts "$@" && ! says '.*rows.sh.*'; }
+runs_none() { counts "$@" && ! says '.*rows.py.*'; }
 proves_nothing() { all_pass && made "$kit/rt" 1 '2 passed, 1 failed' && runs_none 2 1; }
 has_no_kit() {
   all_pass && rm "$kit/rt" && runs_none 0 1 &&

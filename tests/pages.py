@@ -290,7 +290,7 @@ def room(table: str) -> List[List[str]]:
 
 def wrong_room(repository: Repository, page: str) -> Iterator[str]:
     """What is wrong with the files of a family on the page, which are those that name it."""
-    section = dict(sections(repository.texts[page])).get("The room of a family", "")
+    section = dict(sections(repository.texts[page])).get("What a new family touches", "")
     listed_files = room(section)
     counts = re.search(r"takes (\d+) files.*? in (\d+) files", section, re.S)
     if not counts or [int(it) for it in counts.groups()] != [len(it) for it in listed_files]:
@@ -355,8 +355,8 @@ FAULTS: Dict[Check, List[Fault]] = {
               "## How a claim is read\n\nTapes.\n"),
         Fault("a word in a table before its link", THEOREMS, THEOREMS, "## How a claim is read\n",
               "## How a claim is read\n\n| a tape |\n"),
-        Fault("a word that is new", THEOREMS, FORMAT, "\n| container |",
-              "\n| page | |\n| contain |"),
+        Fault("a word that is new", THEOREMS, FORMAT, "\n| context |",
+              "\n| page | |\n| context |"),
         Fault("a glossary without words", THEOREMS, FORMAT, "\n## Words\n", "\n## Glossary\n"),
     ],
     strange_blocks: [

@@ -173,6 +173,7 @@ bad_line() { printf 'rtnl: line %d: bad line\nrtnl: %s: bad line\n' "$@"; }
 . tests/program/follow.sh
 . tests/program/mirror.sh
 . tests/program/explain.sh
+. tests/program/kernel_errors.sh
 . tests/program/dropped.sh
 . tests/program/names.sh
 . tests/program/unwaited.sh

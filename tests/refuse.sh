@@ -274,6 +274,18 @@ check 'a full table, explained, its line' grep -q '^rtnl: missed 1: ' "$folder/f
 refuse_each 'a table of other numbers, explained' 1 "$folder/links" table --kind link --seq 2 --port 1 --explain
 check 'a table of other numbers, explained, its line' grep -q '^rtnl: ignored 2: ' "$folder/found.errors"
 refuse_each 'a bad line, explained' 1 "$folder/bad" check --explain
+# An error of -101 that answers a RTM_NEWROUTE of 29 bytes, and attributes behind it: a message and an offset.
+echo '34000000 0200 0003 01000000 39300000 9bffffff 1d000000 1800 0506 01000000 39300000 06000100 6e6f0000 08000200 2c000000' \
+  >"$folder/answer"
+cat "$folder/answer" "$folder/done" "$folder/answer" >"$folder/answers"
+of_answer='RTM_NEWROUTE refused: ENETUNREACH, no, attribute at 44'
+refuse_each 'errors of the kernel, explained' 0 "$folder/answers" check --explain
+check 'errors of the kernel, explained, their lines' \
+  cmp -s "$folder/found.errors" <(printf "rtnl: datagram %s: $of_answer\n" 1 3)
+refuse_each 'an error of the kernel, explained, of a table' 1 "$folder/answers" \
+  table --kind link --seq 1 --port 12345 --explain
+check 'an error of the kernel, explained, of a table, its line' \
+  cmp -s "$folder/found.errors" <(echo "rtnl: datagram 1: $of_answer")
 
 # follow_each NAME STATUS INPUT [ARGUMENT..]: each growth of following this input, of more datagrams than one.
 follow_each() {

@@ -38,7 +38,7 @@ DEBIAN, PACKAGES = "/usr/bin/python3", "/usr/lib/python3/dist-packages"
 NOTES = {"$schema", "$id", "$comment", "title", "description", "$defs"}
 KEYWORDS = {"$ref", "type", "enum", "const", "anyOf", "not", "properties", "required", "items"}
 KEYWORDS |= {"additionalProperties", "minProperties", "maxProperties", "minItems", "uniqueItems"}
-KEYWORDS |= {"minimum", "maximum", "pattern", *NOTES}
+KEYWORDS |= {"minimum", "maximum", "pattern", "patternProperties", *NOTES}
 
 # A value of JSON, and what is wrong where something is.
 Json = Any
@@ -115,7 +115,7 @@ def parts(part: Json) -> Iterator[Json]:
     """A schema and each schema in it."""
     yield part
     inside = [part[key] for key in ("items", "not") if key in part] + part.get("anyOf", [])
-    for key in ("properties", "$defs"):
+    for key in ("properties", "patternProperties", "$defs"):
         inside += part.get(key, {}).values()
     for it in inside:
         yield from parts(it)
@@ -156,25 +156,67 @@ def hand_made(command: str) -> List[Json]:
         return [json.loads(line) for line in lines]
 
 
+# A message's body is its field of this index.
+BODY = 6
 OTHERS: Tuple[Json, ...] = (None, True, 0, "", [], {})
 # Fields whose strings are words that the schema lists.
 WORDS = "refused", "dump", "end", "type", "form", "flags", "fault", "table", "stale", "change"
 
 
-def may_be(holder: Json, field: str) -> Tuple[Json, ...]:
+# Rows of no value; of a value in each place; of a series; and what begins the fields of heads.
+NO_VALUES = set("__ifi_pad ndm_pad1 ndm_pad2 res1 res2 tail padding".split())
+NO_VALUES |= {"nlmsghdr", "rtattr", "rtnexthop", "unread"}
+ALWAYS = set("nlmsg_len nlmsg_flags nlmsg_seq nlmsg_pid rta_len rtnh_len status".split())
+ALWAYS |= {"rtnh_flags", "rtnh_hops", "rtnh_ifindex"}
+COUNTER = re.compile(r"[A-Z0-9]+")
+FRONTS = "__ifi_", "ifi_", "ifa_", "rtm_", "ndm_", "rta_", "rtnh_", "nlmsg_", "rtgen_"
+FIELDS_OF_HEADS = {it.kernel for head in REFERENCE.HEADS.values() for it in head.fields} - {"flags"}
+# Of what a kernel keeps beside an address, a neighbour or a route.
+FIELDS_OF_HEADS |= set("ifa_prefered ifa_valid ndm_confirmed ndm_used ndm_updated".split())
+FIELDS_OF_HEADS |= set("ndm_refcnt rta_clntref rta_lastuse rta_expires rta_error rta_used".split())
+FIELDS_OF_HEADS |= set("rta_id rta_ts rta_tsage".split())
+
+
+def is_struct(holder: Json) -> bool:
+    """Whether an object in what a payload means is a struct, whose fields may have any names."""
+    is_closed = "number" in holder or "name" in holder
+    return not is_closed and any(it != it.upper() for it in holder)
+
+
+def may_be(holder: Json, field: str, is_data: bool) -> Tuple[Json, ...]:
     """The values of other types that a field of this object may have: null for no name of an
-    attribute; of a row of bytes null or a number for its value, and null for its fault."""
+    attribute, and all but null for what its payload means, where bytes stand beside that; of a
+    field of a struct words, a number or nothing; of a row of bytes null or a number for its value,
+    and null for its fault."""
     if "number" in holder:
-        return (None,) if field == "name" else ()
+        has_bytes = holder.get("form", "hex") == "hex"
+        return {"name": (None,), "data": OTHERS[1:] if has_bytes else ()}.get(field, ())
+    if is_data:
+        return (0, "", []) if is_struct(holder) and field != "attrs" else ()
     name = holder.get("name", "")
     if field == "value":
-        is_payload = name != name.lower()
-        return (None, 0) if is_payload else (0,) if name in ("nlmsg_type", "rta_type") else ()
+        return others_of_row(name)
     return (None,) if field == "fault" and name.endswith(("_len", "unread")) else ()
 
 
+def others_of_row(name: str) -> Tuple[Json, ...]:
+    """The same of the value of a row of this name: a field of a head has a number, or nothing in a
+    payload; other fields of structs, and attributes, may also have words."""
+    if name in ("nlmsg_type", "rta_type"):
+        return (0,)
+    if name in NO_VALUES or name in ALWAYS or COUNTER.fullmatch(name):
+        return ()
+    return (None, 0) if name in FIELDS_OF_HEADS else (None, 0, "")
+
+
+def is_field_too(row: Json) -> bool:
+    """Whether a row would be one of some struct's field if its name had another letter."""
+    name = row["name"]
+    return name.islower() and row["fault"] is None and not name.startswith(FRONTS)
+
+
 def changes(
-    value: Json, name: str = "line", others: Tuple[Json, ...] = ()
+    value: Json, name: str = "line", others: Tuple[Json, ...] = (), is_data: bool = False
 ) -> Iterator[Tuple[str, str, Json]]:
     """All that comes of a value by one change: the kind of the change, where it is, and that."""
     others = tuple(it for it in OTHERS if type(it) is not type(value) and it not in others)
@@ -182,20 +224,46 @@ def changes(
     if isinstance(value, str) and (name in WORDS or name == "name"):
         yield "another word", name, f"{value}s"
     if isinstance(value, dict):
-        yield "an unknown field", name, {**value, "unknown": 0}
-        for field, held in value.items():
-            rest = {other: it for other, it in value.items() if other != field}
-            # Without its sign an entry that is new or gone is one of a table.
-            if field != "change" or "before" in value or "table" in value:
-                yield "a missing field", f"{name}.{field}", rest
-            yield "a renamed field", f"{name}.{field}", {**rest, f"{field}s": held}
-            for kind, place, it in changes(held, field, may_be(value, field)):
-                yield kind, f"{name}.{place}", {**value, field: it}
+        yield from changes_of_object(value, name, is_data)
     if isinstance(value, list):
+        # One number may stand where one struct or one attribute does.
+        number_too = (0,) if is_data and len(value) == 1 else ()
         for number, held in enumerate(value):
-            for kind, place, it in changes(held, name):
+            for kind, place, it in changes(held, name, number_too, is_data):
                 where = f"{name}[{number}]{place[len(name) :]}"
                 yield kind, where, [*value[:number], it, *value[number + 1 :]]
+
+
+def may_lack(holder: Json, field: str, is_data: bool) -> bool:
+    """Whether an object may be without one of its fields. Without its sign an entry that is new or
+    gone is one of a table."""
+    if is_data and "number" not in holder:
+        return True
+    if field == "data":
+        return "form" in holder or "number" not in holder
+    if field == "kind":
+        return "data" not in holder
+    return field == "change" and "before" not in holder and "table" not in holder
+
+
+def changes_of_object(
+    value: Json, name: str, is_data: bool
+) -> Iterator[Tuple[str, str, Json]]:
+    """The same of an object: fields that are unknown, missing, renamed or changed."""
+    is_open = is_data and is_struct(value)
+    if not is_open:
+        yield "an unknown field", name, {**value, "unknown": 0}
+    for field, held in value.items():
+        rest = {other: it for other, it in value.items() if other != field}
+        if not is_open and not may_lack(value, field, is_data):
+            yield "a missing field", f"{name}.{field}", rest
+        if not is_open:
+            yield "a renamed field", f"{name}.{field}", {**rest, f"{field}s": held}
+        inside = is_data or field == "data"
+        is_open_name = field == "name" and "offset" in value and is_field_too(value)
+        for kind, place, it in changes(held, field, may_be(value, field, is_data), inside):
+            if not (is_open_name and kind == "another word"):
+                yield kind, f"{name}.{place}", {**value, field: it}
 
 
 def fault_of_changes(allowed: Allowed, line: Json) -> Fault:
@@ -215,10 +283,10 @@ def drops(part: Json, place: str = "#") -> Iterator[Tuple[str, Json]]:
             yield f"{place}/{key} {str(it)[:80]}", {**part, key: front + rest}
             for what, less in drops(it, f"{place}/{key}/{number}") if key == "anyOf" else ():
                 yield what, {**part, key: [*front, less, *rest]}
-    for key in part.keys() & {"properties", "$defs"}:
+    for key in part.keys() & {"properties", "patternProperties", "$defs"}:
         for name, it in part[key].items():
             others = {other: that for other, that in part[key].items() if other != name}
-            if key == "properties" and "additionalProperties" in part:
+            if key != "$defs" and "additionalProperties" in part:
                 yield f"{place}/{key} {name}", {**part, key: others}
             for what, less in drops(it, f"{place}/{key}/{name}"):
                 yield what, {**part, key: {**others, name: less}}
@@ -248,7 +316,8 @@ RANGES = {
     **{"entry_count": (0, 65536), "dump/properties/visits": (0, 33 * 2**23)},
     **{"mirrored/properties/missed": (0, 2**64 - 1)},
     **{"row/properties/offset": (0, 2**23 - 16), "row/properties/length": (1, 16)},
-    **{"row/properties/level": (0, 8), "attribute_number": (0, 16383)},
+    **{"row/properties/level": (0, 16), "attribute_number": (0, 16383)},
+    **{"u64": (0, 2**64 - 1), "integer": (-(2**63), 2**64 - 1)},
 }
 WRONG: Dict[str, Tuple[Json, ...]] = {
     "hex": ("0", "0G", "AB", "0x00", "00 00"),
@@ -257,7 +326,21 @@ WRONG: Dict[str, Tuple[Json, ...]] = {
     "text": ("", "\t", "a\x7f", "\u00e9"),
     "names": (["up"], [""], ["UP", "UP"], ["1"], ["A,B"], [None]),
     "attribute/properties/name": ("", "mtu", "-", "A B", "1"),
-    "attribute_type": ("", "MTU", "IFLA_", "ifla_mtu", "IFLA_mtu", "IFLA_A B", "TCA_KIND", "999"),
+    "meant/properties/name": ("", "mtu", "-", "A B"),
+    "named_value/properties/name": ("", "up", "-", "A B"),
+    "named_bits/properties/names": (["up"], [""], ["UP", "UP"], [None]),
+    "words": ("\t", "a\x7f", "\x85", "\0"),
+    "message_kind": ("", "newqdisc", "RTM_NEWQDISC", "NEW", "NEW_QDISC", "QDISC"),
+    "counters": ({"forwarding": 1}, {"A": "1"}, {"01": 1}, {"": 1}, {"A": True}),
+    "struct": ({}, {"number": 1}, {"names": []}, {"attrs": []}, {"name": "a"}, {"a": None}),
+    "structs": ([], [1], [{}], [[{"a": 1}]]),
+    "series": (["1"], [None], [{"a": 1}], [[1]]),
+    "headed": ({"attrs": []}, {"a": 1}, {"a": True, "attrs": []}, {"a": 1, "attrs": {}}),
+    "attribute_type": ("", "MTU", "IFLA_", "ifla_mtu", "IFLA_mtu", "IFLA_A B", "KIND", "999"),
+    "field_name": ("", "KIND", "ifi_index", "rta_types", "padding", "a b", "DPS", "tos", "res2"),
+    "counter_name": ("", "mtu", "MTu", "6MTU", "_MTU", "A B"),
+    "leaf": (None, True, [], {}, {"number": 1}, {"name": "UP"}, "\t", 0.5),
+    "told": (0, "", True, [], {}),
     "message_type": ("", "newlink", "RTM_", "RTM_LINK", "NLMSG_", "RTM_NEW LINK", "16"),
     "row/properties/bytes": ("", "0", "0G", "AB", "0x00", "00 00", "00" * 17),
     "attribute/properties/flags": (["NET"], ["net", "net"], [""]),
@@ -280,7 +363,8 @@ def heads() -> Dict[str, str]:
     found = {name: head.form.replace("x", "") for name, head in REFERENCE.HEADS.items()}
     del found["bytes"]
     answered = found["message"]
-    return {**found, "error": "i", "answered": answered, "message": answered[1:]}
+    found.update({"error": "i", "answered": answered})
+    return {**found, "message": answered[1:], "other_message": answered[1:]}
 
 
 def ranges(whole: Json) -> Iterator[Tuple[str, Tuple[int, int]]]:
@@ -317,7 +401,7 @@ def fault_of_texts() -> Fault:
 def bodies() -> Dict[str, Json]:
     """A body of each sort, of the lines of show."""
     messages = [it for line in hand_made("show") for it in line.get("messages", [])]
-    return {list(it)[-1]: it[list(it)[-1]] for it in messages}
+    return {list(it)[BODY]: it[list(it)[BODY]] for it in messages}
 
 
 def fault_of_types() -> Fault:
@@ -343,6 +427,8 @@ def mixed() -> Iterator[Tuple[str, Json]]:
     rows = [line for line in hand_made("show") if "offset" in line]
     yield from ((command, row) for command in COMMANDS[1:] for row in rows)
     yield from (("mirror", line) for line in mixed_of_mirror(link, addr))
+    for it in mixed_meanings():
+        yield "show", {"datagram": 1, "bytes": 16, "messages": [it]}
     yield "table", {"entry": 1}
     yield "table", {"link": link, "addr": addr}
     yield "table", {"entry": 1, "link": link, "addr": addr}
@@ -373,6 +459,53 @@ def mixed() -> Iterator[Tuple[str, Json]]:
             yield "table", {"entry": 1, "link": {**link, "attrs": [{**front, **fields}]}}
 
 
+def mixed_meanings() -> Iterator[Json]:
+    """Lines of `show` whose meanings do not belong where they stand."""
+    value: Json = {"number": 6, "name": "UP"}
+    bits: Json = {"number": 1, "names": ["UP"]}
+    front: Json = {"number": 1, "name": None, "flags": []}
+    texts: Json = {"text": "a", "ipv4": "0.0.0.0", "ipv6": ":".join(["0000"] * 8)}
+    numbers: Json = {"u8": 1, "u16": 1, "u32": 1}
+    attributes = [
+        {**front, "form": it, "value": text, "data": value} for it, text in texts.items()
+    ]
+    attributes += [{**front, "form": it, "items": [], "data": value} for it in ("list", "hops")]
+    attributes += [{**front, "form": it, "value": 1, "data": 1} for it in numbers]
+    attributes += [{**front, "form": it, "value": 1, "data": bits} for it in ("u8", "u16")]
+    attributes += [{**front, "form": "hex", "data": value}]
+    attributes += [{**front, "flags": ["net"], "form": "hex", "value": "00", "data": 0}]
+    attributes += [{**front, "flags": ["nested", "net"], "form": "u8", "value": 6, "data": value}]
+    a_part: Json = {"number": 1, "name": None, "data": 1}
+    of_bytes: Json = {"number": 1, "name": None, "value": "00"}
+    for data in (
+        [a_part, 1], [{"a": 1}, a_part], [{**a_part, "value": "00"}], [{**of_bytes, "flags": []}],
+        [{"number": 1, "name": None}], {"A": 1, "a": 1}, {"a": [a_part]}, {"a": True}, {"a": {}},
+        {"attrs": [{"a": 1}], "a": 1}, {**value, "names": []}, {"number": -1, "names": []},
+        {"number": "6", "name": "UP"}, False, 0.5, [[1]], [True], ["a"], [None], {"A": "1"},
+    ):
+        attributes.append({**front, "form": "hex", "value": "00", "data": data})
+    link = bodies()["link"]
+    head: Json = {"message": 16, "type": "newlink", "flags": 0, "flag_names": []}
+    head.update(seq=0, port=0)
+    for it in attributes:
+        yield {**head, "link": {**link, "attrs": [it]}}
+    headed: Json = {"tcm_family": 0, "attrs": []}
+    other: Json = {**head, "message": 36, "type": "other", "bytes": ""}
+    said: Json = {"kind": "NEWQDISC", "data": headed}
+    yield from ({**other, "data": it} for it in (headed, 1))
+    yield from ({**other, **said, "data": it} for it in (1, [], {}, {"tcm_family": 0}, value))
+    yield from ({**other, **said, "message": it} for it in (1, 16, 34))
+    yield {**head, "link": link, "kind": "NEWLINK"}
+    yield {**head, "link": link, **said}
+    yield {**head, "message": 1, "type": "noop", "bytes": "", "kind": "NOOP"}
+    error = bodies()["error"]
+    answers = {it: that for it, that in error["answers"].items() if it not in said}
+    message = {**head, "message": 2, "type": "error"}
+    yield {**message, "error": {**error, "answers": {**answers, "data": headed}}}
+    yield {**message, "error": {**error, "data": headed}}
+    yield {**message, "error": {**error, "kind": "NEWLINK"}}
+
+
 def mixed_of_mirror(link: Json, addr: Json) -> Iterator[Json]:
     """Lines of `mirror` whose fields do not belong together."""
     for line in hand_made("mirror"):
@@ -398,11 +531,14 @@ def mixed_rows() -> Iterator[Json]:
         for fault in sorted({it for _, it in faults if it}):
             if (row["name"], fault) not in faults:
                 yield {**row, "fault": fault}
-        yield {**row, "value": 2**32}
+        yield {**row, "value": 2**64}
+        yield {**row, "value": -(2**63) - 1}
+        if row["name"] in FIELDS_OF_HEADS | ALWAYS:
+            yield {**row, "value": 2**32}
     for row in rows:
         if row["name"] in ("nlmsghdr", "rtattr", "rtnexthop"):
             yield {**row, "fault": None}
-        if row["name"].endswith("index") and row["name"] != "ifa_index":
+        if row["name"] in ("ifi_index", "ndm_ifindex", "rtnh_ifindex"):
             yield {**row, "value": 2**31}
         yield {**row, "canonical": True}
     yield {"datagram": 1, "refused": "cut", "at": 0, "offset": 0}
@@ -414,6 +550,24 @@ def fault_of_mixed() -> Fault:
     for command, line in mixed():
         if allowed[command].has(line) or others[command].is_valid(line):
             return f"{command}: {json.dumps(line)[:400]}"
+    return None
+
+
+def fault_of_names() -> Fault:
+    """Which attribute, message type, field or place in a series has a name that no row may have."""
+    data: Any = importlib.import_module("reference_data")
+    sorts = {"set": "attribute_type", "messages": "message_type", "array": "counter_name"}
+    readers = {it: reader(part_of(schema(), it)) for it in (*sorts.values(), "field_name")}
+    for block in data.BLOCKS.values():
+        for row in block.rows if block.sort in sorts else ():
+            front = block.said["prefix"] if block.sort == "array" else ""
+            if not readers[sorts[block.sort]].is_valid(row.name[len(front):]):
+                return row.name
+        for row in block.rows if block.sort == "struct" else ():
+            is_of_head = row.name in FIELDS_OF_HEADS | ALWAYS | NO_VALUES
+            is_type = row.name in ("nlmsg_type", "rta_type")
+            if readers["field_name"].is_valid(row.name) == (is_of_head or is_type):
+                return row.name
     return None
 
 
@@ -452,6 +606,7 @@ def cases() -> Iterator[Tuple[str, Fault]]:
     yield "titles, descriptions, closed objects", fault_of_notes()
     yield "ranges of numbers", fault_of_ranges()
     yield "texts", fault_of_texts()
+    yield "names of rows", fault_of_names()
     yield "types of messages", fault_of_types()
     yield "fields that do not belong together", fault_of_mixed()
     yield "each field, word and alternative", fault_of_cover()

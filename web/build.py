@@ -36,7 +36,7 @@ examples/links.hex examples/addresses.hex examples/routes.hex examples/neighbour
 examples/rules.hex examples/changes.hex examples/rules.xxd examples/rules.strace
 examples/links.pcap examples/addresses.pcapng examples/links.rtmon measure/broken.hex
 """.split()
-LARGEST = 200000
+LARGEST = 260000
 
 
 def read(path: str) -> str:

@@ -117,18 +117,19 @@ is_of_the_kernel() {
 # loopback link.
 has_loopback() { "$folder/$1" >"$folder/output" && grep -qx "$2" "$folder/output"; }
 
-# is_told: the loopback link of a namespace is set up and down until a notification says so.
+# is_told: the loopback link of a namespace is set up and down until a notification says so. Its
+# address outlasts that, and would be told once alone, so it goes each time.
 is_told() {
   # shellcheck disable=SC2016
   in_namespace sh -c '
     "$1" >"$2" & told=$!
     for _ in $(seq 50); do
-      ip link set lo up; ip link set lo down
+      ip link set lo up; ip link set lo down; ip address flush dev lo
       grep -qx "new link lo UNKNOWN" "$2" && grep -qx "new addr 127.0.0.1/8 1" "$2" &&
         grep -qx "del route ::1/128 - 1" "$2" && kill "$told" && exit
       sleep 0.1
     done
-    kill "$told"; exit 1' sh "$folder/watch" "$folder/output"
+    kill "$told"; tail -n 20 "$2"; exit 1' sh "$folder/watch" "$folder/output"
 }
 
 # writes: in a namespace a link is brought up, and routes over one next hop and over two are there;

@@ -23,8 +23,8 @@ NAMES = {
     "Holds": "rtnlc_holds",
     "Checked": "rtnlc_checked",
     "Shown": "rtnlc_shown",
-    "Kept": "rtnlc_stream",
-    "KeptBuilder": "rtnlc_built",
+    "StreamState": "rtnlc_stream",
+    "BuilderState": "rtnlc_built",
     "Fed": "rtnlc_fed",
     "Put": "rtnlc_put",
     "Status": "rtnlc_status",
@@ -32,7 +32,7 @@ NAMES = {
     "FoundEntry": "rtnlc_found",
     "Change": "rtnlc_change",
     "Heard": "rtnlc_heard",
-    "Mirrored": "rtnlc_mirrored",
+    "MirrorTableInfo": "rtnlc_mirrored",
     "Metric": "rtnlc_metric",
     "NextHop": "rtnlc_next_hop",
 } | {f"{it.title()}Fields": f"rtnlc_{it}_request"
@@ -59,10 +59,10 @@ for name in ("u8", "Event", "Change"):
 for name in NAMES:
     PARAMETERS[f"&{name}<'_>"] = [f"const {TYPES[name]} *"]
 PARAMETERS["&Options"] = ["const struct rtnlc_options *"]
-PARAMETERS["&Kept"] = ["const struct rtnlc_stream *"]
-PARAMETERS["&mut Kept"] = ["struct rtnlc_stream *"]
-PARAMETERS["&KeptBuilder"] = ["const struct rtnlc_built *"]
-PARAMETERS["&mut KeptBuilder"] = ["struct rtnlc_built *"]
+PARAMETERS["&StreamState"] = ["const struct rtnlc_stream *"]
+PARAMETERS["&mut StreamState"] = ["struct rtnlc_stream *"]
+PARAMETERS["&BuilderState"] = ["const struct rtnlc_built *"]
+PARAMETERS["&mut BuilderState"] = ["struct rtnlc_built *"]
 PARAMETERS["&mut Handle"] = ["struct rtnlc_session *"]
 PARAMETERS["&mut MirrorHandle"] = ["struct rtnlc_mirror *"]
 

@@ -31,7 +31,7 @@ is_possible() {
   for tool in rtmon xxd jq tshark; do
     [[ $used != *"$tool "* ]] || has "$tool" "$1" || return
   done
-  [[ $used != *"strace "* ]] || can_trace "$1"
+  [[ " $used" != *" strace "* ]] || can_trace "$1"
 }
 
 # is_left COMMAND: it is a script measure/NAME.sh, which takes long; a block that begins with it is
@@ -44,7 +44,7 @@ is_left() {
 run_block() {
   local page=$1 number command live=no
   count=$((count + ${#commands[@]}))
-  [[ $(tools) == *@(rtnl-record |rtmon |strace )* ]] && live=yes
+  [[ " $(tools)" == *@(rtnl-record |rtmon | strace )* ]] && live=yes
   ! is_left "${commands[0]-}" || return 0
   [ "${#commands[@]}" = 0 ] || is_possible "line ${lines[0]} of $page" || return 0
   for number in "${!commands[@]}"; do

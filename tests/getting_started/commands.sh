@@ -1,6 +1,7 @@
-# The commands of README.md and of docs/TUTORIAL.md, each with its whole output.
+# The commands of README.md, of docs/TUTORIAL.md and of docs/TASKS.md, each with its whole output.
 
 tutorial=docs/TUTORIAL.md
+tasks=docs/TASKS.md
 
 # finds_change PAGE SECTION CHANGE: with this change the commands of a section don't show what it
 # says. Files that those before it made are there.
@@ -28,7 +29,7 @@ shows_source() {
   esac
 }
 
-for page in README.md "$tutorial"; do
+for page in README.md "$tutorial" "$tasks"; do
   run_page "$page" <"$page"
   check "commands of $page" runs_all "$page"
 done
@@ -36,6 +37,19 @@ check 'a changed refusal is found' finds_change README.md 'See it' \
   's/^datagram 1 refused bad length at 40$/datagram 1 refused bad length at 44/'
 check 'a missing line is found' finds_change "$tutorial" 'When it is refused' \
   '/^datagram 1 accepted$/d'
+# finds_answer CHANGE: with this change the first tasks don't have the answers that the page says.
+finds_answer() {
+  (
+    failed=0
+    run_page 'a changed answer' < <(sed "/# 3 =/,\$d; $1" "$tasks" && echo '```') >/dev/null
+    [ "$failed" = 1 ]
+  )
+}
+
+# verdicts: how many tasks have each verdict, by the commands and by what the page says of them.
+verdicts() { grep -oE '# [0-9]+ [-+=]' "$tasks" | sort -u | cut -d' ' -f3 | sort | uniq -c | tr -s ' \n' ' '; }
+check 'the tasks of the page' [ "$(verdicts)" = ' 7 + 3 - 24 = ' ]
+check 'a changed answer is found' finds_answer 's/^\[42,"192.0.2.42"\]$/[43,"192.0.2.42"]/'
 check 'all sources of README.md' [ "$(sources | wc -l)" = 6 ]
 while IFS= read -r command; do
   if [[ $command != *@(dump|monitor)* ]] || has_namespace "$command"; then

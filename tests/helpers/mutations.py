@@ -8,6 +8,8 @@ import reference
 from reference import ATTRIBUTE, HOP, MESSAGE
 
 TYPES = (*reference.KINDS, 0, 5, 15, 23, 27, 31, 35, 40, 65535)
+# So many bytes stand in front of attributes.
+FRONTS = 4, 8, 12, 16, 20, 24
 NUMBERS = sorted({0, 8, 9, 18, 40, 16383}.union(*reference.ATTRIBUTES.values()))
 
 
@@ -24,9 +26,36 @@ class Heads(reference.Reading):
         return length, *fields
 
 
-def heads(data, order):
+class HeadsInside(Heads):
+    """One that also looks into bytes that are well formed as attributes, or behind so many as a
+    head has."""
+
+    def head(self, place, end, form):
+        length, *fields = super().head(place, end, form)
+        if form == ATTRIBUTE:
+            self.inside(place + 4, place + length)
+        return length, *fields
+
+    def body(self, start, end, kind):
+        if reference.SORTS.get(kind, "bytes") not in reference.NEW:
+            for size in FRONTS:
+                self.inside(start + 16 + size, end)
+        return super().body(start, end, kind)
+
+    def inside(self, place, end):
+        """Notes the attributes of a region that is well formed."""
+        kept = len(self.found)
+        try:
+            if place < end:
+                for _ in self.visited(place, end, ATTRIBUTE):
+                    pass
+        except reference.Fault:
+            del self.found[kept:]
+
+
+def heads(data, order, kind=HeadsInside):
     """The heads of a datagram, up to its first fault."""
-    reading = Heads(data, order)
+    reading = kind(data, order)
     try:
         reading.messages()
     except reference.Fault:

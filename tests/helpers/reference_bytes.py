@@ -1,19 +1,21 @@
 """A second reading of "Bytes beside what they are" in docs/FORMAT.md, over that of reference.py.
 
 A datagram is cut into parts, which have each of its bytes once; a part is printed in rows of at
-most sixteen bytes, of which the first has the words of the part. The names of attributes are those
-of reference.py and of Further.antt in crates/rtnl/specs.
+most sixteen bytes, of which the first has the words of the part. What stands in payloads, and the
+names of attributes, are those of reference_inside.py.
 """
 import functools
-import json
 from typing import NamedTuple, Optional
 
 import reference
+import reference_data
+import reference_inside
 from reference import (
-    ATTRIBUTE, BITS, HEADS, HOP, KINDS, MESSAGE, NESTED, NET, NEW, OTHER, PREFIXES, SORTS, TYPES,
-    Field,
+    ATTRIBUTE, BITS, HEADS, HOP, KINDS, MESSAGE, NESTED, NET, NEW, OTHER, SORTS, Field,
 )
-from reference_lines import names, typed, word
+from reference_data import Kinds
+from reference_inside import Divider
+from reference_lines import ENCODER, names, typed, word
 
 WIDTH = 16
 CUT = {MESSAGE: "nlmsghdr", ATTRIBUTE: "rtattr", HOP: "rtnexthop"}
@@ -21,18 +23,6 @@ ITEMS = {
     ATTRIBUTE: [Field("H", "rta_len", "len"), Field("H", "rta_type", "type")],
     HOP: [Field("H", "rtnh_len", "len"), *HEADS["hop"].fields],
 }
-ATTRIBUTE_FLAGS = ("NESTED", NESTED), ("NET_BYTEORDER", NET)
-FURTHER = reference.tables("Further")
-
-
-def kernel_names(context):
-    """The kernel's names of the attributes of a context, by their numbers."""
-    found = {number: name for number, name, _ in FURTHER.get(f"further_{context}", [])}
-    found.update({number: name for number, (name, _) in reference.ATTRIBUTES[context].items()})
-    return {number: PREFIXES[context] + name for number, name in found.items()}
-
-
-NAMES = {context: kernel_names(context) for context in PREFIXES}
 
 
 # What a number or a payload is, as text and in JSON.
@@ -52,30 +42,16 @@ def of_field(field, number):
 def of_header(kind, flags):
     """The fields of a message's header whose names go by its type."""
     _, rows = KINDS.get(kind, OTHER)
-    name = TYPES.get(kind)
-    type_of = (f"{kind} {name}", name) if name else (str(kind), kind)
-    return {"nlmsg_type": type_of, "nlmsg_flags": numbered(flags, "4", rows)}
-
-
-@functools.lru_cache(100_000)
-def of_attribute(context, kind):
-    number = kind & 0x3FFF
-    name = NAMES[context].get(number)
-    found = [str(number), name, *names(ATTRIBUTE_FLAGS, kind)]
-    return {"rta_type": (" ".join(filter(None, found)), name or number)}
-
-
-def of_payload(form, data, is_net, order):
-    sort, value = typed(form, data, is_net, order)
-    return (None, None) if sort == "hex" else (f"{sort} {value}", value)
+    said = reference_inside.message_type_said(kind)
+    return {"nlmsg_type": said, "nlmsg_flags": numbered(flags, "4", rows)}
 
 
 # The parts of a datagram.
 
 
 class Part(NamedTuple):
-    """Bytes of a datagram, and their value as text and in JSON. A fault is a reason, and a place
-    with the bytes that are left there."""
+    """Bytes of a datagram, and their value as text and in JSON; whether they are padding or were
+    not read. A fault is a reason, and a place with the bytes that are left there."""
 
     offset: int
     end: int
@@ -84,25 +60,82 @@ class Part(NamedTuple):
     name: str
     value: Optional[str]
     typed: object
+    is_aside: bool
     fault: Optional[tuple]
 
 
-class Parts(reference.Reading):
-    """A reading that notes the parts of a datagram, one behind the other.
+class Lists(reference.Reading):
+    """A reading that notes the attributes of each list, by the place where it begins: the place of
+    each, its number, and its payload where that is bytes. What holds more is empty here."""
 
-    `region` is the level at which it reads now, and the context there; `under` the level and the
-    indentation of padding; `last` the end of the region of the last head, and the form of that.
+    def __init__(self, *arguments):
+        super().__init__(*arguments)
+        self.lists, self.here = {}, (0, "")
+
+    def attributes(self, place, end, level, context):
+        around, self.here = self.here, (place, context)
+        found = super().attributes(place, end, level, context)
+        self.here = around
+        return found
+
+    def visited(self, place, end, form):
+        start, context = self.here
+        for at, behind, fields in super().visited(place, end, form):
+            if form == ATTRIBUTE:
+                kind, payload = fields[0], self.data[at + 4 : behind]
+                holds = reference.content(context, kind & 0x3FFF, kind & NESTED)
+                note = at, kind & 0x3FFF, payload if holds == "bytes" else b""
+                self.lists.setdefault(start, []).append(note)
+            yield at, behind, fields
+
+
+def lists(*arguments):
+    """The attributes of each list of a datagram, up to one that breaks a rule."""
+    reading, broken = Lists(*arguments), -1
+    try:
+        reading.messages()
+    except reference.Fault as fault:
+        broken = fault.args[-1]
+    return {
+        start: [(number, payload) for at, number, payload in found if at != broken]
+        for start, found in reading.lists.items()
+    }
+
+
+class Region(NamedTuple):
+    """Where a reading is: its level, the context there, the set of the attributes, and the kinds
+    that choose what these are."""
+
+    level: int
+    context: str
+    of: reference_data.Attributes
+    kinds: Optional[Kinds]
+
+
+NOWHERE = Region(0, "", reference_data.NOTHING, None)
+
+
+class Parts(reference.Reading):
+    """A reading that notes the parts of a datagram, one behind the other, where these are the
+    attributes of its lists.
+
+    `region` is where it reads now; `inside` the set of what the next list holds; `divider` cuts
+    the payloads of the message; `under` is the depth of padding; `last` the end of the region of
+    the last head, and the form of that.
     """
 
-    def __init__(self, data, order, depth, largest):
-        super().__init__(data, order, depth, largest)
-        self.parts, self.behind = [], 0
-        self.region, self.under, self.last = (0, ""), (0, 0), None
+    def __init__(self, beside, *arguments):
+        super().__init__(*arguments)
+        self.beside, self.parts, self.behind = beside, [], 0
+        self.region, self.inside = NOWHERE, reference_data.NOTHING
+        self.divider, self.flags = Divider(self.order, b""), 0
+        self.under, self.last = (0, 0), None
 
-    def note(self, end, level, indent, name, values=(None, None), fault=None):
+    def note(self, end, level, indent, name, values=(None, None), fault=None, is_aside=False):
         """The part up to this end, where that has a byte."""
         if end > self.behind:
-            self.parts.append(Part(self.behind, end, level, indent, name, *values, fault))
+            part = Part(self.behind, end, level, indent, name, *values, is_aside, fault)
+            self.parts.append(part)
             self.behind = end
 
     def note_fields(self, found, level, indent, fault=None, **values):
@@ -113,39 +146,70 @@ class Parts(reference.Reading):
             self.note(self.behind + field.size(), level, indent, field.kernel, value, fault)
             fault = None
 
+    def note_pieces(self, pieces):
+        """What stands in a payload or behind a head."""
+        for size, depth, name, said, is_padding in pieces:
+            front = max(depth, 0), 4 + 2 * depth
+            self.note(self.behind + size, *front, name, said, is_aside=is_padding)
+
     def note_head(self, form, fault=None):
         """The head that begins here."""
-        level, context = self.region
+        level = self.region.level
         if form == MESSAGE:
-            values = of_header(*self.fields("HH", self.behind + 4))
+            kind, self.flags = self.fields("HH", self.behind + 4)
+            values = of_header(kind, self.flags)
             self.note_fields(HEADS["message"].fields, 0, 0, fault, **values)
             self.under = 0, 2
             return
-        self.under = level, 4 + 2 * level
-        is_hop = form == HOP
-        values = {} if is_hop else of_attribute(context, *self.fields("H", self.behind + 2))
+        self.under, values = (level, 4 + 2 * level), {}
+        if form == ATTRIBUTE:
+            (kind,) = self.fields("H", self.behind + 2)
+            values["rta_type"] = reference_inside.type_said(self.region.of, kind)
         self.note_fields(ITEMS[form], *self.under, fault, **values)
 
     def note_payload(self, end, kind):
-        """The payload of an attribute of this type, where it holds bytes."""
-        context, number = self.region[1], kind & 0x3FFF
-        if reference.content(context, number, kind & NESTED) == "bytes":
-            _, form = reference.ATTRIBUTES[context].get(number, ("", "Hex"))
-            values = of_payload(form, self.data[self.behind : end], kind & NET, self.order)
-            self.note(end, *self.under, NAMES[context].get(number, "payload"), values)
+        """The payload of an attribute of this type, where it holds bytes; and what the list holds
+        that it is where it doesn't."""
+        (level, context, of, kinds), number = self.region, kind & 0x3FFF
+        row, chooses = of.row(number), kinds.following(of.row(number))
+        self.inside = reference_data.inside_of(row, chooses, self.order)
+        if reference.content(context, number, kind & NESTED) != "bytes":
+            return
+        _, form = reference.ATTRIBUTES[context].get(number, ("", "Hex"))
+        payload, name = self.data[self.behind : end], reference_inside.kernel_name(of, number)
+        sort, value = typed(form, payload, kind & NET, self.order)
+        plain = (None, None) if sort == "hex" else (f"{sort} {value}", value)
+        meaning = self.divider.reader.meaning(row, payload, chooses)
+        is_plain = kind & NET or not reference_data.beside_value(meaning, sort)
+        front = level, name or "payload", row, payload, chooses
+        self.note_pieces(self.divider.payload(*front, plain=plain, is_plain=bool(is_plain)))
 
     def note_padding(self, end):
-        self.note(end, *self.under, "padding")
+        self.note(end, *self.under, "padding", is_aside=True)
 
     def note_body(self, end, kind):
-        """A body, but for attributes. Of one that is too short for its type nothing is kept."""
+        """A body, but for attributes of a family. Of one that is too short for its type nothing is
+        kept."""
         sort, head = SORTS.get(kind, "bytes"), HEADS[SORTS.get(kind, "bytes")]
-        if end - self.behind >= head.size:
+        body = self.data[self.behind : end]
+        self.divider = Divider(self.order, body[:1])
+        if len(body) >= head.size:
             is_error = sort == "error"
             values = of_header(*self.fields("HH", self.behind + 8)) if is_error else {}
             self.note_fields(head.fields, 0, 2, **values)
-        if sort not in NEW:
+        rest = self.data[self.behind : end]
+        if sort in NEW:
+            self.inside = reference_data.of_family(sort)
+        elif sort == "error" and len(body) >= head.size:
+            code, length, kind, *_ = self.fields(head.form, end - len(body))
+            answer = self.flags, code, length, kind, rest, self.order
+            self.note_pieces(reference_inside.of_answer(*answer))
+        elif sort == "done":
+            self.note_pieces(reference_inside.of_tail(self.flags, rest, self.order))
+        elif kind in KINDS:
             self.note(end, 0, 2, "payload" if sort == "bytes" else "tail")
+        else:
+            self.note_pieces(reference_inside.of_message(kind, rest, self.order))
 
     # What the reading does, and what is noted of it.
 
@@ -156,6 +220,8 @@ class Parts(reference.Reading):
         self.note_head(form)
         if form == ATTRIBUTE:
             self.note_payload(place + length, *found)
+        elif form == HOP:
+            self.inside = self.region.of
         return length, *found
 
     def body(self, start, end, kind):
@@ -163,13 +229,15 @@ class Parts(reference.Reading):
         return super().body(start, end, kind)
 
     def attributes(self, place, end, level, context):
-        around, self.region = self.region, (level, context)
+        around, parts = self.region, self.beside.get(place, [])
+        kinds = Kinds(self.divider.reader.family, self.inside, parts, [])
+        self.region = Region(level, context, self.inside, kinds)
         found = super().attributes(place, end, level, context)
         self.region = around
         return found
 
     def next_hops(self, place, end, level):
-        around, self.region = self.region, (level, "")
+        around, self.region = self.region, Region(level, "", self.inside, None)
         found = super().next_hops(place, end, level)
         self.region = around
         return found
@@ -180,20 +248,21 @@ class Parts(reference.Reading):
         self.parts = [part for part in self.parts if part.offset < place]
         self.behind = place
         if reason == "too large":
-            self.note(len(self.data), 0, 0, "unread", fault=(reason,))
+            self.note(len(self.data), 0, 0, "unread", fault=(reason,), is_aside=True)
             return
-        (end, form), level = self.last, self.region[0]
+        (end, form), level = self.last, self.region.level
         fault = reason, place, end - place
         if reason == "cut":
             self.note(end, level, 0 if form == MESSAGE else 4 + 2 * level, CUT[form], fault=fault)
         else:
             self.note_head(form, fault)
-        self.note(len(self.data), 0, 0, "unread")
+        self.note(len(self.data), 0, 0, "unread", is_aside=True)
 
 
 def parts(data, order, depth=reference.DEPTH, largest=reference.LARGEST):
     """The parts of a datagram."""
-    reading = Parts(data, order, depth, largest)
+    arguments = data, order, depth, largest
+    reading = Parts(lists(*arguments), *arguments)
     try:
         reading.messages()
         reading.note_padding(len(data))
@@ -214,7 +283,7 @@ def rows(data, found):
 def words(part, has_colour=False):
     """What stands behind the bytes of the first row of a part."""
     text = part.name if part.value is None else f"{part.name} {part.value}"
-    colour = "2" if part.name in ("padding", "unread") else ""
+    colour = "2" if part.is_aside else ""
     if part.fault:
         reason, *where = part.fault
         text = f"!! {text}: {reason}" + (" at %d, %d bytes left" % tuple(where) if where else "")
@@ -235,9 +304,8 @@ def lines(number, data, found, has_colour=False):
         yield "refused " + " at ".join(map(str, fault[:2]))
 
 
-@functools.lru_cache(100_000)
 def written(value):
-    return json.dumps(value)
+    return ENCODER.encode(value)
 
 
 def objects(number, data, found):

@@ -4,13 +4,16 @@ It is said once, as the objects of the lines of JSON; the text is written from t
 """
 import json
 
+import reference_data
 from reference import (
-    ATTRIBUTES, BITS, DONE, ENDS, ERROR, HEADS, KINDS, NET, NEW, OTHER, OVERRUN, Fault, read,
-    written,
+    ATTRIBUTES, BITS, DONE, ENDS, ERROR, HEADS, KINDS, NESTED, NET, NEW, OTHER, OVERRUN, Fault,
+    content, read, written,
 )
 
 # The objects.
 
+# So many fields of a message stand in front of its body.
+FRONT = 6
 ENCODER = json.JSONEncoder(separators=(",", ":"), ensure_ascii=False)
 
 
@@ -45,35 +48,63 @@ def typed(form, value, is_net, order):
     return "hex", value.hex()
 
 
-def attribute_objects(found, order):
-    for kind, context, holds, value in found:
-        number = kind & 0x3FFF
-        name, form = ATTRIBUTES[context].get(number, (None, "Hex"))
-        front = {"number": number, "name": name, "flags": names(BITS["attribute_flags"], kind)}
-        if holds == "bytes":
-            word, value = typed(form, value, kind & NET, order)
-            yield {**front, "form": word, "value": value}
-        else:
+class Attributes:
+    """What is said of the attributes of a message of this byte order and this address family."""
+
+    def __init__(self, order, family):
+        self.order = order
+        self.reader = reference_data.Reader(order, family)
+
+    def of_list(self, found, of):
+        """Attributes of a set, or of none that is known."""
+        parts = [
+            (it & 0x3FFF, value if holds == "bytes" else b"") for it, _, holds, value in found
+        ]
+        kinds = reference_data.Kinds(self.reader.family, of, parts, [])
+        for kind, context, holds, value in found:
+            number = kind & 0x3FFF
+            row, chooses = of.row(number), kinds.following(of.row(number))
+            front = {"number": number, "name": of.called(number)}
+            front["flags"] = names(BITS["attribute_flags"], kind)
+            if holds == "bytes":
+                yield {**front, **self.of_payload(kind, context, value, row, chooses)}
+                continue
+            inside = reference_data.inside_of(row, chooses, self.order)
+            say = self.of_hops if holds == "hops" else self.of_list
             word = "hops" if holds == "hops" else "list"
-            inside = hop_objects if holds == "hops" else attribute_objects
-            yield {**front, "form": word, "items": [*inside(value, order)]}
+            yield {**front, "form": word, "items": [*say(value, inside)]}
+
+    def of_payload(self, kind, context, value, row, chooses):
+        """The form and the value of bytes, and what these mean beside that."""
+        _, form = ATTRIBUTES[context].get(kind & 0x3FFF, (None, "Hex"))
+        word, typed_value = typed(form, value, kind & NET, self.order)
+        meaning = None if kind & NET else self.reader.meaning(row, value, chooses)
+        beside = reference_data.beside_value(meaning, word)
+        return {"form": word, "value": typed_value, **beside}
+
+    def of_hops(self, found, of):
+        for *values, inside in found:
+            yield {**head_object("hop", values), "attrs": [*self.of_list(inside, of)]}
 
 
-def hop_objects(found, order):
-    for *values, inside in found:
-        yield {**head_object("hop", values), "attrs": [*attribute_objects(inside, order)]}
+def answer_object(flags, sort, values, tail, order):
+    """What answers a message, or ends a dump."""
+    if sort != "error":
+        said = reference_data.of_tail(flags, tail, order) if sort == "done" else {}
+        return {**head_object(sort, values or (0,)), "tail": tail.hex(), **said}
+    code, *answered = values
+    about, said = reference_data.of_error(flags, code, answered, tail, order)
+    answers = {**head_object("message", answered), **about}
+    return {"code": code, "answers": answers, "tail": tail.hex(), **said}
 
 
-def body_object(sort, values, rest, order):
+def body_object(sort, values, rest, order, flags=0):
     if sort == "bytes":
         return rest.hex()
     if sort in NEW:
-        return {**head_object(sort, values), "attrs": [*attribute_objects(rest, order)]}
-    if sort == "error":
-        front = {"code": values[0], "answers": head_object("message", values[1:])}
-    else:
-        front = head_object(sort, values or (0,))
-    return {**front, "tail": rest.hex()}
+        found = Attributes(order, bytes(values[:1])).of_list(rest, reference_data.of_family(sort))
+        return {**head_object(sort, values), "attrs": [*found]}
+    return answer_object(flags, sort, values, rest, order)
 
 
 def message_object(fields, body, order):
@@ -81,7 +112,8 @@ def message_object(fields, body, order):
     name, rows = KINDS.get(kind, OTHER)
     return {
         **{"message": kind, "type": name, "flags": flags, "flag_names": names(rows, flags)},
-        **{"seq": sequence, "port": port, body[0]: body_object(*body, order)},
+        **{"seq": sequence, "port": port, body[0]: body_object(*body, order, flags)},
+        **({} if kind in KINDS else reference_data.of_message(kind, body[2], order)),
     }
 
 
@@ -163,18 +195,23 @@ def head_words(head, found):
 def hop_lines(found, indent):
     for hop in found:
         yield f"{indent}hop{head_words('hop', hop)}"
-        yield from attribute_lines(hop["attrs"], f"{indent}  ")
+        yield from attribute_lines(hop["attrs"], f"{indent}  ", "route")
 
 
-def attribute_lines(found, indent):
+def attribute_lines(found, indent, context):
+    """Those of a context, which has the names of the text."""
     for it in found:
-        front = f"{indent}attr {it['number']} {word(it['name'])} {word(it['flags'])} {it['form']}"
+        name, _ = ATTRIBUTES[context].get(it["number"], (None, ""))
+        front = f"{indent}attr {it['number']} {word(name)} {word(it['flags'])} {it['form']}"
         if "value" in it:
             yield f"{front} {word(it['value'])}"
+            continue
+        yield f"{front} {len(it['items'])}"
+        if it["form"] == "hops":
+            yield from hop_lines(it["items"], f"{indent}  ")
         else:
-            yield f"{front} {len(it['items'])}"
-            inside = hop_lines if it["form"] == "hops" else attribute_lines
-            yield from inside(it["items"], f"{indent}  ")
+            inside = content(context, it["number"], NESTED)
+            yield from attribute_lines(it["items"], f"{indent}  ", inside)
 
 
 def body_lines(sort, found):
@@ -187,11 +224,12 @@ def body_lines(sort, found):
         text = head_words(sort, found)
     tail = f" tail {word(found['tail'])}" if "tail" in found else ""
     yield f"  {sort}{text}{tail}"
-    yield from attribute_lines(found.get("attrs", ()), "    ")
+    if sort in NEW:
+        yield from attribute_lines(found["attrs"], "    ", sort)
 
 
 def message_lines(found):
-    *_, (sort, body) = found.items()
+    sort, body = [*found.items()][FRONT]
     flags = f"{word(found['flags'], '4')} {word(found['flag_names'])}"
     front = f"message {found['message']} {found['type']} flags {flags}"
     yield f"{front} {words(found, 'seq', 'port')}"

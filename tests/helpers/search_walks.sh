@@ -43,10 +43,14 @@ folder=crates/nl_attr/src/stack
 stack=($folder/*.rt)
 reading=crates/nl_attr/src/reading.rt
 
-same 'walkers are made in their own modules' "$(counts '\b(Attrs|HopParts)::of')" \
+same 'walkers are made in their own modules, and where payloads are shown by what they mean' \
+  "$(counts '\b(Attrs|HopParts)::of')" \
   'crates/nl_attr/src/walk/attrs.rt 1
 crates/nl_attr/src/walk/counted.rt 1
-crates/nl_attr/src/walk/hops.rt 1'
+crates/nl_attr/src/walk/hops.rt 1
+crates/rtnl/src/bytes/inside.rt 1
+crates/rtnl/src/json_lines/data/inside.rt 1
+crates/rtnl/src/json_lines/data/kinds.rt 1'
 
 same 'counted walks are made where a region is opened, and for the blank of the stack' \
   "$(counts 'Counted(Attrs|HopParts)::over')" "$folder/mod.rt 1
@@ -167,7 +171,7 @@ same 'the item at a place is sought by those who ask for one, and in no walk' \
 crates/nl_dump/src/unread.rt 1
 crates/nl_frame/src/front.rt 1
 crates/rtnl_c/src/cursors.rt 3
-crates/rtnl_cli/src/kinds.rt 1'
+crates/rtnl_cli/src/senders.rt 1'
 
 same 'an attribute of a number is sought for C by one loop over what stands at a place' \
   "$(counts '\brtnlc_attr_at\(')" \
@@ -198,7 +202,8 @@ crates/rtnl/src/bytes/tape.rt 1
 crates/rtnl/src/runs/mirror.rt 1
 crates/rtnl/src/runs/show.rt 2
 crates/rtnl_bench/src/main.rt 1
-crates/rtnl_c/src/broken.rt 1'
+crates/rtnl_c/src/broken.rt 1
+crates/rtnl_cli/src/errors_told.rt 1'
 
 same 'a tally is taken apart with its visits' "$(counts 'visits: *_')" 'crates/nl_attr/src/fault.rt 1'
 
@@ -213,7 +218,8 @@ crates/nl_frame/src/reading.rt 6
 crates/nl_mirror/src/mirror.rt 1
 crates/nl_route/src/object.rt 4
 crates/rtnl/src/runs/mirror.rt 1
-crates/rtnl/src/runs/show.rt 2'
+crates/rtnl/src/runs/show.rt 2
+crates/rtnl_cli/src/errors_told.rt 1'
 
 same 'all families are read by one arm of a macro' "$(counts 'read_body_ordered \$')" \
   'crates/nl_route/src/family.rt 1'

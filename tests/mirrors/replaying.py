@@ -1,14 +1,17 @@
 """Feeds what a socket was told to mirrors of the program of rtnl_rows, and compares what they hold
 with what the quiet kernel dumped.
 """
-import subprocess
+import os
 import sys
-import tempfile
 from typing import Callable, Dict, Iterator, List, NamedTuple, Sequence
 
 sys.dont_write_bytecode = True
+sys.path.append(f"{os.path.dirname(os.path.realpath(__file__))}/../rows")
 from entries import told
+from flat import Asked, answers_in, run
 from recording import AF_BRIDGE, KINDS
+from standing import MIRROR, mirror_asked, mirror_lines
+from words import Bytes, Row, Words
 
 # NLM_F_MULTI of linux/netlink.h.
 MULTI = 2
@@ -28,16 +31,16 @@ def steps(lines: List[str], family: int = 0) -> Iterator[str]:
 
 
 class Keeper(NamedTuple):
-    """What keeps mirrors: a program, and the call of its rows that makes one."""
+    """What keeps mirrors: a program, and its module that makes one."""
 
     program: str
-    call: str = "mirror"
+    module: int = MIRROR
 
-    def row(self, made: List[str]) -> str:
-        """The row of a mirror that makes these steps, and tells all that it holds then."""
+    def asked(self, made: List[str]) -> Asked:
+        """A mirror that makes these steps, and tells all that it holds then."""
         ends = ["stale", *(f"table {kind}" for kind in KINDS)]
-        lines = [f"  {it}" for it in [*made, *ends]]
-        return "\n".join([f"{self.call} entries 65536 waiting 65536", *lines]) + "\n"
+        words = Words("entries 65536 waiting 65536")
+        return mirror_asked(Row("mirror", words, [*made, *ends], Bytes()), self.module)
 
 
 class Answer(NamedTuple):
@@ -50,34 +53,21 @@ class Answer(NamedTuple):
 
 def answers(keeper: Keeper, made: List[List[str]]) -> Iterator[Answer]:
     """What mirrors say that make these steps, each its own."""
-    text = "\n".join(map(keeper.row, made))
-    found: List[List[str]] = []
-    # Files, since the program writes each line by itself.
-    with tempfile.TemporaryFile("w+") as rows, tempfile.TemporaryFile("w+") as out:
-        rows.write(text)
-        rows.seek(0)
-        subprocess.run([keeper.program], stdin=rows, stdout=out, check=True)
-        out.seek(0)
-        for line in out:
-            if line.startswith(f"{keeper.call} "):
-                found.append([])
-            elif line.startswith("= "):
-                found[-1].append(line[2:-1])
-    for lines in found:
-        at = max(it for it, line in enumerate(lines) if line.startswith("link "))
+    ran = run(keeper.program, map(keeper.asked, made))
+    if ran.status or ran.errors:
+        raise RuntimeError(f"{keeper.program}: status {ran.status}: {ran.errors}")
+    for steps_made, found in zip(made, answers_in(ran.output)):
+        said = [line for it in steps_made for line in mirror_lines(it, found)]
         states: Dict[str, str] = {}
-        tables: Dict[str, Dict[str, str]] = {}
-        for kind, line in zip(KINDS, lines[at : at + 5]):
-            _, _, state = line.split(" ", 2)
+        for line in mirror_lines("stale", found):
+            kind, _, state = line.split(" ", 2)
             states[kind] = state
-        kinds = iter(KINDS)
-        for line in lines[at + 5 :]:
-            words = line.split()
-            if words[0] == "little":
-                table = tables.setdefault(next(kinds), {})
-            elif words[0] == "key":
-                table[words[1]] = words[5]
-        yield Answer(states, tables, [it for it in lines[:at] if not it.startswith("heard")])
+        tables: Dict[str, Dict[str, str]] = {}
+        for kind in KINDS:
+            words = [it.split() for it in mirror_lines(f"table {kind}", found)]
+            tables[kind] = {it[1]: it[5] for it in words if it[0] == "key"}
+        found.end()
+        yield Answer(states, tables, [it for it in said if not it.startswith("heard")])
 
 
 def whole(parts: Sequence[Answer]) -> Answer:

@@ -112,7 +112,7 @@ def every_row(browser: Browser) -> Iterator[Case]:
     """Each row of the tree marks the bytes of its head, as the second reading has them."""
     for name, lines in itertools.islice(recordings(), WALKED):
         data = max(datagrams_of(lines), key=len)[:2000] if lines.strip() else b""
-        found = mutations.heads(data, "<")
+        found = mutations.heads(data, "<", mutations.Heads)
         browser.paste(data.hex())
         rows = browser.call("scrolled", "tree")
         walked = browser.call("walk", len(rows))

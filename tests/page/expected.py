@@ -1,12 +1,14 @@
 """What the page is held against: the program, rtnl-record, and the recordings that both read."""
 import glob
 import os
+import re
 import subprocess
 import sys
 from typing import Iterator, List, NamedTuple, Tuple
 
 ROOT = os.path.dirname(os.path.dirname(os.path.dirname(os.path.realpath(__file__))))
 PROGRAM = os.environ["RTNL_PROGRAM"]
+KERNEL_ERROR = re.compile(r"rtnl: datagram \d+: (\w+ refused|type \d+ refused|dump failed): ")
 FOLDERS = ("examples", "tests/data/recordings", "measure", "../shared/recordings",
            "../shared/broken")
 
@@ -23,9 +25,12 @@ def shown(lines: str, order: str = "little", form: str = "text") -> str:
 
 
 def explained(lines: str, order: str = "little") -> List[str]:
-    """What --explain says of each refused datagram, without the bytes at its end."""
+    """What --explain says of each refused datagram, without the bytes at its end. What it says
+    of a kernel's error stands in an accepted datagram, which the page doesn't go to.
+    """
     said = run("check", "--explain", "--order", order, data=lines)[1].splitlines()
-    found = [line.removeprefix("rtnl: ") for line in said if line.startswith("rtnl: datagram ")]
+    found = [line.removeprefix("rtnl: ") for line in said if line.startswith("rtnl: datagram ")
+             and not KERNEL_ERROR.match(line)]
     return [line.rpartition(": ")[0] if "[" in line else line for line in found]
 
 

@@ -8,7 +8,7 @@ import sys
 import tempfile
 
 ROOT = f"{os.path.dirname(os.path.realpath(__file__))}/../.."
-LARGEST = 200000
+LARGEST = 260000
 
 
 def built(folder: str) -> bytes:

@@ -158,7 +158,7 @@ def policy(browser: Browser) -> Iterator[Case]:
     answer = browser.call("workerConnects")
     yield says("no connection by a worker", answer == "refused", answer)
     browser.complaints()
-    yield says("the size", len(text.encode()) <= 200_000, len(text.encode()))
+    yield says("the size", len(text.encode()) <= 260_000, len(text.encode()))
 
 
 def older(page: str) -> Iterator[Case]:

@@ -27,7 +27,7 @@ expect 'JSON: a quotation mark and a backslash' 0 '{"datagram":1,"bytes":40,"mes
   <<<'28000000 1100 0000 00000000 00000000 00000000 00000000 00000000 00000000 08000300 61225c00'
 expect 'JSON: a request' 0 '{"datagram":1,"bytes":17,"messages":[{"message":18,"type":"getlink","flags":769,"flag_names":["REQUEST","ROOT","MATCH"],"seq":1,"port":0,"get":{"family":0,"tail":""}}]}' \
   '' show --format json <<<"$short_get"
-expect 'JSON: an ERROR' 0 '{"datagram":1,"bytes":36,"messages":[{"message":2,"type":"error","flags":0,"flag_names":[],"seq":1,"port":12345,"error":{"code":-1,"answers":{"len":32,"type":18,"flags":769,"seq":1,"port":0},"tail":""}}]}' \
+expect 'JSON: an ERROR' 0 '{"datagram":1,"bytes":36,"messages":[{"message":2,"type":"error","flags":0,"flag_names":[],"seq":1,"port":12345,"error":{"code":-1,"answers":{"len":32,"type":18,"flags":769,"seq":1,"port":0,"kind":"GETLINK"},"tail":""}}]}' \
   '' show --format json <<<"$refusal"
 expect 'JSON: a type of no family' 0 '{"datagram":1,"bytes":18,"messages":[{"message":65535,"type":"other","flags":0,"flag_names":[],"seq":1,"port":12345,"bytes":"abcd"}]}' \
   '' show --format json <<<'12000000 ffff 0000 01000000 39300000 ABCD'
@@ -70,10 +70,10 @@ expect 'JSON of table: ended by OVERRUN' 1 '{"dump":"link","seq":1,"port":12345,
   '' "${links_json[@]}" <<<'10000000 0400 0000 01000000 39300000'
 expect 'JSON of table: empty input' 1 '{"dump":"link","seq":1,"port":12345,"end":"none","entries":0,"missed":0,"ignored":0,"unfed":0,"damaged":false,"interrupted":false,"received":0,"visits":0,"complete":false}' \
   '' "${links_json[@]}" </dev/null
-expect 'JSON of table: a neighbour' 0 '{"entry":1,"neigh":{"family":10,"index":2,"state":2,"state_names":["REACHABLE"],"flags":128,"flag_names":["ROUTER"],"type":1,"attrs":[{"number":1,"name":"DST","flags":[],"form":"ipv6","value":"fe80:0000:0000:0000:0000:0000:0000:0001"},{"number":2,"name":"LLADDR","flags":[],"form":"hex","value":"020000000001"}]}}
+expect 'JSON of table: a neighbour' 0 '{"entry":1,"neigh":{"family":10,"index":2,"state":2,"state_names":["REACHABLE"],"flags":128,"flag_names":["ROUTER"],"type":1,"attrs":[{"number":1,"name":"DST","flags":[],"form":"ipv6","value":"fe80:0000:0000:0000:0000:0000:0000:0001"},{"number":2,"name":"LLADDR","flags":[],"form":"hex","value":"020000000001","data":"02:00:00:00:00:01"}]}}
 {"dump":"neigh","seq":1,"port":12345,"end":"done","code":0,"entries":1,"missed":0,"ignored":0,"unfed":0,"damaged":false,"interrupted":false,"received":80,"visits":32,"complete":true}' \
   '' table --kind neigh --seq 1 --port 12345 --format json <<<"$neighbour $finish"
-expect 'JSON of table: a rule' 0 '{"entry":1,"rule":{"family":2,"dst_len":0,"src_len":0,"tos":0,"table":254,"action":1,"flags":0,"attrs":[{"number":15,"name":"TABLE","flags":[],"form":"u32","value":1000},{"number":6,"name":"PRIORITY","flags":[],"form":"u32","value":32766}]}}
+expect 'JSON of table: a rule' 0 '{"entry":1,"rule":{"family":2,"dst_len":0,"src_len":0,"tos":0,"table":254,"action":1,"flags":0,"attrs":[{"number":15,"name":"TABLE","flags":[],"form":"u32","value":1000,"data":{"number":1000,"name":null}},{"number":6,"name":"PRIORITY","flags":[],"form":"u32","value":32766}]}}
 {"dump":"rule","seq":1,"port":12345,"end":"done","code":0,"entries":1,"missed":0,"ignored":0,"unfed":0,"damaged":false,"interrupted":false,"received":64,"visits":16,"complete":true}' \
   '' table --kind rule --seq 1 --port 12345 --format json <<<"$rule $finish"
 expect 'JSON of table: an address' 0 '{"entry":1,"addr":{"family":2,"prefix":8,"flags":128,"scope":254,"index":1,"attrs":[{"number":1,"name":"ADDRESS","flags":[],"form":"ipv4","value":"127.0.0.1"},{"number":2,"name":"LOCAL","flags":[],"form":"ipv4","value":"127.0.0.1"},{"number":3,"name":"LABEL","flags":[],"form":"text","value":"lo"}]}}

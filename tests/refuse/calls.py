@@ -16,40 +16,33 @@ is refused in the row, one refusal after another:
 that of the line in whose place it stands; `visits ALL` for the same, of which the last is that of
 the line. All other lines of the table are printed as they stand. Each refusal is seen. Where a
 growth is refused before a call, or while its answer is written, the program ends as out of memory,
-and has printed the table up to there. Where a growth was not needed, it prints the table.
+and has answered the rows up to there. Where a growth was not needed, it answers all.
 
 The last line is 'N passed, M failed', and the status is 1 where a case failed.
 """
 import os
 import re
-import subprocess
 import sys
 import tempfile
 from dataclasses import dataclass
 from glob import glob
 from itertools import takewhile
-from typing import Iterator, List, NamedTuple, Optional, Tuple
+from typing import Iterator, List, Optional, Tuple
 
 sys.dont_write_bytecode = True
 HERE = os.path.dirname(os.path.realpath(__file__))
 ROOT = os.path.dirname(os.path.dirname(HERE))
-sys.path.insert(0, f"{HERE}/../helpers")
+sys.path[:0] = [f"{HERE}/../helpers", f"{HERE}/../rows"]
+from asking import Table
 from counting import counted
+from flat import Run, Wrong, run
 from proved import is_proved
 
 PROGRAM = f"{ROOT}/crates/rtnl_rows/out/rtnl_rows"
-# How the program ends where memory runs out outside of the calls.
-OUT_OF_MEMORY = 4, "rtnl_rows: out of memory\n"
+# The status of the program where memory runs out outside of the calls.
+OUT_OF_MEMORY = 4
 HEAD = re.compile(r"# refused (at|from|before) (\d+)(?: to (\d+))?$")
 VISITS = re.compile(r"visits (\d+|SOME|ALL)\b")
-
-
-class Run(NamedTuple):
-    """How a run ended, and what it printed."""
-
-    status: int
-    errors: str
-    lines: List[str]
 
 
 @dataclass
@@ -111,14 +104,17 @@ def is_refused_so(refusal: Refusal, table: List[str], lines: List[str]) -> bool:
     return True
 
 
-def wrong_with(ran: Run, table: List[str], refusals: List[Refusal]) -> List[str]:
-    """What is wrong with a run in which a growth was refused."""
-    status, errors, lines = ran
-    if (status, errors) == OUT_OF_MEMORY:
-        is_front = len(lines) < len(table) and lines == table[:len(lines)]
-        return [] if is_front else ["it is out of memory, and what it printed is no front"]
-    if status or errors:
-        return [f"status {status}, {errors.strip()}"]
+def wrong_with(ran: Run, whole: Run, text: str, refusals: List[Refusal]) -> List[str]:
+    """What is wrong with a run in which a growth was refused, beside one in which none was."""
+    if ran.status == OUT_OF_MEMORY and not ran.errors:
+        is_front = ran.output != whole.output and whole.output.startswith(ran.output)
+        return [] if is_front else ["it is out of memory, and what it answered is no front"]
+    if ran.status or ran.errors:
+        return [f"status {ran.status}, {ran.errors.strip()}"]
+    try:
+        table, lines = text.splitlines(), Table(text).shown(ran.output)
+    except Wrong as by:
+        return [str(by)]
     if lines == table or any(is_refused_so(it, table, lines) for it in refusals):
         return []
     place = len([*takewhile(lambda it: it[0] == it[1], zip(table, lines))])
@@ -136,30 +132,30 @@ def wrong_of(refusal: Refusal, table: List[str]) -> List[str]:
     return [f"visits {refusal.visits} were answered with the last refusal"]
 
 
-def run(path: str, library: str, number: int) -> Optional[Run]:
+def refused_run(text: str, library: str, number: int) -> Optional[Run]:
     """The run in which the growth of this number is refused, or none where it isn't reached."""
-    with tempfile.TemporaryDirectory() as room, open(path, encoding="utf-8") as table:
+    with tempfile.TemporaryDirectory() as room:
         told = {"REFUSE": str(number), "REFUSED": f"{room}/refused", "LD_PRELOAD": library}
-        ran = subprocess.run([PROGRAM], stdin=table, stdout=subprocess.PIPE, check=False, text=True,
-                             stderr=subprocess.PIPE, env={**os.environ, **told})
+        ran = run(PROGRAM, Table(text).asked, told)
         if number and not os.path.exists(told["REFUSED"]):
             return None
-    return Run(ran.returncode, ran.stderr, ran.stdout.splitlines())
+    return ran
 
 
 def tried(path: str, library: str) -> Iterator[Tuple[str, List[str]]]:
-    """The cases of a table: each growth, none, and each refusal."""
+    """The cases of a table: none, each growth, and each refusal."""
     name, number = os.path.basename(path), 1
-    with open(path, encoding="utf-8") as text:
-        table = text.read().splitlines()
-    refusals = [*refusals_in(table)]
-    while ran := run(path, library, number):
-        yield f"{name}, growth {number}", wrong_with(ran, table, refusals)
-        number += 1
-    is_whole = run(path, library, 0) == Run(0, "", table)
+    with open(path, encoding="utf-8") as file:
+        text = file.read()
+    refusals = [*refusals_in(text.splitlines())]
+    whole = run(PROGRAM, Table(text).asked)
+    is_whole = not whole.status and Table(text).shown(whole.output) == text.splitlines()
     yield f"{name}, no growth refused", [] if is_whole else ["it isn't printed as it stands"]
+    while ran := refused_run(text, library, number):
+        yield f"{name}, growth {number}", wrong_with(ran, whole, text, refusals)
+        number += 1
     for it in refusals:
-        yield f"{name}, {it.name}", wrong_of(it, table)
+        yield f"{name}, {it.name}", wrong_of(it, text.splitlines())
     count = sum(it.count for it in refusals)
     print(f"{name}: {number - 1} growths, {count} of them in {len(refusals)} places of its rows")
 

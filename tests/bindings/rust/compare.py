@@ -29,6 +29,8 @@ from json_of import Object, VIEWS, viewed
 ROOT = os.path.realpath(f"{HERE}/../../..")
 AS_JSON, RTNL = sys.argv[1:3]
 Case = Tuple[str, List[str]]
+# The lists inside others for whose attributes the library has names.
+LISTS = ("LINKINFO", "METRICS")
 # What both say of how a dump has ended.
 STATUS = "end code ignored damaged interrupted received visits complete entries missed".split()
 
@@ -101,19 +103,31 @@ def stream(path: str, family: str, ids: List[str], shown: List[Object]) -> List[
     return difference(wanted, found)
 
 
-def attribute(of: Object, found: Object) -> bool:
-    """Whether an attribute is the same in both."""
+def same_name(name: Optional[str], found: Optional[str], is_known: bool) -> bool:
+    """Whether an attribute has the same name in both. JSON has names that the library has not: of
+    numbers that the kernel doesn't use, and in lists other than those of LISTS."""
+    if name is None:
+        return True
+    if found is None:
+        return not is_known or name.startswith("UNUSED")
+    return found.endswith(f"_{name}")
+
+
+def attribute(of: Object, found: Object, is_known: bool = True) -> bool:
+    """Whether an attribute is the same in both, in a list that the library has names for."""
     flags = [name for name in ("nested", "net") if found[name]]
     if (of["number"], of["flags"]) != (found["number"], flags):
         return False
-    if of["name"] is not None and not str(found["name"]).endswith(f"_{of['name']}"):
+    if not same_name(of["name"], found["name"], is_known):
         return False
     if "items" in of:
         inside = found.get(of["form"])
         if inside is None or len(inside) != len(of["items"]):
             return False
-        same = attribute if of["form"] == "list" else next_hop
-        return all(map(same, of["items"], inside))
+        if of["form"] == "hops":
+            return all(map(next_hop, of["items"], inside))
+        names = of["name"] in LISTS
+        return all(attribute(*pair, names) for pair in zip(of["items"], inside))
     return "payload" in found and of["value"] == value(of["form"], found)
 
 
