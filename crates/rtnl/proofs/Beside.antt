@@ -11,7 +11,7 @@ use Rattle.nl_values.specs.declared.format.Number.TheVariants.{U32, U64}
 use Rattle.nl_values.specs.declared.format.Format.{Format}
 use Rattle.nl_values.specs.declared.format.Format.TheVariants as format
 use Rattle.rtnl.specs.Data.{sense_at}
-use Rattle.rtnl.specs.MessagesJson.{is_read, says_all, unless_said}
+use Rattle.rtnl.specs.MessagesJson.{is_read, says_all, sense_beside, unless_said}
 use Rattle.rtnl.specs.Values.{Reading, u8, u16, u32, text, ipv4, ipv6, hex}
 
 -- of two meanings nothing is left to say where nothing is of either
@@ -69,7 +69,12 @@ module _ (r : Reading) (o : Order) (depth level : ℕ) (kind bs : List ℕ) wher
   sense_said (format.Chosen choice selector) p = absurd cc
 
 -- nothing is left to say of a payload
-pub all_said : (r : Reading) (o : Order) (levels : ℕ) (f : Format) (kind bs : List ℕ) → says_all r f ≡ true → unless_said r (sense_at o levels f kind bs) ≡ sense.unknown
+all_said : (r : Reading) (o : Order) (levels : ℕ) (f : Format) (kind bs : List ℕ) → says_all r f ≡ true → unless_said r (sense_at o levels f kind bs) ≡ sense.unknown
 all_said r o levels f kind bs p =
     either r (nat_lt LONGEST_REGION (length bs)) sense.unknown (sense_in o STANDARD_LEVELS (STANDARD_LEVELS - levels) f kind bs)
     (none r) (sense_said r o STANDARD_LEVELS (STANDARD_LEVELS - levels) kind bs f p)
+
+-- nor is anything meant beside it
+pub nothing_beside : (r : Reading) (o : Order) (net : Bool) (f : Format) (kind bs : List ℕ) → says_all r f ≡ true → sense_beside o r net f kind bs ≡ sense.unknown
+nothing_beside r o true f kind bs p = refl
+nothing_beside r o false f kind bs p = all_said r o STANDARD_LEVELS f kind bs p

@@ -313,6 +313,27 @@ signed_field w name z plain =
     ap (λ t. 34 ∷ t) (sym (append_assoc name (codes "\":") digits)) ∙ ap (λ t. t ++ digits) named in
     more w (key name ∷ []) (json_tokens (signed z)) ∙ sym (opens w (key name) (json_tokens (signed z)) _ true refl words refl)
 
+pub signed_written : (w : Line) (name : List ℕ) (z : ℤ) → IsUnescaped name
+    → w ⊕ fields_tokens ((name, signed z) ∷ []) ≡ opened w (codes "\"" ++ (name ++ (codes "\":" ++ (signed_decimal z ++ [])))) true
+signed_written w name z plain = ap (λ ts. w ⊕ ts) (one_field name (signed z)) ∙ sym (more w (key name ∷ []) (json_tokens (signed z))) ∙ signed_field w name z plain
+
+-- what a next hop says of itself behind its flags, put together
+pub hop_numbers_written : (w : Line) (n : ℕ) (z : ℤ)
+    → w ⊕ fields_tokens ((codes "hops", number n) ∷ (codes "index", signed z) ∷ []) ≡ opened w (codes "\"hops\":" ++ (decimal n ++ (codes ",\"index\":" ++ (signed_decimal z ++ [])))) true
+unfolding fields_tokens print_from escape_byte
+hop_numbers_written w n z = sym (fields_together w ((codes "hops", number n) ∷ (codes "index", signed z) ∷ []) _ refl refl)
+
+-- a field with an array of nothing that is put together
+pub empty_array_written : (w : Line) (name : List ℕ) → IsUnescaped name
+    → w ⊕ fields_tokens ((name, array []) ∷ []) ≡ opened w (codes "\"" ++ (name ++ (codes "\":[]" ++ []))) true
+unfolding fields_tokens print_from array
+empty_array_written w name plain =
+    let named : 34 ∷ (name ++ codes "\":") ≡ token_text (key name) =
+    ap (λ t. 34 ∷ (t ++ codes "\":")) (sym (no_escape name plain)) ∙ sym (append_assoc (34 ∷ escape name) (codes "\"") (codes ":")) in
+    let words : (codes "\"" ++ (name ++ (codes "\":[]" ++ []))) ≡ print (fields_tokens ((name, array []) ∷ [])) =
+    ap (λ t. 34 ∷ t) (sym (append_assoc name (codes "\":") (codes "[]"))) ∙ ap (λ t. t ++ codes "[]") named in
+    sym (fields_together w ((name, array []) ∷ []) _ words refl)
+
 -- a value of an enumeration and its name that are put together
 pub brief_value : (w : Line) (z : ℤ) (name : List ℕ) → IsUnescaped name
     → w ⊕ json_tokens (value_json z (Some name)) ≡ opened w (codes "{\"number\":" ++ (signed_decimal z ++ (codes ",\"name\":\"" ++ (name ++ (codes "\"}" ++ []))))) true

@@ -21,6 +21,7 @@ use Rattle.rtnl.specs.Values as values
 use Rattle.rtnl.specs.Values.{group_at, groups_text, ipv4_text, ipv6_text}
 use Rattle.rtnl.proofs.Digits.{four_digits, two_digits}
 use Rattle.rtnl.specs.Data.{byte_behind, mac_text}
+use Rattle.rtnl.specs.Names.{names_set}
 
 both : (a b : Bool) → a ≡ true → b ≡ true → (a && b) ≡ true
 both a b p q = rw (p, q) refl
@@ -108,6 +109,17 @@ unescaped_bits bits.Link = refl
 unescaped_bits bits.NeighState = refl
 unescaped_bits bits.NeighFlags = refl
 unescaped_bits bits.NextHop = refl
+
+-- no bit of none
+pub no_bits : (b : Bits) → names_set (bit_names b) 0 ≡ []
+no_bits (bits.Message Common) = refl
+no_bits (bits.Message Get) = refl
+no_bits (bits.Message New) = refl
+no_bits (bits.Message Error) = refl
+no_bits bits.Link = refl
+no_bits bits.NeighState = refl
+no_bits bits.NeighFlags = refl
+no_bits bits.NextHop = refl
 
 unescaped_verb : (v : Verb) → IsUnescaped (verb_name v)
 unescaped_verb verb.New = refl

@@ -130,11 +130,14 @@ says_all r format.Ipv6 = is_read r
 says_all r format.Ip = is_read r
 says_all r f = false
 
+-- the form and the value of a payload of which this is read, and what it means beside that
+abbrev pub read_fields : Order → List ℕ → Reading → Bool → Format → List ℕ → List ℕ → List Field
+read_fields o family r net f kind payload =
+    reading_fields r ++ data_fields (shown_sense o family (sense_beside o r net f kind payload) payload)
+
 -- the form and the value of a payload, and what it means
 abbrev pub bytes_fields : Order → List ℕ → Style → Bool → Format → List ℕ → List ℕ → List Field
-bytes_fields o family style net f kind payload =
-    reading_fields (reading_of o style net payload)
-    ++ data_fields (shown_sense o family (sense_beside o (reading_of o style net payload) net f kind payload) payload)
+bytes_fields o family style net f kind payload = read_fields o family (reading_of o style net payload) net f kind payload
 
 -- the set of the attributes that a payload of a format holds
 abbrev pub set_of_format : Format → Option Set

@@ -1,6 +1,6 @@
 //! Arrays of the names of bits.
 
-ghost use Rattle.std.specs.Prelude.{◌≡◌, ◌∷◌, [], List, OnOk, map, true};
+ghost use Rattle.std.specs.Prelude.{◌≡◌, ◌≤◌, ◌∷◌, [], List, OnOk, length, map, true};
 ghost use Rattle.rtnl.specs.Json.{IsUnescaped, ◌⊕◌, fields_tokens, string, values_tokens};
 ghost use Rattle.rtnl.specs.NamedBits.{BitName as AnyBitName, bit_names, bit_view};
 ghost use Rattle.rtnl.specs.Names.{are_unescaped, names_json, names_set};
@@ -38,17 +38,21 @@ fn push_bits(line: &mut Line, table: &[BitName], number: Number) -> Result<(), A
 }
 
 /// Writes a field with the names of the bits that are set, lowest first.
-#[tactic(auto, unfolding(crate::specs::Names::names_json), using(crate::proofs::Sets::whole_value, crate::proofs::Unescaped::unescaped_bits))]
+#[tactic(auto, unfolding(crate::specs::Names::names_json), using(crate::proofs::Sets::whole_value, crate::proofs::Unescaped::unescaped_bits, crate::proofs::Unescaped::no_bits))]
 pub(crate) fn push_names(
     line: &mut Line,
     name: &str,
     bits: Bits,
     number: u32,
 ) -> Result<(), AllocError>
-    requires { IsUnescaped name.now }
+    requires plain { IsUnescaped name.now }
+    requires short { length name.now ≤ 64 }
     ensures { OnOk result (line.new ≡ line.old
         ⊕ fields_tokens ((name.now, names_json (bit_names bits) number) ∷ [])) }
 {
+    if number == 0 {
+        return line.empty_array(name);
+    }
     line.key(name)?;
     line.begin_array()?;
     push_bits(line, bit_names(bits), Number(number))?;

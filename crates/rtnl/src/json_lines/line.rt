@@ -6,7 +6,7 @@ ghost use Rattle.json.specs.Print.{quoted};
 ghost use Rattle.json.specs.Run.{is_plain};
 ghost use Rattle.json.specs.Token.{begin_array, begin_object, end_array, end_object, key};
 ghost use Rattle.json.specs.Tree.{json_tokens};
-ghost use Rattle.rtnl.specs.Json.{Field, IsUnescaped, ◌⊕◌, boolean, closed, digits, fields_tokens};
+ghost use Rattle.rtnl.specs.Json.{Field, IsUnescaped, ◌⊕◌, array, boolean, closed, digits, fields_tokens};
 ghost use Rattle.rtnl.specs.Json.{is_unescaped, json_line, number, object, object_behind, opened};
 ghost use Rattle.rtnl.specs.Json.{signed, string};
 
@@ -258,24 +258,35 @@ impl Line {
         self.piece(&mut piece, true)
     }
 
-    /// A number with a sign.
+    /// A field with a signed number, put together.
     #[inline(always)]
-    fn integer(&mut self, z: i32) -> Result<(), AllocError>
-        ensures { OnOk result (self.new ≡ self.old ⊕ json_tokens (signed z)) }
+    #[tactic(auto, using(crate::proofs::Json::signed_written))]
+    pub(crate) fn signed(&mut self, name: &str, z: i32) -> Result<(), AllocError>
+        requires plain { IsUnescaped name.now }
+        requires short { length name.now ≤ 64 }
+        ensures { OnOk result (self.new ≡ self.old ⊕ fields_tokens ((name.now, signed z) ∷ [])) }
     {
         let mut piece = Segment::new();
         piece.put_signed(z.into());
+        piece.put("\":");
+        piece.put(name);
+        piece.put("\"");
         self.piece(&mut piece, true)
     }
 
-    /// A field with a signed number.
-    #[tactic(auto, using(crate::proofs::Sets::one))]
-    pub(crate) fn signed(&mut self, name: &str, z: i32) -> Result<(), AllocError>
-        requires { IsUnescaped name.now }
-        ensures { OnOk result (self.new ≡ self.old ⊕ fields_tokens ((name.now, signed z) ∷ [])) }
+    /// A field with an array of nothing, put together.
+    #[inline(always)]
+    #[tactic(auto, using(crate::proofs::Json::empty_array_written))]
+    pub(crate) fn empty_array(&mut self, name: &str) -> Result<(), AllocError>
+        requires plain { IsUnescaped name.now }
+        requires short { length name.now ≤ 64 }
+        ensures { OnOk result (self.new ≡ self.old ⊕ fields_tokens ((name.now, array []) ∷ [])) }
     {
-        self.key(name)?;
-        self.integer(z)
+        let mut piece = Segment::new();
+        piece.put("\":[]");
+        piece.put(name);
+        piece.put("\"");
+        self.piece(&mut piece, true)
     }
 
     /// True or false.

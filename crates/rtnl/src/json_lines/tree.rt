@@ -9,11 +9,11 @@ ghost use Rattle.nl_attr.specs.View.{attrs_view, hop_view, hops_view, value_view
 ghost use Rattle.nl_values.specs.Meanings.{sense_of};
 ghost use Rattle.rtnl.specs.Attributes.{attribute_style, inner_context};
 ghost use Rattle.rtnl.specs.Data.{longest_name, name_json};
-ghost use Rattle.rtnl.specs.Json.{IsUnescaped, ◌⊕◌, array, fields_tokens, object, value_text};
+ghost use Rattle.rtnl.specs.Json.{IsUnescaped, ◌⊕◌, array, fields_tokens, number, object, signed, value_text};
 ghost use Rattle.rtnl.specs.Json.{values_tokens};
 ghost use Rattle.rtnl.specs.MessagesJson.{IsReady, attr_front, bytes_fields};
 ghost use Rattle.rtnl.specs.MessagesJson.{flags_json, hop_front, hops_json, is_said, items_fields};
-ghost use Rattle.rtnl.specs.MessagesJson.{list_json, reading_fields, says_all, sense_beside};
+ghost use Rattle.rtnl.specs.MessagesJson.{list_json, read_fields, reading_fields, says_all, sense_beside};
 ghost use Rattle.rtnl.specs.MessagesJson.{set_inside, value_fields};
 ghost use Rattle.rtnl.specs.Values.{reading_view};
 
@@ -100,7 +100,7 @@ fn push_attr_front(
 }
 
 /// Writes an attribute of which all is put together.
-#[inline(always)]
+#[inline(never)]
 fn push_whole(
     line: &mut Line,
     name: &str,
@@ -179,6 +179,7 @@ fn is_said(reading: Reading<'_>, meaning: Meaning<'_>) -> bool
 
 /// Whether what is read says all that bytes of a format can mean, so that they need not be read
 /// once more.
+#[inline(always)]
 fn says_all(reading: Reading<'_>, format: Format) -> bool
     ensures { result ≡ says_all (reading_view reading.entry) format }
 {
@@ -193,7 +194,7 @@ fn says_all(reading: Reading<'_>, format: Format) -> bool
 
 /// What the bytes of an attribute mean beside what is read of them. It is `Unknown` where that says
 /// the same, and where the flag of the network's order stands.
-#[tactic(auto, using(crate::proofs::Beside::all_said))]
+#[tactic(auto, using(crate::proofs::Beside::nothing_beside))]
 pub(crate) fn meaning_beside<'a>(
     scope: Scope<'_>,
     reading: Reading<'_>,
@@ -218,7 +219,37 @@ pub(crate) fn meaning_beside<'a>(
     meaning
 }
 
+/// Writes an attribute of bytes of which this is read, and what they mean beside that.
+#[inline(never)]
+fn push_read_bytes(
+    line: &mut Line,
+    scope: Scope<'_>,
+    reading: Reading<'_>,
+    known: Attribute,
+    kind: &[u8],
+    number: u16,
+    flags: AttrFlags,
+    payload: &[u8],
+) -> Result<(), AllocError>
+    requires plain { IsUnescaped known.name.now }
+    requires short { length known.name.now ≤ longest_name }
+    ensures { OnOk result (line.new ≡ line.old ⊕ json_tokens (object
+        (attr_front known.name.now number flags
+        ++ read_fields scope.entry.order scope.entry.family.now (reading_view reading.entry)
+        flags.net known.format kind.now payload.now))) }
+{
+    let meaning = meaning_beside(scope, reading, flags.net, known.format, kind, payload);
+    if matches!(meaning, Meaning::Unknown) && is_ready(reading) {
+        return push_whole(line, known.name, number, flags, reading);
+    }
+    push_read(line, known.name, number, flags, reading)?;
+    push_data(line, scope, meaning, payload)?;
+    line.end_object()
+}
+
 /// Writes an attribute of bytes.
+#[inline(always)]
+#[tactic(auto, using(crate::proofs::Beside::nothing_beside))]
 fn push_bytes(
     line: &mut Line,
     scope: Scope<'_>,
@@ -237,13 +268,24 @@ fn push_bytes(
         flags.net known.format kind.now payload.now))) }
 {
     let reading = read_payload(scope.order, style, flags.net, payload);
-    let meaning = meaning_beside(scope, reading, flags.net, known.format, kind, payload);
-    if matches!(meaning, Meaning::Unknown) && is_ready(reading) {
+    if says_all(reading, known.format) && is_ready(reading) {
         return push_whole(line, known.name, number, flags, reading);
     }
-    push_read(line, known.name, number, flags, reading)?;
-    push_data(line, scope, meaning, payload)?;
-    line.end_object()
+    push_read_bytes(line, scope, reading, known, kind, number, flags, payload)
+}
+
+/// Writes how many next hops one stands for, and its interface.
+#[inline(always)]
+#[tactic(auto, using(crate::proofs::Json::hop_numbers_written))]
+fn push_hop_numbers(line: &mut Line, hops: u8, index: i32) -> Result<(), AllocError>
+    ensures { OnOk result (line.new ≡ line.old ⊕ fields_tokens
+        ((codes "hops", number hops) ∷ (codes "index", signed index) ∷ [])) }
+{
+    let mut piece = Segment::new();
+    piece.put_signed(index.into());
+    piece.put(",\"index\":");
+    piece.put_small("\"hops\":", hops);
+    line.piece(&mut piece, true)
 }
 
 /// Writes what a next hop says of itself.
@@ -253,8 +295,7 @@ fn push_hop_front(line: &mut Line, flags: u8, hops: u8, index: i32) -> Result<()
 {
     line.number("flags", flags.into())?;
     push_names(line, "flag_names", Bits::NextHop, flags as u32)?;
-    line.number("hops", hops.into())?;
-    line.signed("index", index)
+    push_hop_numbers(line, hops, index)
 }
 
 /// The set of the attributes that an attribute of a format holds, if it is known.
@@ -272,6 +313,7 @@ pub(crate) fn set_inside(order: Order, format: Format, kind: &[u8]) -> Option<Se
 }
 
 /// Writes an attribute that holds a list.
+#[inline(never)]
 #[cycle(writing)]
 fn push_list(
     line: &mut Line,
@@ -298,6 +340,7 @@ fn push_list(
 }
 
 /// Writes an attribute that holds next hops.
+#[inline(never)]
 #[cycle(writing)]
 fn push_hops(
     line: &mut Line,
@@ -326,6 +369,7 @@ fn push_hops(
 }
 
 /// Writes an attribute, of which this is known.
+#[inline(always)]
 #[cycle(writing)]
 fn push_attr(
     line: &mut Line,
@@ -344,7 +388,6 @@ fn push_attr(
         (inner_context (holds_of ctx attr.now.number attr.now.flags))
         known.format kind.now (value_view attr.now.value)))) }
 {
-    let inside = inner(ctx, attr.number, attr.flags);
     match &attr.value {
         Value::Bytes(payload) => {
             let (_, style) = attribute(ctx, attr.number);
@@ -367,7 +410,7 @@ fn push_attr(
             kind,
             attr.number,
             attr.flags,
-            inside,
+            inner(ctx, attr.number, attr.flags),
             attrs,
         ),
         Value::Hops(hops) => push_hops(line, scope, known, kind, attr.number, attr.flags, hops),

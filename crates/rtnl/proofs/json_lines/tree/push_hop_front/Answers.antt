@@ -1,4 +1,4 @@
-use Rattle.std.proofs.Common.{◌≡◌, ◌∷◌, ◌∙◌, [], ap, codes, of_z, rules, to_z, w32}
+use Rattle.std.proofs.Common.{◌≡◌, ◌∷◌, ◌∙◌, ℤ, [], List, ap, codes, of_z, rules, to_z, w32}
 use Rattle.rtnl.proofs.Common.{IfOk-weaker, hop_flags, names_json}
 use Rattle.rtnl.specs.Json.{Field, ◌⊕◌, fields_tokens, number, signed}
 use Rattle.rtnl.specs.MessagesJson.{hop_front}
@@ -12,9 +12,8 @@ returns c =
     let w = c.args.line.now in
     let flags : Field = (codes "flags", number c.args.flags) in
     let names : Field = (codes "flag_names", names_json hop_flags c.args.flags) in
-    IfOk-weaker c.signed.result _ _
-    (λ _ last. then_fields w c.number-2.new.self c.signed.new.self (flags ∷ names ∷ (codes "hops", number c.args.hops) ∷ []) ((codes "index", signed c.args.index) ∷ [])
-    (then_fields w c.push_names.new.line c.number-2.new.self (flags ∷ names ∷ []) ((codes "hops", number c.args.hops) ∷ [])
+    let behind : ℤ → List Field = λ z. (codes "hops", number c.args.hops) ∷ (codes "index", signed z) ∷ [] in
+    IfOk-weaker c.push_hop_numbers.result _ _
+    (λ _ last. then_fields w c.push_names.new.line c.push_hop_numbers.new.line (flags ∷ names ∷ []) (behind c.args.index)
     (then_fields w c.number.new.self c.push_names.new.line (flags ∷ []) (names ∷ []) (search (rules, c.in_ok-number.ensures)) c.in_ok-push_names.ensures)
-    (search (rules, c.in_ok-number-2.ensures)))
-    (last ∙ ap (λ z. c.number-2.new.self ⊕ fields_tokens ((codes "index", signed z) ∷ [])) index)) c.signed.ensures
+    (last ∙ ap (λ z. c.push_names.new.line ⊕ fields_tokens (behind z)) index)) c.push_hop_numbers.ensures

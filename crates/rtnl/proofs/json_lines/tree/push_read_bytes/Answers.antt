@@ -1,11 +1,10 @@
 use Rattle.std.proofs.Common.{◌≡◌, ◌∷◌, ◌∙◌, ap, refl}
-use Rattle.nl_values.specs.Meanings.{sense_of}
-use Rattle.rtnl.proofs.Common.{IfOk-weaker, begin_object, reading_of}
+use Rattle.rtnl.proofs.Common.{IfOk-weaker, begin_object, reading_view}
 use Rattle.rtnl.specs.Data.{data_fields, shown_sense}
 use Rattle.rtnl.specs.Json.{◌⊕◌, fields_tokens}
 use Rattle.rtnl.specs.MessagesJson.{attr_front, reading_fields, sense_beside}
 use Rattle.rtnl.proofs.Objects.{three_parts}
-use Rattle.rtnl.proofs.json_lines.tree.push_bytes.Goals as goal
+use Rattle.rtnl.proofs.json_lines.tree.push_read_bytes.Goals as goal
 
 pub returns : goal.returns
 returns c =
@@ -13,16 +12,12 @@ returns c =
     let o = a.scope.order in
     let family = a.scope.family.now in
     let payload = a.payload.now in
-    let reading = reading_of o a.style a.flags.net payload in
-    let sense = sense_beside o reading a.flags.net a.known.format a.kind.now payload in
-    let read_is = c.read_payload-reading.ensures in
-    let sense_is : sense_of c.meaning_beside-meaning.result ≡ sense = c.meaning_beside-meaning.ensures ∙ ap (λ r. sense_beside o r a.flags.net a.known.format a.kind.now payload) read_is in
+    let reading = reading_view a.reading in
     let front = a.line.now ⊕ (begin_object ∷ fields_tokens (attr_front a.known.name.now a.number a.flags)) in
-    let read : c.push_read.new.line ≡ front ⊕ fields_tokens (reading_fields reading) =
-    c.in_ok-push_read.ensures ∙ ap (λ r. front ⊕ fields_tokens (reading_fields r)) read_is in
+    let sense = sense_beside o reading a.flags.net a.known.format a.kind.now payload in
     let shown : c.push_data.new.line ≡ c.push_read.new.line ⊕ fields_tokens (data_fields (shown_sense o family sense payload)) =
-    c.in_ok-push_data.ensures ∙ ap (λ s. c.push_read.new.line ⊕ fields_tokens (data_fields (shown_sense o family s payload))) sense_is in
+    c.in_ok-push_data.ensures ∙ ap (λ s. c.push_read.new.line ⊕ fields_tokens (data_fields (shown_sense o family s payload))) c.meaning_beside-meaning.ensures in
     IfOk-weaker c.end_object.result _ _
     (λ _ ended. three_parts a.line.now front c.push_read.new.line c.push_data.new.line c.end_object.new.self
     (attr_front a.known.name.now a.number a.flags) (reading_fields reading) (data_fields (shown_sense o family sense payload))
-    refl read shown ended) c.end_object.ensures
+    refl c.in_ok-push_read.ensures shown ended) c.end_object.ensures
