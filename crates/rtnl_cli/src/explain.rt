@@ -239,25 +239,15 @@ fn explain_refusal(
     }
 }
 
-/// Writes of the datagrams that answer a dump, up to its end, why they were refused and what the
-/// kernel says of errors; and of a dump that is in doubt what can be done about what was missed or
-/// ignored, and of which kind the answers are where it is another. A new session begins each dump,
-/// so only memory can be refused.
-fn tell_dump(
+/// Feeds a session the datagrams that answer its dump, up to its end. With `Detail::All` it writes
+/// why they were refused, and what the kernel says of errors.
+fn feed_told(
     rt: &HostRuntime,
+    session: &mut Session,
     found: &[Vec<u8>],
     limits: &Limits,
-    (dump, seed): (Dump, Seed),
     detail: Detail,
-    is_doubted: bool,
 ) -> io::Result<()> {
-    let mut session = Session::with_seed(rt.alloc(), *limits, seed)?;
-    if session
-        .begin(dump.kind, dump.family, dump.seq, dump.port)
-        .is_err()
-    {
-        return Err(AllocError.into());
-    }
     for (index, datagram) in found.iter().enumerate() {
         match session.feed(datagram) {
             Ok(_) if detail == Detail::All => explain_datagram(rt, index + 1, datagram, limits)?,
@@ -270,14 +260,62 @@ fn tell_dump(
             Err(_) => continue,
         }
     }
-    if !is_doubted {
-        return Ok(());
-    }
+    Ok(())
+}
+
+/// Writes what can be done about what a dump missed or ignored, and of which kind its answers are
+/// where it is another.
+fn hint_doubt(
+    rt: &HostRuntime,
+    session: &Session,
+    found: &[Vec<u8>],
+    limits: &Limits,
+    dump: Dump,
+    detail: Detail,
+) -> io::Result<()> {
     if detail != Detail::Least {
-        hint_missed(rt, &session, dump, limits)?;
+        hint_missed(rt, session, dump, limits)?;
         hint_ignored(rt, found, dump, limits)?;
     }
-    hint_kind(rt, &session, found, dump, limits)
+    hint_kind(rt, session, found, dump, limits)
+}
+
+/// Writes what there is to say of a dump, which is begun in a new session, and of its answers.
+fn tell_begun(
+    rt: &HostRuntime,
+    session: &mut Session,
+    found: &[Vec<u8>],
+    limits: &Limits,
+    dump: Dump,
+    detail: Detail,
+    is_doubted: bool,
+) -> io::Result<()> {
+    if session
+        .begin(dump.kind, dump.family, dump.seq, dump.port)
+        .is_err()
+    {
+        return Err(AllocError.into());
+    }
+    feed_told(rt, session, found, limits, detail)?;
+    if is_doubted {
+        hint_doubt(rt, session, found, limits, dump, detail)
+    } else {
+        Ok(())
+    }
+}
+
+/// Writes what there is to say of a dump. A new session begins each dump, so only memory can be
+/// refused. It has one way out at which a session is dropped, since each is dear to prove.
+fn tell_dump(
+    rt: &HostRuntime,
+    found: &[Vec<u8>],
+    limits: &Limits,
+    (dump, seed): (Dump, Seed),
+    detail: Detail,
+    is_doubted: bool,
+) -> io::Result<()> {
+    let mut session = Session::with_seed(rt.alloc(), *limits, seed)?;
+    tell_begun(rt, &mut session, found, limits, dump, detail, is_doubted)
 }
 
 /// Writes what there is to say of the datagrams of a recording. The recording was read, so only
