@@ -1,10 +1,7 @@
 -- What a check finds, by what it answered.
-use Rattle.std.proofs.Common.{◌≡◌, ◌<◌, ◌↔◌, ℕ, IsTrue, Bool, List, length, Result, Ok, Err, IfOk, IfErr, refl, subst}
-use Rattle.nl_frame.specs.declared.reading.ReadError.{ReadError}
 use Rattle.nl_frame.specs.declared.reading.ReadError.TheVariants.{TooLarge, Layout as Fails, Memory}
 use Rattle.nl_frame.specs.Heads.{IsFirstFault, whole}
-use Rattle.nl_frame.specs.Layout.{Layout}
-use Rattle.rtnl_c.proofs.Common.{Bounds, MessageVal, IfFault, written}
+use Rattle.rtnl_c.proofs.Common.{Bounds, MessageVal, IfFault, written, ◌≡◌, ◌<◌, ◌↔◌, ℕ, IsTrue, Bool, List, length, Result, Ok, Err, IfOk, IfErr, refl, ReadError, Layout}
 use Rattle.nl_frame.proofs.Within.{within}
 use Rattle.rtnl_c.specs.Checked.{Checks, finds, no_memory, found}
 
@@ -18,11 +15,8 @@ module _ (b : Bounds) (d : List ℕ) where
       × IfOk r IsWritten
       × IfErr r (λ e. IfFault e (λ f. IsFirstFault b.shape (whole d) f.place f.reason))
 
-  checks_by : (r : Result Bool ReadError) → IsCheck r → Checks b d (found r)
-  checks_by (Ok canonical) s = finds (Ok canonical) (within (Ok canonical) b.datagram (length d) s.0 (λ e. cc), s.1)
-  checks_by (Err TooLarge) s = finds (Err TooLarge) (s.0.0 refl)
-  checks_by (Err (Fails f)) s = finds (Err (Fails f)) (within (Err (Fails f)) b.datagram (length d) s.0 (λ e. cc), s.2)
-  checks_by (Err Memory) s = no_memory
-
-  pub checks_so : (r f : Result Bool ReadError) → r ≡ f → IsCheck r → Checks b d (found f)
-  checks_so r f is s = checks_by f (subst IsCheck is s)
+  pub checks_so : (r : Result Bool ReadError) → IsCheck r → Checks b d (found r)
+  checks_so (Ok canonical) s = finds (Ok canonical) (within (Ok canonical) b.datagram (length d) s.0 (λ e. cc), s.1)
+  checks_so (Err TooLarge) s = finds (Err TooLarge) (s.0.0 refl)
+  checks_so (Err (Fails f)) s = finds (Err (Fails f)) (within (Err (Fails f)) b.datagram (length d) s.0 (λ e. cc), s.2)
+  checks_so (Err Memory) s = no_memory

@@ -1,19 +1,16 @@
 -- A search for the first attribute of a number: what its loop keeps, and what it finds of a list that fits.
 use Rattle.std.proofs.Common.{◌≡◌, ◌≢◌, ◌≤◌, ◌<◌, ◌+◌, ◌-◌, ◌%◌, ◌∙◌, ◌++◌, ℕ, Bool, true, false, cond, eqb, max, List, [], length, take, drop, Option, Some, None, Result, Ok, Err, refl, sym, ap, subst, arith, length-drop, length-append, inl, inr}
 use Rattle.std.proofs.lemmas.Bool.{cases_lt, eq-eqb, ne_eqb}
-use Rattle.rtnl_c.proofs.Common.{drop-drop, take_at, Order, num, kind_of, span_of, Shape}
-use Rattle.nl_attr.specs.declared.fault.Fault.{Fault}
+use Rattle.rtnl_c.proofs.Common.{drop-drop, take_at, Order, num, kind_of, span_of, Shape, Fault, LONGEST_REGION, IsPart, StandsAt, flags_of, payload_of}
 use Rattle.nl_attr.specs.declared.fault.Reason.{Reason}
 use Rattle.nl_attr.specs.declared.fault.Reason.TheVariants.{Cut, BadLength, ShortBody, TooLong, TooDeep}
 use Rattle.nl_attr.specs.declared.tree.AttrFlags.{AttrFlags}
 use Rattle.nl_attr.specs.declared.tree.Ctx.{Ctx}
 use Rattle.nl_attr.specs.declared.walk.attrs.Part.{Part}
-use Rattle.nl_attr.specs.Fixed.{LONGEST_REGION}
 use Rattle.nl_attr.specs.Codes.{reason_code}
 use Rattle.nl_attr.specs.Layout.{Fits, FitsVal, kind_number}
 use Rattle.nl_attr.specs.Tree.{Val, Items, no_items, item, holds_of}
 use Rattle.nl_attr.specs.Views.{Entry, first_of}
-use Rattle.nl_attr.specs.Walk.{IsPart, StandsAt, flags_of, payload_of}
 use Rattle.nl_attr.proofs.Lemmas.Fitting.{IsAttr, attr_is}
 use Rattle.nl_attr.proofs.Lemmas.Numbers.{head_then, past_head}
 use Rattle.nl_attr.proofs.Lemmas.Reading.{sound_within, span_at_least}

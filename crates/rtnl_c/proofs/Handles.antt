@@ -1,12 +1,9 @@
 -- The machine value of a handle: a pointer, and whether it points to anything. Assumes `Logic`.
-use Rattle.rtnl_c.proofs.Common.{◌≡◌, List, [], ◌∷◌, ◌++◌, refl, ◌∙◌, lit<, subst, Option, Some, None, not, ty_bool, ty_ptr, ty_struct, tcons, tnil, Val, vbool, vstruct, of_list, has_ty, WT, ent, emp, Fml, Logic, sem, RattleType, bool, layout, Good}
+use Rattle.rtnl_c.proofs.Common.{◌≡◌, List, [], ◌∷◌, ◌++◌, refl, ◌∙◌, lit<, subst, Option, Some, None, not, ty_bool, ty_ptr, ty_struct, tcons, tnil, Val, vbool, vstruct, of_list, has_ty, WT, ent, emp, Fml, Logic, sem, RattleType, bool, layout, Good, T, Ura, Struct}
 use mathlib.Core.Bool.{Bool, true, false, ◌&&◌}
-use lib.Dec.{T}
-use seplogic.Ra.Ura.{Ura}
 use types.Kit.{Item, Goal, Seq, ‵, ◌$◌, drop, feq_l}
 use denote.RawPtr.{Ptr, RawPtr, block_ptr, null_ptr, ptr_val}
 use denote.Shadow.{shadow, makes_shadow}
-use denote.Struct.Struct.{Struct}
 use Rattle.std.specs.Box.Ownership.{box_owns}
 use Rattle.rtnl_c.specs.Held.{frees, held_owns}
 use Rattle.rtnl_c.proofs.Pointers.{both, both_tt}

@@ -1,17 +1,13 @@
 -- A builder that C keeps: its headers, and the way back.
-use Rattle.std.proofs.Common.{◌≡◌, ◌≢◌, ◌==◌, ℕ, ◌+◌, ◌-◌, ◌<◌, ◌≤◌, ◌⊎◌, List, [], ◌∷◌, length, slice_index_or, slice_set, drop, length-drop, Option, Some, None, Result, Ok, Err, refl, sym, ap, subst, ◌∙◌, arith, inl, inr}
 use Rattle.std.specs.Prelude.{IfOk, IfSome, MatchOption}
-use Rattle.rtnl_c.proofs.Common.{get_or-set_same, get_or-set_other, Order, BuildError, Built, AreOpen, levels_in, order_of, top, BuilderTop, Bounds, AreLimits, bounds_of, Opens, heads_after, left_with, parts_with, over, order_in}
+use Rattle.rtnl_c.proofs.Common.{get_or-set_same, get_or-set_other, Order, BuildError, Built, AreOpen, levels_in, flags_in, num, number_in, order_of, put, top, BuilderTop, Bounds, AreLimits, Opens, Parts, heads_after, left_with, parts_with, over, order_in, ◌≡◌, ◌≢◌, ◌==◌, ℕ, ◌+◌, ◌-◌, ◌<◌, ◌≤◌, ◌⊎◌, List, [], ◌∷◌, length, slice_index_or, slice_set, Option, Some, None, Result, Ok, Err, refl, sym, ap, subst, ◌∙◌, arith, inl, inr, Little, Big, OpenHead, AreWithin, left}
 use Rattle.std.proofs.Math.Nat.{eq-or-lt_of_le}
-use Rattle.nl_attr.specs.declared.order.Order.TheVariants.{Little, Big}
 use Rattle.nl_attr.specs.declared.tree.Ctx.TheVariants.{Link, LinkInfo, Addr, Route, Metrics, Neigh, Rule, Plain}
 use Rattle.nl_attr.specs.declared.tree.Content.{Content}
 use Rattle.nl_attr.specs.declared.tree.Content.TheVariants as content
-use Rattle.nl_frame.specs.declared.building.OpenHead.{OpenHead}
-use Rattle.nl_frame.specs.declared.building.refusal.BuildError.TheVariants.{Mismatch, TooDeep, TooLong, TooLarge, NoRoom, NothingOpen, StillOpen}
 use Rattle.nl_frame.proofs.Opens.{are_open_more}
 use Rattle.rtnl_c.specs.declared.building.BuilderState.{BuilderState}
-use Rattle.rtnl_c.specs.Building.{AreKept, HasNone, IsInnermost, IsKept, IsNone, IsTopOf, Calls, on_none, calls, content_in, content_number, left_closed, order_by, order_number, refusal_in, refusal_number, with_opened}
+use Rattle.rtnl_c.specs.Building.{AreKept, IsKept, IsTopOf, Calls, on_none, calls, content_in, content_number, left_closed, order_by, order_number, refusal_number, with_opened}
 
 -- ---- numbers
 
@@ -30,30 +26,6 @@ content_back (content.List Metrics) = refl
 content_back (content.List Neigh) = refl
 content_back (content.List Rule) = refl
 content_back (content.List Plain) = refl
-
-pub refusal_back : (r : Option BuildError) → refusal_in (refusal_number r) ≡ Some r
-refusal_back None = refl
-refusal_back (Some Mismatch) = refl
-refusal_back (Some TooDeep) = refl
-refusal_back (Some TooLong) = refl
-refusal_back (Some TooLarge) = refl
-refusal_back (Some NoRoom) = refl
-refusal_back (Some NothingOpen) = refl
-refusal_back (Some StillOpen) = refl
-
-pub order_said : (n : ℕ) (o : Order) → order_by n ≡ Some o → n ≡ order_number o
-order_said n Little e = grind arith
-order_said n Big e = grind arith
-
-pub refusal_said : (n : ℕ) (r : Option BuildError) → refusal_in n ≡ Some r → n ≡ refusal_number r
-refusal_said n None e = grind arith
-refusal_said n (Some Mismatch) e = grind arith
-refusal_said n (Some TooDeep) e = grind arith
-refusal_said n (Some TooLong) e = grind arith
-refusal_said n (Some TooLarge) e = grind arith
-refusal_said n (Some NoRoom) e = grind arith
-refusal_said n (Some NothingOpen) e = grind arith
-refusal_said n (Some StillOpen) e = grind arith
 
 pub content_said : (n : ℕ) (c : Content) → content_in n ≡ Some c → n ≡ content_number c
 content_said n content.Bytes e = grind arith
@@ -147,60 +119,48 @@ kept_order big Little e = ap order_kept e
 kept_order big Big e = ap order_kept e
 
 -- a call in the order that is kept is one in the builder's order
-pub ordered : (call : Order → Built → Built) (old new : BuilderState) (before after : List ℕ) (code : ℕ)
+ordered : (call : Order → Built → Built) (old new : BuilderState) (before after : List ℕ) (code : ℕ)
     → Calls (call (order_in (old.big == 1))) old before new after code → Calls (λ b. call (order_of b) b) old before new after code
 ordered call old new before after code (on_none n) = on_none n
 ordered call old new before after code (calls p q is kept bytes e k) =
     calls p q is kept bytes (e ∙ ap (λ o. call o (over p before)) (kept_order old.big p.bounds.shape.order is.big)) k
 
--- what is kept is a builder's, of which a call needs this
-pub topped : (k : BuilderState) (room : ℕ) (o : Order) (r : Option BuildError) (head : Option OpenHead) → order_by k.big ≡ Some o → refusal_in k.refusal ≡ Some r
-    → AreLimits (bounds_of o k.depth k.datagram k.total k.entries) → k.len ≤ k.datagram → k.len ≤ room → IsInnermost k head
-    → IsTopOf k room (record { limits = bounds_of o k.depth k.datagram k.total k.entries; len = k.len; head = head; refusal = r })
-topped k room o r head big code limits size fits (hs, h, e) = (
-  hs,
-  record {
-    total = refl;
-    entries = refl;
-    datagram = refl;
-    depth = refl;
-    big = order_said k.big o big;
-    len = refl;
-    count = h.count;
-    heads = h.heads;
-    refusal = refusal_said k.refusal r code;
-    parts = (limits, size, h.open_heads);
-    fits = fits;
-  },
-  e,
-)
+-- a call that puts bytes is one that puts the number that they are, in a given order or in the builder's
+module _ (kind value width : ℕ) (o : Order) {bs : List ℕ} {old new : BuilderState} {before after : List ℕ} {code : ℕ} (is : bs ≡ num value width o) (call : Calls (λ b. put b (number_in kind) (flags_in kind) bs) old before new after code) where
+  pub puts_number : Calls (λ b. put b (number_in kind) (flags_in kind) (num value width o)) old before new after code
+  puts_number = subst (λ (xs : List ℕ). Calls (λ b. put b (number_in kind) (flags_in kind) xs) old before new after code) is call
 
--- no builder has headers that none has
-pub not_topped : (k : BuilderState) (room : ℕ) → HasNone k → IsNone k room
-not_topped k room none p has =
-    none p.heads (record {
-      count = has.count;
-      heads = has.heads;
-      open_heads = subst (λ D. AreOpen D k.len p.heads) (sym has.depth) (subst (λ n. AreOpen p.bounds.shape.depth n p.heads) (sym has.len) has.parts.2);
-    })
+  pub puts_ordered : o ≡ order_in (old.big == 1) → Calls (λ b. put b (number_in kind) (flags_in kind) (num value width (order_of b))) old before new after code
+  puts_ordered same =
+      ordered (λ o b. put b (number_in kind) (flags_in kind) (num value width o)) old new before after code
+      (subst (λ (o : Order). Calls (λ b. put b (number_in kind) (flags_in kind) (num value width o)) old before new after code) same puts_number)
 
--- a call that opens and closes no header leaves a builder's
-pub kept_more : (k new : BuilderState) (room size : ℕ) (t u : BuilderTop) (hs : List OpenHead) → IsKept k room (parts_with t hs) → u.limits ≡ t.limits → t.len ≤ u.len
-    → u.len ≤ size → u.len ≤ u.limits.datagram → new ≡ record k { len = u.len; refusal = refusal_number u.refusal } → IsKept new size (parts_with u hs)
-kept_more k new room size t u hs is bounds more fits limit e =
-    record {
-      total = ap (λ (x : BuilderState). x.total) e ∙ is.total ∙ sym (ap (λ (b : Bounds). b.total) bounds);
-      entries = ap (λ (x : BuilderState). x.entries) e ∙ is.entries ∙ sym (ap (λ (b : Bounds). b.entries) bounds);
-      datagram = ap (λ (x : BuilderState). x.datagram) e ∙ is.datagram ∙ sym (ap (λ (b : Bounds). b.datagram) bounds);
-      depth = ap (λ (x : BuilderState). x.depth) e ∙ is.depth ∙ sym (ap (λ (b : Bounds). b.shape.depth) bounds);
-      big = ap (λ (x : BuilderState). x.big) e ∙ is.big ∙ sym (ap (λ (b : Bounds). order_number b.shape.order) bounds);
-      len = ap (λ (x : BuilderState). x.len) e;
-      count = ap (λ (x : BuilderState). x.count) e ∙ is.count;
-      heads = subst (λ (x : BuilderState). AreKept x.starts x.contents hs) (sym e) is.heads;
-      refusal = ap (λ (x : BuilderState). x.refusal) e;
-      parts = (subst AreLimits (sym bounds) is.parts.0, limit, subst (λ (b : Bounds). AreOpen b.shape.depth u.len hs) (sym bounds) (are_open_more _ _ _ _ more is.parts.2));
-      fits = fits;
-    }
+-- a builder's of the same limits, with these headers, is kept so
+module _ (k : BuilderState) (room size : ℕ) (p : Parts) (is : IsKept k room p) where
+  keeps : (q : Parts) (ss cs : List ℕ) (n : ℕ) → q.bounds ≡ p.bounds → (q.len ≤ size) × (q.len ≤ q.bounds.datagram) → n ≡ length q.heads → AreKept ss cs q.heads → AreOpen p.bounds.shape.depth q.len q.heads
+      → IsKept (record k { starts = ss; contents = cs; count = n; len = q.len; refusal = refusal_number q.refusal }) size q
+  keeps q ss cs n bounds fits count heads inside =
+      record {
+        total = is.total ∙ sym (ap (λ (b : Bounds). b.total) bounds);
+        entries = is.entries ∙ sym (ap (λ (b : Bounds). b.entries) bounds);
+        datagram = is.datagram ∙ sym (ap (λ (b : Bounds). b.datagram) bounds);
+        depth = is.depth ∙ sym (ap (λ (b : Bounds). b.shape.depth) bounds);
+        big = is.big ∙ sym (ap (λ (b : Bounds). order_number b.shape.order) bounds);
+        len = refl;
+        count = count;
+        heads = heads;
+        refusal = refl;
+        parts = (subst AreLimits (sym bounds) is.parts.0, fits.1, subst (λ (b : Bounds). AreOpen b.shape.depth q.len q.heads) (sym bounds) inside);
+        fits = fits.0;
+      }
+
+-- a call that opens and closes no header
+pub stays : (call : Built → Built) (k new : BuilderState) (out after : List ℕ) (t u : BuilderTop) (is : IsTopOf k (length out) t) → u.limits ≡ t.limits → t.len ≤ u.len → AreWithin u after
+    → new ≡ record k { len = u.len; refusal = refusal_number u.refusal } → over (parts_with u is.0) after ≡ call (over (parts_with t is.0) out) → Calls call k out new after (refusal_number u.refusal)
+stays call k new out after t u (hs, is, inner) bounds more fits e built =
+    let q = parts_with u hs in
+    let kept = keeps k (length out) (length after) (parts_with t hs) is q k.starts k.contents k.count bounds fits is.count is.heads (are_open_more _ _ _ _ more is.parts.2) in
+    calls (parts_with t hs) q is new after built (subst (λ (x : BuilderState). IsKept x (length after) q) (sym e) kept)
 
 -- a call that opens a header, or is refused, keeps the limits
 pub same_limits : (t u : BuilderTop) (out new : List ℕ) (r : Result OpenHead BuildError) → Opens t u out new r → u.limits ≡ t.limits
@@ -212,83 +172,41 @@ pub few_after : (D n : ℕ) (hs : List OpenHead) (count : ℕ) (r : Result OpenH
 few_after D n hs count (Ok h) e l o = omega (arith, e, l, few_heads D n (h ∷ hs) o)
 few_after D n hs count (Err x) e l o = tt
 
--- and it leaves a builder's
-pub kept_opened : (k new : BuilderState) (room size : ℕ) (t u : BuilderTop) (r : Result OpenHead BuildError) (hs : List OpenHead) → IsKept k room (parts_with t hs) → u.limits ≡ t.limits
-    → u.len ≤ size → u.len ≤ u.limits.datagram → AreOpen t.limits.shape.depth u.len (heads_after r hs) → IfOk r (λ h. (k.count < length k.starts) × (k.count < length k.contents))
-    → new ≡ record (with_opened k r) { len = u.len; refusal = refusal_number u.refusal } → IsKept new size (parts_with u (heads_after r hs))
-kept_opened k new room size t u (Ok h) hs is bounds fits limit inside a e =
-    let lt : length hs < length k.starts = omega (arith, is.count, a.0) in
-    let ct : length hs < length k.contents = omega (arith, is.count, a.1) in
-    let one = keeps_one k.starts k.contents h hs lt ct is.heads in
+kept_opened : (k : BuilderState) (room size : ℕ) (t u : BuilderTop) (r : Result OpenHead BuildError) (hs : List OpenHead) → IsKept k room (parts_with t hs) → u.limits ≡ t.limits
+    → (u.len ≤ size) × (u.len ≤ u.limits.datagram) → AreOpen t.limits.shape.depth u.len (heads_after r hs) → IfOk r (λ h. (k.count < length k.starts) × (k.count < length k.contents))
+    → IsKept (record (with_opened k r) { len = u.len; refusal = refusal_number u.refusal }) size (parts_with u (heads_after r hs))
+kept_opened k room size t u (Ok h) hs is bounds fits inside a =
+    let one = keeps_one k.starts k.contents h hs (omega (arith, is.count, a.0)) (omega (arith, is.count, a.1)) is.heads in
     let at = subst (λ i. AreKept (slice_set k.starts i h.start) (slice_set k.contents i (content_number h.content)) (h ∷ hs)) (sym is.count) one in
-    record {
-      total = ap (λ (x : BuilderState). x.total) e ∙ is.total ∙ sym (ap (λ (b : Bounds). b.total) bounds);
-      entries = ap (λ (x : BuilderState). x.entries) e ∙ is.entries ∙ sym (ap (λ (b : Bounds). b.entries) bounds);
-      datagram = ap (λ (x : BuilderState). x.datagram) e ∙ is.datagram ∙ sym (ap (λ (b : Bounds). b.datagram) bounds);
-      depth = ap (λ (x : BuilderState). x.depth) e ∙ is.depth ∙ sym (ap (λ (b : Bounds). b.shape.depth) bounds);
-      big = ap (λ (x : BuilderState). x.big) e ∙ is.big ∙ sym (ap (λ (b : Bounds). order_number b.shape.order) bounds);
-      len = ap (λ (x : BuilderState). x.len) e;
-      count = omega (arith, ap (λ (x : BuilderState). x.count) e, is.count);
-      heads = subst (λ (x : BuilderState). AreKept x.starts x.contents (h ∷ hs)) (sym e) at;
-      refusal = ap (λ (x : BuilderState). x.refusal) e;
-      parts = (subst AreLimits (sym bounds) is.parts.0, limit, subst (λ (b : Bounds). AreOpen b.shape.depth u.len (h ∷ hs)) (sym bounds) inside);
-      fits = fits;
-    }
-kept_opened k new room size t u (Err x) hs is bounds fits limit inside a e =
-    record {
-      total = ap (λ (x : BuilderState). x.total) e ∙ is.total ∙ sym (ap (λ (b : Bounds). b.total) bounds);
-      entries = ap (λ (x : BuilderState). x.entries) e ∙ is.entries ∙ sym (ap (λ (b : Bounds). b.entries) bounds);
-      datagram = ap (λ (x : BuilderState). x.datagram) e ∙ is.datagram ∙ sym (ap (λ (b : Bounds). b.datagram) bounds);
-      depth = ap (λ (x : BuilderState). x.depth) e ∙ is.depth ∙ sym (ap (λ (b : Bounds). b.shape.depth) bounds);
-      big = ap (λ (x : BuilderState). x.big) e ∙ is.big ∙ sym (ap (λ (b : Bounds). order_number b.shape.order) bounds);
-      len = ap (λ (x : BuilderState). x.len) e;
-      count = ap (λ (x : BuilderState). x.count) e ∙ is.count;
-      heads = subst (λ (x : BuilderState). AreKept x.starts x.contents hs) (sym e) is.heads;
-      refusal = ap (λ (x : BuilderState). x.refusal) e;
-      parts = (subst AreLimits (sym bounds) is.parts.0, limit, subst (λ (b : Bounds). AreOpen b.shape.depth u.len hs) (sym bounds) inside);
-      fits = fits;
-    }
+    keeps k room size (parts_with t hs) is (parts_with u (h ∷ hs)) (slice_set k.starts k.count h.start) (slice_set k.contents k.count (content_number h.content)) (k.count + 1) bounds fits (omega (arith, is.count)) at inside
+kept_opened k room size t u (Err x) hs is bounds fits inside a = keeps k room size (parts_with t hs) is (parts_with u hs) k.starts k.contents k.count bounds fits is.count is.heads inside
 
--- the headers around the innermost are kept where they are
-pub fewer_kept : (ss cs : List ℕ) (hs : List OpenHead) → AreKept ss cs hs → AreKept ss cs (drop 1 hs)
-fewer_kept ss cs [] a = tt
-fewer_kept ss cs (h ∷ hs) a = a.2
+-- a call that opens a header, or is refused
+pub opens : (call : Built → Built) (k new : BuilderState) (out after : List ℕ) (t u : BuilderTop) (r : Result OpenHead BuildError) (is : IsTopOf k (length out) t) → Opens t u out after r → AreWithin u after
+    → AreOpen t.limits.shape.depth u.len (heads_after r is.0) → IfOk r (λ h. (k.count < length k.starts) × (k.count < length k.contents))
+    → new ≡ record (with_opened k r) { len = u.len; refusal = refusal_number u.refusal } → over (parts_with u (heads_after r is.0)) after ≡ call (over (parts_with t is.0) out)
+    → Calls call k out new after (refusal_number u.refusal)
+opens call k new out after t u r (hs, is, inner) opened fits inside places e built =
+    let q = parts_with u (heads_after r hs) in
+    let kept = kept_opened k (length out) (length after) t u r hs is (same_limits t u out after r opened) fits inside places in
+    calls (parts_with t hs) q is new after built (subst (λ (x : BuilderState). IsKept x (length after) q) (sym e) kept)
 
-pub fewer_open : (D n : ℕ) (hs : List OpenHead) → AreOpen D n hs → AreOpen D n (drop 1 hs)
-fewer_open D n [] o = tt
-fewer_open D n (h ∷ hs) o = o.2
+-- the headers that are left are kept where they are
+fewer : (k : BuilderState) (D n : ℕ) (r : Option BuildError) (hs : List OpenHead) → k.count ≡ length hs → AreKept k.starts k.contents hs → AreOpen D n hs
+    → (k.count - left_closed r ≡ length (left r hs)) × AreKept k.starts k.contents (left r hs) × AreOpen D n (left r hs)
+fewer k D n None [] e a o = (omega (arith, e), tt, tt)
+fewer k D n None (h ∷ hs) e a o = (omega (arith, e), a.2, o.2)
+fewer k D n (Some x) hs e a o = (omega (arith, e), a, o)
 
--- a call that closes the innermost header, or is refused, leaves a builder's
-pub kept_fewer : (k new : BuilderState) (room size : ℕ) (t : BuilderTop) (r : Option BuildError) (hs : List OpenHead) → IsKept k room (parts_with t hs)
-    → t.len ≤ size → new ≡ record k { count = k.count - left_closed r; refusal = refusal_number r } → IsKept new size (left_with t r hs)
-kept_fewer k new room size t None hs is fits e =
-    record {
-      total = ap (λ (x : BuilderState). x.total) e ∙ is.total;
-      entries = ap (λ (x : BuilderState). x.entries) e ∙ is.entries;
-      datagram = ap (λ (x : BuilderState). x.datagram) e ∙ is.datagram;
-      depth = ap (λ (x : BuilderState). x.depth) e ∙ is.depth;
-      big = ap (λ (x : BuilderState). x.big) e ∙ is.big;
-      len = ap (λ (x : BuilderState). x.len) e ∙ is.len;
-      count = omega (arith, ap (λ (x : BuilderState). x.count) e, is.count, length-drop 1 hs);
-      heads = subst (λ (x : BuilderState). AreKept x.starts x.contents (drop 1 hs)) (sym e) (fewer_kept k.starts k.contents hs is.heads);
-      refusal = ap (λ (x : BuilderState). x.refusal) e;
-      parts = (is.parts.0, is.parts.1, fewer_open _ _ hs is.parts.2);
-      fits = fits;
-    }
-kept_fewer k new room size t (Some r) hs is fits e =
-    record {
-      total = ap (λ (x : BuilderState). x.total) e ∙ is.total;
-      entries = ap (λ (x : BuilderState). x.entries) e ∙ is.entries;
-      datagram = ap (λ (x : BuilderState). x.datagram) e ∙ is.datagram;
-      depth = ap (λ (x : BuilderState). x.depth) e ∙ is.depth;
-      big = ap (λ (x : BuilderState). x.big) e ∙ is.big;
-      len = ap (λ (x : BuilderState). x.len) e ∙ is.len;
-      count = omega (arith, ap (λ (x : BuilderState). x.count) e, is.count);
-      heads = subst (λ (x : BuilderState). AreKept x.starts x.contents hs) (sym e) is.heads;
-      refusal = ap (λ (x : BuilderState). x.refusal) e;
-      parts = is.parts;
-      fits = fits;
-    }
+-- a call that closes the innermost header, or is refused
+pub closes : (call : Built → Built) (k new : BuilderState) (out after : List ℕ) (t : BuilderTop) (r : Option BuildError) (is : IsTopOf k (length out) t) → t.len ≤ length after
+    → new ≡ record k { count = k.count - left_closed r; refusal = refusal_number r } → over (left_with t r is.0) after ≡ call (over (parts_with t is.0) out) → Calls call k out new after (refusal_number r)
+closes call k new out after t r (hs, is, inner) fits e built =
+    let q = left_with t r hs in
+    let x = fewer k t.limits.shape.depth t.len r hs is.count is.heads is.parts.2 in
+    let kept = keeps k (length out) (length after) (parts_with t hs) is q k.starts k.contents (k.count - left_closed r) refl (fits, is.parts.1) x.0 x.1 x.2 in
+    let at : new ≡ record k { len = t.len; count = k.count - left_closed r; refusal = refusal_number r } = e ∙ ap (λ n. record k { len = n; count = k.count - left_closed r; refusal = refusal_number r }) is.len in
+    calls (parts_with t hs) q is new after built (subst (λ (x : BuilderState). IsKept x (length after) q) (sym at) kept)
 
 -- the innermost header is within what is accepted
 pub top_inside : (D n : ℕ) (hs : List OpenHead) (h : Option OpenHead) → AreOpen D n hs → top hs ≡ h → IfSome h (λ x. x.start + 4 ≤ n)

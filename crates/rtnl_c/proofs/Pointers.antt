@@ -1,17 +1,11 @@
 -- The machine value of a `Loose`. Assumes `Logic`.
-use Rattle.rtnl_c.proofs.Common.{◌≡◌, ℕ, List, [], ◌∷◌, ◌++◌, refl, subst, impl, tnil, dnil, Val, vptr, vstruct, vcons, vnil, of_list, has_ty, WT, never, fst∗, Logic, sem, RattleType, Valss, Ptr, block_ptr, null_ptr, ptr_val, in_a_block, layout, Laws, Al, handle_tells, Good, and_tt}
+use Rattle.rtnl_c.proofs.Common.{◌≡◌, ℕ, List, [], ◌∷◌, ◌++◌, refl, subst, impl, tnil, dnil, Val, vptr, vstruct, vcons, vnil, of_list, has_ty, WT, never, fst∗, Logic, sem, RattleType, Valss, Ptr, block_ptr, null_ptr, ptr_val, in_a_block, layout, Laws, Al, handle_tells, Good, and_tt, T, Ura, RawPtr, nothing, within, box_owns}
 use mathlib.Core.Bool.{Bool, true, false, ◌&&◌}
-use lib.Dec.{T}
-use seplogic.Ra.Ura.{Ura}
 use mir.Raw.{raw as bare}
 use types.Kit.{Item, Goal, Seq, Step, step, ‵, ◌$◌, move, drop, fsplit, fjoin, fpick, fpack, feq_i, feq_l}
-use denote.Builtin.{RawPtr}
 use denote.Memory.{lone}
-use denote.Steps.{nothing}
-use denote.Struct.Struct.{within}
 use denote.Struct.Owning.{shape}
 use Rattle.core.specs.declared.alloc.Allocator.{Ghosts}
-use Rattle.std_alloc.specs.Box.Ownership.{box_owns}
 use Rattle.rtnl_c.specs.contracts.loose.Loose as loose
 
 abbrev pub both : Val → Val → Val

@@ -1,24 +1,19 @@
 -- A stream that C keeps: what is written of it is read again.
-use Rattle.rtnl_c.proofs.Common.{◌≡◌, ℕ, ℤ, pos, Bool, true, false, List, Some, Result, Ok, Err, refl, sym, ap, subst, ◌∙◌, Order, Family, type_of, bounds_of, order_in, IsPut, not_put}
+use Rattle.rtnl_c.proofs.Common.{◌≡◌, ℕ, ℤ, pos, Bool, true, false, Some, refl, ap, ◌∙◌, Order, Family, type_of, bounds_of, order_in, Little, Big}
 use Rattle.nl_route.specs.declared.family.Family.TheVariants.{Link, Addr, Route, Neigh, Rule}
-use Rattle.nl_attr.specs.declared.order.Order.TheVariants.{Little, Big}
 use Rattle.nl_route.specs.declared.family.Verb.TheVariants.{New}
 use Rattle.nl_route.specs.Types.{route_type}
 use Rattle.nl_dump.specs.declared.dump.Dump.{Dump}
 use Rattle.nl_dump.specs.declared.dump.End.TheVariants.{Done, Error, Overrun, Abandoned}
 use Rattle.nl_dump.specs.declared.dump.State.{State}
 use Rattle.nl_dump.specs.declared.dump.State.TheVariants.{Idle, Waiting, Ended}
-use Rattle.nl_dump.specs.declared.errors.BeginError.{BeginError}
 use Rattle.nl_dump.specs.declared.standing.Standing.{Standing}
-use Rattle.nl_dump.specs.Codes.{begin_code}
-use Rattle.nl_dump.specs.Request.{request_of}
 use Rattle.nl_dump.specs.Standing.{IsPossible}
-use Rattle.rtnl_c.specs.declared.put.Put.{Put}
 use Rattle.rtnl_c.specs.declared.status.Last.{Last}
 use Rattle.rtnl_c.specs.declared.stream.StreamState.{StreamState}
 use Rattle.rtnl_c.specs.Kinds.{family_in}
 use Rattle.rtnl_c.specs.Status.{last_dump, last_of}
-use Rattle.rtnl_c.specs.Streams.{flag_of, big_of, kept_of, flag_in, state_by, state_in, standing_by, standing_in, IsKept, PutsBegun}
+use Rattle.rtnl_c.specs.Streams.{flag_of, big_of, kept_of, flag_in, state_by, state_in, standing_by, standing_in, IsKept}
 
 flag_back : (b : Bool) → flag_in (flag_of b) ≡ Some b
 flag_back true = refl
@@ -92,10 +87,3 @@ module _ (s : Standing) where
   keeps p = (back, p)
 
 -- ---- a dump begins
-
-module _ (o p : Order) (d : Dump) (old : List ℕ) where
-  pub begun : (r : Result (Unit {0}) BeginError) (new : List ℕ) (a : Put) → o ≡ p → r ≡ Ok tt → IsPut (request_of o d) old new a → PutsBegun (request_of p d) r old new a
-  begun r new a same is put = subst (λ r. PutsBegun (request_of p d) r old new a) (sym is) (subst (λ o. IsPut (request_of o d) old new a) same put)
-
-  pub unbegun : (r : Result (Unit {0}) BeginError) (e : BeginError) (a : Put) → r ≡ Err e → a ≡ not_put (begin_code e) → PutsBegun (request_of p d) r old old a
-  unbegun r e a is none = subst (λ r. PutsBegun (request_of p d) r old old a) (sym is) (none, refl)

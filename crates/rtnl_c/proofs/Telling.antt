@@ -1,17 +1,12 @@
 -- What is told of the messages of a datagram, one after another.
-use Rattle.std.proofs.Common.{◌≡◌, ◌≤◌, ◌<◌, ◌+◌, ◌-◌, ◌∙◌, ◌^◌, ℕ, List, [], ◌∷◌, ◌++◌, length, map, take, drop, Result, Option, Some, None, option_map, ◌*◌, ◌/◌, suc, zero, Ok, Err, ◌↔◌, refl, sym, subst, ap, append_assoc, arith, slice_set, IfOk}
+use Rattle.std.proofs.Common.{◌≡◌, ◌≤◌, ◌<◌, ◌+◌, ◌-◌, ◌∙◌, ℕ, List, [], ◌∷◌, ◌++◌, length, map, take, drop, Result, Option, Some, None, option_map, ◌*◌, ◌/◌, suc, zero, Ok, Err, ◌↔◌, refl, sym, subst, ap, append_assoc, arith, slice_set, IfOk}
 use Rattle.std.proofs.lemmas.List.{length-append, length-drop, length-map, drop-drop, drop_all, drop_more, set_at, take_at, drop_at, append-nil}
-use Rattle.std.proofs.lemmas.Option.{none-some, same_Some}
 use borrow.Rule.Slice.PartMut.{put_mid}
 use lib.ListN.{get_or}
-use Rattle.rtnl_c.proofs.Common.{Shape, Family, Message, Bounds, MessageVal, written, EachHearsBy, HearsEach, IsRead, IsUpdate, Vec, WriteError, Mirrored, no_mirror, entry_message}
-use Rattle.nl_frame.specs.Layout.{Layout}
-use Rattle.nl_frame.specs.View.{message_view}
-use Rattle.nl_dump.specs.Items.{Item}
+use Rattle.rtnl_c.proofs.Common.{Shape, Family, Message, Bounds, MessageVal, written, EachHearsBy, HearsEach, IsRead, IsUpdate, Vec, Mirrored, no_mirror, entry_message, none-some, same_Some, Layout, message_view, Item, ReadError}
 use Rattle.nl_mirror.specs.Effects.{update_effect}
 use Rattle.nl_mirror.specs.declared.effect.Effect.{Effect}
 use Rattle.rtnl_c.proofs.Orders.{each_order}
-use Rattle.nl_frame.specs.declared.reading.ReadError.{ReadError}
 use Rattle.nl_frame.specs.declared.reading.ReadError.TheVariants as unread
 use Rattle.nl_frame.specs.declared.writing.WriteError.TheVariants as unwritable
 use Rattle.nl_mirror.specs.declared.effect.Update.{Update}

@@ -1,10 +1,12 @@
 -- The answer to C of the header that breaks a rule.
-use Rattle.std.specs.Prelude.{◌<◌, ◌≤◌, ℕ, List, length, Bool, true, false, Option, Some, None}
+use Rattle.std.specs.Prelude.{◌<◌, ◌≤◌, ℕ, List, length, Bool, true, false, Option, Some, None, Result, Ok, Err}
 use Rattle.nl_attr.specs.Fixed as fixed
 use Rattle.nl_attr.specs.Codes.{fault_code}
 use Rattle.nl_attr.specs.declared.broken.BrokenHead.{BrokenHead}
 use Rattle.nl_attr.specs.declared.broken.HeadKind.{HeadKind}
 use Rattle.nl_attr.specs.declared.broken.HeadKind.TheVariants.{Message, Attribute, NextHop}
+use Rattle.nl_frame.specs.declared.scanning.ScanError.{ScanError}
+use Rattle.nl_frame.specs.declared.scanning.ScanError.TheVariants.{TooLarge, Layout as Fails}
 use Rattle.nl_frame.specs.Broken.{IsBrokenHead}
 use Rattle.nl_frame.specs.Heads.{IsFirstFault, whole}
 use Rattle.nl_frame.specs.Layout.{Layout}
@@ -45,6 +47,12 @@ broken_of h = record {
   whole = is_said h.len;
   code = fault_code h.fault;
 }
+
+-- what a scan answered
+abbrev pub answered : Result (Unit {0}) ScanError → Broken
+answered (Ok u) = unbroken 0
+answered (Err TooLarge) = unbroken too_large
+answered (Err (Fails h)) = broken_of h
 
 -- what C is answered: the datagram is too large; or it has a layout; or this header breaks the rule of its first fault
 pub data Breaks (b : Bounds) (d : List ℕ) : Broken → Type 0 where

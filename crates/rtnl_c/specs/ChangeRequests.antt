@@ -1,5 +1,5 @@
 -- The requests for which C asks, and the answers of the calls that put them.
-use Rattle.std.specs.Prelude.{◌≡◌, ◌≢◌, ◌==◌, ℕ, if◌then◌else◌, List, [], ◌∷◌, ◌++◌, length, take, Option, Some, None}
+use Rattle.std.specs.Prelude.{◌≡◌, ◌≢◌, ◌==◌, ℕ, if◌then◌else◌, List, [], ◌∷◌, ◌++◌, length, take, Bool, Option, Some, None, MatchOption}
 use Rattle.std.specs.Bool.{then_some}
 use Rattle.std.specs.Borrow.{Bor}
 use Rattle.nl_attr.specs.declared.order.Order.{Order}
@@ -28,6 +28,7 @@ use Rattle.rtnl_c.specs.declared.change_requests.link.LinkFields.{LinkFields}
 use Rattle.rtnl_c.specs.declared.change_requests.neigh.NeighFields.{NeighFields}
 use Rattle.rtnl_c.specs.declared.change_requests.route.RouteFields.{RouteFields}
 use Rattle.rtnl_c.specs.declared.change_requests.rule.RuleFields.{RuleFields}
+use Rattle.rtnl_c.specs.Options.{order_in}
 use Rattle.rtnl_c.specs.Put.{not_put, put_of}
 
 -- ---- what is asked for
@@ -156,12 +157,11 @@ IsAlone m o new a = a.code ≡ 0 → let bytes = take a.len new in (bytes ≡ wr
 
 -- ---- what a call puts
 
--- the message of this operation alone, where the number is one's; else nothing is changed
-abbrev pub Puts : Option Operation → (Operation → Order → MessageVal) → Order → List ℕ → List ℕ → Put → Type 0
-Puts None m o old new a = (new ≡ old) × (a ≡ not_put (build_code Mismatch))
-Puts (Some op) m o old new a = PutsAlone (m op o) o old new a
+-- the message of the operation that is asked for alone, where the number is one's; else nothing is changed
+abbrev pub Puts : (Operation → ℕ → Order → MessageVal) → ℕ → ℕ → Bool → List ℕ → List ℕ → Put → Type 0
+Puts m asked seq big old new a =
+    MatchOption (operation_in asked) ((new ≡ old) × (a ≡ not_put (build_code Mismatch))) (λ op. PutsAlone (m op seq (order_in big)) (order_in big) old new a)
 
 -- where bytes are put, they are the message of this operation, alone
-abbrev pub IsPutAlone : Option Operation → (Operation → Order → MessageVal) → Order → List ℕ → Put → Type 0
-IsPutAlone None m o new a = a.code ≢ 0
-IsPutAlone (Some op) m o new a = IsAlone (m op o) o new a
+abbrev pub IsPutAlone : (Operation → ℕ → Order → MessageVal) → ℕ → ℕ → Bool → List ℕ → Put → Type 0
+IsPutAlone m asked seq big new a = MatchOption (operation_in asked) (a.code ≢ 0) (λ op. IsAlone (m op seq (order_in big)) (order_in big) new a)

@@ -36,13 +36,10 @@ no_table code = record { missed = 0; count = 0; limit = 0; code = code }
 abbrev pub size_of : Content Item → TableSize
 size_of t = sized (length t.entries) t.missed t.limit
 
-abbrev pub size_at : View → Option Family → TableSize
-size_at v None = no_table no_kind
-size_at v (Some k) = size_of (table_at k v.tables)
-
 abbrev pub table_in : Option View → Option Family → TableSize
 table_in None kind = no_table no_session
-table_in (Some v) kind = size_at v kind
+table_in (Some v) None = no_table no_kind
+table_in (Some v) (Some k) = size_of (table_at k v.tables)
 
 -- ---- what is put of a table into a buffer
 
@@ -69,10 +66,13 @@ message_bytes o k len fs is = with_padding (fields.written o (header_fields (fro
 abbrev pub entry_bytes : ℕ → Family → Content Item → Option (List ℕ)
 entry_bytes index k t = option_map (λ e. written t.order (entry_message k e.1 ∷ [])) (slice_get t.entries index)
 
--- it was put, or it can't be written
-pub data PutsEntry (index : ℕ) (t : Content Item) (k : Family) (old : List ℕ) : List ℕ → Put → Type 0 where
-  puts : (new : List ℕ) (a : Put) → PutsFound (entry_bytes index k t) nothing_there old new a → PutsEntry index t k old new a
-  unwritten : (e : WriteError) → PutsEntry index t k old old (not_put (write_code e))
+-- a message was put, where there is one, or it can't be written
+pub data PutsMessage (bytes : Option (List ℕ)) (old : List ℕ) : List ℕ → Put → Type 0 where
+  puts : (new : List ℕ) (a : Put) → PutsFound bytes nothing_there old new a → PutsMessage bytes old new a
+  unwritten : (e : WriteError) → PutsMessage bytes old old (not_put (write_code e))
+
+abbrev pub PutsEntry : ℕ → Content Item → Family → List ℕ → List ℕ → Put → Type 0
+PutsEntry index t k old new a = PutsMessage (entry_bytes index k t) old new a
 
 -- the key of the entry at an index
 abbrev pub key_bytes : ℕ → Content Item → Option (List ℕ)
@@ -93,10 +93,7 @@ found_if (Some index) = found_at index 0
 abbrev pub place_of : List ℕ → Content Item → Option ℕ
 place_of key t = position (bytes_eq key) (keys_of t.entries)
 
-abbrev pub found_of : View → Option Family → List ℕ → FoundEntry
-found_of v None key = found_at 0 no_kind
-found_of v (Some k) key = found_if (place_of key (table_at k v.tables))
-
 abbrev pub found_in : Option View → Option Family → List ℕ → FoundEntry
 found_in None kind key = found_at 0 no_session
-found_in (Some v) kind key = found_of v kind key
+found_in (Some v) None key = found_at 0 no_kind
+found_in (Some v) (Some k) key = found_if (place_of key (table_at k v.tables))

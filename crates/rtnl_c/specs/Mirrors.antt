@@ -1,7 +1,6 @@
 -- The answers to C of the calls of a mirror. A handle has a mirror or none, before a call and after it.
-use Rattle.std.specs.Prelude.{◌≡◌, ◌<◌, ◌≤◌, ◌+◌, ◌-◌, ◌*◌, ◌/◌, ◌^◌, ◌++◌, ◌∷◌, ◌↔◌, ◌⊎◌, ℕ, min, List, [], length, take, drop, Option, Some, None, option_map, is_some, Result, Ok, Err, false}
+use Rattle.std.specs.Prelude.{◌≡◌, ◌<◌, ◌≤◌, ◌+◌, ◌-◌, ◌*◌, ◌/◌, ◌^◌, ◌++◌, ◌∷◌, ◌↔◌, ℕ, min, List, [], length, take, drop, Option, Some, None, option_map, is_some, Result, Ok, Err, false}
 use Rattle.nl_attr.specs.declared.order.Order.{Order}
-use Rattle.nl_attr.specs.declared.fault.Fault.{Fault}
 use Rattle.nl_route.specs.declared.family.Family.{Family}
 use Rattle.nl_route.specs.declared.family.Verb.TheVariants.{New}
 use Rattle.nl_route.specs.Families.{type_of}
@@ -35,6 +34,7 @@ use Rattle.rtnl_c.specs.declared.mirrored.MirrorTableInfo.{MirrorTableInfo}
 use Rattle.rtnl_c.specs.declared.options.Options.{Options}
 use Rattle.rtnl_c.specs.declared.put.Put.{Put}
 use Rattle.rtnl_c.specs.declared.tables.FoundEntry.{FoundEntry}
+use Rattle.rtnl_c.specs.Checked.{place_of as place_in}
 use Rattle.rtnl_c.specs.Codes.{busy, no_kind, no_memory, no_mirror, no_room, used_seq}
 use Rattle.rtnl_c.specs.Entries.{entry_message, found_at, found_if, place_of}
 use Rattle.rtnl_c.specs.Options.{bounds_in}
@@ -199,15 +199,10 @@ Hears before ms after P = (rs : List (Result Update Short)) × HearsEach before 
 
 -- ---- a datagram is fed
 
-abbrev pub fault_place : ReadError → ℕ
-fault_place (unread.Layout f) = f.place
-fault_place unread.TooLarge = 0
-fault_place unread.Memory = 0
-
 -- what was answered is told, or why it was refused
 abbrev pub Answers : Mirrored → Result (List (Result Update Short)) ReadError → ℕ → List Change → List ℕ → List Change → List ℕ → Heard → Type 0
 Answers m (Ok rs) visits old out new out' a = Tells m rs visits old out new out' a
-Answers m (Err e) visits old out new out' a = (a ≡ unheard visits (fault_place e) (read_code e)) × (new ≡ old) × (out' ≡ out)
+Answers m (Err e) visits old out new out' a = (a ≡ unheard visits (place_in e) (read_code e)) × (new ≡ old) × (out' ≡ out)
 
 -- changes are wanted, and there is room for fewer than a sixteenth of the bytes
 abbrev pub IsShortOf : List Change → List ℕ → Type 0
@@ -257,13 +252,10 @@ standing f = record {
   code = 0;
 }
 
-abbrev pub standing_at : Mirrored → Option Family → MirrorTableInfo
-standing_at m None = unmirrored no_kind
-standing_at m (Some k) = standing (follower_at k m)
-
 abbrev pub standing_in : Option Mirrored → Option Family → MirrorTableInfo
 standing_in None kind = unmirrored no_mirror
-standing_in (Some m) kind = standing_at m kind
+standing_in (Some m) None = unmirrored no_kind
+standing_in (Some m) (Some k) = standing (follower_at k m)
 
 -- the table of a family; nothing is said of the places that it has reserved
 abbrev pub table_of : Follows → Content Item
@@ -278,10 +270,7 @@ OfTable P None kind old new a = (a ≡ not_put no_mirror) × (new ≡ old)
 OfTable P (Some m) None old new a = (a ≡ not_put no_kind) × (new ≡ old)
 OfTable P (Some m) (Some k) old new a = P (table_at k m) k old new a
 
-abbrev pub found_of : Mirrored → Option Family → List ℕ → FoundEntry
-found_of m None key = found_at 0 no_kind
-found_of m (Some k) key = found_if (place_of key (table_at k m))
-
 abbrev pub found_in : Option Mirrored → Option Family → List ℕ → FoundEntry
 found_in None kind key = found_at 0 no_mirror
-found_in (Some m) kind key = found_of m kind key
+found_in (Some m) None key = found_at 0 no_kind
+found_in (Some m) (Some k) key = found_if (place_of key (table_at k m))

@@ -1,5 +1,5 @@
 -- The answer to C of a scan.
-use Rattle.std.specs.Prelude.{◌<◌, ◌≤◌, ℕ, List, length}
+use Rattle.std.specs.Prelude.{◌<◌, ◌≤◌, ℕ, List, length, Result, Ok, Err}
 use Rattle.nl_attr.specs.declared.events.Event.{Event}
 use Rattle.nl_attr.specs.declared.fault.Reason.{Reason}
 use Rattle.nl_attr.specs.Codes.{reason_code}
@@ -14,10 +14,11 @@ use Rattle.nl_frame.specs.HeadOrder.{events_of}
 use Rattle.rtnl_c.specs.declared.scan.Scanned.{Scanned}
 use Rattle.rtnl_c.specs.declared.scan.Taped.{Taped}
 
--- the place of a refusal
-abbrev pub place_of : ScanError → ℕ
-place_of TooLarge = 0
-place_of (Fails b) = b.fault.place
+-- the place and the code of what a scan answers
+abbrev pub refusal_of : Result (Unit {0}) ScanError → ℕ × ℕ
+refusal_of (Ok u) = (0, 0)
+refusal_of (Err TooLarge) = (0, 6)
+refusal_of (Err (Fails b)) = (b.fault.place, reason_code b.fault.reason)
 
 -- refused after so many visits, at this place, with this code
 abbrev pub refused : ℕ → ℕ → ℕ → Scanned

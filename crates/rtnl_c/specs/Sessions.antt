@@ -47,13 +47,10 @@ BeginsFamily before kind family seq port old new a after =
     × (length request ≤ length old → (r : Result (Vec ℕ) BeginError) × (v : View) × Began before (dump_of kind family seq port) r v × IsWithin v
     × PutsBegun r old new a × (after ≡ Some v))
 
-abbrev pub BeginsKind : View → Option Family → ℕ → ℕ → ℕ → List ℕ → List ℕ → Put → Option View → Type 0
-BeginsKind before None family seq port old new a after = (a ≡ not_put no_kind) × (new ≡ old) × (after ≡ Some before)
-BeginsKind before (Some kind) family seq port old new a after = BeginsFamily before kind family seq port old new a after
-
 abbrev pub Begins : Option View → Option Family → ℕ → ℕ → ℕ → List ℕ → List ℕ → Put → Option View → Type 0
 Begins None kind family seq port old new a after = (a ≡ not_put no_session) × (new ≡ old) × (after ≡ None)
-Begins (Some before) kind family seq port old new a after = BeginsKind before kind family seq port old new a after
+Begins (Some before) None family seq port old new a after = (a ≡ not_put no_kind) × (new ≡ old) × (after ≡ Some before)
+Begins (Some before) (Some kind) family seq port old new a after = BeginsFamily before kind family seq port old new a after
 
 -- ---- a datagram is fed
 

@@ -1,6 +1,5 @@
 -- The answer to C of a text, and where it stands.
-use Rattle.std.specs.Prelude.{◌≡◌, ◌++◌, ℕ, List, length, take, drop, Result, Ok, Err}
-use Rattle.std.specs.Global.{Vec}
+use Rattle.std.specs.Prelude.{◌≡◌, ◌++◌, ℕ, Bool, List, length, take, drop, Result, Ok, Err}
 use Rattle.std.specs.declared.alloc.AllocError.{AllocError}
 use Rattle.nl_attr.specs.declared.order.Order.{Order}
 use Rattle.nl_frame.specs.Limits.{Bounds}
@@ -21,9 +20,9 @@ abbrev pub unshown : ℕ → Shown
 unshown code = record { len = 0; code = code }
 
 -- a text that was made stands in the buffer, and this is its length; or memory ran out, and the buffer is as it was
-abbrev pub IsShown : Result (Vec ℕ) AllocError → List ℕ → List ℕ → Shown → Type 0
-IsShown (Ok text) old new a = (new ≡ laid text.items old) × (a ≡ shown (length text.items))
-IsShown (Err e) old new a = (new ≡ old) × (a ≡ unshown no_memory)
+abbrev pub IsShown : Result Bool AllocError → List ℕ → List ℕ → List ℕ → Shown → Type 0
+IsShown (Ok taken) text old new a = (new ≡ laid text old) × (a ≡ shown (length text))
+IsShown (Err e) text old new a = (new ≡ old) × (a ≡ unshown no_memory)
 
 -- what is printed of a datagram of this number with this answer
 abbrev pub Printed : Type 0

@@ -28,6 +28,7 @@ use Rattle.rtnl_c.specs.Codes.{no_kind, no_room, no_stream}
 use Rattle.rtnl_c.specs.Fed.{stream_fed, untaken}
 use Rattle.rtnl_c.specs.Kinds.{family_in}
 use Rattle.rtnl_c.specs.Options.{bounds_in, order_in}
+use Rattle.rtnl_c.specs.Sessions.{abandon_code}
 use Rattle.rtnl_c.specs.Put.{IsPut, not_put, put_of}
 use Rattle.rtnl_c.specs.Status.{last_of, no_status, status_by}
 
@@ -146,10 +147,6 @@ pub data Feeds (old : StreamState) (bytes : List ℕ) (before : List Event) : St
   on_none : IsNone old → Feeds old bytes before old before (untaken 0 0 no_stream)
   feeds : (s t : Standing) → IsKept old s → (after : List Event) (r : Result Streamed StreamError) → StreamFed s bytes before r t after → EveryStreamed s bytes before r t
       → IsKept (kept_of t) t → Feeds old bytes before (kept_of t) after (stream_fed r)
-
-abbrev pub abandon_code : Result (Unit {0}) NotWaiting → ℕ
-abandon_code (Ok u) = 0
-abandon_code (Err e) = 8
 
 -- a dump is abandoned
 pub data Abandons (old : StreamState) : StreamState → ℕ → Type 0 where

@@ -3,13 +3,13 @@
 
 ghost use Rattle.std.specs.Prelude.{◌≡◌};
 ghost use Rattle.nl_frame.specs.Limits.{AreLimits};
-ghost use Rattle.rtnl_c.specs.Broken.{Breaks, broken_of, sort_of, unbroken};
+ghost use Rattle.rtnl_c.specs.Broken.{Breaks, answered, sort_of, unbroken};
 ghost use Rattle.rtnl_c.specs.Options.{bounds_in};
 
 use crate::codes::TOO_LARGE;
 use crate::options::{Options, limits};
 use nl_attr::{SORT_BYTES, SORT_MESSAGE, SORT_NEXT_HOP};
-use nl_frame::{BrokenHead, HeadKind, Limits, ScanError, scan_datagram};
+use nl_frame::{HeadKind, Limits, ScanError, scan_datagram};
 
 /// The first header of a datagram that breaks a rule: `struct rtnlc_broken_head` of
 /// include/rtnlc.h.
@@ -65,19 +65,23 @@ fn sort(kind: HeadKind) -> u8
     }
 }
 
-/// A broken header as C is answered.
-fn answer(head: BrokenHead) -> Broken
-    ensures { result ≡ broken_of head }
+/// What a scan answered, as C is answered.
+fn answer(scan: Result<(), ScanError>) -> Broken
+    ensures { result ≡ answered scan }
 {
-    Broken {
-        place: head.fault.place,
-        len: head.len.unwrap_or(0),
-        left: head.left,
-        number: head.number.unwrap_or(0),
-        level: head.level,
-        sort: sort(head.kind),
-        whole: head.len.is_some(),
-        code: head.fault.code(),
+    match scan {
+        Ok(()) => Broken::none(0),
+        Err(ScanError::TooLarge) => Broken::none(TOO_LARGE),
+        Err(ScanError::Layout(head)) => Broken {
+            place: head.fault.place,
+            len: head.len.unwrap_or(0),
+            left: head.left,
+            number: head.number.unwrap_or(0),
+            level: head.level,
+            sort: sort(head.kind),
+            whole: head.len.is_some(),
+            code: head.fault.code(),
+        },
     }
 }
 
@@ -85,11 +89,7 @@ fn answer(head: BrokenHead) -> Broken
 fn head_at_fault(bytes: &[u8], limits: &Limits) -> Broken
     ensures { Breaks limits.now bytes.now result }
 {
-    match scan_datagram(bytes, limits).into_result() {
-        Ok(()) => Broken::none(0),
-        Err(ScanError::TooLarge) => Broken::none(TOO_LARGE),
-        Err(ScanError::Layout(head)) => answer(head),
-    }
+    answer(scan_datagram(bytes, limits).into_result())
 }
 
 /// The header that breaks a rule at the datagram's first fault, or that there is none; 12 where one

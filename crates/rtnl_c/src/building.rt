@@ -387,8 +387,7 @@ pub extern "C" fn rtnlc_builder_put_u16(
     ensures { Calls (λ b. put b (number_in kind) (flags_in kind) (num value 2 (order_of b)))
         kept.old out.old kept.new out.new result }
 {
-    let bytes = order(kept.big == 1).u16_bytes(value);
-    put_bytes(kept, out, kind, &bytes)
+    put_bytes(kept, out, kind, &order(kept.big == 1).u16_bytes(value))
 }
 
 /// Puts an attribute of this number in 2 bytes of network order.
@@ -402,8 +401,7 @@ pub extern "C" fn rtnlc_builder_put_be16(
     ensures { Calls (λ b. put b (number_in kind) (flags_in kind) (num value 2 Big))
         kept.old out.old kept.new out.new result }
 {
-    let bytes = Order::Big.u16_bytes(value);
-    put_bytes(kept, out, kind, &bytes)
+    put_bytes(kept, out, kind, &Order::Big.u16_bytes(value))
 }
 
 /// Puts an attribute of this number in 4 bytes of the builder's order.
@@ -417,8 +415,7 @@ pub extern "C" fn rtnlc_builder_put_u32(
     ensures { Calls (λ b. put b (number_in kind) (flags_in kind) (num value 4 (order_of b)))
         kept.old out.old kept.new out.new result }
 {
-    let bytes = order(kept.big == 1).u32_bytes(value);
-    put_bytes(kept, out, kind, &bytes)
+    put_bytes(kept, out, kind, &order(kept.big == 1).u32_bytes(value))
 }
 
 /// Puts an attribute of this number in 4 bytes of network order.
@@ -432,8 +429,7 @@ pub extern "C" fn rtnlc_builder_put_be32(
     ensures { Calls (λ b. put b (number_in kind) (flags_in kind) (num value 4 Big))
         kept.old out.old kept.new out.new result }
 {
-    let bytes = Order::Big.u32_bytes(value);
-    put_bytes(kept, out, kind, &bytes)
+    put_bytes(kept, out, kind, &Order::Big.u32_bytes(value))
 }
 
 /// Puts an attribute of this number in 8 bytes of the builder's order.
@@ -447,8 +443,7 @@ pub extern "C" fn rtnlc_builder_put_u64(
     ensures { Calls (λ b. put b (number_in kind) (flags_in kind) (num value 8 (order_of b)))
         kept.old out.old kept.new out.new result }
 {
-    let bytes = order(kept.big == 1).u64_bytes(value);
-    put_bytes(kept, out, kind, &bytes)
+    put_bytes(kept, out, kind, &order(kept.big == 1).u64_bytes(value))
 }
 
 /// Puts an attribute of this number in 8 bytes of network order.
@@ -462,8 +457,7 @@ pub extern "C" fn rtnlc_builder_put_be64(
     ensures { Calls (λ b. put b (number_in kind) (flags_in kind) (num value 8 Big))
         kept.old out.old kept.new out.new result }
 {
-    let bytes = Order::Big.u64_bytes(value);
-    put_bytes(kept, out, kind, &bytes)
+    put_bytes(kept, out, kind, &Order::Big.u64_bytes(value))
 }
 
 /// Opens an attribute that holds attributes or next hops.

@@ -1,8 +1,8 @@
 //! `rtnlc_check`: whether a datagram is accepted, and canonical. It takes memory while it runs.
 
-ghost use Rattle.std.specs.Prelude.{◌≡◌, Ok, Err};
+ghost use Rattle.std.specs.Prelude.{◌≡◌};
 ghost use Rattle.nl_frame.specs.Limits.{AreLimits};
-ghost use Rattle.rtnl_c.specs.Checked.{Checks, found, unchecked};
+ghost use Rattle.rtnl_c.specs.Checked.{Checks, found, place_of, unchecked};
 ghost use Rattle.rtnl_c.specs.Options.{bounds_in};
 
 use crate::options::{Options, limits};
@@ -21,18 +21,28 @@ pub struct Checked {
     pub canonical: bool,
 }
 
-/// An error as C is answered.
-fn refused(error: ReadError) -> Checked
-    ensures { result ≡ found (Err error) }
+/// The offset in an error, or 0.
+pub(crate) fn offset_in_error(error: ReadError) -> u32
+    ensures { result ≡ place_of error }
 {
-    let place = match error {
+    match error {
         ReadError::Layout(fault) => fault.place,
         ReadError::TooLarge | ReadError::Memory => 0,
+    }
+}
+
+/// What a check found, as C is answered.
+fn answer(checked: Result<bool, ReadError>) -> Checked
+    ensures { result ≡ found checked }
+{
+    let (place, code, canonical) = match checked {
+        Ok(canonical) => (0, 0, canonical),
+        Err(error) => (offset_in_error(error), error.code(), false),
     };
     Checked {
         place,
-        code: error.code(),
-        canonical: false,
+        code,
+        canonical,
     }
 }
 
@@ -40,14 +50,7 @@ fn refused(error: ReadError) -> Checked
 fn check(alloc: Global, bytes: &[u8], limits: &Limits) -> Checked
     ensures { Checks limits.now bytes.now result }
 {
-    match is_canonical(alloc, bytes, limits) {
-        Ok(canonical) => Checked {
-            place: 0,
-            code: 0,
-            canonical,
-        },
-        Err(error) => refused(error),
-    }
+    answer(is_canonical(alloc, bytes, limits))
 }
 
 /// Whether a datagram is canonical, accepted or refused within these limits; 12 where one of the

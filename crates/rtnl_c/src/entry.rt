@@ -4,8 +4,10 @@ ghost use Rattle.std.specs.Prelude.{◌≡◌, ◌≤◌, ◌+◌, ◌++◌, IfO
 ghost use Rattle.std.specs.Prelude.{vec_capacity, slice_get, option_map};
 ghost use Rattle.nl_attr.specs.Written.{items_len};
 ghost use Rattle.nl_route.specs.Views.{attrs_in};
-ghost use Rattle.rtnl_c.specs.Entries.{message_bytes};
+ghost use Rattle.rtnl_c.specs.Entries.{PutsMessage, message_bytes};
 
+use crate::codes::END;
+use crate::put::Put;
 use nl_attr::{Depth, Extent, Order, align4, append_bytes};
 use nl_frame::{Header, WriteError};
 use nl_route::{Head, Object, Verb};
@@ -45,21 +47,24 @@ pub(crate) fn message<H: Head>(
     Ok(out)
 }
 
-/// The message of the entry at an index of a table. `None` where the table has no such index.
-pub(crate) fn entry_in<H: Head>(
+/// Puts the message of the entry at an index of a table into a buffer.
+pub(crate) fn put_message<H: Head>(
     alloc: Global,
     table: &Table<Object<H>>,
     index: u32,
-) -> Result<Option<Vec<u8>>, WriteError>
+    out: &mut [u8],
+) -> Put
 where
     Object<H>: Entry,
-    ensures { IfOk result (λ r. option_map (λ v. v.items) r
-        ≡ option_map (λ e. message_bytes table.now.order H.family
+    ensures { PutsMessage (option_map (λ e. message_bytes table.now.order H.family
         (H.SIZE + items_len (attrs_in e.1)) (H.fields e.1.head) (attrs_in e.1))
-        (slice_get table.now.entries index)) }
+        (slice_get table.now.entries index)) out.old out.new result }
 {
-    match table.get(index) {
-        Some(entry) => Ok(Some(message(alloc, entry, table.order())?)),
-        None => Ok(None),
+    let Some(entry) = table.get(index) else {
+        return Put::none(END);
+    };
+    match message(alloc, entry, table.order()) {
+        Ok(bytes) => Put::all(bytes.as_slice(), out),
+        Err(error) => Put::none(error.code()),
     }
 }

@@ -30,17 +30,12 @@ impl Fed {
     fn taken(events: usize, progress: Progress) -> Fed
         ensures { result ≡ taken events progress }
     {
-        let Progress {
-            items,
-            ignored,
-            ended,
-        } = progress;
         Fed {
             events,
-            items,
-            ignored,
+            items: progress.items,
+            ignored: progress.ignored,
             place: 0,
-            ended,
+            ended: progress.ended,
             code: 0,
         }
     }

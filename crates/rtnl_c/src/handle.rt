@@ -86,3 +86,39 @@ impl Handle {
         }
     }
 }
+
+/// What is answered of what a handle holds, which is taken out of it for the while; or what is
+/// answered where it holds nothing.
+macro_rules! of_held {
+    ($handle:ident: $Handle:ident, $alloc:ident, $held:ident => $answer:expr, $none:expr) => {
+        match $handle.take($alloc) {
+            None => $none,
+            Some(taken) => {
+                let mut $held = taken;
+                let answer = $answer;
+                *$handle = $Handle::of($held);
+                answer
+            }
+        }
+    };
+}
+
+pub(crate) use of_held;
+
+/// The same where a message type names one family; or what `$none` makes of the error's number,
+/// `$code` where the handle holds nothing.
+macro_rules! of_family {
+    ($handle:ident: $Handle:ident, $alloc:ident, $message_type:ident,
+        ($held:ident, $kind:ident) => $answer:expr, $none:path, $code:ident) => {
+        $crate::handle::of_held!(
+            $handle: $Handle, $alloc,
+            $held => match $crate::kinds::family_of($message_type) {
+                Some($kind) => $answer,
+                None => $none($crate::codes::NO_KIND),
+            },
+            $none($code)
+        )
+    };
+}
+
+pub(crate) use of_family;

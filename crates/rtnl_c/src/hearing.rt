@@ -10,11 +10,13 @@ ghost use Rattle.rtnl_c.specs.Entries.{message_bytes};
 ghost use Rattle.rtnl_c.specs.Mirrors.{Feeds, FeedsOne, Hears, PutsBefore, PutsChanges, Tells};
 ghost use Rattle.rtnl_c.specs.Mirrors.{before_bytes, change_in, change_of, effect_before};
 ghost use Rattle.rtnl_c.specs.Mirrors.{effect_index};
-ghost use Rattle.rtnl_c.specs.Mirrors.{effect_number, fault_place, no_change};
+ghost use Rattle.rtnl_c.specs.Mirrors.{effect_number, no_change};
 ghost use Rattle.rtnl_c.specs.Mirrors.{unheard as not_heard};
 
+use crate::check::offset_in_error;
 use crate::codes::{NO_MIRROR, NO_ROOM};
 use crate::entry::message;
+use crate::handle::of_held;
 use crate::mirror::short_code;
 use crate::mirror_handle::MirrorHandle;
 use crate::put::lay;
@@ -183,15 +185,11 @@ fn put_before(
         return 0;
     }
     match entry_before(alloc, mirror, answer) {
-        Ok(Some(bytes)) => {
-            if bytes.len() <= out.len() {
-                lay(bytes.as_slice(), out);
-                bytes.len()
-            } else {
-                0
-            }
+        Ok(Some(bytes)) if bytes.len() <= out.len() => {
+            lay(bytes.as_slice(), out);
+            bytes.len()
         }
-        Ok(None) | Err(_) => 0,
+        _ => 0,
     }
 }
 
@@ -283,16 +281,6 @@ fn hear_each(
     }
 }
 
-/// The offset in an error, or 0.
-fn offset_in_error(error: ReadError) -> u32
-    ensures { result ≡ fault_place error }
-{
-    match error {
-        ReadError::Layout(fault) => fault.place,
-        ReadError::TooLarge | ReadError::Memory => 0,
-    }
-}
-
 /// How many changes there must be room for, where any are wanted: a message has 16 bytes or more.
 fn needed(room: usize, len: usize) -> usize
     ensures none { room ≡ 0 → result ≡ 0 }
@@ -344,13 +332,9 @@ pub extern "C" fn rtnlc_mirror_feed(
     ensures { Feeds bytes.now changes.old before.old handle.old.mirror
         changes.new before.new result handle.new.mirror }
 {
-    match handle.take(alloc) {
-        None => unheard(0, 0, NO_MIRROR),
-        Some(mirror) => {
-            let mut mirror = mirror;
-            let heard = feed(alloc, &mut mirror, bytes, changes, before);
-            *handle = MirrorHandle::of(mirror);
-            heard
-        }
-    }
+    of_held!(
+        handle: MirrorHandle, alloc,
+        mirror => feed(alloc, &mut mirror, bytes, changes, before),
+        unheard(0, 0, NO_MIRROR)
+    )
 }

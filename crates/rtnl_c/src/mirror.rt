@@ -11,6 +11,7 @@ ghost use Rattle.rtnl_c.specs.Mirrors.{Begins, BeginsDump, BeginsKind, LosesAll,
 ghost use Rattle.rtnl_c.specs.Mirrors.{PutsBegun, order_at, short_code as code_of_short};
 
 use crate::codes::{BUSY, NO_KIND, NO_MEMORY, NO_MIRROR, NO_ROOM, USED_SEQ};
+use crate::handle::of_held;
 use crate::kinds::family_of;
 use crate::mirror_handle::MirrorHandle;
 use crate::options::{Options, limits};
@@ -161,15 +162,11 @@ pub extern "C" fn rtnlc_mirror_begin(
     ensures { Begins handle.old.mirror (family_in (route_type message_type)) family seq port
         out.old out.new result handle.new.mirror }
 {
-    match handle.take(alloc) {
-        None => Put::none(NO_MIRROR),
-        Some(mirror) => {
-            let mut mirror = mirror;
-            let begun = begin(&mut mirror, family_of(message_type), family, seq, port, out);
-            *handle = MirrorHandle::of(mirror);
-            begun
-        }
-    }
+    of_held!(
+        handle: MirrorHandle, alloc,
+        mirror => begin(&mut mirror, family_of(message_type), family, seq, port, out),
+        Put::none(NO_MIRROR)
+    )
 }
 
 /// The kernel dropped messages: all tables are stale.
@@ -177,13 +174,5 @@ pub extern "C" fn rtnlc_mirror_begin(
 pub extern "C" fn rtnlc_mirror_lost(alloc: Global, handle: &mut MirrorHandle) -> u8
     ensures { LosesAll handle.old.mirror result handle.new.mirror }
 {
-    match handle.take(alloc) {
-        None => NO_MIRROR,
-        Some(mirror) => {
-            let mut mirror = mirror;
-            mirror.lost();
-            *handle = MirrorHandle::of(mirror);
-            0
-        }
-    }
+    of_held!(handle: MirrorHandle, alloc, mirror => { mirror.lost(); 0 }, NO_MIRROR)
 }

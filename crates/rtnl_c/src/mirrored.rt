@@ -1,23 +1,21 @@
 //! `rtnlc_mirror_table`, `_entry`, `_key` and `_find`: the tables of a mirror.
 
-ghost use Rattle.std.specs.Prelude.{◌≡◌, option_map, option_copied, IfOk};
+ghost use Rattle.std.specs.Prelude.{◌≡◌};
 ghost use Rattle.nl_route.specs.Types.{route_type};
 ghost use Rattle.nl_mirror.specs.Five.{follower_at};
 ghost use Rattle.rtnl_c.specs.Kinds.{family_in};
-ghost use Rattle.rtnl_c.specs.Entries.{PutsEntry, PutsKey, entry_bytes, key_bytes, place_of};
-ghost use Rattle.rtnl_c.specs.Entries.{size_of};
-ghost use Rattle.rtnl_c.specs.Mirrors.{OfTable, found_in, found_of, standing as standing_of};
+ghost use Rattle.rtnl_c.specs.Entries.{PutsEntry, PutsKey, found_if, place_of, size_of};
+ghost use Rattle.rtnl_c.specs.Mirrors.{OfTable, found_in, standing as standing_of};
 ghost use Rattle.rtnl_c.specs.Mirrors.{stale_number as number_of_stale, standing_in};
 ghost use Rattle.rtnl_c.specs.Mirrors.{table_at, unmirrored};
 
-use crate::codes::{END, NO_KIND, NO_MIRROR};
-use crate::entry::entry_in;
-use crate::kinds::family_of;
+use crate::codes::NO_MIRROR;
+use crate::entry::put_message;
+use crate::handle::of_family;
 use crate::mirror_handle::MirrorHandle;
 use crate::put::Put;
-use crate::tables::{FoundEntry, TableSize, found_entry, table_size};
+use crate::tables::{FoundEntry, TableSize, found, found_none, table_size};
 use nl_dump::match_table;
-use nl_frame::WriteError;
 use nl_mirror::{Mirror, Stale};
 use nl_route::Family;
 use std::alloc::Global;
@@ -111,47 +109,23 @@ pub extern "C" fn rtnlc_mirror_table(
     ensures table { result ≡ standing_in handle.old.mirror (family_in (route_type message_type)) }
     ensures stays { handle.new.mirror ≡ handle.old.mirror }
 {
-    match handle.take(alloc) {
-        None => mirrored_none(NO_MIRROR),
-        Some(mirror) => {
-            let stands = match family_of(message_type) {
-                Some(kind) => standing(&mirror, kind),
-                None => mirrored_none(NO_KIND),
-            };
-            *handle = MirrorHandle::of(mirror);
-            stands
-        }
-    }
-}
-
-/// The entry at an index of the table of a family, as its message is written; none from the
-/// table's length on.
-fn entry_message(
-    alloc: Global,
-    mirror: &Mirror,
-    kind: Family,
-    index: u32,
-) -> Result<Option<Vec<u8>>, WriteError>
-    ensures { IfOk result (λ r. option_map (λ v. v.items) r
-        ≡ entry_bytes index kind (table_at kind mirror.now)) }
-{
-    match kind {
-        Family::Link => entry_in(alloc, mirror.links(), index),
-        Family::Addr => entry_in(alloc, mirror.addrs(), index),
-        Family::Route => entry_in(alloc, mirror.routes(), index),
-        Family::Neigh => entry_in(alloc, mirror.neighs(), index),
-        Family::Rule => entry_in(alloc, mirror.rules(), index),
-    }
+    of_family!(
+        handle: MirrorHandle, alloc, message_type,
+        (mirror, kind) => standing(&mirror, kind),
+        mirrored_none, NO_MIRROR
+    )
 }
 
 /// Puts the entry at an index of the table of a family into a buffer.
 fn put_entry(alloc: Global, mirror: &Mirror, kind: Family, index: u32, out: &mut [u8]) -> Put
     ensures { PutsEntry index (table_at kind mirror.now) kind out.old out.new result }
 {
-    match entry_message(alloc, mirror, kind, index) {
-        Ok(Some(bytes)) => Put::all(bytes.as_slice(), out),
-        Ok(None) => Put::none(END),
-        Err(error) => Put::none(error.code()),
+    match kind {
+        Family::Link => put_message(alloc, mirror.links(), index, out),
+        Family::Addr => put_message(alloc, mirror.addrs(), index, out),
+        Family::Route => put_message(alloc, mirror.routes(), index, out),
+        Family::Neigh => put_message(alloc, mirror.neighs(), index, out),
+        Family::Rule => put_message(alloc, mirror.rules(), index, out),
     }
 }
 
@@ -170,34 +144,18 @@ pub extern "C" fn rtnlc_mirror_entry(
         (family_in (route_type message_type)) out.old out.new result }
     ensures stays { handle.new.mirror ≡ handle.old.mirror }
 {
-    match handle.take(alloc) {
-        None => Put::none(NO_MIRROR),
-        Some(mirror) => {
-            let put = match family_of(message_type) {
-                Some(kind) => put_entry(alloc, &mirror, kind, index, out),
-                None => Put::none(NO_KIND),
-            };
-            *handle = MirrorHandle::of(mirror);
-            put
-        }
-    }
-}
-
-/// The key of the entry at an index of the table of a family.
-fn entry_key(mirror: &Mirror, kind: Family, index: u32) -> Option<&[u8]>
-    ensures { option_copied result ≡ key_bytes index (table_at kind mirror.now) }
-{
-    match_table!(kind, mirror, table => table.key_at(index))
+    of_family!(
+        handle: MirrorHandle, alloc, message_type,
+        (mirror, kind) => put_entry(alloc, &mirror, kind, index, out),
+        Put::none, NO_MIRROR
+    )
 }
 
 /// Puts the key of the entry at an index of the table of a family into a buffer.
 fn put_key(mirror: &Mirror, kind: Family, index: u32, out: &mut [u8]) -> Put
     ensures { PutsKey index (table_at kind mirror.now) kind out.old out.new result }
 {
-    match entry_key(mirror, kind, index) {
-        Some(bytes) => Put::all(bytes, out),
-        None => Put::none(END),
-    }
+    match_table!(kind, mirror, table => Put::found(table.key_at(index), out))
 }
 
 /// Puts the key of the entry at an index of the table of the family of a message type into `out`;
@@ -215,38 +173,19 @@ pub extern "C" fn rtnlc_mirror_key(
         (family_in (route_type message_type)) out.old out.new result }
     ensures stays { handle.new.mirror ≡ handle.old.mirror }
 {
-    match handle.take(alloc) {
-        None => Put::none(NO_MIRROR),
-        Some(mirror) => {
-            let put = match family_of(message_type) {
-                Some(kind) => put_key(&mirror, kind, index, out),
-                None => Put::none(NO_KIND),
-            };
-            *handle = MirrorHandle::of(mirror);
-            put
-        }
-    }
-}
-
-/// The place of a key in the table of a family.
-#[tactic(auto, using(crate::proofs::Mirrors::keys_held))]
-fn index_of_key(mirror: &Mirror, kind: Family, key: &[u8]) -> Option<u32>
-    ensures { result ≡ place_of key.now (table_at kind mirror.now) }
-{
-    match_table!(kind, mirror, table => table.find(key))
+    of_family!(
+        handle: MirrorHandle, alloc, message_type,
+        (mirror, kind) => put_key(&mirror, kind, index, out),
+        Put::none, NO_MIRROR
+    )
 }
 
 /// Where the entry of a key stands in the table of a family.
-fn find(mirror: &Mirror, kind: Option<Family>, key: &[u8]) -> FoundEntry
-    ensures { result ≡ found_of mirror.now kind key.now }
+#[tactic(auto, using(crate::proofs::Mirrors::keys_held))]
+fn find(mirror: &Mirror, kind: Family, key: &[u8]) -> FoundEntry
+    ensures { result ≡ found_if (place_of key.now (table_at kind mirror.now)) }
 {
-    let Some(kind) = kind else {
-        return found_entry(0, NO_KIND);
-    };
-    match index_of_key(mirror, kind, key) {
-        Some(index) => found_entry(index, 0),
-        None => found_entry(0, END),
-    }
+    match_table!(kind, mirror, table => found(table.find(key)))
 }
 
 /// Where the entry of a key stands in the table of the family of a message type; 25 where the
@@ -262,12 +201,9 @@ pub extern "C" fn rtnlc_mirror_find(
         (family_in (route_type message_type)) key.now }
     ensures stays { handle.new.mirror ≡ handle.old.mirror }
 {
-    match handle.take(alloc) {
-        None => found_entry(0, NO_MIRROR),
-        Some(mirror) => {
-            let found = find(&mirror, family_of(message_type), key);
-            *handle = MirrorHandle::of(mirror);
-            found
-        }
-    }
+    of_family!(
+        handle: MirrorHandle, alloc, message_type,
+        (mirror, kind) => find(&mirror, kind, key),
+        found_none, NO_MIRROR
+    )
 }

@@ -67,20 +67,12 @@ pub(crate) fn context(number: u8) -> Option<Ctx>
 fn answer(content: Content) -> Holds
     ensures { result ≡ held content }
 {
-    match content {
-        Content::Bytes => Holds {
-            sort: SORT_BYTES,
-            context: 0,
-        },
-        Content::List(inner) => Holds {
-            sort: SORT_LIST,
-            context: number(inner),
-        },
-        Content::Hops => Holds {
-            sort: SORT_HOPS,
-            context: number(Ctx::Route),
-        },
-    }
+    let (sort, context) = match content {
+        Content::Bytes => (SORT_BYTES, 0),
+        Content::List(inner) => (SORT_LIST, number(inner)),
+        Content::Hops => (SORT_HOPS, number(Ctx::Route)),
+    };
+    Holds { sort, context }
 }
 
 /// What the body of a message of this type begins with.

@@ -1,10 +1,11 @@
 //! Bytes that are answered in a buffer of C's.
 
-ghost use Rattle.std.specs.Prelude.{◌≡◌, ◌≤◌, ◌++◌, length, drop};
+ghost use Rattle.std.specs.Prelude.{◌≡◌, ◌≤◌, ◌++◌, length, drop, option_copied};
 ghost use Rattle.nl_dump.specs.Request.{request_of};
-ghost use Rattle.rtnl_c.specs.Put.{IsPut, not_put};
+ghost use Rattle.rtnl_c.specs.Codes.{nothing_there};
+ghost use Rattle.rtnl_c.specs.Put.{IsPut, PutsFound, not_put};
 
-use crate::codes::NO_ROOM;
+use crate::codes::{END, NO_ROOM};
 use nl_attr::Order;
 use nl_dump::Dump;
 
@@ -36,6 +37,16 @@ impl Put {
         }
         lay(bytes, out);
         Put { len, code: 0 }
+    }
+
+    /// Puts what was found at the front of a buffer, where that has room for it.
+    pub(crate) fn found(bytes: Option<&[u8]>, out: &mut [u8]) -> Put
+        ensures { PutsFound (option_copied bytes.entry) nothing_there out.old out.new result }
+    {
+        match bytes {
+            Some(bytes) => Put::all(bytes, out),
+            None => Put::none(END),
+        }
     }
 
     /// Puts bytes at the front of a buffer, and others right behind them, where it has room for all.

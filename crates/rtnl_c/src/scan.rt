@@ -4,8 +4,9 @@
 ghost use Rattle.std.specs.Prelude.{◌≡◌, ◌≤◌, ◌*◌, length};
 ghost use Rattle.nl_frame.specs.Limits.{AreLimits};
 ghost use Rattle.rtnl_c.specs.Options.{bounds_in};
-ghost use Rattle.rtnl_c.specs.Scanned.{Scans, Tapes, place_of, refused, untaped};
+ghost use Rattle.rtnl_c.specs.Scanned.{Scans, Tapes, refusal_of, refused, untaped};
 
+use crate::codes::TOO_LARGE;
 use crate::options::{Options, limits};
 use nl_attr::Tally;
 use nl_frame::{Counted, Event, Limits, ScanError, scan_datagram, tape_datagram};
@@ -37,13 +38,14 @@ pub struct Taped {
     pub code: u8,
 }
 
-/// The offset in an error, or 0.
-fn offset_in_error(error: ScanError) -> u32
-    ensures { result ≡ place_of error }
+/// The offset and the number of what a scan answers; 0 and 0 where the datagram is accepted.
+fn refusal(answer: Result<(), ScanError>) -> (u32, u8)
+    ensures { result ≡ refusal_of answer }
 {
-    match error {
-        ScanError::Layout(head) => head.fault.place,
-        ScanError::TooLarge => 0,
+    match answer {
+        Ok(()) => (0, 0),
+        Err(ScanError::TooLarge) => (0, TOO_LARGE),
+        Err(ScanError::Layout(head)) => (head.fault.place, head.fault.code()),
     }
 }
 
@@ -52,17 +54,11 @@ fn scan(bytes: &[u8], limits: &Limits) -> Scanned
     ensures { Scans limits.now bytes.now result }
 {
     let Tally { result, visits } = scan_datagram(bytes, limits);
-    match result {
-        Ok(()) => Scanned {
-            visits,
-            place: 0,
-            code: 0,
-        },
-        Err(error) => Scanned {
-            visits,
-            place: offset_in_error(error),
-            code: error.code(),
-        },
+    let (place, code) = refusal(result);
+    Scanned {
+        visits,
+        place,
+        code,
     }
 }
 
@@ -75,19 +71,12 @@ fn tape(bytes: &[u8], limits: &Limits, out: &mut [Event]) -> Taped
         scan: Tally { result, visits },
         count,
     } = tape_datagram(bytes, limits, out);
-    match result {
-        Ok(()) => Taped {
-            count,
-            visits,
-            place: 0,
-            code: 0,
-        },
-        Err(error) => Taped {
-            count,
-            visits,
-            place: offset_in_error(error),
-            code: error.code(),
-        },
+    let (place, code) = refusal(result);
+    Taped {
+        count,
+        visits,
+        place,
+        code,
     }
 }
 

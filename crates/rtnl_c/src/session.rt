@@ -5,19 +5,18 @@ ghost use Rattle.nl_route.specs.Types.{route_type};
 ghost use Rattle.rtnl_c.specs.Kinds.{family_in};
 ghost use Rattle.rtnl_c.specs.Options.{bounds_in};
 ghost use Rattle.rtnl_c.specs.Sessions.{Abandoned, AbandonsOne, Begins, BeginsFamily};
-ghost use Rattle.rtnl_c.specs.Sessions.{BeginsKind, Feeds, FeedsOne, Makes, News};
+ghost use Rattle.rtnl_c.specs.Sessions.{Feeds, FeedsOne, Makes, News};
+ghost use Rattle.rtnl_c.specs.Sessions.{abandon_code as code_of_abandoned};
 ghost use Rattle.rtnl_c.specs.Status.{session_status};
 
-use crate::codes::{BUSY, NO_KIND, NO_MEMORY, NO_ROOM, NO_SESSION};
+use crate::codes::{BUSY, NO_MEMORY, NO_ROOM, NO_SESSION};
 use crate::fed::Fed;
-use crate::handle::Handle;
-use crate::kinds::family_of;
+use crate::handle::{Handle, of_family, of_held};
 use crate::options::{Options, limits};
 use crate::put::Put;
 use crate::status::Status;
 use nl_dump::{Dump, NotWaiting, Seed, Session};
 use nl_frame::Limits;
-use nl_route::Family;
 use std::alloc::Global;
 
 /// Makes a session of these limits and this seed in a handle that has none.
@@ -61,8 +60,8 @@ pub extern "C" fn rtnlc_session_free(alloc: Global, handle: &mut Handle)
     let _gone = handle.take(alloc);
 }
 
-/// Begins a dump of a family.
-fn begin_family(session: &mut Session, dump: Dump, out: &mut [u8]) -> Put
+/// Begins a dump.
+fn begin(session: &mut Session, dump: Dump, out: &mut [u8]) -> Put
     ensures { BeginsFamily session.old dump.kind dump.family dump.seq dump.port out.old out.new
         result (Some session.new) }
 {
@@ -74,30 +73,6 @@ fn begin_family(session: &mut Session, dump: Dump, out: &mut [u8]) -> Put
         Ok(request) => Put::all(request.as_slice(), out),
         Err(error) => Put::none(error.code()),
     }
-}
-
-/// Begins a dump of the family of a message type.
-fn begin_kind(
-    session: &mut Session,
-    kind: Option<Family>,
-    family: u8,
-    seq: u32,
-    port: u32,
-    out: &mut [u8],
-) -> Put
-    ensures { BeginsKind session.old kind family seq port out.old out.new
-        result (Some session.new) }
-{
-    let Some(kind) = kind else {
-        return Put::none(NO_KIND);
-    };
-    let dump = Dump {
-        kind,
-        family,
-        seq,
-        port,
-    };
-    begin_family(session, dump, out)
 }
 
 /// Begins a dump of the family of a message type, and puts the bytes of its request into `out`. 20
@@ -117,22 +92,11 @@ pub extern "C" fn rtnlc_session_begin(
     ensures { Begins handle.old.session (family_in (route_type message_type)) family seq port
         out.old out.new result handle.new.session }
 {
-    match handle.take(alloc) {
-        None => Put::none(NO_SESSION),
-        Some(session) => {
-            let mut session = session;
-            let begun = begin_kind(
-                &mut session,
-                family_of(message_type),
-                family,
-                seq,
-                port,
-                out,
-            );
-            *handle = Handle::of(session);
-            begun
-        }
-    }
+    of_family!(
+        handle: Handle, alloc, message_type,
+        (session, kind) => begin(&mut session, Dump { kind, family, seq, port }, out),
+        Put::none, NO_SESSION
+    )
 }
 
 /// Feeds a datagram to a session.
@@ -147,14 +111,20 @@ fn feed(session: &mut Session, bytes: &[u8]) -> Fed
 pub extern "C" fn rtnlc_session_feed(alloc: Global, handle: &mut Handle, bytes: &[u8]) -> Fed
     ensures { Feeds handle.old.session bytes.now result handle.new.session }
 {
-    match handle.take(alloc) {
-        None => Fed::untaken(0, 0, NO_SESSION),
-        Some(session) => {
-            let mut session = session;
-            let fed = feed(&mut session, bytes);
-            *handle = Handle::of(session);
-            fed
-        }
+    of_held!(
+        handle: Handle, alloc,
+        session => feed(&mut session, bytes),
+        Fed::untaken(0, 0, NO_SESSION)
+    )
+}
+
+/// The number of what became of a dump that was to be abandoned.
+pub(crate) fn abandon_code(abandoned: Result<(), NotWaiting>) -> u8
+    ensures { result ≡ code_of_abandoned abandoned }
+{
+    match abandoned {
+        Ok(()) => 0,
+        Err(error) => error.code(),
     }
 }
 
@@ -162,10 +132,7 @@ pub extern "C" fn rtnlc_session_feed(alloc: Global, handle: &mut Handle, bytes: 
 fn abandon(session: &mut Session) -> u8
     ensures { AbandonsOne session.old result session.new }
 {
-    match session.abandon() {
-        Ok(()) => 0,
-        Err(NotWaiting) => NotWaiting.code(),
-    }
+    abandon_code(session.abandon())
 }
 
 /// Ends the dump that waits, as abandoned; 8 where none does.
@@ -173,15 +140,7 @@ fn abandon(session: &mut Session) -> u8
 pub extern "C" fn rtnlc_session_abandon(alloc: Global, handle: &mut Handle) -> u8
     ensures { Abandoned handle.old.session result handle.new.session }
 {
-    match handle.take(alloc) {
-        None => NO_SESSION,
-        Some(session) => {
-            let mut session = session;
-            let code = abandon(&mut session);
-            *handle = Handle::of(session);
-            code
-        }
-    }
+    of_held!(handle: Handle, alloc, session => abandon(&mut session), NO_SESSION)
 }
 
 /// Where the session of a handle stands.
@@ -190,12 +149,9 @@ pub extern "C" fn rtnlc_session_status(alloc: Global, handle: &mut Handle) -> St
     ensures status { result ≡ session_status handle.old.session }
     ensures stays { handle.new.session ≡ handle.old.session }
 {
-    match handle.take(alloc) {
-        None => Status::none(NO_SESSION),
-        Some(session) => {
-            let status = Status::of_session(&session);
-            *handle = Handle::of(session);
-            status
-        }
-    }
+    of_held!(
+        handle: Handle, alloc,
+        session => Status::of_session(&session),
+        Status::none(NO_SESSION)
+    )
 }

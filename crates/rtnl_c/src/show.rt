@@ -1,15 +1,13 @@
 //! `rtnlc_show` and `rtnlc_show_json`: a datagram as text, or as a line of JSON. They take memory
 //! while they run.
 
-ghost use Rattle.std.specs.Prelude.{◌≡◌, IfOk};
+ghost use Rattle.std.specs.Prelude.{◌≡◌};
 ghost use Rattle.nl_frame.specs.Limits.{AreLimits};
-ghost use Rattle.rtnl.specs.Shown.{Answer, Answers, datagram_json, datagram_text};
 ghost use Rattle.rtnl_c.specs.Options.{bounds_in};
 ghost use Rattle.rtnl_c.specs.Shown.{IsShown, Shows, ShowsJson, laid, unshown};
 
 use crate::codes::NO_MEMORY;
 use crate::options::{Options, limits};
-use nl_frame::Limits;
 use rtnl::{push_datagram, push_datagram_json};
 use std::alloc::{AllocError, Global};
 
@@ -32,36 +30,6 @@ impl Shown {
     }
 }
 
-/// The text of a datagram.
-fn text_of(
-    alloc: Global,
-    number: usize,
-    bytes: &[u8],
-    limits: &Limits,
-) -> Result<Vec<u8>, AllocError>
-    ensures { IfOk result (λ text. (answer : Answer) × Answers limits.now bytes.now answer
-        × (text.items ≡ datagram_text limits.now.shape.order number bytes.now answer)) }
-{
-    let mut text = Vec::new(alloc);
-    push_datagram(alloc, &mut text, number, bytes, limits)?;
-    Ok(text)
-}
-
-/// The line of JSON of a datagram.
-fn json_of(
-    alloc: Global,
-    number: usize,
-    bytes: &[u8],
-    limits: &Limits,
-) -> Result<Vec<u8>, AllocError>
-    ensures { IfOk result (λ text. (answer : Answer) × Answers limits.now bytes.now answer
-        × (text.items ≡ datagram_json limits.now.shape.order number bytes.now answer)) }
-{
-    let mut text = Vec::new(alloc);
-    push_datagram_json(alloc, &mut text, number, bytes, limits)?;
-    Ok(text)
-}
-
 /// Puts the front of a text into a buffer, as much as it has room for.
 pub(crate) fn lay(text: &[u8], out: &mut [u8])
     ensures { out.new ≡ laid text.now out.old }
@@ -71,12 +39,11 @@ pub(crate) fn lay(text: &[u8], out: &mut [u8])
 }
 
 /// Puts a text into a buffer, as far as it goes, where memory sufficed for it.
-fn show(text: Result<Vec<u8>, AllocError>, out: &mut [u8]) -> Shown
-    ensures { IsShown text out.old out.new result }
+fn show(made: Result<bool, AllocError>, text: &[u8], out: &mut [u8]) -> Shown
+    ensures { IsShown made text.now out.old out.new result }
 {
-    match text {
-        Ok(text) => {
-            let text = text.as_slice();
+    match made {
+        Ok(_) => {
             lay(text, out);
             Shown {
                 len: text.len(),
@@ -104,7 +71,11 @@ pub extern "C" fn rtnlc_show(
         → (result ≡ unshown 12) × (out.new ≡ out.old) }
 {
     match limits(options) {
-        Ok(limits) => show(text_of(alloc, number, bytes, &limits), out),
+        Ok(limits) => {
+            let mut text = Vec::new(alloc);
+            let made = push_datagram(alloc, &mut text, number, bytes, &limits);
+            show(made, text.as_slice(), out)
+        }
         Err(fault) => Shown::none(fault.code()),
     }
 }
@@ -125,7 +96,11 @@ pub extern "C" fn rtnlc_show_json(
         → (result ≡ unshown 12) × (out.new ≡ out.old) }
 {
     match limits(options) {
-        Ok(limits) => show(json_of(alloc, number, bytes, &limits), out),
+        Ok(limits) => {
+            let mut text = Vec::new(alloc);
+            let made = push_datagram_json(alloc, &mut text, number, bytes, &limits);
+            show(made, text.as_slice(), out)
+        }
         Err(fault) => Shown::none(fault.code()),
     }
 }

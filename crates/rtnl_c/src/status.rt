@@ -37,6 +37,7 @@ pub struct Status {
 }
 
 /// The last dump, in the numbers that `Status` has.
+#[derive(Drop)]
 pub(crate) struct Last {
     pub(crate) seq: u32,
     pub(crate) port: u32,
@@ -109,24 +110,17 @@ impl Status {
     fn by(standing: &Standing, complete: bool) -> Status
         ensures { result ≡ status_by standing.now complete }
     {
-        let Last {
-            seq,
-            port,
-            status,
-            kind,
-            family,
-            state,
-        } = Last::of(standing.state);
+        let last = Last::of(standing.state);
         Status {
             received: standing.received,
             visits: standing.visits,
             ignored: standing.ignored,
-            seq,
-            port,
-            status,
-            kind,
-            family,
-            state,
+            seq: last.seq,
+            port: last.port,
+            status: last.status,
+            kind: last.kind,
+            family: last.family,
+            state: last.state,
             damaged: standing.damaged,
             interrupted: standing.interrupted,
             complete,

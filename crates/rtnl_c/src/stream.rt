@@ -2,17 +2,19 @@
 
 ghost use Rattle.std.specs.Prelude.{◌≡◌};
 ghost use Rattle.nl_route.specs.Types.{route_type};
+ghost use Rattle.nl_dump.specs.Request.{request_of};
 ghost use Rattle.rtnl_c.specs.Kinds.{family_in};
 ghost use Rattle.rtnl_c.specs.Streams.{Abandons, Begins, BeginsOne, Feeds, News, Restores};
-ghost use Rattle.rtnl_c.specs.Streams.{Tells, begun_in, flag_in, kept_of, state_in};
+ghost use Rattle.rtnl_c.specs.Streams.{PutsBegun, Tells, begun_in, flag_in, kept_of, state_in};
 
 use crate::codes::{NO_KIND, NO_ROOM, NO_STREAM};
 use crate::fed::Fed;
 use crate::kinds::family_of;
 use crate::options::{Options, limits, order};
 use crate::put::Put;
+use crate::session::abandon_code;
 use crate::status::{Last, Status};
-use nl_dump::{Dump, End, Standing, State, Stream};
+use nl_dump::{BeginError, Dump, End, Standing, State, Stream};
 use nl_frame::{Event, Limits, Order};
 use nl_route::Family;
 
@@ -77,23 +79,13 @@ fn state_of(kept: &StreamState) -> Option<State>
     if kept.state == 0 {
         return Some(State::Idle);
     }
-    let kind = family_of(kept.kind)?;
-    let StreamState {
-        family,
-        seq,
-        port,
-        ..
-    } = *kept;
-    begun_state(
-        kept.state,
-        kept.status,
-        Dump {
-            kind,
-            family,
-            seq,
-            port,
-        },
-    )
+    let dump = Dump {
+        kind: family_of(kept.kind)?,
+        family: kept.family,
+        seq: kept.seq,
+        port: kept.port,
+    };
+    begun_state(kept.state, kept.status, dump)
 }
 
 /// The stream in the struct. `None` where it holds no stream's state.
@@ -123,14 +115,7 @@ fn to_state(stream: &Stream) -> StreamState
 {
     let standing = stream.standing();
     let limits = standing.limits;
-    let Last {
-        seq,
-        port,
-        status,
-        kind,
-        family,
-        state,
-    } = Last::of(standing.state);
+    let last = Last::of(standing.state);
     StreamState {
         total: limits.total(),
         received: standing.received,
@@ -138,12 +123,12 @@ fn to_state(stream: &Stream) -> StreamState
         ignored: standing.ignored,
         datagram: limits.datagram(),
         entries: limits.entries(),
-        seq,
-        port,
-        status,
-        kind,
-        family,
-        state,
+        seq: last.seq,
+        port: last.port,
+        status: last.status,
+        kind: last.kind,
+        family: last.family,
+        state: last.state,
         depth: limits.depth().get(),
         big: u8::from(limits.order() == Order::Big),
         damaged: u8::from(standing.damaged),
@@ -165,15 +150,22 @@ pub extern "C" fn rtnlc_stream_new(kept: &mut StreamState, options: &Options) ->
     }
 }
 
+/// Puts the request of a dump that was begun so into the buffer.
+fn put_begun(begun: Result<(), BeginError>, dump: &Dump, order: Order, out: &mut [u8]) -> Put
+    ensures { PutsBegun (request_of order dump.now) begun out.old out.new result }
+{
+    match begun {
+        Ok(()) => Put::request(dump, order, out),
+        Err(error) => Put::none(error.code()),
+    }
+}
+
 /// Begins a dump in a stream, and puts its request into the buffer.
 fn begin_dump(stream: &mut Stream, dump: Dump, out: &mut [u8]) -> Put
     ensures { BeginsOne stream.old dump out.old stream.new out.new result }
 {
     let order = stream.standing().limits.order();
-    match stream.begin(dump) {
-        Ok(()) => Put::request(&dump, order, out),
-        Err(error) => Put::none(error.code()),
-    }
+    put_begun(stream.begin(dump), &dump, order, out)
 }
 
 /// Begins a dump of the family of a message type in the stream that is kept, and puts its request
@@ -192,7 +184,7 @@ pub extern "C" fn rtnlc_stream_begin(
     ensures { Begins kept.old (family_in (route_type message_type)) family seq port out.old
         kept.new out.new result }
 {
-    let Some(restored) = restore(kept) else {
+    let Some(mut stream) = restore(kept) else {
         return Put::none(NO_STREAM);
     };
     let Some(kind) = family_of(message_type) else {
@@ -208,7 +200,6 @@ pub extern "C" fn rtnlc_stream_begin(
     if out.len() < len {
         return Put { len, code: NO_ROOM };
     }
-    let mut stream = restored;
     let begun = begin_dump(&mut stream, dump, out);
     *kept = to_state(&stream);
     begun
@@ -219,10 +210,9 @@ pub extern "C" fn rtnlc_stream_begin(
 pub extern "C" fn rtnlc_stream_feed(kept: &mut StreamState, bytes: &[u8], out: &mut [Event]) -> Fed
     ensures { Feeds kept.old bytes.now out.old kept.new out.new result }
 {
-    let Some(restored) = restore(kept) else {
+    let Some(mut stream) = restore(kept) else {
         return Fed::untaken(0, 0, NO_STREAM);
     };
-    let mut stream = restored;
     let fed = stream.feed(bytes, out);
     *kept = to_state(&stream);
     Fed::by_stream(fed)
@@ -233,16 +223,12 @@ pub extern "C" fn rtnlc_stream_feed(kept: &mut StreamState, bytes: &[u8], out: &
 pub extern "C" fn rtnlc_stream_abandon(kept: &mut StreamState) -> u8
     ensures { Abandons kept.old kept.new result }
 {
-    let Some(restored) = restore(kept) else {
+    let Some(mut stream) = restore(kept) else {
         return NO_STREAM;
     };
-    let mut stream = restored;
     let abandoned = stream.abandon();
     *kept = to_state(&stream);
-    match abandoned {
-        Ok(()) => 0,
-        Err(error) => error.code(),
-    }
+    abandon_code(abandoned)
 }
 
 /// Where the dump of the stream that is kept stands.

@@ -1,20 +1,18 @@
 //! `rtnlc_session_table`, `_entry`, `_key` and `_find`: the tables of a session.
 
-ghost use Rattle.std.specs.Prelude.{◌≡◌, length, option_map, option_copied, IfOk};
+ghost use Rattle.std.specs.Prelude.{◌≡◌, length};
 ghost use Rattle.nl_route.specs.Types.{route_type};
 ghost use Rattle.nl_dump.specs.View.{table_at};
 ghost use Rattle.rtnl_c.specs.Kinds.{family_in};
-ghost use Rattle.rtnl_c.specs.Entries.{OfTable, PutsEntry, PutsKey, entry_bytes, key_bytes};
-ghost use Rattle.rtnl_c.specs.Entries.{found_at, found_in, found_of, no_table, place_of};
-ghost use Rattle.rtnl_c.specs.Entries.{size_at, size_of, sized, table_in};
+ghost use Rattle.rtnl_c.specs.Entries.{OfTable, PutsEntry, PutsKey};
+ghost use Rattle.rtnl_c.specs.Entries.{found_at, found_if, found_in, no_table, place_of};
+ghost use Rattle.rtnl_c.specs.Entries.{size_of, sized, table_in};
 
-use crate::codes::{END, NO_KIND, NO_SESSION};
-use crate::entry::entry_in;
-use crate::handle::Handle;
-use crate::kinds::family_of;
+use crate::codes::{END, NO_SESSION};
+use crate::entry::put_message;
+use crate::handle::{Handle, of_family};
 use crate::put::Put;
 use nl_dump::{Session, match_table};
-use nl_frame::WriteError;
 use nl_route::Family;
 use nl_table::{Entry, Table};
 use std::alloc::Global;
@@ -74,16 +72,6 @@ fn size_in(session: &Session, kind: Family) -> TableSize
     match_table!(kind, session, table => table_size(table))
 }
 
-/// The size of the table of a family, where the family is known.
-fn size_of_kind(session: &Session, kind: Option<Family>) -> TableSize
-    ensures { result ≡ size_at session.now kind }
-{
-    match kind {
-        Some(kind) => size_in(session, kind),
-        None => table_none(NO_KIND),
-    }
-}
-
 /// The size of the table of the family of a message type.
 #[unsafe(no_mangle)]
 pub extern "C" fn rtnlc_session_table(
@@ -94,44 +82,23 @@ pub extern "C" fn rtnlc_session_table(
     ensures table { result ≡ table_in handle.old.session (family_in (route_type message_type)) }
     ensures stays { handle.new.session ≡ handle.old.session }
 {
-    match handle.take(alloc) {
-        None => table_none(NO_SESSION),
-        Some(session) => {
-            let size = size_of_kind(&session, family_of(message_type));
-            *handle = Handle::of(session);
-            size
-        }
-    }
-}
-
-/// The entry at an index of the table of a family, as its message is written; none from the
-/// table's length on.
-fn entry_message(
-    alloc: Global,
-    session: &Session,
-    kind: Family,
-    index: u32,
-) -> Result<Option<Vec<u8>>, WriteError>
-    ensures { IfOk result (λ r. option_map (λ v. v.items) r
-        ≡ entry_bytes index kind (table_at kind session.now.tables)) }
-{
-    match kind {
-        Family::Link => entry_in(alloc, session.links(), index),
-        Family::Addr => entry_in(alloc, session.addrs(), index),
-        Family::Route => entry_in(alloc, session.routes(), index),
-        Family::Neigh => entry_in(alloc, session.neighs(), index),
-        Family::Rule => entry_in(alloc, session.rules(), index),
-    }
+    of_family!(
+        handle: Handle, alloc, message_type,
+        (session, kind) => size_in(&session, kind),
+        table_none, NO_SESSION
+    )
 }
 
 /// Puts the entry at an index of the table of a family into a buffer.
 fn put_entry(alloc: Global, session: &Session, kind: Family, index: u32, out: &mut [u8]) -> Put
     ensures { PutsEntry index (table_at kind session.now.tables) kind out.old out.new result }
 {
-    match entry_message(alloc, session, kind, index) {
-        Ok(Some(bytes)) => Put::all(bytes.as_slice(), out),
-        Ok(None) => Put::none(END),
-        Err(error) => Put::none(error.code()),
+    match kind {
+        Family::Link => put_message(alloc, session.links(), index, out),
+        Family::Addr => put_message(alloc, session.addrs(), index, out),
+        Family::Route => put_message(alloc, session.routes(), index, out),
+        Family::Neigh => put_message(alloc, session.neighs(), index, out),
+        Family::Rule => put_message(alloc, session.rules(), index, out),
     }
 }
 
@@ -150,34 +117,18 @@ pub extern "C" fn rtnlc_session_entry(
         (family_in (route_type message_type)) out.old out.new result }
     ensures stays { handle.new.session ≡ handle.old.session }
 {
-    match handle.take(alloc) {
-        None => Put::none(NO_SESSION),
-        Some(session) => {
-            let put = match family_of(message_type) {
-                Some(kind) => put_entry(alloc, &session, kind, index, out),
-                None => Put::none(NO_KIND),
-            };
-            *handle = Handle::of(session);
-            put
-        }
-    }
-}
-
-/// The key of the entry at an index of the table of a family.
-fn entry_key(session: &Session, kind: Family, index: u32) -> Option<&[u8]>
-    ensures { option_copied result ≡ key_bytes index (table_at kind session.now.tables) }
-{
-    match_table!(kind, session, table => table.key_at(index))
+    of_family!(
+        handle: Handle, alloc, message_type,
+        (session, kind) => put_entry(alloc, &session, kind, index, out),
+        Put::none, NO_SESSION
+    )
 }
 
 /// Puts the key of the entry at an index of the table of a family into a buffer.
 fn put_key(session: &Session, kind: Family, index: u32, out: &mut [u8]) -> Put
     ensures { PutsKey index (table_at kind session.now.tables) kind out.old out.new result }
 {
-    match entry_key(session, kind, index) {
-        Some(bytes) => Put::all(bytes, out),
-        None => Put::none(END),
-    }
+    match_table!(kind, session, table => Put::found(table.key_at(index), out))
 }
 
 /// Puts the key of the entry at an index of the table of the family of a message type into `out`;
@@ -195,45 +146,36 @@ pub extern "C" fn rtnlc_session_key(
         (family_in (route_type message_type)) out.old out.new result }
     ensures stays { handle.new.session ≡ handle.old.session }
 {
-    match handle.take(alloc) {
-        None => Put::none(NO_SESSION),
-        Some(session) => {
-            let put = match family_of(message_type) {
-                Some(kind) => put_key(&session, kind, index, out),
-                None => Put::none(NO_KIND),
-            };
-            *handle = Handle::of(session);
-            put
-        }
+    of_family!(
+        handle: Handle, alloc, message_type,
+        (session, kind) => put_key(&session, kind, index, out),
+        Put::none, NO_SESSION
+    )
+}
+
+/// The answer where there is no entry: the error of this number.
+pub(crate) fn found_none(code: u8) -> FoundEntry
+    ensures { result ≡ found_at 0 code }
+{
+    FoundEntry { index: 0, code }
+}
+
+/// Where an entry stands, or that there is none.
+pub(crate) fn found(index: Option<u32>) -> FoundEntry
+    ensures { result ≡ found_if index }
+{
+    match index {
+        Some(index) => FoundEntry { index, code: 0 },
+        None => found_none(END),
     }
-}
-
-/// Where an entry stands, or why none does.
-pub(crate) fn found_entry(index: u32, code: u8) -> FoundEntry
-    ensures { result ≡ found_at index code }
-{
-    FoundEntry { index, code }
-}
-
-/// The place of a key in the table of a family.
-#[tactic(auto, using(crate::proofs::Seen::keys_seen))]
-fn index_of_key(session: &Session, kind: Family, key: &[u8]) -> Option<u32>
-    ensures { result ≡ place_of key.now (table_at kind session.now.tables) }
-{
-    match_table!(kind, session, table => table.find(key))
 }
 
 /// Where the entry of a key stands in the table of a family.
-fn find(session: &Session, kind: Option<Family>, key: &[u8]) -> FoundEntry
-    ensures { result ≡ found_of session.now kind key.now }
+#[tactic(auto, using(crate::proofs::Seen::keys_seen))]
+fn find(session: &Session, kind: Family, key: &[u8]) -> FoundEntry
+    ensures { result ≡ found_if (place_of key.now (table_at kind session.now.tables)) }
 {
-    let Some(kind) = kind else {
-        return found_entry(0, NO_KIND);
-    };
-    match index_of_key(session, kind, key) {
-        Some(index) => found_entry(index, 0),
-        None => found_entry(0, END),
-    }
+    match_table!(kind, session, table => found(table.find(key)))
 }
 
 /// Where the entry of a key stands in the table of the family of a message type; 255 where none
@@ -249,12 +191,9 @@ pub extern "C" fn rtnlc_session_find(
         (family_in (route_type message_type)) key.now }
     ensures stays { handle.new.session ≡ handle.old.session }
 {
-    match handle.take(alloc) {
-        None => found_entry(0, NO_SESSION),
-        Some(session) => {
-            let found = find(&session, family_of(message_type), key);
-            *handle = Handle::of(session);
-            found
-        }
-    }
+    of_family!(
+        handle: Handle, alloc, message_type,
+        (session, kind) => find(&session, kind, key),
+        found_none, NO_SESSION
+    )
 }

@@ -69,3 +69,23 @@ fn put_alone<M: PutMessage>(message: &M, big: bool, out: &mut [u8]) -> Put
         Err(refusal) => Put::none(refusal.code()),
     }
 }
+
+/// What each call does: it puts the request with these fields, in a message of this operation.
+macro_rules! put_asked {
+    ($fields:ident, $asked:ident, $seq:ident, $big:ident, $out:ident) => {
+        match $crate::change_requests::operation($asked) {
+            Some(operation) => {
+                let (request, seq) = (&$fields.request(), $seq);
+                let asked = nl_request::Asked {
+                    request,
+                    operation,
+                    seq,
+                };
+                $crate::change_requests::put_alone(&asked, $big, $out)
+            }
+            None => $crate::put::Put::none($crate::change_requests::MISMATCH),
+        }
+    };
+}
+
+use put_asked;

@@ -2,12 +2,11 @@
 
 ghost use Rattle.std.specs.Prelude.{◌≡◌};
 ghost use Rattle.nl_request.specs.Rule.{rule_message};
-ghost use Rattle.rtnl_c.specs.ChangeRequests.{IsPutAlone, Puts, rule_in, operation_in};
-ghost use Rattle.rtnl_c.specs.Options.{order_in};
+ghost use Rattle.rtnl_c.specs.ChangeRequests.{IsPutAlone, Puts, rule_in};
 
-use crate::change_requests::{MISMATCH, operation, prefix, put_alone, some};
+use crate::change_requests::{prefix, put_asked, some};
 use crate::put::Put;
-use nl_request::{Asked, RuleRequest};
+use nl_request::RuleRequest;
 
 /// The fields of a request, as C hands them in: `struct rtnlc_rule_request` of include/rtnlc.h.
 /// Empty bytes mean that a field isn't set, as does a `has_x` that is false for its `x`.
@@ -77,24 +76,8 @@ pub extern "C" fn rtnlc_request_rule(
     big: bool,
     out: &mut [u8],
 ) -> Put
-    ensures puts { Puts (operation_in asked)
-        (λ operation. rule_message (rule_in fields.now) operation seq)
-        (order_in big) out.old out.new result }
-    ensures alone { IsPutAlone (operation_in asked)
-        (λ operation. rule_message (rule_in fields.now) operation seq)
-        (order_in big) out.new result }
+    ensures puts { Puts (rule_message (rule_in fields.now)) asked seq big out.old out.new result }
+    ensures alone { IsPutAlone (rule_message (rule_in fields.now)) asked seq big out.new result }
 {
-    let Some(operation) = operation(asked) else {
-        return Put::none(MISMATCH);
-    };
-    let request = &fields.request();
-    put_alone(
-        &Asked {
-            request,
-            operation,
-            seq,
-        },
-        big,
-        out,
-    )
+    put_asked!(fields, asked, seq, big, out)
 }

@@ -1,5 +1,4 @@
-use Rattle.rtnl_c.proofs.Common.{◌≡◌, ◌≤◌, ◌-◌, List, length, AreOpen, top, AreKept}
-use Rattle.nl_frame.specs.declared.building.OpenHead.{OpenHead}
+use Rattle.rtnl_c.proofs.Common.{◌≡◌, ◌≤◌, ◌-◌, List, length, AreOpen, top, AreKept, OpenHead}
 use Rattle.rtnl_c.proofs.building.innermost.Given as goal
 
 abbrev pub invariant-loop-index : goal.invariant-loop-index

@@ -1,6 +1,6 @@
-use Rattle.rtnl_c.proofs.Common.{arith, ap, Bounds, heads_after, parts_with}
-use Rattle.rtnl_c.specs.Building.{calls, on_none}
-use Rattle.rtnl_c.proofs.Keeping.{few_after, kept_opened, same_limits}
+use Rattle.rtnl_c.proofs.Common.{arith, ap, Bounds}
+use Rattle.rtnl_c.specs.Building.{on_none}
+use Rattle.rtnl_c.proofs.Keeping.{few_after, opens, same_limits}
 use Rattle.rtnl_c.proofs.building.rtnlc_builder_begin.Goals as goal
 
 pub returns-in_default : goal.returns-in_default
@@ -13,21 +13,14 @@ begin_bytes-opened-requires c =
 
 pub keep_opened-requires : goal.keep_opened-requires
 keep_opened-requires c =
-    let k = c.in-Some.ensures in
-    let t = c.begin_bytes-opened in
-    let bounds = same_limits c.in-Some.top t.new.self _ _ t.result t.ensures.opens in
+    let k = c.in-Some.ensures in let t = c.begin_bytes-opened in
     record {
-      size = omega (arith, t.ensures.fits.1, ap (λ (x : Bounds). x.datagram) bounds, k.1.parts.0.3);
+      size = omega (arith, t.ensures.fits.1, ap (λ (x : Bounds). x.datagram) (same_limits c.in-Some.top t.new.self _ _ t.result t.ensures.opens), k.1.parts.0.3);
       few = few_after _ _ k.0 c.args.kept.now.count t.result k.1.count k.1.parts.0.0 (t.ensures.inside k.0 k.2 k.1.parts.2);
     }
 
 pub returns : goal.returns
 returns c =
-    let t = c.begin_bytes-opened in
-    let k = c.in-Some.ensures in
-    let p = parts_with c.in-Some.top k.0 in
-    let q = parts_with t.new.self (heads_after t.result k.0) in
-    let bounds = same_limits c.in-Some.top t.new.self _ _ t.result t.ensures.opens in
+    let k = c.in-Some.ensures in let t = c.begin_bytes-opened in
     let built = t.ensures.built k.0 k.2 in
-    let is = kept_opened c.args.kept.now c.keep_opened.new.kept _ _ c.in-Some.top t.new.self t.result k.0 k.1 bounds t.ensures.fits.0 t.ensures.fits.1 (t.ensures.inside k.0 k.2 k.1.parts.2) c.keep_opened.ensures.places c.keep_opened.ensures.kept in
-    rw (c.keep_opened.ensures.code) (calls p q k.1 c.keep_opened.new.kept t.new.out built is)
+    rw (c.keep_opened.ensures.code) (opens _ _ _ _ _ c.in-Some.top t.new.self t.result k t.ensures.opens t.ensures.fits (t.ensures.inside k.0 k.2 k.1.parts.2) c.keep_opened.ensures.places c.keep_opened.ensures.kept built)

@@ -1,6 +1,6 @@
-use Rattle.rtnl_c.proofs.Common.{sym, left_with, parts_with}
-use Rattle.rtnl_c.specs.Building.{calls, on_none}
-use Rattle.rtnl_c.proofs.Keeping.{kept_fewer, top_inside}
+use Rattle.rtnl_c.proofs.Common.{sym}
+use Rattle.rtnl_c.specs.Building.{on_none}
+use Rattle.rtnl_c.proofs.Keeping.{closes, top_inside}
 use Rattle.rtnl_c.proofs.building.rtnlc_builder_close.Goals as goal
 
 pub returns-in_default : goal.returns-in_default
@@ -13,8 +13,5 @@ close-refusal-requires c =
 
 pub returns : goal.returns
 returns c =
-    let t = c.close-refusal in
-    let k = c.in-Some.ensures in
-    let top = c.in-Some.top in
-    rw (c.keep_fewer.ensures.code) (calls (parts_with top k.0) (left_with top t.result k.0) k.1 c.keep_fewer.new.kept t.new.out (t.ensures.built k.0 k.2 (sym k.1.count))
-    (kept_fewer c.args.kept.now c.keep_fewer.new.kept _ _ top t.result k.0 k.1 t.ensures.fits c.keep_fewer.ensures.kept))
+    let k = c.in-Some.ensures in let t = c.close-refusal in
+    rw (c.keep_fewer.ensures.code) (closes _ _ _ _ _ c.in-Some.top t.result k t.ensures.fits c.keep_fewer.ensures.kept (t.ensures.built k.0 k.2 (sym k.1.count)))

@@ -1,6 +1,6 @@
-use Rattle.rtnl_c.proofs.Common.{arith, ap, BuilderTop, parts_with}
-use Rattle.rtnl_c.specs.Building.{calls, on_none}
-use Rattle.rtnl_c.proofs.Keeping.{kept_more}
+use Rattle.rtnl_c.proofs.Common.{arith, ap, BuilderTop}
+use Rattle.rtnl_c.specs.Building.{on_none}
+use Rattle.rtnl_c.proofs.Keeping.{stays}
 use Rattle.rtnl_c.proofs.building.rtnlc_builder_message.Goals as goal
 
 pub returns-in_default : goal.returns-in_default
@@ -12,15 +12,10 @@ message-requires c =
     record { fits = (k.1.fits, k.1.parts.1) }
 
 pub keep_top-requires : goal.keep_top-requires
-keep_top-requires c =
-    let k = c.in-Some.ensures in
-    omega (arith, c.message.ensures.fits.1, ap (λ (x : BuilderTop). x.limits.datagram) c.message.ensures.rest, k.1.parts.0.3)
+keep_top-requires c = omega (arith, c.message.ensures.fits.1, ap (λ (x : BuilderTop). x.limits.datagram) c.message.ensures.rest, c.in-Some.ensures.1.parts.0.3)
 
 pub returns : goal.returns
 returns c =
-    let t = c.message in
-    let k = c.in-Some.ensures in
-    let p = parts_with c.in-Some.top k.0 in
-    let q = parts_with t.new.self k.0 in
-    let is = kept_more c.args.kept.now c.keep_top.new.kept _ _ c.in-Some.top t.new.self k.0 k.1 (ap (λ (x : BuilderTop). x.limits) t.ensures.rest) t.ensures.grows t.ensures.fits.0 t.ensures.fits.1 c.keep_top.ensures.kept in
-    rw (c.keep_top.ensures.code) (calls p q k.1 c.keep_top.new.kept t.new.out (t.ensures.built k.0 k.2) is)
+    let k = c.in-Some.ensures in let t = c.message in
+    let built = t.ensures.built k.0 k.2 in
+    rw (c.keep_top.ensures.code) (stays _ _ _ _ _ c.in-Some.top t.new.self k (ap (λ (x : BuilderTop). x.limits) t.ensures.rest) t.ensures.grows t.ensures.fits c.keep_top.ensures.kept built)

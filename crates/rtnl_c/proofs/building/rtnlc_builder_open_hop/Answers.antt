@@ -1,7 +1,7 @@
-use Rattle.rtnl_c.proofs.Common.{arith, ap, ℤ, w32, ◌∙◌, open_hop, Bounds, over, heads_after, parts_with}
+use Rattle.rtnl_c.proofs.Common.{arith, ap, ℤ, w32, ◌∙◌, open_hop, Bounds, over, parts_with}
 use Rattle.std.proofs.lemmas.Int.{to_z-of_z}
-use Rattle.rtnl_c.specs.Building.{calls, on_none}
-use Rattle.rtnl_c.proofs.Keeping.{few_after, kept_opened, same_limits}
+use Rattle.rtnl_c.specs.Building.{on_none}
+use Rattle.rtnl_c.proofs.Keeping.{few_after, opens, same_limits}
 use Rattle.rtnl_c.proofs.building.rtnlc_builder_open_hop.Goals as goal
 
 pub returns-in_default : goal.returns-in_default
@@ -14,21 +14,14 @@ open_hop-opened-requires c =
 
 pub keep_opened-requires : goal.keep_opened-requires
 keep_opened-requires c =
-    let k = c.in-Some.ensures in
-    let t = c.open_hop-opened in
-    let bounds = same_limits c.in-Some.top t.new.self _ _ t.result t.ensures.opens in
+    let k = c.in-Some.ensures in let t = c.open_hop-opened in
     record {
-      size = omega (arith, t.ensures.fits.1, ap (λ (x : Bounds). x.datagram) bounds, k.1.parts.0.3);
+      size = omega (arith, t.ensures.fits.1, ap (λ (x : Bounds). x.datagram) (same_limits c.in-Some.top t.new.self _ _ t.result t.ensures.opens), k.1.parts.0.3);
       few = few_after _ _ k.0 c.args.kept.now.count t.result k.1.count k.1.parts.0.0 (t.ensures.inside k.0 k.2 k.1.parts.2);
     }
 
 pub returns : goal.returns
 returns c =
-    let t = c.open_hop-opened in
-    let k = c.in-Some.ensures in
-    let p = parts_with c.in-Some.top k.0 in
-    let q = parts_with t.new.self (heads_after t.result k.0) in
-    let bounds = same_limits c.in-Some.top t.new.self _ _ t.result t.ensures.opens in
-    let built = t.ensures.built k.0 k.2 ∙ ap (λ (z : ℤ). open_hop (over p c.args.out.now) c.args.flags c.args.hops z) (to_z-of_z w32 c.args.ifindex c.ranges.ifindex) in
-    let is = kept_opened c.args.kept.now c.keep_opened.new.kept _ _ c.in-Some.top t.new.self t.result k.0 k.1 bounds t.ensures.fits.0 t.ensures.fits.1 (t.ensures.inside k.0 k.2 k.1.parts.2) c.keep_opened.ensures.places c.keep_opened.ensures.kept in
-    rw (c.keep_opened.ensures.code) (calls p q k.1 c.keep_opened.new.kept t.new.out built is)
+    let k = c.in-Some.ensures in let t = c.open_hop-opened in
+    let built = t.ensures.built k.0 k.2 ∙ ap (λ (z : ℤ). open_hop (over (parts_with c.in-Some.top k.0) c.args.out.now) c.args.flags c.args.hops z) (to_z-of_z w32 c.args.ifindex c.ranges.ifindex) in
+    rw (c.keep_opened.ensures.code) (opens _ _ _ _ _ c.in-Some.top t.new.self t.result k t.ensures.opens t.ensures.fits (t.ensures.inside k.0 k.2 k.1.parts.2) c.keep_opened.ensures.places c.keep_opened.ensures.kept built)

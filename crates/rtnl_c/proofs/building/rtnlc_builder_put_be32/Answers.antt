@@ -1,7 +1,6 @@
-use Rattle.rtnl_c.proofs.Common.{ℕ, List, subst, put, Calls, flags_in, number_in}
+use Rattle.nl_attr.specs.declared.order.Order.TheVariants.{Big}
+use Rattle.rtnl_c.proofs.Keeping.{puts_number}
 use Rattle.rtnl_c.proofs.building.rtnlc_builder_put_be32.Goals as goal
 
 pub returns : goal.returns
-returns c =
-    let t = c.put_bytes in
-    subst (λ (bs : List ℕ). Calls (λ b. put b (number_in c.args.kind) (flags_in c.args.kind) bs) c.args.kept.now c.args.out.now t.new.kept t.new.out t.result) c.u32_bytes-bytes.ensures t.ensures
+returns c = puts_number c.args.kind c.args.value 4 Big c.u32_bytes.ensures c.put_bytes.ensures

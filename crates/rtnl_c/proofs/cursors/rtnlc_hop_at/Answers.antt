@@ -1,10 +1,7 @@
 use Rattle.std.proofs.Common.{◌≡◌, ◌≤◌, ◌<◌, ◌^◌, ◌∙◌, ℕ, List, length, drop, take, Option, Some, Result, Ok, ap, subst, arith, length-drop, length-take}
-use Rattle.nl_attr.specs.declared.fault.Fault.{Fault}
-use Rattle.rtnl_c.proofs.Common.{Order, len_of}
+use Rattle.rtnl_c.proofs.Common.{Order, len_of, Fault, IsHopPart, StandsAt, LONGEST_REGION}
 use Rattle.nl_attr.specs.declared.walk.hops.HopPart.{HopPart}
-use Rattle.nl_attr.specs.Walk.{IsHopPart, StandsAt}
 use Rattle.rtnl_c.proofs.cursors.rtnlc_hop_at.Goals as goal
-use Rattle.nl_attr.specs.Fixed.{LONGEST_REGION}
 
 -- the attributes of a next hop lie in the region
 rest_small : (o : Order) (bytes : List ℕ) (place : ℕ) (found : Option (Result HopPart Fault)) (x : Result HopPart Fault) (p : HopPart) → StandsAt 8 IsHopPart o bytes place found → found ≡ Some x → x ≡ Ok p

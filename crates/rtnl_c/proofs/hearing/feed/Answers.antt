@@ -1,5 +1,4 @@
-use Rattle.rtnl_c.proofs.Common.{◌≡◌, ◌<◌, ◌≤◌, ◌/◌, ◌∙◌, Err, Ok, length, map, arith, sym, subst, refl, IsRead}
-use Rattle.nl_frame.specs.View.{message_view}
+use Rattle.rtnl_c.proofs.Common.{◌/◌, ◌∙◌, Err, Ok, length, map, arith, subst, refl, IsRead, message_view}
 use Rattle.rtnl_c.specs.Mirrors.{unheard, short_of, feeds}
 use Rattle.rtnl_c.proofs.Telling.{large_in_err, large_in_ok, read_count, is_short, is_enough}
 use Rattle.rtnl_c.proofs.hearing.feed.Goals as goal

@@ -1,6 +1,4 @@
-use Rattle.std.proofs.Common.{rules, ◌≡◌, ◌∙◌, ◌∷◌, [], List, subst, sym}
-use Rattle.std.proofs.lemmas.List.{nil_from_length}
-use Rattle.rtnl_c.proofs.Common.{take_rest, Message}
+use Rattle.rtnl_c.proofs.Common.{take_rest, Message, rules, ◌≡◌, ◌∙◌, ◌∷◌, [], List, subst, sym, nil_from_length}
 use Rattle.rtnl_c.proofs.Telling.{AreBoth, AreHeard, all_heard, all_told, both_more, none_heard, none_told}
 use Rattle.rtnl_c.proofs.hearing.hear_and_put.Goals as goal
 

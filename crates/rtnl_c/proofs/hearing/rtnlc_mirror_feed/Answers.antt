@@ -7,6 +7,6 @@ returns-in-None c = unmade_by c.args.bytes.now c.args.changes.now c.args.before.
 
 pub returns-in-Some : goal.returns-in-Some
 returns-in-Some c =
-    let h = c.feed-heard in let old = c.args.changes.now in let out = c.args.before.now in
-    fed_by c.args.bytes.now old out c.in-Some.mirror.value h.new.mirror c.args.handle.now.mirror c.of.result.mirror h.new.changes h.new.before h.result c.in-Some.ensures.taken
+    let h = c.feed-answer in let old = c.args.changes.now in let out = c.args.before.now in
+    fed_by c.args.bytes.now old out c.in-Some.taken.value h.new.mirror c.args.handle.now.mirror c.of.result.mirror h.new.changes h.new.before h.result c.in-Some.ensures.taken
     (subst (λ (m : Mirrored). FeedsOne m c.args.bytes.now old out h.new.changes h.new.before h.result h.new.mirror) c.deref_mut.ensures.value h.ensures) c.of.ensures

@@ -8,16 +8,16 @@ pub returns-in_default : goal.returns-in_default
 returns-in_default c = rw (c.none.ensures) (on_none c.in_default.ensures)
 
 pub returns-in_default-family_of : goal.returns-in_default-family_of
-returns-in_default-family_of c = rw (c.none-in_default-family_of.ensures) (of_none c.in-Some.restored c.in-Some.ensures (sym c.family_of.ensures ∙ c.in_default-family_of.is))
+returns-in_default-family_of c = rw (c.none-in_default-family_of.ensures) (of_none c.in-Some.stream c.in-Some.ensures (sym c.family_of.ensures ∙ c.in_default-family_of.is))
 
 pub returns-then-out-len : goal.returns-then-out-len
 returns-then-out-len c =
-    let s = c.in-Some.restored in
+    let s = c.in-Some.stream in
     lacks s c.in-Some.ensures c.in-Some-family_of.kind (sym c.family_of.ensures ∙ c.in-Some-family_of.is) c.request_len-len.result (c.request_len-len.ensures.request s.limits.shape.order) c.if-out-len.true
 
 pub returns : goal.returns
 returns c =
-    let s = c.in-Some.restored in
+    let s = c.in-Some.stream in
     let b = c.begin_dump-begun in
     let t = b.new.stream in
     let room : c.request_len-len.result ≤ length c.args.out.now = c.if-out-len.false in

@@ -9,4 +9,4 @@ pub returns : goal.returns
 returns c =
     let t = c.feed-fed in
     rw (c.to_state.ensures, c.by_stream.ensures)
-    (feeds c.in-Some.restored t.new.self c.in-Some.ensures t.new.out t.result t.ensures.step t.ensures.every (keeps t.new.self t.ensures.possible))
+    (feeds c.in-Some.stream t.new.self c.in-Some.ensures t.new.out t.result t.ensures.step t.ensures.every (keeps t.new.self t.ensures.possible))

@@ -1,19 +1,21 @@
-use Rattle.rtnl_c.proofs.Common.{◌∙◌, ap, List, ℕ, Option, option_map, refl, sym, subst, Vec, nothing_there, IsPut, PutsFound}
-use Rattle.rtnl_c.specs.Entries.{puts, unwritten}
+use Rattle.rtnl_c.proofs.Common.{ap, item_of, seen}
+use Rattle.nl_route.specs.declared.family.Family.TheVariants.{Link, Addr, Route, Neigh, Rule}
+use Rattle.nl_dump.specs.View.{table_at}
+use Rattle.rtnl_c.specs.Entries.{entry_bytes}
+use Rattle.rtnl_c.proofs.Seen.{puts_seen}
 use Rattle.rtnl_c.proofs.tables.put_entry.Goals as goal
 
-pub returns-in-Ok-Some : goal.returns-in-Ok-Some
-returns-in-Ok-Some c =
-    let found = sym (ap (option_map (λ (v : Vec ℕ). v.items)) c.in-Ok-Some.field-0-is) ∙ c.in-Ok-Some.ensures in
-    let new = c.all.new.out in
-    let put = subst (λ (xs : List ℕ). IsPut xs c.args.out.now new c.all.result) c.as_slice.ensures.value c.all.ensures in
-    puts new c.all.result (subst (λ (o : Option (List ℕ)). PutsFound o nothing_there c.args.out.now new c.all.result) found put)
+pub returns-in-Link : goal.returns-in-Link
+returns-in-Link c = puts_seen Link c.links.result.now c.args.index (λ k. table_at k c.args.session.now.tables) (ap (λ t. entry_bytes c.args.index Link (seen (item_of Link) t)) c.links.ensures) c.args.kind c.in-Link.is c.put_message.ensures
 
-pub returns-in-Ok-None : goal.returns-in-Ok-None
-returns-in-Ok-None c =
-    let found = sym (ap (option_map (λ (v : Vec ℕ). v.items)) c.in-Ok-None.field-0-is) ∙ c.in-Ok-None.ensures in
-    let a = c.none in
-    puts c.args.out.now a.result (subst (λ (o : Option (List ℕ)). PutsFound o nothing_there c.args.out.now c.args.out.now a.result) found (a.ensures, refl))
+pub returns-in-Addr : goal.returns-in-Addr
+returns-in-Addr c = puts_seen Addr c.addrs.result.now c.args.index (λ k. table_at k c.args.session.now.tables) (ap (λ t. entry_bytes c.args.index Addr (seen (item_of Addr) t)) c.addrs.ensures) c.args.kind c.in-Addr.is c.put_message-in-Addr.ensures
 
-pub returns-in-Err : goal.returns-in-Err
-returns-in-Err c = rw (c.none-in-Err.ensures, c.code.ensures) (unwritten c.in-Err.error)
+pub returns-in-Route : goal.returns-in-Route
+returns-in-Route c = puts_seen Route c.routes.result.now c.args.index (λ k. table_at k c.args.session.now.tables) (ap (λ t. entry_bytes c.args.index Route (seen (item_of Route) t)) c.routes.ensures) c.args.kind c.in-Route.is c.put_message-in-Route.ensures
+
+pub returns-in-Neigh : goal.returns-in-Neigh
+returns-in-Neigh c = puts_seen Neigh c.neighs.result.now c.args.index (λ k. table_at k c.args.session.now.tables) (ap (λ t. entry_bytes c.args.index Neigh (seen (item_of Neigh) t)) c.neighs.ensures) c.args.kind c.in-Neigh.is c.put_message-in-Neigh.ensures
+
+pub returns-in-Rule : goal.returns-in-Rule
+returns-in-Rule c = puts_seen Rule c.rules.result.now c.args.index (λ k. table_at k c.args.session.now.tables) (ap (λ t. entry_bytes c.args.index Rule (seen (item_of Rule) t)) c.rules.ensures) c.args.kind c.in-Rule.is c.put_message-in-Rule.ensures

@@ -1,7 +1,5 @@
 -- `of_loose` keeps the pointer, and hands on what it owns.
-use Rattle.rtnl_c.proofs.Common.{◌≡◌, List, [], ◌∷◌, ◌++◌, refl, sym, subst, true, Some, Val, vptr, SProp, ent, emp, id⊢, WpFn, ‵, raw, ◌⊛◌, ◌$◌, ◌∵◌, !, qed, by, move, keep, split, fsplit, fjoin, suffices, use0, stop, fld, true_lit, of_opd, no_more, and_then, returns, enter, alloc_all, pass_all, free_all, look_at, get, get_in, sets, fact, fact_i, tables, yes, RattleType, owns, Ptr, block_ptr, types_at, plain, alive, Stays, stay_dropped, walk_of, Goes-dropped, proved_at, leaves, ghosts}
-use types.Part.{agg, sub, whole}
-use denote.Steps.{nothing}
+use Rattle.rtnl_c.proofs.Common.{◌≡◌, List, [], ◌∷◌, ◌++◌, refl, sym, subst, true, Some, Val, vptr, SProp, ent, emp, id⊢, WpFn, ‵, raw, ◌⊛◌, ◌$◌, ◌∵◌, !, qed, by, move, keep, split, fsplit, fjoin, suffices, use0, stop, fld, true_lit, of_opd, no_more, and_then, returns, enter, alloc_all, pass_all, free_all, look_at, get, get_in, sets, fact, fact_i, tables, yes, RattleType, owns, Ptr, block_ptr, types_at, plain, alive, Stays, stay_dropped, walk_of, Goes-dropped, proved_at, leaves, ghosts, agg, sub, whole, nothing}
 use Rattle.std.specs.contracts.alloc.Global as heap
 use Rattle.std.proofs.alloc.Global.TheLaws as heap_laws
 use Rattle.rtnl_c.proofs.Pointers.{both, Loose, loose_good, loose_out}

@@ -1,16 +1,8 @@
 -- `into_box` makes the box again.
-use Rattle.rtnl_c.proofs.Common.{◌≡◌, List, [], ◌∷◌, ◌++◌, refl, sym, ap, subst, a_type, dcons, dnil, Val, vptr, SProp, ent, id⊢, ftrue, flft, WpFn, stop, fld, of_opd, no_more, and_then, first, blocks, exec, returns, enter, alloc_all, pass_all, free_all, look_at, get, get_in, sets, lands_last, env, fact, tables, no, RattleType, owns, types_at, plain, block_ptr, param, layout, bounded, param_laws, Stays, stay_dropped, walk_of, Goes-blank, after, Good, proved_at, leaves}
-use mir.MapTy.{inst_fn}
-use types.Kit.{‵, raw, ◌⊛◌, some, later, at_ret, ◌$◌, ◌∵◌, !, qed, by, move, keep, drop, split, split3, join, fsplit, fjoin, pick, suffices, use1, await, rewrite, feq_i}
-use types.Part.{sub, whole}
+use Rattle.rtnl_c.proofs.Common.{◌≡◌, List, [], ◌∷◌, ◌++◌, refl, sym, ap, subst, a_type, dcons, dnil, Val, vptr, SProp, ent, id⊢, ftrue, flft, WpFn, stop, fld, of_opd, no_more, and_then, first, blocks, exec, returns, enter, alloc_all, pass_all, free_all, look_at, get, get_in, sets, lands_last, env, fact, tables, no, RattleType, owns, types_at, plain, block_ptr, param, layout, bounded, param_laws, Stays, stay_dropped, walk_of, Goes-blank, after, Good, proved_at, leaves, inst_fn, ‵, raw, ◌⊛◌, some, later, at_ret, ◌$◌, ◌∵◌, !, qed, by, move, keep, drop, split, split3, join, fsplit, fjoin, pick, suffices, use1, await, rewrite, feq_i, sub, whole, nothing, only, triple_of, calls_at_last, fm, box_out, box_in}
 use contract.BorrowLft.{◌⊑◌}
-use denote.Steps.{nothing, only}
 use denote.Triple.Clauses.{Lasts, lasts}
-use denote.Triple.Spec.{triple_of}
-use denote.Triple.Call.{calls_at_last}
-use Rattle.core.proofs.atomic.Steps.{fm}
 use Rattle.std_alloc.proofs.BoxSteps.Form as box
-use Rattle.std_alloc.proofs.BoxSteps.Steps.{box_out, box_in}
 use Rattle.rtnl_c.proofs.Pointers.{both, Loose, loose_good, loose_out}
 use Rattle.std_alloc.specs.contracts.boxed.Box.from_raw as callee
 use Rattle.std_alloc.proofs.boxed.Box.from_raw.Met.{met}

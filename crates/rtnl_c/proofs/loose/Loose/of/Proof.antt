@@ -1,18 +1,8 @@
 -- `of` takes the box apart.
-use Rattle.rtnl_c.proofs.Common.{◌≡◌, List, [], ◌∷◌, ◌++◌, refl, sym, ap, ◌∙◌, subst, a_type, dcons, dnil, Val, vptr, vstruct, of_list, SProp, ent, emp, never, id⊢, fst∗, ftrue, fsep, flft, WpFn, sem, stop, fld, of_opd, no_more, and_then, returns, enter, alloc_all, pass_all, free_all, look_at, get, get_in, sets, lands_as, fact, fact_i, tables, no, RattleType, owns, types_at, plain, Ptr, block_ptr, null_ptr, ptr_val, in_a_block, param, layout, bounded, param_laws, Stays, stay_dropped, walk_of, Goes-blank, handle_tells, proved_at, leaves}
+use Rattle.rtnl_c.proofs.Common.{◌≡◌, List, [], ◌∷◌, ◌++◌, refl, sym, ap, ◌∙◌, subst, a_type, dcons, dnil, Val, vptr, vstruct, of_list, SProp, ent, emp, never, id⊢, fst∗, ftrue, fsep, flft, WpFn, sem, stop, fld, of_opd, no_more, and_then, returns, enter, alloc_all, pass_all, free_all, look_at, get, get_in, sets, lands_as, fact, fact_i, tables, no, RattleType, owns, types_at, plain, Ptr, block_ptr, null_ptr, ptr_val, in_a_block, param, layout, bounded, param_laws, Stays, stay_dropped, walk_of, Goes-blank, handle_tells, proved_at, leaves, inst_fn, ‵, raw, ◌⊛◌, some, later, ◌$◌, ◌∵◌, !, qed, by, move, keep, drop, split, split3, join, fsplit, fjoin, fpick, pick, suffices, use0, use1, await, rewrite, feq_l, agg, sub, whole, nothing, only, heard, triple_of, calls_at, fm, box_out, box_in, RawPtr, box_owns}
 use mir.Raw.{raw as bare}
-use mir.MapTy.{inst_fn}
-use types.Kit.{‵, raw, ◌⊛◌, some, later, ◌$◌, ◌∵◌, !, qed, by, move, keep, drop, split, split3, join, fsplit, fjoin, fpick, pick, suffices, use0, use1, await, rewrite, feq_l}
-use types.Part.{agg, sub, whole}
-use denote.Builtin.{RawPtr}
-use denote.Steps.{nothing, only, heard}
 use denote.Struct.Tuple.{Tuple}
-use denote.Triple.Spec.{triple_of}
-use denote.Triple.Call.{calls_at}
-use Rattle.core.proofs.atomic.Steps.{fm}
-use Rattle.std_alloc.specs.Box.Ownership.{box_owns}
 use Rattle.std_alloc.proofs.BoxSteps.Form as box
-use Rattle.std_alloc.proofs.BoxSteps.Steps.{box_out, box_in}
 use Rattle.rtnl_c.proofs.Pointers.{both, loose_good, loose_in}
 use Rattle.std_alloc.specs.contracts.boxed.Box.into_raw_with_allocator as callee
 use Rattle.std_alloc.proofs.boxed.Box.into_raw_with_allocator.Met.{met}

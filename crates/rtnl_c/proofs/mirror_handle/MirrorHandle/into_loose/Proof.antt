@@ -1,11 +1,6 @@
 -- `into_loose` looks whether there is a value, and hands on what the handle owns.
-use Rattle.rtnl_c.proofs.Common.{◌≡◌, List, [], ◌∷◌, ◌++◌, Bool, Some, None, refl, sym, subst, lit<, Val, vcons, vnil, SProp, ent, emp, id⊢, WpFn, stop, fld, lit, of_opd, no_more, and_then, first, branches, exec, returns, enter, alloc_all, pass_all, free_all, look_at, get, get_in, sets, sets_last, env, fact, fact_i, tables, yes, RattleType, owns, Ptr, ptr_val, types_at, type_at, plain, alive, Stays, stay_dropped, walk_of, Goes-dropped, layout, handle_tells, after, Good, and_tt, proved_at, leaves, ghosts}
+use Rattle.rtnl_c.proofs.Common.{◌≡◌, List, [], ◌∷◌, ◌++◌, Bool, Some, None, refl, sym, subst, lit<, Val, vcons, vnil, SProp, ent, emp, id⊢, WpFn, stop, fld, lit, of_opd, no_more, and_then, first, branches, exec, returns, enter, alloc_all, pass_all, free_all, look_at, get, get_in, sets, sets_last, env, fact, fact_i, tables, yes, RattleType, owns, Ptr, ptr_val, types_at, type_at, plain, alive, Stays, stay_dropped, walk_of, Goes-dropped, layout, handle_tells, after, Good, and_tt, proved_at, leaves, ghosts, ‵, raw, ◌⊛◌, at_ret, ◌$◌, ◌∵◌, !, qed, by, move, keep, drop, split, fsplit, fsplit3, fjoin, suffices, use0, use1, agg, sub, whole, live, nothing, Some-of, none_of}
 use Rattle.std.specs.Option.{option_map}
-use types.Kit.{‵, raw, ◌⊛◌, at_ret, ◌$◌, ◌∵◌, !, qed, by, move, keep, drop, split, fsplit, fsplit3, fjoin, suffices, use0, use1}
-use types.Part.{agg, sub, whole}
-use types.Match.{live}
-use denote.Steps.{nothing}
-use Rattle.core.proofs.option.Made.{Some-of, none_of}
 use Rattle.std.specs.contracts.alloc.Global as heap
 use Rattle.std.proofs.alloc.Global.TheLaws as heap_laws
 use Rattle.rtnl_c.proofs.Pointers.{both, Loose, al, loose_by}

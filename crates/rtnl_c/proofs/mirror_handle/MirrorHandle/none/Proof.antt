@@ -1,6 +1,5 @@
 -- `none` owns nothing.
-use Rattle.rtnl_c.proofs.Common.{◌≡◌, [], ◌∷◌, Option, None, refl, false, Val, SProp, emp, ‵, raw, ◌⊛◌, ◌$◌, ◌∵◌, !, qed, by, move, keep, split, fjoin, use0, lit, false_lit, no_more, and_then, returns, enter, alloc_all, pass_all, free_all, look_at, sets, agg, fact, fact_i, tables, owns, null_ptr, types_at, alive, Stays, walk_of, proved_at, leaves}
-use denote.Steps.{nothing}
+use Rattle.rtnl_c.proofs.Common.{◌≡◌, [], ◌∷◌, Option, None, refl, false, Val, SProp, emp, ‵, raw, ◌⊛◌, ◌$◌, ◌∵◌, !, qed, by, move, keep, split, fjoin, use0, lit, false_lit, no_more, and_then, returns, enter, alloc_all, pass_all, free_all, look_at, sets, agg, fact, fact_i, tables, owns, null_ptr, types_at, alive, Stays, walk_of, proved_at, leaves, nothing}
 use Rattle.rtnl_c.proofs.Handles.{handle_val, handle_own, handle_made, handle_typed}
 use Rattle.nl_mirror.specs.contracts.mirror.Mirror as mirror_type
 use Rattle.rtnl_c.specs.contracts.mirror_handle.MirrorHandle.none.{ended, clauses}
