@@ -1,4 +1,4 @@
-//! What a datagram's messages are to the dump, added up message by message.
+//! Counts the messages of a datagram by what each is to the dump.
 
 ghost use Rattle.std.specs.Prelude.{◌≡◌, ◌≤◌, ◌<◌, ◌+◌, ◌^◌, ◌||◌, ◌&&◌, Some};
 ghost use Rattle.nl_attr.specs.Fixed as fixed;
@@ -9,7 +9,7 @@ ghost use Rattle.nl_dump.specs.Inside.{taken_of};
 use crate::dump::{End, Progress};
 use crate::role::{Found, Role};
 
-/// The sum over all messages of a datagram.
+/// The counts of a whole datagram.
 #[derive(Clone, Copy, Debug, PartialEq, Eq)]
 pub(crate) struct Taken {
     pub(crate) progress: Progress,
@@ -17,13 +17,12 @@ pub(crate) struct Taken {
     pub(crate) end: Option<End>,
 }
 
-/// The sum over the messages so far, and over the events kept.
+/// The counts of the messages so far, and of the events kept.
 #[derive(Clone, Copy)]
 pub(crate) struct Counts {
     /// How many events of items are at the front of the buffer, where there is one.
     pub(crate) events: usize,
-    /// Whether the next event is kept, if it isn't a message's: the last message is an item, or
-    /// there was none.
+    /// Whether the events inside the last message are kept: it is an item, or there is none yet.
     pub(crate) keeps: bool,
     pub(crate) items: usize,
     pub(crate) ignored: usize,
@@ -31,14 +30,14 @@ pub(crate) struct Counts {
     pub(crate) end: Option<End>,
 }
 
-/// Whether a message that ends the dump also interrupts it: a DONE with the flag does.
+/// Whether an end also interrupts the dump: a DONE with `NLM_F_DUMP_INTR` does, no other end.
 fn marks_end(marked: bool, end: &End) -> bool
     ensures { result ≡ (marked && ends_done (Some end.now)) }
 {
     marked && matches!(end, End::Done(_))
 }
 
-/// Whether the dump is interrupted: it was before, or this message interrupts it.
+/// Whether the dump is interrupted: it was before, or is so now.
 pub(crate) fn is_interrupted(before: bool, now: bool) -> bool
     ensures { result ≡ (before || now) }
 {
@@ -46,7 +45,7 @@ pub(crate) fn is_interrupted(before: bool, now: bool) -> bool
 }
 
 impl Counts {
-    /// The sum over no message.
+    /// The counts before the first message.
     pub(crate) fn none() -> Counts
         ensures { result ≡ no_counts }
     {
@@ -60,7 +59,7 @@ impl Counts {
         }
     }
 
-    /// Adds one message.
+    /// Counts one message. All messages behind the end are ignored.
     #[inline(always)]
     pub(crate) fn judge(self, found: Found) -> Counts
         requires items { self.items + 1 < 2 ^ 64 }
@@ -95,7 +94,7 @@ impl Counts {
         }
     }
 
-    /// The sum as it is answered.
+    /// The counts of the datagram, after its last message.
     pub(crate) fn taken(self) -> Taken
         requires items { self.items ≤ fixed.LONGEST_REGION }
         requires ignored { self.ignored ≤ fixed.LONGEST_REGION }

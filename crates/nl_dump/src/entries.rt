@@ -25,7 +25,7 @@ fn add<T: FromBody>(
     ensures { OnOk result (entries.new.items
         ≡ entries.old.items ++ (T.key_of order entry, entry) ∷ []) }
 {
-    // The key is filled in place, since copying it would cost as much.
+    // The key is filled in place: moving it there would cost as much as filling it.
     entries.push((CompactKey::empty(), entry))?;
     let last = entries.len() - 1;
     let (key, entry) = &mut entries[last];
@@ -65,8 +65,8 @@ fn put_all<T: FromBody>(table: &mut Table<T>, entries: Vec<(CompactKey, T)>)
     }
 }
 
-/// Puts the entries that these messages bring into their table. All memory is taken before the
-/// first is put, so after an error the table is as it was.
+/// Puts the entries that these messages bring into their table. All memory is taken first, so
+/// after an error the table is as it was.
 pub(crate) fn put_items<T: FromBody>(
     alloc: Global,
     table: &mut Table<T>,

@@ -1,4 +1,4 @@
-//! Leaves the events of a dump's items in a buffer that has those of a whole datagram.
+//! Scans a datagram into a buffer of events, and keeps only those of a dump's items.
 
 ghost use Rattle.std.specs.Prelude.{◌≡◌, ◌≤◌, ◌<◌, ◌+◌, ◌*◌, ◌^◌, [], length, take, IfOk};
 ghost use Rattle.nl_attr.specs.Fixed as fixed;
@@ -23,7 +23,7 @@ pub(crate) struct PickedEvents {
 }
 
 impl Counts {
-    /// Adds one event: that of a message's header counts the message.
+    /// Counts the message, where the event is that of its header.
     #[inline(always)]
     fn at_head(self, event: Event, bytes: &[u8], order: Order, dump: &Dump) -> Counts
         requires size { length bytes.now ≤ fixed.LONGEST_REGION }
@@ -37,7 +37,7 @@ impl Counts {
         self.judge(find(bytes, event, order, dump))
     }
 
-    /// Moves an event to the front, where it is of an item.
+    /// Moves an event of an item behind those kept before, and drops any other.
     #[inline(always)]
     fn keep(self, event: Event, out: &mut [Event]) -> Counts
         requires { self.events + 1 < 2 ^ 64 }
@@ -55,7 +55,7 @@ impl Counts {
     }
 }
 
-/// The sum over the items that the datagram begins with. Their events needn't be moved.
+/// Counts the items before the first other message. Their events already lie at the front.
 #[inline(always)]
 fn front(bytes: &[u8], order: Order, dump: &Dump, out: &[Event], count: usize) -> Counts
     requires size { length bytes.now ≤ fixed.LONGEST_REGION }
@@ -123,7 +123,7 @@ pub(crate) fn lacks_room(error: &StreamError) -> bool
     matches!(error, StreamError::Room(_))
 }
 
-/// Scans a datagram once, and leaves the events of the dump's items at the front of the buffer.
+/// Scans a datagram once, and moves the events of the dump's items to the front of the buffer.
 pub(crate) fn read_events(
     limits: &Limits,
     dump: &Dump,
@@ -135,6 +135,7 @@ pub(crate) fn read_events(
     ensures bound { result.visits ≤ (limits.now.shape.depth + 1) * length bytes.now }
     ensures ignored { IfOk result.result (λ s. s.taken.progress.ignored ≤ length bytes.now) }
 {
+    // This tells the prover the range of the limit, so that the counts fit 32 bits.
     let _limit = limits.datagram();
     let Counted {
         scan: Tally { result, visits },

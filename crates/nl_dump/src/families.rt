@@ -1,4 +1,4 @@
-//! Which entry a message's body is, for each family.
+//! `FromBody`: takes the entry of a family out of a message's body.
 
 ghost use Rattle.std.specs.Prelude.{◌≡◌, is_some, refl};
 ghost use Rattle.nl_frame.specs.View.{body_view};
@@ -34,11 +34,11 @@ pub trait FromBody: Entry + Drop {
 
     ghost item: { Self → Item };
 
-    /// The entry that a body is. `None` for a body of another type.
+    /// The entry that a body is. `None` for a body of another family.
     fn from_body(body: Body) -> Option<Self>
         ensures { option_map item result ≡ body_item family (body_view body) };
 
-    // Its key is the one that the definitions give its value.
+    // The key of an entry is that of its item.
     ghost keyed: { (o : Order) (x : Self) → Self.key_of o x ≡ item_key o (item x) };
 }
 

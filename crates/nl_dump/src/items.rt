@@ -1,4 +1,4 @@
-//! Reads a datagram into messages, and leaves the items of a dump.
+//! Reads a datagram into messages, and keeps only the items of a dump.
 
 ghost use Rattle.std.specs.Prelude.{◌≡◌, ◌≤◌, ◌+◌, ◌*◌, IfOk, length, map};
 ghost use Rattle.nl_attr.specs.Fixed as fixed;
@@ -21,7 +21,7 @@ pub(crate) struct PickedItems {
     pub(crate) taken: Taken,
 }
 
-/// Drops the messages that are no items, and keeps the order of the others. It takes no memory.
+/// Drops the messages that aren't items, and keeps the order of the others. It takes no memory.
 fn pick(dump: &Dump, messages: &mut Vec<Message>) -> Counts
     requires { length messages.old.items ≤ fixed.LONGEST_REGION }
     ensures counts { AreCounts dump.now (map message_view messages.old.items) result }
@@ -40,7 +40,7 @@ fn pick(dump: &Dump, messages: &mut Vec<Message>) -> Counts
     counts
 }
 
-/// Reads a datagram, and leaves the items of the dump.
+/// Reads a datagram, and keeps only the items of the dump.
 pub(crate) fn read_items(
     alloc: Global,
     limits: &Limits,
@@ -52,7 +52,7 @@ pub(crate) fn read_items(
     ensures ignored { IfOk result.result (λ p. p.taken.progress.ignored ≤ length bytes.now) }
     ensures few { IfOk result.result (λ p. length p.items.items ≤ length bytes.now) }
 {
-    // This makes the range of the limit known to the prover, so that the counts fit 32 bits.
+    // This tells the prover the range of the limit, so that the counts fit 32 bits.
     let _limit = limits.datagram();
     let Tally { result, visits } = read_datagram(alloc, bytes, limits);
     match result {

@@ -12,8 +12,8 @@ use crate::dump::{Dump, End, State};
 use crate::errors::{BeginError, NotWaiting};
 use nl_frame::Limits;
 
-/// The whole of a stream as plain values, which can be stored anywhere. `Stream::restore` makes a
-/// stream of it again.
+/// The state, limits and counts of a stream or a session, as plain values to be stored anywhere.
+/// A stream has nothing else: `Stream::restore` makes one of these values.
 #[derive(Clone, Copy, Debug, PartialEq, Eq, Hash)]
 pub struct Standing {
     pub limits: Limits,
@@ -23,15 +23,15 @@ pub struct Standing {
     pub ignored: u64,
     /// How many bytes of attributes and next hops were visited since the stream was new.
     pub visits: u64,
-    /// How many bytes of datagrams were received since then.
+    /// How many bytes of datagrams were received since the stream was new.
     pub received: u64,
-    /// Whether a datagram of the last dump was refused.
+    /// Whether a datagram of the last dump was refused, but for `NotWaiting` and `Room`.
     pub damaged: bool,
     /// Whether an item or the ending DONE of the last dump has the flag `NLM_F_DUMP_INTR`.
     pub interrupted: bool,
 }
 
-/// The state of a dump after a datagram that ended it, or that didn't.
+/// The state of a dump after a datagram with this end, or none.
 fn state_after(dump: Dump, end: Option<End>) -> State
     ensures { result ≡ state_by dump end }
 {
@@ -42,7 +42,7 @@ fn state_after(dump: Dump, end: Option<End>) -> State
 }
 
 impl Standing {
-    /// The standing without a dump: all counts are 0.
+    /// The state before the first dump: all counts are 0.
     pub(crate) fn new(limits: Limits) -> Standing
         ensures { result ≡ new_standing limits }
     {
@@ -57,8 +57,7 @@ impl Standing {
         }
     }
 
-    /// Whether a dump of this sequence number may begin: none waits, and the last had another. Or
-    /// the error.
+    /// Checks that a dump of this sequence number may begin: none waits, and the last had another.
     pub(crate) fn may_begin(&self, seq: u32) -> Result<(), BeginError>
         ensures { MayBegin self.now.state seq result }
     {
@@ -79,7 +78,7 @@ impl Standing {
         self.interrupted = false;
     }
 
-    /// Ends the dump that waits, as abandoned. Where none waits it fails, with no change.
+    /// Ends the dump that waits, as abandoned. Where none waits, it fails and changes nothing.
     pub(crate) fn abandon(&mut self) -> Result<(), NotWaiting>
         ensures { StreamAbandons self.old result self.new }
     {
@@ -90,8 +89,8 @@ impl Standing {
         Ok(())
     }
 
-    /// Whether a datagram of `count` bytes would go above the total limit. If so, the dump is
-    /// damaged now.
+    /// Whether a datagram of `count` bytes would go above the total limit. If so, it sets
+    /// `damaged`.
     pub(crate) fn exceeds_total(&mut self, count: u64) -> bool
         requires { self.old.received ≤ self.old.limits.total }
         ensures { MatchBool result
@@ -106,8 +105,7 @@ impl Standing {
         false
     }
 
-    /// Counts a datagram of `count` bytes that was taken into the dump, of which `visits` were
-    /// visited.
+    /// Counts a datagram of `count` bytes that was accepted, and the `visits` of reading it.
     pub(crate) fn take(&mut self, dump: Dump, count: u64, visits: u64, taken: &Taken)
         requires received { self.old.received + count < 2 ^ 64 }
         requires visits { self.old.visits + visits < 2 ^ 64 }
@@ -121,7 +119,7 @@ impl Standing {
         self.state = state_after(dump, taken.end);
     }
 
-    /// Counts a datagram of `count` bytes that was refused, of which `visits` were visited.
+    /// Counts a datagram of `count` bytes that was refused, and the `visits` of reading it.
     pub(crate) fn refuse(&mut self, count: u64, visits: u64)
         requires received { self.old.received + count < 2 ^ 64 }
         requires visits { self.old.visits + visits < 2 ^ 64 }

@@ -16,13 +16,13 @@ use nl_frame::Limits;
 use std::alloc::Global;
 use std::marker::Model;
 
-/// One dump after another (netlink(7), `NLM_F_DUMP`; RFC 3549, section 2.3.2.2), as a plain value
-/// that keeps nothing of a datagram.
+/// Reads one dump after another (netlink(7), `NLM_F_DUMP`; RFC 3549, section 2.3.2.2). It is a
+/// plain value that keeps nothing of a datagram.
 ///
 /// The caller sends the request (`Dump::put_request`), and hands the answers in by one of two
 /// calls. `feed` leaves the events of the dump's items in a buffer, and takes no memory. `read`
-/// answers the items as messages. The limits hold over the stream's whole life. That on entries
-/// isn't used.
+/// answers the items as messages. The limits hold over the stream's whole life, but the one on
+/// entries isn't used.
 #[derive(Clone, Copy, Debug, PartialEq, Eq, Hash)]
 pub struct Stream {
     standing: Standing,
@@ -41,8 +41,8 @@ impl Model for Stream {
     ghost inverse = { λ v. record { standing = v } };
 }
 
-/// Whether calls can lead to this state: before the first dump nothing was taken, and no dump has
-/// ended by an ERROR with code 0.
+/// Whether calls can lead to this state. Before the first dump nothing was taken, and no dump ends
+/// by an ERROR with code 0.
 fn is_reached(standing: &Standing) -> bool
     ensures { Decides result (IsReached standing.now.state standing.now) }
 {
@@ -87,21 +87,20 @@ impl Stream {
         Ok(())
     }
 
-    /// Takes a datagram that answers the dump, and leaves the events of its items at the front of
-    /// `out`: for each item that of its message's header, and then those of its attributes and
-    /// next hops, as `tape_datagram` makes them. What is behind them in `out` means nothing, as
-    /// all of it after an error.
+    /// Takes a datagram that answers the dump, and leaves its items' events at the front of `out`.
+    /// They are as of `tape_datagram`: that of an item's header, then those of its attributes and
+    /// next hops. The rest of `out` means nothing, and after an error all of it.
     ///
-    /// It answers how many messages were items, how many were ignored, whether the dump ended, and
-    /// the number of events. The error is the first of these that applies. After any of them the
-    /// state, `ignored` and `interrupted` are as before.
+    /// It answers the numbers of items, of ignored messages and of events, and whether the dump
+    /// ended. The error is the first of these that applies. After any of them the state, `ignored`
+    /// and `interrupted` are as before.
     ///
     /// - `NotWaiting`: no dump waits for answers. Nothing has changed.
     /// - `Total`: the stream would be above its total limit. `damaged` is set.
     /// - `TooLarge`, `Layout`: as of `read_datagram`. `damaged` is set, `received` grows by the
     ///   datagram's length, and `visits` by the bytes visited.
-    /// - `Room`: `out` has fewer entries than the datagram has headers. The stream is as it was, so
-    ///   the same datagram can be fed again with more room.
+    /// - `Room`: `out` has fewer entries than the datagram has headers. The stream is as it was,
+    ///   so the same datagram can be fed again with more room.
     #[tactic(auto, using(crate::proofs::Streaming::every))]
     pub fn feed(&mut self, bytes: &[u8], out: &mut [Event]) -> Result<Streamed, StreamError>
         ensures step { StreamFed self.old bytes.now out.old result self.new out.new }
@@ -145,14 +144,13 @@ impl Stream {
         }
     }
 
-    /// Takes a datagram that answers the dump, and answers its items as messages, in order, with
-    /// the counts that `feed` answers. Each attribute byte is visited once for each level that it
-    /// is in.
+    /// Takes a datagram that answers the dump, and answers its items as messages, in order. The
+    /// counts are those of `feed`. Each attribute byte is visited once for each level that it is
+    /// in.
     ///
-    /// It takes memory for these messages, by `alloc`, and the stream keeps none of it. The error
-    /// is the first of these that applies, and changes what it changes in `feed`: `NotWaiting`,
-    /// `Total`, `TooLarge`, `Layout`, or `Memory` where an allocation fails, which counts as
-    /// `Layout` does.
+    /// It takes memory for these messages, by `alloc`, and the stream keeps none of it. The errors
+    /// are those of `feed`, and change what they change there, but `Room` doesn't occur. `Memory`,
+    /// where an allocation fails, changes what `Layout` does.
     #[tactic(auto, using(crate::proofs::Handing::every))]
     pub fn read(&mut self, alloc: Global, bytes: &[u8]) -> Result<ItemsRead, FeedError>
         ensures step { StreamRead self.old bytes.now result self.new }
@@ -204,9 +202,11 @@ impl Stream {
         self.standing.abandon()
     }
 
-    /// Makes a stream of its `standing`. `Impossible` where no stream can have it: a count is
-    /// above what the limits and `received` allow, something was taken before the first dump, or a
-    /// dump has ended by an ERROR with code 0.
+    /// Makes a stream of its `standing`. `Impossible` where no stream can have it:
+    ///
+    /// - A count is above what the limits and `received` allow.
+    /// - Something was taken before the first dump.
+    /// - A dump has ended by an ERROR with code 0.
     pub fn restore(standing: Standing) -> Result<Stream, Impossible>
         ensures { OkIff result (IsPossible standing) standing }
     {
@@ -222,7 +222,7 @@ impl Stream {
         Ok(Stream { standing })
     }
 
-    /// The whole of the stream, as plain values.
+    /// All of the stream, as plain values.
     pub fn standing(&self) -> Standing
         ensures standing { result ≡ self.now }
         ensures possible { IsPossible self.now }
@@ -274,8 +274,8 @@ impl Stream {
         self.standing.interrupted
     }
 
-    /// Whether the dump ended by DONE with no failure, no datagram of it was refused, and it wasn't
-    /// interrupted: then every item of it was handed out.
+    /// Whether the dump ended by DONE with no failure, had no datagram refused, and wasn't
+    /// interrupted. Then every item of it was handed out.
     pub fn complete(&self) -> bool
         ensures { result ≡ whole_of self.now }
     {

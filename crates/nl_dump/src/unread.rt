@@ -1,4 +1,4 @@
-//! What a message is to a dump, decided from its bytes, without reading its body.
+//! What `role` says of a message, found from the bytes of its datagram without reading it.
 
 ghost use Rattle.std.specs.Prelude.{◌≡◌, ◌≤◌, length};
 ghost use Rattle.std.specs.Prelude.{IfSome};
@@ -14,7 +14,7 @@ use nl_attr::{Event, Order};
 use nl_frame::{Form, message_at};
 use nl_route::Verb;
 
-/// The end by a DONE message with this payload.
+/// The end by a DONE message with this payload. Its status is 0 where it has none.
 fn done_at(payload: &[u8], order: Order) -> End
     ensures { result ≡ status_at order payload.now }
 {
@@ -62,7 +62,7 @@ fn find_end(left: &[u8], order: Order) -> Option<End>
     }
 }
 
-/// The bytes from an offset on. `None` where they are fewer than a header's 16.
+/// The bytes from a header's offset on. `None` where they are fewer than its 16.
 #[inline(always)]
 pub(crate) fn header_at(bytes: &[u8], place: u32) -> Option<&[u8]>
     ensures left { option_copied result ≡ left_at bytes.now place }

@@ -1,4 +1,4 @@
-//! The families, one row for each, and what a message type says of family and verb.
+//! The constants of each family, and the two parts of a message type: its family and its verb.
 
 ghost use Rattle.std.specs.Prelude.{◌≡◌, Some, IsTrue};
 ghost use Rattle.std.specs.Fmt.{padded};
@@ -38,14 +38,14 @@ pub enum Verb {
     Set,
 }
 
-/// A message type of a family, as `RTM_NEWLINK`, taken apart.
+/// A message type of any family, as `RTM_NEWLINK`, taken apart. It isn't the type of a route.
 #[derive(Clone, Copy, Debug, PartialEq, Eq, Hash)]
 pub struct RouteType {
     pub family: Family,
     pub verb: Verb,
 }
 
-/// The row of a family in the table.
+/// The constants of a family.
 #[derive(Clone, Copy, Debug, PartialEq, Eq)]
 pub struct Row {
     /// The size of its header, in bytes.
@@ -91,7 +91,7 @@ impl Verb {
         }
     }
 
-    /// Its index among them.
+    /// The index of this verb, as in `at`.
     fn place(self) -> u16
         ensures { result ≡ place_of self }
     {
@@ -128,7 +128,7 @@ impl Family {
         }
     }
 
-    /// The row of this family.
+    /// The constants of this family.
     #[tactic(auto, unfolding(crate::specs::Types::route_type))]
     pub fn row(self) -> Row
         ensures size { result.head_size ≡ head_size self }
@@ -210,7 +210,7 @@ impl RouteType {
     }
 }
 
-/// Calls another macro with its arguments and the list of all families, so that a match over the
+/// Calls another macro with these arguments and the list of all families. So a match over the
 /// families needn't name them.
 #[macro_export]
 macro_rules! families {
@@ -235,8 +235,8 @@ macro_rules! match_object {
     ($($arguments:tt)+) => { $crate::families!([$crate::match_object] ($($arguments)+)) };
 }
 
-/// Reads the body of a family that is only known at run time, by `read_body_ordered`. It answers
-/// the variant of `$Type` that is named as the family is.
+/// Reads the body of a family that is only known at run time, by `read_body_ordered`. The body
+/// comes in the variant of `$Type` that is named as the family is.
 #[macro_export]
 macro_rules! read_object {
     (($family:expr, $Type:ident, $arguments:tt) [$($Family:ident)+]) => {

@@ -19,7 +19,7 @@ pub const FRA_DST: u16 = 1;
 pub const FRA_SRC: u16 = 2;
 /// The name of the input interface.
 pub const FRA_IIFNAME: u16 = 3;
-/// The priority of the rule to go on with.
+/// The priority of the rule to jump to.
 pub const FRA_GOTO: u16 = 4;
 /// The priority of a rule.
 pub const FRA_PRIORITY: u16 = 6;
@@ -54,8 +54,8 @@ pub struct RuleHead {
 
 /// A routing rule: its header, and the attributes behind it.
 ///
-/// Each view decodes the first attribute of its type. It is `None` where there is no such
-/// attribute, where it holds attributes or next hops, and where it is too short for a number.
+/// Each view decodes the first attribute of its type. It is `None` where that is absent, nested,
+/// or too short for a number.
 pub type Rule = Object<RuleHead>;
 
 impl RuleHead {
@@ -81,7 +81,7 @@ impl RuleHead {
         }
     }
 
-    /// The same header. By this its contract says that its numbers are in range.
+    /// The header itself. Its contract tells the prover that the numbers are in range.
     fn ranged(self) -> Self
         ensures same { result ≡ self }
         ensures ranged { AreRanged (rule_fields self) }
@@ -181,7 +181,7 @@ impl Rule {
         text_of(&self.attrs, FRA_OIFNAME)
     }
 
-    /// The priority of the rule to go on with, `FRA_GOTO`, in little-endian byte order.
+    /// The priority of the rule to jump to, `FRA_GOTO`, in little-endian byte order.
     ///
     /// For a body that was read in big-endian byte order, call `target_ordered`.
     pub fn target(&self) -> Option<u32>
@@ -190,7 +190,7 @@ impl Rule {
         self.target_ordered(Order::Little)
     }
 
-    /// The priority of the rule to go on with, `FRA_GOTO`, in this byte order.
+    /// The priority of the rule to jump to, `FRA_GOTO`, in this byte order.
     pub fn target_ordered(&self, order: Order) -> Option<u32>
         ensures { result ≡ number_view order 4 fixed.FRA_GOTO (attrs_in self.now) }
     {

@@ -10,8 +10,7 @@ ghost use Rattle.nl_route.specs.Fields.{Field, AreRanged, IsHeadOf, written};
 use crate::family::Family;
 use nl_attr::{Ctx, Order};
 
-/// The header that the body of a family's message begins with: its size, its fields, and the
-/// context of the attributes behind it.
+/// The header that the body of a family's message begins with.
 pub trait Head: Sized + Drop {
     /// Its size, in bytes.
     const SIZE: usize;
@@ -22,8 +21,10 @@ pub trait Head: Sized + Drop {
 
     ghost ctx: { Ctx };
 
+    // Its fields, in their order.
     ghost fields: { Self → List Field };
 
+    // The header that these bytes are, in this byte order.
     ghost of: { Order → List ℕ → Self };
 
     /// Its family.

@@ -41,8 +41,8 @@ pub struct AddrHead {
 
 /// An address: its header, and the attributes behind it.
 ///
-/// Each view decodes the first attribute of its type. It is `None` where there is no such
-/// attribute, where it holds attributes or next hops, and where it is too short for a number.
+/// Each view decodes the first attribute of its type. It is `None` where that is absent, nested,
+/// or too short for a number.
 pub type Addr = Object<AddrHead>;
 
 impl AddrHead {
@@ -66,7 +66,7 @@ impl AddrHead {
         }
     }
 
-    /// The same header. By this its contract says that its numbers are in range.
+    /// The header itself. Its contract tells the prover that the numbers are in range.
     fn ranged(self) -> Self
         ensures same { result ≡ self }
         ensures ranged { AreRanged (addr_fields self) }

@@ -43,8 +43,8 @@ pub struct LinkHead {
 
 /// A link: its header, and the attributes behind it.
 ///
-/// Each view decodes the first attribute of its type. It is `None` where there is no such
-/// attribute, where it holds attributes or next hops, and where it is too short for a number.
+/// Each view decodes the first attribute of its type. It is `None` where that is absent, nested,
+/// or too short for a number.
 pub type Link = Object<LinkHead>;
 
 impl LinkHead {
@@ -68,7 +68,7 @@ impl LinkHead {
         }
     }
 
-    /// The same header. By this its contract says that its numbers are in range.
+    /// The header itself. Its contract tells the prover that the numbers are in range.
     fn ranged(self) -> Self
         ensures same { result ≡ self }
         ensures ranged { AreRanged (link_fields self) }
@@ -160,8 +160,7 @@ impl Link {
         u32_view(&self.attrs, IFLA_MTU, order)
     }
 
-    /// The index of the bridge or bond that this one is a port of: `IFLA_MASTER`, in little-endian
-    /// byte order.
+    /// The index of the port's bridge or bond, `IFLA_MASTER`, in little-endian byte order.
     ///
     /// For a body that was read in big-endian byte order, call `master_ordered`.
     pub fn master(&self) -> Option<u32>
@@ -170,8 +169,7 @@ impl Link {
         self.master_ordered(Order::Little)
     }
 
-    /// The index of the bridge or bond that this one is a port of: `IFLA_MASTER`, in this byte
-    /// order.
+    /// The index of the port's bridge or bond, `IFLA_MASTER`, in this byte order.
     pub fn master_ordered(&self, order: Order) -> Option<u32>
         ensures { result ≡ number_view order 4 fixed.IFLA_MASTER (attrs_in self.now) }
     {
@@ -185,7 +183,7 @@ impl Link {
         u8_view(&self.attrs, IFLA_OPERSTATE)
     }
 
-    /// The kind of a virtual interface, as `vlan`: `IFLA_INFO_KIND` in the list of `IFLA_LINKINFO`.
+    /// The kind of a virtual interface, as `vlan`: `IFLA_INFO_KIND` in `IFLA_LINKINFO`.
     pub fn kind(&self) -> Option<&[u8]>
         ensures { option_copied result
             ≡ text_view fixed.IFLA_INFO_KIND

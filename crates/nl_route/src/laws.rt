@@ -1,5 +1,5 @@
-//! Theorems about the definitions in `specs/` alone. Each function's contract states one, and its
-//! body is empty.
+//! A theorem about the constants of the code. A function's contract states it, and its body is
+//! empty.
 
 ghost use Rattle.std.specs.Prelude.{◌≡◌};
 ghost use Rattle.nl_route.specs.Addr as addr;
@@ -19,7 +19,7 @@ use crate::rtmsg::{
     RTA_DST, RTA_GATEWAY, RTA_IIF, RTA_OIF, RTA_PREFSRC, RTA_PRIORITY, RTA_SRC, RTA_TABLE,
 };
 
-/// The attribute types of the code, as `IFLA_MTU`, are the numbers that the definitions have.
+/// The attribute types that this crate exports, as `IFLA_MTU`, are those of the definitions.
 pub fn constants_are_fixed()
     ensures links { (IFLA_IFNAME ≡ link.IFLA_IFNAME)
         × (IFLA_MTU ≡ link.IFLA_MTU)

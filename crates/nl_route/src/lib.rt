@@ -1,14 +1,15 @@
 //! The families of rtnetlink(7): links, addresses, routes, neighbours and routing rules. A family
 //! here is a kind of object, and not an address family as `AF_INET`.
 //!
-//! The body of a family's message is a header of its own, a C struct of the kernel's headers, and
-//! then attributes. `Object` is such a body.
+//! The body of a family's message is a header, a C struct of the kernel's headers, and attributes.
+//! `Object` is such a body.
 //!
 //! - `ifinfomsg` (links), `ifaddrmsg` (addresses), `rtmsg` (routes), `ndmsg` (neighbours) and
-//!   `fib_rule_hdr` (rules) each have the header of one family, and views of its attributes.
+//!   `fib_rule_hdr` (rules). Each has a family's header, and its *views*: calls that decode the
+//!   first attribute of one type.
 //! - `family` has the table of the families, and their message types.
 //! - `head` is the trait of their headers, `object` reads a body, `writing` writes one.
-//! - `views` looks up attributes for the views. `laws` states theorems, and has no code.
+//! - `views` looks up attributes for them. `laws` states a theorem, and has no code.
 #![tactic(auto)]
 
 mod family;

@@ -17,7 +17,7 @@ use nl_attr::{Ctx, Order, append_bytes};
 pub const NDA_DST: u16 = 1;
 /// A neighbour's link-layer address.
 pub const NDA_LLADDR: u16 = 2;
-/// The VLAN of a bridge's entry.
+/// The VLAN of a bridge's forwarding entry.
 pub const NDA_VLAN: u16 = 5;
 /// The UDP port of a VXLAN entry.
 pub const NDA_PORT: u16 = 6;
@@ -44,8 +44,8 @@ pub struct NeighHead {
 
 /// A neighbour: its header, and the attributes behind it.
 ///
-/// Each view decodes the first attribute of its type. It is `None` where there is no such
-/// attribute, where it holds attributes or next hops, and where it is too short for a number.
+/// Each view decodes the first attribute of its type. It is `None` where that is absent, nested,
+/// or too short for a number.
 pub type Neigh = Object<NeighHead>;
 
 impl NeighHead {
@@ -69,7 +69,7 @@ impl NeighHead {
         }
     }
 
-    /// The same header. By this its contract says that its numbers are in range.
+    /// The header itself. Its contract tells the prover that the numbers are in range.
     fn ranged(self) -> Self
         ensures same { result ≡ self }
         ensures ranged { AreRanged (neigh_fields self) }
@@ -153,7 +153,7 @@ impl Neigh {
         bytes_of(&self.attrs, NDA_LLADDR)
     }
 
-    /// The VLAN of a bridge's entry, `NDA_VLAN`, in little-endian byte order.
+    /// The VLAN of a forwarding entry, `NDA_VLAN`, in little-endian byte order.
     ///
     /// For a body that was read in big-endian byte order, call `vlan_ordered`.
     pub fn vlan(&self) -> Option<u16>
@@ -162,7 +162,7 @@ impl Neigh {
         self.vlan_ordered(Order::Little)
     }
 
-    /// The VLAN of a bridge's entry, `NDA_VLAN`, in this byte order.
+    /// The VLAN of a forwarding entry, `NDA_VLAN`, in this byte order.
     pub fn vlan_ordered(&self, order: Order) -> Option<u16>
         ensures { result ≡ number_view order 2 fixed.NDA_VLAN (attrs_in self.now) }
     {

@@ -27,8 +27,8 @@ impl<H: Head> Object<H> {
 
     /// Reads a body in little-endian byte order, with all that is nested in its attributes.
     ///
-    /// `base` is the offset of the first byte, which offsets in errors count from. Any bytes are a
-    /// header, so the errors are those of `nl_attr::read_list` for the attributes.
+    /// `base` is the offset of the body's first byte, and offsets in errors include it. Any bytes
+    /// are a header, so the errors are those of `nl_attr::read_list` for the attributes.
     pub fn read_body(alloc: Global, bytes: &[u8], base: u32, depth: Depth) -> Tally<Self, ListError>
         requires head { H.SIZE ≤ length bytes.now }
         requires size { length bytes.now ≤ fixed.LONGEST_REGION }

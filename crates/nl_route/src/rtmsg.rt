@@ -58,8 +58,8 @@ pub struct RouteHead {
 
 /// A route: its header, and the attributes behind it.
 ///
-/// Each view decodes the first attribute of its type. It is `None` where there is no such
-/// attribute, where it holds attributes or next hops, and where it is too short for a number.
+/// Each view decodes the first attribute of its type. It is `None` where that is absent, nested,
+/// or too short for a number. `metrics` and `hops` are empty instead of `None`.
 pub type Route = Object<RouteHead>;
 
 impl RouteHead {
@@ -87,7 +87,7 @@ impl RouteHead {
         }
     }
 
-    /// The same header. By this its contract says that its numbers are in range.
+    /// The header itself. Its contract tells the prover that the numbers are in range.
     fn ranged(self) -> Self
         ensures same { result ≡ self }
         ensures ranged { AreRanged (route_fields self) }

@@ -1,5 +1,5 @@
-//! Looks up the first attribute of a type in a list, and decodes its payload. `None` where there
-//! is no such attribute, or it holds something else.
+//! Looks up the first attribute of the type `number` in a list, and decodes its payload. `None`
+//! where that is absent, nested, or too short.
 
 ghost use Rattle.std.specs.Prelude.{◌≡◌};
 ghost use Rattle.std.specs.Option.{option_copied};
@@ -46,7 +46,7 @@ pub(crate) fn bytes_of(attrs: &[Attr], number: u16) -> Option<&[u8]>
     find(attrs, number)?.bytes()
 }
 
-/// The attributes nested in it, or none.
+/// The attributes nested in the attribute, or none.
 pub(crate) fn list_of(attrs: &[Attr], number: u16) -> &[Attr]
     ensures { attrs_view result.now ≡ items_view number (attrs_view attrs.now) }
 {
@@ -61,7 +61,7 @@ pub(crate) fn list_of(attrs: &[Attr], number: u16) -> &[Attr]
     }
 }
 
-/// The next hops in it, or none.
+/// The next hops in the attribute, or none.
 pub(crate) fn hops_of(attrs: &[Attr], number: u16) -> &[Hop]
     ensures { hops_view result.now ≡ hop_items_view number (attrs_view attrs.now) }
 {

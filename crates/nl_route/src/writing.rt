@@ -1,4 +1,4 @@
-//! Writing the body of a message of any family: its length, and its bytes.
+//! Measures the body of a message of any family, and writes it.
 
 ghost use Rattle.std.specs.Prelude.{◌≡◌, ◌≤◌, ◌+◌, ◌++◌, ◌↔◌, ◌⊎◌, IsTrue};
 ghost use Rattle.std.specs.Prelude.{IfSome, vec_len, vec_capacity};
@@ -27,12 +27,11 @@ impl<H: Head> Object<H> {
         Some(len as u32)
     }
 
-    /// Measures the body and its header for writing. `None` is the error `Mismatch` of
-    /// `write_body`. Else `deep` says whether it is `TooDeep`, and no `len` that it is `TooLong`,
-    /// in this order.
+    /// Measures the body for writing, and finds the error that `write_body` would answer. `None`
+    /// stands for `Mismatch`, `deep` for `TooDeep`, and no `len` for `TooLong`, in this order.
     ///
-    /// So a caller that writes the body behind bytes of its own finds every error in one walk,
-    /// before it takes memory. Where there is a `len`, `append_body` needs room for so many bytes.
+    /// So a caller that writes bytes before the body finds every error before it takes memory.
+    /// `append_body` needs room for `len` bytes.
     pub fn measure(&self, depth: Depth) -> Option<Extent>
         ensures mismatch { (result ≡ None) ↔ IsMismatched (attrs_in self.now) H.ctx }
         ensures deep { IfSome result
@@ -82,10 +81,10 @@ impl<H: Head> Object<H> {
     /// After an error `out` holds what it held before. The error is the first of these that
     /// applies:
     ///
-    /// - `Mismatch`: an attribute's type is 16,384 or more, or its value isn't what its context,
-    ///   type and flags say that it holds.
+    /// - `Mismatch`: an attribute's type is 16,384 or more. Or its context, type and flags ask for
+    ///   a value of another kind.
     /// - `TooDeep`: a nested attribute opens a level beyond `depth`.
-    /// - `TooLong`: an attribute or a next hop has more than 65,535 bytes, or a region more than
+    /// - `TooLong`: an attribute or next hop has more than 65,535 bytes, or a region more than
     ///   1,048,576.
     /// - `Memory`: `out` has no room, and an allocation failed.
     pub fn write_body(&self, depth: Depth, out: &mut Vec<u8>) -> Result<(), WriteError>

@@ -13,10 +13,10 @@ use std::alloc::{AllocError, Global};
 use std::hash::{Hash, Hasher};
 use std::marker::Model;
 
-/// The most bytes that are stored in the value itself. The key of an IPv6 route has at most 68.
+/// The most bytes of a `ShortKey`. An IPv6 route's key has up to 68, or 92 with a source.
 const INLINE: usize = 70;
 
-/// A key. Up to 70 bytes are stored in the value itself, so that most keys take no memory.
+/// A key. Up to 70 bytes are stored in place, so that most keys take no memory.
 #[derive(Drop)]
 pub struct CompactKey {
     store: Store,
@@ -61,8 +61,8 @@ impl CompactKey {
     /// Writes the key of an entry into an empty `CompactKey`. `order` is the byte order of the
     /// numbers in the entry's attributes.
     ///
-    /// It takes memory for more than 70 bytes. The error is for memory, and the key must not be
-    /// used then: it may hold part of the bytes.
+    /// It takes memory for more than 70 bytes. The error is for memory. The key must not be used
+    /// then: it may hold part of the bytes.
     #[inline(always)]
     pub fn fill<T: Entry>(
         &mut self,
@@ -185,7 +185,7 @@ impl Eq for CompactKey {
     ghost laws = { nat_list_eq_equiv };
 }
 
-// All bytes are written in one call, of which a hasher takes many at a time.
+// All bytes are written in one call, so that a hasher takes many at a time.
 impl Hash for CompactKey {
     ghost hash_input = { λ k. k ∷ [] };
 

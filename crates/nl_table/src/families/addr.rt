@@ -1,4 +1,4 @@
-//! The key of an address. Its fields are those of linux/if_addr.h.
+//! The key of an address. Its fields are defined in linux/if_addr.h.
 
 use crate::entry::Entry;
 use crate::key::{KeyBuffer, append_bytes, append_numbers};
@@ -17,8 +17,8 @@ impl Entry for Addr {
 
     ghost key_is = { λ o e. refl };
 
-    /// The fields of an address's key: `ifa_family` in 1 byte, `ifa_index` in 4, `ifa_prefixlen`
-    /// in 1, `IFA_ADDRESS` and `IFA_LOCAL`. The byte order isn't needed.
+    /// The key: `ifa_family` in 1 byte, `ifa_index` in 4, `ifa_prefixlen` in 1, `IFA_ADDRESS` and
+    /// `IFA_LOCAL`. The byte order isn't needed.
     #[inline(always)]
     fn append_key<B: KeyBuffer>(&self, key: &mut B, _order: Order) -> Result<(), AllocError> {
         append_numbers!(

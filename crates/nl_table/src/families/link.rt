@@ -1,4 +1,4 @@
-//! The key of a link. Its fields are those of linux/rtnetlink.h and linux/if_link.h.
+//! The key of a link. Its field is defined in linux/rtnetlink.h.
 
 use crate::entry::Entry;
 use crate::key::{KeyBuffer, append_numbers};
@@ -17,7 +17,7 @@ impl Entry for Link {
 
     ghost key_is = { λ o e. refl };
 
-    /// The field of a link's key: its index, `ifi_index`, in 4 bytes.
+    /// The key: the index, `ifi_index`, in 4 bytes.
     #[inline(always)]
     fn append_key<B: KeyBuffer>(&self, key: &mut B, _order: Order) -> Result<(), AllocError> {
         append_numbers!(key, four(self.head.index.cast_unsigned()));

@@ -1,7 +1,5 @@
-//! `Entry` for each family: which fields make its key.
-//!
-//! Which fields these are is this project's own choice. Of several attributes of one type the
-//! first counts.
+//! `Entry` for each family: which fields make its key, by this project's choice. Of several
+//! attributes of one type the first counts.
 
 mod addr;
 mod link;

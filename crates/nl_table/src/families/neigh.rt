@@ -1,4 +1,4 @@
-//! The key of a neighbour. Its fields are those of linux/neighbour.h.
+//! The key of a neighbour. Its fields are defined in linux/neighbour.h.
 
 use crate::entry::Entry;
 use crate::key::{KeyBuffer, append_bytes, append_numbers};
@@ -23,11 +23,11 @@ impl Entry for Neigh {
 
     ghost key_is = { λ o e. refl };
 
-    /// The fields of a neighbour's key: `ndm_family` in 1 byte, `ndm_ifindex` in 4, three bits of
-    /// `ndm_flags` in 1 (`NTF_SELF`, `NTF_MASTER` and `NTF_PROXY`, the others 0), and `NDA_DST`.
+    /// The key: `ndm_family` in 1 byte, `ndm_ifindex` in 4, `IDENTIFYING_FLAGS` of `ndm_flags` in
+    /// 1, and `NDA_DST`.
     ///
-    /// The key of a bridge's entry, whose family is `AF_BRIDGE`, also has `NDA_LLADDR`,
-    /// `NDA_VLAN` in 2 bytes and `NDA_VNI` in 4. An absent number is 0.
+    /// Where the family is `AF_BRIDGE`, `NDA_LLADDR`, `NDA_VLAN` in 2 bytes and `NDA_VNI` in 4
+    /// follow. An absent number is 0.
     #[inline(always)]
     fn append_key<B: KeyBuffer>(&self, key: &mut B, order: Order) -> Result<(), AllocError> {
         append_numbers!(

@@ -1,4 +1,4 @@
-//! The key of a route. Its fields are those of linux/rtnetlink.h.
+//! The key of a route. Its fields are defined in linux/rtnetlink.h.
 
 ghost use Rattle.std.specs.Prelude.{◌≡◌};
 ghost use Rattle.std.specs.Option.{option_copied};
@@ -37,8 +37,8 @@ struct Parts<'a> {
     interface: u32,
 }
 
-/// Collects these fields in one pass, from the last attribute to the first. So of several
-/// attributes of one type the first counts.
+/// Collects `Parts` in one pass, from the last attribute to the first. So of several attributes of
+/// one type the first counts.
 #[inline(always)]
 fn parts_of(route: &Route, order: Order) -> Parts<'_>
     ensures dst { option_copied result.dst ≡ bytes_view fixed.RTA_DST (attrs_in route.now) }
@@ -87,9 +87,9 @@ impl Entry for Route {
 
     ghost key_is = { λ o e. refl };
 
-    /// The fields of a route's key: `rtm_family` and `rtm_dst_len` in 1 byte each, `RTA_DST`,
-    /// `rtm_src_len` in 1, `RTA_SRC`, `rtm_tos` in 1, its table in 4, `RTA_PRIORITY` in 4,
-    /// `rtm_type` in 1, `RTA_OIF` in 4, and `RTA_GATEWAY`.
+    /// The key: `rtm_family` and `rtm_dst_len` in 1 byte each, `RTA_DST`, `rtm_src_len` in 1, and
+    /// `RTA_SRC`. Then `rtm_tos` in 1, the table and `RTA_PRIORITY` in 4 each, `rtm_type` in 1.
+    /// Last `RTA_OIF` in 4, and `RTA_GATEWAY`.
     ///
     /// The table is `RTA_TABLE`, or else `rtm_table`. A priority or an interface that is absent
     /// is 0.

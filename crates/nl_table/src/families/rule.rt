@@ -1,4 +1,4 @@
-//! The key of a routing rule. Its fields are those of linux/fib_rules.h.
+//! The key of a routing rule. Its fields are defined in linux/fib_rules.h.
 
 ghost use Rattle.std.specs.Prelude.{◌≡◌};
 ghost use Rattle.std.specs.Option.{option_copied};
@@ -10,7 +10,7 @@ use nl_attr::{Order, find};
 use nl_route::{FRA_IIFNAME, FRA_OIFNAME, Rule};
 use std::alloc::AllocError;
 
-/// The payload of the rule's first attribute of this type. `None` where it has none.
+/// The payload of the rule's first attribute of this type. `None` where it is absent or nested.
 fn bytes_of(rule: &Rule, number: u16) -> Option<&[u8]>
     ensures { option_copied result ≡ bytes_view number (attrs_in rule.now) }
 {
@@ -28,9 +28,9 @@ impl Entry for Rule {
 
     ghost key_is = { λ o e. refl };
 
-    /// The fields of a rule's key: `family` and `dst_len` in 1 byte each, `FRA_DST`, `src_len` in
-    /// 1, `FRA_SRC`, `tos` in 1, its table and `FRA_PRIORITY` in 4 each, `action` in 1,
-    /// `FRA_GOTO`, `FRA_FWMARK` and `FRA_FWMASK` in 4 each, `FRA_IIFNAME`, and `FRA_OIFNAME`.
+    /// The key: `family` and `dst_len` in 1 byte each, `FRA_DST`, `src_len` in 1, and `FRA_SRC`.
+    /// Then `tos` in 1, the table and `FRA_PRIORITY` in 4 each, `action` in 1. Last `FRA_GOTO`,
+    /// `FRA_FWMARK` and `FRA_FWMASK` in 4 each, `FRA_IIFNAME`, and `FRA_OIFNAME`.
     ///
     /// The table is `FRA_TABLE`, or else `table`. A number that is absent is 0. The names are the
     /// payloads of their attributes, with the zero byte at their end.
