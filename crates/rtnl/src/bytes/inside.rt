@@ -1,4 +1,4 @@
-//! What stands inside a payload, by what it means.
+//! Divides a payload into pieces by its meaning: numbers, fields of structs, attributes.
 
 ghost use Rattle.std.specs.Prelude.{◌≡◌, ◌≤◌, ◌<◌, ◌+◌, ◌∷◌, ◌++◌, [], OnOk, IfOk, drop, length};
 ghost use Rattle.std.specs.Prelude.{unwrap_or};
@@ -25,7 +25,7 @@ use nl_attr::{Attrs, Order, Part};
 use nl_values::{Field, Format, Meaning, Names, Number, Set, Struct};
 use std::alloc::AllocError;
 
-/// Bytes that are one part.
+/// Adds bytes that are one piece.
 pub(super) fn push_whole(
     pieces: &mut Vec<Piece>,
     depth: Depth,
@@ -39,14 +39,14 @@ pub(super) fn push_whole(
     push_named(pieces, depth, Extent::Bytes(size), name, notation)
 }
 
-/// What a payload is called that an attribute of a set holds.
+/// The name of a payload: that of its attribute, or else `payload`.
 pub(super) fn payload_name(set: Option<Set>, number: u16) -> KernelName
     ensures { kernel_name result ≡ payload_name set number }
 {
     set_name(set, number).unwrap_or(("payload", ""))
 }
 
-/// So many numbers, each of them a part.
+/// Adds `count` numbers, each a piece.
 fn push_series(
     pieces: &mut Vec<Piece>,
     depth: Depth,
@@ -64,7 +64,7 @@ fn push_series(
     Ok(())
 }
 
-/// The name of a place, or what is called so where it has none.
+/// The name of the counter at this index, or `name` where it has none.
 fn place_name(names: Names, place: u64, name: KernelName) -> KernelName
     ensures { kernel_name result
         ≡ unwrap_or (name_of names place) (kernel_name name.entry) }
@@ -75,7 +75,7 @@ fn place_name(names: Names, place: u64, name: KernelName) -> KernelName
     }
 }
 
-/// The same by the names of their places.
+/// Adds `count` counters, each a piece under the name of its index.
 fn push_counters(
     pieces: &mut Vec<Piece>,
     depth: Depth,
@@ -95,7 +95,7 @@ fn push_counters(
     Ok(())
 }
 
-/// The padding behind a payload of so many bytes, before what follows.
+/// How many bytes of padding follow a payload of `size` bytes.
 fn padding_behind(size: usize) -> usize
     ensures value { result ≡ padding_behind size }
     ensures bound { result ≤ 3 }
@@ -103,7 +103,8 @@ fn padding_behind(size: usize) -> usize
     (4 - size % 4) % 4
 }
 
-/// A field of a struct of which so many bytes stand before; says where it ends.
+/// Adds a field of a struct, and the padding from `at` up to it. Answers the end of the field, or
+/// `at` where it has no bytes.
 #[cycle(inside)]
 fn push_field(
     pieces: &mut Vec<Piece>,
@@ -142,7 +143,7 @@ fn push_field(
     Ok(place + part.len())
 }
 
-/// The field of an index in a struct, if there is one.
+/// Adds the field of this index, if there is one, as `push_field` does.
 #[cycle(inside)]
 fn push_field_at(
     pieces: &mut Vec<Piece>,
@@ -169,7 +170,7 @@ fn push_field_at(
     }
 }
 
-/// The fields of a struct, and what is behind them.
+/// Adds the fields of a struct, and the bytes after them as padding.
 #[cycle(inside)]
 fn push_struct(
     pieces: &mut Vec<Piece>,
@@ -192,7 +193,7 @@ fn push_struct(
     push_gap(pieces, depth, bytes.len().saturating_sub(at))
 }
 
-/// Structs of this size, one behind the other.
+/// Adds structs of `size` bytes, one after another.
 #[cycle(inside)]
 fn push_structs(
     pieces: &mut Vec<Piece>,
@@ -218,7 +219,7 @@ fn push_structs(
     Ok(())
 }
 
-/// An attribute of a region: its header, and what it holds.
+/// Adds an attribute of a region: its header, and what it holds.
 #[cycle(inside)]
 fn push_item(
     pieces: &mut Vec<Piece>,
@@ -253,7 +254,7 @@ fn push_item(
     )
 }
 
-/// The attributes of a region, which lies in the region `outer`.
+/// Adds the attributes of a region that lies in the region `outer`.
 #[cycle(inside)]
 fn push_region(
     pieces: &mut Vec<Piece>,
@@ -272,8 +273,11 @@ fn push_region(
         (inside_marks scope.entry.order scope.entry.family.now levels)
         depth (parts_of scope.entry.order outer.now) set region.now) }
 {
+    // How many formats a kind may still choose.
     let mut left = MOST_CHOSEN;
+    // The padding before the next attribute.
     let mut front = 0;
+    // The bytes of the region that no piece has yet.
     let mut size = region.len();
     for part in Attrs::of_ordered(region, scope.order) {
         match part {
@@ -296,7 +300,7 @@ fn push_region(
     push_gap(pieces, depth, size)
 }
 
-/// A struct, and the attributes behind it.
+/// Adds a struct, and the attributes after it, which begin at `from`.
 #[cycle(inside)]
 fn push_headed(
     pieces: &mut Vec<Piece>,
@@ -323,8 +327,8 @@ fn push_headed(
     push_region(pieces, scope, levels, depth.deeper(), outer, set, behind)
 }
 
-/// What stands in bytes of this meaning, among the attributes of a region. What has no parts is
-/// one part, and is read in its own way; what has no meaning in a plain one.
+/// Adds the pieces of the bytes of an attribute in `region`, by their meaning. Bytes that aren't
+/// divided are one piece, of the notation `own`, or `plain` where the meaning is unknown.
 #[cycle(inside)]
 pub(super) fn push_sense(
     pieces: &mut Vec<Piece>,
@@ -376,7 +380,7 @@ pub(super) fn push_sense(
     }
 }
 
-/// The format of a payload, of which a kind has chosen.
+/// The format that `kind` chooses, or `format` itself where no kind chooses.
 pub(super) fn resolved(format: Format, order: Order, kind: &[u8]) -> Format
     ensures { result ≡ resolved_format order kind.now format }
 {
@@ -386,7 +390,7 @@ pub(super) fn resolved(format: Format, order: Order, kind: &[u8]) -> Format
     }
 }
 
-/// What stands in a payload, where so many levels may be shown.
+/// Adds the pieces of a payload, with at most `levels` levels inside one another.
 #[cycle(inside)]
 pub(super) fn push_inside(
     pieces: &mut Vec<Piece>,

@@ -24,7 +24,7 @@ use nl_frame::ScanError;
 use nl_values::Format;
 use std::alloc::{AllocError, Global};
 
-/// Writes that there is no value.
+/// Writes a field whose value is null.
 #[tactic(auto, using(crate::proofs::Sets::one))]
 fn push_null(line: &mut Line, name: &str) -> Result<(), AllocError>
     requires { IsUnescaped name.now }
@@ -34,7 +34,6 @@ fn push_null(line: &mut Line, name: &str) -> Result<(), AllocError>
     line.null()
 }
 
-/// Writes a number, or null.
 fn push_number(line: &mut Line, number: Option<u32>) -> Result<(), AllocError>
     ensures { OnOk result
         (line.new ≡ line.old ⊕ fields_tokens ((codes "value", number_json number) ∷ [])) }
@@ -45,7 +44,7 @@ fn push_number(line: &mut Line, number: Option<u32>) -> Result<(), AllocError>
     }
 }
 
-/// Writes a name, or the number that has none.
+/// Writes a name, or `number` where it has none.
 fn push_name(
     alloc: Global,
     line: &mut Line,
@@ -66,7 +65,7 @@ fn push_name(
     }
 }
 
-/// Writes what a payload is read as.
+/// Writes the value of a payload, or null where it is read as bytes.
 #[tactic(auto, unfolding(crate::specs::Notations::payload_json), using(crate::proofs::Sets::one))]
 fn push_payload(line: &mut Line, reading: Reading<'_>) -> Result<(), AllocError>
     ensures { OnOk result (line.new ≡ line.old
@@ -79,7 +78,7 @@ fn push_payload(line: &mut Line, reading: Reading<'_>) -> Result<(), AllocError>
     push_value(line, reading)
 }
 
-/// Writes what bytes of a format mean.
+/// Writes what bytes of a format mean, or null where that is unknown.
 fn push_meaning_of(
     line: &mut Line,
     order: Order,
@@ -132,7 +131,7 @@ fn push_value_field(
     }
 }
 
-/// Writes the field that says why a datagram is refused there.
+/// Writes why the datagram is refused at this part, or null.
 #[tactic(auto, unfolding(crate::specs::ByteRows::refusal_json))]
 fn push_fault_field(line: &mut Line, refusal: Option<ScanError>) -> Result<(), AllocError>
     ensures { OnOk result
@@ -145,7 +144,7 @@ fn push_fault_field(line: &mut Line, refusal: Option<ScanError>) -> Result<(), A
     }
 }
 
-/// Writes the fields that the first row of a part has alone.
+/// Writes the value and the fault of a part, or nulls on its other rows.
 #[tactic(auto, using(crate::proofs::Sets::field))]
 fn push_first_fields(
     alloc: Global,
@@ -164,7 +163,7 @@ fn push_first_fields(
     push_fault_field(line, row.part.refusal)
 }
 
-/// Writes where a row stands, and its bytes.
+/// Writes the offset and the bytes of a row.
 #[tactic(auto, unfolding(crate::specs::ByteRows::place_fields), using(crate::proofs::Sets::field))]
 fn push_place(line: &mut Line, number: usize, row: &ByteRow<'_>) -> Result<(), AllocError>
     ensures { OnOk result
@@ -176,7 +175,6 @@ fn push_place(line: &mut Line, number: usize, row: &ByteRow<'_>) -> Result<(), A
     line.digits("bytes", row.bytes)
 }
 
-/// Writes the level and the name of a part.
 #[tactic(auto, unfolding(crate::specs::ByteRows::label_fields), using(crate::proofs::Sets::field))]
 fn push_label(alloc: Global, line: &mut Line, label: Label) -> Result<(), AllocError>
     ensures { OnOk result (line.new ≡ line.old ⊕ fields_tokens (label_fields (label_view label))) }

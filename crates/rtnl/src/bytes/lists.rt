@@ -1,4 +1,4 @@
-//! What is known of a list of attributes, and of an attribute of it, by the events of a tape.
+//! The open lists of attributes, and the kind of an attribute in one, by a tape's events.
 
 ghost use Rattle.std.specs.Prelude.{◌≡◌, ◌≤◌, map};
 ghost use Rattle.nl_values.specs.Known.{attribute_view};
@@ -19,20 +19,20 @@ use nl_attr::{Ctx, Event, Order, SORT_BYTES, SORT_MESSAGE, SORT_NEXT_HOP};
 use nl_frame::Form;
 use nl_values::{Attribute, Format, Selector, Set};
 
-/// What is known of a list of attributes: that of a body, of an attribute or of a next hop.
+/// A list of attributes: that of a body, of an attribute or of a next hop.
 #[derive(Clone, Copy)]
 pub(super) struct AttrList<'a> {
     pub context: Ctx,
     pub set: Option<Set>,
     /// The events from its first attribute on.
     pub events: &'a [Event],
-    /// How many attributes may still be chosen by a kind.
+    /// How many formats a kind may still choose.
     pub left: u8,
-    /// The byte of the message's address family.
+    /// The byte of the message's address family, or no byte.
     pub family: &'a [u8],
 }
 
-/// Where no list is open.
+/// The list of a level at which none is open.
 const NO_LIST: AttrList<'static> = AttrList {
     context: Ctx::Plain,
     set: None,
@@ -41,14 +41,14 @@ const NO_LIST: AttrList<'static> = AttrList {
     family: &[],
 };
 
-/// The list of a level, of those that are open.
+/// The open list of a level.
 pub(super) fn list_at<'a>(lists: &[AttrList<'a>], level: u8) -> AttrList<'a>
     ensures { attr_list_view result ≡ parts.list_at (map attr_list_view lists.now) level }
 {
     lists.get(level as usize).copied().unwrap_or(NO_LIST)
 }
 
-/// The bytes of an item behind its header, of which so many bytes are that.
+/// The bytes of an item after its header, which has `header` bytes.
 pub(super) fn content_of<'a>(bytes: &'a [u8], header: usize, event: &Event) -> &'a [u8]
     requires { header ≤ 16 }
     ensures { result.now ≡ content_of bytes.entry.now header event.now }
@@ -57,7 +57,7 @@ pub(super) fn content_of<'a>(bytes: &'a [u8], header: usize, event: &Event) -> &
     bytes_up_to(behind, event.len as usize)
 }
 
-/// What an attribute holds: bytes; none of a list.
+/// The payload of an attribute; no bytes for a nested attribute.
 fn held_of<'a>(bytes: &'a [u8], event: &Event) -> &'a [u8]
     ensures { result.now ≡ held_of bytes.entry.now event.now }
 {
@@ -67,15 +67,15 @@ fn held_of<'a>(bytes: &'a [u8], event: &Event) -> &'a [u8]
     }
 }
 
-/// Whether an event ends a list of this level.
+/// Whether a list of this level has ended before an event.
 fn ends_list(level: u8, event: &Event) -> bool
     ensures { result ≡ ends_list level event.now }
 {
     event.sort == SORT_MESSAGE || event.level < level
 }
 
-/// The payload of the only attribute of this number in a list of this level, by the events from
-/// its first attribute on: no bytes where there is none, or more than one.
+/// The payload of the only attribute of this number in the list that begins at `events`. It has no
+/// bytes where there is none, or more than one.
 fn only_in_events<'a>(bytes: &'a [u8], level: u8, events: &[Event], number: u16) -> &'a [u8]
     ensures { result.now ≡ only_in number (attrs_in bytes.entry.now level events.now) }
 {
@@ -94,14 +94,14 @@ fn only_in_events<'a>(bytes: &'a [u8], level: u8, events: &[Event], number: u16)
     only.unwrap_or(&[])
 }
 
-/// What is known of an attribute in a list.
+/// The name and the format of an attribute in a list.
 pub(super) fn known_here(list: &AttrList<'_>, event: &Event) -> Attribute
     ensures { attribute_view result ≡ known_here (attr_list_view list.now) event.now }
 {
     known(list.set, event.number)
 }
 
-/// The kind that chooses the format of an attribute in a list.
+/// The kind that chooses the format of an attribute in a list, or no bytes.
 pub(super) fn kind_here<'a>(bytes: &'a [u8], list: &AttrList<'a>, event: &Event) -> &'a [u8]
     ensures { result.now ≡ kind_here bytes.entry.now (attr_list_view list.now) event.now }
 {
@@ -127,7 +127,7 @@ fn body_set(form: Form) -> Option<Set>
     }
 }
 
-/// The set of the attributes in a head.
+/// The set of the attributes inside an event's item.
 fn set_in_head(order: Order, bytes: &[u8], list: &AttrList<'_>, event: &Event) -> Option<Set>
     ensures { result ≡ set_in_head order bytes.now (attr_list_view list.now) event.now }
 {
@@ -143,7 +143,7 @@ fn set_in_head(order: Order, bytes: &[u8], list: &AttrList<'_>, event: &Event) -
     }
 }
 
-/// The byte of the address family there.
+/// The byte of the address family in an event's message.
 fn family_in_head<'a>(bytes: &'a [u8], list: &AttrList<'a>, event: &Event) -> &'a [u8]
     ensures { result.now ≡ family_in_head bytes.entry.now (attr_list_view list.now) event.now }
 {
@@ -153,7 +153,7 @@ fn family_in_head<'a>(bytes: &'a [u8], list: &AttrList<'a>, event: &Event) -> &'
     }
 }
 
-/// The list in a head, where these are the events behind it.
+/// The list inside an event's item. `behind` are the events after this one.
 pub(super) fn list_inside<'a>(
     order: Order,
     bytes: &'a [u8],
@@ -173,7 +173,7 @@ pub(super) fn list_inside<'a>(
     }
 }
 
-/// What is known of a list behind a head: one attribute less may be chosen, where this one was.
+/// The list after one of its items. One choice less is left where a kind chose the item's format.
 pub(super) fn list_behind<'a>(list: AttrList<'a>, event: &Event) -> AttrList<'a>
     ensures { attr_list_view result ≡ list_behind (attr_list_view list.entry) event.now }
 {

@@ -1,4 +1,9 @@
 //! The bytes of a datagram beside what they are.
+//!
+//! - `tape`: the events of a datagram; `lists`: the lists that are open at an event;
+//! - `view`: the pieces of a datagram; `inside`: those of a payload; `structs`: fields;
+//! - `parts`: pieces, and parts by them; `notation`: the value of a part;
+//! - `rows`: rows as text; `json_lines`: rows as lines of JSON.
 
 ghost use Rattle.std.specs.Prelude.{◌≡◌, ◌<◌, ◌≤◌, ◌+◌, ◌++◌, ◌^◌, Some, None, OnOk, length};
 ghost use Rattle.rtnl.specs.ByteRows.{opening, refused_at, row_printed};
@@ -24,7 +29,7 @@ use nl_attr::Event;
 use nl_frame::{ReadError, ScanError};
 use std::alloc::{AllocError, Global};
 
-/// Where a datagram is refused.
+/// The offset at which a datagram is refused; 0 where it is too large.
 fn refused_at(error: ScanError) -> usize
     ensures { result ≡ refused_at error }
 {
@@ -49,8 +54,7 @@ fn push_accepted(
     push_parts(alloc, out, how, 0, bytes, None, &pieces)
 }
 
-/// Writes the rows of a datagram that is refused: those before its first fault, and those from there
-/// on.
+/// Writes the rows of a datagram that is refused, before its first fault and from there on.
 fn push_refused(
     alloc: Global,
     out: &mut Vec<u8>,
@@ -88,7 +92,7 @@ pub(crate) fn push_rows(
     }
 }
 
-/// Writes the line before the rows of a datagram.
+/// Writes the line before the rows of a datagram. JSON has none.
 pub(crate) fn push_opening(out: &mut Vec<u8>, how: Printing, bytes: &[u8]) -> Result<(), AllocError>
     ensures { OnOk result
         (out.new.items ≡ out.old.items ++ opening how.format how.number bytes.now) }
@@ -110,7 +114,7 @@ fn push_line(out: &mut Vec<u8>, refusal: Option<ScanError>) -> Result<(), AllocE
     }
 }
 
-/// Writes what stands behind the rows of a datagram.
+/// Writes the line of a refusal after the rows of a datagram. JSON has none.
 pub(crate) fn push_ending(
     out: &mut Vec<u8>,
     format: RowFormat,

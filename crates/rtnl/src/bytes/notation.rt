@@ -47,14 +47,13 @@ pub(crate) enum Notation {
     MessageType,
     /// The type of an attribute of this set, its name and its flag bits.
     AttrType(Option<Set>),
-    /// The payload of an attribute in this style; whether its type has the flag of the network's
-    /// order.
+    /// The payload of an attribute in this style, and whether its type has the flag NET_BYTEORDER.
     Payload(Style, bool),
     /// What bytes of this format mean.
     Meaning(Format),
 }
 
-/// The number that one, two or four bytes are.
+/// The number that one, two or four bytes are; none for another length.
 pub(super) fn number(order: Order, bytes: &[u8]) -> Option<u32>
     ensures { result ≡ number_in order bytes.now }
 {
@@ -75,7 +74,6 @@ fn push_number(out: &mut Vec<u8>, number: u32) -> Result<(), AllocError>
     text.push_to(out)
 }
 
-/// Writes a number with a sign.
 fn push_signed(out: &mut Vec<u8>, number: i32) -> Result<(), AllocError>
     ensures { OnOk result (out.new.items ≡ out.old.items ++ (codes " " ++ signed_decimal number)) }
 {
@@ -127,7 +125,6 @@ fn push_digits(out: &mut Vec<u8>, order: Order, bytes: &[u8]) -> Result<(), Allo
     }
 }
 
-/// Writes flags of 8 bits, and the names of those that are set.
 #[tactic(auto, unfolding(crate::specs::Notations::flags_behind, crate::specs::Notations::digits_behind), using(crate::proofs::Sets::joins))]
 fn push_flags8(out: &mut Vec<u8>, bits: Bits, flags: u8) -> Result<(), AllocError>
     ensures { OnOk result
@@ -138,7 +135,6 @@ fn push_flags8(out: &mut Vec<u8>, bits: Bits, flags: u8) -> Result<(), AllocErro
     push_names(out, bits, flags.into())
 }
 
-/// Writes flags of 16 bits, and the names of those that are set.
 #[tactic(auto, unfolding(crate::specs::Notations::flags_behind, crate::specs::Notations::digits_behind), using(crate::proofs::Sets::joins))]
 fn push_flags16(out: &mut Vec<u8>, bits: Bits, flags: u16) -> Result<(), AllocError>
     ensures { OnOk result
@@ -149,7 +145,6 @@ fn push_flags16(out: &mut Vec<u8>, bits: Bits, flags: u16) -> Result<(), AllocEr
     push_names(out, bits, flags.into())
 }
 
-/// Writes flags of 32 bits, and the names of those that are set.
 #[tactic(auto, unfolding(crate::specs::Notations::flags_behind, crate::specs::Notations::digits_behind), using(crate::proofs::Sets::joins))]
 fn push_flags32(out: &mut Vec<u8>, bits: Bits, flags: u32) -> Result<(), AllocError>
     ensures { OnOk result
@@ -187,7 +182,6 @@ fn push_name(out: &mut Vec<u8>, found: Option<KernelName>) -> Result<(), AllocEr
     }
 }
 
-/// Writes the type of a message.
 #[tactic(auto, unfolding(crate::specs::Notations::type_behind), using(crate::proofs::Sets::joins))]
 fn push_type(out: &mut Vec<u8>, kind: u16) -> Result<(), AllocError>
     ensures { OnOk result (out.new.items ≡ out.old.items ++ type_behind kind) }
@@ -196,7 +190,6 @@ fn push_type(out: &mut Vec<u8>, kind: u16) -> Result<(), AllocError>
     push_name(out, any_message_name(kind))
 }
 
-/// Writes a word, where it holds.
 fn push_if(out: &mut Vec<u8>, word: &str, holds: bool) -> Result<(), AllocError>
     ensures { OnOk result (out.new.items ≡ out.old.items ++ word_if word.now holds) }
 {
@@ -212,7 +205,6 @@ fn push_bits(out: &mut Vec<u8>, flags: AttrFlags) -> Result<(), AllocError>
     push_if(out, " NET_BYTEORDER", flags.net)
 }
 
-/// The flag bits of an attribute's type.
 fn flags_in(kind: u16) -> AttrFlags
     ensures { result ≡ flags_of kind }
 {
@@ -233,7 +225,7 @@ fn push_attr_type(out: &mut Vec<u8>, set: Option<Set>, kind: u16) -> Result<(), 
     push_bits(out, flags_in(kind))
 }
 
-/// Writes what a payload is read as.
+/// Writes the value of a payload, or nothing where it is read as bytes.
 #[tactic(auto, unfolding(crate::specs::Notations::reading_behind), using(crate::proofs::Sets::joins))]
 fn push_reading(out: &mut Vec<u8>, reading: Reading<'_>) -> Result<(), AllocError>
     ensures { OnOk result
@@ -246,7 +238,6 @@ fn push_reading(out: &mut Vec<u8>, reading: Reading<'_>) -> Result<(), AllocErro
     push_value(out, reading)
 }
 
-/// Writes a number.
 fn push_integer(out: &mut Vec<u8>, number: Integer) -> Result<(), AllocError>
     ensures { OnOk result (out.new.items
         ≡ out.old.items ++ (codes " " ++ signed_decimal (integer_view number))) }
@@ -273,7 +264,6 @@ fn push_enumerated(out: &mut Vec<u8>, number: Integer, name: Option<&str>) -> Re
     }
 }
 
-/// Writes a hardware address.
 fn push_mac(out: &mut Vec<u8>, address: [u8; 6]) -> Result<(), AllocError>
     ensures { OnOk result (out.new.items ≡ out.old.items ++ (codes " " ++ mac_text address)) }
 {
@@ -296,13 +286,14 @@ fn push_named_bits(out: &mut Vec<u8>, number: u64, names: Names) -> Result<(), A
     push_bits_of(out, names, number)
 }
 
-/// Writes what bytes mean that are one part, or nothing.
+/// Writes a meaning that is one value, or nothing for any other.
 #[tactic(auto, unfolding(crate::specs::Notations::sense_behind, crate::specs::Notations::reading_behind, crate::specs::Values::reading_of), using(crate::proofs::Sets::joins))]
 fn push_meaning(out: &mut Vec<u8>, meaning: Meaning<'_>) -> Result<(), AllocError>
     ensures { OnOk result (out.new.items ≡ out.old.items ++ sense_behind (sense_of meaning.entry)) }
 {
     match meaning {
         Meaning::Text(text) => {
+            // A text has no byte order.
             let order = Order::Little;
             push_reading(
                 out,
@@ -326,7 +317,7 @@ fn push_meaning(out: &mut Vec<u8>, meaning: Meaning<'_>) -> Result<(), AllocErro
     }
 }
 
-/// Writes the value of the bytes of a part behind a blank, or nothing.
+/// Writes a blank and the value of a part, or nothing.
 #[tactic(auto, unfolding(crate::specs::Notations::value_behind))]
 pub(super) fn push_value_behind(
     out: &mut Vec<u8>,

@@ -1,4 +1,4 @@
-//! The pieces of bytes, one after another, and the rows of the parts that they are.
+//! The pieces of a datagram, and the parts that they cut its bytes into.
 
 ghost use Rattle.std.specs.Prelude.{◌≡◌, ◌<◌, ◌+◌, ◌++◌, ◌∷◌, ◌^◌, [], length, map, OnOk};
 ghost use Rattle.rtnl.specs.ByteParts.{size_from};
@@ -20,14 +20,14 @@ use std::alloc::{AllocError, Global};
 /// How far a piece goes.
 #[derive(Clone, Copy)]
 pub(crate) enum Extent {
-    /// So many bytes.
+    /// This many bytes.
     Bytes(usize),
-    /// Up to this place.
+    /// Up to this offset of the datagram.
     UpTo(usize),
 }
 
 impl Extent {
-    /// How many bytes there are of it from a place on.
+    /// The size of a piece that begins at the offset `place`.
     fn size_from(self, place: usize) -> usize
         ensures { result ≡ size_from place self }
     {
@@ -50,7 +50,7 @@ pub(crate) enum Depth {
 }
 
 impl Depth {
-    /// How many levels of attributes they lie in.
+    /// The level of the attribute or next hop, or 0.
     fn level(self) -> u16
         ensures { result ≡ level_of self }
     {
@@ -60,7 +60,6 @@ impl Depth {
         }
     }
 
-    /// How many blanks stand before their name.
     fn indent(self) -> u32
         ensures { result ≡ indent_of self }
     {
@@ -71,7 +70,7 @@ impl Depth {
         }
     }
 
-    /// How deep attributes lie in bytes of this depth.
+    /// The depth of attributes inside bytes of this depth.
     pub(super) fn deeper(self) -> Depth
         requires { level_of self < 1000 }
         ensures { result ≡ deeper self }
@@ -83,14 +82,14 @@ impl Depth {
     }
 }
 
-/// What the next bytes are.
+/// What the next bytes are, and how far they go.
 #[derive(Clone, Copy)]
 pub(crate) struct Piece {
     extent: Extent,
     label: Label,
 }
 
-/// Bytes that were not read.
+/// The label of bytes that were not read.
 const UNREAD: Label = Label {
     level: 0,
     indent: 0,
@@ -99,7 +98,6 @@ const UNREAD: Label = Label {
     is_aside: true,
 };
 
-/// One more piece.
 fn push_piece(pieces: &mut Vec<Piece>, piece: Piece) -> Result<(), AllocError>
     ensures { OnOk result
         (marks_in pieces.new.items ≡ marks_in pieces.old.items ++ piece_view piece ∷ []) }
@@ -108,7 +106,7 @@ fn push_piece(pieces: &mut Vec<Piece>, piece: Piece) -> Result<(), AllocError>
     Ok(())
 }
 
-/// Bytes of this name.
+/// Adds a piece of this name.
 pub(super) fn push_named(
     pieces: &mut Vec<Piece>,
     depth: Depth,
@@ -129,7 +127,6 @@ pub(super) fn push_named(
     push_piece(pieces, Piece { extent, label })
 }
 
-/// Padding of this extent.
 fn push_padding_of(pieces: &mut Vec<Piece>, depth: Depth, extent: Extent) -> Result<(), AllocError>
     ensures { OnOk result
         (marks_in pieces.new.items ≡ marks_in pieces.old.items ++ padding_of depth extent ∷ []) }
@@ -144,7 +141,7 @@ fn push_padding_of(pieces: &mut Vec<Piece>, depth: Depth, extent: Extent) -> Res
     push_piece(pieces, Piece { extent, label })
 }
 
-/// Padding up to a place.
+/// Adds padding up to the offset `end`.
 pub(super) fn push_padding(
     pieces: &mut Vec<Piece>,
     depth: Depth,
@@ -156,7 +153,7 @@ pub(super) fn push_padding(
     push_padding_of(pieces, depth, Extent::UpTo(end))
 }
 
-/// So many bytes of padding.
+/// Adds `count` bytes of padding.
 pub(super) fn push_gap(
     pieces: &mut Vec<Piece>,
     depth: Depth,
@@ -168,7 +165,7 @@ pub(super) fn push_gap(
     push_padding_of(pieces, depth, Extent::Bytes(count))
 }
 
-/// The fields of a struct.
+/// Adds the fields of a struct, each a piece.
 pub(super) fn push_fields(
     pieces: &mut Vec<Piece>,
     depth: Depth,
@@ -183,8 +180,8 @@ pub(super) fn push_fields(
     Ok(())
 }
 
-/// Writes the rows of all these bytes, which begin at a place: those of the pieces, and of what is
-/// behind them. The refusal stands at the first.
+/// Writes the rows of `bytes`, which begin at the offset `start`. Each piece that has bytes is a
+/// part, and so are the bytes after the last piece. The refusal stands at the first part.
 pub(super) fn push_parts(
     alloc: Global,
     out: &mut Vec<u8>,

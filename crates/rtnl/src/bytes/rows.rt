@@ -24,7 +24,7 @@ use std::alloc::{AllocError, Global};
 pub enum RowFormat {
     /// A line of text for each row.
     Text,
-    /// The same with colours for a terminal.
+    /// A line of text for each row, with colours for a terminal.
     Coloured,
     /// An object on a line for each row.
     Json,
@@ -46,15 +46,15 @@ pub(crate) struct Label {
 /// A part of a datagram.
 #[derive(Clone, Copy)]
 pub(crate) struct BytePart<'a> {
-    /// Where its first byte stands.
+    /// The offset of its first byte.
     pub place: u64,
     pub bytes: &'a [u8],
     pub label: Label,
-    /// Why the datagram is refused there.
+    /// Why the datagram is refused at this part, if it is.
     pub refusal: Option<ScanError>,
 }
 
-/// A row of a part.
+/// A row of a part, and the offset of its first byte.
 #[derive(Clone, Copy)]
 pub(crate) struct ByteRow<'a> {
     pub place: u64,
@@ -74,7 +74,7 @@ pub(crate) struct Printing {
 /// How many bytes a row has at most.
 const WIDTH: usize = 16;
 
-/// What stands before a place, so that places of up to five digits end below one another.
+/// The blanks before an offset, which align it to the right in five columns.
 #[tactic(auto, unfolding(crate::specs::ByteRows::margin))]
 fn margin_of(place: u64) -> &'static str
     ensures text { result.now ≡ margin place }
@@ -93,7 +93,6 @@ fn margin_of(place: u64) -> &'static str
     }
 }
 
-/// Writes a byte.
 #[tactic(auto, unfolding(crate::specs::ByteRows::cell))]
 fn push_cell(out: &mut Vec<u8>, byte: u8) -> Result<(), AllocError>
     ensures { OnOk result (out.new.items ≡ out.old.items ++ cell byte) }
@@ -104,7 +103,6 @@ fn push_cell(out: &mut Vec<u8>, byte: u8) -> Result<(), AllocError>
     text.push_to(out)
 }
 
-/// Writes the bytes of a row.
 fn push_cells(out: &mut Vec<u8>, bytes: &[u8]) -> Result<(), AllocError>
     ensures { OnOk result (out.new.items ≡ out.old.items ++ flat_map cell bytes.now) }
 {
@@ -114,7 +112,6 @@ fn push_cells(out: &mut Vec<u8>, bytes: &[u8]) -> Result<(), AllocError>
     Ok(())
 }
 
-/// Writes so many blanks.
 #[tactic(auto, unfolding(crate::specs::ByteRows::blanks), using(crate::proofs::ByteRows::one_blank))]
 fn push_blanks(out: &mut Vec<u8>, count: usize) -> Result<(), AllocError>
     ensures { OnOk result (out.new.items ≡ out.old.items ++ blanks count) }
@@ -127,7 +124,7 @@ fn push_blanks(out: &mut Vec<u8>, count: usize) -> Result<(), AllocError>
     Ok(())
 }
 
-/// Writes what marks a refusal.
+/// Writes the mark of a refusal, or nothing.
 #[tactic(auto, unfolding(crate::specs::ByteRows::mark))]
 fn push_mark(out: &mut Vec<u8>, refusal: Option<ScanError>) -> Result<(), AllocError>
     ensures { OnOk result (out.new.items ≡ out.old.items ++ mark refusal) }
@@ -138,7 +135,7 @@ fn push_mark(out: &mut Vec<u8>, refusal: Option<ScanError>) -> Result<(), AllocE
     }
 }
 
-/// Writes the rule that is broken, and where.
+/// Writes the rule that is broken, and the offset.
 #[tactic(auto, unfolding(crate::specs::ByteRows::rule_at))]
 fn push_rule(out: &mut Vec<u8>, fault: Fault) -> Result<(), AllocError>
     ensures { OnOk result (out.new.items ≡ out.old.items ++ rule_at fault) }
@@ -160,7 +157,7 @@ fn push_fault(out: &mut Vec<u8>, head: BrokenHead) -> Result<(), AllocError>
     push(out, " bytes left")
 }
 
-/// Writes why a datagram is refused there.
+/// Writes why a datagram is refused, or nothing.
 #[tactic(auto, unfolding(crate::specs::ByteRows::refusal_behind))]
 fn push_refusal(out: &mut Vec<u8>, refusal: Option<ScanError>) -> Result<(), AllocError>
     ensures { OnOk result (out.new.items ≡ out.old.items ++ refusal_behind refusal) }
@@ -172,7 +169,7 @@ fn push_refusal(out: &mut Vec<u8>, refusal: Option<ScanError>) -> Result<(), All
     }
 }
 
-/// Writes the words of a part.
+/// Writes the name, the value and the refusal of a part.
 #[tactic(auto, unfolding(crate::specs::ByteRows::words), using(crate::proofs::Sets::joins))]
 fn push_words(out: &mut Vec<u8>, order: Order, part: &BytePart<'_>) -> Result<(), AllocError>
     ensures { OnOk result
@@ -185,7 +182,7 @@ fn push_words(out: &mut Vec<u8>, order: Order, part: &BytePart<'_>) -> Result<()
     push_refusal(out, part.refusal)
 }
 
-/// What begins the colour of words.
+/// The escape before the words of a part, or no escape.
 #[tactic(auto, unfolding(crate::specs::ByteRows::paint))]
 fn colour(is_aside: bool, refusal: Option<ScanError>) -> &'static str
     ensures { result.now ≡ paint is_aside refusal }
@@ -209,7 +206,7 @@ fn push_painted(out: &mut Vec<u8>, order: Order, part: &BytePart<'_>) -> Result<
     push_end(out, colour)
 }
 
-/// Writes what stands beside the bytes of a row.
+/// Writes what stands beside the bytes of a part's first row.
 #[tactic(auto, using(crate::proofs::Sets::joins))]
 fn push_beside(
     out: &mut Vec<u8>,
@@ -233,7 +230,6 @@ fn push_beside(
     }
 }
 
-/// Writes a row as a line of text.
 #[tactic(auto, unfolding(crate::specs::ByteRows::row_text), using(crate::proofs::Sets::joins))]
 fn push_text(
     out: &mut Vec<u8>,
@@ -255,7 +251,6 @@ fn push_text(
     push(out, "\n")
 }
 
-/// Writes a row.
 fn push_row(
     alloc: Global,
     out: &mut Vec<u8>,

@@ -41,7 +41,7 @@ pub(super) fn rtattr(set: Option<Set>) -> [Field; 2]
 /// What an `nlmsgerr` of linux/netlink.h has before the header that it answers.
 pub(super) const NLMSGERR: [Field; 1] = [("error", 4, Notation::Signed)];
 
-/// The number at the end of a dump.
+/// What a DONE begins with.
 pub(super) const STATUS: [Field; 1] = [("status", 4, Notation::Signed)];
 
 /// `rtgenmsg` of linux/rtnetlink.h.

@@ -13,14 +13,14 @@ use std::alloc::{AllocError, Global};
 /// The heads of a datagram, and why it is refused.
 #[derive(Drop)]
 pub struct Tape {
-    /// The event of each head, in the order of their places: of those up to the first fault where
-    /// there is one, and of none where the datagram is above the datagram limit.
+    /// The event of each head up to the first fault, in the order of their offsets. It is empty
+    /// where the datagram is above the datagram limit.
     pub events: Vec<Event>,
-    /// Why it is refused, or none where it is accepted.
+    /// Why the datagram is refused, if it is.
     pub refusal: Option<ScanError>,
 }
 
-/// What stands in a buffer where no event was put: no event has its sort.
+/// Fills the buffer before the scan. No event has this sort.
 const BLANK: Event = Event {
     place: 0,
     len: 0,
@@ -41,7 +41,7 @@ fn refusal(scanned: Result<(), ScanError>) -> Option<ScanError>
     }
 }
 
-/// Scans a datagram, and keeps the event of each head. Only memory can be refused.
+/// Scans a datagram, and keeps the event of each head. It fails only where memory runs out.
 pub fn tape_of(alloc: Global, bytes: &[u8], limits: &Limits) -> Result<Tape, AllocError>
     // The refusal is that of the datagram's answer under these limits.
     ensures refusal { IfOk result (λ tape. (answer : Answer) × Answers limits.now bytes.now answer
@@ -51,7 +51,7 @@ pub fn tape_of(alloc: Global, bytes: &[u8], limits: &Limits) -> Result<Tape, All
     // A fault is that of the head that breaks its rule.
     ensures head { IfOk result (λ tape. IsAboutItsHead limits.now bytes.now tape.refusal) }
 {
-    // A head has four bytes and more, so there is room for all.
+    // A head has at least four bytes, so there is room for all events.
     let mut events = vec![in alloc; BLANK; bytes.len() / 4 + 1]?;
     let Counted { scan, count } = tape_datagram(bytes, limits, events.as_mut_slice());
     let refusal = refusal(scan.into_result());
@@ -71,8 +71,8 @@ fn context_of_body(form: Form) -> Ctx
     }
 }
 
-/// The context of the attributes in the item of a head, which stands itself in the outer one: in
-/// the body of a message, in a list, in next hops and in each of them.
+/// The context of the attributes inside an event's item, which itself stands in the context
+/// `outer`. It is `Ctx::Plain` where the item holds none.
 pub fn context_inside(event: Event, outer: Ctx) -> Ctx
     ensures { result ≡ context_in event outer }
 {

@@ -35,13 +35,12 @@ use std::alloc::{AllocError, Global};
 /// What the events of a datagram say of its bytes.
 #[derive(Drop)]
 pub(super) struct View<'a> {
-    /// What they are, from the first on.
+    /// The pieces, from the first byte on.
     pub pieces: Vec<Piece>,
-    /// The lists that are open behind the last, the outermost first.
+    /// The lists that are open after the last event, the outermost first.
     pub lists: Vec<AttrList<'a>>,
 }
 
-/// The header of a message of this type.
 fn push_header(pieces: &mut Vec<Piece>, depth: Depth, kind: u16) -> Result<(), AllocError>
     ensures { OnOk result
         (marks_in pieces.new.items ≡ marks_in pieces.old.items ++ header depth kind) }
@@ -50,7 +49,6 @@ fn push_header(pieces: &mut Vec<Piece>, depth: Depth, kind: u16) -> Result<(), A
     push_fields(pieces, depth, &nlmsghdr(names))
 }
 
-/// Where the body of a message begins.
 fn body_place(event: &Event) -> usize
     ensures place { result ≡ marks.body_place event.now }
     ensures below { result < 2 ^ 33 }
@@ -58,7 +56,7 @@ fn body_place(event: &Event) -> usize
     event.place as usize + 16
 }
 
-/// The rest of a body.
+/// Adds the rest of a body as one piece.
 fn push_rest(pieces: &mut Vec<Piece>, event: &Event, name: &'static str) -> Result<(), AllocError>
     ensures { OnOk result (marks_in pieces.new.items
         ≡ marks_in pieces.old.items ++ rest_of event.now name.now) }
@@ -73,7 +71,7 @@ fn push_rest(pieces: &mut Vec<Piece>, event: &Event, name: &'static str) -> Resu
     )
 }
 
-/// A number of two bytes in front of these; 0 where there are fewer.
+/// The number in the first two bytes; 0 where there are fewer.
 fn u16_at(order: Order, bytes: &[u8]) -> u16
     ensures { result ≡ number_at order 2 bytes.now }
 {
@@ -83,7 +81,7 @@ fn u16_at(order: Order, bytes: &[u8]) -> u16
     order.read_u16(bytes)
 }
 
-/// A number of four bytes in front of these; 0 where there are fewer.
+/// The number in the first four bytes; 0 where there are fewer.
 fn u32_at(order: Order, bytes: &[u8]) -> u32
     ensures { result ≡ number_at order 4 bytes.now }
 {
@@ -93,14 +91,13 @@ fn u32_at(order: Order, bytes: &[u8]) -> u32
     order.read_u32(bytes)
 }
 
-/// The flags in a message's header.
 fn flags_at(order: Order, bytes: &[u8], event: &Event) -> u16
     ensures { result ≡ flags_at order bytes.now event.now }
 {
     u16_at(order, bytes_from(bytes, event.place as usize + 6))
 }
 
-/// A payload of a type that isn't typed, by what messages of the type have.
+/// Adds the payload of a message by the format that `Set::MESSAGES` has for its type.
 fn push_other(
     pieces: &mut Vec<Piece>,
     order: Order,
@@ -129,8 +126,7 @@ fn push_other(
     )
 }
 
-/// What stands behind an answer with a code, or behind the end of a dump, of a message with these
-/// flags.
+/// Adds the bytes after an error or a DONE, which are attributes where `flags` says so.
 fn push_tail(
     pieces: &mut Vec<Piece>,
     order: Order,
@@ -159,7 +155,7 @@ fn push_tail(
     )
 }
 
-/// The request's payload, of which so many bytes come back, and what stands behind it.
+/// Adds the `size` bytes of the request's payload that an error repeats, and what follows them.
 fn push_echo(
     pieces: &mut Vec<Piece>,
     order: Order,
@@ -180,7 +176,6 @@ fn push_echo(
     push_tail(pieces, order, flags, bytes_from(tail, end))
 }
 
-/// An answer with a code, of which this is the body.
 #[tactic(auto, unfolding(crate::specs::Structs::nlmsgerr), using(crate::proofs::Sets::joins))]
 fn push_error(
     pieces: &mut Vec<Piece>,
@@ -200,7 +195,7 @@ fn push_error(
     push_echo(pieces, order, flags, kind, size, bytes_from(content, 20))
 }
 
-/// The end of a dump, of which this is the body.
+/// Adds the body of a DONE, which may be too short for a status.
 #[tactic(auto, unfolding(crate::specs::Structs::status), using(crate::proofs::Sets::joins))]
 fn push_done(
     pieces: &mut Vec<Piece>,
@@ -218,7 +213,7 @@ fn push_done(
     push_tail(pieces, order, flags, bytes_from(content, 4))
 }
 
-/// The body of a message, by its form; of a family's its head.
+/// Adds the body of a message by its form. Of a family's body it adds the head.
 #[tactic(auto, unfolding(crate::specs::Structs::rtgenmsg), using(crate::proofs::Sets::joins))]
 fn push_body(
     pieces: &mut Vec<Piece>,
@@ -244,7 +239,7 @@ fn push_body(
     }
 }
 
-/// A message's header, and its body but for its attributes.
+/// Adds a message's header, and its body but for its attributes.
 #[tactic(auto, using(crate::proofs::Sets::joins))]
 fn push_message(
     pieces: &mut Vec<Piece>,
@@ -259,7 +254,7 @@ fn push_message(
     push_body(pieces, order, bytes, event, Form::of(event.number))
 }
 
-/// The payload of an attribute of a list, by what it means, or else in its style.
+/// Adds the payload of an attribute by what it means, or else in its style.
 fn push_payload(
     pieces: &mut Vec<Piece>,
     order: Order,
@@ -301,7 +296,7 @@ fn push_payload(
     )
 }
 
-/// An attribute's head, and its payload where it holds bytes.
+/// Adds an attribute's header, and its payload where it holds bytes.
 #[tactic(auto, using(crate::proofs::Sets::joins))]
 fn push_attr(
     pieces: &mut Vec<Piece>,
@@ -320,7 +315,6 @@ fn push_attr(
     }
 }
 
-/// A next hop's head.
 #[tactic(auto, unfolding(crate::specs::Structs::rtnexthop))]
 fn push_hop(pieces: &mut Vec<Piece>, depth: Depth) -> Result<(), AllocError>
     ensures { OnOk result
@@ -329,7 +323,7 @@ fn push_hop(pieces: &mut Vec<Piece>, depth: Depth) -> Result<(), AllocError>
     push_fields(pieces, depth, &RTNEXTHOP)
 }
 
-/// A head in a list, with what stands in it but for further heads.
+/// Adds the pieces of an event's item up to the heads inside it.
 fn push_head(
     pieces: &mut Vec<Piece>,
     order: Order,
@@ -347,7 +341,7 @@ fn push_head(
     }
 }
 
-/// How deep what stands in a head lies, and the padding behind it.
+/// The depth of what stands inside an event's item, and of the padding after it.
 fn depth_inside(event: &Event) -> Depth
     ensures { result ≡ marks.depth_inside event.now }
 {
@@ -357,7 +351,7 @@ fn depth_inside(event: &Event) -> Depth
     }
 }
 
-/// Closes the lists that a head in a list ends, and notes what is known of its own behind it.
+/// Closes the lists that are deeper than an event, and notes the event in its own list.
 fn close<'a>(
     lists: &mut Vec<AttrList<'a>>,
     list: AttrList<'a>,
@@ -376,7 +370,7 @@ fn close<'a>(
     Ok(())
 }
 
-/// Goes into a head in a list, where these are the events behind it.
+/// Opens the list inside an event's item. `behind` are the events after this one.
 fn enter<'a>(
     lists: &mut Vec<AttrList<'a>>,
     order: Order,
@@ -394,7 +388,7 @@ fn enter<'a>(
     Ok(())
 }
 
-/// What stands in a datagram with these events.
+/// The pieces of a datagram, and the lists that are open after its last event.
 pub(super) fn view_events<'a>(
     alloc: Global,
     order: Order,
@@ -423,7 +417,6 @@ pub(super) fn view_events<'a>(
     Ok(View { pieces, lists })
 }
 
-/// How deep a head lies that breaks a rule.
 fn broken_depth(kind: HeadKind, level: u8) -> Depth
     ensures { result ≡ marks.broken_depth kind level }
 {
@@ -433,7 +426,7 @@ fn broken_depth(kind: HeadKind, level: u8) -> Depth
     }
 }
 
-/// The name of one that is cut.
+/// The name of a head that is cut.
 fn cut_name(kind: HeadKind) -> &'static str
     ensures { result.now ≡ marks.cut_name kind }
 {
@@ -444,7 +437,7 @@ fn cut_name(kind: HeadKind) -> &'static str
     }
 }
 
-/// What stands in a head that breaks a rule, where these lists are open.
+/// Adds the pieces of a head that breaks a rule, at which these lists are open.
 fn push_broken(
     pieces: &mut Vec<Piece>,
     lists: &[AttrList<'_>],
@@ -471,7 +464,7 @@ fn push_broken(
     }
 }
 
-/// What stands from where a datagram is refused on.
+/// The pieces from the offset on at which a datagram is refused.
 pub(super) fn view_refused(
     alloc: Global,
     lists: &[AttrList<'_>],

@@ -18,14 +18,14 @@ use nl_route::match_object;
 use nl_values::{Format, Set};
 use std::alloc::AllocError;
 
-/// Flags of an answer with a code: the payload of the request doesn't come back with it; and
-/// attributes stand behind it.
+/// A flag of an error: it doesn't repeat the request's payload.
 const NLM_F_CAPPED: u16 = 0x100;
 
+/// A flag of an error or a DONE: attributes follow it.
 const NLM_F_ACK_TLVS: u16 = 0x200;
 
-/// How many bytes of the request's payload come back, of a request of this length: none with an
-/// acknowledgement.
+/// How many bytes of the request's payload an error repeats, by the length of the request. An
+/// acknowledgement repeats none.
 pub(crate) fn echo_of(flags: u16, is_ack: bool, len: u32) -> u32
     ensures value { result ≡ echo_of flags is_ack len }
     ensures bound { result ≤ 4294967279 }
@@ -36,7 +36,7 @@ pub(crate) fn echo_of(flags: u16, is_ack: bool, len: u32) -> u32
     len.saturating_sub(16)
 }
 
-/// Whether attributes stand behind an answer with these flags.
+/// Whether attributes follow an error or a DONE with these flags.
 pub(crate) fn has_attributes(flags: u16) -> bool
     ensures { result ≡ has_attributes flags }
 {
@@ -54,7 +54,7 @@ fn push_kind(line: &mut Line, name: &str) -> Result<(), AllocError>
     line.text("kind", name)
 }
 
-/// Writes what a message type is called, and what the payload of such a message means.
+/// Writes the name of a message type, and what the payload of such a message means.
 fn push_meant(line: &mut Line, order: Order, kind: u16, payload: &[u8]) -> Result<(), AllocError>
     ensures { OnOk result
         (line.new ≡ line.old ⊕ fields_tokens (meant_fields order kind payload.now)) }
@@ -69,7 +69,7 @@ fn push_meant(line: &mut Line, order: Order, kind: u16, payload: &[u8]) -> Resul
     push_data(line, scope, meaning, payload)
 }
 
-/// Writes what the attributes of an acknowledgement say, where its flags say that they are there.
+/// Writes the attributes of an error or a DONE, where its flags say that they are there.
 fn push_extack(line: &mut Line, order: Order, flags: u16, attrs: &[u8]) -> Result<(), AllocError>
     ensures { OnOk result
         (line.new ≡ line.old ⊕ fields_tokens (extack_fields order flags attrs.now)) }
@@ -82,7 +82,7 @@ fn push_extack(line: &mut Line, order: Order, flags: u16, attrs: &[u8]) -> Resul
     push_data(line, scope, meaning, attrs)
 }
 
-/// Writes the header that an answer with a code is about, and the payload that comes back.
+/// Writes the header of the request that an error answers, and the payload that it repeats.
 fn push_answered(
     line: &mut Line,
     order: Order,

@@ -9,7 +9,7 @@ use crate::names::reasons::reason_name;
 use nl_frame::ReadError;
 use std::alloc::AllocError;
 
-/// Writes why a datagram is refused. It fails where that was for memory.
+/// Writes why a datagram is refused. It fails where `error` is `Memory`.
 #[tactic(auto, unfolding(crate::specs::Shown::refusal_fields), using(crate::proofs::Sets::field))]
 pub(crate) fn push_refusal(line: &mut Line, error: ReadError) -> Result<(), AllocError>
     ensures refusal { OnOk result (error ≢ ReadError.Memory) }

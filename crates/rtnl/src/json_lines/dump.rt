@@ -14,8 +14,7 @@ use nl_dump::{Dump, End, Standing, State};
 use nl_frame::ReadError;
 use std::alloc::{AllocError, Global};
 
-/// Writes the line of a datagram that was refused for its layout or its size. It fails where that
-/// was for memory.
+/// Writes the line of a datagram that was refused. It fails where `error` is `Memory`.
 #[tactic(auto, using(crate::proofs::Sets::field))]
 pub(crate) fn push_refused(
     alloc: Global,
@@ -32,7 +31,7 @@ pub(crate) fn push_refused(
     line.end(lines)
 }
 
-/// Writes the line of a datagram that was refused, since all datagrams would be too large.
+/// Writes the line of a datagram that was refused for the total limit.
 #[tactic(auto, unfolding(crate::specs::TabledJson::total_fields), using(crate::proofs::Sets::field))]
 pub(crate) fn push_total(
     alloc: Global,

@@ -34,7 +34,7 @@ pub(crate) trait HeadFields: FamilyHead {
     ghost use Rattle.rtnl.specs.Json.{◌⊕◌, fields_tokens};
     ghost use Rattle.rtnl.specs.MessagesJson.{address_family, head_fields};
 
-    /// The address family that it says, a byte.
+    /// The byte of its address family.
     fn address_family(&self) -> u8
         ensures { result ≡ address_family (Self.FamilyHead.as_any self.now) };
 
@@ -51,12 +51,12 @@ pub(crate) trait ItemField: TableItem {
     ghost use Rattle.rtnl.specs.Json.{◌⊕◌, fields_tokens};
     ghost use Rattle.rtnl.specs.MessagesJson.{item_field};
 
-    /// Writes the value of that field alone, an object.
+    /// Writes an object with the fields of the head and the attributes.
     fn push_value(&self, line: &mut Line, order: Order) -> Result<(), AllocError>
         ensures { OnOk result (line.new
             ≡ line.old ⊕ json_tokens (item_field order (Self.TableItem.item self.now)).1) };
 
-    /// Writes a field of the family's name, with the fields of the head and the attributes.
+    /// Writes the object of `push_value` as a field of the family's name.
     fn push_field(&self, line: &mut Line, order: Order) -> Result<(), AllocError>
         ensures { OnOk result (line.new
             ≡ line.old ⊕ fields_tokens (item_field order (Self.TableItem.item self.now) ∷ [])) };

@@ -28,7 +28,6 @@ fn push_type(line: &mut Line, kind: u16, verb: &str, name: &str) -> Result<(), A
     line.joined(verb, name)
 }
 
-/// Writes what a message's header says.
 #[tactic(auto, unfolding(crate::specs::MessagesJson::header_fields), using(crate::proofs::Sets::field))]
 fn push_header(line: &mut Line, message: &Message) -> Result<(), AllocError>
     ensures { OnOk result (line.new ≡ line.old
@@ -49,7 +48,6 @@ fn push_header(line: &mut Line, message: &Message) -> Result<(), AllocError>
     line.number("port", message.port.into())
 }
 
-/// Writes a message.
 #[tactic(auto, unfolding(crate::specs::MessagesJson::message_json), using(crate::proofs::Sets::whole_value, crate::proofs::Sets::field))]
 fn push_message(line: &mut Line, order: Order, message: &Message) -> Result<(), AllocError>
     ensures { OnOk result

@@ -1,4 +1,4 @@
-//! What is told of a mirror, as lines of JSON.
+//! The report of a mirror's tables, as lines of JSON.
 
 ghost use Rattle.std.specs.Prelude.{◌≡◌, ◌∷◌, ◌++◌, [], OnOk, codes};
 ghost use Rattle.rtnl.specs.Json.{◌⊕◌, fields_tokens};
@@ -16,7 +16,6 @@ use nl_mirror::Stale;
 use nl_route::Family;
 use std::alloc::{AllocError, Global};
 
-/// Writes the sign of a change.
 #[tactic(auto, unfolding(crate::specs::MirroringJson::change_fields))]
 fn push_sign(line: &mut Line, sign: &str) -> Result<(), AllocError>
     ensures { OnOk result (line.new ≡ line.old ⊕ fields_tokens (change_fields sign.now)) }
@@ -53,7 +52,7 @@ fn push_before<T: ItemField>(line: &mut Line, order: Order, before: &T) -> Resul
     before.push_value(line, order)
 }
 
-/// Writes the line of an entry that was told anew.
+/// Writes the line of an entry that was replaced.
 #[tactic(auto, unfolding(crate::specs::MirroringJson::changed_json), using(crate::proofs::Sets::field, crate::proofs::Sets::joins))]
 pub(crate) fn push_changed<T: ItemField>(
     alloc: Global,
@@ -93,7 +92,7 @@ pub(crate) fn push_removed<T: ItemField>(
     line.end(out)
 }
 
-/// Writes the line of a table that was renewed.
+/// Writes the line of a table that a dump renewed.
 #[tactic(auto, unfolding(crate::specs::MirroringJson::renewed_json), using(crate::proofs::Sets::field, crate::proofs::Sets::joins))]
 pub(crate) fn push_renewed(
     alloc: Global,
@@ -127,7 +126,7 @@ pub(crate) fn push_doubted(
     line.end(out)
 }
 
-/// Writes the line of a dump that didn't begin.
+/// Writes the line of a dump that didn't begin, for its sequence number.
 #[tactic(auto, unfolding(crate::specs::MirroringJson::unbegun_json), using(crate::proofs::Sets::field, crate::proofs::Sets::joins))]
 pub(crate) fn push_unbegun(alloc: Global, out: &mut Vec<u8>, dump: &Dump) -> Result<(), AllocError>
     ensures { OnOk result (out.new.items ≡ out.old.items ++ unbegun_json dump.now) }
@@ -152,7 +151,7 @@ fn push_current(line: &mut Line, why: Option<Stale>) -> Result<(), AllocError>
     }
 }
 
-/// Writes the line of how a table stands.
+/// Writes the line of a table's counts, and whether it is current.
 #[tactic(auto, unfolding(crate::specs::MirroringJson::standing_json), using(crate::proofs::Sets::field, crate::proofs::Sets::joins))]
 pub(crate) fn push_standing(
     alloc: Global,

@@ -1,4 +1,8 @@
 //! What is printed as lines of JSON.
+//!
+//! - `line`: a line that is being written; `flags`, `values`: fields of it;
+//! - `datagram`: a refusal; `message`, `body`, `heads`, `tree`: what datagrams have;
+//! - `data`: what payloads mean; `dump`, `mirror`: reports.
 
 pub(crate) mod body;
 pub(crate) mod data;

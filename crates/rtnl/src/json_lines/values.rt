@@ -1,4 +1,4 @@
-//! The fields of a payload.
+//! The form and the value of a payload: `put_` writes them into a segment, `push_` to a line.
 
 ghost use Rattle.std.specs.Prelude.{◌≡◌, ◌≤◌, ◌*◌, ◌+◌, ◌++◌, OnOk, length, true};
 ghost use Rattle.json.specs.Print.{print};
@@ -12,7 +12,7 @@ use crate::names::values::{LONGEST_TEXT, MOST_BYTES, Reading, put_ipv4, put_ipv6
 use crate::pieces::segment::Segment;
 use std::alloc::AllocError;
 
-/// Puts a text that stands for itself in front, as a string.
+/// Puts a text that needs no escape in front, as a string.
 #[inline(always)]
 #[tactic(auto, using(crate::proofs::Json::string_text, crate::proofs::Sets::joins))]
 fn put_string(piece: &mut Segment, text: &str)
@@ -65,7 +65,7 @@ pub(crate) fn put_ipv6_string(piece: &mut Segment, address: &[u8; 16])
     piece.put("\"");
 }
 
-/// Puts what is read in front.
+/// Puts the value of a payload in front.
 #[inline(always)]
 #[tactic(auto, unfolding(crate::specs::MessagesJson::reading_json), using(crate::proofs::Json::number_text))]
 fn put_value(piece: &mut Segment, reading: Reading<'_>)
@@ -85,7 +85,7 @@ fn put_value(piece: &mut Segment, reading: Reading<'_>)
     }
 }
 
-/// Whether what is read may be put together with its object: it is short, and needs no escape.
+/// Whether a value fits into the segment of its object: it is short, and needs no escape.
 #[inline(always)]
 pub(crate) fn is_ready(reading: Reading<'_>) -> bool
     ensures { result ≡ true → IsReady (reading_view reading.entry) }
@@ -97,7 +97,7 @@ pub(crate) fn is_ready(reading: Reading<'_>) -> bool
     }
 }
 
-/// Puts the form of a payload in front, and the name of the field of its value.
+/// Puts the form of a payload in front, and the key of its value.
 #[inline(always)]
 #[tactic(auto, unfolding(json::specs::Print::print_from, json::specs::Print::escape_byte, crate::specs::Values::reading_word))]
 fn put_form(piece: &mut Segment, reading: Reading<'_>)
@@ -130,7 +130,7 @@ pub(crate) fn put_reading(piece: &mut Segment, reading: Reading<'_>)
     put_form(piece, reading);
 }
 
-/// Writes the form of a payload, and the name of the field of its value.
+/// Writes the form of a payload, and the key of its value.
 #[inline(always)]
 #[tactic(auto, using(crate::proofs::Json::tokens_put, crate::proofs::Sets::whole_value))]
 fn push_form(line: &mut Line, reading: Reading<'_>) -> Result<(), AllocError>
@@ -141,7 +141,7 @@ fn push_form(line: &mut Line, reading: Reading<'_>) -> Result<(), AllocError>
     line.piece(&mut piece, false)
 }
 
-/// Writes what is read.
+/// Writes the value of a payload.
 #[inline(always)]
 #[tactic(auto, unfolding(crate::specs::MessagesJson::reading_json), using(crate::proofs::Json::value_together, crate::proofs::Sets::whole_value))]
 pub(crate) fn push_value(line: &mut Line, reading: Reading<'_>) -> Result<(), AllocError>

@@ -32,7 +32,7 @@ fn push_accepted(out: &mut Vec<u8>, canonical: bool) -> Result<(), AllocError>
     )
 }
 
-/// The text of what a check under these limits finds of datagrams.
+/// Writes what a check under these limits finds of datagrams, as text.
 #[derive(Clone, Copy)]
 struct Check {
     limits: Limits,
@@ -70,7 +70,7 @@ impl PerDatagram for Check {
     }
 }
 
-/// What a check under these limits finds of datagrams, as lines of JSON.
+/// Writes what a check under these limits finds of datagrams, as lines of JSON.
 #[derive(Clone, Copy)]
 struct CheckJson {
     limits: Limits,
@@ -111,21 +111,19 @@ impl PerDatagram for CheckJson {
     }
 }
 
-/// Says of each datagram of the lines that a source gives whether it is canonical, accepted though
-/// not canonical, or why it is refused.
+/// Checks the datagrams of the lines that a source gives. It writes whether each is canonical,
+/// accepted though not canonical, or refused, and why.
 ///
-/// The text is made as the input is read, and it is written once the input has come to its end and
-/// no line is bad. After a bad line, a read fault or the end of memory nothing was written; after a
-/// write fault a prefix of the text was. The verdict is NotClean exactly where a datagram was
-/// refused.
+/// The text is written once the input has ended and no line is bad. After a bad line, a read fault
+/// or the end of memory nothing was written. After a write fault a prefix of the text was. The
+/// verdict is NotClean exactly where a datagram was refused.
 pub fn run_check<S: Source, W: Sink>(
     alloc: Global,
     source: &mut S,
     sink: &mut W,
     limits: &Limits,
 ) -> Result<Verdict, RunError>
-    // What was written is what a check says of the datagrams of what was read, and the verdict is
-    // theirs.
+    // It wrote what a check says of the datagrams that it read. The verdict is theirs.
     ensures runs { Runs S.remaining S.is_ended S.failure_count
         W.contents W.is_stalled W.stall_count W.failure_count
         (Checks limits.now) source.old source.new sink.old sink.new result }
@@ -133,9 +131,8 @@ pub fn run_check<S: Source, W: Sink>(
     run_each(alloc, source, sink, &Check { limits: *limits })
 }
 
-/// Checks each datagram as `run_check` does, and says it as a line of JSON (RFC 8259) in place of
-/// text: an object of its number and whether it is canonical, or of its number and why it is
-/// refused.
+/// Checks each datagram as `run_check` does, and writes a line of JSON (RFC 8259) in place of
+/// text. Its object has the datagram's number, and whether it is canonical or why it is refused.
 ///
 /// It reads, writes and ends as `run_check` does.
 pub fn run_check_json<S: Source, W: Sink>(
@@ -144,7 +141,7 @@ pub fn run_check_json<S: Source, W: Sink>(
     sink: &mut W,
     limits: &Limits,
 ) -> Result<Verdict, RunError>
-    // What was written is the objects of the datagrams of what was read, and the verdict is theirs.
+    // It wrote the objects of the datagrams that it read. The verdict is theirs.
     ensures runs { Runs S.remaining S.is_ended S.failure_count
         W.contents W.is_stalled W.stall_count W.failure_count
         (ChecksJson limits.now) source.old source.new sink.old sink.new result }

@@ -1,4 +1,4 @@
-//! The entries of a table.
+//! What a dump's report says of a table: its entries, and how its dump ended.
 
 ghost use Rattle.std.specs.Prelude.{◌≡◌, ◌++◌, OnOk, length};
 ghost use Rattle.nl_dump.specs.Items.{seen};
@@ -56,7 +56,7 @@ fn size_of(session: &Session, kind: Family) -> (u32, u64)
     match_table!(kind, session, table => (table.len(), table.missed()))
 }
 
-/// How a session's dump ended, with so many datagrams left.
+/// How a session's dump ended, with `unfed` datagrams left.
 pub(crate) fn ending_of(session: &Session, dump: &Dump, unfed: usize) -> Ending
     ensures { result ≡ tabled.ending_of dump.now unfed session.now }
 {

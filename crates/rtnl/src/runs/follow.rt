@@ -18,15 +18,15 @@ use crate::streams::source::LiveSource;
 use nl_frame::Limits;
 use std::alloc::Global;
 
-/// Follows the lines that a source gives: of each datagram it writes what `run_show` writes, before
-/// it reads on. Numbers of datagrams and lines are counted from 1.
+/// Follows the lines that a source gives. It writes the text of each datagram, as `run_show` does,
+/// before it reads on. Datagrams and lines are numbered from 1.
 ///
-/// The input may have any length: no more of it is kept than what one read gives and one line, of
-/// which at most `LONGEST_LINE` bytes. `listener` hears of a bad line, and says whether the lines
-/// behind it are followed; where none is bad, what is written is what `run_show` writes.
+/// The input may have any length. One read of it is kept, and one line of at most `LONGEST_LINE`
+/// bytes. `listener` hears of each bad line, and says whether the lines after it are followed.
+/// Where no line is bad, what is written is what `run_show` writes.
 ///
-/// After a read fault the texts of all whole lines before it were written, after the end of memory
-/// those of some first lines, after a write fault a prefix of these.
+/// After a read fault the texts of all whole lines before it were written. After the end of memory
+/// those of some first lines were. After a write fault a prefix of these was.
 pub fn run_follow<S: LiveSource<W>, W: Sink, B: FollowListener>(
     alloc: Global,
     source: &mut S,

@@ -26,8 +26,8 @@ use std::marker::PhantomData;
 pub struct DumpFollowed {
     /// What was counted of its lines.
     pub counts: Followed,
-    /// Whether the dump ended by DONE with no failure, no datagram of it was refused, and it was not
-    /// interrupted.
+    /// Whether a DONE without failure ended the dump, none of its datagrams was refused, and
+    /// nothing interrupted it.
     pub complete: bool,
 }
 
@@ -41,8 +41,8 @@ fn is_over(state: State) -> bool
     }
 }
 
-/// A dump that begins under these limits. A new stream has no dump that waits and no last sequence
-/// number, so nothing is refused.
+/// The state of a dump that begins under these limits. A new stream waits for no dump and has no
+/// last sequence number, so it refuses none.
 fn begun(dump: Dump, limits: &Limits) -> OpenDump
     ensures { IsBegun limits.now dump result }
 {
@@ -53,7 +53,7 @@ fn begun(dump: Dump, limits: &Limits) -> OpenDump
     OpenDump { stream, items: 0 }
 }
 
-/// How a dump ended that was followed.
+/// How a followed dump ended.
 fn ending_of(kept: &OpenDump) -> Ending
     ensures { result ≡ ending_at kept.now }
 {
@@ -66,7 +66,7 @@ fn ending_of(kept: &OpenDump) -> Ending
     }
 }
 
-/// Reports the entries of items, behind so many others.
+/// Writes items as entries, of which the first has the number `before` + 1.
 #[tactic(auto, unfolding(crate::specs::Tabled::bodies_text))]
 fn push_items<F: ReportFormat>(
     alloc: Global,
@@ -87,7 +87,7 @@ fn push_items<F: ReportFormat>(
     Ok(())
 }
 
-/// The printing of the datagrams that answer a dump, whose numbers are in this order.
+/// Prints the answers to a dump, whose numbers have this byte order.
 #[derive(Clone, Copy)]
 struct TellDump<F> {
     order: Order,
@@ -183,15 +183,15 @@ fn follow_dump<F: ReportFormat, S: LiveSource<W>, W: Sink, B: FollowListener>(
     })
 }
 
-/// Follows the lines that a source gives as the answers to a dump, of any length: it writes which
-/// dump is read, as `run_table` does; of each datagram, before it reads on, the entries of its
-/// items, or why it is refused; and where the dump has ended, or the input, how it ended. Entries,
-/// datagrams and lines are numbered from 1. Nothing is read behind the line that ends the dump but
-/// what came with it, so no datagram is unfed.
+/// Follows the lines that a source gives as the answers to a dump, of any length. It first writes
+/// which dump is read, as `run_table` does. Before it reads on, it writes the entries of a
+/// datagram's items, or why it is refused. At the end of the dump, or of the input, it writes how
+/// the dump ended. Entries, datagrams and lines are numbered from 1. No read follows the one that
+/// brings the end of the dump, so no datagram is unfed.
 ///
-/// It keeps no table: the entries are the items as they come, and none is missed. It reads bad
-/// lines, and ends where a read, a write or memory fails, as `run_follow` does; then nothing is
-/// written of how the dump ended.
+/// It keeps no table: the entries are the items as they come, and none is missed. It treats bad
+/// lines and faults as `run_follow` does. After a fault, the text of how the dump ended is missing
+/// or cut short.
 pub fn run_follow_dump<S: LiveSource<W>, W: Sink, B: FollowListener>(
     alloc: Global,
     source: &mut S,

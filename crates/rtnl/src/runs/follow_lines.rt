@@ -15,7 +15,7 @@ use crate::streams::source::LiveSource;
 use memchr::memchr;
 use std::alloc::Global;
 
-/// How far a recording is followed.
+/// The line that has not ended, and what was counted so far.
 #[derive(Drop)]
 struct FollowState {
     unfinished: Unfinished,
@@ -37,8 +37,8 @@ impl FollowState {
     }
 }
 
-/// Tells of the line that ends behind this part, and answers whether the lines behind it are told.
-/// Of a line that came in one part nothing is copied.
+/// Handles the line that ends with `part`, and answers whether the next line is handled. A line
+/// that came in one part is not copied.
 fn end_line<W: Sink, B: FollowListener, E: PerLine>(
     alloc: Global,
     each: &E,
@@ -74,8 +74,8 @@ fn end_line<W: Sink, B: FollowListener, E: PerLine>(
     Ok(goes_on)
 }
 
-/// Tells of the lines that end in a piece of the input, and keeps what is behind them. It answers
-/// whether following goes on.
+/// Handles the lines that end in a piece of the input, and keeps the rest of the piece. It answers
+/// whether the next line is handled.
 fn follow_piece<W: Sink, B: FollowListener, E: PerLine>(
     alloc: Global,
     each: &E,
@@ -110,15 +110,15 @@ fn follow_piece<W: Sink, B: FollowListener, E: PerLine>(
     Ok(true)
 }
 
-/// The most bytes that are followed: as many as their lines can be counted.
+/// The most bytes that are followed, so that a `u64` can count their lines.
 const MOST_FOLLOWED: u64 = u64::MAX - 65_536;
 
-/// Follows a recording: each line is told of as it ends, and the last one at the end of the input.
-/// What is kept of what lines say begins as `kept`, and is there at the end.
+/// Follows a recording. It handles each line as the line ends, and the last one at the end of the
+/// input. `kept` is what the command keeps from one line to the next.
 ///
-/// What is told of a line is written before the next read. No more is kept of the input than a
-/// piece and a line. After a read fault or the end of memory the texts of whole lines were written,
-/// after a write fault a prefix of that.
+/// The text of a line is written before the next read. One piece and one line of the input are
+/// kept. After a read fault or the end of memory the texts of whole lines were written. After a
+/// write fault a prefix of that was.
 pub(crate) fn follow<S: LiveSource<W>, W: Sink, B: FollowListener, E: PerLine>(
     alloc: Global,
     source: &mut S,

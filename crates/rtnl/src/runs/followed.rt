@@ -1,5 +1,4 @@
-//! The counts of a recording that is followed, and the listener to its bad lines and to its
-//! datagrams.
+//! What is done with one line of a recording that is followed: the counts, the listener, the text.
 
 ghost use Rattle.std.specs.Prelude.{◌≡◌, ◌↔◌, ◌∷◌, [], List, Option, Some, false};
 ghost use Rattle.std.specs.Option.{option_copied};
@@ -31,31 +30,31 @@ pub trait FollowListener {
     ghost use Rattle.rtnl.specs.Streams.{Gains};
     ghost use Rattle.rtnl.specs.Followed.{HeardLine};
 
-    /// The lines that it heard of so far, where it says them: their numbers, and the lines.
+    /// The bad lines that it heard of so far, with their numbers, or `None` where it doesn't say.
     ghost heard: { Self → Option (List HeardLine) };
 
-    /// Its last call answered that the lines behind aren't followed.
+    /// Its last call answered that the lines after it aren't followed.
     ghost is_ended: { Self → Type 0 };
 
-    /// Hears that the line of this number, counted from 1, is bad, and answers whether the lines
-    /// behind it are followed. The line is handed in without its newline; there is none where it
-    /// is longer than `LONGEST_LINE`. Behind an answer that they aren't it is not called again.
+    /// Hears that the line of this number, counted from 1, is bad. It answers whether the lines
+    /// after it are followed, and after `false` it is not called again. The line comes without its
+    /// newline, and is none where it is longer than `LONGEST_LINE`.
     fn bad_line(&mut self, number: u64, line: Option<&[u8]>) -> bool
         requires { is_ended self.old → ⊥ }
         ensures heard { Gains (heard self.old) (heard self.new)
             (record { number = number; line = option_copied line.entry } ∷ []) }
         ensures ended { is_ended self.new ↔ (result ≡ false) };
 
-    /// Sees a datagram that was refused, by its number among the datagrams, counted from 1, behind
-    /// its text. It can change nothing of what clauses speak of, and none says that it is called.
+    /// Sees a datagram that was refused, after its text was written. The number counts datagrams
+    /// from 1. No clause says that this is called, and it changes nothing that clauses speak of.
     fn refused_datagram(&self, number: u64, datagram: &[u8]);
 
-    /// Sees a datagram that was taken, as one that was refused.
+    /// Sees a datagram that was accepted, just as `refused_datagram` sees a refused one.
     fn taken_datagram(&self, number: u64, datagram: &[u8]);
 }
 
-/// What was counted so far, and room that is used again for each line: for the bytes of its
-/// datagram, and for the text of what it says.
+/// What was counted so far, and buffers that each line uses again. They are for the bytes of its
+/// datagram and for its text.
 #[derive(Drop)]
 pub(crate) struct Progress {
     pub(crate) counts: Followed,
@@ -83,7 +82,7 @@ impl Progress {
     }
 }
 
-/// Tells of a line that is bad, and answers whether the lines behind it are followed.
+/// Counts a bad line and tells the listener. It answers whether the lines after it are followed.
 pub(crate) fn tell_bad<B: FollowListener>(
     listener: &mut B,
     counts: &mut Followed,
@@ -101,8 +100,8 @@ pub(crate) fn tell_bad<B: FollowListener>(
     listener.bad_line(counts.lines, line)
 }
 
-/// Tells of a line: writes the text of what it says, if it says anything, or says that it is bad.
-/// It answers whether the lines behind it are told.
+/// Handles a line: writes its text, if it says anything, or tells the listener that it is bad. It
+/// answers whether the next line is handled.
 pub(crate) fn tell_line<W: Sink, B: FollowListener, E: PerLine>(
     alloc: Global,
     each: &E,

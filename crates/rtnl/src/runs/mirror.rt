@@ -30,7 +30,7 @@ use nl_mirror::{BeginError, Mirror};
 use std::alloc::{AllocError, Global};
 use std::marker::PhantomData;
 
-/// What was counted of a recording by which a mirror was kept, and how its tables stand.
+/// What was counted of a recording that kept a mirror, and whether the tables are current.
 #[derive(Clone, Copy, Debug, PartialEq, Eq, Hash)]
 pub struct MirrorFollowed {
     /// What was counted of the lines; its datagrams are those that were fed.
@@ -41,7 +41,7 @@ pub struct MirrorFollowed {
     pub current: bool,
 }
 
-/// A mirror that heard nothing.
+/// A new mirror.
 fn unheard(alloc: Global, settings: &MirrorSettings) -> Result<MirrorSoFar, AllocError>
     ensures { IfOk result (IsUnheard settings.now) }
 {
@@ -52,8 +52,8 @@ fn unheard(alloc: Global, settings: &MirrorSettings) -> Result<MirrorSoFar, Allo
     })
 }
 
-/// Feeds a datagram of this number to a mirror, and writes what is told of its messages, or why it
-/// is refused. It answers whether it was taken.
+/// Feeds the datagram of this number to a mirror. Writes what its messages changed, or why it is
+/// refused. It answers whether the datagram was accepted.
 fn feed<F: MirrorFormat>(
     alloc: Global,
     out: &mut Vec<u8>,
@@ -81,7 +81,7 @@ fn feed<F: MirrorFormat>(
     }
 }
 
-/// Whether a dump began.
+/// Whether a dump began. After `Short` it did, though changes were lost.
 fn is_begun(answer: Result<(), BeginError>) -> bool
     ensures { result ≡ is_begun answer }
 {
@@ -92,7 +92,7 @@ fn is_begun(answer: Result<(), BeginError>) -> bool
     }
 }
 
-/// Writes that a dump doesn't begin, where it didn't.
+/// Writes that a dump didn't begin, unless `begun`.
 fn push_unbegun<F: MirrorFormat>(
     alloc: Global,
     out: &mut Vec<u8>,
@@ -109,7 +109,7 @@ fn push_unbegun<F: MirrorFormat>(
     }
 }
 
-/// How many dumps didn't begin, behind one that did or didn't.
+/// How many dumps didn't begin, after one more dump.
 fn count_unbegun(unbegun: u64, begun: bool) -> u64
     ensures { result ≡ unbegun_by begun unbegun }
 {
@@ -120,7 +120,7 @@ fn count_unbegun(unbegun: u64, begun: bool) -> u64
     }
 }
 
-/// Begins a dump in a mirror, or writes that it doesn't begin, and counts it then.
+/// Begins a dump in a mirror. One that doesn't begin is written and counted.
 fn begin<F: MirrorFormat>(
     alloc: Global,
     out: &mut Vec<u8>,
@@ -140,8 +140,8 @@ fn begin<F: MirrorFormat>(
     Ok(())
 }
 
-/// Takes a step, whose datagram is these bytes, and writes what came of it by itself. It answers
-/// whether its datagram was taken.
+/// Takes a step, and writes what came of it, but no state of a table. It answers whether the
+/// step's datagram was accepted, or true where it has none.
 fn take_step<F: MirrorFormat>(
     alloc: Global,
     out: &mut Vec<u8>,
@@ -182,7 +182,7 @@ fn take_step<F: MirrorFormat>(
     }
 }
 
-/// The printing of a mirror that lines keep.
+/// Prints what lines do to a mirror.
 #[derive(Clone, Copy)]
 struct TellMirror<F> {
     settings: MirrorSettings,
@@ -234,7 +234,7 @@ impl<F: MirrorFormat> PerLine for TellMirror<F> {
     }
 }
 
-/// Writes what is told at the end of a recording, and says what was counted of it.
+/// Writes the report at the end of a recording, and answers what was counted.
 fn finish<F: MirrorFormat, W: Sink>(
     alloc: Global,
     sink: &mut W,
@@ -260,7 +260,7 @@ fn finish<F: MirrorFormat, W: Sink>(
     })
 }
 
-/// Keeps this mirror by the lines of a recording, and tells of it in this form.
+/// Keeps this mirror by the lines of a recording, and reports it in the form `F`.
 fn keep<F: MirrorFormat, S: LiveSource<W>, W: Sink, B: FollowListener>(
     alloc: Global,
     source: &mut S,
@@ -283,7 +283,7 @@ fn keep<F: MirrorFormat, S: LiveSource<W>, W: Sink, B: FollowListener>(
     finish::<F, _>(alloc, sink, settings, kept, counts)
 }
 
-/// Runs with a new mirror. A separate function because owning one makes proofs slow.
+/// Keeps a new mirror as `keep` does, apart from it, since owning a mirror makes proofs slow.
 fn run<F: MirrorFormat, S: LiveSource<W>, W: Sink, B: FollowListener>(
     alloc: Global,
     source: &mut S,
@@ -301,15 +301,15 @@ fn run<F: MirrorFormat, S: LiveSource<W>, W: Sink, B: FollowListener>(
     keep::<F, _, _, _>(alloc, source, sink, listener, settings, &mut kept)
 }
 
-/// Keeps a mirror by the lines that a source gives, of any length: each datagram is fed to it, a
-/// line `# seq N port N kind KIND` begins a dump of that kind, and a line `# dropped` says that
-/// messages were lost. Where changes are told, it is written of each line, before it reads on, what
-/// became of the tables; else the tables are written at the end of the input. Why a datagram was
-/// refused is written as it comes, and of a dump that its sequence number is not above those
-/// before. Entries, datagrams and lines are numbered from 1.
+/// Keeps a mirror by the lines that a source gives, of any length. Each datagram is fed to it. A
+/// line `# seq N port N kind KIND` begins a dump of that kind. A line `# dropped` says that
+/// messages were lost. With `settings.changes` it writes what each line changed in the tables
+/// before it reads on. Else it writes the tables at the end of the input. Refused datagrams are
+/// written at once, and so are dumps whose sequence number is not above earlier ones. Entries,
+/// datagrams and lines are numbered from 1.
 ///
-/// What is kept is the mirror, within its limits. It reads bad lines, and ends where a read, a write
-/// or memory fails, as `run_follow` does; then no table is written.
+/// What is kept is the mirror, within its limits. It treats bad lines and faults as `run_follow`
+/// does. After a fault, the tables at the end are missing or cut short.
 pub fn run_mirror<S: LiveSource<W>, W: Sink, B: FollowListener>(
     alloc: Global,
     source: &mut S,

@@ -1,4 +1,4 @@
-//! The forms of a mirror's report: text and JSON.
+//! The report of a mirror, as text and as JSON.
 
 use crate::json_lines::heads::ItemField;
 use crate::json_lines::mirror as fields;
@@ -12,7 +12,7 @@ use nl_mirror::Stale;
 use nl_route::Family;
 use std::alloc::{AllocError, Global};
 
-/// What is told of a mirror: a dump that didn't begin, the changes, and how its tables stand.
+/// The report of a mirror: dumps that didn't begin, changes, and the state of its tables.
 pub(crate) trait MirrorFormat: ReportFormat {
     ghost use Rattle.std.specs.Prelude.{◌≡◌, ◌++◌, OnOk};
     ghost use Rattle.rtnl.specs.Mirroring.{MirrorReport};
@@ -35,7 +35,7 @@ pub(crate) trait MirrorFormat: ReportFormat {
         ensures { OnOk result (out.new.items
             ≡ out.old.items ++ telling.added order kind number (T.item entry.now)) };
 
-    /// Writes that the entry of this number was told anew, and what it was before.
+    /// Writes that the entry of this number was replaced, and what it was before.
     fn push_changed<T: ItemLines + ItemField>(
         alloc: Global,
         out: &mut Vec<u8>,
@@ -60,7 +60,7 @@ pub(crate) trait MirrorFormat: ReportFormat {
         ensures { OnOk result (out.new.items
             ≡ out.old.items ++ telling.removed order kind number (T.item before.now)) };
 
-    /// Writes that a dump renewed the table of a kind, which has so many entries now.
+    /// Writes that a dump renewed the table of a kind, and how many entries it has now.
     fn push_renewed(
         alloc: Global,
         out: &mut Vec<u8>,
@@ -83,7 +83,7 @@ pub(crate) trait MirrorFormat: ReportFormat {
     fn push_kind(alloc: Global, out: &mut Vec<u8>, kind: Family) -> Result<(), AllocError>
         ensures { OnOk result (out.new.items ≡ out.old.items ++ telling.table kind) };
 
-    /// Writes how the table of a kind stands.
+    /// Writes the counts of the table of a kind, and whether it is current.
     fn push_standing(
         alloc: Global,
         out: &mut Vec<u8>,

@@ -4,7 +4,7 @@ use nl_dump::{Kind, Seed};
 use nl_frame::Limits;
 use nl_mirror::Mirror;
 
-/// How a mirror is kept by the lines of a recording, and what is told of it.
+/// How a mirror is kept by the lines of a recording, and what is printed of it.
 #[derive(Clone, Copy, Debug)]
 pub struct MirrorSettings {
     /// The limits of its datagrams and of its tables.
@@ -15,9 +15,9 @@ pub struct MirrorSettings {
     pub seed: Seed,
     /// The address family that its dumps ask for, 0 for all.
     pub family: u8,
-    /// The only kind whose table is told of; all are where there is none.
+    /// The only kind whose table is printed, or `None` for all.
     pub kind: Option<Kind>,
-    /// Whether each change is told as it comes, in place of the tables at the end.
+    /// Whether each change is printed as it comes, in place of the tables at the end.
     pub changes: bool,
 }
 
@@ -31,7 +31,7 @@ pub(crate) struct MirrorSoFar {
     pub(crate) unbegun: u64,
 }
 
-/// How the table of a kind stands.
+/// The state of the table of a kind.
 #[derive(Clone, Copy)]
 pub(crate) struct TableState {
     /// Whether a dump of it runs.
@@ -40,7 +40,7 @@ pub(crate) struct TableState {
     pub(crate) stale: bool,
 }
 
-/// How the tables of all kinds stand.
+/// The states of the tables of all kinds.
 #[derive(Clone, Copy)]
 pub(crate) struct TableStates {
     pub(crate) link: TableState,

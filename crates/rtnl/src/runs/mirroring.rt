@@ -35,7 +35,7 @@ pub(crate) fn is_shown(only: Option<Family>, kind: Family) -> bool
     }
 }
 
-/// Writes that the entry at this place of a table is new.
+/// Writes that the entry at this index is new. Printed numbers begin at 1.
 fn push_added<F: MirrorFormat, T: Entry + ItemLines + ItemField + Drop>(
     alloc: Global,
     out: &mut Vec<u8>,
@@ -54,7 +54,7 @@ fn push_added<F: MirrorFormat, T: Entry + ItemLines + ItemField + Drop>(
     }
 }
 
-/// Writes that the entry at this place of a table was told anew, and what it was before.
+/// Writes that the entry at this index was replaced, and what it was before.
 fn push_changed<F: MirrorFormat, T: Entry + ItemLines + ItemField + Drop>(
     alloc: Global,
     out: &mut Vec<u8>,
@@ -76,7 +76,7 @@ fn push_changed<F: MirrorFormat, T: Entry + ItemLines + ItemField + Drop>(
     }
 }
 
-/// Writes what was made of a table of this kind.
+/// Writes what a message did to a table of this kind.
 fn push_effect<F: MirrorFormat, T: Entry + ItemLines + ItemField + Drop>(
     alloc: Global,
     out: &mut Vec<u8>,
@@ -100,7 +100,7 @@ fn push_effect<F: MirrorFormat, T: Entry + ItemLines + ItemField + Drop>(
     }
 }
 
-/// Writes what was made of a table of this kind, if `--kind` shows it.
+/// Writes what a message did to a table, if its kind is shown.
 fn push_shown<F: MirrorFormat, T: Entry + ItemLines + ItemField + Drop>(
     alloc: Global,
     out: &mut Vec<u8>,
@@ -121,7 +121,7 @@ fn push_shown<F: MirrorFormat, T: Entry + ItemLines + ItemField + Drop>(
     }
 }
 
-/// Writes what a message made of a mirror's tables, where that is shown.
+/// Writes what a message did to the table of its family, if that is shown.
 fn push_update<F: MirrorFormat>(
     alloc: Global,
     out: &mut Vec<u8>,
@@ -153,8 +153,7 @@ fn push_update<F: MirrorFormat>(
     }
 }
 
-/// Writes what a message made of a mirror's tables, by what was answered of it, where changes are
-/// told.
+/// Writes what a message did, by the mirror's answer, if `settings.changes`.
 fn push_answer<F: MirrorFormat>(
     alloc: Global,
     out: &mut Vec<u8>,
@@ -172,8 +171,7 @@ fn push_answer<F: MirrorFormat>(
     }
 }
 
-/// A mirror hears messages, one after another, and it is written what each made of its tables,
-/// where changes are told.
+/// Hands messages to a mirror in order. Writes what each did, if `settings.changes`.
 pub(crate) fn hear_all<F: MirrorFormat>(
     alloc: Global,
     out: &mut Vec<u8>,
@@ -194,7 +192,6 @@ pub(crate) fn hear_all<F: MirrorFormat>(
     Ok(())
 }
 
-/// How the table of a kind stands.
 fn table_state(mirror: &Mirror, kind: Family) -> TableState
     ensures { result ≡ table_state kind mirror.now }
 {
@@ -204,7 +201,6 @@ fn table_state(mirror: &Mirror, kind: Family) -> TableState
     }
 }
 
-/// How the tables of all kinds stand.
 pub(crate) fn table_states(mirror: &Mirror) -> TableStates
     ensures { result ≡ table_states mirror.now }
 {
@@ -247,7 +243,7 @@ fn push_renewed_kind<F: MirrorFormat>(
     match_table!(kind, mirror, table => push_renewed::<F, _>(alloc, out, order, kind, table))
 }
 
-/// Writes the whole table of a kind, if the dump that renewed it has ended.
+/// Writes the whole table of a kind, if a dump of it has ended.
 fn push_ended<F: MirrorFormat>(
     alloc: Global,
     out: &mut Vec<u8>,
@@ -282,7 +278,7 @@ fn push_doubt<F: MirrorFormat>(
     }
 }
 
-/// Writes why the table of a kind is stale, if it is, and that is news.
+/// Writes why the table of a kind is stale, if it is, and if that is news.
 fn push_new_doubt<F: MirrorFormat>(
     alloc: Global,
     out: &mut Vec<u8>,
@@ -300,15 +296,15 @@ fn push_new_doubt<F: MirrorFormat>(
     }
 }
 
-/// Whether a dump of a kind ran, whose table was in this state, and none runs now.
+/// Whether a dump of a kind ran in the state `was`, and none runs now.
 fn has_ended(was: TableState, mirror: &Mirror, kind: Family) -> bool
     ensures { result ≡ has_ended was mirror.now kind }
 {
     was.dump_running && mirror.dump(kind).is_none()
 }
 
-/// Writes what a step made of the table of a kind that was in this state before it, beside single
-/// entries.
+/// Writes a table, if its dump ended, and why it is stale, if that is news. `was` is its state
+/// before the step.
 #[tactic(auto, using(crate::proofs::Sets::joins))]
 fn push_news<F: MirrorFormat>(
     alloc: Global,
@@ -326,7 +322,7 @@ fn push_news<F: MirrorFormat>(
     push_new_doubt::<F>(alloc, out, mirror, kind, has_ended || !was.stale)
 }
 
-/// Writes a table's new state, if `--kind` shows it.
+/// Writes a table's new state, if its kind is shown.
 fn push_table_state<F: MirrorFormat>(
     alloc: Global,
     out: &mut Vec<u8>,
@@ -346,7 +342,7 @@ fn push_table_state<F: MirrorFormat>(
     }
 }
 
-/// Writes the new state of each table that `--kind` shows.
+/// Writes the new state of each table that is shown.
 fn push_each_table_state<F: MirrorFormat>(
     alloc: Global,
     out: &mut Vec<u8>,
@@ -365,7 +361,7 @@ fn push_each_table_state<F: MirrorFormat>(
     push_table_state::<F>(alloc, out, settings, was.rule, mirror, Family::Rule)
 }
 
-/// Writes the new state of each table that `--kind` shows, where changes are told.
+/// Writes the new state of each table that is shown, if `settings.changes`.
 pub(crate) fn push_all_table_states<F: MirrorFormat>(
     alloc: Global,
     out: &mut Vec<u8>,
@@ -384,7 +380,7 @@ pub(crate) fn push_all_table_states<F: MirrorFormat>(
     }
 }
 
-/// Writes a whole table, and how it stands.
+/// Writes a whole table, and its state.
 fn push_table<F: MirrorFormat, T: Entry + ItemLines + ItemField + Drop>(
     alloc: Global,
     out: &mut Vec<u8>,
@@ -401,7 +397,7 @@ fn push_table<F: MirrorFormat, T: Entry + ItemLines + ItemField + Drop>(
     F::push_standing(alloc, out, kind, table.len(), table.missed(), why)
 }
 
-/// Writes the whole table of a kind, and how it stands.
+/// Writes the whole table of a kind, and its state.
 fn push_table_kind<F: MirrorFormat>(
     alloc: Global,
     out: &mut Vec<u8>,
@@ -416,7 +412,7 @@ fn push_table_kind<F: MirrorFormat>(
     match_table!(kind, mirror, table => push_table::<F, _>(alloc, out, order, kind, table, why))
 }
 
-/// Writes the whole table of a kind and how it stands, if `--kind` shows it.
+/// Writes the whole table of a kind and its state, if the kind is shown.
 fn push_shown_table<F: MirrorFormat>(
     alloc: Global,
     out: &mut Vec<u8>,
@@ -435,7 +431,7 @@ fn push_shown_table<F: MirrorFormat>(
     }
 }
 
-/// Writes each whole table that `--kind` shows, and how it stands.
+/// Writes each whole table that is shown, and its state.
 fn push_tables<F: MirrorFormat>(
     alloc: Global,
     out: &mut Vec<u8>,
@@ -453,7 +449,7 @@ fn push_tables<F: MirrorFormat>(
     push_shown_table::<F>(alloc, out, settings, mirror, Family::Rule)
 }
 
-/// Writes what is told at the end: the tables, where changes were not.
+/// Writes the tables at the end, unless `settings.changes`.
 #[tactic(auto, unfolding(crate::specs::Mirroring::end_text))]
 pub(crate) fn push_end<F: MirrorFormat>(
     alloc: Global,

@@ -3,20 +3,20 @@
 //!
 //! Over a whole recording, which is printed once it has come to its end:
 //! - `per_datagram`: what a command finds of one datagram, and the text of that;
-//! - `run_each`: the run of such a command; `output`: its text so far;
+//! - `run_each`: the run of such a command; `output`: the text that it has made so far;
 //! - `run`: the run of a command that needs all datagrams at once;
 //! - `show`, `show_bytes`, `check`, `table`: the commands.
 //!
 //! Over a live recording, of which each line is printed as it ends:
 //! - `per_line`: what a command finds of one line, and the text of that;
-//! - `follow_lines`: the run of such a command; `followed`: what it does with one line;
+//! - `follow_lines`: the run of such a command; `followed`: its work on one line, the listener;
 //! - `follow`, `follow_dump`: the commands; `open_dump`: the state of a dump that is followed.
 //!
 //! The mirror, which is a command over a live recording:
 //! - `mirror`: its runs; `mirrored`: its settings and its state; `steps`: what a line tells it;
-//! - `mirroring`: the report of its tables; `mirror_format`: the forms of that, text and JSON.
+//! - `mirroring`: the report of its tables; `mirror_format`: that report as text and as JSON.
 //!
-//! For several of these: `report`, the forms of a dump's report; `entries`, the entries of a table.
+//! For several of these: `report`, a dump's report as text and as JSON; `entries`, its table.
 //! `request` writes the request that begins a dump.
 
 pub(crate) mod check;

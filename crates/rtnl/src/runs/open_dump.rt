@@ -4,8 +4,8 @@ ghost use Rattle.std.specs.Prelude.{◌≤◌};
 
 use nl_dump::Stream;
 
-/// Where a dump stands that is followed, and how many items have come, which are no more than the
-/// bytes that were received.
+/// The stream of a dump that is followed, and how many items have come. They are no more than the
+/// bytes received.
 #[derive(Clone, Copy)]
 pub(crate) struct OpenDump {
     pub(crate) stream: Stream,

@@ -1,4 +1,4 @@
-//! The text of a recording, which is printed while the recording is read.
+//! The text that a run makes while it reads a recording. `run_each` writes it at the end.
 
 ghost use Rattle.std.specs.Prelude.{◌≡◌, ◌≤◌, ◌<◌, ◌+◌, ◌++◌, ◌∷◌, [], ℕ, List, length};
 ghost use Rattle.std.specs.Prelude.{None, OnOk, IfOk, IfErr};
@@ -14,10 +14,10 @@ use memchr::memchr;
 use std::alloc::{AllocError, Global};
 use std::mem;
 
-/// How long a part of a text is at least, but for the last one, in bytes.
+/// The least size of a part of the text, but for the last one, in bytes.
 const PART: usize = 262_144;
 
-/// Puts a part that is long enough behind those that are done, and begins the next one.
+/// Adds a part that is long enough to those that are done, and begins the next one.
 #[tactic(auto, using(crate::proofs::Parts::joined_more, crate::proofs::Sets::joins))]
 fn end_part(alloc: Global, parts: &mut Vec<Vec<u8>>, part: &mut Vec<u8>) -> Result<(), AllocError>
     ensures { OnOk result
@@ -31,17 +31,21 @@ fn end_part(alloc: Global, parts: &mut Vec<Vec<u8>>, part: &mut Vec<u8>) -> Resu
     Ok(())
 }
 
-/// What is said of the lines that were read so far, and the front of the next one. The text is in
-/// parts: one is moved where the text of its last datagram is longer than a part, and there alone.
+/// The text and the verdict of the lines read so far, and the front of the next line. The text is
+/// in parts. A part moves only where its last datagram has a text longer than `PART`.
 #[derive(Drop)]
 pub(crate) struct Output {
+    /// The number of the first bad line, if there is one.
     pub(crate) bad_line: Option<u32>,
     pub(crate) verdict: Verdict,
     pub(crate) parts: Vec<Vec<u8>>,
+    /// The part that the next text goes into.
     pub(crate) part: Vec<u8>,
     pub(crate) lines: u32,
     pub(crate) datagrams: u32,
+    /// The front of the line that has not ended.
     pub(crate) unfinished: Vec<u8>,
+    /// The bytes of the datagram that was read last.
     pub(crate) bytes: Vec<u8>,
     ghost few: { datagrams ≤ lines },
 }
@@ -67,7 +71,7 @@ impl Output {
         })
     }
 
-    /// Says what is found of the datagram of the line that was read, whose bytes are kept.
+    /// Adds the text of the datagram in `bytes`.
     fn say_datagram<E: PerDatagram>(&mut self, alloc: Global, each: &E) -> Result<(), AllocError>
         requires { self.old.datagrams < self.old.lines }
         ensures lines { OnOk result (self.new.lines ≡ self.old.lines) }
@@ -88,8 +92,7 @@ impl Output {
         end_part(alloc, &mut self.parts, &mut self.part)
     }
 
-    /// Says what is found of the datagram of one line more, if it has one. Behind a bad line nothing
-    /// is said.
+    /// Adds the text of a line's datagram, if it has one. After a bad line nothing is added.
     fn say_line<E: PerDatagram>(
         &mut self,
         alloc: Global,
@@ -122,8 +125,7 @@ impl Output {
         }
     }
 
-    /// Says what is found of the line that ends behind this part. Of a line that came in one part
-    /// nothing is copied.
+    /// Handles the line that ends with `part`. A line that came in one part is not copied.
     pub(crate) fn end_line<E: PerDatagram>(
         &mut self,
         alloc: Global,
@@ -148,8 +150,7 @@ impl Output {
         self.say_line(alloc, each, line.as_slice())
     }
 
-    /// Says what is found of the lines that end in a piece of the input, and keeps what is behind
-    /// them.
+    /// Handles the lines that end in a piece of the input, and keeps the rest of the piece.
     pub(crate) fn say_piece<E: PerDatagram>(
         &mut self,
         alloc: Global,

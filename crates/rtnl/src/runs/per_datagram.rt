@@ -9,17 +9,17 @@ pub(crate) trait PerDatagram {
     // What may be found of a datagram.
     ghost Found: { Type 0 };
 
-    // Whether it is found of these bytes.
+    // Whether this is found of these bytes.
     ghost finds: { Self → List ℕ → Found → Type 0 };
 
-    // The text of the datagram of this number, of which it is found.
+    // The text of the datagram of this number, by what is found of it.
     ghost text: { Self → ℕ → List ℕ → Found → List ℕ };
 
-    // Whether the datagram is taken.
+    // Whether a datagram of which this is found is accepted.
     ghost takes: { Found → Bool };
 
-    /// Writes the text of the datagram of this number, counted from 1, and says whether it is
-    /// taken.
+    /// Writes the text of the datagram of this number, counted from 1, and answers whether it is
+    /// accepted.
     fn push(
         &self,
         alloc: Global,

@@ -8,15 +8,15 @@ use crate::recordings::lines::read_line;
 use crate::runs::per_datagram::PerDatagram;
 use std::alloc::Global;
 
-/// What is told of what a line says.
+/// What `tell` answers of a line that says something.
 #[derive(Drop)]
 pub(crate) struct Told {
-    /// Whether it is taken.
+    /// Whether what the line says is accepted.
     pub(crate) taken: bool,
-    /// The number of the line's datagram, if there is one, counted from 1 among the datagrams, by
-    /// which it is seen. No clause speaks of it.
+    /// The number of the line's datagram, if there is one, for the listener. Datagrams are counted
+    /// from 1. No clause speaks of it.
     pub(crate) number: u64,
-    /// Whether the lines behind it are told.
+    /// Whether the next line is handled.
     pub(crate) goes_on: bool,
 }
 
@@ -31,7 +31,7 @@ pub(crate) trait PerLine {
     // What a line may say.
     ghost Content: { Type 0 };
 
-    // What a line says, if it says anything; or it is bad.
+    // What a line says, if it says anything, or an error where it is bad.
     ghost says: { Self → List ℕ → Result (Option Content) ℕ };
 
     // What may be found of what a line says.
@@ -40,21 +40,20 @@ pub(crate) trait PerLine {
     // It relates the state before the line, the content, the result, and the state after it.
     ghost finds: { Self → Self.Kept → Content → Found → Self.Kept → Type 0 };
 
-    // The text of what the line of this number says, of which it is found: lines are counted that
-    // say something.
+    // The text of what a line says, by what is found of it. The number counts the lines that say
+    // something.
     ghost text: { Self → ℕ → Content → Found → List ℕ };
 
-    // Whether what is found is taken.
+    // Whether a line of which this is found is accepted.
     ghost takes: { Found → Bool };
 
     // Whether in this state no further line is handled.
     ghost ends: { Self.Kept → Bool };
 
-    /// Writes the text of what a line says, if it says anything: so many lines have said something
-    /// then, with this one. It answers whether that is taken, and whether the lines behind it are
-    /// told. Of a bad line (`BadLine`, its number may be any) nothing is kept or written. Without
-    /// memory `kept` and `out` may be anything. `bytes` is room that is used again for each line,
-    /// without a byte: behind the call it has the line's datagram, if there is one.
+    /// Appends to `out` the text of what a line says, or answers `None` where it says nothing.
+    /// `number` counts the lines that say something, with this one. `bytes` is an empty buffer,
+    /// which then has the line's datagram, if there is one. After `BadLine`, whose number may be
+    /// any, `kept` and `out` are as before. After `Memory` they may be anything.
     fn tell(
         &self,
         alloc: Global,
@@ -81,7 +80,7 @@ pub(crate) fn read_datagram_of(
     read_line(alloc, bytes, 0, line)
 }
 
-/// What says something of each datagram by itself keeps nothing, and tells of all.
+/// A command that prints each datagram by itself keeps nothing, and handles all lines.
 impl<E: PerDatagram> PerLine for E {
     ghost use Rattle.std.specs.Prelude.{ℕ, List};
     ghost use Rattle.rtnl.specs.Followed.{alone, never};

@@ -1,4 +1,4 @@
-//! The report of a dump.
+//! The report of a dump, as text and as JSON.
 
 use crate::ending::Ending;
 use crate::json_lines::body::push_body as push_body_fields;
@@ -27,7 +27,8 @@ pub(crate) trait ReportFormat {
     fn push_front(alloc: Global, out: &mut Vec<u8>, dump: &Dump) -> Result<(), AllocError>
         ensures { OnOk result (out.new.items ≡ out.old.items ++ report.front dump.now) };
 
-    /// Writes why the datagram of this number was refused. It fails where that was for memory.
+    /// Writes why the datagram of this number was refused, or nothing after `NotWaiting`. It fails
+    /// where `error` is `Memory`.
     fn push_refusal(
         alloc: Global,
         out: &mut Vec<u8>,

@@ -17,8 +17,8 @@ use nl_frame::Limits;
 use nl_route::Family;
 use std::alloc::{AllocError, Global};
 
-/// A new session of these limits and this seed that begins a dump, and the request. It has no dump
-/// that waits and no last sequence number, so only memory can be refused.
+/// A new session of these limits and this seed that begins a dump, and the request. It fails only
+/// where memory runs out: a new session refuses no dump.
 pub(crate) fn begun(
     alloc: Global,
     dump: &Dump,
@@ -57,8 +57,7 @@ fn text_of(alloc: Global, dump: &Dump, order: Order) -> Result<Vec<u8>, AllocErr
     Ok(text)
 }
 
-/// Writes the request that begins a dump as one line of hexadecimal, its numbers with the lowest
-/// byte first, else as `run_request_ordered`.
+/// Writes the request that begins a dump, as `run_request_ordered` does with `Order::Little`.
 pub fn run_request<W: Sink>(
     alloc: Global,
     sink: &mut W,
@@ -73,12 +72,11 @@ pub fn run_request<W: Sink>(
     run_request_ordered(alloc, sink, kind, family, seq, Order::Little)
 }
 
-/// Writes the request that begins a dump as one line of hexadecimal, its numbers in this byte
-/// order: what `Session::begin` of `nl_dump` answers for this kind, address family and sequence
-/// number.
+/// Writes the request that begins a dump as one line of hexadecimal, with numbers in this byte
+/// order. It is what `Session::begin` of `nl_dump` answers for this kind, address family and
+/// sequence number.
 ///
-/// The text is made, then it is written. After the end of memory nothing was written; after a write
-/// fault a prefix of the text was.
+/// After the end of memory nothing was written. After a write fault a prefix of the line was.
 pub fn run_request_ordered<W: Sink>(
     alloc: Global,
     sink: &mut W,

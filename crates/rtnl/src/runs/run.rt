@@ -1,5 +1,4 @@
-//! A run over a recording: its source to the end, its lines, what a command says of their
-//! datagrams, and the sink.
+//! The run of a command that needs all datagrams of a recording at once.
 
 ghost use Rattle.std.specs.Prelude.{IfOk};
 ghost use Rattle.rtnl.specs.Runs.{Runs};

@@ -1,4 +1,4 @@
-//! A run that prints each datagram of a recording by itself, and keeps nothing but that text.
+//! The run of a command that prints each datagram of a recording by itself.
 
 ghost use Rattle.std.specs.Prelude.{◌≡◌, ◌+◌, ◌⊎◌, ℕ, List, Err, OnOk, IfOk, IfErr};
 ghost use Rattle.std.specs.Io.KnownBytes.{Consumes};
@@ -17,8 +17,8 @@ use crate::streams::source::{LONGEST_INPUT, Source};
 use crate::verdict::Verdict;
 use std::alloc::Global;
 
-/// What is said of the datagrams of all that a source gives up to its end, of which at most
-/// `LONGEST_INPUT` bytes and one more are taken. It stops at the first call that fails.
+/// The text of the datagrams that a source gives up to its end. It takes at most `LONGEST_INPUT`
+/// bytes and one more, and stops at the first call that fails.
 #[tactic(auto, using(crate::proofs::Sets::given))]
 fn say_input<S: Source, E: PerDatagram>(
     alloc: Global,
@@ -61,8 +61,8 @@ fn say_input<S: Source, E: PerDatagram>(
     Err(RunError::ReadFault)
 }
 
-/// Runs what says something of each datagram over a recording. The text is made as the input is
-/// read, and written once the input has come to its end and no line is bad.
+/// Runs a command over each datagram of a recording. The text is made as the input is read. It is
+/// written once the input has ended and no line is bad.
 pub(crate) fn run_each<S: Source, W: Sink, E: PerDatagram>(
     alloc: Global,
     source: &mut S,

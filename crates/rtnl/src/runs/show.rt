@@ -20,10 +20,10 @@ use crate::verdict::Verdict;
 use nl_frame::{Limits, read_datagram};
 use std::alloc::{AllocError, Global};
 
-/// Appends the text of a datagram, which `run_show` writes of the datagram of this number: its
-/// messages and their attributes, or why it is refused. It answers whether it was taken.
+/// Appends the text that `run_show` writes of the datagram of this number. It answers whether the
+/// datagram was accepted.
 ///
-/// Only memory can be refused; then `out` is as it was.
+/// It fails only where memory runs out; then `out` is as it was.
 pub fn push_datagram(
     alloc: Global,
     out: &mut Vec<u8>,
@@ -44,11 +44,10 @@ pub fn push_datagram(
     Ok(taken)
 }
 
-/// Appends the line of JSON of a datagram, which `run_show_json` writes of the datagram of this
-/// number: its messages and their attributes, or why it is refused. It answers whether it was
-/// taken.
+/// Appends the line of JSON that `run_show_json` writes of the datagram of this number. It answers
+/// whether the datagram was accepted.
 ///
-/// Only memory can be refused; then `out` is as it was.
+/// It fails only where memory runs out; then `out` is as it was.
 pub fn push_datagram_json(
     alloc: Global,
     out: &mut Vec<u8>,
@@ -69,7 +68,7 @@ pub fn push_datagram_json(
     Ok(taken)
 }
 
-/// The text of datagrams that are read under these limits.
+/// Writes datagrams that are read under these limits, as text.
 #[derive(Clone, Copy)]
 pub(crate) struct Show {
     pub(crate) limits: Limits,
@@ -107,7 +106,7 @@ impl PerDatagram for Show {
     }
 }
 
-/// The same text in colours.
+/// Writes the text of `Show` in colours.
 #[derive(Clone, Copy)]
 pub(crate) struct ShowColoured {
     pub(crate) limits: Limits,
@@ -142,7 +141,7 @@ impl PerDatagram for ShowColoured {
     }
 }
 
-/// Datagrams that are read under these limits as lines of JSON.
+/// Writes datagrams that are read under these limits, as lines of JSON.
 #[derive(Clone, Copy)]
 pub(crate) struct ShowJson {
     pub(crate) limits: Limits,
@@ -191,17 +190,16 @@ impl PerDatagram for ShowJson {
 /// Shows each datagram of the lines that a source gives: its messages and their attributes, or why
 /// it is refused.
 ///
-/// The text is made as the input is read, and it is written once the input has come to its end and
-/// no line is bad. After a bad line, a read fault or the end of memory nothing was written; after a
-/// write fault a prefix of the text was. The verdict is NotClean exactly where a datagram was
-/// refused.
+/// The text is written once the input has ended and no line is bad. After a bad line, a read fault
+/// or the end of memory nothing was written. After a write fault a prefix of the text was. The
+/// verdict is NotClean exactly where a datagram was refused.
 pub fn run_show<S: Source, W: Sink>(
     alloc: Global,
     source: &mut S,
     sink: &mut W,
     limits: &Limits,
 ) -> Result<Verdict, RunError>
-    // What was written is the text of the datagrams of what was read, and the verdict is theirs.
+    // It wrote the text of the datagrams that it read. The verdict is theirs.
     ensures runs { Runs S.remaining S.is_ended S.failure_count
         W.contents W.is_stalled W.stall_count W.failure_count
         (Shows limits.now) source.old source.new sink.old sink.new result }
@@ -209,8 +207,8 @@ pub fn run_show<S: Source, W: Sink>(
     run_each(alloc, source, sink, &Show { limits: *limits })
 }
 
-/// Shows each datagram as `run_show` does, in colours for a terminal: the line of a refusal red, the
-/// type of a message bold, the name of an attribute cyan. The text is what `run_show` writes, with
+/// Shows each datagram as `run_show` does, in colours for a terminal. The line of a refusal is
+/// red, a message's type bold, an attribute's name cyan. The text is what `run_show` writes, with
 /// escapes put in (`laws::colours_change_nothing`).
 ///
 /// It reads, writes and ends as `run_show` does.
@@ -220,8 +218,7 @@ pub fn run_show_coloured<S: Source, W: Sink>(
     sink: &mut W,
     limits: &Limits,
 ) -> Result<Verdict, RunError>
-    // What was written is the text of the datagrams of what was read in colours, and the verdict
-    // is theirs.
+    // It wrote the text of the datagrams that it read, in colours. The verdict is theirs.
     ensures runs { Runs S.remaining S.is_ended S.failure_count
         W.contents W.is_stalled W.stall_count W.failure_count
         (ShowsColoured limits.now) source.old source.new sink.old sink.new result }
@@ -229,8 +226,8 @@ pub fn run_show_coloured<S: Source, W: Sink>(
     run_each(alloc, source, sink, &ShowColoured { limits: *limits })
 }
 
-/// Shows each datagram as `run_show` does, as a line of JSON (RFC 8259) in place of text: an object
-/// of its number, its size and its messages, or of its number and why it is refused.
+/// Shows each datagram as `run_show` does, as a line of JSON (RFC 8259) in place of text. Its
+/// object has the datagram's number, size and messages, or the number and why it is refused.
 ///
 /// It reads, writes and ends as `run_show` does.
 pub fn run_show_json<S: Source, W: Sink>(
@@ -239,7 +236,7 @@ pub fn run_show_json<S: Source, W: Sink>(
     sink: &mut W,
     limits: &Limits,
 ) -> Result<Verdict, RunError>
-    // What was written is the objects of the datagrams of what was read, and the verdict is theirs.
+    // It wrote the objects of the datagrams that it read. The verdict is theirs.
     ensures runs { Runs S.remaining S.is_ended S.failure_count
         W.contents W.is_stalled W.stall_count W.failure_count
         (ShowsJson limits.now) source.old source.new sink.old sink.new result }

@@ -16,7 +16,7 @@ use crate::verdict::Verdict;
 use nl_frame::Limits;
 use std::alloc::{AllocError, Global};
 
-/// The bytes of datagrams that are read under these limits, in rows of this form.
+/// Writes the bytes of datagrams that are read under these limits, in rows of this form.
 #[derive(Clone, Copy)]
 pub(crate) struct ShowBytes {
     pub(crate) limits: Limits,
@@ -54,14 +54,13 @@ impl PerDatagram for ShowBytes {
     }
 }
 
-/// Shows each datagram as its bytes, each byte once and in order, in rows of at most sixteen beside
-/// what they are: the fields of each message's header, of the head of its body, of attributes and
-/// of next hops, the payloads of attributes, padding. In text the words of a row are indented as
-/// `run_show` indents what they are of, and behind the rows stands the line of a refusal, as
-/// `run_show` writes it; in JSON (RFC 8259) each row is an object on a line.
+/// Shows the bytes of each datagram in rows of at most sixteen, beside what they are. Each byte
+/// stands there once, and in order. Bytes are fields of headers and of structs, payloads, or
+/// padding. Text is indented as that of `run_show`, and the line of a refusal follows the rows. In
+/// JSON (RFC 8259) each row is an object on a line.
 ///
-/// Of a refused datagram what stands before its first fault is shown so; then the head that breaks
-/// a rule, with the refusal; then the other bytes, as bytes.
+/// Of a refused datagram, what stands before its first fault is shown so. The head that breaks a
+/// rule follows, with the refusal. The other bytes come last, as bytes.
 ///
 /// It reads, writes and ends as `run_show` does.
 pub fn run_show_bytes<S: Source, W: Sink>(
@@ -71,8 +70,8 @@ pub fn run_show_bytes<S: Source, W: Sink>(
     limits: &Limits,
     format: RowFormat,
 ) -> Result<Verdict, RunError>
-    // What was written has each byte of the datagrams of what was read once, in order, beside its
-    // place, the name of what it is and the value that this has, and the verdict is theirs.
+    // It wrote each byte of the datagrams that it read once, in order. Beside it stand its offset,
+    // and the name and the value of its part. The verdict is theirs.
     ensures runs { Runs S.remaining S.is_ended S.failure_count
         W.contents W.is_stalled W.stall_count W.failure_count
         (ShowsBytes format limits.now) source.old source.new sink.old sink.new result }

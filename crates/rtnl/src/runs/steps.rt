@@ -18,7 +18,7 @@ pub(crate) enum StepKind {
     Loss,
 }
 
-/// Whether the word before these bytes ends there.
+/// Whether the word before `rest` ends there.
 fn ends_word(rest: &[u8]) -> bool
     ensures { result ≡ ends_word rest.now }
 {
@@ -56,7 +56,7 @@ fn comment_says(family: u8, line: &[u8]) -> Option<StepKind>
     }))
 }
 
-/// Reads what a line says, if anything. Where that is a datagram, it is in `bytes` then.
+/// Reads what a line says, if anything. `bytes` has its datagram then, if there is one.
 pub(crate) fn read_step(
     alloc: Global,
     bytes: &mut Vec<u8>,

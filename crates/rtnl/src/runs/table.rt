@@ -30,7 +30,7 @@ fn is_waiting(state: State) -> bool
     matches!(state, State::Waiting(_))
 }
 
-/// Feeds a datagram to a dump that waits, and writes why it is refused, where it is.
+/// Feeds a datagram to a session in which a dump waits. Writes why it is refused, if it is.
 fn feed_one<F: ReportFormat>(
     alloc: Global,
     session: &mut Session,
@@ -49,8 +49,8 @@ fn feed_one<F: ReportFormat>(
     }
 }
 
-/// Feeds datagrams in order until the dump has ended, writes of each that is refused, and answers
-/// how many were fed.
+/// Feeds datagrams in order until the dump has ended, and writes why datagrams are refused. It
+/// answers how many were fed.
 fn feed_all<F: ReportFormat>(
     alloc: Global,
     session: &mut Session,
@@ -72,11 +72,10 @@ fn feed_all<F: ReportFormat>(
     Ok(datagrams.len())
 }
 
-/// How many bytes of text there are at most for each byte of most datagrams.
+/// How many bytes of text most datagrams have per byte, at most.
 const TEXT_OF_A_BYTE: usize = 8;
 
-/// Makes room for the text of the entries that a session was fed, which is mostly enough, so that
-/// the text isn't moved while it grows.
+/// Reserves room for the text of a session's entries, so that it rarely moves as it grows.
 fn reserve_text(out: &mut Vec<u8>, session: &Session) -> Result<(), AllocError>
     ensures { OnOk result (out.new.items ≡ out.old.items) }
 {
@@ -94,7 +93,7 @@ fn verdict(complete: bool) -> Verdict
     }
 }
 
-/// A dump, and the limits and the seed under which datagrams are read as its answers.
+/// Prints datagrams as the answers to a dump, under these limits and this seed.
 #[derive(Clone, Copy)]
 struct Tabulate<F> {
     dump: Dump,
@@ -104,8 +103,8 @@ struct Tabulate<F> {
 }
 
 impl<F: ReportFormat> Tabulate<F> {
-    /// The report of a session in which the dump waits, which is fed the datagrams first, and
-    /// whether the dump is complete.
+    /// Feeds the datagrams to a session in which the dump waits. Answers the report of the
+    /// session, and whether the dump is complete.
     fn report_of(
         &self,
         alloc: Global,
@@ -143,15 +142,15 @@ impl<F: ReportFormat> Command for Tabulate<F> {
     }
 }
 
-/// Reads the datagrams of the lines that a source gives as the answers to a dump: a new session of
-/// these limits begins it, and is fed them in order until it has ended. It writes why datagrams
-/// were refused, the entries of the dump's table, and how the dump ended.
+/// Reads the datagrams of the lines that a source gives as the answers to a dump. A new session of
+/// these limits begins the dump. It is fed them in order until the dump has ended. It writes why
+/// datagrams were refused, the entries of the dump's table, and how the dump ended.
 ///
-/// The input is read to its end and all lines are checked, then the text is made, then it is
-/// written. After a bad line, a read fault or the end of memory nothing was written; after a write
-/// fault a prefix of the text was. The verdict is NotClean exactly where the dump is not complete.
+/// The text is made and written once the input has ended and no line is bad. After a bad line, a
+/// read fault or the end of memory nothing was written. After a write fault a prefix of the text
+/// was. The verdict is NotClean exactly where the dump is not complete.
 ///
-/// The session's tables hash under a seed that everybody knows: `run_table_with_seed` is for
+/// The session's tables hash under a seed that everybody knows. `run_table_with_seed` is for
 /// recordings whose content others choose.
 pub fn run_table<S: Source, W: Sink>(
     alloc: Global,
@@ -160,8 +159,7 @@ pub fn run_table<S: Source, W: Sink>(
     dump: Dump,
     limits: &Limits,
 ) -> Result<Verdict, RunError>
-    // What was written is the text of the session that the datagrams of what was read end in, and
-    // the verdict is its.
+    // It wrote the text of the session that was fed what it read. The verdict is the session's.
     ensures runs { Runs S.remaining S.is_ended S.failure_count
         W.contents W.is_stalled W.stall_count W.failure_count
         (Tables limits.now dump) source.old source.new sink.old sink.new result }
@@ -180,8 +178,7 @@ pub fn run_table_with_seed<S: Source, W: Sink>(
     limits: &Limits,
     seed: Seed,
 ) -> Result<Verdict, RunError>
-    // What was written is the text of the session that the datagrams of what was read end in, and
-    // the verdict is its.
+    // It wrote the text of the session that was fed what it read. The verdict is the session's.
     ensures runs { Runs S.remaining S.is_ended S.failure_count
         W.contents W.is_stalled W.stall_count W.failure_count
         (Tables limits.now dump) source.old source.new sink.old sink.new result }
@@ -195,9 +192,8 @@ pub fn run_table_with_seed<S: Source, W: Sink>(
     run(alloc, source, sink, &tabulate)
 }
 
-/// Reads the datagrams as `run_table_with_seed` does, and writes the dump as lines of JSON (RFC
-/// 8259) in place of text: an object of each datagram that was refused, of each entry, and of how
-/// the dump ended.
+/// Reads the datagrams as `run_table_with_seed` does, and writes lines of JSON (RFC 8259) in place
+/// of text. There is an object for each refused datagram, for each entry, and for the dump's end.
 ///
 /// It reads, writes and ends as `run_table` does.
 pub fn run_table_json<S: Source, W: Sink>(
@@ -208,8 +204,7 @@ pub fn run_table_json<S: Source, W: Sink>(
     limits: &Limits,
     seed: Seed,
 ) -> Result<Verdict, RunError>
-    // What was written is the objects of the session that the datagrams of what was read end in,
-    // and the verdict is its.
+    // It wrote the objects of the session that was fed what it read. The verdict is the session's.
     ensures runs { Runs S.remaining S.is_ended S.failure_count
         W.contents W.is_stalled W.stall_count W.failure_count
         (TablesJson limits.now dump) source.old source.new sink.old sink.new result }

@@ -1,4 +1,4 @@
-//! The error of a call of a source or of a sink, and calls that move no byte.
+//! The error of a call of a source or a sink, and which calls move no byte.
 
 ghost use Rattle.std.specs.Prelude.{◌↔◌, IsTrue, Ok};
 ghost use Rattle.rtnl.specs.Streams.{MovesNone};
@@ -10,7 +10,7 @@ use thiserror::Error;
 #[error("a read or a write failed")]
 pub struct IoFailed;
 
-/// Whether a call over so many bytes that moved `count` of them moved none of some.
+/// Whether a call had bytes to move, and moved none of them.
 pub(crate) fn moves_none(count: usize, size: usize) -> bool
     ensures { IsTrue result ↔ MovesNone (Ok count) size }
 {

@@ -14,23 +14,23 @@ use std::io::{self, ErrorKind, Write};
 
 /// A sink of bytes.
 pub trait Sink {
-    /// The bytes that it took so far, where it says them.
+    /// The bytes that it took so far, or `None` where it doesn't say them.
     ghost contents: { Self → Option (List ℕ) };
 
-    /// Its last call took no byte of some.
+    /// Its last call was handed bytes, and took none.
     ghost is_stalled: { Self → Type 0 };
 
-    /// How many of its calls took no byte of some, up to the greatest `u64`.
+    /// How many of its calls were handed bytes and took none, up to the greatest `u64`.
     ghost stall_count: { Self → ℕ };
 
     /// How many of its calls failed, up to the greatest `u64`.
     ghost failure_count: { Self → ℕ };
 
-    /// How many calls of `give` failed. The count stays at its greatest value once there.
+    /// How many calls of `give` failed. The count stops at the greatest `u64`.
     fn failures(&self) -> u64
         ensures { result ≡ failure_count self.now };
 
-    /// How many calls of `give` took no byte of some, counted as failures are.
+    /// How many calls of `give` were handed bytes and took none, counted as `failures`.
     fn stalls(&self) -> u64
         ensures { result ≡ stall_count self.now };
 
@@ -50,13 +50,13 @@ pub trait Sink {
 /// Keeps all bytes in a vector. A call fails where memory runs out.
 #[derive(Debug, Drop)]
 pub struct VecSink {
-    /// The bytes that were given so far.
+    /// The bytes that the sink took so far.
     pub bytes: Vec<u8>,
     failures: u64,
 }
 
 impl VecSink {
-    /// A sink with no byte.
+    /// A sink that has taken no byte.
     pub fn new(alloc: Global) -> Self
         ensures contents { ⟦<VecSink as Sink>⟧.contents result ≡ Some [] }
         ensures sound { ⟦<VecSink as Sink>⟧.failure_count result ≡ 0 }
@@ -97,7 +97,7 @@ impl Sink for VecSink {
     }
 }
 
-/// Writes once, and once more wherever a signal interrupted that.
+/// Writes once, and again while a signal interrupts it.
 fn write_on<W: Write>(writer: &mut W, bytes: &[u8]) -> io::Result<usize>
     ensures fits { IfOk result (λ count. count ≤ length bytes.now) }
     ensures bytes { WriteAppends (W.contents writer.old) (W.contents writer.new)
@@ -113,7 +113,7 @@ fn write_on<W: Write>(writer: &mut W, bytes: &[u8]) -> io::Result<usize>
     Err(io::Error::from(ErrorKind::TimedOut))
 }
 
-/// Gives bytes on to one of std's writers. A write that a signal interrupts goes on.
+/// Writes the bytes to one of std's writers. A write that a signal interrupts is tried again.
 #[derive(Debug, Drop)]
 pub struct WriteSink<W> {
     writer: W,
@@ -174,8 +174,8 @@ impl<W: Write> Sink for WriteSink<W> {
     }
 }
 
-/// Gives all of `text` to a sink, by as many calls as it takes. It stops at the first call that
-/// fails or takes no byte, and a prefix of the text is then given.
+/// Gives all of `text` to a sink, by as many calls as that needs. The first call that fails or
+/// takes no byte is a `WriteFault`. The sink has then taken a prefix of the text.
 #[tactic(auto, using(crate::proofs::Sets::gives))]
 pub(crate) fn give_all<W: Sink>(sink: &mut W, text: &[u8]) -> Result<(), RunError>
     ensures all { OnOk result (Appends (W.contents sink.old) (W.contents sink.new) text.now) }
@@ -199,7 +199,7 @@ pub(crate) fn give_all<W: Sink>(sink: &mut W, text: &[u8]) -> Result<(), RunErro
     Ok(())
 }
 
-/// Gives the parts of a text to a sink, one behind the other, as `give_all` gives each.
+/// Gives the parts of a text to a sink in order, each as `give_all` does.
 pub(crate) fn give_parts<W: Sink>(sink: &mut W, parts: &[Vec<u8>]) -> Result<(), RunError>
     ensures all { OnOk result
         (Appends (W.contents sink.old) (W.contents sink.new) (joined parts.now)) }

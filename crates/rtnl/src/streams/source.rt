@@ -15,7 +15,7 @@ use std::io::{self, ErrorKind, Read};
 
 /// A source of bytes.
 pub trait Source {
-    /// The bytes that it still has to give, where it says them.
+    /// The bytes that it still has to give, or `None` where it doesn't say them.
     ghost remaining: { Self → Option (List ℕ) };
 
     /// Its last call came to the end: it moved no byte into a buffer that isn't empty.
@@ -24,7 +24,7 @@ pub trait Source {
     /// How many of its calls failed, up to the greatest `u64`.
     ghost failure_count: { Self → ℕ };
 
-    /// How many calls of `take` failed. The count stays at its greatest value once there.
+    /// How many calls of `take` failed. The count stops at the greatest `u64`.
     fn failures(&self) -> u64
         ensures { result ≡ failure_count self.now };
 
@@ -47,11 +47,11 @@ pub trait LiveSource<W: Sink>: Source {
     ghost use Rattle.std.specs.Io.KnownBytes.{ReadConsumes};
     ghost use Rattle.rtnl.specs.Streams.{AddsRead, MovesNone, Read, one_more};
 
-    /// Its reads, the newest last, where it says them: what the sink had taken when each came, and
-    /// the bytes that it moved.
+    /// Its reads, the newest last, or `None` where it doesn't say them. A read has the bytes that
+    /// it moved, and those that the sink had taken before it.
     ghost reads: { Self → Option (List Read) };
 
-    /// Moves the next bytes as `take` does.
+    /// Moves the next bytes as `take` does. It may look at what `sink` has taken.
     fn take_behind(&mut self, sink: &W, buffer: &mut [u8]) -> Result<usize, IoFailed>
         ensures fits { IfOk result (λ count. count ≤ length buffer.old) }
         ensures bytes { ReadConsumes (Self.remaining self.old) (Self.remaining self.new)
@@ -73,7 +73,7 @@ pub struct SliceSource<'a> {
 }
 
 impl<'a> SliceSource<'a> {
-    /// Gives these bytes.
+    /// A source that gives these bytes.
     pub fn new(bytes: &'a [u8]) -> Self
         ensures remaining { ⟦<SliceSource<'a> as Source>⟧.remaining result ≡ Some bytes.now }
         ensures sound { ⟦<SliceSource<'a> as Source>⟧.failure_count result ≡ 0 }
@@ -118,7 +118,7 @@ impl<W: Sink> LiveSource<W> for SliceSource<'_> {
     }
 }
 
-/// Reads once, and once more wherever a signal interrupted that.
+/// Reads once, and again while a signal interrupts it.
 fn read_on<R: Read>(reader: &mut R, buffer: &mut [u8]) -> io::Result<usize>
     ensures fits { IfOk result (λ count. count ≤ length buffer.old) }
     ensures bytes { ReadConsumes (R.remaining reader.old) (R.remaining reader.new)
@@ -134,7 +134,7 @@ fn read_on<R: Read>(reader: &mut R, buffer: &mut [u8]) -> io::Result<usize>
     Err(io::Error::from(ErrorKind::TimedOut))
 }
 
-/// Gives what one of std's readers gives. A read that a signal interrupts goes on.
+/// Gives what one of std's readers gives. A read that a signal interrupts is tried again.
 #[derive(Debug, Drop)]
 pub struct ReadSource<R> {
     reader: R,
@@ -143,7 +143,7 @@ pub struct ReadSource<R> {
 }
 
 impl<R: Read> ReadSource<R> {
-    /// Reads from this reader.
+    /// A source that reads from this reader.
     pub fn new(reader: R) -> Self
         ensures remaining { ⟦<ReadSource<R> as Source>⟧.remaining result ≡ R.remaining reader }
         ensures sound { ⟦<ReadSource<R> as Source>⟧.failure_count result ≡ 0 }
@@ -196,12 +196,12 @@ impl<R: Read, W: Sink> LiveSource<W> for ReadSource<R> {
 /// The longest input that is read, in bytes.
 pub const LONGEST_INPUT: usize = 16_777_216;
 
-/// For how many bytes of an input there is room at first. As many aren't copied by most allocators
-/// when they grow.
+/// The capacity for an input at first, in bytes. Most allocators grow a block of this size without
+/// a copy.
 const FIRST_ROOM: usize = 262_144;
 
-/// All that a source gives up to its end, of which at most `LONGEST_INPUT` bytes and one more are
-/// taken. It stops at the first call that fails.
+/// All that a source gives up to its end. It takes at most `LONGEST_INPUT` + 1 bytes, and stops at
+/// the first call that fails. A longer input is a `ReadFault`.
 #[tactic(auto, using(crate::proofs::Sets::given))]
 pub(crate) fn read_input<S: Source>(alloc: Global, source: &mut S) -> Result<Vec<u8>, RunError>
     ensures all { IfOk result

@@ -22,11 +22,10 @@ use nl_attr::{Attrs, Depth, LONGEST_REGION, Order, Part};
 use nl_values::{Attribute, Field, Format, Meaning, Set, Struct, read_meaning};
 use std::alloc::AllocError;
 
-/// How many lists and structs, one inside another, are shown of a payload: as many as a depth limit
-/// allows where nothing else is said.
+/// How many levels of lists and structs are shown of a payload: the standard depth limit.
 pub(crate) const LEVELS: u8 = 8;
 
-/// What is said of an attribute of a set.
+/// The name and the format of an attribute; no name and `Format::Bytes` where it is unknown.
 pub(crate) fn known(set: Option<Set>, number: u16) -> Attribute
     ensures says { attribute_view result ≡ known set number }
     // Names need no escape in JSON.
@@ -44,7 +43,7 @@ pub(crate) fn known(set: Option<Set>, number: u16) -> Attribute
     }
 }
 
-/// What a payload means, where so many levels may be shown.
+/// What a payload means, with at most `levels` levels inside one another.
 pub(crate) fn meaning_at<'a>(
     order: Order,
     levels: u8,
@@ -62,7 +61,7 @@ pub(crate) fn meaning_at<'a>(
     read_meaning(format, payload, kind, order, level, depth).meaning
 }
 
-/// Whether bytes of a meaning are shown otherwise than in digits.
+/// Whether a meaning is known. Bytes of an unknown one are shown in digits.
 pub(crate) fn is_known(meaning: Meaning<'_>) -> bool
     ensures { result ≡ is_known (sense_of meaning.entry) }
 {
@@ -85,7 +84,7 @@ pub(crate) fn is_known(meaning: Meaning<'_>) -> bool
     }
 }
 
-/// The name of the field of what bytes mean, or of their digits.
+/// The key of what bytes mean, or of their digits.
 fn key_of(known: bool) -> &'static str
     ensures name { result.now ≡ (if known then codes "data" else codes "value") }
     ensures plain { IsUnescaped result.now }
@@ -93,7 +92,7 @@ fn key_of(known: bool) -> &'static str
     if known { "data" } else { "value" }
 }
 
-/// How many levels may be shown inside bytes, if these may be shown.
+/// How many levels may be shown inside `bytes`; `None` where `bytes` may not be shown.
 pub(crate) fn levels_inside(levels: u8, bytes: &[u8]) -> Option<u8>
     ensures some { IfSome result (λ inner. (levels ≡ inner + 1)
         × (length bytes.now ≤ fixed.LONGEST_REGION)) }
@@ -132,7 +131,7 @@ fn push_field(
     push_meaning(line, scope, inner, &[], meaning, part)
 }
 
-/// Writes the field of an index in a struct, if there is one.
+/// Writes the field of this index, if there is one.
 #[cycle(meaning)]
 fn push_field_at(
     line: &mut Line,
@@ -153,7 +152,6 @@ fn push_field_at(
     }
 }
 
-/// Writes the fields of a struct.
 #[cycle(meaning)]
 #[tactic(auto, using(crate::proofs::Sets::no_field_left))]
 fn push_fields(
@@ -172,7 +170,6 @@ fn push_fields(
     Ok(())
 }
 
-/// Writes a struct.
 #[cycle(meaning)]
 #[tactic(auto, using(crate::proofs::Sets::whole_value))]
 fn push_struct(
@@ -190,7 +187,7 @@ fn push_struct(
     line.end_object()
 }
 
-/// Writes a struct of this size again and again, as an array.
+/// Writes structs of `size` bytes, one after another, as an array.
 #[cycle(meaning)]
 fn push_structs(
     line: &mut Line,
@@ -282,7 +279,7 @@ fn push_attr(
     line.end_object()
 }
 
-/// Writes the attributes of a region, which lies in the region `outer`, as an array.
+/// Writes the attributes of a region that lies in the region `outer`, as an array.
 #[cycle(meaning)]
 fn push_list(
     line: &mut Line,
@@ -314,7 +311,7 @@ fn push_list(
     line.end_array()
 }
 
-/// Writes a struct, and the attributes behind it as a field more.
+/// Writes a struct, with the attributes after it as the field `attrs`.
 #[cycle(meaning)]
 #[tactic(auto, using(crate::proofs::Sets::whole_value, crate::proofs::Sets::field))]
 fn push_headed(
@@ -347,8 +344,8 @@ fn push_headed(
     line.end_object()
 }
 
-/// Writes what bytes mean, of an attribute in a region, with so many levels inside. Bytes without
-/// a meaning are digits.
+/// Writes what the bytes of an attribute in `region` mean, with `inner` levels inside. Bytes
+/// without a meaning are digits.
 #[cycle(meaning)]
 pub(crate) fn push_meaning(
     line: &mut Line,
@@ -385,7 +382,7 @@ pub(crate) fn push_meaning(
     }
 }
 
-/// Writes a field with what bytes mean, where they mean something.
+/// Writes the field `data` with what a payload means, or nothing where that is unknown.
 pub(crate) fn push_data(
     line: &mut Line,
     scope: Scope<'_>,

@@ -8,11 +8,11 @@ ghost use Rattle.rtnl.specs.Data.{held, kind_for, left_behind, only_in, parts_in
 use nl_attr::{Attr, Attrs, Order, Value};
 use nl_values::{Format, Selector};
 
-/// How many attributes of a list may be chosen by a kind. Each of them has the list searched.
+/// How many formats a kind may choose in a list. The list is searched for each.
 pub(crate) const MOST_CHOSEN: u8 = 4;
 
-/// The payload of the only attribute of this number in a region: no bytes where there is none, or
-/// more than one.
+/// The payload of the only attribute of this number in a region. It has no bytes where there is
+/// none, or more than one.
 pub(crate) fn only_in_region(order: Order, region: &[u8], number: u16) -> &[u8]
     requires { length region.now ≤ fixed.LONGEST_REGION }
     ensures { result.now ≡ only_in number (parts_of order region.entry.now) }
@@ -34,7 +34,7 @@ pub(crate) fn only_in_region(order: Order, region: &[u8], number: u16) -> &[u8]
     only.unwrap_or(&[])
 }
 
-/// The bytes that a value is; none of a list.
+/// The bytes of a value; none for a nested attribute.
 fn held(value: &Value) -> &[u8]
     ensures { result.now ≡ held (value_view value.entry.now) }
 {
@@ -44,7 +44,7 @@ fn held(value: &Value) -> &[u8]
     }
 }
 
-/// The same as `only_in_region` of a list that was read.
+/// What `only_in_region` answers, of a list that was read.
 fn only_in_list(attrs: &[Attr], number: u16) -> &[u8]
     ensures { result.now ≡ only_in number (parts_in (attrs_view attrs.entry.now)) }
 {
@@ -68,8 +68,8 @@ pub(crate) struct Scope<'a> {
     pub(crate) family: &'a [u8],
 }
 
-/// The kind for a format, among attributes that were read. `left` says how many of them may still
-/// be chosen.
+/// The kind for a format, in a list that was read, or no bytes. `left` says how many formats a
+/// kind may still choose.
 pub(crate) fn kind_in_list<'a>(
     scope: Scope<'a>,
     attrs: &'a [Attr],
@@ -89,7 +89,7 @@ pub(crate) fn kind_in_list<'a>(
     }
 }
 
-/// The same among the attributes of a region, which lies in the region `outer`.
+/// What `kind_in_list` answers, of a region that lies in the region `outer`.
 pub(crate) fn kind_in_region<'a>(
     scope: Scope<'a>,
     outer: &'a [u8],
@@ -114,7 +114,7 @@ pub(crate) fn kind_in_region<'a>(
     }
 }
 
-/// How many attributes may be chosen behind one of this format.
+/// How many formats a kind may still choose after an attribute of this format.
 pub(crate) fn left_behind(left: u8, format: Format) -> u8
     ensures { result ≡ left_behind left format }
 {

@@ -32,7 +32,6 @@ pub(crate) fn put_integer(piece: &mut Segment, number: Integer)
     }
 }
 
-/// Writes a number.
 #[tactic(auto, using(crate::proofs::Json::signed_together))]
 pub(super) fn push_integer(line: &mut Line, number: Integer) -> Result<(), AllocError>
     ensures { OnOk result (line.new ≡ line.old ⊕ json_tokens (signed (integer_view number))) }
@@ -53,7 +52,7 @@ fn push_name(line: &mut Line, name: Option<&str>) -> Result<(), AllocError>
     }
 }
 
-/// Whether a name may be put together with what it names: it is short, and needs no escape.
+/// Whether a name fits into a segment with its value: it is short, and needs no escape.
 #[inline(always)]
 fn is_brief(name: &str) -> bool
     ensures plain { result ≡ true → IsUnescaped name.now }
@@ -62,7 +61,7 @@ fn is_brief(name: &str) -> bool
     name.len() <= 64 && is_unescaped(name.as_bytes())
 }
 
-/// Writes a field with a number, of which the name is brief.
+/// Writes a field with a number and a brief name.
 #[tactic(auto, using(crate::proofs::Json::signed_field))]
 fn push_brief(line: &mut Line, name: &str, number: Integer) -> Result<(), AllocError>
     requires plain { IsUnescaped name.now }
@@ -130,7 +129,7 @@ pub(super) fn push_value(
     line.end_object()
 }
 
-/// Writes the name of the bit of an index, if the number has it.
+/// Writes the name of the bit at this index, if the number has the bit.
 fn push_bit(line: &mut Line, number: u64, names: Names, index: usize) -> Result<(), AllocError>
     ensures { OnOk result (line.new
         ⊕ values_tokens (map string (names_set (drop (index + 1) (bits_of names)) number))
@@ -171,7 +170,7 @@ pub(super) fn push_bits(line: &mut Line, number: u64, names: Names) -> Result<()
     line.end_object()
 }
 
-/// Puts a byte of a hardware address in front, behind its colon.
+/// Puts a colon and a byte of a hardware address in front.
 #[tactic(auto, unfolding(crate::specs::Data::byte_behind))]
 fn put_byte(piece: &mut Segment, address: &[u8; 6], i: usize)
     requires room { 3 + length piece.old ≤ 248 }
@@ -210,7 +209,6 @@ fn put_mac_string(piece: &mut Segment, address: &[u8; 6])
     piece.put("\"");
 }
 
-/// Writes a hardware address.
 #[tactic(auto, using(crate::proofs::Json::string_together))]
 pub(super) fn push_mac(line: &mut Line, address: [u8; 6]) -> Result<(), AllocError>
     ensures { OnOk result (line.new ≡ line.old ⊕ json_tokens (string (mac_text address))) }
@@ -220,7 +218,6 @@ pub(super) fn push_mac(line: &mut Line, address: [u8; 6]) -> Result<(), AllocErr
     line.piece(&mut piece, true)
 }
 
-/// Writes an address of IPv4.
 #[tactic(auto, using(crate::proofs::Json::string_together))]
 pub(super) fn push_ipv4(line: &mut Line, address: [u8; 4]) -> Result<(), AllocError>
     ensures { OnOk result (line.new ≡ line.old ⊕ json_tokens (string (ipv4_text address))) }
@@ -230,7 +227,6 @@ pub(super) fn push_ipv4(line: &mut Line, address: [u8; 4]) -> Result<(), AllocEr
     line.piece(&mut piece, true)
 }
 
-/// Writes an address of IPv6.
 #[tactic(auto, using(crate::proofs::Json::string_together))]
 pub(super) fn push_ipv6(line: &mut Line, address: [u8; 16]) -> Result<(), AllocError>
     ensures { OnOk result (line.new ≡ line.old ⊕ json_tokens (string (ipv6_text address))) }
@@ -254,7 +250,7 @@ pub(crate) fn bytes_from(bytes: &[u8], from: usize) -> &[u8]
     bytes.get(from..).unwrap_or(&[])
 }
 
-/// How many pieces of this size so many bytes have.
+/// How many numbers or structs of `size` bytes `len` bytes have.
 pub(crate) fn count_in(size: usize, len: usize) -> usize
     ensures { result ≡ count_in size len }
 {
@@ -264,7 +260,6 @@ pub(crate) fn count_in(size: usize, len: usize) -> usize
     len / size
 }
 
-/// Writes numbers, one behind the other.
 fn push_numbers(
     line: &mut Line,
     order: Order,
@@ -283,7 +278,7 @@ fn push_numbers(
     Ok(())
 }
 
-/// Writes numbers, one behind the other, as an array.
+/// Writes numbers as an array.
 #[tactic(auto, using(crate::proofs::Sets::whole_value))]
 pub(super) fn push_series(
     line: &mut Line,
@@ -299,7 +294,7 @@ pub(super) fn push_series(
     line.end_array()
 }
 
-/// Writes numbers, one behind the other, by the names of their places.
+/// Writes numbers as fields, each under the name of its index.
 fn push_places(
     line: &mut Line,
     order: Order,
@@ -320,7 +315,7 @@ fn push_places(
     Ok(())
 }
 
-/// Writes the name of a place, or its number, and the number that stands there.
+/// Writes a number as a field under the name of its index, or under the index itself.
 fn push_place(line: &mut Line, place: u64, names: Names, number: Integer) -> Result<(), AllocError>
     ensures { OnOk result (line.new
         ≡ (line.old ⊕ (key (place_name place (name_of names place)) ∷ []))
@@ -333,7 +328,7 @@ fn push_place(line: &mut Line, place: u64, names: Names, number: Integer) -> Res
     push_named(line, name, number)
 }
 
-/// Writes numbers by the names of their places, as an object.
+/// Writes numbers as an object, each under the name of its index.
 #[tactic(auto, using(crate::proofs::Sets::whole_value))]
 pub(super) fn push_counters(
     line: &mut Line,
