@@ -408,10 +408,8 @@ fn signed_number<'a>(matches: &ArgMatches<'a>) -> Option<(&'static str, &'a str)
     })
 }
 
-/// The task of these arguments, or help, the version or a usage error.
-fn parse_with(alloc: Global, arguments: &[String], values: Values<'_>) -> Result<Task, Error> {
-    let first = arguments.get(1).map(String::as_str);
-    let matches = rtnl(alloc, values, first)?.try_get_matches_from(arguments)?;
+/// The task of what clap found in the arguments, or a usage error.
+fn task_in(alloc: Global, values: Values<'_>, matches: &ArgMatches<'_>) -> Result<Task, Error> {
     if let Some((name, inner)) = matches.subcommand()
         && let Some((option, value)) = signed_number(inner)
     {
@@ -425,10 +423,17 @@ fn parse_with(alloc: Global, arguments: &[String], values: Values<'_>) -> Result
         .to_string(alloc)?;
         return Err(usage_error(alloc, values, name, message.as_str())?);
     }
-    match task_of(alloc, &matches)? {
+    match task_of(alloc, matches)? {
         Some(task) => Ok(task),
         None => Err(usage_error(alloc, values, "", UNKNOWN)?),
     }
+}
+
+/// The task of these arguments, or help, the version or a usage error.
+fn parse_with(alloc: Global, arguments: &[String], values: Values<'_>) -> Result<Task, Error> {
+    let first = arguments.get(1).map(String::as_str);
+    let matches = rtnl(alloc, values, first)?.try_get_matches_from(arguments)?;
+    task_in(alloc, values, &matches)
 }
 
 /// The arguments as they are shown, where one of them has a character that is escaped.
