@@ -76,6 +76,14 @@ impl Sought {
         self.kind.is_some() && self.seq.is_some() && self.port.is_some()
     }
 
+    /// What a recording says of the dump, where the options don't say all.
+    fn heading(self, input: &[u8]) -> Option<Heading> {
+        if self.is_whole() {
+            return None;
+        }
+        heading_in(input)
+    }
+
     /// The dump, of which the options say what they do, and the recording the rest.
     pub(crate) fn dump(self, found: Option<Heading>) -> Option<Dump>
         ensures family { IfSome result (λ dump. dump.family ≡ self.family) }
@@ -193,11 +201,7 @@ impl Table {
         ensures whole { IsSome self.now.sought.kind → IsSome self.now.sought.seq
             → IsSome self.now.sought.port → IsSome result }
     {
-        let found = if self.sought.is_whole() {
-            None
-        } else {
-            heading_in(input)
-        };
+        let found = self.sought.heading(input);
         Some(WholeRun {
             command: WholeCommand::Table(self.sought.dump(found)?, seed),
             format: self.format,
