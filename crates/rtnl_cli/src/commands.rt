@@ -384,13 +384,20 @@ pub(crate) fn rtnl<'a>(
     Ok(program)
 }
 
+/// A command as a usage error shows it.
+fn shown_command<'a>(
+    alloc: Global,
+    values: Values<'a>,
+    verb: Verb,
+) -> Result<Command<'a>, AllocError> {
+    let path = Pieces(&[Text("rtnl "), Text(verb.name())]).to_string(alloc)?;
+    command(alloc, values, verb)?.bin_name(path.as_str())
+}
+
 /// The command of this name as a usage error shows it, or the program where there is none.
 fn shown<'a>(alloc: Global, values: Values<'a>, name: &str) -> Result<Command<'a>, AllocError> {
     match Verb::named(name) {
-        Some(verb) => {
-            let path = Pieces(&[Text("rtnl "), Text(name)]).to_string(alloc)?;
-            command(alloc, values, verb)?.bin_name(path.as_str())
-        }
+        Some(verb) => shown_command(alloc, values, verb),
         None => rtnl(alloc, values, None),
     }
 }

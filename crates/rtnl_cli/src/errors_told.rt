@@ -44,6 +44,23 @@ fn write_code<W: fmt::Write>(f: &mut fmt::Formatter<W>, code: i32) -> fmt::Resul
     }
 }
 
+/// Writes the kernel's message, where there is one.
+fn write_message<W: fmt::Write>(f: &mut fmt::Formatter<W>, message: &[u8]) -> fmt::Result {
+    if message.is_empty() {
+        return Ok(());
+    }
+    f.write_str(", ")?;
+    write_raw(f, message)
+}
+
+/// Writes the offset of the attribute that is at fault, where the kernel says it.
+fn write_offset<W: fmt::Write>(f: &mut fmt::Formatter<W>, offset: Option<u32>) -> fmt::Result {
+    match offset {
+        Some(offset) => write_number(f, ", attribute at ", u64::from(offset)),
+        None => Ok(()),
+    }
+}
+
 /// Writes what the kernel says of an error.
 pub(crate) fn write_error<W: fmt::Write>(
     f: &mut fmt::Formatter<W>,
@@ -51,14 +68,8 @@ pub(crate) fn write_error<W: fmt::Write>(
 ) -> fmt::Result {
     write_request(f, error.request)?;
     write_code(f, error.code)?;
-    if !error.message.is_empty() {
-        f.write_str(", ")?;
-        write_raw(f, error.message)?;
-    }
-    match error.offset {
-        Some(offset) => write_number(f, ", attribute at ", u64::from(offset)),
-        None => Ok(()),
-    }
+    write_message(f, error.message)?;
+    write_offset(f, error.offset)
 }
 
 /// Writes what the kernel says of the errors in the datagram of this number, which was accepted.
