@@ -347,6 +347,17 @@ impl Row {
     }
 }
 
+/// A command with one argument more.
+fn with_row<'a>(
+    command: Command<'a>,
+    alloc: Global,
+    values: Values<'a>,
+    verb: Verb,
+    row: Row,
+) -> Result<Command<'a>, AllocError> {
+    command.arg(row.argument(alloc, values, verb)?)
+}
+
 /// A command with all that it is given.
 fn command<'a>(alloc: Global, values: Values<'a>, verb: Verb) -> Result<Command<'a>, AllocError> {
     let name: &'a str = verb.name();
@@ -354,9 +365,19 @@ fn command<'a>(alloc: Global, values: Values<'a>, verb: Verb) -> Result<Command<
         .about(verb.about())
         .after_help(verb.example());
     for row in verb.rows() {
-        command = command.arg(row.argument(alloc, values, verb)?)?;
+        command = with_row(command, alloc, values, verb, *row)?;
     }
     Ok(command)
+}
+
+/// The program with one command more.
+fn with_verb<'a>(
+    program: Command<'a>,
+    alloc: Global,
+    values: Values<'a>,
+    verb: Verb,
+) -> Result<Command<'a>, AllocError> {
+    program.subcommand(command(alloc, values, verb)?)
 }
 
 /// The program. Where its first argument names a command, it has this one alone: all further
@@ -379,7 +400,7 @@ pub(crate) fn rtnl<'a>(
         None => Verb::ALL.as_slice(),
     };
     for verb in verbs {
-        program = program.subcommand(command(alloc, values, *verb)?)?;
+        program = with_verb(program, alloc, values, *verb)?;
     }
     Ok(program)
 }
