@@ -121,12 +121,18 @@ fn run_kept(rt: &HostRuntime, name: Name<'_>, input: &[u8], whole: &WholeRun) ->
     exit_after_explaining(rt, told, status)
 }
 
-/// Runs over an input in memory, and explains on standard error what failed or was refused.
-fn run_explained(rt: &HostRuntime, name: Name<'_>, input: &[u8], whole: &WholeRun) -> ExitCode {
+/// Runs over an input in memory into this sink, prints what it took, and explains on standard error
+/// what failed or was refused.
+fn run_into(
+    rt: &HostRuntime,
+    name: Name<'_>,
+    input: &[u8],
+    whole: &WholeRun,
+    sink: &mut VecSink,
+) -> ExitCode {
     let mut source = SliceSource::new(input);
-    let mut sink = VecSink::new(rt.alloc());
     // A sink in memory fails for memory alone.
-    let answer = match run(rt, &mut source, &mut sink, whole) {
+    let answer = match run(rt, &mut source, sink, whole) {
         Err(RunError::WriteFault) => Err(RunError::Memory),
         answer => answer,
     };
@@ -138,6 +144,12 @@ fn run_explained(rt: &HostRuntime, name: Name<'_>, input: &[u8], whole: &WholeRu
     let status = exit_of_result(rt, answer);
     let told = tell(rt, name, input, whole, answer, Detail::All);
     exit_after_explaining(rt, told, status)
+}
+
+/// Runs over an input in memory, and explains on standard error what failed or was refused.
+fn run_explained(rt: &HostRuntime, name: Name<'_>, input: &[u8], whole: &WholeRun) -> ExitCode {
+    let mut sink = VecSink::new(rt.alloc());
+    run_into(rt, name, input, whole, &mut sink)
 }
 
 /// Does with a recording what is asked for.
